@@ -297,8 +297,8 @@ fn episode<P: Plant>(
     Ok(rounds as u32)
 }
 
-/// Makes a ring of these nodes and circuits at STM-4, lets all of this happen to it, and writes what each port delivers in each round. It tells
-/// how many rounds ran, and 1,000,000 where there is no such ring, or no memory.
+/// Makes a ring of these nodes and circuits at STM-4, lets all of this happen to it, and writes what each port delivers
+/// in each round. Returns how many rounds ran, or 1,000,000 where there is no such ring or no memory.
 #[unsafe(no_mangle)]
 pub extern "C" fn sdh_bench_strangers(
     alloc: Global,

@@ -1,5 +1,5 @@
--- Steady runs: in each four turns in a row about four frames' bytes are taken in. A list of lengths tells how many
--- bytes each turn so far took in, the last one first.
+-- Steady runs: in each four turns in a row about four frames' bytes are taken in. A list of lengths gives the number of
+-- bytes that each turn so far took in, the last one first.
 use Rattle.std.specs.Prelude.{ℕ, ◌+◌, Bool, true, ◌&&◌, nat_le, List, [], ◌∷◌}
 use Rattle.sdh_elastic.specs.declared.lengths.Lengths.{Lengths}
 use Rattle.sdh_elastic.specs.declared.lengths.Lengths.TheVariants.{Empty, One, Two, Three}

@@ -33,7 +33,7 @@ impl Model for Held {
         × IsKept h.chunks.items h.given };
 }
 
-// Puts a chunk into the room of the oldest one, after the others, and tells the length of the oldest.
+// Puts a chunk into the room of the oldest one, after the others, and returns the length of the oldest.
 fn renew(chunks: &mut HeapCircularBuffer<Cells>, input: &[u8]) -> usize
     requires some { 0 < length chunks.old.items }
     requires room { length chunks.old.items ≤ chunks.old.capacity }

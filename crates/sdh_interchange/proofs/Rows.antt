@@ -111,7 +111,7 @@ module _ (row : ℕ) (some : 1 ≤ row) (few : row ≤ 9) where
         (λ i inside away. pointed i inside ∙ pointer_byte-row (n_of rate) (i % n_of rate + 1) (get_or ps (i % n_of rate) []) i _
         (λ e. away (omega arith)) ∙ others i away)
 
-  -- the row that these AU-4s make of a frame is told by that frame's row
+  -- the row that these AU-4s make of a frame depends on that frame's row alone
   pub row-alike : (rate : Rate) (aus : List Au) (xs ys : List ℕ) → length xs ≡ size_of rate → length ys ≡ size_of rate
       → drop ((row - 1) * (270 * n_of rate)) xs ≡ drop ((row - 1) * (270 * n_of rate)) ys
       → slice_range (with_aus (n_of rate) 1 aus xs) ((row - 1) * (270 * n_of rate)) (row * (270 * n_of rate))

@@ -19,7 +19,8 @@ pub enum Path {
     Long,
 }
 
-/// What the source of a word tells of itself: the first of `Rdi`, `BridgedSwitched`, `Bridged` and `Idle` that applies.
+/// The state that the source of a word reports: the first of `Rdi`, `BridgedSwitched`, `Bridged` and `Idle` that
+/// applies.
 #[derive(Clone, Copy, Debug, PartialEq, Eq)]
 pub enum Mark {
     /// Neither side is switched, or both are.

@@ -198,7 +198,7 @@ abbrev pub sending_on : Side → Node → Sending
 sending_on West n = n.west_out
 sending_on East n = n.east_out
 
--- the last moment that was told
+-- the last moment that was set
 abbrev pub moment_of : Node → ℕ
 moment_of n = n.west.local.moment
 

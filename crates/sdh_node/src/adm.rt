@@ -237,7 +237,8 @@ impl Adm {
     }
 }
 
-// What tells whether a round is calm: whether it may be, and of each of its calls whether what it compares is the same.
+// What decides whether a round is calm: whether it may be, and of each of its calls whether what it compares is the
+// same.
 #[derive(Drop)]
 struct Signs {
     counts: bool,

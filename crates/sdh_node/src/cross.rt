@@ -29,7 +29,7 @@ use sdh_terms::Rate;
 use std::alloc::{AllocError, Global};
 use std::marker::Model;
 
-/// Both sides that receive, the state, and what it takes to tell where the state leads what comes in.
+/// Both sides that receive, the state, and what decides where the state leads the AU-4s that arrive.
 #[derive(Debug, Drop)]
 pub struct CrossConnect {
     map: RingMap,
@@ -170,7 +170,7 @@ impl CrossConnect {
         (sent, same)
     }
 
-    /// Takes the state of this round, and tells the words that are sent, and whether the state is as before. In a held turn
+    /// Takes the state of this round, and returns the words to send, and whether the state is as before. In a held turn
     /// the state stays, and the words are those of the round before.
     #[tactic(auto, unfolding(crate::specs::Crossing::after_decision, crate::specs::Crossing::next_word), using(sdh_nodestate::proofs::SameStates::state_itself))]
     pub fn decide(&mut self, held: bool, before: Sent) -> (Sent, bool)

@@ -186,7 +186,7 @@ some-under-way u h = let some : (u.rows == 0) ≡ false = ne_eqb _ _ (λ (e : u.
 pub none-under-way : (u : UnderWay) → u.rows ≡ 0 → under_way_of u ≡ None
 none-under-way u e = let none : (u.rows == 0) ≡ true = eq-eqb _ _ e in rw none refl
 
--- what they were is told of them, also before the first
+-- what the rows were is known, also before the first
 pub may-write : (u : UnderWay) → u.written ≡ true → MayWrite (under_way_of u)
 may-write u e =
     elim (cases_eq u.rows 0) [

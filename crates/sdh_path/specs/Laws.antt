@@ -18,7 +18,7 @@ clean_report n value = record {
   trace = if nat_lt n 64 then Short else Ok;
 }
 
--- from byte p of a port's stream on, VC-4s begin where this pointer value tells
+-- from byte p of a port's stream on, VC-4s begin where this pointer value says
 abbrev pub BeginsAt : ℕ → ℕ → ℕ → Type 0
 BeginsAt offset p value = (p + start_of offset + phase_of value) % 2349 ≡ 0
 

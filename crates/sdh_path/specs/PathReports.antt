@@ -69,7 +69,8 @@ trace_word trace all =
 
 -- ---- the report
 
--- of some bytes that came with this pointer value: the first VC-4 begins at the place that the value tells (ITU-T G.707 clause 8.1)
+-- of some bytes that came with this pointer value: the first VC-4 begins at the place that the value gives (ITU-T G.707
+-- clause 8.1)
 abbrev pub report_on : List ℕ → List ℕ → ℕ → PathReport
 report_on trace bytes value =
     let first = phase_of value in

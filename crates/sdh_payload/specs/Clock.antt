@@ -1,6 +1,7 @@
--- A customer's clock, which may run fast or slow against the ring's: its port then justifies the AU-4 pointer (ITU-T G.707
--- clause 8.1). That it slips when it is told to, and when, is this project's own. What a clock is here is a few numbers and a round of
--- them; `History` tells the rule by what happened alone, and that every clock goes by it is the law `clocks_go_by_history`.
+-- A customer's clock, which may run fast or slow against the ring's: its port then justifies the AU-4 pointer (ITU-T
+-- G.707 clause 8.1). That it slips when it is ordered to, and when, is this project's own. A clock here is a few
+-- numbers and a round of them; `History` states the rule by what happened alone, and that every clock goes by it is the
+-- law `clocks_go_by_history`.
 use Rattle.std.specs.Prelude.{◌≡◌, ℕ, zero, suc, ◌+◌, ◌-◌, ◌*◌, ◌%◌, ◌≤◌, nat_le, if◌then◌else◌}
 use Rattle.sdh_payload.specs.declared.chunk.ChunkForm.{ChunkForm}
 use Rattle.sdh_payload.specs.declared.chunk.ChunkForm.TheVariants.{Plain, Short, Long}

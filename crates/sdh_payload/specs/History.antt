@@ -1,7 +1,7 @@
--- A customer's clock, told by history alone: what a port was told, and the rounds that went by, decide what it sends. A `Clock` keeps of
--- a history just what it needs; that every clock goes by its history is the law `clocks_go_by_history`. That a clock slips when it is
--- told to, and in which round its port makes that good by a justification of the AU-4 pointer (ITU-T G.707 clause 8.1), is this
--- project's own.
+-- A customer's clock by its history alone: the slips that were ordered at the port and the rounds that went by decide
+-- what it sends. A `Clock` keeps of a history just what it needs; that every clock goes by its history is the law
+-- `clocks_go_by_history`. That a clock slips when it is ordered to, and in which round its port makes that good by a
+-- justification of the AU-4 pointer (ITU-T G.707 clause 8.1), is this project's own.
 use Rattle.std.specs.Prelude.{ℕ, ◌+◌, ◌-◌, ◌*◌, ℤ, pos, ◌+ℤ◌, ◌-ℤ◌, Bool, true, false, not, ◌&&◌, nat_le, if◌then◌else◌, List, [], ◌∷◌}
 use Rattle.std.specs.Prelude.{length, take, count_by}
 use Rattle.std.specs.List.{list_all}
@@ -59,7 +59,7 @@ form_then before ups downs =
 
 -- ---- what happened so far
 
--- how many ups it was told of, and how many downs
+-- the number of slips up that were ordered, and of slips down
 abbrev pub ups_told : List Happening → ℕ
 ups_told [] = 0
 ups_told (told Up count ∷ earlier) = ups_told earlier + count

@@ -18,7 +18,7 @@ use Rattle.sdh_plan.specs.Plans.{rate_in, n_in, nodes_in, circuits_in, threshold
 use Rattle.sdh_plan.specs.Plans.{provision_checks, script_checks, checks, plan_of}
 use Rattle.sdh_plan.proofs.Checking.{answer_behind, refused_before, refused_behind}
 
--- what the first part told: the rate and the nodes
+-- what the first part gave: the rate and the nodes
 pub record Told (ms : Members) (rate : Rate) (nodes : List ℕ) : Type 0 where
   pub rate_is : rate ≡ rate_in ms
   pub nodes_are : nodes ≡ nodes_in ms

@@ -192,7 +192,7 @@ after past (step.Slip port turn count) = record past { slips = more_slips port c
 after past (step.Moment m) = record past { moment = m.0 }
 after past step.Settle = record past { settles = past.settles + 1; slips = λ port. 0 }
 
--- the step tells a moment below that one
+-- the step sets a moment below that one
 abbrev pub is_back : ℕ → Step → Bool
 is_back moment (step.Fibre event) = false
 is_back moment (step.Order at on c) = false

@@ -13,7 +13,7 @@ pub data Verb : Type 0 where
   Forced : Verb
   Manual : Verb
   Clear : Verb
-  -- the present moment is told
+  -- the present moment is set
   Moment : Verb
   -- rounds run until a quiet window ends
   Settle : Verb

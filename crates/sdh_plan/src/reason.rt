@@ -70,7 +70,7 @@ pub enum Reason {
 }
 
 impl Reason {
-    /// Returns the number by which the reason is told, 1 to 31.
+    /// Returns the number of the reason in texts, 1 to 31.
     pub fn number(self) -> u8
         ensures { result ≡ reason_number self }
     {

@@ -9,7 +9,7 @@ use Rattle.sdh_plant.specs.declared.failing_plant.PlantCall.{PlantCall}
 use Rattle.sdh_plant.specs.declared.failing_plant.PlantCall.TheVariants.{Prepare, Apply, Send, Receive}
 use Rattle.sdh_plant.specs.Fibres.{Arrival, Fibres}
 
--- honest fibres that tell nothing
+-- honest fibres that show nothing
 pub record HeldFibres : Type 0 where
   pub nodes : ℕ
   pub rate : Rate

@@ -1,4 +1,4 @@
-//! Honest fibres in memory that also tell what was sent.
+//! Honest fibres in memory that record what was sent.
 ghost use Rattle.std.specs.Prelude.{◌≡◌, ◌≢◌, true, ◌+◌, ◌-◌, ◌<◌, ◌≤◌, ◌↔◌, [], ◌∷◌, ◌++◌, None, Ok, IfOk, IsOk, IsErr, OnOk};
 ghost use Rattle.std.specs.Prelude.{OnErr, IsOkUnless, IsErrOf, All, length, slice_set, refl};
 ghost use Rattle.sdh_basics.specs.Causes.{Rose, IsCounted, HasCause, one_more};

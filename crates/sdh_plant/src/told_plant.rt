@@ -19,7 +19,7 @@ use sdh_terms::{FibreEvent, Rate};
 use std::alloc::Global;
 use std::marker::Model;
 
-/// An arrival that is told beforehand.
+/// An arrival that is given in advance.
 #[derive(Debug, Drop)]
 pub enum Told {
     Dark,

@@ -190,9 +190,9 @@ ReadsWhatIsSent =
 
 -- ---- from span to span
 
--- h spans on, in round t: a generator in the state that is told, and given the action and any value that it may have,
--- sends the word that is told and goes into the state of the next round; one round later the interpreter after it reads
--- that word, and answers and keeps what is told
+-- h spans on, in round t: a generator in the given state, and given the action and any value that it may have, sends
+-- the given word and goes into the state of the next round; one round later the interpreter after it reads that word,
+-- and answers and keeps what is given
 pub record SpreadsOver (o : Option ℕ) (h t : ℕ) : Type 0 where
   pub sending : (u : ℕ) → IsValueOver o h t u → next_sending (sending_over o h t) (action_over o h t) u ≡ sending_over o h (t + 1)
   pub word : (u : ℕ) → IsValueOver o h t u → word_sent (sending_over o h t) (action_over o h t) u ≡ word_over o h t

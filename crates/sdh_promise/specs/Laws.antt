@@ -39,13 +39,13 @@ ReportsRemember =
     IsOwed ring.nodes (requests_by ring (first ∷ []) r.round) (happened (first ∷ [])) ring.circuits r
     × IsOwed ring.nodes (requests_by ring (first ∷ second ∷ []) s.round) (happened (first ∷ second ∷ [])) ring.circuits s)
 
--- a side is told of the fibre that ends at it
+-- a side sees the fibre that ends at it
 abbrev pub SidesAreTold : Type 0
 SidesAreTold =
     (n p q : ℕ) (d e : Side) (c : Condition) (h : Holding) → fibre q e ≡ fibre_to n p d
     → (holding_after n p d (Fibre q e c) h).condition ≡ c
 
--- a port is told of its own slips alone
+-- a port gets its own slips alone
 abbrev pub PortsAreTold : Type 0
 PortsAreTold =
     (port other : PortId) (turn : Turn) (count : ℕ) (history : List Happening) → same_port port other ≡ false

@@ -25,7 +25,7 @@ pub fn lines_are_short()
         → length (count_line number round norm ais) ≤ LINE_MAX }
 {}
 
-/// The last line of a status has room in `LINE_MAX` bytes, whatever numbers it tells.
+/// The last line of a status has room in `LINE_MAX` bytes, whatever numbers it has.
 pub fn last_line_is_short(status: &Status)
     ensures { length (last_line status.now) ≤ LINE_MAX }
 {

@@ -64,7 +64,7 @@ impl Text {
         self.put_number(round);
     }
 
-    /// The line that tells the end of a settle step, counted from 1, and its last round.
+    /// Appends the line of the end of a settle step: its number, counted from 1, and its last round.
     pub fn settle_line(&mut self, number: u32, round: u64)
         requires { length (settle_line number round) ≤ self.old.room }
         ensures { self.new ≡ with_part self.old (settle_line number round) }
@@ -234,7 +234,8 @@ impl Text {
         self.put_ends(from, to);
     }
 
-    /// The line that tells the end of a settle step, and how many ports delivered a chunk and how many AIS.
+    /// Appends the line of the end of a settle step, with the number of ports that delivered a chunk and of those that
+    /// delivered AIS.
     pub fn count_line(&mut self, number: u32, round: u64, norm: u32, ais: u32)
         requires { length (count_line number round norm ais) ≤ self.old.room }
         ensures { self.new ≡ with_part self.old (count_line number round norm ais) }

@@ -1,5 +1,5 @@
 //! The local request of one side of a node: what it asks for because of a command, a defect, or a defect that ended a
-//! short time ago. Time is told in moments, and waiting is by them alone. After ITU-T G.841; the codes, and that a
+//! short time ago. Time is counted in moments, and waiting goes by them alone. After ITU-T G.841; the codes, and that a
 //! defect asks at once, are this project's own.
 #![tactic(auto)]
 
@@ -93,7 +93,7 @@ impl Local {
         self.command = command;
     }
 
-    /// Tells the present moment. It never goes back.
+    /// Sets the present moment, which never goes back.
     #[tactic(auto, using(crate::proofs::Keeping::after_history))]
     pub fn at_moment(&mut self, now: Moment)
         requires later { self.old.moment ≤ now.0 }

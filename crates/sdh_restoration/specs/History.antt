@@ -1,5 +1,5 @@
--- The local request of one side of a node, from the whole history of the fibre that comes in there. Defects are told
--- by fibres alone, and no frame occurs. After ITU-T G.841; waiting by moments is this project's own.
+-- The local request of one side of a node, from the whole history of the fibre that comes in there. Defects follow from
+-- fibres alone, and no frame occurs. After ITU-T G.841; waiting by moments is this project's own.
 use Rattle.std.specs.Prelude.{ℕ, zero, suc, ◌-◌, Bool, false, ◌&&◌, not, nat_le, if◌then◌else◌, Option, Some, None, option_map}
 use Rattle.sdh_terms.specs.declared.Code.{Code}
 use Rattle.sdh_ringmap.specs.declared.Side.{Side}

@@ -1,11 +1,12 @@
--- What a run gives, as its lines tell it: the bytes given in all turns, one after the other, are the front of the bytes taken in.
+-- What a run gives, as its lines show it: the bytes given in all turns, one after the other, are the front of the bytes
+-- taken in.
 use Rattle.std.specs.Prelude.{◌≡◌, ◌⊎◌, ℕ, suc, List, [], ◌∷◌, ◌++◌, length, Option}
 use Rattle.std.specs.Io.KnownBytes.{Appends}
 use Rattle.sdh_pointer.specs.declared.reading.Action.{Action}
 use Rattle.sdh_pointer.specs.declared.reading.Action.TheVariants.{Normal, New, Up, Down, Ais}
 use Rattle.sdh_retime_cli.specs.Lines.{turn_line, given_line, left_line, drift_line}
 
--- what the lines of a turn tell: what it did, how many bytes were held then, and the bytes given
+-- what the lines of a turn show: what it did, how many bytes were held then, and the bytes given
 pub record TurnTold : Type 0 where
   pub action : Action
   pub fill : ℕ

@@ -88,7 +88,7 @@ pub record Answers (words : List (List ℕ)) (bytes : List ℕ) (reads : Counts)
   pub numbered : number ≡ number_of status
   pub writes : Writes words bytes reads status old new
 
--- what had come of the source when there was this to tell
+-- what the source had come to when this was to be reported
 abbrev pub CameTo : Bool → ℕ → ℕ → Option (List ℕ) → Option (List ℕ) → Status → Type 0
 CameTo exact before after left now how =
     CameOfSource exact (record { before = before; after = after }) left now (how ≡ status.ReadFault) (how ≡ status.TooLong)

@@ -1,4 +1,4 @@
-//! The program's word: digits that tell the lengths of chunks.
+//! The program's word: digits that give the lengths of chunks.
 ghost use Rattle.std.specs.Prelude.{◌≡◌, ◌↔◌, [], ◌∷◌, IsTrue, MatchOption};
 ghost use Rattle.sdh_elastic.specs.Turns.{IsChunk};
 ghost use Rattle.sdh_shell.specs.Calls.{words_of};

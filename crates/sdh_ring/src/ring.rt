@@ -175,7 +175,7 @@ impl Ring {
         self.node_of(port).waiting(port)
     }
 
-    /// Tells the present moment, at which the next rounds run.
+    /// Sets the present moment, at which the next rounds run.
     pub fn moment(&mut self, now: Moment)
         requires later { self.old.moment ≤ now.0 }
         requires within { now.0 ≤ 1000000000 }

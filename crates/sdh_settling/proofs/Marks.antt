@@ -16,7 +16,7 @@ use Rattle.sdh_nodestate.specs.Conditions.{MayNeed}
 use Rattle.sdh_settling.proofs.Sources.{relayed_heard}
 use Rattle.sdh_settling.proofs.OneNode.{weight_is, choose_short_top, word_short}
 
--- the word is that node's own, and tells of a side that fails
+-- the word is that node's own, and announces a side that fails
 pub record TellsFailure (id : ℕ) (k : K) : Type 0 where
   pub own : k.from ≡ id
   pub failing : k.mark ≡ mark.Rdi

@@ -24,7 +24,7 @@ pub fn still_rings_are_settled()
     ensures { StillRingsAreSettled }
 {}
 
-/// A round that holds no node is the same however that is told.
+/// A round that holds no node is the same in both forms of saying so.
 #[tactic(auto, using(crate::proofs::Fixpoint::free_rounds))]
 pub fn free_rounds()
     ensures { FreeRounds }

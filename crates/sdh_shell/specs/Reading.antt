@@ -35,7 +35,7 @@ HasNoPlan bytes status.Memory = ⊥
 abbrev pub TellsPlan : List ℕ → Planned → Type 0
 TellsPlan bytes plan = IsShort bytes × IsPlanOf bytes plan
 
--- the source tells the bytes of a plan
+-- the source shows the bytes of a plan
 abbrev pub HasPlan : Option (List ℕ) → Type 0
 HasPlan None = ⊥
 HasPlan (Some bytes) = (plan : Planned) × TellsPlan bytes plan

@@ -9,7 +9,7 @@ use std::alloc::{AllocError, Global};
 
 /// What a text is written to, piece by piece: a sink, to which it goes as it comes, or a text that is kept in memory.
 pub trait Output {
-    /// The bytes that were written, where it tells them.
+    /// The bytes that were written, where the output shows them.
     ghost written: { Self → Option (List ℕ) };
 
     /// How often writing a piece has failed.

@@ -115,7 +115,7 @@ pub record KeepsPromises (w : World) (limit : ℕ) (result : Result (Unit {0}) S
 
 -- ---- what a port takes
 
--- where a side was told of an arrival, an AU-4 comes with a pointer exactly where its interpreter's mode is Norm then
+-- where something arrived on a side, an AU-4 comes with a pointer exactly where its interpreter's mode is Norm then
 abbrev pub ComesIsNorm : Type 0
 ComesIsNorm = (threshold : ℕ) (i : Inlet) (m : ℕ) → IsInlet i → is_some i.arrived ≡ true → 1 ≤ m → m ≤ n_of i.section.rate
     → not (is_ais_action (slice_index_or (taken_in threshold i).actions (m - 1) action.Ais))

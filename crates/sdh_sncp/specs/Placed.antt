@@ -33,7 +33,7 @@ pub record HasRun (rounds : ℕ) (n : PathNode) : Type 0 where
   pub ran : n.rounds ≡ rounds
   pub clocks : All (λ (t : Tributary). IsUnslipped rounds t.feed) n.ports
 
--- between rounds nothing was told on a side since the last one
+-- between rounds nothing has arrived on a side since the last one
 pub record IsBetween (rounds : ℕ) (n : PathNode) : Type 0 where
   pub run : HasRun rounds n
   pub fresh : (d : Side) → (inlet_on d n).arrived ≡ None

@@ -146,8 +146,8 @@ fn has_run(rounds: u64) -> bool
     rounds >= 1
 }
 
-// What tells whether a round was calm: whether one ran before it, and of each of its calls whether what it compares is
-// the same.
+// What decides whether a round was calm: whether one ran before it, and of each of its calls whether what it compares
+// is the same.
 #[derive(Drop)]
 struct Signs {
     ran: bool,
@@ -156,7 +156,7 @@ struct Signs {
     east_made: bool,
 }
 
-// Returns whether the round was calm, by what its calls tell.
+// Returns whether the round was calm, by what its calls returned.
 fn is_calm(signs: &Signs) -> bool
     ensures { result ≡ (signs.now.ran && (signs.now.taken && (signs.now.west_made && signs.now.east_made))) }
 {

@@ -46,6 +46,6 @@ told words left = outcome.told pathing (asked_to_run words) left
 abbrev pub Answers : List (List ℕ) → List ℕ → Fibres → Fibres → Counts → Counts → ℕ → Option (List ℕ) → Option (List ℕ) → Type 0
 Answers words = outcome.Answers pathing (asked_to_run words)
 
--- what had come of source and plant when there was this to tell
+-- what source and plant had come to when this was to be reported
 abbrev pub CameTo : Bool → Bool → Counts → Counts → Option (List ℕ) → Option (List ℕ) → Ending → Type 0
 CameTo = CameToEnding path_endings

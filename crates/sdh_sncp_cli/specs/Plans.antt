@@ -36,7 +36,7 @@ ran_of = plans.ran_of path_account
 abbrev pub MaySettle : Planned → Fibres → Type 0
 MaySettle = plans.MaySettle path_account
 
--- one list of reports, told in each way
+-- one list of reports, of which all this is said
 abbrev pub IsRunOf : Planned → Fibres → List Report → Status → Fibres → Type 0
 IsRunOf = plans.IsRunOf path_account Owes
 

@@ -77,7 +77,7 @@ inlets_stay at threshold i is = record {
       (found threshold i).bytes i.readings ∙ is.readings;
 }
 
--- one that was told nothing
+-- one that received nothing
 pub untold_sides_find_nothing : UntoldSidesFindNothing
 unfolding taken_in after_taking
 untold_sides_find_nothing threshold i none =
@@ -91,7 +91,7 @@ untold_sides_find_nothing threshold i none =
       last = ap (λ (f : Reception). f.last) is;
     }
 
--- ---- a side that was told what came
+-- ---- a side that received what came
 
 module _ (at : Rate) (c : Condition) (k : K) (line : List ℕ) (threshold : ℕ) (i : Inlet) (is : IsTold at c k line i) where
   abbrev n : ℕ

@@ -17,7 +17,8 @@ use Rattle.sdh_terminal.specs.Lines.{Line}
 use Rattle.sdh_terminal.specs.Sending.{Sending, line_frame_from}
 use Rattle.sdh_spans.specs.Sides.{IsInletAt, IsSenderAt, AreFull}
 
--- a side that sent, of these AU-4s, on a fibre in this condition, and the side that was told in the round after what came
+-- a side that sent, of these AU-4s, on a fibre in this condition, and the side that received in the next round what
+-- came
 pub record IsSpan (at : Rate) (c : Condition) (input : ℕ → Input) (x : Sending) (i : Inlet) : Type 0 where
   pub may : IsConditionAt at c
   pub sender : IsSenderAt at x

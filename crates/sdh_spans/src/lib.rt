@@ -22,7 +22,7 @@ pub fn inlets_stay()
     ensures { InletsStay }
 {}
 
-/// Where nothing was told nothing is found.
+/// Where nothing was received nothing is found.
 pub fn untold_sides_find_nothing()
     ensures { UntoldSidesFindNothing }
 {}

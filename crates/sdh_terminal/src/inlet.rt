@@ -99,7 +99,7 @@ impl Inlet {
         }
     }
 
-    // Returns whether something was told to have arrived.
+    // Returns whether something was received, be it darkness.
     fn is_told(&self) -> bool
         ensures { result ≡ is_some self.now.arrived }
     {
@@ -141,8 +141,8 @@ impl Inlet {
         }
     }
 
-    // All interpreters read the frame, where something was told. Where nothing was they don't, and every AU-4 counts as
-    // AIS. Whether they keep what they kept.
+    // Lets all interpreters read the frame, where something was received; where nothing was they do not, and every AU-4
+    // counts as AIS. Returns whether they keep what they kept.
     fn interpret(&mut self, told: bool, intake: &mut Intake) -> bool
         requires { intake.old.frame.rate ≡ self.old.section.rate }
         ensures side { self.new ≡ record self.old {

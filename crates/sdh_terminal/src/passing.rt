@@ -187,7 +187,8 @@ fn any_moved(generators: &[Gen]) -> bool
     generators.iter().any(|generator| generator.moved())
 }
 
-// All generators of a side step, and tell what the AU-4s are. Whether they are in the states in which they were.
+// Steps all generators of a side, and sets what the AU-4s are. Returns whether they are in the states in which they
+// were.
 fn plan_all<'a, X: Matrix>(
     cross: &X,
     ports: &'a Tributaries,
@@ -248,8 +249,8 @@ impl Assembly {
         })
     }
 
-    /// All generators of a side step, and tell what the AU-4s of its next frame are. Whether they are in the states in which they
-    /// were.
+    /// Steps all generators of a side, and sets what the AU-4s of its next frame are. Returns whether they are in the
+    /// states in which they were.
     pub fn plan<'a, X: Matrix>(
         &mut self,
         cross: &X,

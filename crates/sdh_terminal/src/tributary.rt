@@ -43,8 +43,8 @@ impl Model for Tributary {
     ghost invariant = { λ t. IsFed t.feed t.payload t.h3 };
 }
 
-// Returns the bytes of a port's first round, in which no slip is used up. What a port sends is told of each of its
-// states, and so of the one before that round too.
+// Returns the bytes of a port's first round, in which no slip is used up. What a port sends is defined for each of its
+// states, and so for the one before that round too.
 fn first_payload(alloc: Global, port: &Port) -> Result<Cells, AllocError>
     ensures bytes { IfOk result (λ cells. cells ≡ stream_from port.now 0 2349) }
     ensures full { IfOk result (λ cells. length cells ≡ 2349) }

@@ -1,6 +1,6 @@
-//! The program's call over objects in memory, for the drivers in `bench/trials`: one call of source, sink or fibres fails at any place,
-//! or any bytes arrive. No other crate uses this one. Its functions say nothing of their own: the call's contract tells what comes of
-//! it, and the drivers compare it.
+//! The program's call over objects in memory, for the drivers in `bench/trials`: one call of source, sink or fibres
+//! fails at any place, or any bytes arrive. No other crate uses this one. Its functions say nothing of their own: the
+//! call's contract says what comes of it, and the drivers compare it.
 #![tactic(auto)]
 
 mod call;
@@ -77,8 +77,9 @@ pub extern "C" fn sdh_trials_call(
     status.number()
 }
 
-/// Runs a plan over told arrivals, each of which is a byte, 0 where nothing comes, and the bytes of a frame. Tells how many bytes were
-/// written and how many bytes of frames were sent, all frames one after the other, of which `sent` gets the front.
+/// Runs a plan over told arrivals, each of which is a byte, 0 where nothing comes, and the bytes of a frame. Returns
+/// how many bytes were written and how many bytes of frames were sent, all frames one after the other, of which `sent`
+/// gets the front.
 #[unsafe(no_mangle)]
 pub extern "C" fn sdh_trials_told(
     alloc: Global,

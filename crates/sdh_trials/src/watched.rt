@@ -1,4 +1,4 @@
-//! Fibres whose arrivals are told, with the bytes of all frames sent.
+//! Fibres with told arrivals, and with the bytes of all frames sent.
 ghost use Rattle.std.specs.Prelude.{◌≡◌, ◌≢◌, ◌≤◌, ◌<◌, true, false, None, Ok, OnOk, OnErr, IfOk, IsErrOf, All, map};
 ghost use Rattle.std.proofs.lemmas.Bool.{false≢true};
 ghost use Rattle.sdh_basics.specs.Causes.{Rose, IsCounted, HasCause};

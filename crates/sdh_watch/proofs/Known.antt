@@ -1,4 +1,4 @@
--- What is told with watches is told by the rounds of a settle step and the 128 after it.
+-- What is reported with watches follows from the rounds of a settle step and the 128 after it.
 use Rattle.std.proofs.Common.{◌≡◌, ℕ, zero, suc, ◌+◌, ◌≤◌, ◌∷◌, refl, ap₂, arith}
 use Rattle.sdh_circuits.specs.declared.PortId.{PortId}
 use Rattle.sdh_world.specs.Rounds.{World}

@@ -72,7 +72,7 @@ behind_at : (xs ys : List (List Arrival)) (w mid : World) (j : ℕ) → mid ≡ 
     → course_with (xs ++ ys) w (length xs + j) ≡ course_with ys mid j
 behind_at xs ys w mid j is = ap (λ rs. run_with rs w) (take_past xs ys j) ∙ run_on adm xs (take j ys) w ∙ ap (run_with (take j ys)) (sym is)
 
--- what is told of a settle step is what its rounds and those after it show
+-- what is reported of a settle step is what its rounds and those after it show
 told_at : (number limit : ℕ) (w mid : World) (s : Settles w limit mid) (behind : List (List Arrival)) → length behind ≡ 128
     → watched_in number (course_with (s.rounds ++ behind) w) (length s.rounds)
     ≡ watched number mid.ring (run_with behind mid).ring (heard_in 128 (course_with behind mid))

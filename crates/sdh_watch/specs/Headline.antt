@@ -1,4 +1,4 @@
--- What the program tells of a plan, and how it ends.
+-- What the program reports of a plan, and how it ends.
 use Rattle.std.specs.Prelude.{ℕ, ◌≡◌, List, codes, Option, None}
 use Rattle.sdh_plant.specs.Fibres.{Fibres}
 use Rattle.sdh_plant.specs.Arrivals.{Knows}
@@ -17,7 +17,7 @@ use Rattle.sdh_watch.specs.Plans.{IsRunOf, ran_of, MaySettle}
 abbrev pub asked : List (List ℕ) → Option (Unit {0})
 asked = asked_to_run
 
--- it runs a plan with watches, and tells what they show after each settle step
+-- it runs a plan with watches, and reports what they show after each settle step
 abbrev pub watching : Program (Unit {0}) (Unit {0}) Watched Status
 watching = record {
   usage = codes "usage: sdhwatch run";

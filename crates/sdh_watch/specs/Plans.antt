@@ -34,7 +34,7 @@ ran_of = plans.ran_of watch_account
 abbrev pub MaySettle : Planned → Fibres → Type 0
 MaySettle = plans.MaySettle watch_account
 
--- one list, told in each way
+-- one list, of which all this is said
 abbrev pub IsRunOf : Planned → Fibres → List Watched → Status → Fibres → Type 0
 IsRunOf = plans.IsRunOf watch_account Owes
 

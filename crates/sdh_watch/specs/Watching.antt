@@ -48,7 +48,7 @@ pub record BreaksAmong (k : ℕ) (w : World) (left : Fibres) : Type 0 where
   pub rounds : Lead ran w last heard
   pub off : IsBrokenOff last left
 
--- ---- what is told of them
+-- ---- what is reported of them
 
 -- the watch on the port at an end of the circuit of this number, where this was given to each watch: the trace is to be
 -- that of the circuit's other port

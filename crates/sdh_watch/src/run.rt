@@ -40,7 +40,7 @@ fn new_run(alloc: Global, plan: Plan) -> Result<NewRun<WatchRun>, AllocError>
 pub fn run_plan<P: Plant>(alloc: Global, plan: Plan, plant: &mut P) -> Result<Run, AllocError>
     requires fresh { HasNoFibres (P.fibres plant.old) }
 
-    // The text is that of one list of lines, which is told over every plant, where the arrivals are known, and over
+    // The text is that of one list of lines, which is given over every plant, where the arrivals are known, and over
     // honest fibres.
     ensures came { IfOk result (λ run. Tells plan (P.fibres plant.old) run.text.bytes run.status (P.fibres plant.new)) }
 

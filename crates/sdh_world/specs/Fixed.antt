@@ -24,7 +24,7 @@ pub record Fixed : Type 0 where
   pub circuits : List Provisioned
   pub ports : List FixedPort
 
--- what a node is, whatever it receives, sends and is told
+-- what a node is, whatever it receives, sends and is ordered
 unfoldable pub fixed : Node → Fixed
 fixed n = record {
   settings = n.settings;

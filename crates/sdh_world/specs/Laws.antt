@@ -76,7 +76,7 @@ NewHolds =
     (s : Settings) (ids : List ℕ) (circuits : Provisioning) (rate : Rate) (f : Fibres) (p : ℕ) (d : Side) → p < length ids
     → holding_of (length ids) p d (world (new_ring s ids circuits) (prepared rate (length ids) f)) ≡ new_holding
 
--- what holds when round t of some stretches begins is what their history tells
+-- what holds when round t of some stretches begins follows from their history
 abbrev pub HistoriesHold : Type 0
 HistoriesHold =
     (n p : ℕ) (d : Side) (ss : List Stretch) (w : World) (t : ℕ) → Fits n w → p < n

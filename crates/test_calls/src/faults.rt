@@ -1,5 +1,5 @@
-//! What is outside fails in mid-stream: the failure is told, in place of an answer to what came before it, and the next call is as
-//! any other.
+//! What is outside fails in mid-stream: the failure is reported, in place of an answer to what came before it, and the
+//! next call is as any other.
 
 use crate::called::{
     CHECK, DROP_OTHER, NO_WORDS, Outside, READERS, ROOM, RUN, SOUND, ends, ends_over, scripted,

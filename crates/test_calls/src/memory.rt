@@ -31,7 +31,7 @@ fn answers(
     Ok(answer == ended.0 && sink.bytes() == ended.1.as_bytes())
 }
 
-// It tells most where one of the allocations is made to fail.
+// It shows most where one of the allocations is made to fail.
 #[test]
 fn want_of_memory_writes_nothing(rt: HostRuntime) -> Result<(), Fail> {
     for (words, document, status, text) in ROWS {

@@ -156,7 +156,7 @@ fn over_a_span<P: Plant>(alloc: Global, plant: &mut P, rate: Rate) -> Result<Opt
     Ok(came(plant, Pos(1), Side::West, &mut frame))
 }
 
-// The same of each plant; to the last one byte 1 is told.
+// The same for each plant; the last one is given byte 1.
 fn over_each(alloc: Global, rate: Rate) -> Result<[Option<u8>; 4], Fail> {
     let mut failing = FailingPlant::new(alloc, &[(PlantCall::Send, 2)])?;
     let mut told = ToldPlant::new(rate, three_arrivals(alloc, rate)?);

@@ -30,7 +30,7 @@ const PORTS: &[Row] = &[
     (LONGEST, LONGEST, 0, None),
 ];
 
-// Whether a port is refused so, or is made, and tells what it was made with.
+// Whether a port is refused so, or is made, and shows what it was made with.
 fn is_answered(text: &[u8], trace: &[u8], offset: u16, wrong: Option<PortError>) -> bool {
     match Port::new(text, trace, offset) {
         Ok(port) => {
@@ -127,8 +127,8 @@ fn begins_a_container_at_the_offset(rt: HostRuntime) -> Result<(), Fail> {
     Ok(())
 }
 
-// At offset 522 a chunk is a whole container.
-// Whether the first column of a container has J1, B3, C2, which tells that it is equipped, and zeros.
+// At offset 522 a chunk is a whole container. Whether the first column of a container has J1, B3, C2, which says that
+// it is equipped, and zeros.
 fn has_overhead(container: &[u8], j1: u8, b3: u8) -> bool {
     if container.len() != 2349 {
         return false;

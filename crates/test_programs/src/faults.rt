@@ -1,4 +1,4 @@
-//! What is outside fails in mid-stream: the failure is told, in place of an answer to what came before it.
+//! What is outside fails in mid-stream: the failure is reported, in place of an answer to what came before it.
 
 use crate::called::{Given, Program, READ, SOUND, WRITE, ends, ends_over, scripted};
 use crate::plans::{BOTH_WAYS, BOTH_WAYS_BROKEN, HEALTHY, TWO_SPANS, WATCHED, WATCHED_BROKEN};

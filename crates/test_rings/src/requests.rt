@@ -95,7 +95,7 @@ fn a_degraded_fibre_is_seen_a_round_later_from_the_threshold_on(rt: HostRuntime)
     }
 }
 
-// Tells the moment and runs a round, and what is asked for then.
+// Sets the moment, runs a round, and returns what is asked for then.
 fn asked_at<P: Plant>(ring: &mut Ring, plant: &mut P, now: u64) -> Option<Code>
     requires prepared { IsPrepared ring.old.settings.rate (length ring.old.ids) (P.fibres plant.old) }
     requires whole { ring.old.broken ≡ false }

@@ -1,4 +1,4 @@
-//! What a customer sends, told by the place of a byte in its stream, apart from the code that sends it.
+//! What a customer sends, by the place of a byte in its stream, apart from the code that sends it.
 ghost use Rattle.std.specs.Prelude.{◌<◌, ◌≤◌, length};
 
 use std::alloc::{AllocError, Global};
@@ -17,7 +17,7 @@ pub(crate) struct Sender<'a> {
     pub(crate) offset: u64,
 }
 
-// A byte of the first column but B3: J1 has the trace, padded with spaces to 64 bytes, and C2 tells a VC-4 that is equipped.
+// A byte of the first column but B3: J1 has the trace, padded with spaces to 64 bytes, and C2 marks a VC-4 as equipped.
 fn overhead(sender: Sender<'_>, number: u64, row: u64) -> u8 {
     match row {
         0 => sender

@@ -140,7 +140,7 @@ fn needs_of(asked: Request) -> Needs
     }
 }
 
-// What four nodes need that ask for this; nothing, where not four are told of.
+// What four nodes need that ask for this; nothing, where not four are given.
 fn all_needs(asked: &[Request]) -> [Needs; 4]
     ensures { All MayNeed result }
 {

@@ -1,4 +1,4 @@
-//! The call that tells what is lost when, over objects in memory, as tests: with failures outside in mid-stream, and
+//! The call that reports what is lost when, over objects in memory, as tests: with failures outside in mid-stream, and
 //! with too little memory. No other crate stands on this one.
 #![tactic(auto)]
 

@@ -134,7 +134,7 @@ module _ (w : World) (whole : IsWhole w) where
 
   -- ---- what a side finds
 
-  -- the side with what is told to it
+  -- the side with what arrives there
   abbrev pub inlet_at : ℕ → Side → Inlet
   inlet_at p d = told_inlet (told_to w p d) (old_on p d)
 

@@ -1,4 +1,4 @@
--- Which controllers a script may hold, told by what happened in it: a hold spoils its own step alone.
+-- Which controllers a script may hold, by what happened in it: a hold spoils its own step alone.
 use Rattle.std.proofs.Common.{◌≡◌, ℕ, zero, suc, ◌+◌, ◌-◌, ◌<◌, ◌≤◌, List, [], ◌∷◌, ◌++◌, length, refl, ap, sym, ◌∙◌, subst, arith, inl, inr}
 use Rattle.std.proofs.Common.{append_assoc}
 use Rattle.std.specs.Prelude.{◌/◌}

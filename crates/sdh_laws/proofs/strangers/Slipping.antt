@@ -333,7 +333,7 @@ module _ (clock : ℕ → Clock) (source : IsSource clock) where
       let down : V (t - k) ≡ one_down c.value = ap (λ f. (after_form f c).value) long in
       ap₂ (λ s a. form_sent s a u) (state_now k t h) e ∙ (down_sent c.value u (is ∙ down)).form
 
-  -- ---- the chunk's form is told by what comes
+  -- ---- the chunk's form follows from what arrives
 
   chunk_by : (f : ChunkForm) → chunk_form (action_of f) ≡ f
   chunk_by Plain = refl

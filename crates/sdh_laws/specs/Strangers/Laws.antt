@@ -94,14 +94,14 @@ HeldBesidePassing Quiet w (s ∷ ss) =
     (EachMay HoldsAside w s.changes ⊎ (Quiet × EachMay HoldsNoPass w s.changes))
     × HeldBesidePassing (EndsWindow (course (all_changed s.changes w)) s.rounds) (after_stretch s w) ss
 
--- ---- the same, told by what happened
+-- ---- the same, by what happened
 
 -- the requests of all spans in the last round of these stretches, from a new ring of n on, with this threshold and this wait
 abbrev pub last_requests : ℕ → ℕ → ℕ → List Stretch → List ℕ
 last_requests threshold wait n ss = span_requests n (asked_in threshold wait n ss (rounds_in ss - 1))
 
--- Behind these stretches a change holds no controller, or that of a node that doesn't pass traffic through: in a new ring none does, and
--- in a quiet one it is told by the requests of the last round.
+-- Behind these stretches a change holds no controller, or that of a node that doesn't pass traffic through: in a new
+-- ring none does, and in a quiet one the requests of the last round decide it.
 abbrev pub HoldsNonePassing : ℕ → ℕ → ℕ → List Stretch → Change → Type 0
 HoldsNonePassing threshold wait n earlier (Fibre p d condition) = Unit {0}
 HoldsNonePassing threshold wait n earlier (Order p d command) = Unit {0}
