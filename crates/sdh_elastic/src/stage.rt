@@ -23,7 +23,7 @@ pub enum Stage {
     Second,
     /// The last turn was turn 2 or a justification.
     Moved,
-    /// One turn came after turn 2 and the last justification.
+    /// One turn ran after turn 2 and the last justification.
     OneLater,
     /// Two turns did.
     TwoLater,

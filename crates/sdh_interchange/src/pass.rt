@@ -178,7 +178,7 @@ impl<'a, const N: usize> Pass<'a, N> {
         }
     }
 
-    // The same, with no frame read where no AU-4 comes from one.
+    // Passes over a row, and reads no frame where no AU-4 comes from one.
     fn any_row(&self, bytes: &mut [u8], r: usize)
         requires pass { IsPass N self.now }
         requires size { length bytes.old ≡ 2430 * N }

@@ -54,7 +54,7 @@ pub fn rounds_are_signal_rounds()
     ensures { RoundsAreSignalRounds }
 {}
 
-/// So it is whichever plant ran it.
+/// A round of a whole ring goes as a round of signals, whichever plant ran it.
 pub fn whole_rounds_go_as_signals()
     ensures { WholeRoundsGoAsSignals }
 {}

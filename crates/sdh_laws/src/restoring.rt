@@ -19,7 +19,7 @@ pub fn free_rings_are_restored_soon()
     sdh_settling::rings_settle();
 }
 
-/// Where no slip waits either, from number 12n + 2 on.
+/// Where no controller misses a turn and no slip waits, traffic is restored from number 12n + 2 on.
 pub fn unslipped_rings_are_restored_soon()
     ensures { UnslippedRingsAreRestoredSoon }
 {
@@ -33,7 +33,7 @@ pub fn ports_are_owed_soon()
     sdh_settling::rings_settle();
 }
 
-/// The same where no controller is held and no slip waits.
+/// Where no controller is held and no slip waits, each port soon delivers what it is owed, circuit by circuit.
 pub fn unslipped_ports_are_owed_soon()
     ensures { UnslippedPortsAreOwedSoon }
 {

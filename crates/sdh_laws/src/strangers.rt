@@ -14,12 +14,12 @@ pub fn vouched_rings_stay()
     ensures { VouchedRingsStay }
 {}
 
-/// So it does over every round, in which no port meets a stranger.
+/// A ring that is vouched for stays so over every round, in which no port meets a stranger.
 pub fn rounds_keep_strangers_out()
     ensures { RoundsKeepStrangersOut }
 {}
 
-/// And over every settle step, in none of whose rounds one does.
+/// A ring that is vouched for stays so over every settle step, in no round of which a port meets a stranger.
 pub fn steps_keep_strangers_out()
     ensures { StepsKeepStrangersOut }
 {}
@@ -30,7 +30,7 @@ pub fn no_port_ever_meets_a_stranger()
     ensures { NoPortEverMeetsAStranger }
 {}
 
-/// And so it is where controllers are held of nodes that stand aside then, idle or isolated.
+/// No port meets a stranger either where the held controllers are of nodes that stand aside then, idle or isolated.
 pub fn nodes_aside_may_be_held()
     ensures { NodesAsideMayBeHeld }
 {}
@@ -50,8 +50,8 @@ pub fn settled_rings_are_vouched_for()
     sdh_settling::still_rings_are_settled();
 }
 
-/// So no port meets a stranger in any round of a step whose own changes hold no controller of a node that passes
-/// traffic through, whatever was held in the steps before.
+/// No port meets a stranger in any round of a step whose own changes hold no controller of a node that passes traffic
+/// through, whatever was held in the steps before.
 pub fn a_hold_spoils_its_own_step_alone()
     ensures { AHoldSpoilsItsOwnStepAlone }
 {

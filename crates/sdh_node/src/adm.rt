@@ -189,8 +189,8 @@ impl Adm {
         self.calm
     }
 
-    /// One round at a moment: what arrived is read, the state and the words follow, the ports deliver, and a frame goes
-    /// out on each side. It takes no memory.
+    /// Runs one round at a moment: what arrived is read, the state and the words follow, the ports deliver, and a frame
+    /// goes out on each side. It takes no memory.
     #[tactic(auto, unfolding(crate::specs::Node::node_round))]
     pub fn send(&mut self, now: Moment, west: &mut FrameBuf, east: &mut FrameBuf)
         requires west { west.old.rate ≡ self.old.settings.rate }

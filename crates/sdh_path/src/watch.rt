@@ -21,9 +21,9 @@ pub struct BadTrace;
 /// What is said of the last 64 bytes J1.
 #[derive(Clone, Copy, Debug, PartialEq, Eq)]
 pub enum TraceWord {
-    /// They are a rotation of the expected trace.
+    /// The 64 bytes of J1 are a rotation of the expected trace.
     Ok,
-    /// They aren't.
+    /// The 64 bytes of J1 are no rotation of the expected trace.
     Mismatch,
     /// There are fewer than 64.
     Short,

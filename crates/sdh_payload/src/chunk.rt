@@ -12,7 +12,7 @@ pub enum ChunkForm {
     Plain,
     /// Without the three stuffed bytes of a positive justification, 2346 bytes.
     Short,
-    /// With the three H3 bytes of a negative justification, 2352 bytes.
+    /// A chunk with the three H3 bytes of a negative justification, 2352 bytes.
     Long,
 }
 
@@ -29,7 +29,7 @@ pub fn take_chunk(payload: &[u8], h3: &[u8], form: ChunkForm, out: &mut Cells)
     take_chunk_in_place(h3, form, out);
 }
 
-/// The same where the payload already stands in `out`, as where it was read into `Cells::lend_payload`.
+/// Takes a chunk as `take_chunk` does, where the payload is in `out` already: it was read into `Cells::lend_payload`.
 pub fn take_chunk_in_place(h3: &[u8], form: ChunkForm, out: &mut Cells)
     requires payload { length out.old ≡ 2349 }
     requires h3 { length h3.now ≡ 3 }

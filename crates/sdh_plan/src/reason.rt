@@ -59,7 +59,7 @@ pub enum Reason {
     StepNumber = 26,
     /// The moment is below the one before.
     MomentBack = 27,
-    /// It is the 65th settle step.
+    /// The step is the 65th settle step.
     Settles = 28,
     /// The last step runs no rounds.
     LastStep = 29,

@@ -59,7 +59,7 @@ pub struct Reading {
 // The largest pointer value.
 const LAST: u16 = 782;
 
-// One more than the last ten bits can hold.
+// The number of values that the last ten bits of a word can hold.
 const VALUE_END: u16 = 1024;
 
 // How many AIS words, equal new values and invalid words in a row are needed.

@@ -95,7 +95,7 @@ impl Ring {
         // Over fibres that were just prepared for it, what is carried is what was sent.
         ensures whole { IfOk result (λ ring. (f : Fibres) → IsHonest f → IsWhole (world ring (prepared settings.rate (length map) f))) }
 
-        // And it is vouched for, whatever the clocks of its ports will be.
+        // A new ring is vouched for, whatever the clocks of its ports will be.
         ensures vouched { IfOk result (λ ring. (f : Fibres) (clocks : PortId → ℕ → Clock) → IsHonest f
             → IsVouched clocks (world ring (prepared settings.rate (length map) f))) }
     {
@@ -189,8 +189,8 @@ impl Ring {
         self.ring.moment(now);
     }
 
-    /// One round: all nodes receive, except in round 0, and then all send. It takes no memory. After a fault of the plant
-    /// the ring is broken.
+    /// Runs one round: all nodes receive, except in round 0, and then all send. It takes no memory. After a fault of
+    /// the plant the ring is broken.
     pub fn round<P: Plant>(&mut self, plant: &mut P) -> Result<(), PlantFault>
         requires prepared { IsPrepared self.old.settings.rate (length self.old.ids) (P.fibres plant.old) }
         requires whole { self.old.broken ≡ false }
@@ -266,7 +266,7 @@ impl Ring {
         self.settle_with(plant, limit, &mut Nobody)
     }
 
-    /// The same, with one who looks at the ring after each round.
+    /// Runs rounds as `settle` does, and lets an observer look at the ring after each round.
     pub fn settle_with<P: Plant, O: Observer<Ring>>(
         &mut self,
         plant: &mut P,

@@ -12,7 +12,7 @@ pub fn runs_settle()
     ensures { RunsSettle }
 {}
 
-/// And its nodes send the same words from then on.
+/// The nodes of such a run send the same words from then on.
 #[tactic(auto, using(crate::proofs::Fixpoint::words_stay))]
 pub fn words_stay()
     ensures { WordsStay }

@@ -15,7 +15,7 @@ use std::alloc::Global;
 pub enum NoPlan {
     /// There was no memory.
     Memory,
-    /// It ends with this status: `ReadFault`, `TooLong`, `NotToml` or `BadPlan`.
+    /// The plan was refused with this status: `ReadFault`, `TooLong`, `NotToml` or `BadPlan`.
     Refused(Status),
 }
 

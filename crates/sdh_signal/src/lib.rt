@@ -119,9 +119,9 @@ impl SignalRing {
         })
     }
 
-    /// One round: each node takes what its neighbours sent in the round before, or nothing on a failing side and in the first
-    /// round. Then each node that isn't held steps, by what it hears through its filters. `needs` and `held` have an entry for
-    /// each position. It takes no memory.
+    /// Runs one round: each node takes what its neighbours sent in the round before, or nothing on a failing side and
+    /// in the first round. Then each node that isn't held steps, by what it hears through its filters. `needs` and
+    /// `held` have an entry for each position. It takes no memory.
     pub fn round(&mut self, needs: &[Needs], held: &[bool])
         requires needs { length needs.now ≡ length self.old.ring.ids }
         requires held { length held.now ≡ length self.old.ring.ids }

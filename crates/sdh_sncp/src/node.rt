@@ -103,7 +103,7 @@ impl PathNode {
         self.calm
     }
 
-    /// One round: what arrived is read, the ports deliver, and a frame goes out on each side. It takes no memory.
+    /// Runs one round: what arrived is read, the ports deliver, and a frame goes out on each side. It takes no memory.
     #[tactic(auto, unfolding(crate::specs::Node::node_round))]
     pub fn send(&mut self, west: &mut FrameBuf, east: &mut FrameBuf)
         requires west { west.old.rate ≡ self.old.west.section.rate }

@@ -104,8 +104,8 @@ impl PathRing {
         Ok(PathRing { ring })
     }
 
-    /// One round: all nodes receive, except in round 0, and then all send. It takes no memory. After a fault of the plant
-    /// the ring is broken.
+    /// Runs one round: all nodes receive, except in round 0, and then all send. It takes no memory. After a fault of
+    /// the plant the ring is broken.
     pub fn round<P: Plant>(&mut self, plant: &mut P) -> Result<(), PlantFault>
         requires prepared { IsPrepared self.old.settings.rate (length self.old.ids) (P.fibres plant.old) }
         requires whole { self.old.broken ≡ false }
@@ -162,7 +162,7 @@ impl PathRing {
         self.settle_with(plant, limit, &mut Nobody)
     }
 
-    /// The same, with one who looks at the ring after each round.
+    /// Runs rounds as `settle` does, and lets an observer look at the ring after each round.
     pub fn settle_with<P: Plant, O: Observer<PathRing>>(
         &mut self,
         plant: &mut P,

@@ -56,7 +56,7 @@ pub fn run_plan<P: Plant>(alloc: Global, plan: Plan, plant: &mut P) -> Result<Ru
     ensures same_slot { (first second : ℕ) → result ≡ Err (PathError.SameSlot first second) → AreFirstToShare plan.circuits first second }
     ensures alone { IfOk result (λ run. AreAlone plan.circuits) }
 
-    // Where two share one the plant is left as it is.
+    // Where two circuits share a slot the plant stays as it is.
     ensures unmoved { ¬ (AreAlone plan.circuits) → plant.new ≡ plant.old }
 
     // A fault has a cause, and without one a script that settles is done.

@@ -52,7 +52,7 @@ pub fn spans_bring()
     ensures { SpansBring }
 {}
 
-/// Where it is cut it brings AIS.
+/// A cut span brings AIS.
 pub fn cut_spans_bring_ais()
     ensures { CutSpansBringAis }
 {}
