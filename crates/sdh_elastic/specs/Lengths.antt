@@ -8,12 +8,12 @@ use Rattle.sdh_elastic.specs.declared.lengths.Lengths.TheVariants.{Empty, One, T
 abbrev pub are_four : ℕ → ℕ → ℕ → ℕ → Bool
 are_four a b c d = nat_le 9393 (a + b + c + d) && nat_le (a + b + c + d) 9399
 
--- so are those of the last four turns, where there are four
+-- the last four turns, where there are four, took about four frames' bytes in
 abbrev pub is_last_steady : List ℕ → Bool
 is_last_steady (a ∷ b ∷ c ∷ d ∷ earlier) = are_four a b c d
 is_last_steady _ = true
 
--- so are those of each four turns in a row
+-- each four turns in a row took about four frames' bytes in
 abbrev pub is_steady : List ℕ → Bool
 is_steady [] = true
 is_steady (n ∷ earlier) = is_steady earlier && is_last_steady (n ∷ earlier)

@@ -45,7 +45,7 @@ abbrev pub on_side : Cross → Side → Receiving
 on_side x West = x.west
 on_side x East = x.east
 
--- with a change on one side
+-- a cross-connect with a change on one side
 abbrev pub at_side : Side → (Receiving → Receiving) → Cross → Cross
 at_side side f x = record x { west = if_west side f x.west; east = if_east side f x.east }
 

@@ -81,7 +81,7 @@ new_node s ids circuits at = record {
   calm = false;
 }
 
--- its cross-connect
+-- the cross-connect of a new node
 abbrev pub new_cross : Settings → List ℕ → List Provisioned → Pos → Cross
 new_cross s ids circuits at = record {
   ids = ids;

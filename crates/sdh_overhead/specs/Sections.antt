@@ -30,7 +30,7 @@ pub record UnderWay : Type 0 where
   pub clear : Running
   -- whether they are of a frame that is written, and not of one that is read
   pub written : Bool
-  -- of a frame that is read: whether it is framed, its K bytes, and the bits in which B1 and B2 differ
+  -- of a received frame: whether it is framed, its K bytes, and the bits in which B1 and B2 differ
   pub framed : Bool
   pub k1 : ℕ
   pub k2 : ℕ
@@ -106,7 +106,7 @@ abbrev pub last_of : ℕ → Bool → ℕ → List ℕ → Option Parities
 last_of n true b1 b2 = Some (record { b1 = b1; b2 = take (3 * n) b2 })
 last_of n false b1 b2 = None
 
--- where there are none the fields are zeros, as they are sent in a first frame
+-- where a section has no parities the fields are zeros, as they are sent in a first frame
 abbrev pub IsBlank : Bool → ℕ → List ℕ → Type 0
 IsBlank true b1 b2 = Unit {0}
 IsBlank false b1 b2 = (b1 ≡ 0) × (b2 ≡ replicate 48 0)

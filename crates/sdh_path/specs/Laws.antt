@@ -33,7 +33,7 @@ abbrev pub chunks_from : Customer → ℕ → ℕ → ℕ → List Given
 chunks_from port p value zero = []
 chunks_from port p value (suc k) = Chunk (stream_from port (p + 2349 * k) 2349) value ∷ chunks_from port p value k
 
--- so do watches that were given nothing but these since they began anew
+-- watches that were given nothing but clean chunks since they began anew report no fault
 abbrev pub ChunksAreClean : Type 0
 ChunksAreClean =
     (port : Customer) (p n value : ℕ) → 1 ≤ n → value ≤ 782 → BeginsAt port.offset p value

@@ -24,7 +24,7 @@ pub record Clock : Type 0 where
   -- what it sent in the last round, and `Plain` before the first
   pub form : ChunkForm
 
--- of a port with this offset, before round 0
+-- the clock of a port with this offset, before round 0
 abbrev pub new_clock : ℕ → Clock
 new_clock offset = record { rounds = 0; ups = 0; downs = 0; rest = 4; sent = 0; value = offset; form = Plain }
 

@@ -26,13 +26,13 @@ justifies_up Plain = false
 justifies_up Short = true
 justifies_up Long = false
 
--- one that justifies downwards sends three bytes more
+-- a chunk that justifies downwards has three bytes more
 abbrev pub justifies_down : ChunkForm → Bool
 justifies_down Plain = false
 justifies_down Short = false
 justifies_down Long = true
 
--- it does neither
+-- a chunk that justifies neither way
 abbrev pub is_plain : ChunkForm → Bool
 is_plain Plain = true
 is_plain Short = false

@@ -84,7 +84,7 @@ no_number (verb.circuit circuits) word = false
 no_number verb.end word = false
 no_number verb.turn word = false
 
--- one of the words isn't what it is to be
+-- one of the words is not what it should be
 abbrev pub any_amiss : (Part → List ℕ → Bool) → List Part → List (List ℕ) → Bool
 any_amiss amiss (part ∷ parts) (word ∷ others) = amiss part word || any_amiss amiss parts others
 any_amiss amiss _ _ = false

@@ -88,6 +88,6 @@ IsFailing call h = Contains h.failing (call, one_more (made call h.calls))
 abbrev pub called : PlantCall → HeldFailing → HeldFailing
 called call h = record h { calls = with_one_more call h.calls }
 
--- it failed
+-- the call failed
 abbrev pub refused : PlantCall → HeldFailing → HeldFailing
 refused call h = record (called call h) { faults = one_more h.faults }

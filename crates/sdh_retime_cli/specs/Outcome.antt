@@ -107,7 +107,7 @@ pub record UnsteadyBy (digits : List ℕ) (turn : ℕ) : Type 0 where
   pub is : sum ≡ size_at digits first + size_at digits (first + 1) + size_at digits (first + 2) + size_at digits (first + 3)
   pub far : (sum < 9393) ⊎ (9399 < sum)
 
--- and this turn is the one that the last line of a text names
+-- this turn of a text's last line is the first unsteady one
 pub record TellsUnsteady (digits : List ℕ) (turn : ℕ) (text : List ℕ) : Type 0 where
   pub unsteady : UnsteadyBy digits turn
   pub lines : List ℕ
@@ -117,7 +117,7 @@ pub record TellsUnsteady (digits : List ℕ) (turn : ℕ) (text : List ℕ) : Ty
 abbrev pub AreUnsteady : List (List ℕ) → ℕ → List ℕ → Type 0
 AreUnsteady words turn text = (digits : List ℕ) × (words ≡ digits ∷ []) × TellsUnsteady digits turn text
 
--- and of what was written
+-- what was written names the unsteady turn
 abbrev pub WritesUnsteady : List (List ℕ) → ℕ → Option (List ℕ) → Option (List ℕ) → Type 0
 WritesUnsteady words turn old new = (text : List ℕ) × AreUnsteady words turn text × Appends old new text
 

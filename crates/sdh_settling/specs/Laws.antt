@@ -18,7 +18,7 @@ RunsSettle =
     (run : Run) → IsRun run → (t p : ℕ) → 4 * length run.ids + 7 ≤ t → p < length run.ids
     → state_after (at_round run t p) ≡ settled (run_requests run) p
 
--- And from round 5n + 7 on no node of a run sends another word than in the round before.
+-- From round 5n + 7 on no node of a run sends another word than in the round before.
 abbrev pub WordsStay : Type 0
 WordsStay =
     (run : Run) → IsRun run → (t p : ℕ) (d : Side) → 5 * length run.ids + 7 ≤ t → p < length run.ids
@@ -85,6 +85,6 @@ pub record HasOneNotPassing (run : Run) (t : ℕ) : Type 0 where
   pub inside : at < length run.ids
   pub differs : state_after (at_round run t at) ≢ state.PassThrough tt
 
--- So in a still ring not all nodes pass through.
+-- In a still ring not all nodes pass through.
 abbrev pub NotAllPassThrough : Type 0
 NotAllPassThrough = (run : Run) → IsRun run → (t : ℕ) → IsStillAfter run t → HasOneNotPassing run (suc t)

@@ -11,7 +11,7 @@ pub record Counts : Type 0 where
   pub before : ℕ
   pub after : ℕ
 
--- one of them failed now, or the count stands at its last value
+-- a call failed now, or the count stands at its last value
 abbrev pub HaveFailed : Counts → Type 0
 HaveFailed counts = Rose counts.before counts.after
 
@@ -25,7 +25,7 @@ abbrev pub cause_of : Counts → Counts → Option Status → Type 0
 cause_of reads calls None = Unit {0}
 cause_of reads calls (Some how) = HasCause reads calls how
 
--- so they have in any program; an ending of its own needs none
+-- the shared endings have their cause in any program; an ending of a program's own needs none
 abbrev pub EndsWithCause : {E : Type 0} → Endings E → Counts → Counts → E → Type 0
 EndsWithCause endings reads calls how = cause_of reads calls (endings.shared how)
 
@@ -36,7 +36,7 @@ pub record CameOfSource (exact : Bool) (reads : Counts) (left now : Option (List
   pub counted : IsCounted exact ReadFault reads.before reads.after
   pub too_long : TooLong → TakesCount left now 1048577
 
--- And of a plant: where its count is exact, one call of it failed with a plant fault, and none without it.
+-- What a plant had come to: where its count is exact, one call of it failed with a plant fault, and none without it.
 pub record CameToFaults (source_exact plant_exact : Bool) (reads calls : Counts) (left now : Option (List ℕ))
     (ReadFault PlantFault TooLong : Type 0) : Type 0 where
   pub source : CameOfSource source_exact reads left now ReadFault TooLong

@@ -45,7 +45,7 @@ abbrev pub IsWhyNone : List ℕ → NoPlan → Type 0
 IsWhyNone bytes none.Memory = Unit {0}
 IsWhyNone bytes (none.Refused how) = HasNoPlan bytes how
 
--- it ends with one of these statuses
+-- a refusal of a plan ends with one of these statuses
 abbrev pub Refuses : Status → Type 0
 Refuses status.ReadFault = Unit {0}
 Refuses status.TooLong = Unit {0}

@@ -12,8 +12,8 @@ pub record Share (circuits : List Provisioned) (i j : ℕ) : Type 0 where
   pub second_is : slice_get circuits j ≡ Some second
   pub slot : first.slot.0 ≡ second.slot.0
 
--- they are the first that do: no circuit before the second one shares a slot with one before it, and none before the first one shares
--- it with the second
+-- these two circuits are the first that share a slot: no circuit before the second one shares a slot with one before
+-- it, and none before the first one shares it with the second
 pub record AreFirstToShare (circuits : List Provisioned) (i j : ℕ) : Type 0 where
   pub share : Share circuits i j
   pub order : i < j

@@ -22,7 +22,7 @@ path_node = record {
   outlet = λ port n. outlet_of port n.ports;
 }
 
--- it may run a round
+-- a node may run a round
 abbrev pub MayRun : ℕ → PathNode → Type 0
 MayRun now n = n.rounds < 2 ^ 32
 

@@ -25,7 +25,7 @@ Does plan (Refuses (ending.Shared how)) = ⊥
 Does plan (Writes told) = ⊥
 Does plan (Runs listing) = AreKnown plan.steps × AreAlone plan.circuits
 
--- it runs a plan over a path ring, and reports each settle step
+-- the program that runs a plan over a path ring, and reports each settle step
 abbrev pub pathing : Program (Unit {0}) (Unit {0}) Report Ending
 pathing = record {
   usage = codes "usage: sdhpath run";

@@ -53,7 +53,7 @@ pub record SendsSo (at : Rate) (input : ℕ → Input) (x : Sending) : Type 0 wh
       ≡ au_sent (slice_index_or x.generators k None) (input (k + 1))
   pub goes : (k : ℕ) → k + 1 ≤ n_of at → slice_index_or (after_sending input x).generators k None
       ≡ next_sending (slice_index_or x.generators k None) (input (k + 1)).action (input (k + 1)).value
-  -- so it is a side that sends
+  -- after sending it is a side that sends still
   pub stays : IsSenderAt at (after_sending input x)
 
 -- ---- what is found

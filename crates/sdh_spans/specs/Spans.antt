@@ -22,7 +22,7 @@ use Rattle.sdh_spans.specs.Sides.{IsInletAt, IsSenderAt, AreFull}
 pub record IsSpan (at : Rate) (c : Condition) (input : ℕ → Input) (x : Sending) (i : Inlet) : Type 0 where
   pub may : IsConditionAt at c
   pub sender : IsSenderAt at x
-  -- it doesn't say that nothing comes
+  -- the word does not say that nothing comes
   pub no_ais : x.word.mark ≢ mark.MsAis
   pub full : AreFull input
   pub inlet : IsInletAt at i
@@ -58,7 +58,7 @@ pub record IsConstant (f : ℕ → Input) (k : ℕ) : Type 0 where
 abbrev pub GoesBy : (ℕ → Input) → (ℕ → Option ℕ) → Type 0
 GoesBy went sending = (j : ℕ) → sending (suc j) ≡ next_sending (sending j) (went j).action (went j).value
 
--- and the interpreter after the fibre by the word that was sent one round before
+-- the interpreter after the fibre goes by the word that was sent one round before
 abbrev pub TakesBehind : Bool → (ℕ → Input) → (ℕ → Option ℕ) → (ℕ → Reading) → (ℕ → Input) → Type 0
 TakesBehind cut went sending reading came =
     (j : ℕ) → TakesWord (reading (suc j)) (reading (suc (suc j))) (came (suc j))

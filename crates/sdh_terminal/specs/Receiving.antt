@@ -30,7 +30,7 @@ pub record Inlet : Type 0 where
   -- what the interpreters of AU-4s 1 to N keep
   pub readings : List Reading
 
--- one that has received nothing
+-- a side that has received nothing
 abbrev pub new_inlet : Rate → Inlet
 new_inlet rate = record { arrived = None; section = holding rate None; readings = replicate (n_of rate) start }
 

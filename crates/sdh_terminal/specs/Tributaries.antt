@@ -29,7 +29,7 @@ pub record Tributary : Type 0 where
   -- the side on which its circuit leaves the node, and its working slot there
   pub side : Side
   pub slot : Slot
-  -- its stream, of which bytes are taken in each round
+  -- the port's stream, of which bytes are taken in each round
   pub feed : Fed
   -- what it delivered in the last round
   pub outlet : Outlet
@@ -132,7 +132,7 @@ input_by a = record { action = a.action; value = a.value; au = record { pointers
 abbrev pub added_by : List Tributary → PortId → Input
 added_by ports id = option_map_or (λ t. input_by (sent_in t.feed)) (port_of id ports) no_input
 
--- the same of ports as the round leaves them
+-- what a port adds, as the round leaves it
 abbrev pub own_input : Tributary → Input
 own_input t = input_by (sent_by t.feed)
 
@@ -148,7 +148,7 @@ all_fed ports = map_from (λ i t. fed t) 0 ports
 
 -- ---- what it delivers
 
--- of what is dropped to it
+-- a port with what it delivers of what is dropped to it
 abbrev pub delivered_with : (Tributary → Input) → Tributary → Tributary
 delivered_with dropped t = record t { outlet = delivered_from (dropped t) }
 

@@ -17,7 +17,7 @@ pub record IsWatching (c : Provisioned) (index : ℕ) (heard : PortId → List G
   pub at_a : CameBy c.b.trace (heard (port_id index A)) both.a
   pub at_b : CameBy c.a.trace (heard (port_id index B)) both.b
 
--- so have those of all circuits
+-- the watches of all circuits keep what was delivered to their ports
 pub record AreWatching (circuits : List Provisioned) (heard : PortId → List Given) (watches : List WatchPair) : Type 0 where
   pub many : length watches ≡ length circuits
   pub each : (i : ℕ) (c : Provisioned) (both : WatchPair) → slice_get circuits i ≡ Some c → slice_get watches i ≡ Some both

@@ -65,7 +65,7 @@ port_watched r heard index c e = (let port : PortId = record { circuit = index; 
 abbrev pub ports_watched : HeldRing → (PortId → List Given) → ℕ → List Provisioned → List WatchLine
 ports_watched r heard = of_ports (port_watched r heard)
 
--- of settle step `number`, which ended with the first of these rings, and the rounds to the second
+-- what is reported of settle step `number`, which ended with the first of these rings, and the rounds to the second
 abbrev pub watched : ℕ → HeldRing → HeldRing → (PortId → List Given) → Watched
 watched number mid left heard = record {
   number = number;

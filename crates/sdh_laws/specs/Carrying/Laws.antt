@@ -75,7 +75,7 @@ pub record IsRestored (clocks : PortId → ℕ → Clock) (w : World) (rs : List
 abbrev pub Restores : World → World → Type 0
 Restores w left = IsWhole w → IsRestored (clocks_from w) left (requests_of left)
 
--- so it is where a settle step answered
+-- where a settle step answered, the ring is restored
 abbrev pub SettledRingsAreRestored : Type 0
 SettledRingsAreRestored = (w left : World) (limit : ℕ) → HasCircuits (layout_of w) → Settles w limit left → Restores w left
 

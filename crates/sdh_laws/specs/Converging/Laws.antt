@@ -46,7 +46,8 @@ CalmEndsWindows = (w : World) (first : ℕ) → ((j : ℕ) → first ≤ j → I
 abbrev pub RoundsGetCalm : Type 0
 RoundsGetCalm = (w : World) → IsWhole w → HasCircuits (layout_of w) → (j : ℕ) → 31 * length w.ring.ids + 128 ≤ j → IsCalm (course w) j
 
--- so a quiet window always comes, within 34n + 256 rounds: 31n + 128 until all rounds are calm, and 3n + 128 until a window ends
+-- a quiet window always comes, within 34n + 256 rounds: 31n + 128 until all rounds are calm, and 3n + 128 until a
+-- window ends
 abbrev pub WindowsComeSoon : Type 0
 WindowsComeSoon = (w : World) → IsWhole w → HasCircuits (layout_of w) → WindowBy w (34 * length w.ring.ids + 256)
 
@@ -59,7 +60,7 @@ pub record Converges (w : World) : Type 0 where
 abbrev pub RingsConverge : Type 0
 RingsConverge = (w : World) → IsWhole w → HasCircuits (layout_of w) → Converges w
 
--- so no such step is unsettled
+-- no settle step of a whole ring with a limit that is enough is unsettled
 abbrev pub Answers : World → ℕ → World → Type 0
 Answers w limit left = IsWhole w → enough_for (length w.ring.ids) ≤ limit → Unsettles w limit left → ⊥
 

@@ -38,7 +38,8 @@ RingsAreRestoredSoon =
     (w : World) → IsWhole w → HasCircuits (layout_of w) → (k : ℕ) → 12 * length w.ring.ids + 102 ≤ k
     → IsRestored (clocks_from w) (run k w) (requests_of (run k w))
 
--- Where no controller misses a turn, from number 12n + 2 on, which is 194 in a ring of 16; where slips wait, from 8n + 61 on too.
+-- Where no controller misses a turn, traffic is restored from number 12n + 2 on, which is 194 in a ring of 16; where
+-- slips wait, from 8n + 61 on too.
 abbrev pub FreeRingsAreRestoredSoon : Type 0
 FreeRingsAreRestoredSoon =
     (w : World) → IsWhole w → HasCircuits (layout_of w) → NoneHeld w → (k : ℕ) → 12 * length w.ring.ids + 2 ≤ k
@@ -66,7 +67,8 @@ pub record ArePortsOwedFrom (w : World) (base : ℕ) : Type 0 where
 abbrev pub PortsAreOwedSoon : Type 0
 PortsAreOwedSoon = (w : World) → IsWhole w → HasCircuits (layout_of w) → ArePortsOwedFrom w (4 * length w.ring.ids + 109)
 
--- where no controller is held and no slip waits: over h hops from number 4n + 4h + 14 on, and AIS from number 7n + 7 on
+-- where no controller is held and no slip waits, ports are owed what comes over h hops from number 4n + 4h + 14 on, and
+-- AIS from number 7n + 7 on
 abbrev pub UnslippedPortsAreOwedSoon : Type 0
 UnslippedPortsAreOwedSoon =
     (w : World) → IsWhole w → HasCircuits (layout_of w) → NoneHeld w → IsUnslipped w → ArePortsOwedFrom w (4 * length w.ring.ids + 9)

@@ -60,7 +60,7 @@ abbrev pub EachMay : (World → Change → Type 0) → World → List Change →
 EachMay May w [] = Unit {0}
 EachMay May w (c ∷ cs) = May w c × EachMay May (changed c w) cs
 
--- and those of stretches
+-- each change of some stretches may be made, one after the other
 abbrev pub AllMay : (World → Change → Type 0) → World → List Stretch → Type 0
 AllMay May w [] = Unit {0}
 AllMay May w (s ∷ ss) = EachMay May w s.changes × AllMay May (after_stretch s w) ss
@@ -143,11 +143,11 @@ pub record VouchedRingsStay : Type 0 where
   pub change : (c : Change) (w : World) (clocks : PortId → ℕ → Clock) → IsChangeOf w c → HoldsAside w c → IsVouched clocks w
       → IsVouched clocks (changed c w)
 
--- so does every round, whichever plant ran it
+-- every round keeps strangers out, whichever plant ran it
 abbrev pub RoundsKeepStrangersOut : Type 0
 RoundsKeepStrangersOut = (w after : World) → HasCircuits (layout_of w) → IsRound w after → KeepsStrangersOut w after
 
--- and every settle step, whether it ended with a window or ran all its rounds
+-- every settle step keeps strangers out, whether it ended with a window or ran all its rounds
 pub record StepsKeepStrangersOut : Type 0 where
   pub settled : (w left : World) (limit : ℕ) → HasCircuits (layout_of w) → Settles w limit left → KeepsStrangersOutInAll w left
   pub unsettled : (w left : World) (limit : ℕ) → HasCircuits (layout_of w) → Unsettles w limit left → KeepsStrangersOutInAll w left
@@ -163,8 +163,8 @@ NoPortEverMeetsAStranger =
     → (t : ℕ) → t < rounds_in ss → NoneMeetsAStranger (clocks_by circuits.circuits ss)
     (round (world_in ss (new_world s ids circuits f) t)).ring
 
--- Where controllers are held too, as long as each is one of a node that stands aside when it is held, idle or isolated: whatever comes
--- while it misses its turns.
+-- No port meets a stranger where controllers are held, as long as each is one of a node that stands aside when it is
+-- held, idle or isolated: whatever comes while it misses its turns.
 abbrev pub NodesAsideMayBeHeld : Type 0
 NodesAsideMayBeHeld =
     (s : Settings) (ids : List ℕ) (circuits : Provisioning) (f : Fibres) (ss : List Stretch) → AreIds ids → IsHonest f
@@ -191,8 +191,9 @@ SettledRingsAreVouchedFor =
     (w left : World) (limit : ℕ) (clocks : PortId → ℕ → Clock) → IsWhole w → HasCircuits (layout_of w) → Settles w limit left
     → AreClocksBetween clocks w left → IsVouched clocks left
 
--- So a hold spoils its own step alone. From a new ring on, where each stretch but the last ends with a quiet window: in every round of the
--- last one, whatever was held before it, if its own changes hold no controller of a node that passes traffic through.
+-- A hold spoils its own step alone. From a new ring on, where each stretch but the last ends with a quiet window: in
+-- every round of the last one, whatever was held before it, if its own changes hold no controller of a node that passes
+-- traffic through.
 abbrev pub AHoldSpoilsItsOwnStepAlone : Type 0
 AHoldSpoilsItsOwnStepAlone =
     (s : Settings) (ids : List ℕ) (circuits : Provisioning) (f : Fibres) (earlier : List Stretch) (last : Stretch) → MayStart s ids f
