@@ -107,17 +107,17 @@ pub record UnsteadyBy (digits : List ℕ) (turn : ℕ) : Type 0 where
   pub is : sum ≡ size_at digits first + size_at digits (first + 1) + size_at digits (first + 2) + size_at digits (first + 3)
   pub far : (sum < 9393) ⊎ (9399 < sum)
 
--- this turn of a text's last line is the first unsteady one
+-- the text's last line names this turn, and up to it four chunks in a row are unsteady
 pub record TellsUnsteady (digits : List ℕ) (turn : ℕ) (text : List ℕ) : Type 0 where
   pub unsteady : UnsteadyBy digits turn
   pub lines : List ℕ
   pub text_is : text ≡ lines ++ drift_line turn
 
--- this is so of the words' digits
+-- the words are one word of digits, and the text names an unsteady turn of them
 abbrev pub AreUnsteady : List (List ℕ) → ℕ → List ℕ → Type 0
 AreUnsteady words turn text = (digits : List ℕ) × (words ≡ digits ∷ []) × TellsUnsteady digits turn text
 
--- what was written names the unsteady turn
+-- a text that names an unsteady turn was appended
 abbrev pub WritesUnsteady : List (List ℕ) → ℕ → Option (List ℕ) → Option (List ℕ) → Type 0
 WritesUnsteady words turn old new = (text : List ℕ) × AreUnsteady words turn text × Appends old new text
 
