@@ -1,7 +1,7 @@
 """The kinds of rounds by looking at the bytes that a port delivers, as the program does, and not at the simulation's tags. So it says what
 is to be seen also where two of a customer's chunks are alike."""
 from customers import CHUNK, Stream
-from simulate import Outage, Outages, streams_of
+from simulate import BACK, FRONT, Outage, Outages, streams_of
 
 BEFORE, NEAR = 71, 78  # in chunks: where the bytes that can be on their way begin, and how many there are
 
@@ -59,8 +59,19 @@ class LookedAt(Outage):
         if now == b"\xff" * len(now):
             return "ones"
         if not near.has(now, t):
-            return "strange"
+            return self.others(t, now)
         return "jump" if before is not None and near.has(before, t) and not near.has(before + now, t) else "order"
+
+
+    def others(self, t, now):
+        """The kind of a round that brought neither AIS nor ones nor own bytes as one part, by its two pieces."""
+        pieces = now[:FRONT], now[len(now) - BACK :]
+        if all(self.written[self.other].has(piece, t) for piece in pieces):
+            return "torn"
+        for port, written in self.written.items():
+            if port[0] != self.other[0] and any(written.has(piece, t) for piece in pieces):
+                return self.foreign(port)
+        return "strange"
 
 
 class Looks(Outages):

@@ -12,7 +12,9 @@ make the bytes of them that a port delivers, and look for these in the customer'
 2340, VC-4s look alike, and a jump may not be seen. The plan has to be a good one. Ends with the status."""
 import sys
 import tomllib
+from collections import Counter
 from functools import lru_cache
+from itertools import groupby
 
 import signalling
 from customers import CHUNK, LENGTHS, Clock, Stream
@@ -244,52 +246,90 @@ def bytes_of(delivered):
     return (*payload[:3], LENGTHS[form])
 
 
+FRONT, BACK = 783, 1560  # the bytes before the place of a justification, and those behind all that one changes there
+OUT = "ais", "ones", "strange", "foreign"  # kinds of rounds without own bytes
+COUNTED = "ais", "ones", "jump", "torn", "strange", "foreign"
+SWITCH = 400  # rounds, 50 ms
+
+
+def pieces_of(delivered):
+    """Whose bytes stand in an AU-4, and from which byte on before and behind the place of a justification, whatever else it holds."""
+    *port, start, form = delivered[2]
+    return tuple(port), start, start + LENGTHS[form] - BACK
+
+
 class Outage:
     """What one port delivered in the rounds of a settle step; `follows` is the byte that would come next, if the round before brought own bytes.
 
-    Own are bytes of the circuit's other port, from 71 chunks before that of the round to 6 after it."""
+    Own are bytes of the circuit's other port, from 71 chunks before that of the round to 6 after it. Foreign are as near ones of another circuit."""
 
     def __init__(self, line, other):
         self.line, self.other, self.follows = line, other, None
         self.begin()
 
     def begin(self):
-        self.counts = dict.fromkeys(("ais", "ones", "jump", "strange"), 0)
-        self.first, self.last = "-", "-"
+        self.first, self.last, self.whose = "-", "-", None
         self.kinds = []
 
+    def is_near(self, t, start, count):
+        return CHUNK * (t - 71) <= start and start + count <= CHUNK * (t + 7)
+
     def kind(self, t, delivered):
-        came = bytes_of(delivered)
-        if not isinstance(came, tuple):
-            self.follows = None
-            return came
-        start, end = came[2], came[2] + came[3]
-        if came[:2] != self.other or start < CHUNK * (t - 71) or end > CHUNK * (t + 7):
-            self.follows = None
+        came, before, self.follows = bytes_of(delivered), self.follows, None
+        if isinstance(came, tuple) and came[:2] == self.other and self.is_near(t, *came[2:]):
+            self.follows = came[2] + came[3]
+            return "order" if before in (None, came[2]) else "jump"
+        return came if came in ("ais", "ones") else self.torn(t, delivered)
+
+    def torn(self, t, delivered):
+        """The kind of a round that brought neither AIS nor ones nor own bytes as one part."""
+        if delivered[2] == "ones":
             return "strange"
-        before, self.follows = self.follows, end
-        return "order" if before in (None, start) else "jump"
+        port, front, back = pieces_of(delivered)
+        near = self.is_near(t, front, FRONT), self.is_near(t, back, BACK)
+        if port == self.other and all(near):
+            return "torn"
+        return self.foreign(port) if port[0] != self.other[0] and any(near) else "strange"
+
+    def foreign(self, port):
+        self.whose = self.whose or port
+        return "foreign"
 
     def see(self, t, delivered):
         kind = self.kind(t, delivered)
         self.kinds.append((t, kind))
         if kind != "order":
-            self.counts[kind] += 1
             self.first, self.last = t if self.first == "-" else self.first, t
 
+    def counts(self):
+        counted = Counter(kind for _, kind in self.kinds)
+        return {kind: counted[kind] for kind in COUNTED}
+
     def out(self):
-        return self.counts["ais"] + self.counts["ones"] + self.counts["strange"]
+        return sum(self.counts()[kind] for kind in OUT)
+
+    def runs(self):
+        """How many rounds there are in each run of rounds without own bytes. One that goes on from the step before counts from the first round."""
+        return [len([*run]) for is_out, run in groupby(kind in OUT for _, kind in self.kinds) if is_out]
+
+    def longest(self):
+        return max(self.runs(), default=0)
+
+    def is_back(self):
+        """Whether the step's last round brought own bytes."""
+        return self.kinds[-1][1] not in OUT
 
     def changes(self):
         """The rounds of the step that were of another kind than the one before, with their kinds; its first round always."""
         before = [None, *(kind for _, kind in self.kinds)]
         return [(t, kind) for (t, kind), last in zip(self.kinds, before) if kind != last]
 
-    def told(self):
-        out, counts = self.out(), self.counts
+    def told(self, names):
+        longest, whose = self.longest(), self.whose
         return (
-            f"{self.line} out {out} ms {milliseconds(out)} from {self.first} to {self.last} "
-            f"ais {counts['ais']} ones {counts['ones']} jump {counts['jump']} strange {counts['strange']}"
+            f"{self.line} out {self.out()} runs {len(self.runs())} longest {longest} ms {milliseconds(longest)} from {self.first} to {self.last} "
+            + " ".join(f"{kind} {count}" for kind, count in self.counts().items())
+            + f" of {f'{names[whose[0]]} {whose[1]}' if whose else '- -'}"
         )
 
 
@@ -301,7 +341,7 @@ class Outages:
     """The text of `sdhoutage run`, by the tags."""
 
     def __init__(self, ring):
-        self.ring, self.ports = ring, {}
+        self.ring, self.ports, self.names = ring, {}, [circuit["name"] for circuit in ring.circuits]
         made = self.made()
         for c, circuit in enumerate(ring.circuits):
             for end, other in ("ab", "ba"):
@@ -320,9 +360,15 @@ class Outages:
             port.see(self.ring.t, self.ring.delivered[key])
 
     def lines(self):
-        outs = [port.out() for port in self.ports.values()]
-        longest = max(outs, default=0)
-        return [*(port.told() for port in self.ports.values()), f"longest {longest} ms {milliseconds(longest)} none {outs.count(0)}"]
+        ports = self.ports.values()
+        back = [port.longest() for port in ports if port.is_back()]
+        longest, over, none = max(back, default=0), sum(run > SWITCH for run in back), sum(port.out() == 0 for port in ports)
+        foreign = sum(port.whose is not None for port in ports)
+        return [
+            *(port.told(self.names) for port in ports),
+            f"longest {longest} ms {milliseconds(longest)} over {over} none {none} still {len(ports) - len(back)}",
+            *([f"foreign ports {foreign}"] if foreign else []),
+        ]
 
 
 class Traces:
@@ -335,7 +381,7 @@ class Traces:
     def lines(self):
         port = self.outages.ports[self.port]
         changes = [f"round {t} {'in-order' if kind == 'order' else kind}" for t, kind in port.changes()]
-        return [*changes[:TOLD], *([f"more {len(changes) - TOLD}"] if len(changes) > TOLD else []), port.told()]
+        return [*changes[:TOLD], *([f"more {len(changes) - TOLD}"] if len(changes) > TOLD else []), port.told(self.outages.names)]
 
 
 def streams_of(circuits):

@@ -1,6 +1,8 @@
 #!/usr/bin/env python3
 """A plain model of what sdhwhatif writes: the rules once more, written from their words in docs/WHATIF.md and docs/RING.md."""
 
+import itertools
+import json
 import sys
 import tomllib
 from dataclasses import dataclass, field
@@ -8,7 +10,8 @@ from dataclasses import dataclass, field
 FORCED, FAIL, DEGRADE, MANUAL, WAIT = 13, 11, 8, 6, 5
 SIDES = "west", "east"
 DEPTHS = {"single": 1, "double": 2, "triple": 3}
-HEAD = "steps,kept,over,lost,hops,circuits\n"
+KINDS = "degraded", "fibres", "spans", "nodes", "manual", "forced"
+COLUMNS = ["number", "failures", "steps", "applied", "kept", "impaired", "over", "lost", "hops"]
 
 
 @dataclass(frozen=True)
@@ -78,31 +81,54 @@ class State:
         elif verb in ("forced", "manual", "clear"):
             self.sides[ring.nodes.index(int(words[1])), words[2]].command = verb
 
+    def asked(self):
+        """What is asked for on each span, by its two sides."""
+        n = len(self.ring.nodes)
+        return [max(self.sides[s, "east"].asks(self.ring.wait), self.sides[(s + 1) % n, "west"].asks(self.ring.wait)) for s in range(n)]
+
     def applied(self):
         """The spans that traffic goes round."""
-        n = len(self.ring.nodes)
-        asked = [max(self.sides[s, "east"].asks(self.ring.wait), self.sides[(s + 1) % n, "west"].asks(self.ring.wait)) for s in range(n)]
+        asked = self.asked()
         top = max(asked)
         if top >= FAIL:
-            return {s for s in range(n) if asked[s] >= FAIL}
+            return {s for s in range(len(asked)) if asked[s] >= FAIL}
         return {asked.index(top)} if top and asked.count(top) == 1 else set()
+
+    def troubled(self):
+        """The spans that are degraded or asked for by a command, and not applied."""
+        return {s for s, code in enumerate(self.asked()) if code >= MANUAL} - self.applied()
 
 
 def fresh(ring):
     return State(ring, {(at, side): Side() for at in range(len(ring.nodes)) for side in SIDES})
 
 
+@dataclass(frozen=True)
+class Failure:
+    """A kind of its own, its name, its steps, and the step of the script that it would take the place of."""
+
+    kind: str
+    name: str
+    steps: list
+    taken: tuple = None
+
+
+def span_name(ring, s):
+    return f"{ring.nodes[s]}-{ring.nodes[ring.beside(s, 'east')]}"
+
+
 def failures(ring):
-    """Each by its steps, and the step of the script that it would take the place of."""
+    """All of them in their order."""
     places = [(at, side) for at in range(len(ring.nodes)) for side in SIDES]
     step = lambda verb, at, side, more="": f"{verb} {ring.nodes[at]} {side}{more}"
     both = lambda s: [step("cut", s, "east"), step("cut", ring.beside(s, "east"), "west")]
-    made = [([step("degrade", *place, f" {ring.threshold}")], ("cut", place)) for place in places]
-    made += [([step("cut", *place)], None) for place in places]
-    made += [(both(s), None) for s in range(len(ring.nodes))]
-    made += [(both(at) + both(ring.beside(at, "west")), None) for at in range(len(ring.nodes))]
-    made += [([step("manual", *place)], ("forced", place)) for place in places]
-    return made + [([step("forced", *place)], None) for place in places]
+    to = lambda at, side: f"{ring.nodes[at]}>{ring.nodes[ring.beside(at, side)]}"
+    made = [Failure("degraded", f"degraded {to(*place)}", [step("degrade", *place, f" {ring.threshold}")], ("cut", place)) for place in places]
+    made += [Failure("fibres", f"fibre {to(*place)}", [step("cut", *place)]) for place in places]
+    made += [Failure("spans", f"span {span_name(ring, s)}", both(s)) for s in range(len(ring.nodes))]
+    made += [Failure("nodes", f"node {ring.nodes[at]}", both(at) + both(ring.beside(at, "west"))) for at in range(len(ring.nodes))]
+    made += [Failure("manual", f"manual {to(*place)}", [step("manual", *place)], ("forced", place)) for place in places]
+    return made + [Failure("forced", f"forced {to(*place)}", [step("forced", *place)]) for place in places]
 
 
 def mends(state, taken):
@@ -131,50 +157,92 @@ def way(n, circuit, applied):
     return steps, False
 
 
-def ways(state):
-    """How each circuit goes."""
-    applied = state.applied()
-    return {circuit[0]: way(len(state.ring.nodes), circuit, applied) for circuit in state.ring.circuits}
+def fates(state):
+    """What becomes of each circuit: kept, impaired, the spans that it goes over, or lost; and the longest way."""
+    n, applied, troubled = len(state.ring.nodes), state.applied(), state.troubled()
+    found, longest = {}, 0
+    for name, start, end in state.ring.circuits:
+        how = way(n, (name, start, end), applied)
+        longest = max(longest, how[0] if how else 0)
+        own = {(start + i) % n for i in range((end - start) % n)}
+        found[name] = "lost" if how is None else how[0] if not how[1] else "impaired" if own & troubled else "kept"
+    return found, longest
 
 
-def line(state, steps):
-    """The line of a case, and how many circuits are lost."""
-    found = ways(state.after([*steps, "settle"]))
-    lost = [name for name, how in found.items() if how is None]
-    kept = sum(how is not None and how[1] for how in found.values())
-    hops = max((how[0] for how in found.values() if how), default=0)
-    counts = [str(count) for count in (kept, len(found) - kept - len(lost), len(lost), hops)]
-    return ",".join(["; ".join([*steps, "settle"]), *counts, *lost]) + "\n", len(lost)
+@dataclass(frozen=True)
+class Asked:
+    """What the words ask for."""
+
+    depth: int
+    kinds: tuple = ()
+    form: str = "table"  # head, json or summary
+    part: int = 1
+    parts: int = 1
+
+    def takes(self, failure):
+        return failure.kind in self.kinds or not self.kinds
 
 
-def cases(ring, state, depth):
-    """The failures of each case, in the order of the table, with its number."""
-    digits = [(steps, mends(state, taken)) for steps, taken in failures(ring)]
-    base = len(digits) + 1
-    for number in range(base**depth):
-        used = [number // base**k % base for k in range(depth - 1, -1, -1)]
-        grow = all(a == 0 or a < b for a, b in zip(used, used[1:]))
-        if grow and not any(d and digits[d - 1][1] for d in used):
-            yield number, [digits[d - 1][0] for d in used if d]
+def cases(ring, state, asked):
+    """The failures of each case, in the order of the table."""
+    there = [failure for failure in failures(ring) if asked.takes(failure) and not mends(state, failure.taken)]
+    return [list(some) for count in range(asked.depth + 1) for some in itertools.combinations(there, count)]
 
 
-def singles(ring, state):
-    """The lines after the table."""
-    n, made, at = len(ring.nodes), failures(ring), 0
-    text = ""
-    for kind, count in (("degraded fibres", 2 * n), ("cut fibres", 2 * n), ("spans", n), ("nodes", n), ("manual switches", 2 * n), ("forced switches", 2 * n)):
-        lost = [line(state, steps)[1] for steps, taken in made[at : at + count] if not mends(state, taken)]
-        some = sum(k > 0 for k in lost)
-        text += f"single {kind}: {len(lost)}; " + (f"circuits are lost in {some} of them; at most {max(lost)}\n" if some else "no circuit is lost\n")
-        at += count
+def counts(found):
+    values = list(found.values())
+    return [values.count("kept"), values.count("impaired"), sum(isinstance(value, int) for value in values), values.count("lost")]
+
+
+def record(state, number, case, form):
+    """A case's line."""
+    steps = [*itertools.chain.from_iterable(failure.steps for failure in case), "settle"]
+    after = state.after(steps)
+    found, hops = fates(after)
+    applied = [span_name(state.ring, s) for s in sorted(after.applied())]
+    names = [failure.name for failure in case]
+    if form == "json":
+        told = dict(zip(COLUMNS, [number, names, steps, applied, *counts(found), hops]))
+        return json.dumps({**told, "circuits": found}, separators=(",", ":")) + "\n"
+    body = ", ".join(f'""{step}""' for step in steps)
+    short = {"kept": "", "impaired": "i", "lost": "x"}
+    cells = [number, " + ".join(names), f'"{body}"', " ".join(applied), *counts(found), hops, *(short.get(fate, fate) for fate in found.values())]
+    return ",".join(map(str, cells)) + "\r\n"
+
+
+def summary(ring, state, asked):
+    """What each failure alone takes, kind by kind."""
+    text = "kind,cases,losing,most\r\n"
+    for kind in [kind for kind in KINDS if kind in (asked.kinds or KINDS)]:
+        made = [failure for failure in failures(ring) if failure.kind == kind and not mends(state, failure.taken)]
+        lost = [counts(fates(state.after([*failure.steps, "settle"]))[0])[3] for failure in made]
+        text += f"{kind},{len(lost)},{sum(k > 0 for k in lost)},{max(lost, default=0)}\r\n"
     return text
 
 
-def table(ring, depth, part=1, parts=1):
+def table(ring, asked):
     """All that is written for a ring with its script."""
     state = fresh(ring).after(ring.script)
-    told = [sum(steps, []) for number, steps in cases(ring, state, depth) if number % parts == part - 1]
-    return HEAD + "".join(line(state, steps)[0] for steps in told) + singles(ring, state) + "done\n"
+    if asked.form == "summary":
+        return summary(ring, state, asked)
+    told = [(number, case) for number, case in enumerate(cases(ring, state, asked)) if number % asked.parts == asked.part - 1]
+    head = ",".join([*COLUMNS, *(name for name, *_ in ring.circuits)]) + "\r\n" if asked.form == "head" else ""
+    return head + "".join(record(state, number, case, asked.form) for number, case in told)
+
+
+def asked_of(words):
+    """What words ask for; they have one of the forms that there are."""
+    first, *rest = words
+    found = {"depth": DEPTHS[first], "kinds": ()}
+    while rest:
+        word = rest.pop(0)
+        if word in KINDS:
+            found["kinds"] += (word,)
+        elif word == "part":
+            found["part"], found["parts"] = int(rest.pop(0)), int(rest.pop(0))
+        else:
+            found["form"] = word
+    return Asked(**found)
 
 
 def ring_of(document):
@@ -185,9 +253,9 @@ def ring_of(document):
 
 
 def main(words):
-    """What `sdhwhatif WORD [PART PARTS] < PLAN` has to write."""
-    part, parts = map(int, words[1:] or (1, 1))
-    sys.stdout.write(table(ring_of(tomllib.load(sys.stdin.buffer)), DEPTHS[words[0]], part, parts))
+    """What `sdhwhatif WORD.. < PLAN` has to write."""
+    sys.stdout.reconfigure(newline="")
+    sys.stdout.write(table(ring_of(tomllib.load(sys.stdin.buffer)), asked_of(words)))
 
 
 if __name__ == "__main__":

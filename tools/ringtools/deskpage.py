@@ -21,12 +21,12 @@ BREAKS = ("span", "node", "fibre", "degraded")  # failures; the other kinds are 
 DEPTHS = {1: "one failure", 2: "up to two failures", 3: "up to three failures"}
 TITLES = {"degraded": "fibres degraded", "fibre": "fibres cut", "span": "spans cut", "node": "nodes lost", "manual": "manual switches", "forced": "forced switches"}
 FROM_TABLE = (
-    "Numbers and names of lost customers are those of the table of <code>sdhwhatif</code>. Which of the others are kept and which go over protection, which spans are "
-    "applied, and the longest way come from the restoration model of these tools; each line of the table had to be the model's."
+    "What becomes of each customer, the applied spans and the longest way are those of the table of <code>sdhwhatif</code>. The restoration model of these tools has them "
+    "once more; each record of the table had to be the model's."
 )
 FROM_PATHS = "The path ring is computed by these tools, by the rule of path protection: a customer is lost where one of its ports has neither way."
 FROM_RATES = "Minutes and nines are computed by these tools from the tables of rates and repair times, which are named at the end; without the time of switches."
-SEE_ORIGIN = 'Customers that are lost: from the table of <code>sdhwhatif</code>; all else <a href="#origin">as described at the end</a>.'
+SEE_ORIGIN = 'From the table of <code>sdhwhatif</code>, <a href="#origin">as described at the end</a>. Impaired: kept, though a span is degraded or asked for.'
 LOOKED_UP = "The browser looks cases up in what the page carries, and computes no verdict."
 SIGNED = "".join(f"<tr><th scope=\"row\">{who}</th><td></td><td></td></tr>" for who in ("prepared by", "checked by", "approved by"))
 
@@ -134,12 +134,11 @@ def customers(desk):
 
 
 def case_row(desk, case):
-    kept, over, lost = case.outcome.counts
     words = f'<span data-case="{" ".join(map(str, case.failures))}">{unbroken(desk.table.words(case))}</span>'
-    return [words, kept, over, lost, case.outcome.hops, escape(names(desk.lost(case)))]
+    return [words, *case.outcome.counts, case.outcome.hops, escape(names(desk.lost(case)))]
 
 
-CASE_HEADS = ["case", "kept", "over protection", "lost", "longest way in spans", "customers that are lost"]
+CASE_HEADS = ["case", "kept", "kept, impaired", "over protection", "lost", "longest way in spans", "customers that are lost"]
 
 
 def cases(desk):

@@ -1,7 +1,6 @@
 """The cases of a ring: which failures, which spans are applied, and what becomes of each circuit. This module alone knows the form of sdhwhatif's table.
 
-The table has counts, and the names of the circuits that are lost. Which of the others are kept and which go the other way round, and which
-spans are applied, is filled in by the restoration model, and no case is taken whose line isn't that of the model, byte for byte.
+The table has all of it. The restoration model has it once more, and no case is taken whose record isn't that of the model, byte for byte.
 """
 
 import subprocess
@@ -18,13 +17,12 @@ from .plan import SIDES
 from .reasons import REASONS
 from .report import BAD_PLAN
 
-KEPT, OVER, LOST = "k", "o", "l"
-RESULTS = {KEPT: "kept", OVER: "over", LOST: "lost"}
+KEPT, IMPAIRED, OVER, LOST = "k", "i", "o", "l"
+RESULTS = {KEPT: "kept", IMPAIRED: "kept", OVER: "over", LOST: "lost"}  # as a run shows them
 KINDS = ("degraded", "fibre", "span", "node", "manual", "forced")
 DEPTHS = {"single": 1, "double": 2, "triple": 3}
 WHOLE = (1, 1)  # the first part of one
-HEAD = b"steps,kept,over,lost,hops,circuits\n"
-SUMMARY = 6  # lines at the end, and `done`
+FIELDS = ("number", "failures", "steps", "applied", "kept", "impaired", "over", "lost", "hops")  # before those of the circuits
 
 
 class ToldProblem(Exception):
@@ -40,12 +38,16 @@ class Failure:
     side: str
     name: str  # with places in place of numbers
     label: str  # as `span 3-4`
+    called: str  # so in sdhwhatif's table
     steps: tuple
 
 
 @dataclass(frozen=True, eq=False)
 class Outcome:
-    """What becomes of all circuits where these spans are applied: a letter for each circuit, and the longest way in spans. A table has each once."""
+    """What becomes of all circuits where these spans are applied: a letter for each circuit, and the longest way in spans. A table has each once.
+
+    A circuit is impaired that is kept, though a span of its own arc is degraded or asked for.
+    """
 
     applied: frozenset
     results: str
@@ -53,7 +55,7 @@ class Outcome:
 
     @cached_property
     def counts(self):
-        return tuple(self.results.count(letter) for letter in (KEPT, OVER, LOST))
+        return tuple(self.results.count(letter) for letter in (KEPT, IMPAIRED, OVER, LOST))
 
 
 class Case(NamedTuple):
@@ -64,7 +66,7 @@ class Case(NamedTuple):
 
     @property
     def lost(self):
-        return self.outcome.counts[2]
+        return self.outcome.counts[3]
 
     @property
     def results(self):
@@ -122,11 +124,14 @@ class Namer:
         words = {"fibre": "fibre {0}>{1}{2} cut", "degraded": "fibre {0}>{1}{2} degraded", "manual": "manual switch at {0} to {1}{2}", "forced": "forced switch at {0} to {1}{2}"}
         return words[kind].format(self.place(at), self.place(self.plan.neighbour(at, side)), self.aside(side))
 
-    def label(self, kind, at, side):
+    def called(self, kind, at, side):
         here = self.plan.ids[at]
         if kind in ("span", "node"):
             return "span {}-{}".format(*self.plan.ends(at)) if kind == "span" else f"node {here}"
-        return f"{kind} {here}>{self.plan.ids[self.plan.neighbour(at, side)]}{self.aside(side)}"
+        return f"{kind} {here}>{self.plan.ids[self.plan.neighbour(at, side)]}"
+
+    def label(self, kind, at, side):
+        return self.called(kind, at, side) + (self.aside(side) if side else "")
 
 
 def steps_of(plan, kind, at, side):
@@ -148,7 +153,8 @@ def failures_of(plan, places):
     for kind in KINDS:
         for at in range(plan.size):
             for side in SIDES if kind not in ("span", "node") else ("",):
-                found.append(Failure(kind, at, side, namer.name(kind, at, side), namer.label(kind, at, side), steps_of(plan, kind, at, side)))
+                words = [name(kind, at, side) for name in (namer.name, namer.label, namer.called)]
+                found.append(Failure(kind, at, side, *words, steps_of(plan, kind, at, side)))
     return tuple(found)
 
 
@@ -175,7 +181,8 @@ class Model:
         self.plan, self.last = plan, last_scene(plan)
         self.base = self.sets((span, request) for span, request in enumerate(span_requests(plan.size, self.last.requests)) if request)
         self.raised = [self.sets((span, self.RAISES[failure.kind]) for span in self.spans_of(failure)) for failure in failures]
-        self.known, self.applied_by = {}, {}
+        self.arcs = [frozenset(arc(plan, circuit)) for circuit in plan.circuits]
+        self.known, self.outcomes, self.ways = {}, {}, {}
 
     def sets(self, asked):
         """A number for each level, with a bit for each span that asks for it."""
@@ -202,25 +209,33 @@ class Model:
             raised = self.raised[number]
             fail, degrade, manual = fail | raised[0], degrade | raised[1], manual | raised[2]
         sets = (fail, 0, 0, 0) if fail else (0, degrade, manual, wait)
-        if sets not in self.known:
-            self.known[sets] = self.of_applied(self.applied(sets))
-        return self.known[sets]
+        key = sets, fail | degrade | manual
+        if key not in self.known:
+            troubled = {span for span in range(self.plan.size) if key[1] >> span & 1}
+            self.known[key] = self.of_applied(self.applied(sets), troubled)
+        return self.known[key]
 
     def applied(self, sets):
         highest = lambda span: max((level for level, spans in zip(self.LEVELS, sets) if spans >> span & 1), default=0)
         return applied_spans([highest(span) for span in range(self.plan.size)])
 
-    def of_applied(self, applied):
-        if applied not in self.applied_by:
-            letters = "".join(self.letter(circuit, applied) for circuit in self.plan.circuits)
-            ways = [len(route(self.plan, circuit, applied)) for circuit, letter in zip(self.plan.circuits, letters) if letter != LOST]
-            self.applied_by[applied] = Outcome(applied, letters, max(ways, default=0))
-        return self.applied_by[applied]
+    def of_applied(self, applied, troubled):
+        found = self.goes(applied)
+        letters = "".join(IMPAIRED if letter == KEPT and troubled & own else letter for (letter, _), own in zip(found, self.arcs))
+        if (applied, letters) not in self.outcomes:
+            self.outcomes[applied, letters] = Outcome(applied, letters, max((way for _, way in found), default=0))
+        return self.outcomes[applied, letters]
 
-    def letter(self, circuit, applied):
+    def goes(self, applied):
+        """Of each circuit, where these spans are applied, whether it is kept, over protection or lost, and over how many spans it goes."""
+        if applied not in self.ways:
+            self.ways[applied] = [self.way(circuit, own, applied) for circuit, own in zip(self.plan.circuits, self.arcs)]
+        return self.ways[applied]
+
+    def way(self, circuit, own, applied):
         if not is_joined(self.plan, circuit, applied):
-            return LOST
-        return OVER if applied & set(arc(self.plan, circuit)) else KEPT
+            return LOST, 0
+        return OVER if applied & own else KEPT, len(route(self.plan, circuit, applied))
 
 
 class Reading:
@@ -229,56 +244,59 @@ class Reading:
     def __init__(self, plan, places):
         self.plan, self.failures = plan, failures_of(plan, places)
         self.model = Model(plan, self.failures)
-        self.steps = ["".join(f"{step}; " for step in failure.steps) for failure in self.failures]
+        self.head = ",".join([*FIELDS, *(circuit.name for circuit in plan.circuits)])
+        self.steps = ["".join(f'""{step}"", ' for step in failure.steps) for failure in self.failures]
         self.ends = {}
 
     def numbers(self, depth, part):
-        """The failures of each case of this part, in the order of the table."""
+        """The failures of each case of this part, in the order of the table, and its number among all."""
         there = [number for number, failure in enumerate(self.failures) if not self.model.mends(failure)]
         found = chain.from_iterable(combinations(there, count) for count in range(DEPTHS[depth] + 1))
-        return found if part == WHOLE else (numbers for numbers in found if self.digits(numbers) % part[1] == part[0] - 1)
+        return ((place, numbers) for place, numbers in enumerate(found) if part == WHOLE or place % part[1] == part[0] - 1)
 
-    def digits(self, numbers):
-        """A case's number, of which parts are made."""
-        found = 0
-        for number in numbers:
-            found = found * (len(self.failures) + 1) + number + 1
-        return found
+    def begin(self, place, numbers):
+        """What stands before the outcome of a case."""
+        names = " + ".join(self.failures[number].called for number in numbers)
+        return f'{place},{names},"{"".join(self.steps[number] for number in numbers)}""settle""",'
 
     def end(self, outcome):
-        """What stands after the steps of a case."""
+        """The outcome of a case, as its record has it."""
         if outcome not in self.ends:
-            lost = "".join(f",{circuit.name}" for circuit, letter in zip(self.plan.circuits, outcome.results) if letter == LOST)
-            self.ends[outcome] = "settle,{},{},{},{}{}".format(*outcome.counts, outcome.hops, lost)
+            spans = " ".join("{}-{}".format(*self.plan.ends(span)) for span in sorted(outcome.applied))
+            cells = {KEPT: "", IMPAIRED: "i", LOST: "x"}
+            ways = (way for _, way in self.model.goes(outcome.applied))
+            fates = "".join(f",{cells.get(letter, way)}" for letter, way in zip(outcome.results, ways))
+            self.ends[outcome] = "{},{},{},{},{},{}{}".format(spans, *outcome.counts, outcome.hops, fates)
         return self.ends[outcome]
 
     def lines(self, text):
-        """The lines of the cases of a whole text, or a ToldProblem."""
-        if not text.startswith(HEAD) or not text.endswith(b"\ndone\n"):
+        """The records of the cases of a whole text, or a ToldProblem."""
+        head, *lines = text.decode("utf-8", "replace").split("\r\n")
+        if head != self.head or lines[-1:] != [""]:
             raise ToldProblem(f"`{text.splitlines()[-1].decode('utf-8', 'replace')}`" if text else "nothing")
-        return iter(text.decode("utf-8", "replace").split("\n")[1 : -2 - SUMMARY])
+        return iter(lines[:-1])
 
-    def case(self, numbers, lines):
-        """The case of these failures, whose line is the next."""
+    def case(self, place, numbers, lines):
+        """The case of these failures, whose record is the next."""
         outcome, line = self.model.outcome(numbers), next(lines, "the end")
-        if line != "".join([self.steps[number] for number in numbers]) + self.end(outcome):
-            raise self.problem(numbers, line)
+        if line != self.begin(place, numbers) + self.end(outcome):
+            raise self.problem(place, numbers, line)
         return Case(numbers, outcome)
 
     def cases(self, texts, depth, part=WHOLE):
         """Each case of this part by its numbers, or a ToldProblem. The text is one, or those of all parts of the whole, the first part first."""
         parts, found = [self.lines(text) for text in texts], {}
-        for numbers in self.numbers(depth, part):
-            found[numbers] = self.case(numbers, parts[self.digits(numbers) % len(parts)] if len(parts) > 1 else parts[0])
+        for place, numbers in self.numbers(depth, part):
+            found[numbers] = self.case(place, numbers, parts[place % len(parts)] if len(parts) > 1 else parts[0])
         if any(next(lines, None) is not None for lines in parts):
             raise ToldProblem("the table has more lines than there are cases")
         return found
 
-    def problem(self, numbers, line):
-        words, steps = " and ".join(self.failures[number].name for number in numbers) or "nothing", line.split(",")[0]
-        if steps == "".join(self.steps[number] for number in numbers) + "settle":
+    def problem(self, place, numbers, line):
+        words = " and ".join(self.failures[number].name for number in numbers) or "nothing"
+        if line.startswith(self.begin(place, numbers)):
             return ToldProblem(f"of {words} the table says something else than the restoration model")
-        return ToldProblem(f"`{steps}` stands where {words} was to come")
+        return ToldProblem(f"`{line}` stands where {words} was to come")
 
 
 def refused(text):
@@ -290,7 +308,7 @@ def refused(text):
 
 def words_for(depth, part):
     """The words that ask the program for a part of its table."""
-    return [depth] if part == WHOLE else [depth, *map(str, part)]
+    return [depth, "head", *(() if part == WHOLE else ("part", *map(str, part)))]
 
 
 def tell(program, document, depth, part):

@@ -19,9 +19,9 @@ from .running import Machines, processors, run_here, run_with_parallel
 from .verdicts import SOURCE, UNSETTLED, judge, source_cells, write_table
 
 
-def read_kinds(words, works):
+def read_kinds(words, alone):
     if words is None:
-        return KINDS[:3] if works else KINDS
+        return KINDS[:3] if alone else KINDS
     kinds = words.split(",")
     unknown = [kind for kind in kinds if kind not in KINDS]
     if unknown:
@@ -40,10 +40,8 @@ def store_of(asked, subject):
     return store
 
 
-def counting_store_of(asked, subject, works):
-    """Where what sdhoutage counts of the works is kept, if these are among the cases."""
-    if works is None:
-        return None
+def counting_store_of(asked, subject):
+    """Where what sdhoutage counts is kept."""
     program = find_program(shlex.split(asked.counter) if asked.counter else [str(COUNTER)])
     warn_of(program)
     return Store(folder_of(asked, subject.name) / "outages", program)
@@ -161,7 +159,7 @@ def ask_by_frames(asked, subject):
     for case in cases[:1]:
         check_room(subject, case)
     works = next((case for case in cases if case.kind == "works"), None)
-    store, counting = store_of(asked, subject), counting_store_of(asked, subject, works)
+    store, counting = store_of(asked, subject), works and counting_store_of(asked, subject)
     put_cases(asked, store, beforehand, cases)
     try:
         run_cases(asked, store, beforehand, cases)

@@ -76,13 +76,15 @@ class Interruptions:
         for stage in self.told_stages(plan.circuits):
             hit = self.hit(stage, plan.circuits)
             outages = {circuit.name: self.of(stage, circuit) for circuit in hit}
-            breaks = {name: outage.out for name, outage in outages.items() if outage.out and not outage.is_out_still}
+            breaks = {name: outage.longest for name, outage in outages.items() if outage.out and not outage.is_out_still}
             lost = sum(outage.is_out_still for outage in outages.values())
             parts = [f"{count_of(len(breaks), 'customer')} of {len(plan.circuits)} for at most {frames_words(max(breaks.values()))}"] if breaks else []
             parts += [f"{count_of(lost, 'customer')} from then on"] if lost else []
             jumps = len(hit) - len(breaks) - lost
             parts += [f"{count_of(jumps, 'customer')} for no frame, but with a jump"] if jumps else []
             yield f"<strong>Interrupted {BEGINNINGS[stage]}</strong>: {'; '.join(parts) or 'no customer'}."
+            if alarm := self.stages[stage].alarm():
+                yield f"<strong>{escape(alarm)}</strong>"
 
 
 def note(interruptions):

@@ -98,6 +98,8 @@ def step_section(look):
         names = ", ".join(f"{name} {end}" for name, end in look.wrong_ports())
         parts.append(f'<p class="alarm">Not what the restoration model says: port {escape(names)}.</p>')
     if look.settled.outages:
+        alarm = look.settled.outages.alarm()
+        parts += [f'<p class="alarm">{escape(alarm)}</p>'] if alarm else []
         parts.append(f"<p>{escape(look.settled.outages.words())}</p>")
     kind, drawn = figure(look)
     beside, below = ("", circuit_table(look)) if "large" in kind else (circuit_table(look), "")

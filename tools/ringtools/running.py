@@ -104,7 +104,7 @@ def processors():
 
 def tell_words(program, depth, parts, machines, stem):
     """The command of GNU parallel that asks for the parts of a table whose numbers it reads from its input. Files have names that no other run has."""
-    words, ask = machines.words(), f"{shlex.join(program.words)} {depth} {{}} {parts} < {stem}.toml > {stem}-{{}}.text"
+    words, ask = machines.words(), f"{shlex.join(program.words)} {depth} head part {{}} {parts} < {stem}.toml > {stem}-{{}}.text"
     is_here = all(login.rpartition("/")[2] == ":" for login in machines.logins)
     return [*words, *([] if is_here else ["--basefile", f"{stem}.toml", "--return", f"{stem}-{{}}.text", "--cleanup"]), ask]
 

@@ -5,13 +5,13 @@ import json
 import random
 from dataclasses import dataclass
 
-from .desktable import DEPTHS, LOST, OVER, RESULTS, WHOLE
+from .desktable import DEPTHS, IMPAIRED, LOST, OVER, RESULTS, WHOLE
 from .failures import Case
 from .model import arc
 from .origin import sum_of
 from .pathrings import PathRing
 
-OF_CASE = ("Failures", "Depth", "Kind", "Steps", "Applied", "Kept", "Over", "Lost", "Longest", "Over circuits", "Lost circuits", "Besides ends")
+OF_CASE = ("Failures", "Depth", "Kind", "Steps", "Applied", "Kept", "Impaired", "Over", "Lost", "Longest", "Impaired circuits", "Over circuits", "Lost circuits", "Besides ends")
 OF_PATHS = ("Path lost", "Path lost circuits")
 COLUMNS = (*OF_CASE, *OF_PATHS, "Frames", "Script", "Also", "Works", "Plan", "Asked")
 
@@ -88,15 +88,17 @@ class Told:
 
     def record(self, case):
         """What is said of a case, by the names of the JSON form."""
-        kept, over, lost = case.outcome.counts
+        kept, impaired, over, lost = case.outcome.counts
         return {
             "failures": list(self.table.labels(case)),
             "steps": list(self.table.steps(case)),
             "applied": ["{}-{}".format(*self.plan.ends(span)) for span in sorted(case.outcome.applied)],
             "kept": kept,
+            "impaired": impaired,
             "over": over,
             "lost": lost,
             "longest": case.outcome.hops,
+            "impaired_circuits": list(self.of(case, IMPAIRED)),
             "over_circuits": list(self.of(case, OVER)),
             "lost_circuits": list(self.lost(case)),
             "besides_ends": list(self.besides(case)),
@@ -108,9 +110,9 @@ class Told:
         found, table = self.record(case), self.table
         joined = lambda name, sign=" ": sign.join(found[name])
         begin = [joined("failures", "; ") or "nothing", len(case.failures), "+".join(table.kinds(case)), joined("steps", "; "), joined("applied")]
-        counts = [found["kept"], found["over"], found["lost"], found["longest"]]
+        counts = [found["kept"], found["impaired"], found["over"], found["lost"], found["longest"]]
         path = [len(found["path_lost_circuits"]), joined("path_lost_circuits")]
-        return [*begin, *counts, joined("over_circuits"), joined("lost_circuits"), joined("besides_ends"), *path]
+        return [*begin, *counts, *map(joined, ("impaired_circuits", "over_circuits", "lost_circuits", "besides_ends")), *path]
 
     def write_csv(self, path, question, found):
         """A row for each case. `found` has the differences of those that were run too, by their failures."""

@@ -12,7 +12,7 @@ WORST = 60  # cases of several failures that are shown
 KIND_WORDS = {"degraded": "fibre degraded", "fibre": "fibre cut", "span": "span cut", "node": "node lost", "manual": "manual switch", "forced": "forced switch"}
 KIND_PLURALS = {"degraded": "fibres degraded", "fibre": "fibres cut", "span": "spans cut", "node": "nodes lost", "manual": "manual switches", "forced": "forced switches"}
 DEPTH_WORDS = {1: "Each failure alone", 2: "Two failures", 3: "Three failures"}
-CASE_HEADS = ["failure", "kept", "over protection", "lost", "longest way in spans", "customers that are lost", "lost in a path ring", "run by frames too"]
+CASE_HEADS = ["failure", "kept", "kept, impaired", "over protection", "lost", "longest way in spans", "customers that are lost", "lost in a path ring", "run by frames too"]
 KIND_HEADS = ["failures", "cases", "customers are lost in", "at most", "besides ends of lost nodes in", "at most", "in a path ring in", "at most"]
 BY_PATHS = (
     "<strong>In a path ring</strong> a circuit is lost where one of its two ports has AIS, by the rule of path protection: "
@@ -40,8 +40,7 @@ def lost_words(told, case):
 
 def rows_of(told, cases, checked):
     for case in cases:
-        kept, over, lost = case.outcome.counts
-        cells = [kept, over, lost, case.outcome.hops, lost_words(told, case), len(told.path_lost(case))]
+        cells = [*case.outcome.counts, case.outcome.hops, lost_words(told, case), len(told.path_lost(case))]
         yield [unbroken(told.table.words(case)), *cells, frames_cell(told, case, checked)]
 
 

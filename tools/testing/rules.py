@@ -85,8 +85,11 @@ class Rules:
         codes += [5] if self.waits(p, d, t) else []
         return max(codes)
 
+    def requests(self, t):
+        return [max(self.local(s, "east", t), self.local((s + 1) % self.n, "west", t)) for s in range(self.n)]
+
     def applied(self, t):
-        request = [max(self.local(s, "east", t), self.local((s + 1) % self.n, "west", t)) for s in range(self.n)]
+        request = self.requests(t)
         if any(r >= 11 for r in request):
             return {s for s in range(self.n) if request[s] >= 11}
         top = [s for s in range(self.n) if request[s] == max(request)]

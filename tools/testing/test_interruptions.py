@@ -10,7 +10,7 @@ from common import TOOLS
 from pages import Seen
 
 SIMULATE = f"{sys.executable} {TOOLS.parent / 'bench' / 'outage' / 'simulate.py'}"  # a command
-PORT = re.compile(r"port (\S+) ([ab]) out (\d+) ms (\d+\.\d{3}) from (\S+) to (\S+) ais \d+ ones \d+ jump (\d+) strange \d+")
+PORT = re.compile(r"port (\S+) ([ab]) out (\d+) runs \d+ longest \d+ ms \d+\.\d{3} from (\S+) to (\S+) ais \d+ ones \d+ jump (\d+) torn ")
 STAGES = ["before", "during", "after", "waited"]
 BEGIN, END = "interrupted as they begin", "interrupted as they end"
 
@@ -21,8 +21,8 @@ def simulated(plan):
     found = {}
     for stage, part in zip(STAGES, text.split("settle ")[-len(STAGES) :]):
         last = part.split()[2]
-        for name, end, frames, ms, _, to, jumps in PORT.findall(part):
-            found[stage, name, end] = int(frames), ms, int(jumps), to == last and frames != "0"
+        for name, end, frames, _, to, jumps in PORT.findall(part):
+            found[stage, name, end] = int(frames), f"{int(frames) / 8:.3f}", int(jumps), to == last and frames != "0"
     return found
 
 
@@ -87,7 +87,7 @@ class Interruptions(Asking):
         """The drawing has them too. They are the proved sdhoutage's; of another command that isn't known, and it is said."""
         self.order("span 2-9")
         page = Seen((self.cases() / "works.html").read_text())
-        self.assertIn("The longest outage in this step: 12 frames, 1.500 ms", page.text())
+        self.assertIn("The longest interruption in this step: 12 frames, 1.500 ms", page.text())
         self.assertIn("outages/works.text", page.text())
         self.assertIn("Where the interruptions come from", self.words())
         rows = self.table("outages.csv")

@@ -2,15 +2,18 @@
 
 The simulation is held against the worked rows of sdhring first, since the rows of sdhoutage come from it."""
 
+import csv
 import itertools
 import random
 import re
 import subprocess
 import sys
+import tempfile
 import tomllib
 import types
 import unittest
 from functools import cache
+from pathlib import Path
 from runpy import run_path
 
 from common import RINGS, TOOLS
@@ -25,20 +28,27 @@ sys.path.insert(0, str(BENCH))
 import looking  # noqa: E402
 import simulate  # noqa: E402
 
-PORT = re.compile(r"port (\S+) ([ab]) out (\d+) ms (\d+\.\d{3}) from (\d+|-) to (\d+|-) ais (\d+) ones (\d+) jump (\d+) strange (\d+)")
+COUNTED = "ais", "ones", "jump", "torn", "strange", "foreign"
+PORT = re.compile(
+    r"port (\S+) ([ab]) out (\d+) runs (\d+) longest (\d+) ms (\d+\.\d{3}) from (\d+|-) to (\d+|-) "
+    + " ".join(rf"{kind} (\d+)" for kind in COUNTED)
+    + r" of (\S+ [ab]|- -)"
+)
 SPARED = {"beside", "far", "short"}  # circuits of the worked plans whose arcs don't hold the span
 SIZES = 3, 4, 8, 16
-KEYS = "out", "ms", "from", "to", "ais", "ones", "jump", "strange"
+KEYS = "out", "runs", "longest", "ms", "from", "to", *COUNTED, "of"
+WORDS = "ms", "of"  # that aren't numbers
 
 
 class Step:
     """One settle step of a text: its first and last round, and its ports by (name, end)."""
 
     def __init__(self, first, lines):
-        self.first, self.last, self.ports, self.longest = first, int(lines[0].split()[3]), {}, lines[-1]
-        for line in lines[1:-1]:
+        ports = [line for line in lines[1:] if line.startswith("port ")]
+        self.first, self.last, self.ports, self.longest = first, int(lines[0].split()[3]), {}, lines[len(ports) + 1 :]
+        for line in ports:
             name, end, *numbers = PORT.fullmatch(line).groups()
-            self.ports[name, end] = dict(zip(KEYS, (told if told == "-" or "." in told else int(told) for told in numbers)))
+            self.ports[name, end] = {key: told if told == "-" or key in WORDS else int(told) for key, told in zip(KEYS, numbers)}
 
     def kept(self, spared=SPARED):
         """The ports over the span that have another way: they aren't out at the end of the step."""
@@ -138,7 +148,7 @@ class Facts(unittest.TestCase):
     """What the section says besides its table."""
 
     def test_customers_round_the_span_lose_nothing(self):
-        untouched = {"out": 0, "ms": "0.000", "from": "-", "to": "-", "ais": 0, "ones": 0, "jump": 0, "strange": 0}
+        untouched = dict.fromkeys(KEYS, 0) | {"ms": "0.000", "from": "-", "to": "-", "of": "- -"}
         for name in rows():
             if re.search("^(?!trace-).*-(3|4|8|16)$", name):
                 spared = SPARED - {"far"} if name.startswith("node") else SPARED
@@ -237,12 +247,25 @@ class Rows(unittest.TestCase):
             for step, (told, run) in enumerate(zip(text, runs)):
                 settle, *changes, port = told.splitlines()[: told.count("\nround ") + 2]
                 self.assertEqual([settle, port], [line for line in run.splitlines() if line[0] in "0123456789" or line.startswith(port.split(" out ")[0])])
-                rounds, kinds = zip(*(re.fullmatch(r"round (\d+) (ais|ones|in-order|jump|strange)", line).groups() for line in changes))
+                rounds, kinds = zip(*(re.fullmatch(rf"round (\d+) (in-order|{'|'.join(COUNTED)})", line).groups() for line in changes))
                 self.assertTrue(all(kind != other for kind, other in zip(kinds, kinds[1:])), row.name)
                 ends = [*map(int, rounds), int(settle.split()[2]) + 1]
                 self.assertEqual(ends[0], int(runs[step - 1].split()[2]) + 1 if step else 0)
-                counted = {kind: sum(end - start for start, end, other in zip(ends, ends[1:], kinds) if other == kind) for kind in ("ais", "ones", "jump", "strange")}
-                self.assertEqual(" ".join(f"{kind} {count}" for kind, count in counted.items()), port[port.index("ais ") :])
+                counted = {kind: sum(end - start for start, end, other in zip(ends, ends[1:], kinds) if other == kind) for kind in COUNTED}
+                self.assertEqual(" ".join(f"{kind} {count}" for kind, count in counted.items()), port[port.index("ais ") : port.index(" of ")])
+                self.check_runs(PORT.fullmatch(port), ends, kinds)
+
+    def check_runs(self, port, ends, kinds):
+        """Runs of rounds without own bytes, put together of the changes: one of AIS and one of ones behind it are one run."""
+        runs, before = [], False
+        for start, end, kind in zip(ends, ends[1:], kinds):
+            is_out = kind in ("ais", "ones", "strange", "foreign")
+            if is_out and before:
+                runs[-1] += end - start
+            elif is_out:
+                runs.append(end - start)
+            before = is_out
+        self.assertEqual((int(port[4]), int(port[5])), (len(runs), max(runs, default=0)))
 
     def run_of(self, row):
         kind = looking.Looks if row.name == "trace-alike" else simulate.Outages
@@ -251,7 +274,7 @@ class Rows(unittest.TestCase):
     def test_more_changes_than_are_told(self):
         told = simulate.Outage("port c1 a", (0, "b"))
         told.kinds = [(t, ("ais", "order")[t % 2]) for t in range(100)]
-        teller = simulate.Traces(types.SimpleNamespace(ports={(0, "a"): told}, begin=None, see=None), (0, "a"))
+        teller = simulate.Traces(types.SimpleNamespace(ports={(0, "a"): told}, names=["c1"], begin=None, see=None), (0, "a"))
         self.assertEqual(teller.lines()[62:-1], ["round 62 ais", "round 63 in-order", "more 36"])
 
     def test_the_bytes_say_what_the_tags_say(self):
@@ -270,18 +293,45 @@ class Rows(unittest.TestCase):
         listed = (OUTAGES / "rows.md").read_text()
         self.assertEqual({path.name for path in OUTAGES.glob("*.t*") if f"| {path.name} |" not in listed}, set())
 
+    def summary_of(self, step):
+        """The lines behind those of the ports, by what these tell. A port is out still where its last round wasn't in order."""
+        ports = step.ports.values()
+        back = [told["longest"] for told in ports if told["to"] != step.last]
+        longest, over, none = max(back, default=0), sum(run > 400 for run in back), sum(told["out"] == 0 for told in ports)
+        foreign = sum(told["foreign"] > 0 for told in ports)
+        lines = [f"longest {longest} ms {longest * 0.125:.3f} over {over} none {none} still {len(ports) - len(back)}"]
+        return lines + ([f"foreign ports {foreign}"] if foreign else [])
+
     def test_lines_agree_in_themselves(self):
         for row in self.runs():
             for step in steps_in(row.text.decode()):
-                outs = [told["out"] for told in step.ports.values()]
-                longest = max(outs, default=0)
-                self.assertEqual(step.longest, f"longest {longest} ms {longest * 0.125:.3f} none {outs.count(0)}")
+                self.assertEqual(step.longest, self.summary_of(step), row.name)
                 for told in step.ports.values():
-                    self.assertEqual(told["out"], told["ais"] + told["ones"] + told["strange"])
-                    self.assertEqual(told["ms"], f"{told['out'] * 0.125:.3f}")
+                    self.assertEqual(told["out"], told["ais"] + told["ones"] + told["strange"] + told["foreign"])
+                    self.assertEqual(told["ms"], f"{told['longest'] * 0.125:.3f}")
+                    self.assertEqual(told["foreign"] == 0, told["of"] == "- -")
+                    self.assertTrue(told["longest"] <= told["out"] <= told["runs"] * told["longest"])
                     if told["to"] != "-":
                         self.assertTrue(step.first <= told["from"] <= told["to"] <= step.last)
-                        self.assertLessEqual(told["out"] + told["jump"], told["to"] - told["from"] + 1)
+                        self.assertLessEqual(told["out"] + told["jump"] + told["torn"], told["to"] - told["from"] + 1)
+
+    def test_a_foreign_frame_is_found(self):
+        """By bytes as by tags; docs/OUTAGES.md shows it, and the example's comment tells it."""
+        row = rows()["example-held-controllers"]
+        step = steps_in(row.text.decode())[1]
+        self.assertEqual({port: told["foreign"] for port, told in step.ports.items() if told["foreign"]}, {("v", "b"): 1})
+        self.assertEqual((step.ports["v", "b"]["of"], step.longest[-1]), ("u a", "foreign ports 1"))
+        self.check(row, looking.Looks)
+        self.assertIn("\nround 138 foreign\nround 139 ais\n", rows()["trace-held-controllers"].text.decode())
+        text = (OUTAGES / "example-held-controllers.text").read_text()
+        shown = "".join(f"    {line}\n" for line in text[text.index("settle 2") : text.index("settle 3")].splitlines())
+        self.assertIn(shown, (ROOT / "docs" / "OUTAGES.md").read_text())
+
+    def test_a_run_is_cut_in_two_by_the_start_of_a_step(self):
+        """The example's port v b is out when the second step begins, and has bytes again from its third round on."""
+        first, second = (step.ports["v", "b"] for step in steps_of("example-held-controllers")[:2])
+        self.assertEqual((first["runs"], first["longest"], first["to"]), (1, 129, 128))
+        self.assertEqual((second["runs"], second["longest"], second["from"], second["out"]), (2, 12, 129, 14))
 
     def test_texts_of_the_worked_plans_show_each_jump(self):
         plans = [path for path in OUTAGES.glob("*.toml") if path.stem != "alike"]
@@ -338,6 +388,35 @@ class Model(unittest.TestCase):
             told = [line.split(" ", 2)[2].split(" ")[0] if line.startswith("node ") else line[5:] for line in lines if line.startswith(("node ", "port "))]
             wanted = [word for settle, last in enumerate(rounds) for word in self.wanted(plan, rules, last, settle)]
             self.assertEqual(told, wanted, number)
+
+
+class Worst(unittest.TestCase):
+    """The worst interruption over all failures of a plan, with the simulation as the program."""
+
+    def ask(self, folder, *words):
+        program = f"{sys.executable} {BENCH / 'simulate.py'}"
+        asked = [TOOLS / "sdhring-whatif", "--outages", "--counter", program, "--dir", folder, "--without-script", *words, ROOT / "examples" / "waiting.toml"]
+        return subprocess.run([sys.executable, *map(str, asked)], capture_output=True, text=True)
+
+    def test_each_span_of_a_ring_of_four(self):
+        """A span over which the circuit goes costs 4n - 4 frames, its mending 4n - 6, and the end of waiting none."""
+        with tempfile.TemporaryDirectory() as folder:
+            ended = self.ask(folder, "--kinds", "span")
+            with open(Path(folder) / "interruptions.csv", newline="") as file:
+                rows = [*csv.DictReader(file)]
+        self.assertEqual(ended.returncode, 0, ended.stderr)
+        hit = ["12", "10", "0"]
+        self.assertEqual([row["Longest"] for row in rows], hit + hit + ["0"] * 6)
+        self.assertEqual([row["Stage"] for row in rows[:3]], ["failed", "mended", "waited"])
+        self.assertEqual({(row["Over"], row["Still out"], row["Foreign"]) for row in rows}, {("0", "0", "")})
+        table, worst, over = ended.stdout.splitlines()
+        self.assertEqual(worst, "the worst interruption: 12 frames, 1.500 ms, span 1–2, failed: c1 a, c1 b")
+        self.assertEqual(over, "0 of 12 stages have a port that was out for more than 400 frames, 50 ms, and came back")
+
+    def test_words_that_do_not_go_together(self):
+        ended = self.ask("/nowhere", "--all")
+        self.assertEqual((ended.returncode, ended.stdout), (1, ""))
+        self.assertEqual(ended.stderr, "sdhring-whatif: --outages goes with none of --all, --require, --works, --sshlogin and --program\n")
 
 
 class Compare(unittest.TestCase):

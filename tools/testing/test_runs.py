@@ -223,7 +223,7 @@ class Outages(unittest.TestCase):
             north, south, _ = page.table_named(caption, 2)
             self.assertEqual((north["out at port a"], north["out at port b"]), ("10 frames, 1.250 ms", "12 frames, 1.500 ms, 1 jump"))
             self.assertEqual((south["out at port a"], south["out at port b"]), ("none", "none"))
-        self.assertIn("The longest outage in this step: 12 frames, 1.500 ms, at north b, works b. 2 of 6 ports had none.", page.text())
+        self.assertIn("The longest interruption in this step: 12 frames, 1.500 ms, at north b, works b. 2 of 6 ports had none.", page.text())
         self.assertIn("No port was without its own customer's bytes in this step.", page.text())
         self.assertTrue(any("port works b at node 3" in title and title.endswith("out in this step: 12 frames, 1.500 ms, 1 jump") for title in page.titles))
         self.assertIn(f"Outages are from {WORKS_OUT} , whose checksum is", page.text())
@@ -237,7 +237,7 @@ class Outages(unittest.TestCase):
             page, told = self.page(OUTAGES / f"{name}.text", ring(name)), []
             for number in range(len(page.tables_of("Circuits"))):
                 told += [row[f"out at port {end}"] for row in page.table_named("Circuits", number) for end in "ab"]
-            wanted = [line.split(" ")[4:9:2] for line in (OUTAGES / f"{name}.text").read_text().splitlines() if line.startswith("port ")]
+            wanted = [[line.split(" ")[at] for at in (4, 10, 12)] for line in (OUTAGES / f"{name}.text").read_text().splitlines() if line.startswith("port ")]
             begin = lambda first: "none; first bytes after " if first == "0" else ""
             frames = lambda out, ms, first: "none" if out == "0" else f"{begin(first)}{out} frame{'s' if out != '1' else ''}, {ms} ms"
             self.assertEqual(told, [frames(*line) for line in wanted])
@@ -251,7 +251,7 @@ class Outages(unittest.TestCase):
 
     def test_a_start_and_more_in_one_stretch(self):
         """Rounds that brought bytes amid those that brought none: the start isn't all of it."""
-        line = "port north a out 2 ms 0.250 from 0 to 1 ais 2 ones 0 jump 0 strange 0"
+        line = "port north a out 2 runs 1 longest 2 ms 0.250 from 0 to 1 ais 2 ones 0 jump 0 torn 0 strange 0 foreign 0 of - -"
         text = WORKS_OUT.read_text()
         self.assertEqual(text.count(line), 1)
         with tempfile.NamedTemporaryFile("w") as changed:
@@ -259,7 +259,7 @@ class Outages(unittest.TestCase):
             changed.flush()
             page = self.page(changed.name)
         self.assertIn("2 frames, 0.250 ms, the ring's start among them", page.text())
-        self.assertIn("The longest outage in this step: 2 frames, 0.250 ms, at north a. 5 of 6 ports had none.", page.text())
+        self.assertIn("The longest interruption in this step: 2 frames, 0.250 ms, at north a. 5 of 6 ports had none.", page.text())
 
     def test_without_them_a_page_is_as_it_was(self):
         page = Seen(call("sdhring-view", *WORKS).stdout.decode())
@@ -275,13 +275,14 @@ class Outages(unittest.TestCase):
         self.assertEqual(ended.stderr, b"sdhring-view: only one of PLAN, REPORT and the outages can be standard input\n")
 
     def test_texts_that_are_none_or_another_s(self):
-        line = "port north a out 12 ms 1.500 from 130 to 141 ais 10 ones 2 jump 0 strange 0"
+        line = "port north a out 12 runs 1 longest 12 ms 1.500 from 130 to 141 ais 10 ones 2 jump 0 torn 0 strange 0 foreign 0 of - -"
         for changed in (
             line.replace("out 12", "out 13"), line.replace("1.500", "1.501"), line.replace("to 141", "to 140"), line.replace("from 130", "from -"),
             line.replace("north", "south"), line.replace("130", "128"), line.replace("141", "257"), line + " ", line.replace("ais 10", "ais 010"),
+            line.replace("runs 1", "runs 0"), line.replace("runs 1", "runs 13"), line.replace("of - -", "of south a"), line.replace("longest 12 ms 1.500", "longest 11 ms 1.375"),
         ):  # fmt: skip
             self.assertIn("sdhring-view: FILE: line 10: ", self.said(line, changed), changed)
-        self.assertIn("line 16: not what the ports' lines come to", self.said("longest 12 ms 1.500 none 2", "longest 12 ms 1.500 none 3"))
+        self.assertIn("line 16: not what the ports' lines come to", self.said("longest 12 ms 1.500 over 0 none 2 still 0", "longest 12 ms 1.500 over 0 none 3 still 0"))
         self.assertIn("line 9: a settle step can't end with this round", self.said("settle 2 round 256", "settle 2 round 250"))
         self.assertIn("settle step 4 ends with round 640, and in the report with round 512", self.said("settle 4 round 512", "settle 4 round 640"))
         self.assertIn("line 33: no line that sdhoutage run writes here", self.said("done\n", "usage: sdhoutage run, trace NAME END\n"))

@@ -42,7 +42,9 @@ class All(Asking):
         return found
 
     def counts(self, row):
-        return [int(row[name]) for name in ("Kept", "Over", "Lost")]
+        kept, impaired, over, lost = (int(row[name]) for name in ("Kept", "Impaired", "Over", "Lost"))
+        self.assertEqual(impaired, len(row["Impaired circuits"].split()), row["Failures"])
+        return [kept + impaired, over, lost]
 
     def script(self, name, text):
         script = self.top / name
@@ -56,10 +58,13 @@ class All(Asking):
         rules = Rules(tomllib.loads(document()) | {"script": [*script, *cuts, *more, "settle"]}, [128 * (k + 1) for k in range(script.count("settle") + 1)])
         last = rules.rounds[-1]
         cells, applied = expected(rules, last), rules.applied(last)
+        troubled = {span for span, request in enumerate(rules.requests(last)) if request >= 6}
+        impaired = [circuit["name"] for circuit in rules.circuits if cells[circuit["name"]] == "kept" and troubled & set(rules.arc(circuit))]
         for row in rows:
             kinds = [cell[:4] for cell in cells.values()]
             self.assertEqual(self.counts(row), [kinds.count(kind) for kind in ("kept", "over", "lost")], row["Failures"])
             self.assertEqual(row["Applied"].split(), [f"{IDS[span]}-{IDS[(span + 1) % 4]}" for span in sorted(applied)])
+            self.assertEqual(row["Impaired circuits"].split(), impaired, row["Failures"])
             for column, kind in (("Over circuits", "over"), ("Lost circuits", "lost")):
                 self.assertEqual(row[column].split(), [name for name, cell in cells.items() if cell.startswith(kind)], row["Failures"])
         return cells
@@ -82,6 +87,19 @@ class All(Asking):
         self.assertIn(len(run), (5, 6))
         for name in run:
             self.assertIn(f"cases/{name}.html", str([cell.get("href") for cell in page.all("a")]))
+
+    def test_a_circuit_that_keeps_a_span_in_trouble_is_impaired(self):
+        """Two spans degraded alike, or a manual switch beside a cut: what isn't applied still troubles the circuits over it."""
+        self.tell("--frames", "0")
+        lines = self.lines()
+        for failures, steps in (
+            ("degraded 5>2; degraded 9>4", ["degrade 5 east 3", "degrade 9 east 3"]),
+            ("fibre 5>2; manual 9>4", ["cut 5 east", "manual 9 east"]),
+            ("fibre 5>2; degraded 9>4", ["degrade 9 east 3", "cut 5 east"]),
+        ):
+            row = lines.get(failures) or lines["; ".join(reversed(failures.split("; ")))]
+            self.check_rows(["settle"], [], [row], steps)
+            self.assertTrue(row["Impaired circuits"], failures)
 
     def test_the_tables_of_the_page_are_those_of_the_rows(self):
         self.tell("--frames", "0")
@@ -159,8 +177,9 @@ class All(Asking):
         self.tell("--frames", "0")
         told = json.loads((self.top / "out" / "all.json").read_text())
         self.assertEqual((len(told["cases"]), told["proof"], told["circuits"]), (821, "not known to be proved", [name for name, *_ in CIRCUITS]))
-        nothing = {"failures": [], "steps": [], "applied": [], "kept": len(CIRCUITS), "over": 0, "lost": 0, "longest": 3}
-        self.assertEqual(told["cases"][0], nothing | dict.fromkeys(("over_circuits", "lost_circuits", "besides_ends", "path_lost_circuits"), []))
+        nothing = {"failures": [], "steps": [], "applied": [], "kept": len(CIRCUITS), "impaired": 0, "over": 0, "lost": 0, "longest": 3}
+        lists = ("impaired_circuits", "over_circuits", "lost_circuits", "besides_ends", "path_lost_circuits")
+        self.assertEqual(told["cases"][0], nothing | dict.fromkeys(lists, []))
         self.assertIn("Run frame by frame: none of them.", self.page("all.html").text())
         self.assertFalse(self.cases().exists())
 

@@ -17,7 +17,7 @@ use sdh_ring::Ring;
 use sdh_ringmap::{Pos, Side};
 use sdh_scripts::put_settle;
 
-// What is told of a state.
+// Returns what is told of a state.
 fn state_told(state: &NodeState) -> StateWord
     ensures { result ≡ state_word state.now }
 {
@@ -30,7 +30,7 @@ fn state_told(state: &NodeState) -> StateWord
     }
 }
 
-// The bytes of a word.
+// Returns the bytes of a word.
 fn bytes_told(word: K) -> WordBytes
     requires to { word.to ≤ 15 }
     requires from { word.from ≤ 15 }
@@ -40,7 +40,7 @@ fn bytes_told(word: K) -> WordBytes
     WordBytes { first, second }
 }
 
-// What is told of the node at a position.
+// Returns what is told of the node at a position.
 fn node_told(ring: &Ring, at: u8) -> NodeLine
     requires at { at < length ring.now.ids }
     requires whole { ring.now.broken ≡ false }
@@ -151,7 +151,7 @@ fn chunks_of(ring: &Ring, circuit: u8, end: End) -> u32
     }
 }
 
-// How many ports of a circuit delivered a chunk.
+// Returns how many ports of a circuit delivered a chunk.
 fn chunks_at(ring: &Ring, circuit: u8) -> u32
     requires inside { circuit < length ring.now.circuits.circuits }
     ensures chunks { result ≡ chunks_of (outlet_at ring.now (record { circuit = circuit; end = A })).delivered + chunks_of
@@ -161,7 +161,7 @@ fn chunks_at(ring: &Ring, circuit: u8) -> u32
     chunks_of(ring, circuit, End::A) + chunks_of(ring, circuit, End::B)
 }
 
-// How many ports delivered a chunk.
+// Returns how many ports delivered a chunk.
 fn chunks_in(ring: &Ring) -> u32
     requires whole { ring.now.broken ≡ false }
     ensures { result ≡ chunks_in (ports_told ring.now) }
@@ -174,7 +174,7 @@ fn chunks_in(ring: &Ring) -> u32
     count
 }
 
-// How many ports there are.
+// Returns how many ports there are.
 fn ports_of(ring: &Ring) -> u32
     requires whole { ring.now.broken ≡ false }
     ensures count { result ≡ 2 * length ring.now.circuits.circuits }

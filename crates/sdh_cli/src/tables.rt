@@ -95,8 +95,8 @@ fn put_nodes(text: &mut Text, alloc: Global, plan: &Plan) -> Result<(), AllocErr
     Ok(())
 }
 
-/// The text of a plan's squelch tables: for each node by position, its west side before its east side, and each working slot in
-/// which a circuit is there, the line of that circuit. Room for a line more is left.
+/// Returns the text of a plan's squelch tables: for each node by position, its west side before its east side, and each
+/// working slot in which a circuit is there, the line of that circuit. Room for a line more is left.
 pub fn table_text(alloc: Global, plan: &Plan) -> Result<Text, AllocError>
     ensures text { IfOk result (λ text. text.bytes ≡ tables_of plan.now) }
     ensures room { IfOk result (λ text. 96 ≤ text.room) }

@@ -1,7 +1,11 @@
 //! One multiplexer.
-ghost use Rattle.std.specs.Prelude.{◌≡◌, ◌&&◌, not, nat_le, ◌+◌, ◌-◌, ◌/◌, ◌^◌, ◌<◌, ◌≤◌, ◌≢◌, None, IfOk, length};
+ghost use Rattle.std.specs.Prelude.{◌≡◌, ◌&&◌, not, nat_le, ◌+◌, ◌-◌, ◌/◌, ◌^◌, ◌<◌, ◌≤◌, ◌≢◌, None, IfOk, IfSome, length, get_or, option_map};
 ghost use Rattle.sdh_terms.specs.Rates.{n_of};
 ghost use Rattle.sdh_circuits.specs.Kept.{KeepsRing};
+ghost use Rattle.sdh_kbytes.specs.KBytes.{IsSpellable};
+ghost use Rattle.sdh_ringmap.specs.declared.Pos.{Pos};
+ghost use Rattle.sdh_nodestate.specs.FarEnds.{far_of};
+ghost use Rattle.sdh_nodestate.specs.Filtering.{hears};
 ghost use Rattle.sdh_nodestate.specs.Words.{SendsSpellable};
 ghost use Rattle.sdh_plant.specs.Arrivals.{as_arrival, arrived_in};
 ghost use Rattle.sdh_node.specs.Receiving.{commanded_by, arrived_on};
@@ -179,6 +183,21 @@ impl Adm {
         ensures { result ≡ (receiving_on side self.now).request }
     {
         self.cross.receiver(side).request()
+    }
+
+    /// The identifier of the far end, where the node switches one side and has one.
+    pub fn far_id(&self) -> Option<u8>
+        ensures { result ≡ option_map (λ (p : Pos). get_or self.now.ids p.0 0) (far_of self.now.state) }
+    {
+        self.cross.far_id()
+    }
+
+    /// The word that is heard on a side since the last round, if one is.
+    pub fn heard(&self, side: Side) -> Option<K>
+        ensures word { result ≡ hears (receiving_on side self.now).brought }
+        ensures spellable { IfSome result IsSpellable }
+    {
+        self.cross.receiver(side).heard()
     }
 
     /// Returns whether the last round was no held turn and changed nothing: no word sent or heard, no state, far end,

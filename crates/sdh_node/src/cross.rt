@@ -1,8 +1,10 @@
 //! The cross-connect: both sides that receive and what they take in, the state, and where it leads what comes in.
-ghost use Rattle.std.specs.Prelude.{◌≡◌, ◌&&◌, ◌+◌, ◌-◌, ◌<◌, ◌≤◌, ◌≢◌, None, true, false, All, IfOk, length};
+ghost use Rattle.std.specs.Prelude.{◌≡◌, ◌&&◌, ◌+◌, ◌-◌, ◌<◌, ◌≤◌, ◌≢◌, None, true, false, All, IfOk, length, get_or, option_map};
 ghost use Rattle.sdh_terms.specs.Rates.{n_of};
+ghost use Rattle.sdh_ringmap.specs.declared.Pos.{Pos};
 ghost use Rattle.sdh_ringmap.specs.declared.Side.TheVariants.{West, East};
 ghost use Rattle.sdh_circuits.specs.Kept.{KeepsRing};
+ghost use Rattle.sdh_nodestate.specs.FarEnds.{far_of};
 ghost use Rattle.sdh_nodestate.specs.Rules.{word};
 ghost use Rattle.sdh_nodestate.specs.Words.{SendsSpellable};
 ghost use Rattle.sdh_nodestate.specs.Shapes.{same_state};
@@ -55,6 +57,17 @@ impl Model for CrossConnect {
       place : x.table.at ≡ x.at;
       cross : IsCross (record { ids = x.map; at = x.at; circuits = x.table.circuits; state = x.state; west = x.west; east = x.east; west_in = x.west_in; east_in = x.east_in });
     } };
+}
+
+// The far end of a state, where it has one.
+fn far_of(state: &NodeState) -> Option<Pos>
+    ensures { result ≡ far_of state.now }
+{
+    match state {
+        NodeState::SwitchWest(switch) => switch.far(),
+        NodeState::SwitchEast(switch) => switch.far(),
+        _ => None,
+    }
 }
 
 impl CrossConnect {
@@ -191,6 +204,16 @@ impl CrossConnect {
         ensures { result.now ≡ self.now.state }
     {
         &self.state
+    }
+
+    /// The identifier of the far end, where there is one.
+    pub fn far_id(&self) -> Option<u8>
+        ensures { result ≡ option_map (λ (p : Pos). get_or self.now.ids p.0 0) (far_of self.now.state) }
+    {
+        match far_of(&self.state) {
+            Some(far) => Some(self.map.id(far)),
+            None => None,
+        }
     }
 
     /// Returns the side that receives.

@@ -4,3 +4,4 @@ pub mod Hearing
 pub mod Tracing
 pub mod Parts
 pub mod Short
+pub mod Longest

@@ -1,6 +1,6 @@
 -- Each line is short: `LINE_MAX` bytes are room enough.
-use Rattle.std.proofs.Common.{◌≡◌, ℕ, ◌+◌, ◌*◌, ◌/◌, ◌%◌, ◌^◌, ◌<◌, ◌≤◌, List, ◌++◌, length, codes, decimal, refl, arith}
-use Rattle.std.specs.Prelude.{Option, Some, None}
+use Rattle.std.proofs.Common.{◌≡◌, ℕ, ◌+◌, ◌*◌, ◌/◌, ◌%◌, ◌^◌, ◌<◌, ◌≤◌, Bool, true, false, List, [], ◌++◌, length, codes, decimal, refl, arith}
+use Rattle.std.specs.Prelude.{Option, Some, None, ◌==◌, if◌then◌else◌}
 use Rattle.std.proofs.lemmas.List.{length-append}
 use Rattle.std.proofs.lemmas.Fmt.{length-decimal-le}
 use Rattle.sdh_circuits.specs.declared.End.{End}
@@ -10,17 +10,15 @@ use Rattle.sdh_outage.specs.declared.kind.Kind.{Kind}
 use Rattle.sdh_outage.specs.declared.kind.Kind.TheVariants as kind
 use Rattle.sdh_outage.specs.declared.change.Change.{Change}
 use Rattle.sdh_outage.specs.declared.outage.Outage.{Outage}
+use Rattle.sdh_outage.specs.declared.outage.Runs.{Runs}
 use Rattle.sdh_outage.specs.declared.outage.Stretch.{Stretch}
 use Rattle.sdh_outage.specs.declared.summary.Summary.{Summary}
 use Rattle.sdh_outage.specs.Outages.{out}
-use Rattle.sdh_outage.specs.Lines.{three_digits, ms_text, rounds_text, stretch_text, counts_text, outage_line, kind_word, change_line}
-use Rattle.sdh_outage.specs.Lines.{more_line, summary_line}
+use Rattle.sdh_outage.specs.Lines.{three_digits, ms_text, rounds_text, stretch_text, runs_text, counts_text, outage_front, of_port}
+use Rattle.sdh_outage.specs.Lines.{kind_word, change_line, more_line, foreign_line, summary_line}
 
 digits_32 : (n : ℕ) → n < 2 ^ 32 → length (decimal n) ≤ 10
 digits_32 n h = length-decimal-le 10 n (omega arith) (omega arith) (omega arith)
-
-digits_64 : (n : ℕ) → n < 2 ^ 64 → length (decimal n) ≤ 20
-digits_64 n h = length-decimal-le 20 n (omega arith) (omega arith) h
 
 one_digit : (n : ℕ) → n < 10 → length (decimal n) ≤ 1
 one_digit n h = length-decimal-le 1 n (omega arith) (omega arith) (omega arith)
@@ -79,30 +77,47 @@ pub record IsSmall (o : Outage) : Type 0 where
   pub ais : o.ais < 2 ^ 32
   pub ones : o.ones < 2 ^ 32
   pub jump : o.jump < 2 ^ 32
+  pub torn : o.torn < 2 ^ 32
   pub strange : o.strange < 2 ^ 32
+  pub foreign : o.foreign < 2 ^ 32
+  pub count : o.runs.count < 2 ^ 32
+  pub longest : o.runs.longest < 2 ^ 32
   pub stretch : (t : Stretch) → o.stretch ≡ Some t → (t.from < 2 ^ 32) × (t.to < 2 ^ 32)
 
-short-counts : (o : Outage) → IsSmall o → length (counts_text o) ≤ 66
+-- a text with such a number behind it
+short-number : (text word : List ℕ) (n most : ℕ) → length text + length word ≤ most → n < 2 ^ 32
+    → length ((text ++ word) ++ decimal n) ≤ most + 10
+short-number text word n most h small =
+    omega (arith, length-append (text ++ word) (decimal n), length-append text word, digits_32 n small)
+
+short-counts : (o : Outage) → IsSmall o → length (counts_text o) ≤ 101
 short-counts o small =
     let a = codes " ais " ++ decimal o.ais in
-    let b = a ++ codes " ones " in
-    let c = b ++ decimal o.ones in
-    let d = c ++ codes " jump " in
-    let e = d ++ decimal o.jump in
-    let f = e ++ codes " strange " in
+    let b = (a ++ codes " ones ") ++ decimal o.ones in
+    let c = (b ++ codes " jump ") ++ decimal o.jump in
+    let d = (c ++ codes " torn ") ++ decimal o.torn in
+    let e = (d ++ codes " strange ") ++ decimal o.strange in
+    let la : length a ≤ 15 = omega (arith, length-append (codes " ais ") (decimal o.ais), digits_32 o.ais small.ais) in
+    let lb : length b ≤ 31 = short-number a (codes " ones ") o.ones 21 (omega arith) small.ones in
+    let lc : length c ≤ 47 = short-number b (codes " jump ") o.jump 37 (omega arith) small.jump in
+    let ld : length d ≤ 63 = short-number c (codes " torn ") o.torn 53 (omega arith) small.torn in
+    let le : length e ≤ 82 = short-number d (codes " strange ") o.strange 72 (omega arith) small.strange in
+    short-number e (codes " foreign ") o.foreign 91 (omega arith) small.foreign
+
+-- a duration of 32 bits
+short-rounds_32 : (rounds : ℕ) → rounds < 2 ^ 32 → length (rounds_text rounds) ≤ 28
+short-rounds_32 rounds h = short-rounds rounds 10 (digits_32 rounds h) (digits_32 (125 * rounds / 1000) (omega arith))
+
+short-runs : (r : Runs) → r.count < 2 ^ 32 → r.longest < 2 ^ 32 → length (runs_text r) ≤ 53
+short-runs r count longest =
+    let a = codes " runs " ++ decimal r.count in
     omega (
       arith,
-      length-append f (decimal o.strange),
-      length-append e (codes " strange "),
-      length-append d (decimal o.jump),
-      length-append c (codes " jump "),
-      length-append b (decimal o.ones),
-      length-append a (codes " ones "),
-      length-append (codes " ais ") (decimal o.ais),
-      digits_32 o.ais small.ais,
-      digits_32 o.ones small.ones,
-      digits_32 o.jump small.jump,
-      digits_32 o.strange small.strange,
+      length-append (a ++ codes " longest ") (rounds_text r.longest),
+      length-append a (codes " longest "),
+      length-append (codes " runs ") (decimal r.count),
+      digits_32 r.count count,
+      short-rounds_32 r.longest longest,
     )
 
 length-letter : (end : End) → length (end_letter end) ≡ 1
@@ -120,25 +135,39 @@ length-named name end =
       length-letter end,
     )
 
-pub short-outage_line : (name : List ℕ) (end : End) (o : Outage) → length name ≤ 16 → IsSmall o → length (outage_line name end o) ≤ 160
-short-outage_line name end o h small =
-    let long : out o < 3 * 2 ^ 32 = omega (arith, small.ais, small.ones, small.strange) in
+pub short-front : (name : List ℕ) (end : End) (o : Outage) → length name ≤ 16 → IsSmall o → length (outage_front name end o) ≤ 223
+short-front name end o h small =
+    let long : out o < 4 * 2 ^ 32 = omega (arith, small.ais, small.ones, small.strange, small.foreign) in
     let a = port_named name end ++ codes " out " in
-    let b = a ++ rounds_text (out o) in
-    let c = b ++ stretch_text o.stretch in
-    let d = c ++ counts_text o in
+    let b = a ++ decimal (out o) in
+    let c = b ++ runs_text o.runs in
+    let d = c ++ stretch_text o.stretch in
     omega (
       arith,
-      length-append d (codes "\n"),
-      length-append c (counts_text o),
-      length-append b (stretch_text o.stretch),
-      length-append a (rounds_text (out o)),
+      length-append d (counts_text o),
+      length-append c (stretch_text o.stretch),
+      length-append b (runs_text o.runs),
+      length-append a (decimal (out o)),
       length-append (port_named name end) (codes " out "),
       length-named name end,
-      short-rounds (out o) 11 (length-decimal-le 11 (out o) (omega arith) (omega arith) (omega arith))
-          (length-decimal-le 11 (125 * out o / 1000) (omega arith) (omega arith) (omega arith)),
+      length-decimal-le 11 (out o) (omega arith) (omega arith) (omega arith),
+      short-runs o.runs small.count small.longest,
       short-stretch o.stretch small.stretch,
       short-counts o small,
+    )
+
+pub length-of_port : (name : List ℕ) (end : End) → length (of_port name end) ≡ 7 + length name
+length-of_port name end =
+    let a = codes " of " ++ name in
+    let b = a ++ codes " " in
+    let c = b ++ end_letter end in
+    omega (
+      arith,
+      length-append c (codes "\n"),
+      length-append b (end_letter end),
+      length-append a (codes " "),
+      length-append (codes " of ") name,
+      length-letter end,
     )
 
 short-word : (k : Kind) → length (kind_word k) ≤ 8
@@ -146,9 +175,11 @@ short-word kind.Ais = omega arith
 short-word kind.Ones = omega arith
 short-word kind.InOrder = omega arith
 short-word kind.Jump = omega arith
+short-word kind.Torn = omega arith
+short-word (kind.Foreign port) = omega arith
 short-word kind.Strange = omega arith
 
-pub short-change_line : (c : Change) → c.round < 2 ^ 32 → length (change_line c) ≤ 160
+pub short-change_line : (c : Change) → c.round < 2 ^ 32 → length (change_line c) ≤ 250
 short-change_line c h =
     let a = codes "round " ++ decimal c.round in
     let b = a ++ codes " " in
@@ -162,7 +193,7 @@ short-change_line c h =
       short-word c.kind,
     )
 
-pub short-more_line : (count : ℕ) → count < 2 ^ 32 → length (more_line count) ≤ 160
+pub short-more_line : (count : ℕ) → count < 2 ^ 32 → length (more_line count) ≤ 250
 short-more_line count h =
     omega (
       arith,
@@ -171,17 +202,42 @@ short-more_line count h =
       digits_32 count h,
     )
 
-pub short-summary_line : (s : Summary) → s.longest < 2 ^ 64 → s.none < 2 ^ 32 → length (summary_line s) ≤ 160
-short-summary_line s hl hn =
-    let a = codes "longest " ++ rounds_text s.longest in
-    let b = a ++ codes " none " in
-    let c = b ++ decimal s.none in
+-- the line of foreign bytes, where there is one
+short-foreign_if : (none : Bool) (ports : ℕ) → ports < 2 ^ 32
+    → length (if none then [] else codes "foreign ports " ++ decimal ports ++ codes "\n") ≤ 25
+short-foreign_if true ports h = omega arith
+short-foreign_if false ports h =
     omega (
       arith,
-      length-append c (codes "\n"),
-      length-append b (decimal s.none),
-      length-append a (codes " none "),
-      length-append (codes "longest ") (rounds_text s.longest),
-      short-rounds s.longest 20 (digits_64 s.longest hl) (digits_64 (125 * s.longest / 1000) (omega arith)),
-      digits_32 s.none hn,
+      length-append (codes "foreign ports " ++ decimal ports) (codes "\n"),
+      length-append (codes "foreign ports ") (decimal ports),
+      digits_32 ports h,
+    )
+
+short-foreign : (ports : ℕ) → ports < 2 ^ 32 → length (foreign_line ports) ≤ 25
+short-foreign ports h = short-foreign_if (ports == 0) ports h
+
+-- the counts of a summary are those of 32 bits
+pub record IsSmallSummary (s : Summary) : Type 0 where
+  pub longest : s.longest < 2 ^ 32
+  pub over : s.over < 2 ^ 32
+  pub none : s.none < 2 ^ 32
+  pub still : s.still < 2 ^ 32
+  pub foreign : s.foreign < 2 ^ 32
+
+pub short-summary_line : (s : Summary) → IsSmallSummary s → length (summary_line s) ≤ 250
+short-summary_line s small =
+    let a = codes "longest " ++ rounds_text s.longest in
+    let b = (a ++ codes " over ") ++ decimal s.over in
+    let c = (b ++ codes " none ") ++ decimal s.none in
+    let d = (c ++ codes " still ") ++ decimal s.still in
+    let la : length a ≤ 36 = omega (arith, length-append (codes "longest ") (rounds_text s.longest), short-rounds_32 s.longest small.longest) in
+    let lb : length b ≤ 52 = short-number a (codes " over ") s.over 42 (omega arith) small.over in
+    let lc : length c ≤ 68 = short-number b (codes " none ") s.none 58 (omega arith) small.none in
+    let ld : length d ≤ 85 = short-number c (codes " still ") s.still 75 (omega arith) small.still in
+    omega (
+      arith,
+      length-append (d ++ codes "\n") (foreign_line s.foreign),
+      length-append d (codes "\n"),
+      short-foreign s.foreign small.foreign,
     )

@@ -1,19 +1,21 @@
 -- Bytes that stand in others.
-use Rattle.std.proofs.Common.{◌≡◌, ℕ, ◌+◌, ◌-◌, ◌<◌, ◌≤◌, Bool, true, false, List, length, get_or, take, drop, bytes_eq, sym}
-use Rattle.std.proofs.Common.{ap, ◌∙◌, arith}
+use Rattle.std.proofs.Common.{◌≡◌, ℕ, ◌+◌, ◌<◌, ◌≤◌, Bool, true, false, not, ◌&&◌, List, ◌++◌, length, get_or, take, drop, bytes_eq}
+use Rattle.std.proofs.Common.{refl, sym, ap, ◌∙◌, arith, append_assoc}
 use Rattle.std.specs.Prelude.{Option, Some, None, is_some}
 use Rattle.std.specs.List.{range_with_len}
-use Rattle.std.proofs.lemmas.Bool.{false_from_ne_true}
-use Rattle.std.proofs.lemmas.List.{ext_get_or, length-take, length-drop}
+use Rattle.std.proofs.Math.Seq.{take-append_seam}
+use Rattle.std.proofs.lemmas.Bool.{false_from_ne_true, and_right}
+use Rattle.std.proofs.lemmas.List.{ext_get_or, take_all, length-take, length-drop, length-append, get_or-append-add, get_or_append_left}
 use Rattle.std.proofs.lemmas.List.FromFn.{length-range_with_len, get_or-range_with_len}
 use Rattle.std.proofs.lemmas.List.Folds.{list_any_at, list_any_none}
 use Rattle.std.proofs.lemmas.Slice.Eq.{bytes_eq-Decides}
 use Rattle.memchr.specs.Find.{OccursAt, Nowhere, FindsNeedle}
 use Rattle.sdh_basics.proofs.Parts.{length-part, get_or-part}
-use Rattle.sdh_payload.specs.Customer.{Customer}
-use Rattle.sdh_payload.specs.Stream.{stream_byte, stream_from}
-use Rattle.sdh_payload.proofs.Chunks.{length-stream_from, get_or-stream_from}
-use Rattle.sdh_outage.specs.Near.{is_part}
+use Rattle.sdh_payload.specs.declared.delivered.Delivered.{Delivered}
+use Rattle.sdh_payload.specs.declared.delivered.Delivered.TheVariants.{Ais, Chunk}
+use Rattle.sdh_outage.specs.Near.{is_part, front}
+use Rattle.sdh_outage.specs.Kinds.{jumps}
+use Rattle.sdh_outage.specs.Kept.{delivered, Stands}
 
 -- ---- at a place
 
@@ -60,18 +62,59 @@ module _ (bytes others : List ℕ) where
   part_found None nowhere = sym (no_part nowhere)
   part_found (Some k) found = sym (part_at k found.1)
 
--- ---- between others, and in a stream
+-- a short chunk has nothing behind its front
+pub front_whole : (bytes : List ℕ) → length bytes ≤ 783 → bytes ≡ front bytes
+front_whole bytes few = sym (take_all 783 bytes few)
 
-pub stands_in_stream : (port : Customer) (p n q m : ℕ) → p ≤ q → q + m ≤ p + n
-    → OccursAt (stream_from port p n) (stream_from port q m) (q - p)
-stands_in_stream port p n q m after inside = record {
-  fits = omega (arith, length-stream_from port p n, length-stream_from port q m);
+-- ---- where some bytes stand
+
+-- bytes that begin what is behind a place
+pub occurs_front : (bytes others more : List ℕ) (at : ℕ) → at ≤ length others → drop at others ≡ bytes ++ more → OccursAt others bytes at
+occurs_front bytes others more at inside e =
+    same_occurs bytes others at inside (sym (take-append_seam bytes more) ∙ ap (take (length bytes)) (sym e))
+
+-- the second part of some
+occurs_second : (first second others : List ℕ) (at : ℕ) → OccursAt others (first ++ second) at → OccursAt others second (at + length first)
+occurs_second first second others at o = record {
+  fits = omega (arith, o.fits, length-append first second);
   reads = λ i h. (
-      let few : i < m = omega (arith, length-stream_from port q m) in
-      let at : p + (q - p + i) ≡ q + i = omega arith in
-      get_or-stream_from port p n (q - p + i) 0 (omega arith) ∙ ap (stream_byte port) at ∙ sym (get_or-stream_from port q m i 0 few));
+      let place : at + length first + i ≡ at + (length first + i) = omega arith in
+      ap (λ k. get_or others k 0) place ∙ o.reads (length first + i) (omega (arith, h, length-append first second))
+      ∙ get_or-append-add first second i 0);
 }
 
-pub part_of_stream : (port : Customer) (p n q m : ℕ) → p ≤ q → q + m ≤ p + n → is_part (stream_from port q m) (stream_from port p n) ≡ true
-part_of_stream port p n q m after inside =
-    part_at (stream_from port q m) (stream_from port p n) (q - p) (stands_in_stream port p n q m after inside)
+-- the last one and a chunk behind it
+pub stands_at : (is_chunk : Bool) (last chunk others more : List ℕ) (at : ℕ) → at ≤ length others → drop at others ≡ last ++ (chunk ++ more)
+    → Stands (delivered is_chunk last) chunk others
+stands_at true last chunk others more at inside e =
+    (at, occurs_front (last ++ chunk) others more at inside (e ∙ sym (append_assoc last chunk more)))
+stands_at false last chunk others more at inside e = (
+  at + length last,
+  occurs_second last chunk others at (occurs_front (last ++ chunk) others more at inside (e ∙ sym (append_assoc last chunk more))),
+)
+
+-- with others around them
+occurs_around : (bytes before others behind : List ℕ) (at : ℕ) → OccursAt others bytes at
+    → OccursAt (before ++ (others ++ behind)) bytes (length before + at)
+occurs_around bytes before others behind at o = record {
+  fits = omega (arith, o.fits, length-append before (others ++ behind), length-append others behind);
+  reads = λ i h. (
+      let place : length before + at + i ≡ length before + (at + i) = omega arith in
+      ap (λ k. get_or (before ++ (others ++ behind)) k 0) place ∙ get_or-append-add before (others ++ behind) (at + i) 0
+      ∙ get_or_append_left others behind 0 (at + i) (omega (arith, h, o.fits)) ∙ o.reads i h);
+}
+
+pub stands_around : (last : Delivered) (chunk before others behind : List ℕ) → Stands last chunk others
+    → Stands last chunk (before ++ (others ++ behind))
+stands_around Ais chunk before others behind s = (length before + s.0, occurs_around chunk before others behind s.0 s.1)
+stands_around (Chunk last) chunk before others behind s =
+    (length before + s.0, occurs_around (last ++ chunk) before others behind s.0 s.1)
+
+-- a chunk that stands there follows the last one
+pub follows : (last : Delivered) (chunk others : List ℕ) → Stands last chunk others
+    → (is_part chunk others ≡ true) × (jumps others last chunk ≡ false)
+follows Ais chunk others s = (part_at chunk others s.0 s.1, refl)
+follows (Chunk last) chunk others s = (
+  part_at chunk others (s.0 + length last) (occurs_second last chunk others s.0 s.1),
+  ap (λ b. is_part last others && not b) (part_at (last ++ chunk) others s.0 s.1) ∙ and_right (is_part last others) false refl,
+)

@@ -5,12 +5,14 @@ use Rattle.sdh_outage.specs.declared.kind.Kind.{Kind}
 use Rattle.sdh_outage.specs.declared.kind.Kind.TheVariants as kind
 use Rattle.sdh_outage.specs.declared.change.Change.{Change}
 
--- two rounds are of one kind
+-- two rounds are of one kind, whosever foreign bytes they brought
 abbrev pub same_kind : Kind → Kind → Bool
 same_kind kind.Ais kind.Ais = true
 same_kind kind.Ones kind.Ones = true
 same_kind kind.InOrder kind.InOrder = true
 same_kind kind.Jump kind.Jump = true
+same_kind kind.Torn kind.Torn = true
+same_kind (kind.Foreign port) (kind.Foreign other) = true
 same_kind kind.Strange kind.Strange = true
 same_kind one other = false
 

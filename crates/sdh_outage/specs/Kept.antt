@@ -1,5 +1,6 @@
 -- What a listener holds.
-use Rattle.std.specs.Prelude.{◌≡◌, ℕ, ◌+◌, ◌-◌, ◌*◌, ◌≤◌, Bool, if◌then◌else◌, List, length, Option, Some, None}
+use Rattle.std.specs.Prelude.{◌≡◌, ℕ, ◌+◌, ◌-◌, ◌*◌, ◌≤◌, Bool, if◌then◌else◌, List, ◌++◌, length}
+use Rattle.memchr.specs.Find.{OccursAt}
 use Rattle.sdh_payload.specs.declared.delivered.Delivered.{Delivered}
 use Rattle.sdh_payload.specs.declared.delivered.Delivered.TheVariants.{Ais, Chunk}
 use Rattle.sdh_payload.specs.Customer.{Customer}
@@ -7,8 +8,9 @@ use Rattle.sdh_payload.specs.Clock.{waiting}
 use Rattle.sdh_payload.specs.Feed.{Fed}
 use Rattle.sdh_payload.specs.Stream.{stream_from}
 use Rattle.sdh_outage.specs.declared.outage.Outage.{Outage}
-use Rattle.sdh_outage.specs.Near.{near_from}
-use Rattle.sdh_outage.specs.Kinds.{last_heard, kinds_of}
+use Rattle.sdh_outage.specs.declared.outage.Runs.{Runs}
+use Rattle.sdh_outage.specs.declared.summary.Summary.{Summary}
+use Rattle.sdh_outage.specs.Kinds.{Whose, last_heard, kinds_of}
 use Rattle.sdh_outage.specs.Outages.{outage_of}
 use Rattle.sdh_outage.specs.Changes.{Traced, traced}
 
@@ -19,13 +21,22 @@ pub record Nearby : Type 0 where
   pub port : Customer
   pub round : ℕ
 
--- what is true of them: the feed has come to the byte behind them, and before them stand `from` more
-pub record IsWindow (feed : Fed) (round from : ℕ) (bytes : List ℕ) : Type 0 where
+-- ---- chunks of a stream, one after the other
+
+-- whose they are, from which one on up to which one they were made, and for how many there is room
+pub record Reached : Type 0 where
+  pub port : Customer
+  pub first : ℕ
+  pub made : ℕ
+  pub most : ℕ
+
+-- what is true of them: the feed has come to the chunk behind them
+pub record IsReach (feed : Fed) (first made : ℕ) (bytes : List ℕ) : Type 0 where
   pub still : waiting feed.clock ≡ 0
-  pub rounds_are : feed.clock.rounds ≡ round - 71 + 78
-  pub sent_is : feed.clock.sent ≡ near_from round + 2349 * 78
-  pub before : from ≤ near_from round
-  pub bytes_are : bytes ≡ stream_from feed.port (near_from round - from) (from + 2349 * 78)
+  pub rounds_are : feed.clock.rounds ≡ made
+  pub sent_is : feed.clock.sent ≡ 2349 * made
+  pub order : first ≤ made
+  pub bytes_are : bytes ≡ stream_from feed.port (2349 * first) (2349 * (made - first))
 
 -- ---- what was delivered last
 
@@ -33,21 +44,14 @@ pub record IsWindow (feed : Fed) (round from : ℕ) (bytes : List ℕ) : Type 0 
 abbrev pub delivered : Bool → List ℕ → Delivered
 delivered is_chunk bytes = if is_chunk then Chunk bytes else Ais
 
--- a chunk stands at this byte of a port's stream
-abbrev pub StandsAt : Customer → ℕ → Delivered → Type 0
-StandsAt port place Ais = ⊥
-StandsAt port place (Chunk bytes) = bytes ≡ stream_from port place (length bytes)
-
--- and so it does where its place is known
-abbrev pub StandsWhere : Customer → Option ℕ → Delivered → Type 0
-StandsWhere port None d = Unit {0}
-StandsWhere port (Some place) d = StandsAt port place d
+-- a chunk stands in these bytes of a stream, behind the last one where that was a chunk
+abbrev pub Stands : Delivered → List ℕ → List ℕ → Type 0
+Stands Ais chunk others = (k : ℕ) × OccursAt others chunk k
+Stands (Chunk last) chunk others = (k : ℕ) × OccursAt others (last ++ chunk) k
 
 -- ---- a listener
 
 pub record Heard : Type 0 where
-  -- the far customer
-  pub port : Customer
   -- how many rounds went by, which is the number of the next one
   pub round : ℕ
   -- what was delivered in the last of them
@@ -57,16 +61,32 @@ pub record Heard : Type 0 where
   -- and the changes since then
   pub trace : Traced
 
--- by the far customer, the number of the settle step's first round, what came before that, and what came in its rounds, the latest first
-abbrev pub heard : Customer → ℕ → Delivered → List Delivered → Heard
-heard port first before past = record {
-  port = port;
+-- by the far customer and whose bytes else came, the number of the settle step's first round, what came before that, and what came in
+-- its rounds, the latest first
+abbrev pub heard : Customer → Whose → ℕ → Delivered → List Delivered → Heard
+heard port whose first before past = record {
   round = first + length past;
   last = last_heard before past;
-  outage = outage_of first (kinds_of port first before past);
-  trace = traced first (kinds_of port first before past);
+  outage = outage_of first (kinds_of port whose first before past);
+  trace = traced first (kinds_of port whose first before past);
 }
+
+-- all rounds that are counted
+abbrev pub are_few : Outage → ℕ
+are_few o = o.ais + o.ones + o.jump + o.torn + o.strange + o.foreign
+
+-- runs have no more rounds than there were
+pub record AreRunsFew (r : Runs) (rounds : ℕ) : Type 0 where
+  pub count : r.count ≤ rounds
+  pub longest : r.longest ≤ rounds
+  pub going : r.going ≤ rounds
 
 -- there was no more than one count a round
 abbrev pub AreFew : Outage → ℕ → Type 0
-AreFew o rounds = o.ais + o.ones + o.jump + o.strange ≤ rounds
+AreFew o rounds = (are_few o ≤ rounds) × AreRunsFew o.runs rounds
+
+-- ---- a summary
+
+-- how often a port was counted
+abbrev pub ports_in : Summary → ℕ
+ports_in s = s.over + s.none + s.still + s.foreign

@@ -1,12 +1,13 @@
 -- What a round is to a port, by what the port delivered in it and in the round before. The kinds are this project's own.
-use Rattle.std.specs.Prelude.{ℕ, ◌+◌, Bool, false, not, ◌&&◌, ◌==◌, if◌then◌else◌, List, [], ◌∷◌, ◌++◌, length}
+use Rattle.std.specs.Prelude.{ℕ, ◌+◌, Bool, false, not, ◌&&◌, ◌==◌, if◌then◌else◌, List, [], ◌∷◌, ◌++◌, length, Option, Some, None}
 use Rattle.std.specs.List.{list_all}
+use Rattle.sdh_circuits.specs.declared.PortId.{PortId}
 use Rattle.sdh_payload.specs.declared.delivered.Delivered.{Delivered}
 use Rattle.sdh_payload.specs.declared.delivered.Delivered.TheVariants.{Ais, Chunk}
 use Rattle.sdh_payload.specs.Customer.{Customer}
 use Rattle.sdh_outage.specs.declared.kind.Kind.{Kind}
 use Rattle.sdh_outage.specs.declared.kind.Kind.TheVariants as kind
-use Rattle.sdh_outage.specs.Near.{near, is_part}
+use Rattle.sdh_outage.specs.Near.{near, is_part, is_torn}
 
 -- all of them are ones: nobody's bytes
 abbrev pub are_ones : List ℕ → Bool
@@ -18,14 +19,37 @@ abbrev pub jumps : List ℕ → Delivered → List ℕ → Bool
 jumps others Ais bytes = false
 jumps others (Chunk last) bytes = is_part last others && not (is_part (last ++ bytes) others)
 
--- What a round is, by the far customer, the number of the round, and what came in the round before it and in this one. What comes first
--- after AIS, ones or a stranger's bytes is in order.
-abbrev pub kind_of : Customer → ℕ → Delivered → Delivered → Kind
-kind_of port round before Ais = kind.Ais
-kind_of port round before (Chunk bytes) =
-    if are_ones bytes then kind.Ones else
-    if not (is_part bytes (near port round)) then kind.Strange else
-    if jumps (near port round) before bytes then kind.Jump else kind.InOrder
+-- what a round is that brings a chunk which doesn't stand in these bytes as one part; None where its pieces don't either
+abbrev pub kind_of_pieces : List ℕ → List ℕ → Option Kind
+kind_of_pieces bytes others = if is_torn bytes others then Some kind.Torn else None
+
+-- What a round is by the far customer's bytes that are near alone, and what came in the round before it and in this one; None where
+-- these aren't his. What comes first after AIS, ones or others' bytes is in order.
+abbrev pub own_kind : List ℕ → Delivered → Delivered → Option Kind
+own_kind others before Ais = Some kind.Ais
+own_kind others before (Chunk bytes) =
+    if are_ones bytes then Some kind.Ones else
+    if is_part bytes others then (if jumps others before bytes then Some kind.Jump else Some kind.InOrder) else
+    kind_of_pieces bytes others
+
+-- what it is where they aren't, if a port of another circuit sends what they hold
+abbrev pub kind_of_others : Option PortId → Kind
+kind_of_others None = kind.Strange
+kind_of_others (Some port) = kind.Foreign port
+
+-- by both
+abbrev pub settled_kind : Option Kind → Option PortId → Kind
+settled_kind None whose = kind_of_others whose
+settled_kind (Some kind) whose = kind
+
+-- which port of another circuit sends what was delivered in the round of this number, where one does
+abbrev pub Whose : Type 0
+Whose = ℕ → Delivered → Option PortId
+
+-- What a round is, by the far customer, whosever bytes else it may have brought, the number of the round, and what came in the round
+-- before it and in this one.
+abbrev pub kind_of : Customer → Whose → ℕ → Delivered → Delivered → Kind
+kind_of port whose round before now = settled_kind (own_kind (near port round) before now) (whose round now)
 
 -- ---- round after round: what was delivered, the latest first
 
@@ -35,7 +59,7 @@ last_heard before [] = before
 last_heard before (now ∷ earlier) = now
 
 -- what the rounds were from round `first` on
-abbrev pub kinds_of : Customer → ℕ → Delivered → List Delivered → List Kind
-kinds_of port first before [] = []
-kinds_of port first before (now ∷ earlier) =
-    kind_of port (first + length earlier) (last_heard before earlier) now ∷ kinds_of port first before earlier
+abbrev pub kinds_of : Customer → Whose → ℕ → Delivered → List Delivered → List Kind
+kinds_of port whose first before [] = []
+kinds_of port whose first before (now ∷ earlier) =
+    kind_of port whose (first + length earlier) (last_heard before earlier) now ∷ kinds_of port whose first before earlier

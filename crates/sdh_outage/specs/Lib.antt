@@ -4,3 +4,4 @@ pub mod Outages
 pub mod Changes
 pub mod Lines
 pub mod Kept
+pub mod Longest

@@ -1,11 +1,12 @@
 -- The lines of outages. A round is the time of a frame, 125 us. The texts are this project's own.
-use Rattle.std.specs.Prelude.{ℕ, ◌*◌, ◌/◌, ◌%◌, List, ◌++◌, codes, decimal, Option, Some, None}
+use Rattle.std.specs.Prelude.{ℕ, ◌*◌, ◌/◌, ◌%◌, ◌==◌, if◌then◌else◌, List, [], ◌++◌, codes, decimal, Option, Some, None}
 use Rattle.sdh_circuits.specs.declared.End.{End}
-use Rattle.sdh_report.specs.Lines.{port_named}
+use Rattle.sdh_report.specs.Lines.{end_letter, port_named}
 use Rattle.sdh_outage.specs.declared.kind.Kind.{Kind}
 use Rattle.sdh_outage.specs.declared.kind.Kind.TheVariants as kind
 use Rattle.sdh_outage.specs.declared.change.Change.{Change}
 use Rattle.sdh_outage.specs.declared.outage.Outage.{Outage}
+use Rattle.sdh_outage.specs.declared.outage.Runs.{Runs}
 use Rattle.sdh_outage.specs.declared.outage.Stretch.{Stretch}
 use Rattle.sdh_outage.specs.declared.summary.Summary.{Summary}
 use Rattle.sdh_outage.specs.Outages.{out}
@@ -27,16 +28,31 @@ abbrev pub stretch_text : Option Stretch → List ℕ
 stretch_text None = codes " from - to -"
 stretch_text (Some s) = codes " from " ++ decimal s.from ++ codes " to " ++ decimal s.to
 
+-- the runs of rounds without the customer's bytes: how many, and the longest
+abbrev pub runs_text : Runs → List ℕ
+runs_text r = codes " runs " ++ decimal r.count ++ codes " longest " ++ rounds_text r.longest
+
 -- how many rounds there were of each kind that isn't in order
+abbrev pub first_counts_text : Outage → List ℕ
+first_counts_text o = codes " ais " ++ decimal o.ais ++ codes " ones " ++ decimal o.ones ++ codes " jump " ++ decimal o.jump
+
 abbrev pub counts_text : Outage → List ℕ
 counts_text o =
-    codes " ais " ++ decimal o.ais ++ codes " ones " ++ decimal o.ones ++ codes " jump " ++ decimal o.jump ++ codes " strange "
-    ++ decimal o.strange
+    first_counts_text o ++ codes " torn " ++ decimal o.torn ++ codes " strange " ++ decimal o.strange ++ codes " foreign "
+    ++ decimal o.foreign
 
--- the port at that end of the circuit of that name had this outage
-abbrev pub outage_line : List ℕ → End → Outage → List ℕ
-outage_line name end o =
-    port_named name end ++ codes " out " ++ rounds_text (out o) ++ stretch_text o.stretch ++ counts_text o ++ codes "\n"
+-- The port at that end of the circuit of that name had this outage. Whose the foreign bytes were follows.
+abbrev pub outage_front : List ℕ → End → Outage → List ℕ
+outage_front name end o =
+    port_named name end ++ codes " out " ++ decimal (out o) ++ runs_text o.runs ++ stretch_text o.stretch ++ counts_text o
+
+-- they were those of the port at that end of the circuit of that name
+abbrev pub of_port : List ℕ → End → List ℕ
+of_port name end = codes " of " ++ name ++ codes " " ++ end_letter end ++ codes "\n"
+
+-- or there were none
+abbrev pub of_nobody : List ℕ
+of_nobody = codes " of - -\n"
 
 -- ---- the changes of one port
 
@@ -46,6 +62,8 @@ kind_word kind.Ais = codes "ais"
 kind_word kind.Ones = codes "ones"
 kind_word kind.InOrder = codes "in-order"
 kind_word kind.Jump = codes "jump"
+kind_word kind.Torn = codes "torn"
+kind_word (kind.Foreign port) = codes "foreign"
 kind_word kind.Strange = codes "strange"
 
 -- from this round on they are of this kind
@@ -58,6 +76,15 @@ more_line count = codes "more " ++ decimal count ++ codes "\n"
 
 -- ---- all ports
 
--- the longest outage of a settle step's ports, and how many of them had none
+-- how many ports got bytes of another circuit, on a line of its own where there are any
+abbrev pub foreign_line : ℕ → List ℕ
+foreign_line ports = if ports == 0 then [] else codes "foreign ports " ++ decimal ports ++ codes "\n"
+
+-- the longest run of a settle step's ports that came back, how many of these had one of more than 400 rounds, and how many ports were
+-- never out and are out still
+abbrev pub longest_text : Summary → List ℕ
+longest_text s = codes "longest " ++ rounds_text s.longest ++ codes " over " ++ decimal s.over
+
 abbrev pub summary_line : Summary → List ℕ
-summary_line s = codes "longest " ++ rounds_text s.longest ++ codes " none " ++ decimal s.none ++ codes "\n"
+summary_line s =
+    longest_text s ++ codes " none " ++ decimal s.none ++ codes " still " ++ decimal s.still ++ codes "\n" ++ foreign_line s.foreign

@@ -1,6 +1,6 @@
 //! The rounds in which a port comes to deliver something of another kind.
 ghost use Rattle.std.specs.Prelude.{◌≡◌};
-ghost use Rattle.sdh_outage.specs.Changes.{is_change};
+ghost use Rattle.sdh_outage.specs.Changes.{same_kind, is_change};
 
 use crate::kind::Kind;
 
@@ -13,12 +13,28 @@ pub struct Change {
     pub kind: Kind,
 }
 
-/// Whether a round of this kind is a change, where the last one is the round before, if there is one.
+// Returns whether two rounds are of one kind, whosever foreign bytes they brought.
+fn same_kind(one: Kind, other: Kind) -> bool
+    ensures { result ≡ same_kind one other }
+{
+    match (one, other) {
+        (Kind::Ais, Kind::Ais) => true,
+        (Kind::Ones, Kind::Ones) => true,
+        (Kind::InOrder, Kind::InOrder) => true,
+        (Kind::Jump, Kind::Jump) => true,
+        (Kind::Torn, Kind::Torn) => true,
+        (Kind::Foreign(_), Kind::Foreign(_)) => true,
+        (Kind::Strange, Kind::Strange) => true,
+        _ => false,
+    }
+}
+
+/// Returns whether a round of this kind is a change, where the last one is the round before, if there is one.
 pub(crate) fn is_change(last: Option<Kind>, kind: Kind) -> bool
     ensures { result ≡ is_change last kind }
 {
     match last {
         None => true,
-        Some(before) => before != kind,
+        Some(before) => !same_kind(before, kind),
     }
 }

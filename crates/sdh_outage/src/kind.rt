@@ -1,4 +1,8 @@
 //! What a round is to a port.
+ghost use Rattle.std.specs.Prelude.{◌≡◌};
+ghost use Rattle.sdh_outage.specs.Kinds.{kind_of_others};
+
+use sdh_circuits::PortId;
 
 /// What a round is to a port, by what the port delivered in it.
 #[derive(Clone, Copy, Debug, PartialEq, Eq)]
@@ -11,6 +15,20 @@ pub enum Kind {
     InOrder,
     /// A chunk of the far customer's that isn't behind that of the round before.
     Jump,
-    /// A chunk that isn't the far customer's.
+    /// A chunk of the far customer's in two pieces, with other bytes amid, or without some of his.
+    Torn,
+    /// A chunk that isn't the far customer's and holds what a port of another circuit sends: the first such port.
+    Foreign(PortId),
+    /// Any other chunk.
     Strange,
+}
+
+/// Returns what a round is that brought a chunk which isn't the far customer's, where a port of another circuit sends what it holds.
+pub fn kind_of_others(whose: Option<PortId>) -> Kind
+    ensures { result ≡ kind_of_others whose }
+{
+    match whose {
+        Some(port) => Kind::Foreign(port),
+        None => Kind::Strange,
+    }
 }

@@ -1,6 +1,7 @@
 //! What a port delivered in the round before.
-ghost use Rattle.std.specs.Prelude.{◌≡◌, ℕ, ◌≤◌, List, IfOk, length};
+ghost use Rattle.std.specs.Prelude.{◌≡◌, ◌≤◌, true, false, IfOk, length};
 ghost use Rattle.sdh_outage.specs.Kinds.{jumps};
+ghost use Rattle.sdh_outage.specs.Kept.{Stands};
 
 use crate::part::is_part;
 use sdh_payload::Delivered;
@@ -61,15 +62,28 @@ impl Last {
         }
     }
 
-    /// How many bytes a chunk has.
+    /// Returns how many bytes a chunk has.
     pub(crate) fn len(&self) -> usize
-        ensures len { (bytes : List ℕ) → self.now ≡ Delivered.Chunk bytes → result ≡ length bytes }
-        ensures few { result ≤ 2352 }
+        ensures { result ≤ 2352 }
     {
         self.bytes.len()
     }
 
-    /// Whether a chunk doesn't follow it, where these bytes of a stream are near.
+    /// Returns whether a chunk stands among bytes of a stream, behind it at this place, or at the place itself where it
+    /// is AIS.
+    pub(crate) fn stands_before(&self, chunk: &[u8], others: &[u8], at: usize) -> bool
+        ensures { result ≡ true → Stands self.now chunk.now others.now }
+    {
+        let Some(rest) = others.get(at..) else {
+            return false;
+        };
+        let Some(behind) = rest.get(self.bytes.len()..) else {
+            return false;
+        };
+        rest.starts_with(&self.bytes) && behind.starts_with(chunk)
+    }
+
+    /// Returns whether a chunk doesn't follow it, where these bytes of a stream are near.
     pub(crate) fn jumps(&mut self, others: &[u8], chunk: &[u8]) -> bool
         requires { length chunk.now ≤ 2352 }
         ensures answer { result ≡ jumps others.now self.old chunk.now }

@@ -1,11 +1,12 @@
-//! Laws of the lines. The functions change nothing: their contracts are the laws.
-ghost use Rattle.std.specs.Prelude.{◌≡◌, ℕ, ◌^◌, ◌<◌, ◌≤◌, List, Some, length};
+//! Laws of the counts and of the lines. The functions change nothing: their contracts are the laws.
+ghost use Rattle.std.specs.Prelude.{◌≡◌, ℕ, ◌+◌, ◌^◌, ◌<◌, ◌≤◌, List, Some, length};
 ghost use Rattle.sdh_circuits.specs.declared.End.{End};
-ghost use Rattle.sdh_outage.specs.Lines.{outage_line, change_line, more_line, summary_line};
+ghost use Rattle.sdh_outage.specs.Lines.{outage_front, of_port, of_nobody, change_line, more_line, summary_line};
+ghost use Rattle.sdh_outage.specs.Longest.{LongestIsLongest};
 
 use crate::change::Change;
 use crate::lines::LINE_MAX;
-use crate::outage::{Outage, Stretch};
+use crate::outage::{Outage, Runs, Stretch};
 use crate::summary::Summary;
 
 // Rounds and counts are held in 32 bits.
@@ -24,31 +25,38 @@ fn stretch_is_small(stretch: Option<Stretch>)
     }
 }
 
-fn counts_are_few(ais: u32, ones: u32, jump: u32, strange: u32)
+fn counts_are_few(ais: u32, ones: u32, jump: u32)
     ensures ais { ais < 2 ^ 32 }
     ensures ones { ones < 2 ^ 32 }
     ensures jump { jump < 2 ^ 32 }
-    ensures strange { strange < 2 ^ 32 }
 {
-    let _ = (ais, ones, jump, strange);
+    let _ = (ais, ones, jump);
 }
 
-fn summary_is_small(longest: u64, none: u32)
-    ensures longest { longest < 2 ^ 64 }
-    ensures none { none < 2 ^ 32 }
+fn runs_are_few(runs: Runs)
+    ensures count { runs.count < 2 ^ 32 }
+    ensures longest { runs.longest < 2 ^ 32 }
 {
-    let _ = (longest, none);
+    rounds_are_few(runs.count, runs.longest);
 }
 
-/// The line of any outage of a port of any name of at most 16 bytes has room in `LINE_MAX` bytes.
-pub fn outage_line_is_short(outage: &Outage)
-    ensures { (name : List ℕ) (end : End) → length name ≤ 16 → length (outage_line name end outage.now) ≤ LINE_MAX }
+/// The front of the line of any outage of a port of any name of at most 16 bytes has at most 223 bytes.
+pub fn outage_front_is_short(outage: &Outage)
+    ensures { (name : List ℕ) (end : End) → length name ≤ 16 → length (outage_front name end outage.now) ≤ 223 }
 {
-    counts_are_few(outage.ais, outage.ones, outage.jump, outage.strange);
+    counts_are_few(outage.ais, outage.ones, outage.jump);
+    counts_are_few(outage.torn, outage.strange, outage.foreign);
+    runs_are_few(outage.runs);
     stretch_is_small(outage.stretch);
 }
 
-/// And so has that of any change.
+/// The end of such a line has at most 23, so that the whole has room in `LINE_MAX` bytes.
+pub fn line_end_is_short()
+    ensures port { (name : List ℕ) (end : End) → length name ≤ 16 → length (of_port name end) ≤ 23 }
+    ensures nobody { length of_nobody ≤ 23 }
+{}
+
+/// The line of any change has room in `LINE_MAX` bytes.
 pub fn change_line_is_short(change: &Change)
     ensures { length (change_line change.now) ≤ LINE_MAX }
 {
@@ -66,5 +74,12 @@ pub fn more_line_is_short(count: u32)
 pub fn summary_line_is_short(summary: &Summary)
     ensures { length (summary_line summary.now) ≤ LINE_MAX }
 {
-    summary_is_small(summary.longest, summary.none);
+    rounds_are_few(summary.longest, summary.over);
+    rounds_are_few(summary.none, summary.still);
+    rounds_are_few(summary.foreign, summary.foreign);
 }
+
+/// The longest run that is counted is one of those that there were, and none was longer.
+pub fn longest_is_longest()
+    ensures { LongestIsLongest }
+{}

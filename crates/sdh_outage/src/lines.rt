@@ -1,18 +1,18 @@
 //! The lines of outages.
 ghost use Rattle.std.specs.Prelude.{◌≡◌, ◌*◌, ◌<◌, ◌≤◌, length};
 ghost use Rattle.sdh_report.specs.Written.{with_part};
-ghost use Rattle.sdh_outage.specs.Lines.{three_digits, ms_text, rounds_text, stretch_text, counts_text, outage_line, kind_word};
-ghost use Rattle.sdh_outage.specs.Lines.{change_line, more_line, summary_line};
+ghost use Rattle.sdh_outage.specs.Lines.{three_digits, ms_text, rounds_text, stretch_text, runs_text, first_counts_text, counts_text};
+ghost use Rattle.sdh_outage.specs.Lines.{outage_front, of_port, of_nobody, longest_text, kind_word, change_line, more_line, foreign_line, summary_line};
 
 use crate::change::Change;
 use crate::kind::Kind;
-use crate::outage::{Outage, Stretch};
+use crate::outage::{Outage, Runs, Stretch};
 use crate::summary::Summary;
 use sdh_circuits::{End, Name};
 use sdh_report::Text;
 
 /// Room for any line of an outage, a change or a summary, in bytes.
-pub const LINE_MAX: usize = 160;
+pub const LINE_MAX: usize = 250;
 
 // A number, with three digits always.
 fn put_three(text: &mut Text, number: u64)
@@ -61,10 +61,10 @@ fn put_stretch(text: &mut Text, stretch: Option<Stretch>)
     }
 }
 
-// How many rounds there were of each kind.
-fn put_counts(text: &mut Text, outage: &Outage)
-    requires { length (counts_text outage.now) ≤ text.old.room }
-    ensures { text.new ≡ with_part text.old (counts_text outage.now) }
+// How many rounds there were of the first three kinds.
+fn put_first_counts(text: &mut Text, outage: &Outage)
+    requires { length (first_counts_text outage.now) ≤ text.old.room }
+    ensures { text.new ≡ with_part text.old (first_counts_text outage.now) }
 {
     text.put(b" ais ");
     text.put_number(u64::from(outage.ais));
@@ -72,24 +72,67 @@ fn put_counts(text: &mut Text, outage: &Outage)
     text.put_number(u64::from(outage.ones));
     text.put(b" jump ");
     text.put_number(u64::from(outage.jump));
-    text.put(b" strange ");
-    text.put_number(u64::from(outage.strange));
 }
 
-/// The line of the port at an end of the circuit of this name, which had this outage.
-pub fn outage_line(text: &mut Text, name: &Name, end: End, outage: &Outage)
-    requires { length (outage_line name.now end outage.now) ≤ text.old.room }
-    ensures { text.new ≡ with_part text.old (outage_line name.now end outage.now) }
+// How many rounds there were of each kind.
+fn put_counts(text: &mut Text, outage: &Outage)
+    requires { length (counts_text outage.now) ≤ text.old.room }
+    ensures { text.new ≡ with_part text.old (counts_text outage.now) }
+{
+    put_first_counts(text, outage);
+    text.put(b" torn ");
+    text.put_number(u64::from(outage.torn));
+    text.put(b" strange ");
+    text.put_number(u64::from(outage.strange));
+    text.put(b" foreign ");
+    text.put_number(u64::from(outage.foreign));
+}
+
+// How many runs of rounds there were, and the longest.
+fn put_runs(text: &mut Text, runs: &Runs)
+    requires { length (runs_text runs.now) ≤ text.old.room }
+    ensures { text.new ≡ with_part text.old (runs_text runs.now) }
+{
+    text.put(b" runs ");
+    text.put_number(u64::from(runs.count));
+    text.put(b" longest ");
+    put_rounds(text, u64::from(runs.longest));
+}
+
+/// Puts the front of the line of the port at an end of the circuit of this name, which had this outage.
+pub fn outage_front(text: &mut Text, name: &Name, end: End, outage: &Outage)
+    requires { length (outage_front name.now end outage.now) ≤ text.old.room }
+    ensures { text.new ≡ with_part text.old (outage_front name.now end outage.now) }
 {
     text.put_port(name, end);
     text.put(b" out ");
-    put_rounds(text, outage.out());
+    text.put_number(outage.out());
+    put_runs(text, &outage.runs);
     put_stretch(text, outage.stretch);
     put_counts(text, outage);
+}
+
+/// Puts the end of that line where foreign bytes came: the port that sends them, at an end of the circuit of this name.
+pub fn of_port(text: &mut Text, name: &Name, end: End)
+    requires { length (of_port name.now end) ≤ text.old.room }
+    ensures { text.new ≡ with_part text.old (of_port name.now end) }
+{
+    text.put(b" of ");
+    text.put(name.as_slice());
+    text.put(b" ");
+    text.put_end(end);
     text.put(b"\n");
 }
 
-// The word of a kind.
+/// Puts the end of that line where none came.
+pub fn of_nobody(text: &mut Text)
+    requires { length of_nobody ≤ text.old.room }
+    ensures { text.new ≡ with_part text.old of_nobody }
+{
+    text.put(b" of - -\n");
+}
+
+// Returns the word of a kind.
 fn kind_word(kind: Kind) -> &'static [u8]
     ensures { result.now ≡ kind_word kind }
 {
@@ -98,6 +141,8 @@ fn kind_word(kind: Kind) -> &'static [u8]
         Kind::Ones => b"ones",
         Kind::InOrder => b"in-order",
         Kind::Jump => b"jump",
+        Kind::Torn => b"torn",
+        Kind::Foreign(_) => b"foreign",
         Kind::Strange => b"strange",
     }
 }
@@ -124,14 +169,40 @@ pub fn more_line(text: &mut Text, count: u32)
     text.put(b"\n");
 }
 
-/// The line of a settle step: its longest outage, and how many ports had none.
+// The line of ports that got bytes of another circuit, where there are any.
+fn put_foreign(text: &mut Text, ports: u32)
+    requires { length (foreign_line ports) ≤ text.old.room }
+    ensures { text.new ≡ with_part text.old (foreign_line ports) }
+{
+    if ports > 0 {
+        text.put(b"foreign ports ");
+        text.put_number(u64::from(ports));
+        text.put(b"\n");
+    }
+}
+
+// The longest run of rounds of a port that came back, and how many had one that is over.
+fn put_longest(text: &mut Text, summary: &Summary)
+    requires { length (longest_text summary.now) ≤ text.old.room }
+    ensures { text.new ≡ with_part text.old (longest_text summary.now) }
+{
+    text.put(b"longest ");
+    put_rounds(text, u64::from(summary.longest));
+    text.put(b" over ");
+    text.put_number(u64::from(summary.over));
+}
+
+/// The line of a settle step: the longest run of rounds of a port that came back, and how many ports there were of which kind. A second
+/// line says how many got bytes of another circuit, where any did.
 pub fn summary_line(text: &mut Text, summary: &Summary)
     requires { length (summary_line summary.now) ≤ text.old.room }
     ensures { text.new ≡ with_part text.old (summary_line summary.now) }
 {
-    text.put(b"longest ");
-    put_rounds(text, summary.longest);
+    put_longest(text, summary);
     text.put(b" none ");
     text.put_number(u64::from(summary.none));
+    text.put(b" still ");
+    text.put_number(u64::from(summary.still));
     text.put(b"\n");
+    put_foreign(text, summary.foreign);
 }

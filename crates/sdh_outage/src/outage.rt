@@ -1,8 +1,14 @@
 //! The outage of a port, counted.
 ghost use Rattle.std.specs.Prelude.{◌≡◌, ◌+◌, ◌^◌, ◌<◌, ◌≤◌, Option};
-ghost use Rattle.sdh_outage.specs.Outages.{no_outage, up_to, with_round, out};
+ghost use Rattle.sdh_outage.specs.Outages.{no_runs, with_run, is_out, no_outage, up_to, first_port, with_kind, stretch_with, with_round};
+ghost use Rattle.sdh_outage.specs.Outages.{out, is_back, is_over};
+ghost use Rattle.sdh_outage.specs.Kept.{are_few, AreRunsFew};
 
 use crate::kind::Kind;
+use sdh_circuits::PortId;
+
+/// How many rounds a switch may take, 50 ms of frames (ITU-T G.841).
+const SWITCH_MAX: u32 = 400;
 
 /// From one round to another.
 #[derive(Clone, Copy, Debug, PartialEq, Eq)]
@@ -11,6 +17,17 @@ pub struct Stretch {
     pub from: u32,
     /// The last one.
     pub to: u32,
+}
+
+/// The runs of rounds, one behind the other, that brought none of the far customer's bytes.
+#[derive(Clone, Copy, Debug, PartialEq, Eq)]
+pub struct Runs {
+    /// How many there were.
+    pub count: u32,
+    /// How many rounds the longest has.
+    pub longest: u32,
+    /// How many rounds that one has with which the rounds end; 0 where they end with the customer's bytes.
+    pub going: u32,
 }
 
 /// What was counted of the rounds of a settle step that weren't in order.
@@ -22,9 +39,17 @@ pub struct Outage {
     pub ones: u32,
     /// How many the far customer's bytes, but not those behind the ones before.
     pub jump: u32,
-    /// How many a chunk of anybody else's.
+    /// How many the far customer's bytes with others amid.
+    pub torn: u32,
+    /// How many what a port of another circuit sends.
+    pub foreign: u32,
+    /// The first such port, where there is one.
+    pub whose: Option<PortId>,
+    /// How many any other chunk.
     pub strange: u32,
-    /// From the first of them to the last one, where there is one.
+    /// The runs of rounds without the far customer's bytes.
+    pub runs: Runs,
+    /// From the first round that wasn't in order to the last one, where there is one.
     pub stretch: Option<Stretch>,
 }
 
@@ -41,6 +66,72 @@ fn up_to(round: u32, stretch: Option<Stretch>) -> Option<Stretch>
     }
 }
 
+// With one round more, of this number and kind.
+fn stretch_with(round: u32, kind: Kind, stretch: Option<Stretch>) -> Option<Stretch>
+    ensures { result ≡ stretch_with round kind stretch }
+{
+    match kind {
+        Kind::InOrder => stretch,
+        Kind::Ais | Kind::Ones | Kind::Jump | Kind::Torn | Kind::Foreign(_) | Kind::Strange =>
+            up_to(round, stretch),
+    }
+}
+
+// Returns the first port whose bytes came.
+fn first_port(first: Option<PortId>, port: PortId) -> Option<PortId>
+    ensures { result ≡ first_port first port }
+{
+    match first {
+        None => Some(port),
+        Some(before) => Some(before),
+    }
+}
+
+// Returns whether a round of this kind brought none of the far customer's bytes.
+fn is_out(kind: Kind) -> bool
+    ensures { result ≡ is_out kind }
+{
+    match kind {
+        Kind::InOrder | Kind::Jump | Kind::Torn => false,
+        Kind::Ais | Kind::Ones | Kind::Foreign(_) | Kind::Strange => true,
+    }
+}
+
+impl Runs {
+    /// Before any round.
+    pub(crate) fn none() -> Runs
+        ensures { result ≡ no_runs }
+    {
+        Runs {
+            count: 0,
+            longest: 0,
+            going: 0,
+        }
+    }
+
+    /// With one round more.
+    pub(crate) fn with_run(self, lacks: bool, round: u32) -> Runs
+        requires few { AreRunsFew self round }
+        requires room { round + 1 < 2 ^ 32 }
+        ensures runs { result ≡ with_run lacks self }
+        ensures few { AreRunsFew result (round + 1) }
+    {
+        if !lacks {
+            return Runs { going: 0, ..self };
+        }
+        let going = self.going + 1;
+        Runs {
+            count: if self.going == 0 {
+                self.count + 1
+            } else {
+                self.count
+            },
+            longest: self.longest.max(going),
+            going,
+        }
+    }
+}
+
 impl Outage {
     /// Before any round.
     pub(crate) fn none() -> Outage
@@ -50,33 +141,75 @@ impl Outage {
             ais: 0,
             ones: 0,
             jump: 0,
+            torn: 0,
+            foreign: 0,
+            whose: None,
             strange: 0,
+            runs: Runs::none(),
             stretch: None,
         }
     }
 
-    /// With one round more, of this number and kind.
-    pub(crate) fn with_round(self, round: u32, kind: Kind) -> Outage
-        requires few { self.ais + self.ones + self.jump + self.strange + 1 < 2 ^ 32 }
-        ensures counts { result ≡ with_round round kind self }
-        ensures few { result.ais + result.ones + result.jump + result.strange ≤ self.ais + self.ones + self.jump + self.strange + 1 }
+    // With one round more of this kind counted.
+    fn with_kind(self, kind: Kind) -> Outage
+        requires few { are_few self + 1 < 2 ^ 32 }
+        ensures counts { result ≡ with_kind kind self }
+        ensures few { are_few result ≤ are_few self + 1 }
     {
         let mut now = self;
         match kind {
-            Kind::InOrder => return self,
+            Kind::InOrder => {}
             Kind::Ais => now.ais += 1,
             Kind::Ones => now.ones += 1,
             Kind::Jump => now.jump += 1,
+            Kind::Torn => now.torn += 1,
+            Kind::Foreign(port) => {
+                now.foreign += 1;
+                now.whose = first_port(self.whose, port);
+            }
             Kind::Strange => now.strange += 1,
         }
-        now.stretch = up_to(round, self.stretch);
         now
+    }
+
+    /// With one round more, of this number and kind.
+    pub(crate) fn with_round(self, round: u32, kind: Kind) -> Outage
+        requires few { are_few self + 1 < 2 ^ 32 }
+        requires runs { AreRunsFew self.runs round }
+        requires room { round + 1 < 2 ^ 32 }
+        ensures counts { result ≡ with_round round kind self }
+        ensures few { are_few result ≤ are_few self + 1 }
+        ensures runs { AreRunsFew result.runs (round + 1) }
+    {
+        let counted = self.with_kind(kind);
+        Outage {
+            runs: self.runs.with_run(is_out(kind), round),
+            stretch: stretch_with(round, kind, self.stretch),
+            ..counted
+        }
     }
 
     /// How long the port was out: the rounds that brought none of its own customer's bytes.
     pub fn out(&self) -> u64
         ensures { result ≡ out self.now }
     {
-        u64::from(self.ais) + u64::from(self.ones) + u64::from(self.strange)
+        u64::from(self.ais)
+            + u64::from(self.ones)
+            + u64::from(self.strange)
+            + u64::from(self.foreign)
+    }
+
+    /// Returns whether the last round brought its own customer's bytes, or there was none.
+    pub fn is_back(&self) -> bool
+        ensures { result ≡ is_back self.now }
+    {
+        self.runs.going == 0
+    }
+
+    /// Returns whether it was out for more than 400 rounds at a time.
+    pub fn is_over(&self) -> bool
+        ensures { result ≡ is_over self.now }
+    {
+        self.runs.longest > SWITCH_MAX
     }
 }

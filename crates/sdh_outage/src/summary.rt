@@ -1,17 +1,32 @@
 //! What is said of the outages of all ports.
-ghost use Rattle.std.specs.Prelude.{◌≡◌, ◌+◌, ◌^◌, ◌<◌, ◌≤◌, List, [], ◌∷◌, ◌++◌};
+ghost use Rattle.std.specs.Prelude.{◌≡◌, ◌+◌, ◌^◌, ◌<◌, ◌≤◌, if◌then◌else◌, List, [], ◌∷◌, ◌++◌};
 ghost use Rattle.sdh_outage.specs.declared.outage.Outage.{Outage};
 ghost use Rattle.sdh_outage.specs.Outages.{with_outage, summary_of};
+ghost use Rattle.sdh_outage.specs.Kept.{ports_in};
 
 use crate::outage::Outage;
 
 /// What is said of the outages of all ports of a settle step.
 #[derive(Clone, Copy, Debug, PartialEq, Eq)]
 pub struct Summary {
-    /// How many rounds the longest of them has.
-    pub longest: u64,
-    /// How many ports had none.
+    /// How many rounds the longest run has of the ports that came back.
+    pub longest: u32,
+    /// How many of these were out for more than 400 rounds at a time.
+    pub over: u32,
+    /// How many ports were never out.
     pub none: u32,
+    /// How many are out still.
+    pub still: u32,
+    /// How many got what a port of another circuit sends.
+    pub foreign: u32,
+}
+
+// One more where this holds.
+fn counted(count: u32, holds: bool) -> u32
+    requires { count + 1 < 2 ^ 32 }
+    ensures { result ≡ count + (if holds then 1 else 0) }
+{
+    if holds { count + 1 } else { count }
 }
 
 impl Summary {
@@ -21,21 +36,32 @@ impl Summary {
     {
         Summary {
             longest: 0,
+            over: 0,
             none: 0,
+            still: 0,
+            foreign: 0,
         }
     }
 
     /// A port had this outage.
     pub fn add(&mut self, outage: &Outage)
-        requires room { self.old.none + 1 < 2 ^ 32 }
+        requires room { ports_in self.old + 4 < 2 ^ 32 }
         ensures ports { (others : List Outage) → self.old ≡ summary_of others → self.new ≡ summary_of (others ++ outage.now ∷ []) }
         ensures summary { self.new ≡ with_outage self.old outage.now }
-        ensures few { self.new.none ≤ self.old.none + 1 }
+        ensures few { ports_in self.new ≤ ports_in self.old + 4 }
     {
-        let out = outage.out();
-        self.longest = self.longest.max(out);
-        if out == 0 {
-            self.none += 1;
-        }
+        let is_back = outage.is_back();
+        let is_over = is_back && outage.is_over();
+        *self = Summary {
+            longest: if is_back {
+                self.longest.max(outage.runs.longest)
+            } else {
+                self.longest
+            },
+            over: counted(self.over, is_over),
+            none: counted(self.none, outage.out() == 0),
+            still: counted(self.still, !is_back),
+            foreign: counted(self.foreign, outage.foreign != 0),
+        };
     }
 }

@@ -75,7 +75,7 @@ impl Trace {
         self.last = Some(kind);
     }
 
-    /// The first changes since the settle step began, at most 64.
+    /// Returns the first changes since the settle step began, at most 64.
     pub fn changes(&self) -> &[Change]
         ensures changes { result.now ≡ self.now.changes }
         ensures few { length result.now ≤ 64 }
@@ -83,7 +83,7 @@ impl Trace {
         &self.changes
     }
 
-    /// How many there were behind these.
+    /// Returns how many there were behind these.
     pub fn more(&self) -> u32
         ensures { result ≡ self.now.count - 64 }
     {

@@ -1,48 +1,47 @@
 //! The bytes of a customer that can be on their way.
-ghost use Rattle.std.specs.Prelude.{◌≡◌, ℕ, ◌+◌, ◌*◌, ◌^◌, ◌≤◌, IfOk, drop, length, vec_len, vec_capacity};
-ghost use Rattle.sdh_payload.specs.Feed.{Fed};
-ghost use Rattle.sdh_outage.specs.Kept.{IsWindow};
-ghost use Rattle.sdh_outage.specs.Near.{near, near_from};
+ghost use Rattle.std.specs.Prelude.{◌≡◌, ◌+◌, ◌^◌, ◌≤◌, IfOk, true, false, length};
+ghost use Rattle.sdh_payload.specs.declared.delivered.Delivered.{Delivered};
+ghost use Rattle.sdh_outage.specs.Kinds.{are_ones, jumps, own_kind};
+ghost use Rattle.sdh_outage.specs.Near.{near, holds, is_part};
 
-use sdh_payload::{Cells, Feed, Port};
+use crate::kind::Kind;
+use crate::last::Last;
+use crate::part::{are_ones, holds, kind_of_pieces};
+use crate::reach::{CHUNK, Reach};
+use crate::scratch::{BEHIND, CHUNKS, Scratch};
+use memchr::memmem;
+use sdh_payload::Port;
 use std::alloc::{AllocError, Global};
 use std::fmt;
 use std::marker::Model;
 
-/// The bytes of a chunk where no clock slips.
-const CHUNK: usize = 2349;
+/// How many chunks hold the last one and that behind it, wherever they begin.
+const AHEAD: u32 = 3;
 
-/// How many chunks are near, and the first of them, so many rounds before a round's own.
-const CHUNKS: usize = 78;
+/// How many chunks there is room for where the next ones are looked for, so that the bytes aren't moved in each round.
+const ROOM: u32 = 6;
 
-const BEHIND: u32 = 71;
-
-/// The bytes that are near.
-const NEAR: usize = 183_222;
-
-/// How many bytes before these are kept at most, so that bytes are moved once in so many chunks.
-const KEPT: usize = 37_584;
-
-/// The bytes of a port's stream that are near in a round.
+/// The bytes of a port's stream that are near in a round. They are made where they are looked at: mostly only those that come next, and
+/// all of them in a scratch.
 #[derive(Drop)]
-pub(crate) struct Window {
-    feed: Feed,
-    chunk: Cells,
-    bytes: Vec<u8>,
-    from: usize,
+pub struct Window {
+    port: Port,
+    next: Reach,
+    // The chunk of the stream in which the last chunk that came may begin, and at which byte. It only says where to look first.
+    from: u32,
+    at: usize,
     round: u32,
 }
 
 impl Model for Window {
-    ghost use Rattle.std.specs.Prelude.{◌≡◌, ◌+◌, ◌≤◌, vec_len, vec_capacity};
-    ghost use Rattle.sdh_outage.specs.Kept.{Nearby, IsWindow};
+    ghost use Rattle.std.specs.Prelude.{◌≡◌, ◌<◌};
+    ghost use Rattle.sdh_outage.specs.Kept.{Nearby};
 
     ghost Value = { Nearby };
 
-    ghost view = { λ w. record { port = w.feed.port; round = w.round } };
+    ghost view = { λ w. record { port = w.port; round = w.round } };
 
-    ghost invariant = { λ w. IsWindow w.feed w.round w.from w.bytes.items × (vec_len w.bytes ≡ w.from + 183222) × (w.from ≤ 37584)
-        × (220806 ≤ vec_capacity w.bytes) };
+    ghost invariant = { λ w. (w.next.most ≡ 6) × (w.next.port ≡ w.port) × (w.at < 2349) };
 }
 
 impl fmt::Debug for Window {
@@ -51,101 +50,112 @@ impl fmt::Debug for Window {
     }
 }
 
-// Drops the first bytes, and keeps their memory.
-fn drop_front(bytes: &mut Vec<u8>, count: usize)
-    requires { count ≤ vec_len bytes.old }
-    ensures bytes { bytes.new.items ≡ drop count bytes.old.items }
-    ensures count { vec_len bytes.new + count ≡ vec_len bytes.old }
-    ensures room { vec_capacity bytes.new ≡ vec_capacity bytes.old }
-{
-    let rest = bytes.len() - count;
-    bytes.rotate_left(count);
-    bytes.truncate(rest);
-}
-
-// Drops the bytes before those that are near where a chunk more has no room. How many stay before them.
-fn make_room(bytes: &mut Vec<u8>, from: usize) -> usize
-    requires count { vec_len bytes.old ≡ from + 183222 }
-    requires room { 220806 ≤ vec_capacity bytes.old }
-    requires few { from ≤ 37584 }
-    ensures window { (feed : Fed) (round : ℕ) → IsWindow feed round from bytes.old.items → IsWindow feed round result bytes.new.items }
-    ensures count { vec_len bytes.new ≡ result + 183222 }
-    ensures room { 220806 ≤ vec_capacity bytes.new }
-    ensures few { result + 2349 ≤ 37584 }
-{
-    if from + CHUNK <= KEPT {
-        return from;
-    }
-    drop_front(bytes, from);
-    0
-}
-
 impl Window {
     /// Those of a port in round 0.
-    pub(crate) fn try_new(alloc: Global, port: &Port) -> Result<Window, AllocError>
+    pub fn try_new(alloc: Global, port: &Port) -> Result<Window, AllocError>
         ensures { IfOk result (λ window. window ≡ record { port = port.now; round = 0 }) }
     {
-        let mut feed = Feed::new(port);
-        let mut chunk = Cells::try_new(alloc)?;
-        let mut bytes = Vec::with_capacity(alloc, KEPT + NEAR)?;
-        for _ in 0..CHUNKS {
-            feed.next(&mut chunk);
-            bytes.extend_from_slice(chunk.as_slice()).unwrap();
-        }
         Ok(Window {
-            feed,
-            chunk,
-            bytes,
+            port: port.copy(),
+            next: Reach::try_new(alloc, port, ROOM)?,
             from: 0,
+            at: 0,
             round: 0,
         })
     }
 
-    /// Their round.
-    pub(crate) fn round(&self) -> u32
-        ensures { result ≡ self.now.round }
+    // The last chunk that came begins `index` bytes behind the start of this chunk of the stream.
+    fn put_place(&mut self, from: u32, index: usize)
+        requires { index ≤ 200000 }
+        ensures { self.new ≡ self.old }
     {
-        self.round
+        self.from = from.saturating_add((index / CHUNK) as u32);
+        self.at = index % CHUNK;
     }
 
-    /// The place of the first of them in the stream.
-    pub(crate) fn start(&self) -> usize
-        ensures start { result ≡ near_from self.now.round }
-        ensures few { result ≤ 2349 * 2 ^ 32 }
+    // Returns whether a chunk stands where it is looked for first: behind the last one, where that was a chunk.
+    fn comes_next(&mut self, last: &Last, chunk: &[u8]) -> bool
+        requires { self.old.round + 88 ≤ 2 ^ 32 }
+        ensures answer { result ≡ true → (is_part chunk.now (near self.old.port self.old.round) ≡ true)
+            × (jumps (near self.old.port self.old.round) last.now chunk.now ≡ false) }
+        ensures same { self.new ≡ self.old }
     {
-        CHUNK * (self.round.saturating_sub(BEHIND) as usize)
+        let first = self.round.saturating_sub(BEHIND);
+        if self.from < self.next.first()
+            || self.from < first
+            || self.from > first + (CHUNKS - AHEAD)
+        {
+            return false;
+        }
+        self.next.reach(first, self.from, AHEAD);
+        if self.next.made() > first + CHUNKS {
+            return false;
+        }
+        let at = CHUNK * (self.from - self.next.first()) as usize + self.at;
+        let stands = last.stands_before(chunk, self.next.bytes(), at);
+        if stands {
+            self.put_place(self.from, self.at + last.len());
+        }
+        stands
     }
 
-    /// The bytes.
-    pub(crate) fn near(&self) -> &[u8]
-        ensures bytes { result.now ≡ near self.now.port self.now.round }
-        ensures count { length result.now ≡ 2349 * 78 }
+    // Returns what a round is that brings this chunk, by all bytes that are near.
+    fn looked_up(&mut self, scratch: &mut Scratch, last: &mut Last, chunk: &[u8]) -> Option<Kind>
+        requires few { self.old.round + 88 ≤ 2 ^ 32 }
+        requires length { length chunk.now ≤ 2352 }
+        requires some { are_ones chunk.now ≡ false }
+        ensures kind { result ≡ own_kind (near self.old.port self.old.round) last.old (Delivered.Chunk chunk.now) }
+        ensures same { self.new ≡ self.old }
+        ensures last { last.new ≡ last.old }
     {
-        &self.bytes[self.from..]
+        let others = scratch.near(&self.port, self.round);
+        let Some(index) = memmem::find(others, chunk) else {
+            return kind_of_pieces(chunk, others);
+        };
+        let jumps = last.jumps(others, chunk);
+        self.put_place(self.round.saturating_sub(BEHIND), index);
+        if jumps {
+            Some(Kind::Jump)
+        } else {
+            Some(Kind::InOrder)
+        }
     }
 
-    // Those of the next round, where that begins a chunk later.
-    fn move_on(&mut self)
-        requires late { 71 ≤ self.old.round }
-        requires room { self.old.round + 8 ≤ 2 ^ 32 }
-        ensures { self.new ≡ record self.old { round = self.old.round + 1 } }
+    /// Returns what a round is that brings this chunk, where it is the port's or ones.
+    pub(crate) fn own_chunk(
+        &mut self,
+        scratch: &mut Scratch,
+        last: &mut Last,
+        chunk: &[u8],
+    ) -> Option<Kind>
+        requires few { self.old.round + 88 ≤ 2 ^ 32 }
+        requires length { length chunk.now ≤ 2352 }
+        ensures kind { result ≡ own_kind (near self.old.port self.old.round) last.old (Delivered.Chunk chunk.now) }
+        ensures same { self.new ≡ self.old }
+        ensures last { last.new ≡ last.old }
     {
-        self.from = make_room(&mut self.bytes, self.from);
-        self.feed.next(&mut self.chunk);
-        self.bytes.extend_from_slice(self.chunk.as_slice()).unwrap();
-        self.from += CHUNK;
-        self.round += 1;
+        if are_ones(chunk) {
+            return Some(Kind::Ones);
+        }
+        if self.comes_next(last, chunk) {
+            return Some(Kind::InOrder);
+        }
+        self.looked_up(scratch, last, chunk)
+    }
+
+    /// Returns whether a chunk holds some of them.
+    pub fn holds(&self, scratch: &mut Scratch, chunk: &[u8]) -> bool
+        requires { self.now.round + 88 ≤ 2 ^ 32 }
+        ensures { result ≡ holds chunk.now (near self.now.port self.now.round) }
+    {
+        holds(chunk, scratch.near(&self.port, self.round))
     }
 
     /// Those of the next round.
-    pub(crate) fn step(&mut self)
+    pub fn step(&mut self)
         requires { self.old.round + 8 ≤ 2 ^ 32 }
         ensures { self.new ≡ record self.old { round = self.old.round + 1 } }
     {
-        if self.round >= BEHIND {
-            self.move_on();
-        } else {
-            self.round += 1;
-        }
+        self.round += 1;
     }
 }

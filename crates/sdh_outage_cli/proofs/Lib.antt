@@ -6,3 +6,4 @@ pub mod Room
 pub mod Steps
 pub mod Plans
 pub mod Stages
+pub mod Holding

@@ -1,5 +1,5 @@
 -- Lists to which one element after the other is added.
-use Rattle.std.proofs.Common.{◌≡◌, ℕ, zero, suc, List, [], ◌∷◌, ◌++◌, length, Some, subst, arith}
+use Rattle.std.proofs.Common.{◌≡◌, ℕ, zero, suc, List, [], ◌∷◌, ◌++◌, length, set, Some, ap, sym, subst, ◌∙◌, arith}
 use Rattle.std.specs.Prelude.{slice_get}
 use Rattle.std.proofs.lemmas.Option.{same_Some}
 
@@ -14,3 +14,9 @@ all_pushed P (z ∷ xs) zero y long here before j x get = absurd (omega arith)
 all_pushed P (z ∷ xs) (suc i) y long here before zero x get = before zero x get
 all_pushed P (z ∷ xs) (suc i) y long here before (suc j) x get =
     all_pushed (λ k. P (suc k)) xs i y (omega arith) here (λ k v there. before (suc k) v there) j x get
+
+-- an element is written that was there
+pub set_there : {X : Type 0} (xs : List X) (i : ℕ) (x y : X) → slice_get xs i ≡ Some x → y ≡ x → set xs i y ≡ xs
+set_there [] i x y there is = absurd (cc)
+set_there (z ∷ xs) zero x y there is = ap (λ v. v ∷ xs) (is ∙ sym (same_Some z x there))
+set_there (z ∷ xs) (suc i) x y there is = ap (λ l. z ∷ l) (set_there xs i x y there is)

@@ -27,13 +27,15 @@ use Rattle.sdh_outage_cli.specs.Running.{MayRun}
 use Rattle.sdh_outage_cli.specs.declared.listing.OutageListing.{OutageListing}
 use Rattle.sdh_outage_cli.specs.declared.listing.OutageListing.TheVariants as listing
 use Rattle.sdh_outage_cli.specs.declared.ports.ListenerPair.{ListenerPair}
+use Rattle.sdh_outage_cli.specs.declared.streams.StreamPair.{StreamPair}
 use Rattle.sdh_outage_cli.proofs.Listening.{ready_then, shown_is, trace_is}
 
 -- before it the ring has run few rounds
 pub few_before : (before : ℕ) (steps : List Step) (r : HeldRing) (f : _) → ring.MayRun 65536 before steps r f → r.rounds ≤ 2 ^ 31
 few_before before steps r f may = let few = may.few in let rounds = may.rounds in omega arith
 
-module _ (w left : World) (limit : ℕ) (items : List ListenerPair) (x : Hears (λ at k. AreListening at k items) w limit left) where
+module _ (w left : World) (limit : ℕ) (items : List ListenerPair) (streams : List StreamPair)
+    (x : Hears (λ at k. AreListening at k items streams) w limit left) where
   abbrev at : ℕ → World
   at = course_with x.settles.rounds w
 
@@ -57,6 +59,7 @@ module _ (w left : World) (limit : ℕ) (items : List ListenerPair) (x : Hears (
   pub told_is : (number : ℕ) → (let told : Outaged = record {
     number = number;
     round = left.ring.rounds - 1;
+    circuits = left.ring.circuits.circuits;
     ports = shown left.ring.circuits.circuits items;
     trace =
         trace_in ran at (at ran).ring.circuits.circuits;
@@ -65,15 +68,17 @@ module _ (w left : World) (limit : ℕ) (items : List ListenerPair) (x : Hears (
       ap (λ (v : World). record {
         number = number;
         round = v.ring.rounds - 1;
+        circuits = v.ring.circuits.circuits;
         ports = shown v.ring.circuits.circuits items;
         trace = trace_in ran at (at ran).ring.circuits.circuits;
       }) left_at
       ∙ ap (λ ports. record {
         number = number;
         round = (at ran).ring.rounds - 1;
+        circuits = (at ran).ring.circuits.circuits;
         ports = ports;
         trace = trace_in ran at (at ran).ring.circuits.circuits;
-      }) (shown_is at ran items numbered x.kept)
+      }) (shown_is at ran items streams numbered x.kept)
 
   -- and what is written of that
   pub listed_is : (listing : OutageListing) (number : ℕ) → shown_text listing number (left.ring.rounds - 1) left.ring.circuits.circuits items
@@ -81,32 +86,33 @@ module _ (w left : World) (limit : ℕ) (items : List ListenerPair) (x : Hears (
   listed_is listing.Ports number = ap (listed listing.Ports) (told_is number)
   listed_is (listing.Trace port) number =
       ap (λ (v : World). settle_line number (v.ring.rounds - 1)
-      ++ port_text (slice_get v.ring.circuits.circuits port.circuit) (slice_get items port.circuit) port.end) left_at
-      ∙ ap (λ l. settle_line number ((at ran).ring.rounds - 1) ++ l) (trace_is at ran items numbered x.kept port)
+      ++ port_text v.ring.circuits.circuits (slice_get v.ring.circuits.circuits port.circuit) (slice_get items port.circuit) port.end) left_at
+      ∙ ap (λ l. settle_line number ((at ran).ring.rounds - 1) ++ l) (trace_is at ran items streams numbered x.kept port)
 
   -- and the script goes on
-  pub heard_next : (before : ℕ) (now : List ListenerPair) → limit ≤ 65536 → BeginsAtAMultiple left.ring
+  pub heard_next : (before : ℕ) (now : List ListenerPair) (then : List StreamPair) → limit ≤ 65536 → BeginsAtAMultiple left.ring
       → ((port : PortId) → waiting_at left.ring port ≡ 0) → IsPrepared w.ring.settings.rate (length w.ring.ids) left.fibres
-      → (later : List Step) → MayRun before (step.Settle ∷ later) w.ring now w.fibres
-      → MayRun (before + 1) later left.ring items left.fibres
-  heard_next before now few begins none prepared later may =
+      → (later : List Step) → MayRun before (step.Settle ∷ later) w.ring now then w.fibres
+      → MayRun (before + 1) later left.ring items streams left.fibres
+  heard_next before now then few begins none prepared later may =
       let most = x.settles.settles.within in
       record {
         ring_may =
             next_by 65536 before ran w left (settled_held w left limit x.settles) (omega arith) begins none prepared later may.ring_may;
         ready =
-            subst (λ (v : World). AreReady v.ring.circuits.circuits v.ring.rounds items) (sym left_at)
-            (ready_then at ran items x.kept (numbered ran (omega arith)));
+            subst (λ (v : World). AreReady v.ring.circuits.circuits v.ring.rounds items streams) (sym left_at)
+            (ready_then at ran items streams x.kept (numbered ran (omega arith)));
       }
 
 -- ---- any other step
 
-pub changed_ready : (before : ℕ) (s : Step) (w left : World) (items : List ListenerPair) → (s ≡ step.Settle → ⊥) → left ≡ after_step s w
-    → (later : List Step) → MayRun before (s ∷ later) w.ring items w.fibres → MayRun before later left.ring items left.fibres
-changed_ready before s w left items other is later may =
+pub changed_ready : (before : ℕ) (s : Step) (w left : World) (items : List ListenerPair) (streams : List StreamPair) → (s ≡ step.Settle → ⊥) → left ≡ after_step s w
+    → (later : List Step) → MayRun before (s ∷ later) w.ring items streams w.fibres
+    → MayRun before later left.ring items streams left.fibres
+changed_ready before s w left items streams other is later may =
     let rounds : left.ring.rounds ≡ w.ring.rounds = ap (λ (v : World). v.ring.rounds) is ∙ no_round.rounds s w in
     record {
       ring_may = changed_next 65536 before s w left other is later may.ring_may;
-      ready = subst (λ n. AreReady left.ring.circuits.circuits n items) (sym rounds)
-          (subst (λ (p : Provisioning). AreReady p.circuits w.ring.rounds items) (sym (changed_circuits s w left is)) may.ready);
+      ready = subst (λ n. AreReady left.ring.circuits.circuits n items streams) (sym rounds)
+          (subst (λ (p : Provisioning). AreReady p.circuits w.ring.rounds items streams) (sym (changed_circuits s w left is)) may.ready);
     }

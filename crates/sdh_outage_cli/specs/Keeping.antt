@@ -1,6 +1,6 @@
 -- What listeners keep is told by the rounds that went by alone.
-use Rattle.std.specs.Prelude.{◌≡◌, ℕ, zero, suc, ◌^◌, ◌≤◌, List, ◌∷◌, length, slice_get}
-use mathlib.Core.Path.{refl, ap, ap₂, subst, ◌∙◌}
+use Rattle.std.specs.Prelude.{◌≡◌, ℕ, zero, suc, ◌+◌, ◌^◌, ◌≤◌, List, ◌∷◌, length, slice_get}
+use mathlib.Core.Path.{refl, ap, ap₂, sym, subst, ◌∙◌}
 use native.Mathlib.Nat.{le_refl, le_step}
 use Prim.Native.Nat.{zero-le}
 use Rattle.sdh_circuits.specs.declared.End.TheVariants.{A, B}
@@ -9,9 +9,11 @@ use Rattle.sdh_circuits.specs.Ends.{port_id}
 use Rattle.sdh_payload.specs.Customer.{Customer}
 use Rattle.sdh_world.specs.Rounds.{World}
 use Rattle.sdh_outage.specs.Kept.{heard}
-use Rattle.sdh_outage_cli.specs.Outages.{delivered_at}
+use Rattle.sdh_outage_cli.specs.Outages.{delivered_at, whose_in}
+use Rattle.sdh_outage_cli.specs.Streams.{holder_of, AreNear}
 use Rattle.sdh_outage_cli.specs.Ports.{delivered_in, heard_in, AreListening}
 use Rattle.sdh_outage_cli.specs.declared.ports.ListenerPair.{ListenerPair}
+use Rattle.sdh_outage_cli.specs.declared.streams.StreamPair.{StreamPair}
 
 delivered_same : (port : PortId) (k : ℕ) (at bt : ℕ → World) → ((j : ℕ) → j ≤ k → at j ≡ bt j)
     → delivered_in port k at ≡ delivered_in port k bt
@@ -20,22 +22,25 @@ delivered_same port (suc k) at bt same =
     ap₂ (λ (v : World) l. delivered_at v.ring port ∷ l) (same (suc k) (le_refl (suc k)))
     (delivered_same port k at bt (λ j low. same j (le_step low)))
 
-heard_same : (far : Customer) (port : PortId) (k : ℕ) (at bt : ℕ → World) → ((j : ℕ) → j ≤ k → at j ≡ bt j)
-    → heard_in far port k at ≡ heard_in far port k bt
-heard_same far port k at bt same =
+heard_same : (far : Customer) (index : ℕ) (port : PortId) (k : ℕ) (at bt : ℕ → World) → ((j : ℕ) → j ≤ k → at j ≡ bt j)
+    → heard_in far (whose_in at index) port k at ≡ heard_in far (whose_in bt index) port k bt
+heard_same far index port k at bt same =
     let first = same 0 zero-le in
     let past = delivered_same port k at bt same in
-    λ i. heard far (first i).ring.rounds (delivered_at (first i).ring port) (past i)
+    λ i. heard far (holder_of (first i).ring.circuits.circuits index) (first i).ring.rounds (delivered_at (first i).ring port) (past i)
 
 -- courses that are the same so far
-pub listening_same : (at bt : ℕ → World) (k : ℕ) (items : List ListenerPair) → ((j : ℕ) → j ≤ k → at j ≡ bt j) → AreListening at k items
-    → AreListening bt k items
-listening_same at bt k items same x =
+pub listening_same : (at bt : ℕ → World) (k : ℕ) (items : List ListenerPair) (streams : List StreamPair) → ((j : ℕ) → j ≤ k → at j ≡ bt j)
+    → AreListening at k items streams → AreListening bt k items streams
+listening_same at bt k items streams same x =
+    let first = same 0 zero-le in
     let last = same k (le_refl k) in
     record {
-      few = subst (λ (v : World). v.ring.rounds ≤ 2 ^ 31) (same 0 zero-le) x.few;
+      few = subst (λ (v : World). v.ring.rounds ≤ 2 ^ 31) first x.few;
       many = x.many ∙ ap (λ (v : World). length v.ring.circuits.circuits) last;
+      circuits = ap (λ (v : World). v.ring.circuits) (sym last) ∙ x.circuits ∙ ap (λ (v : World). v.ring.circuits) first;
       each = λ i c both there here. (
           let h = x.each i c both (ap (λ (v : World). slice_get v.ring.circuits.circuits i) last ∙ there) here in
-          record { at_a = h.at_a ∙ heard_same c.b (port_id i A) k at bt same; at_b = h.at_b ∙ heard_same c.a (port_id i B) k at bt same });
+          record { at_a = h.at_a ∙ heard_same c.b i (port_id i A) k at bt same; at_b = h.at_b ∙ heard_same c.a i (port_id i B) k at bt same });
+      near = subst (λ (v : World). AreNear v.ring.circuits.circuits (v.ring.rounds + k) streams) first x.near;
     }

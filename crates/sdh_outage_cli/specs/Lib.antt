@@ -1,3 +1,4 @@
+pub mod Streams
 pub mod Outages
 pub mod Scripts
 pub mod Lines

@@ -1,26 +1,38 @@
 -- The lines of a settle step with the outages of its ports.
-use Rattle.std.specs.Prelude.{ℕ, ◌-◌, ◌==◌, if◌then◌else◌, List, [], ◌++◌, map, take, length, Option, Some, None}
+use Rattle.std.specs.Prelude.{ℕ, ◌-◌, ◌==◌, if◌then◌else◌, List, [], ◌++◌, map, take, length, slice_get, Option, Some, None}
 use Rattle.std.specs.List.{flat_map}
+use Rattle.sdh_circuits.specs.declared.End.{End}
+use Rattle.sdh_circuits.specs.declared.PortId.{PortId}
+use Rattle.sdh_circuits.specs.Provisioned.{Provisioned}
 use Rattle.sdh_report.specs.Lines.{settle_line}
 use Rattle.sdh_outage.specs.declared.change.Change.{Change}
-use Rattle.sdh_outage.specs.Lines.{outage_line, change_line, more_line, summary_line}
+use Rattle.sdh_outage.specs.Lines.{outage_front, of_port, of_nobody, change_line, more_line, summary_line}
 use Rattle.sdh_outage.specs.Outages.{summary_of}
 use Rattle.sdh_outage_cli.specs.Outages.{PortOutage, PortTrace, Outaged}
 use Rattle.sdh_outage_cli.specs.declared.listing.OutageListing.{OutageListing}
 use Rattle.sdh_outage_cli.specs.declared.listing.OutageListing.TheVariants as listing
 
-abbrev pub told_line : PortOutage → List ℕ
-told_line p = outage_line p.name p.end p.outage
+-- the port of one of these circuits whose bytes came, where there is one
+abbrev pub named_of : Option Provisioned → End → List ℕ
+named_of None end = of_nobody
+named_of (Some c) end = of_port c.name end
+
+abbrev pub whose_text : List Provisioned → Option PortId → List ℕ
+whose_text circuits None = of_nobody
+whose_text circuits (Some port) = named_of (slice_get circuits port.circuit) port.end
+
+abbrev pub told_line : List Provisioned → PortOutage → List ℕ
+told_line circuits p = outage_front p.name p.end p.outage ++ whose_text circuits p.outage.whose
 
 -- ---- all ports
 
 -- the lines of ports, and what is said of all of them
-abbrev pub ports_text : List PortOutage → List ℕ
-ports_text ports = flat_map told_line ports ++ summary_line (summary_of (map (λ p. p.outage) ports))
+abbrev pub ports_text : List Provisioned → List PortOutage → List ℕ
+ports_text circuits ports = flat_map (told_line circuits) ports ++ summary_line (summary_of (map (λ p. p.outage) ports))
 
 -- the line of the settle step of this number, which ended with that round, and those of its ports
-abbrev pub settle_step_text : ℕ → ℕ → List PortOutage → List ℕ
-settle_step_text number round ports = settle_line number round ++ ports_text ports
+abbrev pub settle_step_text : ℕ → ℕ → List Provisioned → List PortOutage → List ℕ
+settle_step_text number round circuits ports = settle_line number round ++ ports_text circuits ports
 
 -- ---- one port
 
@@ -29,16 +41,16 @@ abbrev pub changes_text : List Change → ℕ → List ℕ
 changes_text changes more = flat_map change_line changes ++ (if more == 0 then [] else more_line more)
 
 -- of what a port went through at most 64 changes are told
-abbrev pub trace_text : Option PortTrace → List ℕ
-trace_text None = []
-trace_text (Some t) = changes_text (take 64 t.changes) (length t.changes - 64) ++ told_line t.out
+abbrev pub trace_text : List Provisioned → Option PortTrace → List ℕ
+trace_text circuits None = []
+trace_text circuits (Some t) = changes_text (take 64 t.changes) (length t.changes - 64) ++ told_line circuits t.out
 
 -- ---- what is listed
 
 -- of a settle step
 abbrev pub listed : OutageListing → Outaged → List ℕ
-listed listing.Ports r = settle_step_text r.number r.round r.ports
-listed (listing.Trace port) r = settle_line r.number r.round ++ trace_text (r.trace port)
+listed listing.Ports r = settle_step_text r.number r.round r.circuits r.ports
+listed (listing.Trace port) r = settle_line r.number r.round ++ trace_text r.circuits (r.trace port)
 
 -- step after step
 abbrev pub text_of : OutageListing → List Outaged → List ℕ

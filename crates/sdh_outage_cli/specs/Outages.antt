@@ -12,9 +12,10 @@ use Rattle.sdh_scripts.specs.Ports.{of_ports}
 use Rattle.sdh_outage.specs.declared.kind.Kind.{Kind}
 use Rattle.sdh_outage.specs.declared.change.Change.{Change}
 use Rattle.sdh_outage.specs.declared.outage.Outage.{Outage}
-use Rattle.sdh_outage.specs.Kinds.{kind_of}
+use Rattle.sdh_outage.specs.Kinds.{Whose, kind_of}
 use Rattle.sdh_outage.specs.Outages.{outage_of}
 use Rattle.sdh_outage.specs.Changes.{kind_changes}
+use Rattle.sdh_outage_cli.specs.Streams.{holder_of}
 
 -- ---- one port
 
@@ -23,16 +24,21 @@ abbrev pub delivered_at : HeldRing → PortId → Delivered
 delivered_at r port = (outlet_at r port).delivered
 
 -- What the first rounds of a course were to a port, the latest first, where a course gives the world after each number of rounds: by
--- the customer at its far end, by the number of each round, and by what the port delivered in the round before and in it.
-abbrev pub kinds_in : Customer → PortId → ℕ → (ℕ → World) → List Kind
-kinds_in far port zero at = []
-kinds_in far port (suc k) at =
-    kind_of far ((at (suc k)).ring.rounds - 1) (delivered_at (at k).ring port) (delivered_at (at (suc k)).ring port)
-    ∷ kinds_in far port k at
+-- the customer at its far end, whosever bytes else came, the number of each round, and what the port delivered in the round before and
+-- in it.
+abbrev pub kinds_in : Customer → Whose → PortId → ℕ → (ℕ → World) → List Kind
+kinds_in far whose port zero at = []
+kinds_in far whose port (suc k) at =
+    kind_of far whose ((at (suc k)).ring.rounds - 1) (delivered_at (at k).ring port) (delivered_at (at (suc k)).ring port)
+    ∷ kinds_in far whose port k at
 
 -- its outage in these rounds, of which the first has the number of the rounds before it
-abbrev pub outage_in : Customer → PortId → ℕ → (ℕ → World) → Outage
-outage_in far port k at = outage_of (at 0).ring.rounds (kinds_in far port k at)
+abbrev pub outage_in : Customer → Whose → PortId → ℕ → (ℕ → World) → Outage
+outage_in far whose port k at = outage_of (at 0).ring.rounds (kinds_in far whose port k at)
+
+-- whose bytes else the ports of the circuit of this number get: those of the other circuits of the course's ring
+abbrev pub whose_in : (ℕ → World) → ℕ → Whose
+whose_in at index = holder_of (at 0).ring.circuits.circuits index
 
 -- ---- all ports
 
@@ -44,7 +50,11 @@ pub record PortOutage : Type 0 where
 
 -- the port at an end of the circuit of this number
 abbrev pub port_out : ℕ → (ℕ → World) → ℕ → Provisioned → End → PortOutage
-port_out k at index c e = record { name = c.name; end = e; outage = outage_in (customer_at c (other_end e)) (port_id index e) k at }
+port_out k at index c e = record {
+  name = c.name;
+  end = e;
+  outage = outage_in (customer_at c (other_end e)) (whose_in at index) (port_id index e) k at;
+}
 
 -- those of these circuits, which are counted from `index`
 abbrev pub ports_out : ℕ → (ℕ → World) → ℕ → List Provisioned → List PortOutage
@@ -60,7 +70,7 @@ pub record PortTrace : Type 0 where
 -- that of the port at an end of the circuit of this number
 abbrev pub trace_at : ℕ → (ℕ → World) → ℕ → Provisioned → End → PortTrace
 trace_at k at index c e = record {
-  changes = kind_changes (at 0).ring.rounds (kinds_in (customer_at c (other_end e)) (port_id index e) k at);
+  changes = kind_changes (at 0).ring.rounds (kinds_in (customer_at c (other_end e)) (whose_in at index) (port_id index e) k at);
   out = port_out k at index c e;
 }
 
@@ -70,10 +80,11 @@ trace_in k at cs port = option_map (λ c. trace_at k at port.circuit c port.end)
 
 -- ---- a settle step
 
--- the settle step, counted from 1; its last round; each port, in the order of the circuits, a before b; and what a port went through
+-- the settle step, counted from 1; its last round; the circuits; each port, in their order, a before b; and what a port went through
 pub record Outaged : Type 0 where
   pub number : ℕ
   pub round : ℕ
+  pub circuits : List Provisioned
   pub ports : List PortOutage
   pub trace : PortId → Option PortTrace
 
@@ -82,6 +93,7 @@ abbrev pub outaged_in : ℕ → (ℕ → World) → ℕ → Outaged
 outaged_in number at k = record {
   number = number;
   round = (at k).ring.rounds - 1;
+  circuits = (at k).ring.circuits.circuits;
   ports = ports_out k at 0 (at k).ring.circuits.circuits;
   trace = trace_in k at (at k).ring.circuits.circuits;
 }

@@ -13,6 +13,7 @@ mod ports;
 mod program;
 mod run;
 mod script;
+mod streams;
 mod top;
 mod words;
 

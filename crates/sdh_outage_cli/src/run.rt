@@ -10,6 +10,7 @@ use crate::listeners::Listeners;
 use crate::listing::OutageListing;
 use crate::ports::new_listeners;
 use crate::script::OutageRun;
+use crate::streams::new_streams;
 use sdh_circuits::CircuitMap;
 use sdh_outage::LINE_MAX as PORT_LINE_MAX;
 use sdh_plan::Plan;
@@ -46,10 +47,11 @@ fn new_run(
     let limit = plan.limit();
     let text = text_for(alloc, lines_room(listing, plan.circuits()))?;
     let items = new_listeners(alloc, plan.circuits())?;
+    let streams = new_streams(alloc, plan.circuits())?;
     let nodes = plan.map().len();
     let (map, circuits, steps) = plan.into_parts();
     let ring = Ring::try_new(alloc, settings, map, circuits)?;
-    let listeners = Listeners { items };
+    let listeners = Listeners { items, streams };
     Ok(NewRun {
         runner: OutageRun {
             ring,

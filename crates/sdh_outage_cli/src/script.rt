@@ -37,7 +37,7 @@ impl Runner for OutageRun {
 
     ghost room = { λ r. lines_room r.listing (length r.ring.circuits.circuits) };
 
-    ghost MayRun = { λ number steps r f. MayList (length r.ring.circuits.circuits) r.listing × MayListen number steps r.ring r.listeners.items.items f };
+    ghost MayRun = { λ number steps r f. MayList (length r.ring.circuits.circuits) r.listing × MayListen number steps r.ring r.listeners.items.items r.listeners.streams.pairs.items f };
 
     fn change<P: Plant>(&mut self, plant: &mut P, step: Step) -> Result<(), PlantFault> {
         change(&mut self.ring, plant, step)?;

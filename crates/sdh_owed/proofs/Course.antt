@@ -37,7 +37,7 @@ use Rattle.sdh_scripts.proofs.Reporting.{settles_by, reports_by, breaks_by}
 use Rattle.sdh_world.specs.Steps.{after_step}
 use Rattle.sdh_owed.specs.Scripts.{Runs}
 use Rattle.sdh_owed.specs.Laws.{ring_by}
-use Rattle.sdh_owed.proofs.Strangers.{none_old}
+use Rattle.sdh_owed.proofs.Strangers.{none_old_then, none_old}
 use Rattle.sdh_owed.specs.Strangers.{NoneEverMeetsOldBytes}
 use Rattle.sdh_owed.proofs.Soon.{RestoredSoon, happens_front, ready_then, owed_soon}
 use Rattle.sdh_owed.proofs.Standing.{Stands, whole, stretch_to, changed_then, settled_then, stands_new}
@@ -282,22 +282,25 @@ module _ (s : Settings) (ids : List ℕ) (circuits : Provisioning) (f : Fibres) 
     abbrev ring : Ring
     ring = ring_by s (length ids) circuits.circuits
 
-    strangers : AHoldSpoilsItsOwnStepAlone → NoneEverMeetsAStranger from ring ss
+    pub strangers : AHoldSpoilsItsOwnStepAlone → NoneEverMeetsAStranger from ring ss
     strangers law earlier later last is none t low =
         let now = earlier ++ last ∷ [] in
         let front : ss ≡ now ++ later = is ∙ sym (append_assoc earlier (last ∷ []) later) in
         law s ids circuits f earlier last may (happens_front now later from (subst (MayHappen from) front happens))
         (quiet_front now later from (subst (EndQuietly from) front quiet)) none form t low
 
-    recent : StillRingsAreSettled → AHoldSpoilsItsOwnStepAlone → NoneEverMeetsOldBytes from ring ss
-    recent still law earlier later last is none t low =
+    pub recent : StillRingsAreSettled → AHoldSpoilsItsOwnStepAlone → NoneEverMeetsOldBytes from ring ss
+    recent still law earlier later last is t age low old =
         let now = earlier ++ last ∷ [] in
         let front : ss ≡ now ++ later = is ∙ sym (append_assoc earlier (last ∷ []) later) in
-        none_old s ids circuits f may form still law earlier last
-        (happens_front now later from (subst (MayHappen from) front happens))
-        (quiet_front now later from (subst (EndQuietly from) front quiet))
-        (ready_then s ids circuits f may earlier last later (subst (MayHappen from) is happens) (subst (EndQuietly from) is quiet)) none
-        t low
+        let happened = happens_front now later from (subst (MayHappen from) front happens) in
+        let ended = quiet_front now later from (subst (EndQuietly from) front quiet) in
+        let ready =
+        ready_then s ids circuits f may earlier last later (subst (MayHappen from) is happens) (subst (EndQuietly from) is quiet) in
+        elim old [
+          | inl late ↦ none_old_then s ids circuits f may form still law earlier last happened ended ready t age low late.0 late.1
+          | inr any ↦ none_old s ids circuits f may form still law earlier last happened ended ready t age low any.0 any.1
+        ]
 
     soon : RestoredSoon → AllIsOwedSoon from ring ss
     soon laws earlier same later last is still k late few =
@@ -337,6 +340,6 @@ none_ran w ring limit steps reports end left none is unmade sent = record {
       (none_through ring.nodes limit 0 [] steps end is (inl refl));
   sent = inr (is, inr (refl, unmade, sent));
   strangers = λ earlier later last front holds t low. none_last earlier last later _ front;
-  recent = λ earlier later last front none t low. none_last earlier last later _ front;
+  recent = λ earlier later last front t age low old. none_last earlier last later _ front;
   soon = λ earlier same later last front still k late few. none_last earlier last (same ++ later) _ front;
 }

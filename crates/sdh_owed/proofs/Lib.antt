@@ -1,4 +1,5 @@
 pub mod Soon
+pub mod Holding
 pub mod Strangers
 pub mod Course
 pub mod Standing

@@ -1,12 +1,44 @@
--- A ring of three behind slips, a cut span and a held controller.
-use Rattle.std.proofs.Common.{ℕ, List, [], ◌∷◌, length, arith, inl, inr}
+-- A ring of three after slips, a cut span and a held controller.
+use Rattle.std.proofs.Common.{◌≡◌, ℕ, suc, ◌+◌, ◌-◌, ◌*◌, ◌<◌, ◌≤◌, Bool, true, false, Option, List, [], ◌∷◌, ◌++◌, length, refl, ap, sym, ◌∙◌}
+use Rattle.std.proofs.Common.{subst, arith, inl, inr}
+use Rattle.std.specs.Prelude.{◌||◌, nat_lt, if◌then◌else◌, option_map}
+use Rattle.std.proofs.lemmas.Bool.Decides.{nat_tests}
+use Rattle.sdh_terms.specs.Requests.{code_number}
+use Rattle.sdh_terms.specs.Fibres.{is_cut}
+use Rattle.sdh_ringmap.specs.Places.{span_at}
+use Rattle.sdh_ringmap.specs.declared.Pos.{Pos}
+use Rattle.sdh_ringmap.specs.declared.Side.TheVariants.{West, East}
+use Rattle.sdh_request.specs.declared.Defect.TheVariants as defect
+use Rattle.sdh_request.specs.Requests.{waits, highest_code}
+use Rattle.sdh_request.proofs.Highest.{at_least_sf}
+use Rattle.sdh_restoration.specs.Applied.{is_applied, is_any_applied}
+use Rattle.sdh_restoration.specs.History.{SideHistory, shows_degraded, defect_at, last_end, local_request}
+use Rattle.sdh_restoration.proofs.Asked.{length-requests, asked_is_applied}
+use Rattle.sdh_settling.specs.Laws.{StillRingsAreSettled}
+use Rattle.sdh_settling.specs.Settled.{far_end, is_outranked, settled_by, settled}
 use Rattle.sdh_plant.specs.Fibres.{Fibres, IsHonest}
+use Rattle.sdh_world.specs.Rounds.{World}
+use Rattle.sdh_world.specs.Runs.{run, course}
+use Rattle.sdh_world.specs.Quiet.{EndsWindow}
+use Rattle.sdh_world.specs.Changes.{all_changed}
 use Rattle.sdh_world.specs.Laws.{MayHappen}
-use Rattle.sdh_promise.specs.Changes.{Change}
+use Rattle.sdh_promise.specs.Changes.{Change, Stretch, rounds_in}
+use Rattle.sdh_promise.specs.Sides.{Holding, new_holding, all_holding, side_history}
+use Rattle.sdh_promise.specs.Owed.{asked_in}
+use Rattle.sdh_laws.specs.Hearing.Laws.{IsWhole}
+use Rattle.sdh_laws.specs.Carrying.Windows.{layout_of, HasCircuits}
+use Rattle.sdh_laws.specs.Converging.Laws.{WindowsComeSoon}
+use Rattle.sdh_laws.specs.Strangers.Laws.{IsNoPass, last_requests, HoldNonePassing, EndQuietly, AHoldSpoilsItsOwnStepAlone}
+use Rattle.sdh_laws.proofs.hearing.Requests.{whole_last}
+use Rattle.sdh_laws.proofs.hearing.Staying.{left_all, left_run}
+use Rattle.sdh_laws.proofs.carrying.Settles.{layout_all}
 use Rattle.sdh_laws.specs.Converging.Rings.{settings, three, one_circuit, ARingOccurs}
 use Rattle.sdh_owed.specs.Course.{stretch, IsLate}
-use Rattle.sdh_owed.specs.Occurring.{slipping, cutting, holding, three_over, IsOwedBehind, ThreeAreOwedSoon}
+use Rattle.sdh_owed.specs.Strangers.{IsOldest}
+use Rattle.sdh_owed.specs.Occurring.{slipping, cutting, holding, ring_of_three, three_over, IsOwedBehind, ThreeAreOwedSoon}
+use Rattle.sdh_owed.specs.Occurring.{cutting_held, mending_held, GetsItsOwn, ThreeGetTheirOwn, ThreeMeetNoStrangers}
 use Rattle.sdh_owed.proofs.Soon.{RestoredSoon, ready_new, owed_soon}
+use Rattle.sdh_owed.proofs.Course.{strangers, recent}
 
 module _ (occurs : ARingOccurs) (laws : RestoredSoon) (f : Fibres) (honest : IsHonest f) where
   owed_behind : (changes : List Change) (k : ℕ) → MayHappen (three_over f) (stretch changes k ∷ []) → IsLate (length three) changes k
@@ -25,3 +57,120 @@ three_are_owed_soon occurs laws f honest = record {
   cut = owed_behind occurs laws f honest cutting 38 ((tt, (tt, tt)), tt) (inl ((tt, (tt, tt)), omega arith, inl (tt, (tt, tt))));
   hold = owed_behind occurs laws f honest holding 138 ((omega arith, tt), tt) (inr (omega arith));
 }
+
+-- ---- a node beside a span that is cut is switched
+
+-- a side whose fibre is cut asks for a switch
+cut_asks : (threshold wait : ℕ) (h : SideHistory) (t : ℕ) → h.is_cut (suc t) ≡ true → 11 ≤ code_number (local_request threshold wait h (suc t))
+unfolding local_request defect_at
+cut_asks threshold wait h t cut =
+    let fails : defect_at threshold h (suc t) ≡ defect.Sf =
+    ap (λ (b : Bool). if b then defect.Sf else if shows_degraded threshold h (suc t) then defect.Sd else defect.None) cut in
+    subst (λ d. 11 ≤ code_number (highest_code (h.command (suc t)) d
+    (waits wait d (h.moment (suc t)) (option_map h.moment (last_end threshold h (suc t)))))) (sym fails)
+    (at_least_sf (h.command (suc t)) (waits wait defect.Sf (h.moment (suc t)) (option_map h.moment (last_end threshold h (suc t)))))
+
+by_east : (a s : Bool) (x y : Option Pos) → IsNoPass (settled_by a true s x y)
+by_east true s x y = tt
+by_east false s x y = tt
+
+beside_applied : (rs : List ℕ) (p : ℕ) → is_applied rs (span_at (length rs) p East) ≡ true → IsNoPass (settled rs p)
+unfolding settled
+beside_applied rs p applied =
+    subst (λ b. IsNoPass (settled_by (is_applied rs (span_at (length rs) p West)) b (is_any_applied rs || is_outranked rs p) (far_end rs p West)
+    (far_end rs p East))) (sym applied)
+    (by_east (is_applied rs (span_at (length rs) p West)) (is_any_applied rs || is_outranked rs p) (far_end rs p West) (far_end rs p East))
+
+module _ (k : ℕ) (some : 2 ≤ k) where
+  abbrev cut : List Stretch
+  cut = stretch cutting k ∷ []
+
+  abbrev holds : Holding
+  holds = all_holding 3 0 East cutting new_holding
+
+  cut_then : (t : ℕ) → suc t < k → (side_history 3 0 East cut).is_cut (suc t) ≡ true
+  cut_then t low =
+      let within : nat_lt (suc t) k ≡ true = grind (arith, nat_tests) in
+      ap (λ (b : Bool). is_cut (if b then holds else holds).condition) within
+
+  asks_last : 11 ≤ code_number (asked_in 1 5 3 cut (rounds_in cut - 1) 0 East)
+  asks_last =
+      let last : suc (k - 2) ≡ rounds_in cut - 1 = omega (arith, some) in
+      subst (λ t. 11 ≤ code_number (asked_in 1 5 3 cut t 0 East)) last
+      (cut_asks 1 5 (side_history 3 0 East cut) (k - 2) (cut_then (k - 2) (omega (arith, some))))
+
+  switched_then : IsNoPass (settled (last_requests 1 5 3 cut) 0)
+  switched_then =
+      let asked = asked_in 1 5 3 cut (rounds_in cut - 1) in
+      let rs = last_requests 1 5 3 cut in
+      beside_applied rs 0 (subst (λ n. is_applied rs (span_at n 0 East) ≡ true) (sym (length-requests 3 asked))
+      (asked_is_applied 3 asked 0 East (omega arith) asks_last))
+
+-- ---- whose bytes come
+
+module _ (occurs : ARingOccurs) (still : StillRingsAreSettled) (spoils : AHoldSpoilsItsOwnStepAlone) (soon : WindowsComeSoon) (f : Fibres)
+    (honest : IsHonest f) where
+  gets : (earlier : List Stretch) (last : Stretch) → MayHappen (three_over f) (earlier ++ last ∷ [])
+      → EndQuietly (three_over f) (earlier ++ last ∷ []) → HoldNonePassing 1 5 3 earlier last.changes → (t age : ℕ) → t < last.rounds
+      → IsOldest ring_of_three earlier last.changes t age → GetsItsOwn f earlier last t age
+  gets earlier last happens quiet held t age low old =
+      let may = (occurs f honest).may in
+      let form = (occurs f honest).circuits in
+      let now = earlier ++ last ∷ [] in record {
+        happens = happens;
+        quiet = quiet;
+        held = held;
+        oldest = old;
+        none = strangers settings three one_circuit f may form now happens quiet spoils earlier [] last refl held t low;
+        recent = recent settings three one_circuit f may form now happens quiet still spoils earlier [] last refl t age low old;
+      }
+
+  -- the window that ends the cut
+  abbrev begun : World
+  begun = all_changed cutting (three_over f)
+
+  whole_begun : IsWhole begun
+  whole_begun = whole_last settings three one_circuit f [] (stretch cutting 0) (occurs f honest).may ((tt, (tt, tt)), tt)
+
+  form_begun : HasCircuits (layout_of begun)
+  form_begun = subst HasCircuits (sym (layout_all cutting (three_over f))) (occurs f honest).circuits
+
+  ends : ℕ
+  ends = (soon begun whole_begun form_begun).ends
+
+  window : EndsWindow (course begun) ends
+  unfolding ends
+  window = (soon begun whole_begun form_begun).window
+
+  long : 2 ≤ ends
+  long =
+      let many = window.long in
+      let size : length (run ends begun).ring.ids ≡ 3 =
+      ap (λ (l : List ℕ). length l) ((left_run ends begun).ids ∙ (left_all cutting (three_over f)).ids) in
+      omega (arith, many, size)
+
+  cut_held : HoldNonePassing 1 5 3 [] cutting_held
+  cut_held = (tt, (tt, (tt, (inr (inl refl), tt))))
+
+  mended_held : HoldNonePassing 1 5 3 (stretch cutting ends ∷ []) mending_held
+  mended_held = (inr (inr (switched_then ends long)), (tt, (tt, tt)))
+
+  happens_cut : MayHappen (three_over f) (stretch cutting_held 64 ∷ [])
+  happens_cut = (((occurs f honest).happen.0.0, (tt, (tt, (omega arith, tt)))), tt)
+
+  happens_mended : MayHappen (three_over f) (stretch cutting ends ∷ stretch mending_held 64 ∷ [])
+  happens_mended = ((tt, (tt, tt)), ((omega arith, (tt, (tt, tt))), tt))
+
+  pub got : ThreeGetTheirOwn f
+  got = record {
+    cut = λ t low. gets [] (stretch cutting_held 64) happens_cut tt cut_held t 41 low (inr (refl, cut_held));
+    cut_later = λ t late low. gets [] (stretch cutting_held 64) happens_cut tt cut_held t 12 low (inl (refl, late));
+    rounds = ends;
+    mended = λ t low. gets (stretch cutting ends ∷ []) (stretch mending_held 64) happens_mended (window, tt) mended_held t 41 low
+        (inr (refl, mended_held));
+    mended_later = λ t late low. gets (stretch cutting ends ∷ []) (stretch mending_held 64) happens_mended (window, tt) mended_held t 12 low
+        (inl (refl, late));
+  }
+
+pub three_meet_no_strangers : ARingOccurs → StillRingsAreSettled → AHoldSpoilsItsOwnStepAlone → WindowsComeSoon → ThreeMeetNoStrangers
+three_meet_no_strangers occurs still spoils soon f honest = got occurs still spoils soon f honest

@@ -24,32 +24,30 @@ use Rattle.sdh_world.specs.Clocks.{clocks_by}
 use Rattle.sdh_world.specs.Laws.{MayHappen}
 use Rattle.sdh_world.specs.Sides.{world_in}
 use Rattle.sdh_rounds.specs.Rounds as any_round
-use Rattle.sdh_promise.specs.Changes.{Change, Stretch, rounds_in}
-use Rattle.sdh_promise.specs.Changes as change
+use Rattle.sdh_promise.specs.Changes.{Stretch, rounds_in}
 use Rattle.sdh_laws.specs.Hearing.Laws.{IsWhole, MayStart}
 use Rattle.sdh_laws.specs.Carrying.Windows.{layout_in, layout_of, HasCircuits}
-use Rattle.sdh_laws.specs.Restoring.Laws.{NoneHeld}
 use Rattle.sdh_laws.specs.Strangers.Owners.{other_port, put_by, HasBytesOf, Holds, MeetsNoStranger, NoneMeetsAStranger, AreClocksOf}
 use Rattle.sdh_laws.specs.Strangers.Owners as owner
 use Rattle.sdh_laws.specs.Strangers.Vouched.{IsVouched}
-use Rattle.sdh_laws.specs.Strangers.Laws.{HoldsNone, HoldNone, HoldsNonePassing, HoldNonePassing, EndQuietly}
-use Rattle.sdh_laws.specs.Strangers.Laws.{AHoldSpoilsItsOwnStepAlone}
+use Rattle.sdh_laws.specs.Strangers.Laws.{HoldNonePassing, EndQuietly, AHoldSpoilsItsOwnStepAlone}
 use Rattle.sdh_laws.proofs.hearing.Changes.{whole_run}
 use Rattle.sdh_laws.proofs.hearing.Requests.{whole_last, after_last}
 use Rattle.sdh_laws.proofs.hearing.Staying.{left_all, left_run, left_stretches, world_low}
-use Rattle.sdh_laws.proofs.hearing.Steady.{held_none, free_stays}
 use Rattle.sdh_laws.proofs.carrying.Settles.{layout_all, layout_stretches}
 use Rattle.sdh_laws.proofs.carrying.Ways.{layout_run}
 use Rattle.sdh_laws.proofs.converging.Runs.{run_more}
-use Rattle.sdh_laws.proofs.strangers.Keeping.{rounds_together, happens_in_parts, world_behind, aside_each}
+use Rattle.sdh_laws.proofs.strangers.Keeping.{rounds_together, happens_in_parts, world_behind}
 use Rattle.sdh_laws.proofs.strangers.Quiet.{safe_in}
 use Rattle.sdh_laws.proofs.strangers.Runs.{tells, rings_come_to_be_vouched_for}
 use Rattle.sdh_laws.proofs.strangers.Safe.{IsSafe, safe_of, safe_ready}
 use Rattle.sdh_laws.proofs.strangers.Vouched.{ready_aside, none_meets}
-use Rattle.sdh_laws.proofs.strangers.Windows.{window_vouched}
-use Rattle.sdh_owed.specs.Strangers.{HoldsSince, MeetsNoStrangerSince, NoneMeetsAStrangerSince}
+use Rattle.sdh_laws.proofs.strangers.Shields.{AllShielded}
+use Rattle.sdh_laws.proofs.strangers.Windows.{window_vouched, window_shields}
+use Rattle.sdh_owed.specs.Strangers.{HoldsSince, MeetsNoStrangerSince, NoneMeetsAStrangerSince, longest_hold}
 use Rattle.sdh_owed.specs.Strangers as since
-use Rattle.sdh_owed.proofs.Soon.{IsReady, free_all}
+use Rattle.sdh_owed.proofs.Soon.{IsReady}
+use Rattle.sdh_owed.proofs.Holding.{AreHeldFor, held_for_none, held_by_all, held_run, held_beside_passing}
 
 -- ---- clocks of which nothing is known before a round
 
@@ -140,19 +138,6 @@ from_first clocks r none i c get e = meets (port_id i e) (outlet_at r (port_id i
 
 -- ---- stretches
 
--- changes that hold no controller hold none that passes traffic through
-none_passes : (threshold wait n : ℕ) (earlier : List Stretch) (c : Change) → HoldsNone c → HoldsNonePassing threshold wait n earlier c
-none_passes threshold wait n earlier (change.Fibre p d condition) none = tt
-none_passes threshold wait n earlier (change.Order p d command) none = tt
-none_passes threshold wait n earlier (change.Hold p turns) none = inl none
-none_passes threshold wait n earlier (change.Slip port turn count) none = tt
-none_passes threshold wait n earlier (change.Now t) none = tt
-
-none_pass : (threshold wait n : ℕ) (earlier : List Stretch) (cs : List Change) → HoldNone cs → HoldNonePassing threshold wait n earlier cs
-none_pass threshold wait n earlier [] none = tt
-none_pass threshold wait n earlier (c ∷ cs) none =
-    (none_passes threshold wait n earlier c none.0, none_pass threshold wait n earlier cs none.1)
-
 -- the last of some
 snoc : (x : Stretch) (xs : List Stretch) → (before : List Stretch) × (last : Stretch) × (x ∷ xs ≡ before ++ last ∷ [])
 snoc x [] = ([], x, refl)
@@ -223,11 +208,11 @@ module _ (s : Settings) (ids : List ℕ) (circuits : Provisioning) (f : Fibres) 
         (tells s ids circuits f ss may.ids_ok may.honest form (rounds_in earlier + t)
         (omega (arith, ap rounds_in is, rounds_together earlier (last ∷ later), low)))
 
-  -- ---- a stretch that holds no controller
+  -- ---- a stretch once no controller is held any more
 
   module _ (earlier : List Stretch) (last : Stretch) (happens : MayHappen from (earlier ++ last ∷ []))
-      (ready : IsReady (after_stretches earlier from)) (none : HoldNone last.changes) (t : ℕ) (low : t < last.rounds)
-      (long : n * (n + 1) ≤ t) where
+      (ready : IsReady (after_stretches earlier from)) (t : ℕ) (low : t < last.rounds)
+      (long : longest_hold last.changes + n * (n + 1) ≤ t) where
     abbrev many : ℕ
     many = n * (n + 1)
 
@@ -247,11 +232,19 @@ module _ (s : Settings) (ids : List ℕ) (circuits : Provisioning) (f : Fibres) 
     abbrev known_now : PortId → ℕ → Clock
     known_now = clocks_since oldest (clocks_by circuits.circuits all_now)
 
-    free_now : NoneHeld begun_now
-    free_now = free_all last.changes (after_stretches earlier from) none ready.free
+    abbrev longest : ℕ
+    longest = longest_hold last.changes
+
+    held_now : AreHeldFor longest begun_now
+    held_now =
+        held_by_all longest last.changes (after_stretches earlier from) (le_refl longest)
+        (held_for_none longest (after_stretches earlier from) ready.free)
 
     whole_now : IsWhole begun_now
     whole_now = whole_begun earlier last [] all_now refl happens
+
+    free_then : AreHeldFor 0 past
+    free_then p h = (let few = held_run longest begun_now whole_now held_now (t - many) p h in omega (arith, few, long))
 
     run_on : (j : ℕ) → run j past ≡ run (j + (t - many)) begun_now
     run_on j = run_more begun_now (t - many) j
@@ -275,9 +268,7 @@ module _ (s : Settings) (ids : List ℕ) (circuits : Provisioning) (f : Fibres) 
         world_on many (omega arith) ∙ ap (λ i. run i begun_now) (let e : many + (t - many) ≡ t = omega (arith, long) in e) in
         let size : length past.ring.ids ≡ n = size_at earlier last [] all_now refl happens (t - many) in
         subst (IsVouched known_now) there (rings_come_to_be_vouched_for 0 past alone known_now (whole_run begun_now (t - many) whole_now)
-        (form_at earlier last [] all_now refl happens (t - many))
-        (λ p h. (let z = held_none (node_at past.ring.nodes p).held (free_stays begun_now whole_now free_now (t - many) p h) in omega (arith, z)))
-        (tt, tt) (tt, tt) told_now many (subst (λ (m : ℕ). 0 + m * (m + 1) ≤ many) (sym size) (omega arith)) (omega arith))
+        (form_at earlier last [] all_now refl happens (t - many)) free_then (tt, tt) (tt, tt) told_now many (subst (λ (m : ℕ). 0 + m * (m + 1) ≤ many) (sym size) (omega arith)) (omega arith))
 
     pub recent_long : NoneMeetsAStrangerSince oldest (clocks_by circuits.circuits all_now) (round (world_in all_now from (rounds_in earlier + t))).ring
     recent_long =
@@ -295,7 +286,7 @@ module _ (s : Settings) (ids : List ℕ) (circuits : Provisioning) (f : Fibres) 
 
   module _ (law : StillRingsAreSettled) (before : List Stretch) (prev next : Stretch)
       (happens : MayHappen from ((before ++ prev ∷ []) ++ next ∷ [])) (quiet : EndQuietly from ((before ++ prev ∷ []) ++ next ∷ []))
-      (none : HoldNone next.changes) where
+      (none : HoldNonePassing s.threshold s.wait n (before ++ prev ∷ []) next.changes) where
     abbrev all_next : List Stretch
     all_next = (before ++ prev ∷ []) ++ next ∷ []
 
@@ -367,6 +358,10 @@ module _ (s : Settings) (ids : List ℕ) (circuits : Provisioning) (f : Fibres) 
     vouched_next : IsVouched known_next closed
     vouched_next = subst (IsVouched known_next) until_now (window_vouched known_next law opened form_then whole_then (3 * n) window_then told_then)
 
+    shields_next : AllShielded known_next closed
+    shields_next =
+        subst (AllShielded known_next) until_now (window_shields known_next law opened form_then whole_then (3 * n) window_then told_then)
+
     -- the rounds behind it
     abbrev start : World
     start = all_changed next.changes closed
@@ -389,8 +384,10 @@ module _ (s : Settings) (ids : List ℕ) (circuits : Provisioning) (f : Fibres) 
 
     safe_at : (t : ℕ) → t < next.rounds → IsSafe known_next (world_in (next ∷ []) closed t)
     safe_at t low =
-        safe_in known_next law ⊥ (next ∷ []) closed t (form_at before prev (next ∷ []) all_next parted_so happens_prev prev.rounds)
-        (safe_of known_next closed vouched_next) (λ z. absurd z) parts_next.1.1 (inl (aside_each closed next.changes none), tt) told_in (omega (arith, low))
+        safe_in known_next law (Unit {0}) (next ∷ []) closed t (form_at before prev (next ∷ []) all_next parted_so happens_prev prev.rounds)
+        (safe_of known_next closed vouched_next) (λ z. shields_next) parts_next.1.1
+        (inr (tt, held_beside_passing law s ids circuits f may before prev happens_prev window_prev next.changes none), tt) told_in
+        (omega (arith, low))
 
     pub behind_window : (t : ℕ) → t < next.rounds
         → NoneMeetsAStrangerSince (rounds_in (before ++ prev ∷ []) - 3 * n) (clocks_by circuits.circuits all_next)
@@ -421,7 +418,7 @@ module _ (s : Settings) (ids : List ℕ) (circuits : Provisioning) (f : Fibres) 
     abbrev Behind : List Stretch → Stretch → Type 0
     Behind earlier last =
         MayHappen from (earlier ++ last ∷ []) → EndQuietly from (earlier ++ last ∷ [])
-        → HoldNone last.changes → (t : ℕ) → t < last.rounds
+        → HoldNonePassing s.threshold s.wait n earlier last.changes → (t : ℕ) → t < last.rounds
         → NoneMeetsAStrangerSince (rounds_in earlier - 3 * n) (clocks_by circuits.circuits (earlier ++ last ∷ []))
         (round (world_in (earlier ++ last ∷ []) from (rounds_in earlier + t))).ring
 
@@ -430,7 +427,7 @@ module _ (s : Settings) (ids : List ℕ) (circuits : Provisioning) (f : Fibres) 
         subst (λ i. NoneMeetsAStrangerSince i (clocks_by circuits.circuits (last ∷ [])) (round (world_in (last ∷ []) from (0 + t))).ring)
         (let z : 0 ≡ 0 - 3 * n = omega arith in z)
         (from_first (clocks_by circuits.circuits (last ∷ [])) (round (world_in (last ∷ []) from (0 + t))).ring
-        (spoils s ids circuits f [] last may happens quiet (none_pass s.threshold s.wait n [] last.changes none) form t low))
+        (spoils s ids circuits f [] last may happens quiet none form t low))
 
     in_any : (earlier : List Stretch) (last : Stretch) → Behind earlier last
     in_any [] last = in_first last
@@ -439,17 +436,27 @@ module _ (s : Settings) (ids : List ℕ) (circuits : Provisioning) (f : Fibres) 
         subst (λ (ss : List Stretch). Behind ss last) (sym parted.2)
         (λ happens quiet none t low. behind_window law parted.0 parted.1 last happens quiet none t low)
 
-    pub none_old : (earlier : List Stretch) (last : Stretch) → MayHappen from (earlier ++ last ∷ [])
-        → EndQuietly from (earlier ++ last ∷ []) → IsReady (after_stretches earlier from) → HoldNone last.changes → (t : ℕ) → t < last.rounds
-        → NoneMeetsAStrangerSince (rounds_in earlier + t - (n * (n + 1) + 3 * n)) (clocks_by circuits.circuits (earlier ++ last ∷ []))
-        (round (world_in (earlier ++ last ∷ []) from (rounds_in earlier + t))).ring
-    none_old earlier last happens quiet ready none t low =
-        let clocks = clocks_by circuits.circuits (earlier ++ last ∷ []) in
-        let left = (round (world_in (earlier ++ last ∷ []) from (rounds_in earlier + t))).ring in
-        let many = n * (n + 1) in
-        elim (cases_lt t many) [
-          | inl early ↦ none_longer (rounds_in earlier + t - (many + 3 * n)) (rounds_in earlier - 3 * n) clocks left (omega (arith, early))
-              (in_any earlier last happens quiet none t low)
-          | inr late ↦ none_longer (rounds_in earlier + t - (many + 3 * n)) (rounds_in earlier + (t - many)) clocks left
-              (omega (arith, late)) (recent_long earlier last happens ready none t low late)
-        ]
+    module _ (earlier : List Stretch) (last : Stretch) (happens : MayHappen from (earlier ++ last ∷ []))
+        (quiet : EndQuietly from (earlier ++ last ∷ [])) (ready : IsReady (after_stretches earlier from)) (t age : ℕ) (low : t < last.rounds) where
+      abbrev seen : PortId → ℕ → Clock
+      seen = clocks_by circuits.circuits (earlier ++ last ∷ [])
+
+      abbrev left : HeldRing
+      left = (round (world_in (earlier ++ last ∷ []) from (rounds_in earlier + t))).ring
+
+      -- once no controller is held
+      pub none_old_then : age ≡ n * (n + 1) → longest_hold last.changes + n * (n + 1) ≤ t
+          → NoneMeetsAStrangerSince (rounds_in earlier + t - age) seen left
+      none_old_then is long =
+          none_longer (rounds_in earlier + t - age) (rounds_in earlier + (t - n * (n + 1))) seen left (omega (arith, is, long))
+          (recent_long earlier last happens ready t low long)
+
+      -- in every round
+      pub none_old : age ≡ n * (n + 1) + 3 * n + longest_hold last.changes → HoldNonePassing s.threshold s.wait n earlier last.changes
+          → NoneMeetsAStrangerSince (rounds_in earlier + t - age) seen left
+      none_old is none = elim (cases_lt t (longest_hold last.changes + n * (n + 1))) [
+        | inl early ↦ none_longer (rounds_in earlier + t - age) (rounds_in earlier - 3 * n) seen left (omega (arith, is, early))
+            (in_any earlier last happens quiet none t low)
+        | inr late ↦ none_longer (rounds_in earlier + t - age) (rounds_in earlier + (t - n * (n + 1))) seen left (omega (arith, is, late))
+            (recent_long earlier last happens ready t low late)
+      ]

@@ -1,18 +1,23 @@
--- A ring of three of which the promise of every round is worked out: behind slips, a cut span and a held controller.
-use Rattle.std.specs.Prelude.{ℕ, List, [], ◌∷◌, length}
+-- A ring of three of which the promise of every round is worked out: after slips, a cut span and a held controller.
+use Rattle.std.specs.Prelude.{ℕ, ◌+◌, ◌-◌, ◌<◌, ◌≤◌, List, [], ◌∷◌, ◌++◌, length}
 use Rattle.sdh_ringmap.specs.declared.Side.TheVariants.{West, East}
-use Rattle.sdh_terms.specs.declared.Condition.TheVariants.{Cut}
+use Rattle.sdh_terms.specs.declared.Condition.TheVariants.{Clear, Cut}
 use Rattle.sdh_circuits.specs.declared.End.TheVariants.{A}
 use Rattle.sdh_payload.specs.declared.clock.Turn.TheVariants.{Up}
 use Rattle.sdh_plant.specs.Fibres.{Fibres, IsHonest}
-use Rattle.sdh_world.specs.Rounds.{World}
+use Rattle.sdh_world.specs.Rounds.{World, round}
 use Rattle.sdh_world.specs.Changes.{new_world}
+use Rattle.sdh_world.specs.Clocks.{clocks_by}
 use Rattle.sdh_world.specs.Laws.{MayHappen}
+use Rattle.sdh_world.specs.Sides.{world_in}
 use Rattle.sdh_laws.specs.Converging.Rings.{settings, three, one_circuit}
-use Rattle.sdh_promise.specs.Changes.{Change, Fibre, Hold, Slip}
+use Rattle.sdh_laws.specs.Strangers.Owners.{NoneMeetsAStranger}
+use Rattle.sdh_laws.specs.Strangers.Laws.{HoldNonePassing, EndQuietly}
+use Rattle.sdh_promise.specs.Changes.{Change, Fibre, Hold, Slip, Stretch, rounds_in}
 use Rattle.sdh_promise.specs.Owed.{Ring}
 use Rattle.sdh_owed.specs.Laws.{ring_by}
 use Rattle.sdh_owed.specs.Course.{stretch, IsLate, ShowsWhatIsOwed}
+use Rattle.sdh_owed.specs.Strangers.{NoneMeetsAStrangerSince, IsOldest}
 
 -- a customer's clock slips three times; a span is cut both ways; a controller misses seven turns
 abbrev pub slipping : List Change
@@ -44,3 +49,38 @@ pub record ThreeAreOwed (f : Fibres) : Type 0 where
 
 abbrev pub ThreeAreOwedSoon : Type 0
 ThreeAreOwedSoon = (f : Fibres) → IsHonest f → ThreeAreOwed f
+
+-- ---- whose bytes come while a controller is held
+
+-- a customer's clock slips and a span is cut, while the node that is to pass its traffic through misses twenty turns
+abbrev pub cutting_held : List Change
+cutting_held = Slip (record { circuit = 0; end = A }) Up 3 ∷ Fibre 0 East Cut ∷ Fibre 1 West Cut ∷ Hold 2 20 ∷ []
+
+-- the span is mended, while the first node, which is switched away from it, misses twenty turns
+abbrev pub mending_held : List Change
+mending_held = Hold 0 20 ∷ Fibre 0 East Clear ∷ Fibre 1 West Clear ∷ []
+
+-- These stretches may happen to it, each but the last ends with a quiet window, the last one's changes hold no node that passes traffic
+-- through, and by these no bytes of its round t are older than `age`. So in this round no port meets a stranger, nor older bytes.
+pub record GetsItsOwn (f : Fibres) (earlier : List Stretch) (last : Stretch) (t age : ℕ) : Type 0 where
+  pub happens : MayHappen (three_over f) (earlier ++ last ∷ [])
+  pub quiet : EndQuietly (three_over f) (earlier ++ last ∷ [])
+  pub held : HoldNonePassing ring_of_three.threshold ring_of_three.wait ring_of_three.nodes earlier last.changes
+  pub oldest : IsOldest ring_of_three earlier last.changes t age
+  pub none : (let now = earlier ++ last ∷ [] in
+      NoneMeetsAStranger (clocks_by ring_of_three.circuits now) (round (world_in now (three_over f) (rounds_in earlier + t))).ring)
+  pub recent : (let now = earlier ++ last ∷ [] in
+      NoneMeetsAStrangerSince (rounds_in earlier + t - age) (clocks_by ring_of_three.circuits now)
+      (round (world_in now (three_over f) (rounds_in earlier + t))).ring)
+
+-- In 64 rounds after the span is cut in a new ring, and in as many after it is mended behind a quiet window: 41 rounds are n (n + 1), 3n and
+-- the hold, and from round 32 on 12 are enough.
+pub record ThreeGetTheirOwn (f : Fibres) : Type 0 where
+  pub cut : (t : ℕ) → t < 64 → GetsItsOwn f [] (stretch cutting_held 64) t 41
+  pub cut_later : (t : ℕ) → 32 ≤ t → t < 64 → GetsItsOwn f [] (stretch cutting_held 64) t 12
+  pub rounds : ℕ
+  pub mended : (t : ℕ) → t < 64 → GetsItsOwn f (stretch cutting rounds ∷ []) (stretch mending_held 64) t 41
+  pub mended_later : (t : ℕ) → 32 ≤ t → t < 64 → GetsItsOwn f (stretch cutting rounds ∷ []) (stretch mending_held 64) t 12
+
+abbrev pub ThreeMeetNoStrangers : Type 0
+ThreeMeetNoStrangers = (f : Fibres) → IsHonest f → ThreeGetTheirOwn f

@@ -1,5 +1,5 @@
 -- Whose bytes a port delivers, and of which rounds.
-use Rattle.std.specs.Prelude.{ℕ, ◌≡◌, ◌+◌, ◌-◌, ◌*◌, ◌<◌, ◌≤◌, Some, List, [], ◌∷◌, ◌++◌, slice_get}
+use Rattle.std.specs.Prelude.{ℕ, ◌≡◌, ◌⊎◌, ◌+◌, ◌-◌, ◌*◌, ◌<◌, ◌≤◌, max, Some, List, [], ◌∷◌, ◌++◌, slice_get}
 use Rattle.sdh_frame.specs.Aus.{Au, ones}
 use Rattle.sdh_circuits.specs.Provisioned.{Provisioned, customer_at}
 use Rattle.sdh_circuits.specs.declared.End.{End}
@@ -15,8 +15,8 @@ use Rattle.sdh_world.specs.Rounds.{World, round}
 use Rattle.sdh_world.specs.Sides.{world_in}
 use Rattle.sdh_world.specs.Clocks.{clocks_by}
 use Rattle.sdh_laws.specs.Strangers.Owners.{other_port, put_by, HasBytesOf}
-use Rattle.sdh_laws.specs.Strangers.Laws.{HoldNone}
-use Rattle.sdh_promise.specs.Changes.{Stretch, rounds_in}
+use Rattle.sdh_laws.specs.Strangers.Laws.{HoldNonePassing}
+use Rattle.sdh_promise.specs.Changes.{Change, Hold, Stretch, rounds_in}
 use Rattle.sdh_promise.specs.Owed.{Ring}
 
 -- An AU-4 holds nobody's bytes, which are ones, or what this port put into its AU-4 in one of the rounds from `first` on, before round t,
@@ -39,10 +39,27 @@ abbrev pub NoneMeetsAStrangerSince : ℕ → (PortId → ℕ → Clock) → Held
 NoneMeetsAStrangerSince first clocks r = (index : ℕ) (c : Provisioned) → slice_get r.circuits.circuits index ≡ Some c → (e : End)
     → MeetsNoStrangerSince r.circuits.circuits clocks first (r.rounds - 1) (port_id index e) (outlet_at r (port_id index e))
 
--- In each round of a settle step whose changes hold no controller what a port delivers is at most n (n + 1) + 3n rounds old.
+-- ---- how old they are
+
+-- the turns of the longest hold among these changes, 0 where they hold no controller
+abbrev pub longest_hold : List Change → ℕ
+longest_hold [] = 0
+longest_hold (Hold p turns ∷ later) = max turns (longest_hold later)
+longest_hold (c ∷ later) = longest_hold later
+
+-- The age in rounds that bytes have at most in round t of a settle step with these changes, where `earlier` had happened before them. It is
+-- n (n + 1) once the longest hold and n (n + 1) rounds more have run, whatever is held. In every round it is n (n + 1), 3n and the longest hold
+-- together, where the changes hold no controller of a node that passes traffic through.
+abbrev pub IsOldest : Ring → List Stretch → List Change → ℕ → ℕ → Type 0
+IsOldest ring earlier changes t age =
+    ((age ≡ ring.nodes * (ring.nodes + 1)) × (longest_hold changes + ring.nodes * (ring.nodes + 1) ≤ t))
+    ⊎ ((age ≡ ring.nodes * (ring.nodes + 1) + 3 * ring.nodes + longest_hold changes)
+    × HoldNonePassing ring.threshold ring.wait ring.nodes earlier changes)
+
+-- In no round of a settle step a port delivers bytes that are older, nor then another customer's.
 abbrev pub NoneEverMeetsOldBytes : World → Ring → List Stretch → Type 0
 NoneEverMeetsOldBytes w ring ss =
-    (earlier later : List Stretch) (last : Stretch) → ss ≡ earlier ++ last ∷ later → HoldNone last.changes → (t : ℕ) → t < last.rounds
+    (earlier later : List Stretch) (last : Stretch) → ss ≡ earlier ++ last ∷ later → (t age : ℕ) → t < last.rounds
+    → IsOldest ring earlier last.changes t age
     → (let now = earlier ++ last ∷ [] in
-    NoneMeetsAStrangerSince (rounds_in earlier + t - (ring.nodes * (ring.nodes + 1) + 3 * ring.nodes)) (clocks_by ring.circuits now)
-    (round (world_in now w (rounds_in earlier + t))).ring)
+    NoneMeetsAStrangerSince (rounds_in earlier + t - age) (clocks_by ring.circuits now) (round (world_in now w (rounds_in earlier + t))).ring)

@@ -8,7 +8,7 @@
 ghost use Rattle.sdh_owed.specs.Laws.{ReportsAreOwed, ScriptsSettle, HealthyScripts};
 ghost use Rattle.sdh_owed.specs.Course.{CoursesAreTold};
 ghost use Rattle.sdh_owed.specs.Counting.{CoursesCountFrames};
-ghost use Rattle.sdh_owed.specs.Occurring.{ThreeAreOwedSoon};
+ghost use Rattle.sdh_owed.specs.Occurring.{ThreeAreOwedSoon, ThreeMeetNoStrangers};
 
 /// Over honest fibres each report shows for every port what it is owed.
 pub fn reports_are_owed()
@@ -32,9 +32,9 @@ pub fn healthy_scripts()
     sdh_laws::converging::healthy_steps_deliver();
 }
 
-/// Whatever a script comes to from a new ring on, it has a course: no port meets a stranger in a settle step before which
-/// no controller was held of a node that passes traffic through, nor bytes of long ago where none was held; and soon after
-/// the last changes all ports have what they are owed.
+/// Whatever a script comes to from a new ring on, it has a course: no port meets a stranger, nor bytes of long ago, in a
+/// settle step before which no controller was held of a node that passes traffic through, or once none is held any more;
+/// and soon after the last changes all ports have what they are owed.
 pub fn courses_are_told()
     ensures { CoursesAreTold }
 {
@@ -50,7 +50,7 @@ pub fn courses_count_frames()
     ensures { CoursesCountFrames }
 {}
 
-/// In a ring of three each port shows what it is owed behind slips, a cut span and a held controller.
+/// In a ring of three each port shows what it is owed after slips, a cut span and a held controller.
 pub fn three_are_owed_soon()
     ensures { ThreeAreOwedSoon }
 {
@@ -58,4 +58,15 @@ pub fn three_are_owed_soon()
     sdh_laws::restoring::stretches_are_restored_soon();
     sdh_laws::restoring::free_rings_are_restored_soon();
     sdh_laws::restoring::unslipped_rings_are_restored_soon();
+}
+
+/// In a ring of three no port meets a stranger, nor bytes of long ago, while a span is cut or mended and the controller of
+/// a node is held.
+pub fn three_meet_no_strangers()
+    ensures { ThreeMeetNoStrangers }
+{
+    sdh_laws::converging::a_ring_occurs();
+    sdh_settling::still_rings_are_settled();
+    sdh_laws::strangers::a_hold_spoils_its_own_step_alone();
+    sdh_laws::converging::windows_come_soon();
 }

@@ -73,8 +73,8 @@ impl Text {
         self.put(b"\n");
     }
 
-    // The bytes K1 and K2 of a word.
-    fn put_word(&mut self, word: WordBytes)
+    /// The bytes K1 and K2 of a word.
+    pub fn put_word(&mut self, word: WordBytes)
         requires { 5 ≤ self.old.room }
         ensures { self.new ≡ with_part self.old (word_text word) }
     {

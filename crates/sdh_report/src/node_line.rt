@@ -29,8 +29,8 @@ pub struct NodeLine {
 }
 
 impl StateWord {
-    // Returns its letters.
-    pub(crate) fn letters(self) -> &'static [u8]
+    /// Its letters.
+    pub fn letters(self) -> &'static [u8]
         ensures { result.now ≡ state_text self }
     {
         match self {

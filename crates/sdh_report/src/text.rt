@@ -81,6 +81,14 @@ impl Text {
         &self.bytes
     }
 
+    /// Takes all of it away, and has the room again.
+    pub fn clear(&mut self)
+        ensures { self.new ≡ record { bytes = []; room = self.old.room + length self.old.bytes } }
+    {
+        self.room += self.bytes.len();
+        self.bytes.clear();
+    }
+
     /// Appends a part of a line.
     pub fn put(&mut self, part: &[u8])
         requires { length part.now ≤ self.old.room }

@@ -1,5 +1,5 @@
 -- What is kept of the rounds of a settle step by one who looks at a ring of add-drop multiplexers after each of them.
-use Rattle.std.specs.Prelude.{ℕ}
+use Rattle.std.specs.Prelude.{ℕ, Bool}
 use Rattle.sdh_node.specs.Stations.{adm}
 use Rattle.sdh_rounds.specs.Observed as observed
 use Rattle.sdh_world.specs.Held.{HeldRing}
@@ -12,3 +12,11 @@ RanOne = observed.RanOne adm
 -- a settle step that ended, and what is kept of its rounds
 abbrev pub Hears : ((ℕ → World) → ℕ → Type 0) → World → ℕ → World → Type 0
 Hears = observed.Hears adm
+
+-- one that didn't end, and what is kept of its whole rounds
+abbrev pub HearsSome : ((ℕ → World) → ℕ → Type 0) → World → ℕ → World → Type 0
+HearsSome = observed.HearsSome adm
+
+-- one that was stopped after a round, and what is kept of its rounds
+abbrev pub IsStopped : Bool → ((ℕ → World) → ℕ → Type 0) → World → ℕ → World → ℕ → ℕ → Type 0
+IsStopped = observed.IsStopped adm

@@ -25,7 +25,7 @@ ghost use Rattle.sdh_laws.specs.Strangers.Vouched.{IsVouched, IsAside};
 ghost use Rattle.sdh_laws.specs.Strangers.Laws.{KeepsStrangersOut};
 ghost use Rattle.sdh_laws.specs.Resting.Rest.{IsAtRest, StaysAtRest};
 ghost use Rattle.sdh_ring.specs.Faults.{BreaksRound};
-ghost use Rattle.sdh_ring.specs.Observed.{Hears};
+ghost use Rattle.sdh_ring.specs.Observed.{Hears, HearsSome, IsStopped};
 ghost use Rattle.sdh_ring.specs.Promises.{KeepsPromises};
 
 use sdh_circuits::{CircuitMap, PortId};
@@ -33,7 +33,9 @@ use sdh_node::{Adm, Delivered, Settings, Turn};
 use sdh_plant::Plant;
 use sdh_request::{Command, Moment};
 use sdh_ringmap::{Pos, RingMap, Side};
-use sdh_rounds::{Nobody, Observer, PlantFault, RunsRounds, SettleError, StationRing};
+use sdh_rounds::{
+    Nobody, Observer, PlantFault, Recorder, RunsRounds, SettleError, StationRing, Stopped,
+};
 use std::alloc::{AllocError, Global};
 use std::marker::Model;
 
@@ -296,6 +298,45 @@ impl Ring {
         sdh_laws::converging::steps_answer();
         sdh_laws::strangers::steps_keep_strangers_out();
         sdh_rounds::settle(self, plant, limit, observer)
+    }
+
+    /// The same, with one who records each round, and may stop the step after it.
+    pub fn settle_recording<P: Plant, L, O: Recorder<Ring, L>>(
+        &mut self,
+        plant: &mut P,
+        limit: u32,
+        recorder: &mut O,
+        log: &mut L,
+    ) -> Result<Result<(), SettleError>, Stopped>
+        requires prepared { IsPrepared self.old.settings.rate (length self.old.ids) (P.fibres plant.old) }
+        requires whole { self.old.broken ≡ false }
+        requires some { 1 ≤ limit }
+        requires few { limit ≤ 65536 }
+        requires room { self.old.rounds + limit ≤ 2 ^ 32 }
+        requires ready { (at : ℕ → World) → at 0 ≡ world self.old (P.fibres plant.old)
+            → O.Records recorder.old log.old at 0 recorder.old log.old }
+        ensures step { IfOk result (λ ended. IsStep adm P.exact (world self.old (P.fibres plant.old)) limit ended
+            (world self.new (P.fibres plant.new)) (P.faults plant.old) (P.faults plant.new)) }
+        ensures laws { IfOk result (λ ended. KeepsPromises (world self.old (P.fibres plant.old)) limit ended (world self.new (P.fibres plant.new))) }
+
+        // What is recorded of a step is what is to be recorded of its rounds, and of no other: of all of them where it ended, of the whole
+        // ones where it didn't, and of those up to the one after which it was stopped.
+        ensures heard { IfOk result (λ ended. OnOk ended (Hears (λ at k. O.Records recorder.old log.old at k recorder.new log.new)
+            (world self.old (P.fibres plant.old)) limit (world self.new (P.fibres plant.new)))) }
+        ensures begun { IfOk result (λ ended. OnErr ended (HearsSome (λ at k. O.Records recorder.old log.old at k recorder.new log.new)
+            (world self.old (P.fibres plant.old)) limit (world self.new (P.fibres plant.new)))) }
+        ensures stopped { OnErr result (IsStopped P.exact (λ at k. O.Stops recorder.old log.old at k recorder.new log.new)
+            (world self.old (P.fibres plant.old)) limit (world self.new (P.fibres plant.new)) (P.faults plant.old) (P.faults plant.new)) }
+    {
+        self.circuits_fit();
+        self.few_slips_wait();
+        sdh_laws::hearing::steps_stay_whole();
+        sdh_laws::carrying::settled_rings_are_restored();
+        sdh_laws::resting::steps_leave_at_rest();
+        sdh_laws::restoring::unsettled_rings_are_restored();
+        sdh_laws::converging::steps_answer();
+        sdh_laws::strangers::steps_keep_strangers_out();
+        sdh_rounds::settle_recording(self, plant, limit, recorder, log)
     }
 }
 

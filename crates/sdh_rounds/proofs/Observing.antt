@@ -5,7 +5,7 @@ use Rattle.sdh_rounds.specs.Stations.{Station}
 use Rattle.sdh_rounds.specs.Held.{World}
 use Rattle.sdh_rounds.specs.Runs.{IsRound, course_with}
 use Rattle.sdh_rounds.specs.Quiet.{is_calm}
-use Rattle.sdh_rounds.specs.Observed.{RanOne, Hears}
+use Rattle.sdh_rounds.specs.Observed.{RanOne, Hears, RanSome}
 use Rattle.sdh_rounds.proofs.Settling.{Went, GoesOn, goes_none, went_more, along, at_end, settles, goes_on}
 
 module _ {N : Type 0} (st : Station N) where
@@ -97,3 +97,33 @@ module _ {N : Type 0} (st : Station N) where
       → ((3 * length now.ring.ids ≤ calm) × ((now.ring.rounds - 1) % 128 ≡ 0) → ⊥) → Observes heard w now (k + 1) calm
   unfolding goes_on
   observes_on heard w now k calm x fails = record { on = goes_on st w now k calm x.went fails; kept = x.kept }
+
+  -- ---- so far
+
+  -- after rounds of which none ended a window
+  pub ran_some : (heard : (ℕ → World N) → ℕ → Type 0) (w now : World N) (k calm : ℕ) → Observes heard w now k calm → (limit : ℕ) → k ≤ limit
+      → RanSome st heard w limit now
+  ran_some heard w now k calm x limit low =
+      let c = x.on.went.count in
+      record {
+        rounds = x.on.went.rounds;
+        arrive = x.on.went.arrive;
+        few = omega (arith, c, low);
+        never = λ j under e. x.on.never j (omega (arith, c, under)) e;
+        mid_is = x.on.went.now_is;
+        kept = subst (heard (course_with st x.on.went.rounds w)) (sym c) x.kept;
+      }
+
+  -- and one more, which may have ended one
+  pub ran_last : (kept_of : (ℕ → World N) → ℕ → Type 0) (w now : World N) (k calm : ℕ) → HasLooked kept_of w now k calm → (limit : ℕ)
+      → k ≤ limit → RanSome st kept_of w limit now
+  ran_last kept_of w now k calm x limit low =
+      let c = x.went.count in
+      record {
+        rounds = x.went.rounds;
+        arrive = x.went.arrive;
+        few = omega (arith, c, low);
+        never = λ j under e. x.went.before j (omega (arith, c, under)) e;
+        mid_is = x.went.now_is;
+        kept = subst (kept_of (course_with st x.went.rounds w)) (sym c) x.kept;
+      }

@@ -1,6 +1,6 @@
 -- What a settle step answers.
 use Rattle.std.proofs.Common.{◌≡◌, ℕ, ◌-◌, ◌*◌, ◌%◌, ◌<◌, ◌≤◌, Bool, true, length, refl, ap, sym, subst, ◌∙◌, arith}
-use Rattle.std.specs.Prelude.{Result, Ok, Err}
+use Rattle.std.specs.Prelude.{Result, Ok, Err, OnErr}
 use Rattle.std.specs.Result.{IsErrAnd}
 use Rattle.std.proofs.lemmas.Result.{err_from_is_err_and}
 use Rattle.sdh_basics.specs.Causes.{Rose, one_more}
@@ -15,6 +15,11 @@ use Rattle.sdh_rounds.specs.declared.faults.SettleError.{SettleError}
 use Rattle.sdh_rounds.specs.declared.faults.SettleError.TheVariants.{Unsettled, PlantFault}
 use Rattle.sdh_rounds.proofs.Laws.{settled_numbers}
 use Rattle.sdh_rounds.proofs.Settling.{GoesOn, unsettles, held_went}
+
+-- what holds at all holds after an error
+pub err_by : {A E : Type 0} (r : Result A E) (P : Type 0) → P → OnErr r P
+err_by (Ok a) P p = tt
+err_by (Err e) P p = p
 
 -- the test of the code, of the same ring
 pub over_of : {N : Type 0} {r s : HeldRing N} {calm : ℕ} → r ≡ s → (3 * length r.ids ≤ calm) × ((r.rounds - 1) % 128 ≡ 0)

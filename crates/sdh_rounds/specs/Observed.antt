@@ -1,9 +1,10 @@
 -- What is kept of the rounds of a settle step by one who looks at the ring after each of them.
-use Rattle.std.specs.Prelude.{ℕ, suc, ◌≡◌, ◌<◌, length}
+use Rattle.std.specs.Prelude.{ℕ, suc, ◌≡◌, ◌⊎◌, ◌<◌, ◌≤◌, Bool, true, List, length}
+use Rattle.sdh_plant.specs.Fibres.{Arrival, IsPrepared}
 use Rattle.sdh_rounds.specs.Stations.{Station}
 use Rattle.sdh_rounds.specs.Held.{HeldRing, World}
-use Rattle.sdh_rounds.specs.Runs.{IsRound, course_with}
-use Rattle.sdh_rounds.specs.Quiet.{Settles}
+use Rattle.sdh_rounds.specs.Runs.{IsRound, IsBrokenOff, run_with, ArriveIn, course_with}
+use Rattle.sdh_rounds.specs.Quiet.{EndsWindow, Settles}
 
 -- behind k rounds of a course, which gives the world after each number of rounds, one more was run and left this ring
 pub record RanOne {N : Type 0} (s : Station N) (at : ℕ → World N) (k : ℕ) (ring : HeldRing N) : Type 0 where
@@ -16,3 +17,31 @@ pub record RanOne {N : Type 0} (s : Station N) (at : ℕ → World N) (k : ℕ) 
 pub record Hears {N : Type 0} (s : Station N) (heard : (ℕ → World N) → ℕ → Type 0) (w : World N) (limit : ℕ) (left : World N) : Type 0 where
   pub settles : Settles s w limit left
   pub kept : heard (course_with s settles.rounds w) (length settles.rounds)
+
+-- ---- a settle step that didn't end
+
+-- rounds of a settle step ran, and none of them came after a quiet window; what is kept of them is what `kept_of` says
+pub record RanSome {N : Type 0} (s : Station N) (kept_of : (ℕ → World N) → ℕ → Type 0) (w : World N) (limit : ℕ)
+    (mid : World N) : Type 0 where
+  pub rounds : List (List Arrival)
+  pub arrive : ArriveIn s rounds w
+  pub few : length rounds ≤ limit
+  pub never : (j : ℕ) → j < length rounds → EndsWindow s (course_with s rounds w) j → ⊥
+  pub mid_is : mid ≡ run_with s rounds w
+  pub kept : kept_of (course_with s rounds w) (length rounds)
+
+-- what is kept of a settle step that didn't end: after the rounds of which it is kept no more ran, or a fault broke the next one off
+pub record HearsSome {N : Type 0} (s : Station N) (heard : (ℕ → World N) → ℕ → Type 0) (w : World N) (limit : ℕ)
+    (left : World N) : Type 0 where
+  pub mid : World N
+  pub ran : RanSome s heard w limit mid
+  pub next : (left ≡ mid) ⊎ IsBrokenOff s mid left.fibres
+
+-- An observer stopped a settle step after a round, and no more ran. The plant's count of faults was `before` and is `after`: no call of it
+-- failed.
+pub record IsStopped {N : Type 0} (s : Station N) (exact : Bool) (kept_of : (ℕ → World N) → ℕ → Type 0) (w : World N) (limit : ℕ)
+    (left : World N) (before after : ℕ) : Type 0 where
+  pub ran : RanSome s kept_of w limit left
+  pub prepared : IsPrepared w.ring.settings.rate (length w.ring.ids) left.fibres
+  pub later : before ≤ after
+  pub none : exact ≡ true → after ≡ before

@@ -26,6 +26,11 @@ pub enum SettleError {
     PlantFault,
 }
 
+/// What looks at a ring after each round stopped a settle step.
+#[derive(Clone, Copy, Debug, PartialEq, Eq, Error)]
+#[error("the settle step was stopped after a round")]
+pub struct Stopped;
+
 impl From<PlantFault> for SettleError {
     ghost use Rattle.sdh_rounds.specs.declared.faults.SettleError.TheVariants.{PlantFault as Faulted};
 

@@ -12,10 +12,10 @@ mod sending;
 mod station;
 mod steps;
 
-pub use faults::{PlantFault, SettleError};
+pub use faults::{PlantFault, SettleError, Stopped};
 pub use ring::StationRing;
 pub use station::Station;
-pub use steps::{Nobody, Observer, RunsRounds, settle};
+pub use steps::{Nobody, Nowhere, Observer, Recorder, RunsRounds, settle, settle_recording};
 
 /// Where arrivals are known a round is determined.
 pub fn known_rounds_are<S: Station>()

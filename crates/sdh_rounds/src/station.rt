@@ -29,7 +29,7 @@ pub trait Station: Drop {
     /// It may run a round at a moment.
     ghost MayRun: { ℕ → Self → Type 0 };
 
-    /// A new node at a position of a ring with these circuits. All its memory is taken here.
+    /// Returns a new node at a position of a ring with these circuits. All its memory is taken here.
     fn try_new(
         alloc: Global,
         settings: Settings,
@@ -63,7 +63,7 @@ pub trait Station: Drop {
         ensures east { east.new.bytes ≡ kind.sends now.0 East self.old }
         ensures rates { (west.new.rate ≡ west.old.rate) × (east.new.rate ≡ east.old.rate) };
 
-    /// Whether its last round was calm: nothing that is compared changed.
+    /// Returns whether its last round was calm: nothing that is compared changed.
     fn calm(&self) -> bool
         ensures { result ≡ kind.calm self.now };
 
@@ -73,7 +73,7 @@ pub trait Station: Drop {
     ghost told_may: { (now : ℕ) (side : Side) (a : Arrival) (n : Self) → MayRun now n → MayRun now (kind.told side a n) };
 }
 
-/// Whether the last round was calm at each of these nodes.
+/// Returns whether the last round was calm at each of these nodes.
 pub fn all_calm<S: Station>(nodes: &[S]) -> bool
     ensures { result ≡ is_calm S.kind nodes.now }
 {

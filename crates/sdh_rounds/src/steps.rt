@@ -1,11 +1,11 @@
 //! Settle steps of any ring.
-ghost use Rattle.std.specs.Prelude.{◌≡◌, ◌+◌, ◌^◌, ◌<◌, ◌≤◌, ℕ, suc, false, OnOk, length, if◌then◌else◌};
+ghost use Rattle.std.specs.Prelude.{◌≡◌, ◌+◌, ◌^◌, ◌<◌, ◌≤◌, ℕ, suc, false, IfOk, OnOk, OnErr, length, if◌then◌else◌};
 ghost use Rattle.sdh_plant.specs.Fibres.{IsPrepared};
 ghost use Rattle.sdh_rounds.specs.Held.{HeldRing, World, world};
-ghost use Rattle.sdh_rounds.specs.Observed.{RanOne, Hears};
+ghost use Rattle.sdh_rounds.specs.Observed.{RanOne, Hears, HearsSome, IsStopped};
 ghost use Rattle.sdh_rounds.specs.Outcome.{IsOneRound, IsStep};
 
-use crate::faults::{PlantFault, SettleError};
+use crate::faults::{PlantFault, SettleError, Stopped};
 use crate::ring::StationRing;
 use crate::station::Station;
 use sdh_plant::Plant;
@@ -18,7 +18,7 @@ pub trait RunsRounds {
     /// What it holds.
     ghost held: { Self → HeldRing Self.Node };
 
-    /// The nodes, and what a round of them needs.
+    /// Returns the nodes, and what a round of them needs.
     fn stations(&self) -> &StationRing<Self::Node>
         ensures { result.now ≡ held self.now };
 
@@ -58,12 +58,101 @@ impl<R: RunsRounds> Observer<R> for Nobody {
     ghost same = { λ at bt k o same heard. tt };
 }
 
-// The calm rounds that the last round ends, where it was after so many.
+/// What looks at a ring after each round of a settle step, writes what it saw to a log that is passed along, and may stop the step.
+pub trait Recorder<R: RunsRounds, L> {
+    /// What it and the log are after so many rounds of a course, which gives the world after each number of rounds, where they were
+    /// these before the step.
+    ghost Records: { Self → L → (ℕ → World R.Node) → ℕ → Self → L → Type 0 };
+
+    /// What they are where it stopped the step after so many rounds.
+    ghost Stops: { Self → L → (ℕ → World R.Node) → ℕ → Self → L → Type 0 };
+
+    /// Looks at the ring that one round more has left, and writes of it. Whatever course led there, it and the log are then what they
+    /// are to be after that round.
+    fn note(&mut self, ring: &R, log: &mut L) -> Result<(), Stopped>
+        requires { (first : Self) × (begun : L) × (at : ℕ → World R.Node) × (k : ℕ) × RanOne R.Node.kind at k (R.held ring.now)
+            × Records first begun at k self.old log.old }
+        ensures goes { OnOk result ((first : Self) (begun : L) (at : ℕ → World R.Node) (k : ℕ) → RanOne R.Node.kind at k (R.held ring.now)
+            → Records first begun at k self.old log.old → Records first begun at (suc k) self.new log.new) }
+        ensures stops { OnErr result ((first : Self) (begun : L) (at : ℕ → World R.Node) (k : ℕ) → RanOne R.Node.kind at k (R.held ring.now)
+            → Records first begun at k self.old log.old → Stops first begun at (suc k) self.new log.new) };
+
+    /// What it records is told by the rounds that went by alone.
+    ghost same: { (first : Self) (begun : L) (at bt : ℕ → World R.Node) (k : ℕ) (o : Self) (l : L) → ((j : ℕ) → j ≤ k → at j ≡ bt j)
+        → Records first begun at k o l → Records first begun bt k o l };
+}
+
+/// The log of an observer that writes nothing.
+#[derive(Drop)]
+pub struct Nowhere;
+
+// Each observer is a recorder that writes nowhere, and never stops a step.
+impl<R: RunsRounds, O: Observer<R>> Recorder<R, Nowhere> for O {
+    ghost Records = { λ first begun at k o l. O.Heard at k o };
+
+    ghost Stops = { λ first begun at k o l. ⊥ };
+
+    fn note(&mut self, ring: &R, _log: &mut Nowhere) -> Result<(), Stopped> {
+        <O as Observer<R>>::look(self, ring);
+        Ok(())
+    }
+
+    ghost same = { λ first begun at bt k o l same heard. O.same at bt k o same heard };
+}
+
+// Returns the calm rounds that the last round ends, where it was after so many.
 fn calm_rounds(was_calm: bool, calm: u32) -> u32
     requires { calm + 1 < 2 ^ 32 }
     ensures { result ≡ (if was_calm then calm + 1 else 0) }
 {
     if was_calm { calm + 1 } else { 0 }
+}
+
+/// Runs rounds until one ends a quiet window, which is `3 * n` calm rounds of this step whose last number is a multiple
+/// of 128, at most `limit` of them, with one who records each, and may stop the step after it. It takes no memory. An error is
+/// answered only where the recorder stopped the step.
+pub fn settle_recording<R: RunsRounds, P: Plant, L, O: Recorder<R, L>>(
+    ring: &mut R,
+    plant: &mut P,
+    limit: u32,
+    recorder: &mut O,
+    log: &mut L,
+) -> Result<Result<(), SettleError>, Stopped>
+    requires prepared { IsPrepared (R.held ring.old).settings.rate (length (R.held ring.old).ids) (P.fibres plant.old) }
+    requires whole { (R.held ring.old).broken ≡ false }
+    requires some { 1 ≤ limit }
+    requires few { limit ≤ 65536 }
+    requires room { (R.held ring.old).rounds + limit ≤ 2 ^ 32 }
+    requires ready { (at : ℕ → World R.Node) → at 0 ≡ world (R.held ring.old) (P.fibres plant.old)
+        → O.Records recorder.old log.old at 0 recorder.old log.old }
+    ensures step { IfOk result (λ ended. IsStep R.Node.kind P.exact (world (R.held ring.old) (P.fibres plant.old)) limit ended
+        (world (R.held ring.new) (P.fibres plant.new)) (P.faults plant.old) (P.faults plant.new)) }
+
+    // What is recorded of a step that ended is what is to be recorded of all its rounds, and of no other.
+    ensures heard { IfOk result (λ ended. OnOk ended
+        (Hears R.Node.kind (λ at k. O.Records recorder.old log.old at k recorder.new log.new)
+        (world (R.held ring.old) (P.fibres plant.old)) limit (world (R.held ring.new) (P.fibres plant.new)))) }
+
+    // Of one that didn't end it is what is to be recorded of its whole rounds.
+    ensures begun { IfOk result (λ ended. OnErr ended
+        (HearsSome R.Node.kind (λ at k. O.Records recorder.old log.old at k recorder.new log.new)
+        (world (R.held ring.old) (P.fibres plant.old)) limit (world (R.held ring.new) (P.fibres plant.new)))) }
+    ensures stopped { OnErr result (IsStopped R.Node.kind P.exact
+        (λ at k. O.Stops recorder.old log.old at k recorder.new log.new) (world (R.held ring.old) (P.fibres plant.old)) limit
+        (world (R.held ring.new) (P.fibres plant.new)) (P.faults plant.old) (P.faults plant.new)) }
+{
+    let mut calm = 0u32;
+    'rounds: for _turn in 0..limit {
+        let Ok(()) = ring.round(plant) else {
+            return Ok(Err(SettleError::PlantFault));
+        };
+        recorder.note(ring, log)?;
+        calm = calm_rounds(ring.stations().is_calm(), calm);
+        if ring.stations().is_over(calm) {
+            return Ok(Ok(()));
+        }
+    }
+    Ok(Err(SettleError::Unsettled))
 }
 
 /// Runs rounds until one ends a quiet window, which is `3 * n` calm rounds of this step whose last number is a multiple
@@ -87,14 +176,8 @@ pub fn settle<R: RunsRounds, P: Plant, O: Observer<R>>(
     ensures heard { OnOk result (Hears R.Node.kind (λ at k. O.Heard at k observer.new)
         (world (R.held ring.old) (P.fibres plant.old)) limit (world (R.held ring.new) (P.fibres plant.new))) }
 {
-    let mut calm = 0u32;
-    'rounds: for _turn in 0..limit {
-        ring.round(plant)?;
-        observer.look(ring);
-        calm = calm_rounds(ring.stations().is_calm(), calm);
-        if ring.stations().is_over(calm) {
-            return Ok(());
-        }
+    match settle_recording(ring, plant, limit, observer, &mut Nowhere) {
+        Ok(ended) => ended,
+        Err(Stopped) => Err(SettleError::Unsettled),
     }
-    Err(SettleError::Unsettled)
 }

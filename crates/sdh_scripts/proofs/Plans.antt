@@ -101,7 +101,7 @@ module _ {N T R : Type 0} (ring : R → HeldRing N) (t : Account N T) (plan : Pl
 -- ---- all that is told
 
 module _ {N T : Type 0} (t : Account N T) (plan : Planned) (f left : Fibres) (end : Status) where
-  known_then : KeepsRounds t.walk → IsNew t.new_ring → IsPlanned plan → (reports : List T) → Comes t plan f reports end left
+  pub known_then : KeepsRounds t.walk → IsNew t.new_ring → IsPlanned plan → (reports : List T) → Comes t plan f reports end left
       → Knows (world_of t plan f).fibres → ComesKnown t plan f reports end left
   known_then law new fits reports x knows =
       let least = fits.nodes_fit.enough in
@@ -112,7 +112,7 @@ module _ {N T : Type 0} (t : Account N T) (plan : Planned) (f left : Fibres) (en
       (new.nodes plan ∙ sym size) left reports end x knows)
 
   -- whatever came over any plant settles, where what the script gave does
-  settles_then : ((reports : List T) (last : World N) → Runs t.walk plan.limit 0 plan.steps (world_of t plan f) reports end last
+  pub settles_then : ((reports : List T) (last : World N) → Runs t.walk plan.limit 0 plan.steps (world_of t plan f) reports end last
       → IsSettled end) → (reports : List T) → Comes t plan f reports end left → IsSettled end
   settles_then law reports (inl x) = settled_by end status.PlantFault x.0 fault_settles
   settles_then law reports (inr x) = law reports x.0 x.2

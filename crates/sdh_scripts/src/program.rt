@@ -34,16 +34,16 @@ pub trait RunsPlans<'a>: Copy {
     /// What is asked for.
     ghost ask_of: { Self → Ask };
 
-    /// The line that tells how the program is called, of at most 95 bytes, without its newline byte.
+    /// Returns the line that tells how the program is called, of at most 95 bytes, without its newline byte.
     fn usage() -> &'static [u8]
         ensures line { result.now ≡ program.usage }
         ensures short { length result.now ≤ 95 };
 
-    /// What the words ask for, or `None` where they have none of the forms that there are.
+    /// Returns what the words ask for, or `None` where they have none of the forms that there are.
     fn asked(words: &'a [String]) -> Option<Self>
         ensures { option_map ask_of result ≡ program.asked (words_of words.now) };
 
-    /// The plan that what is asked for names, or `None` where the plan is read from a source.
+    /// Returns the plan that what is asked for names, or `None` where the plan is read from a source.
     fn own_plan(self, alloc: Global) -> Result<Option<Plan>, AllocError>
         ensures { IfOk result (λ own. own ≡ program.own_plan (ask_of self)) };
 

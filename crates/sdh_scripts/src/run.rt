@@ -48,7 +48,7 @@ pub fn text_for(alloc: Global, each: usize) -> Result<Text, AllocError>
     Ok(text)
 }
 
-// The script over a ring and its fibres.
+// Returns the script over a ring and its fibres.
 fn run_from<R: Runner + Drop, P: Plant>(new_run: NewRun<R>, plant: &mut P) -> Run
     requires may { R.MayRun 0 new_run.steps.items new_run.runner (P.fibres plant.old) }
     requires room { HasRoom (R.room new_run.runner) 0 new_run.text.room }

@@ -90,5 +90,6 @@ cases_are_shown law plan case fits limit reports owed =
       ports = foretold.shows.shows
           ∙ ap (λ (rs : List ℕ). owed_ports (length plan.nodes) (is_applied rs) (happened ss) foretold.last.round 0 plan.circuits) same
           ∙ ports_are plan case (happened ss) foretold.last.round 0 plan.circuits;
+      requests = foretold.shows.requests ∙ same;
       verdicts = λ c. ap (λ (rs : List ℕ). verdict_under (length plan.nodes) (is_applied rs) c) (sym (foretold.shows.requests ∙ same));
     }

@@ -181,3 +181,14 @@ module _ (n : ℕ) (p : ℕ → Bool) (c : Provisioned) (before : List ℕ)
   lost_is some less =
       sym (verdict_is ∙ ap (λ b. by_tests b (nat_eq (get_or before n 0) inside)) (not_equal inside 0 some)
       ∙ ap (by_tests false) (not_equal (get_or before n 0) inside (λ e. less (sym e))))
+
+  -- the arc has any of them where the two counts differ
+  pub meets_is : not (nat_eq (get_or before (first + spans) 0) (get_or before first 0)) ≡ not (is_clear n p (arc_of n c))
+  meets_is =
+      ap not (sym (clear_is ∙ apart (get_or before (first + spans) 0) (get_or before first 0) never_less))
+    where
+      apart : (a b : ℕ) → b ≤ a → nat_eq (a - b) 0 ≡ nat_eq a b
+      apart a b low = elim (cases_eq a b) [
+        | inl same ↦ (let none : a - b ≡ 0 = omega (arith, same) in eq-eqb (a - b) 0 none ∙ sym (eq-eqb a b same))
+        | inr other ↦ not_equal (a - b) 0 (λ e. omega (arith, other, e, low)) ∙ sym (not_equal a b other)
+      ]

@@ -10,3 +10,5 @@ pub mod Agreeing
 pub mod Longer
 pub mod Same
 pub mod Hops
+pub mod Sets
+pub mod Occurring

@@ -21,7 +21,7 @@ use Rattle.sdh_verdicts.specs.declared.failure.Failure.{Failure}
 use Rattle.sdh_verdicts.specs.declared.judging.Verdict.{Verdict}
 use Rattle.sdh_verdicts.specs.declared.judging.Verdict.TheVariants.{Kept, Over, Lost}
 use Rattle.sdh_verdicts.specs.Failures.{IsFailureIn, case_steps}
-use Rattle.sdh_verdicts.specs.Verdicts.{longer_steps, scenes_with, verdict_under, verdict_of, hops_of}
+use Rattle.sdh_verdicts.specs.Verdicts.{longer_steps, scenes_with, requests_with, verdict_under, verdict_of, hops_of}
 
 -- the plan with a case behind its script, and another limit
 abbrev pub longer_plan : Planned → List Failure → ℕ → Planned
@@ -69,12 +69,13 @@ ports_told plan case before t index (c ∷ cs) =
     port_told plan case before t index c A ∷ port_told plan case before t index c B ∷ ports_told plan case before t (index + 1) cs
 
 -- The last of these reports shows each port with what is told of its circuit in the case, and what is told goes by the
--- spans that are applied in its round. What had happened is the changes of the longer script in the rounds that the
+-- requests of its round, and the spans that they apply. What had happened is the changes of the longer script in the rounds that the
 -- reports tell.
 pub record IsShown (plan : Planned) (case : List Failure) (reports : List PortReport) : Type 0 where
   pub foretold : IsLastForetold (ring_of plan) (scenes_with plan case) reports
   pub ports : foretold.last.ports
       ≡ ports_told plan case (happened (stretches_by [] (scenes_with plan case) reports)) foretold.last.round 0 plan.circuits
+  pub requests : requests_by (ring_of plan) (stretches_by [] (scenes_with plan case) reports) foretold.last.round ≡ requests_with plan case
   pub verdicts : (c : Provisioned) → verdict_of plan case c ≡ verdict_under (length plan.nodes)
       (is_applied (requests_by (ring_of plan) (stretches_by [] (scenes_with plan case) reports) foretold.last.round)) c
 

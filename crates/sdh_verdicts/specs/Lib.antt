@@ -4,3 +4,4 @@ pub mod Failures
 pub mod Sides
 pub mod Verdicts
 pub mod Laws
+pub mod Occurring

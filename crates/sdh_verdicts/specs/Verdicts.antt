@@ -1,12 +1,15 @@
 -- What becomes of each circuit where these fail behind a plan's script.
 use Rattle.std.specs.Prelude.{ℕ, ◌≡◌, ◌+◌, ◌*◌, ◌/◌, ◌%◌, ◌<◌, ◌≤◌, zero, suc, Bool, true, false, if◌then◌else◌, List, [], ◌∷◌, ◌++◌}
-use Rattle.std.specs.Prelude.{length, slice_index, map, take}
+use Rattle.std.specs.Prelude.{not, nat_le, length, slice_index, map, take}
 use Rattle.sdh_basics.specs.Cells.{cells}
 use Rattle.sdh_ringmap.specs.declared.Side.{Side}
 use Rattle.sdh_ringmap.specs.declared.Side.TheVariants.{West, East}
 use Rattle.sdh_ringmap.specs.Places.{neighbour, opposite}
 use Rattle.sdh_ringmap.specs.Arcs.{is_clear, is_joined, is_among}
+use Rattle.sdh_ringmap.specs.declared.Span.{Span as RingSpan}
 use Rattle.sdh_terms.specs.declared.Code.{Code}
+use Rattle.sdh_terms.specs.declared.Code.TheVariants.{Ms}
+use Rattle.sdh_terms.specs.Requests.{code_number}
 use Rattle.sdh_terms.specs.Fibres.{is_cut}
 use Rattle.sdh_request.specs.declared.Command.{Command}
 use Rattle.sdh_request.specs.declared.Command.TheVariants as command
@@ -23,7 +26,7 @@ use Rattle.sdh_verdicts.specs.Resting as rest
 use Rattle.sdh_verdicts.specs.declared.failure.Failure.{Failure}
 use Rattle.sdh_verdicts.specs.declared.failure.Failure.TheVariants.{Degraded, Cut, Span, Node, Manual, Forced}
 use Rattle.sdh_verdicts.specs.declared.judging.Sides.{Sides}
-use Rattle.sdh_verdicts.specs.declared.judging.AppliedSpans.{AppliedSpans}
+use Rattle.sdh_verdicts.specs.declared.judging.SpanSet.{SpanSet}
 use Rattle.sdh_verdicts.specs.declared.judging.Verdict.{Verdict}
 use Rattle.sdh_verdicts.specs.declared.judging.Verdict.TheVariants.{Kept, Over, Lost}
 use Rattle.sdh_verdicts.specs.Failures.{case_steps, side_of}
@@ -49,6 +52,14 @@ verdict_under n applied c = if is_clear n applied (arc_of n c) then Kept else if
 -- what becomes of a circuit of the plan in a case
 abbrev pub verdict_of : Planned → List Failure → Provisioned → Verdict
 verdict_of plan case c = verdict_under (length plan.nodes) (is_applied (requests_with plan case)) c
+
+-- a span is in trouble: it is degraded or asked for by a command, or worse
+abbrev pub is_troubled : List ℕ → ℕ → Bool
+is_troubled requests s = nat_le (code_number Ms) (slice_index requests s)
+
+-- A span of the circuit's own arc is in trouble. Where the circuit is kept it isn't applied: another request is as high or higher.
+abbrev pub is_impaired : Planned → List Failure → Provisioned → Bool
+is_impaired plan case c = not (is_clear (length plan.nodes) (is_troubled (requests_with plan case)) (arc_of (length plan.nodes) c))
 
 -- over how many spans the bytes of a circuit with this verdict go from port to port; 0 where its ends aren't joined
 abbrev pub hops_where : Verdict → ℕ → (ℕ → Bool) → Provisioned → ℕ
@@ -110,11 +121,20 @@ abbrev pub counted : (ℕ → Bool) → ℕ → ℕ
 counted p zero = 0
 counted p (suc k) = counted p k + (if p k then 1 else 0)
 
--- the applied spans are those of a ring of n for which p holds: how many there are before each place, round the ring twice, and which
--- they are
-pub record AreApplied (n : ℕ) (p : ℕ → Bool) (a : AppliedSpans) : Type 0 where
+-- the places below k at which a test holds, in their order
+abbrev pub places_below : (ℕ → Bool) → ℕ → List ℕ
+places_below p zero = []
+places_below p (suc k) = places_below p k ++ (if p k then k ∷ [] else [])
+
+abbrev pub numbers_of : List RingSpan → List ℕ
+numbers_of spans = map (λ s. s.0) spans
+
+-- the spans are those of a ring of n for which p holds: how many there are before each place, round the ring twice, and which
+-- they are, one by one and in their order
+pub record AreSpans (n : ℕ) (p : ℕ → Bool) (a : SpanSet) : Type 0 where
   pub before : (i : ℕ) → i ≤ 2 * n → slice_index a.before i ≡ counted (λ j. p (j % n)) i
   pub among : (s : ℕ) → s < n → is_among (take a.many a.spans) s ≡ p s
+  pub listed : numbers_of (take a.many a.spans) ≡ places_below p n
   pub fit : a.many ≤ 16
   pub some : 1 ≤ n
   pub few : n ≤ 16

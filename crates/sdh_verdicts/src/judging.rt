@@ -1,12 +1,14 @@
 //! What becomes of each circuit in a case.
-ghost use Rattle.std.specs.Prelude.{◌≡◌, ◌*◌, ◌/◌, ℕ, Bool, ◌<◌, ◌≤◌, length, map, take, All, IfOk};
+ghost use Rattle.std.specs.Prelude.{◌≡◌, ◌*◌, ◌/◌, ℕ, Bool, false, not, ◌<◌, ◌≤◌, length, get_or, map, take, All, IfOk};
 ghost use Rattle.sdh_plan.specs.Planned.{Planned};
 ghost use Rattle.sdh_verdicts.specs.Sides.{resting_of, rests};
 ghost use Rattle.sdh_verdicts.specs.Failures.{IsFailureIn, steps_of, case_steps, side_of};
-ghost use Rattle.sdh_ringmap.specs.Arcs.{is_among};
+ghost use Rattle.sdh_ringmap.specs.Arcs.{is_among, is_clear};
+ghost use Rattle.sdh_circuits.specs.Provisioned.{arc_of};
 ghost use Rattle.sdh_terms.specs.Requests.{code_number};
 ghost use Rattle.sdh_restoration.specs.Applied.{is_applied};
-ghost use Rattle.sdh_verdicts.specs.Verdicts.{AreApplied, AreSidesOf, left_by, mends, asks_with, requests_with, verdict_under, hops_under};
+ghost use Rattle.sdh_verdicts.specs.Verdicts.{AreSpans, AreSidesOf, left_by, mends, asks_with, requests_with, is_troubled, verdict_under, hops_under};
+ghost use Rattle.sdh_verdicts.specs.Verdicts.{numbers_of, places_below};
 
 use crate::failure::{Failure, STEPS_MAX, step_of};
 use crate::resting::{
@@ -30,14 +32,21 @@ pub struct Sides<'a> {
     rests: Vec<Resting>,
 }
 
-/// The applied spans of a ring.
+/// Some spans of a ring.
 #[derive(Clone, Copy)]
-pub struct AppliedSpans {
+pub struct SpanSet {
     // how many there are among the first so many, counted from span 0 on and round the ring twice
     before: [u8; 33],
     // each of them, so many
     spans: [Span; 16],
     many: usize,
+}
+
+/// The applied spans of a ring in a case, and those that are in trouble: degraded or asked for by a command, or worse.
+#[derive(Clone, Copy)]
+pub struct CaseSpans {
+    pub applied: SpanSet,
+    pub troubled: SpanSet,
 }
 
 /// What becomes of a circuit.
@@ -51,7 +60,7 @@ pub enum Verdict {
     Lost,
 }
 
-// The side of a number, west before east.
+// Returns the side of a number, west before east.
 fn place_at(number: usize) -> Place
     requires { number < 32 }
     ensures at { result.at.0 ≡ number / 2 }
@@ -67,7 +76,7 @@ fn place_at(number: usize) -> Place
     }
 }
 
-// A side after the steps of a failure.
+// Returns a side after the steps of a failure.
 fn with_failure(
     map: &RingMap,
     threshold: u16,
@@ -89,7 +98,7 @@ fn with_failure(
     rest
 }
 
-// A side after the steps of a case.
+// Returns a side after the steps of a case.
 fn with_case(
     map: &RingMap,
     threshold: u16,
@@ -115,7 +124,7 @@ const NO_REQUESTS: LocalRequests = LocalRequests {
 };
 
 impl<'a> Sides<'a> {
-    /// The sides of a plan's ring.
+    /// Returns the sides of a plan's ring.
     pub fn try_new(alloc: Global, plan: &'a Plan) -> Result<Sides<'a>, AllocError>
         ensures { IfOk result (λ sides. AreSidesOf plan.now sides) }
     {
@@ -134,7 +143,7 @@ impl<'a> Sides<'a> {
         })
     }
 
-    // What a side has come to behind the plan's script.
+    // Returns what a side has come to behind the plan's script.
     fn kept(&self, place: Place) -> Resting
         requires sides { length self.now.rests.items ≡ 2 * length self.now.map.now }
         requires at { place.at.0 < length self.now.map.now }
@@ -143,8 +152,8 @@ impl<'a> Sides<'a> {
         self.rests[usize::from(fibre(place.at, place.side))]
     }
 
-    /// Whether the failure would mend what the plan's script has set: a degradation of a cut fibre, or a manual switch of a side
-    /// with a forced one. Its step takes the place of the script's.
+    /// Returns whether the failure would mend what the plan's script has set: a degradation of a cut fibre, or a manual
+    /// switch of a side with a forced one. Its step takes the place of the script's.
     pub fn mends(&self, failure: Failure) -> bool
         requires sides { length self.now.rests.items ≡ 2 * length self.now.map.now }
         requires failure { IsFailureIn (length self.now.map.now) failure }
@@ -163,7 +172,7 @@ impl<'a> Sides<'a> {
         }
     }
 
-    // What a side asks for where all of these fail, one after the other.
+    // Returns what a side asks for where all of these fail, one after the other.
     fn request(&self, case: &[Failure], at: Pos, side: Side) -> Code
         requires sides { length self.now.rests.items ≡ 2 * length self.now.map.now }
         requires at { at.0 < length self.now.map.now }
@@ -175,12 +184,13 @@ impl<'a> Sides<'a> {
         asks(self.wait, &at_rest(self.threshold, failed))
     }
 
-    /// The applied spans where all of these fail.
-    pub fn applied(&self, case: &[Failure]) -> AppliedSpans
+    // Returns the requests of all spans where all of these fail.
+    fn requests(&self, case: &[Failure]) -> [Code; 16]
         requires sides { length self.now.rests.items ≡ 2 * length self.now.map.now }
         requires case { All (IsFailureIn (length self.now.map.now)) case.now }
-        ensures { (plan : Planned) → AreSidesOf plan self.now
-            → AreApplied (length plan.nodes) (is_applied (requests_with plan case.now)) result }
+        ensures long { length result ≡ 16 }
+        ensures are { (plan : Planned) → AreSidesOf plan self.now
+            → map code_number (take (length plan.nodes) result) ≡ requests_with plan case.now }
     {
         let n = self.map.len();
         let mut local = [NO_REQUESTS; 16];
@@ -195,54 +205,115 @@ impl<'a> Sides<'a> {
         for s in 0..n {
             requests[s] = span_request(&local[..n], Span(s as u8));
         }
-        count(&requests[..n])
+        requests
+    }
+
+    /// Returns the applied spans, and those in trouble, where all of these fail.
+    pub fn spans(&self, case: &[Failure]) -> CaseSpans
+        requires sides { length self.now.rests.items ≡ 2 * length self.now.map.now }
+        requires case { All (IsFailureIn (length self.now.map.now)) case.now }
+        ensures applied { (plan : Planned) → AreSidesOf plan self.now
+            → AreSpans (length plan.nodes) (is_applied (requests_with plan case.now)) result.applied }
+        ensures troubled { (plan : Planned) → AreSidesOf plan self.now
+            → AreSpans (length plan.nodes) (is_troubled (requests_with plan case.now)) result.troubled }
+    {
+        let n = self.map.len();
+        let requests = self.requests(case);
+        CaseSpans {
+            applied: applied_in(&requests[..n]),
+            troubled: troubled_in(&requests[..n]),
+        }
     }
 }
 
-// The applied spans by the requests of all, one by one, and how many they are.
-fn list(requests: &[Code]) -> ([Span; 16], usize)
-    requires few { length requests.now ≤ 16 }
+// Returns whether a span is in trouble, by the requests of all.
+fn is_troubled(requests: &[Code], span: Span) -> bool
+    requires { span.0 < length requests.now }
+    ensures { result ≡ is_troubled (map code_number requests.now) span.0 }
+{
+    requests[span.0 as usize].number() >= Code::Ms.number()
+}
+
+// The marked spans, one by one, and how many they are.
+fn list(marks: &[bool]) -> ([Span; 16], usize)
+    requires few { length marks.now ≤ 16 }
     ensures few { result.1 ≤ 16 }
-    ensures are { (s : ℕ) → s < length requests.now → is_among (take result.1 result.0) s ≡ is_applied (map code_number requests.now) s }
+    ensures are { (s : ℕ) → s < length marks.now → is_among (take result.1 result.0) s ≡ get_or marks.now s false }
+    ensures listed { numbers_of (take result.1 result.0) ≡ places_below (λ s. get_or marks.now s false) (length marks.now) }
 {
     let mut spans = [Span(0); 16];
     let mut many = 0;
-    for i in 0..requests.len() {
-        let span = Span(i as u8);
-        if is_applied(requests, span) {
-            spans[many] = span;
+    for i in 0..marks.len() {
+        if marks[i] {
+            spans[many] = Span(i as u8);
             many += 1;
         }
     }
     (spans, many)
 }
 
-// The applied spans by the requests of all.
-fn count(requests: &[Code]) -> AppliedSpans
-    requires some { 1 ≤ length requests.now }
-    requires few { length requests.now ≤ 16 }
-    ensures { AreApplied (length requests.now) (is_applied (map code_number requests.now)) result }
+// Returns the marked spans.
+fn set_of(marks: &[bool]) -> SpanSet
+    requires some { 1 ≤ length marks.now }
+    requires few { length marks.now ≤ 16 }
+    ensures { AreSpans (length marks.now) (λ s. get_or marks.now s false) result }
 {
-    let n = requests.len();
+    let n = marks.len();
     let mut before = [0; 33];
     for i in 0..2 * n {
-        before[i + 1] = before[i] + u8::from(is_applied(requests, Span((i % n) as u8)));
+        before[i + 1] = before[i] + u8::from(marks[i % n]);
     }
-    let (spans, many) = list(requests);
-    AppliedSpans {
+    let (spans, many) = list(marks);
+    SpanSet {
         before,
         spans,
         many,
     }
 }
 
-/// What becomes of a circuit where these spans are applied.
+// Returns the applied spans, by the requests of all.
+fn applied_in(requests: &[Code]) -> SpanSet
+    requires some { 1 ≤ length requests.now }
+    requires few { length requests.now ≤ 16 }
+    ensures { AreSpans (length requests.now) (is_applied (map code_number requests.now)) result }
+{
+    let mut marks = [false; 16];
+    for i in 0..requests.len() {
+        marks[i] = is_applied(requests, Span(i as u8));
+    }
+    set_of(&marks[..requests.len()])
+}
+
+// Returns the spans in trouble, by the requests of all.
+fn troubled_in(requests: &[Code]) -> SpanSet
+    requires some { 1 ≤ length requests.now }
+    requires few { length requests.now ≤ 16 }
+    ensures { AreSpans (length requests.now) (is_troubled (map code_number requests.now)) result }
+{
+    let mut marks = [false; 16];
+    for i in 0..requests.len() {
+        marks[i] = is_troubled(requests, Span(i as u8));
+    }
+    set_of(&marks[..requests.len()])
+}
+
+impl SpanSet {
+    /// Returns them one by one, in their order.
+    pub fn spans(&self) -> &[Span]
+        requires { self.now.many ≤ 16 }
+        ensures { result.now ≡ take self.now.many self.now.spans }
+    {
+        &self.spans[..self.many]
+    }
+}
+
+/// Returns what becomes of a circuit where these spans are applied.
 #[tactic(auto)]
-pub fn judge(map: &RingMap, applied: &AppliedSpans, circuit: &Circuit) -> Verdict
-    requires of { (p : ℕ → Bool) × AreApplied (length map.now) p applied.now }
+pub fn judge(map: &RingMap, applied: &SpanSet, circuit: &Circuit) -> Verdict
+    requires of { (p : ℕ → Bool) × AreSpans (length map.now) p applied.now }
     requires from { circuit.now.from.0 < length map.now }
     requires to { circuit.now.to.0 < length map.now }
-    ensures { (p : ℕ → Bool) → AreApplied (length map.now) p applied.now → result ≡ verdict_under (length map.now) p circuit.now }
+    ensures { (p : ℕ → Bool) → AreSpans (length map.now) p applied.now → result ≡ verdict_under (length map.now) p circuit.now }
 {
     let first = usize::from(circuit.from().0);
     let spans = usize::from(map.distance(circuit.from(), circuit.to()));
@@ -256,12 +327,25 @@ pub fn judge(map: &RingMap, applied: &AppliedSpans, circuit: &Circuit) -> Verdic
     }
 }
 
-/// Over how many spans the bytes of a circuit go from port to port where these spans are applied; 0 where its ends aren't joined.
-pub fn way(map: &RingMap, applied: &AppliedSpans, circuit: &Circuit) -> u8
-    requires of { (p : ℕ → Bool) × AreApplied (length map.now) p applied.now }
+/// Returns whether a circuit's own arc has any of these spans.
+pub fn meets(map: &RingMap, spans: &SpanSet, circuit: &Circuit) -> bool
+    requires of { (p : ℕ → Bool) × AreSpans (length map.now) p spans.now }
     requires from { circuit.now.from.0 < length map.now }
     requires to { circuit.now.to.0 < length map.now }
-    ensures { (p : ℕ → Bool) → AreApplied (length map.now) p applied.now → result ≡ hops_under (length map.now) p circuit.now }
+    ensures { (p : ℕ → Bool) → AreSpans (length map.now) p spans.now
+        → result ≡ not (is_clear (length map.now) p (arc_of (length map.now) circuit.now)) }
+{
+    let first = usize::from(circuit.from().0);
+    let over = usize::from(map.distance(circuit.from(), circuit.to()));
+    spans.before[first + over] != spans.before[first]
+}
+
+/// Over how many spans the bytes of a circuit go from port to port where these spans are applied; 0 where its ends aren't joined.
+pub fn way(map: &RingMap, applied: &SpanSet, circuit: &Circuit) -> u8
+    requires of { (p : ℕ → Bool) × AreSpans (length map.now) p applied.now }
+    requires from { circuit.now.from.0 < length map.now }
+    requires to { circuit.now.to.0 < length map.now }
+    ensures { (p : ℕ → Bool) → AreSpans (length map.now) p applied.now → result ≡ hops_under (length map.now) p circuit.now }
 {
     let ends = Ends {
         from: circuit.from(),

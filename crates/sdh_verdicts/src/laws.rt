@@ -1,5 +1,6 @@
 //! Laws of tables. Each function here has a law as its contract and no work to do.
 ghost use Rattle.sdh_verdicts.specs.Laws.{LongerPlansArePlans, CasesAreShown};
+ghost use Rattle.sdh_verdicts.specs.Occurring.{CaseOccurs};
 
 /// A plan with a case behind its script is a plan exactly where there is room for it.
 pub fn longer_plans_are_plans()
@@ -12,4 +13,12 @@ pub fn cases_are_shown()
     ensures { CasesAreShown }
 {
     crate::foretold::last_reports_are_foretold();
+}
+
+/// A plan of three nodes and a case of which both laws hold: a circuit goes round where a span is cut.
+pub fn a_case_occurs()
+    ensures { CaseOccurs }
+{
+    longer_plans_are_plans();
+    cases_are_shown();
 }

@@ -12,5 +12,5 @@ mod plans;
 mod resting;
 
 pub use failure::{Failure, STEPS_MAX, count_of, failure_at, step_of};
-pub use judging::{AppliedSpans, Sides, Verdict};
-pub use plans::{told, told_hops};
+pub use judging::{CaseSpans, Sides, SpanSet, Verdict};
+pub use plans::{told, told_hops, told_impaired};

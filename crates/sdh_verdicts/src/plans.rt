@@ -3,17 +3,17 @@ ghost use Rattle.std.specs.Prelude.{◌≡◌, ◌<◌, List, length, slice_get,
 ghost use Rattle.sdh_restoration.specs.Applied.{is_applied};
 ghost use Rattle.sdh_circuits.specs.Provisioned.{Provisioned};
 ghost use Rattle.sdh_verdicts.specs.declared.failure.Failure.{Failure};
-ghost use Rattle.sdh_verdicts.specs.Verdicts.{AreApplied, requests_with, verdict_of, hops_of};
+ghost use Rattle.sdh_verdicts.specs.Verdicts.{AreSpans, requests_with, is_troubled, is_impaired, verdict_of, hops_of};
 
-use crate::judging::{AppliedSpans, Verdict, judge, way};
+use crate::judging::{SpanSet, Verdict, judge, meets, way};
 use sdh_plan::Plan;
 
-/// What becomes of a circuit, by its number, in the case of which these are the applied spans.
-pub fn told(plan: &Plan, applied: &AppliedSpans, number: u8) -> Verdict
+/// Returns what becomes of a circuit, by its number, in the case of which these are the applied spans.
+pub fn told(plan: &Plan, applied: &SpanSet, number: u8) -> Verdict
     requires number { number < length plan.now.circuits }
-    requires case { (case : List Failure) × AreApplied (length plan.now.nodes) (is_applied (requests_with plan.now case)) applied.now }
+    requires case { (case : List Failure) × AreSpans (length plan.now.nodes) (is_applied (requests_with plan.now case)) applied.now }
     ensures { (case : List Failure) (c : Provisioned)
-        → AreApplied (length plan.now.nodes) (is_applied (requests_with plan.now case)) applied.now
+        → AreSpans (length plan.now.nodes) (is_applied (requests_with plan.now case)) applied.now
         → slice_get plan.now.circuits number ≡ Some c → result ≡ verdict_of plan.now case c }
 {
     let circuits = plan.circuits();
@@ -22,14 +22,27 @@ pub fn told(plan: &Plan, applied: &AppliedSpans, number: u8) -> Verdict
 }
 
 /// Over how many spans the bytes of a circuit go, by its number, in the case of which these are the applied spans.
-pub fn told_hops(plan: &Plan, applied: &AppliedSpans, number: u8) -> u8
+pub fn told_hops(plan: &Plan, applied: &SpanSet, number: u8) -> u8
     requires number { number < length plan.now.circuits }
-    requires case { (case : List Failure) × AreApplied (length plan.now.nodes) (is_applied (requests_with plan.now case)) applied.now }
+    requires case { (case : List Failure) × AreSpans (length plan.now.nodes) (is_applied (requests_with plan.now case)) applied.now }
     ensures { (case : List Failure) (c : Provisioned)
-        → AreApplied (length plan.now.nodes) (is_applied (requests_with plan.now case)) applied.now
+        → AreSpans (length plan.now.nodes) (is_applied (requests_with plan.now case)) applied.now
         → slice_get plan.now.circuits number ≡ Some c → result ≡ hops_of plan.now case c }
 {
     let circuits = plan.circuits();
     prove!(circuits.len() <= 128);
     way(plan.map(), applied, circuits.get(number))
+}
+
+/// Returns whether a circuit's own arc has a span in trouble, by its number, in the case of which these are those spans.
+pub fn told_impaired(plan: &Plan, troubled: &SpanSet, number: u8) -> bool
+    requires number { number < length plan.now.circuits }
+    requires case { (case : List Failure) × AreSpans (length plan.now.nodes) (is_troubled (requests_with plan.now case)) troubled.now }
+    ensures { (case : List Failure) (c : Provisioned)
+        → AreSpans (length plan.now.nodes) (is_troubled (requests_with plan.now case)) troubled.now
+        → slice_get plan.now.circuits number ≡ Some c → result ≡ is_impaired plan.now case c }
+{
+    let circuits = plan.circuits();
+    prove!(circuits.len() <= 128);
+    meets(plan.map(), troubled, circuits.get(number))
 }

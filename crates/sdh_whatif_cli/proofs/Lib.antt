@@ -4,5 +4,6 @@ pub mod Digits
 pub mod Below
 pub mod Told
 pub mod Splitting
+pub mod Quoting
 pub mod Reading
 pub mod Truth

@@ -1,10 +1,11 @@
 -- Parts of a line that are put one behind the other.
-use Rattle.std.proofs.Common.{◌≡◌, ℕ, ◌+◌, ◌*◌, ◌<◌, Bool, true, false, Some, List, [], ◌∷◌, ◌++◌, length, take, get_or, inl, inr, sym, ap}
-use Rattle.std.proofs.Common.{◌∙◌, arith, append_assoc}
+use Rattle.std.proofs.Common.{◌≡◌, ℕ, ◌+◌, ◌*◌, ◌<◌, Bool, true, false, Some, List, [], ◌∷◌, ◌++◌, length, map, take, get_or, inl, inr, sym, ap}
+use Rattle.std.proofs.Common.{◌∙◌, ◌==◌, arith, append_assoc}
 use Rattle.std.specs.Prelude.{count_by, slice_get, if◌then◌else◌}
 use Rattle.std.specs.List.{flat_map}
 use Rattle.std.proofs.lemmas.Grind.{flat_map-append}
-use Rattle.std.proofs.lemmas.List.{take_more, append-nil, length-map}
+use Rattle.std.proofs.lemmas.Bool.{eqb-true}
+use Rattle.std.proofs.lemmas.List.{take_more, append-nil, length-map, length-take-le, map-append}
 use Rattle.std.proofs.lemmas.List.Sums.{count_by_more_yes, count_by_more_no}
 use Rattle.std.proofs.lemmas.Option.{slice_get_cases, get_or_from_slice_get}
 use Rattle.sdh_ringmap.specs.declared.Side.TheVariants.{West}
@@ -17,7 +18,8 @@ use Rattle.sdh_verdicts.proofs.Rests.{case_more}
 use Rattle.sdh_plan.specs.Planned.{Planned}
 use Rattle.sdh_verdicts.specs.Resting as model
 use Rattle.sdh_basics.proofs.CellsLaws.{length-cells}
-use Rattle.sdh_whatif_cli.specs.Lines.{step_text, steps_text}
+use Rattle.sdh_plan.specs.declared.step.Step.{Step}
+use Rattle.sdh_whatif_cli.specs.Lines.{joined}
 
 -- ---- one more of a list
 
@@ -53,17 +55,50 @@ count_next p xs i x false count next low is holds before more =
     let same : next ≡ count = omega (arith, more) in
     same ∙ before ∙ sym (count_by_more_no p xs i x low here)
 
+-- ---- texts with something between them
+
+snoc : (b u t : List ℕ) (us : List (List ℕ)) → joined b ((u ∷ us) ++ t ∷ []) ≡ joined b (u ∷ us) ++ (b ++ t)
+snoc b u t us =
+    let g : List ℕ → List ℕ = λ x. b ++ x in
+    ap (λ l. u ++ l) (flat_map-append g us (t ∷ []) ∙ ap (λ l. flat_map g us ++ l) (append-nil (b ++ t)))
+    ∙ sym (append_assoc u (flat_map g us) (b ++ t))
+
+abbrev gap : Bool → List ℕ → List ℕ
+gap first b = if first then [] else b
+
+join_by : (b : List ℕ) (ts : List (List ℕ)) (t start line mid next : List ℕ) (first : Bool) → (length ts == 0) ≡ first
+    → line ≡ start ++ joined b ts → mid ≡ line ++ gap first b → next ≡ mid ++ t → next ≡ start ++ joined b (ts ++ t ∷ [])
+join_by b [] t start line mid next true is before between more =
+    more ∙ ap (λ l. l ++ t) (between ∙ append-nil line ∙ before ∙ append-nil start) ∙ ap (λ l. start ++ l) (sym (append-nil t))
+join_by b [] t start line mid next false is before between more = let odd : true ≡ false = is in cc
+join_by b (u ∷ us) t start line mid next true is before between more =
+    absurd (let none : length (u ∷ us) ≡ 0 = eqb-true (length (u ∷ us)) 0 is in omega (arith, none))
+join_by b (u ∷ us) t start line mid next false is before between more =
+    more ∙ ap (λ l. l ++ t) (between ∙ ap (λ l. l ++ b) before) ∙ append_assoc (start ++ joined b (u ∷ us)) b t
+    ∙ append_assoc start (joined b (u ∷ us)) (b ++ t) ∙ ap (λ l. start ++ l) (sym (snoc b u t us))
+
+-- one text more of a list
+pub join_next : {X : Type 0} (b : List ℕ) (f : X → List ℕ) (xs : List X) (i : ℕ) (d : X) (start line mid next : List ℕ) → i < length xs
+    → line ≡ start ++ joined b (map f (take i xs)) → mid ≡ line ++ gap (i == 0) b → next ≡ mid ++ f (get_or xs i d)
+    → next ≡ start ++ joined b (map f (take (i + 1) xs))
+join_next b f xs i d start line mid next low before between more =
+    let size : length (map f (take i xs)) ≡ i = length-map (take i xs) f ∙ length-take-le i xs (omega (arith, low)) in
+    let grown : map f (take i xs) ++ f (get_or xs i d) ∷ [] ≡ map f (take (i + 1) xs) =
+    sym (ap (map f) (take_more xs i d low) ∙ map-append f (take i xs) (get_or xs i d ∷ [])) in
+    join_by b (map f (take i xs)) (f (get_or xs i d)) start line mid next (i == 0) (ap (λ n. n == 0) size) before between more
+    ∙ ap (λ ts. start ++ joined b ts) grown
+
 -- ---- the steps of a case
 
-pub case_next : (nodes : List ℕ) (n threshold : ℕ) (case : List Failure) (i : ℕ) (f : Failure) → i < length case
-    → steps_text nodes (case_steps n threshold (take (i + 1) case))
-    ≡ steps_text nodes (case_steps n threshold (take i case)) ++ steps_text nodes (steps_of n threshold (get_or case i f))
-case_next nodes n threshold case i f low =
+pub case_next : (g : Step → List ℕ) (n threshold : ℕ) (case : List Failure) (i : ℕ) (f : Failure) → i < length case
+    → flat_map g (case_steps n threshold (take (i + 1) case))
+    ≡ flat_map g (case_steps n threshold (take i case)) ++ flat_map g (steps_of n threshold (get_or case i f))
+case_next g n threshold case i f low =
     let one = get_or case i f in
-    ap (λ l. steps_text nodes (case_steps n threshold l)) (take_more case i f low)
-    ∙ ap (steps_text nodes) (case_more threshold n 0 West (take i case) (one ∷ []))
-    ∙ flat_map-append (step_text nodes) (case_steps n threshold (take i case)) (case_steps n threshold (one ∷ []))
-    ∙ ap (λ l. steps_text nodes (case_steps n threshold (take i case)) ++ steps_text nodes l) (append-nil (steps_of n threshold one))
+    ap (λ l. flat_map g (case_steps n threshold l)) (take_more case i f low)
+    ∙ ap (flat_map g) (case_more threshold n 0 West (take i case) (one ∷ []))
+    ∙ flat_map-append g (case_steps n threshold (take i case)) (case_steps n threshold (one ∷ []))
+    ∙ ap (λ l. flat_map g (case_steps n threshold (take i case)) ++ flat_map g l) (append-nil (steps_of n threshold one))
 
 -- ---- sides
 
@@ -79,10 +114,3 @@ sides_long plan s are =
 -- a part behind others
 pub onto : (start before part line new : List ℕ) → line ≡ start ++ before → new ≡ line ++ part → new ≡ start ++ (before ++ part)
 onto start before part line new is more = more ∙ ap (λ l. l ++ part) is ∙ append_assoc start before part
-
-pub all_joined : (a b k o l h n e : List ℕ) {a1 b1 k1 o1 l1 h1 n1 e1 : List ℕ} → a1 ≡ a → b1 ≡ a1 ++ b → k1 ≡ b1 ++ k → o1 ≡ k1 ++ o
-    → l1 ≡ o1 ++ l → h1 ≡ l1 ++ h → n1 ≡ h1 ++ n → e1 ≡ n1 ++ e
-    → e1 ≡ a ++ b ++ k ++ o ++ l ++ h ++ n ++ e
-all_joined a b k o l h n e is_a is_b is_k is_o is_l is_h is_n is_e =
-    is_e ∙ ap (λ x. x ++ e) (is_n ∙ ap (λ x. x ++ n) (is_h ∙ ap (λ x. x ++ h)
-    (is_l ∙ ap (λ x. x ++ l) (is_o ∙ ap (λ x. x ++ o) (is_k ∙ ap (λ x. x ++ k) (is_b ∙ ap (λ x. x ++ b) is_a))))))

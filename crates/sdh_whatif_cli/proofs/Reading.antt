@@ -1,10 +1,10 @@
 -- The steps of a case are read back.
-use Rattle.std.proofs.Common.{◌≡◌, ℕ, ◌*◌, ◌<◌, ◌≤◌, Bool, true, false, ◌||◌, cond, ◌==◌, nat_lt, List, [], ◌∷◌, ◌++◌, map, drop, length, All}
+use Rattle.std.proofs.Common.{◌≡◌, ℕ, ◌*◌, ◌<◌, ◌≤◌, Bool, true, false, ◌||◌, cond, ◌==◌, nat_lt, List, [], ◌∷◌, ◌++◌, length, All}
 use Rattle.std.proofs.Common.{codes, decimal, Option, Some, None, is_none, unwrap_or, option_map, option_and_then, slice_index, refl, ap, ◌∙◌}
 use Rattle.std.proofs.Common.{arith, eq-eqb, ne_eqb, lt-ltb, append_assoc}
 use Rattle.std.proofs.lemmas.List.Elements.{All-nil, All-cons, All-head, All-tail, All-same}
 use Rattle.std.proofs.lemmas.List.Sums.{position_or_len_is}
-use Rattle.std.specs.List.{position_or_len}
+use Rattle.std.specs.List.{flat_map, position_or_len}
 use Rattle.sdh_ringmap.specs.declared.Pos.{Pos}
 use Rattle.sdh_ringmap.specs.declared.Side.{Side}
 use Rattle.sdh_ringmap.specs.declared.Side.TheVariants.{West, East}
@@ -29,8 +29,10 @@ use Rattle.sdh_plan.specs.Planned.{Planned, IsPlanned}
 use Rattle.sdh_verdicts.specs.declared.failure.Failure.{Failure}
 use Rattle.sdh_verdicts.specs.declared.failure.Failure.TheVariants.{Degraded, Cut, Span, Node, Manual, Forced}
 use Rattle.sdh_verdicts.specs.Failures.{IsFailureIn, condition_step, neighbour_position, steps_of, case_steps}
-use Rattle.sdh_whatif_cli.specs.Lines.{place_text, step_text, steps_text, case_text}
-use Rattle.sdh_whatif_cli.specs.Reading.{texts_in, steps_read, PassChecks}
+use Rattle.sdh_whatif_cli.specs.declared.ask.Form.{Form}
+use Rattle.sdh_whatif_cli.specs.Lines.{step_quote, place_text, step_text, step_part, script_text}
+use Rattle.sdh_whatif_cli.specs.Reading.{field_read, texts_in, steps_read, PassChecks}
+use Rattle.sdh_whatif_cli.proofs.Quoting.{settle, written, AllLack, between_steps, read_back, part_first, front_first}
 use Rattle.sdh_whatif_cli.proofs.Splitting.{lacks, lacks_both, split_at, split_none, IsRead, read, numeral_is}
 
 -- ---- words
@@ -50,9 +52,9 @@ side_spaces : (side : Side) → lacks 32 (side_text side) ≡ true
 side_spaces West = refl
 side_spaces East = refl
 
-side_semicolons : (side : Side) → lacks 59 (side_text side) ≡ true
-side_semicolons West = refl
-side_semicolons East = refl
+side_quotes : (side : Side) → lacks 34 (side_text side) ≡ true
+side_quotes West = refl
+side_quotes East = refl
 
 side_named : (side : Side) → side_at (side_text side) ≡ Some side
 side_named West = refl
@@ -120,10 +122,10 @@ module _ (plan : Planned) (fits : IsPlanned plan) where
       ∙ ap (λ ws. verb ∷ ws) (split_at 32 (word at) (side_text side) (id_read at low).spaces)
       ∙ ap (λ ws. verb ∷ (word at ∷ ws)) (split_none 32 (side_text side) (side_spaces side))
 
-  no_semicolon : (verb : List ℕ) (at : Pos) (side : Side) → IsIn at → lacks 59 verb ≡ true → lacks 59 (spaced verb at side) ≡ true
-  no_semicolon verb at side low free =
-      lacks_both 59 verb (word at ++ (codes " " ++ side_text side)) free
-      (lacks_both 59 (word at) (codes " " ++ side_text side) (id_read at low).semicolons (side_semicolons side))
+  no_quote : (verb : List ℕ) (at : Pos) (side : Side) → IsIn at → lacks 34 verb ≡ true → lacks 34 (spaced verb at side) ≡ true
+  no_quote verb at side low free =
+      lacks_both 34 verb (word at ++ (codes " " ++ side_text side)) free
+      (lacks_both 34 (word at) (codes " " ++ side_text side) (id_read at low).quotes (side_quotes side))
 
   fibre_is : (at : Pos) (side : Side) (c : Condition) (rest : List (List ℕ)) → IsIn at
       → fibre_step plan.nodes (word at ∷ (side_text side ∷ rest)) c ≡ condition_step c at side
@@ -149,13 +151,13 @@ module _ (plan : Planned) (fits : IsPlanned plan) where
   abbrev Passes : List (List ℕ) → Type 0
   Passes ws = first_fault (form_faults rate_n plan.nodes plan.circuits ws) ≡ None
 
-  -- the step has a text that is read back, of which no check fails, and in which there is no semicolon
+  -- the step has a text that is read back, of which no check fails, and in which there is no quote
   record Reads (s : Step) : Type 0 where
     pub text : List ℕ
-    pub part : step_text plan.nodes s ≡ text ++ codes "; "
+    pub part : step_text plan.nodes s ≡ text
     pub reads : step_read text ≡ s
     pub passes : Passes (words text)
-    pub whole : lacks 59 text ≡ true
+    pub whole : lacks 34 text ≡ true
 
   cut_passes : (at : Pos) (side : Side) → IsIn at → Passes (codes "cut" ∷ (word at ∷ (side_text side ∷ [])))
   unfolding form_faults part_faults
@@ -174,10 +176,10 @@ module _ (plan : Planned) (fits : IsPlanned plan) where
       let ws = words_are (codes "cut") at side low refl in
       record {
         text = spaced (codes "cut ") at side;
-        part = ap (λ l. l ++ codes "; ") (spaced_is (codes "cut ") at side);
+        part = spaced_is (codes "cut ") at side;
         reads = ap (form_step rate_n plan.nodes plan.circuits) ws ∙ cut_step at side low;
         passes = ap (λ l. first_fault (form_faults rate_n plan.nodes plan.circuits l)) ws ∙ cut_passes at side low;
-        whole = no_semicolon (codes "cut ") at side low refl;
+        whole = no_quote (codes "cut ") at side low refl;
       }
 
   manual_passes : (at : Pos) (side : Side) → IsIn at → Passes (codes "manual" ∷ (word at ∷ (side_text side ∷ [])))
@@ -197,10 +199,10 @@ module _ (plan : Planned) (fits : IsPlanned plan) where
       let ws = words_are (codes "manual") at side low refl in
       record {
         text = spaced (codes "manual ") at side;
-        part = ap (λ l. l ++ codes "; ") (spaced_is (codes "manual ") at side);
+        part = spaced_is (codes "manual ") at side;
         reads = ap (form_step rate_n plan.nodes plan.circuits) ws ∙ manual_step at side low;
         passes = ap (λ l. first_fault (form_faults rate_n plan.nodes plan.circuits l)) ws ∙ manual_passes at side low;
-        whole = no_semicolon (codes "manual ") at side low refl;
+        whole = no_quote (codes "manual ") at side low refl;
       }
 
   forced_passes : (at : Pos) (side : Side) → IsIn at → Passes (codes "forced" ∷ (word at ∷ (side_text side ∷ [])))
@@ -220,10 +222,10 @@ module _ (plan : Planned) (fits : IsPlanned plan) where
       let ws = words_are (codes "forced") at side low refl in
       record {
         text = spaced (codes "forced ") at side;
-        part = ap (λ l. l ++ codes "; ") (spaced_is (codes "forced ") at side);
+        part = spaced_is (codes "forced ") at side;
         reads = ap (form_step rate_n plan.nodes plan.circuits) ws ∙ forced_step at side low;
         passes = ap (λ l. first_fault (form_faults rate_n plan.nodes plan.circuits l)) ws ∙ forced_passes at side low;
-        whole = no_semicolon (codes "forced ") at side low refl;
+        whole = no_quote (codes "forced ") at side low refl;
       }
 
   -- ---- a degradation at the threshold
@@ -280,13 +282,13 @@ module _ (plan : Planned) (fits : IsPlanned plan) where
       let ws = degraded_words at side low in
       record {
         text = degraded at side;
-        part = ap (λ l. l ++ codes "; ") (degraded_is at side);
+        part = degraded_is at side;
         reads = ap (form_step rate_n plan.nodes plan.circuits) ws ∙ degraded_step at side low;
         passes = ap (λ l. first_fault (form_faults rate_n plan.nodes plan.circuits l)) ws ∙ degraded_passes at side low;
         whole =
-            lacks_both 59 (codes "degrade ") (word at ++ (codes " " ++ (side_text side ++ (codes " " ++ decimal threshold)))) refl
-            (lacks_both 59 (word at) (codes " " ++ (side_text side ++ (codes " " ++ decimal threshold))) (id_read at low).semicolons
-            (lacks_both 59 (side_text side) (codes " " ++ decimal threshold) (side_semicolons side) threshold_read.semicolons));
+            lacks_both 34 (codes "degrade ") (word at ++ (codes " " ++ (side_text side ++ (codes " " ++ decimal threshold)))) refl
+            (lacks_both 34 (word at) (codes " " ++ (side_text side ++ (codes " " ++ decimal threshold))) (id_read at low).quotes
+            (lacks_both 34 (side_text side) (codes " " ++ decimal threshold) (side_quotes side) threshold_read.quotes));
       }
 
   -- ---- the steps of a case
@@ -331,16 +333,22 @@ module _ (plan : Planned) (fits : IsPlanned plan) where
   texts_of [] r = []
   texts_of (s ∷ ss) r = r.0.text ∷ texts_of ss r.1
 
-  parts_are : (steps : List Step) (r : AllRead steps)
-      → texts_in (steps_text plan.nodes steps ++ codes "settle") ≡ texts_of steps r ++ codes "settle" ∷ []
-  parts_are [] r = refl
-  parts_are (s ∷ ss) r =
-      let rest = steps_text plan.nodes ss ++ codes "settle" in
-      let text = r.0.text in
-      ap texts_in (append_assoc (step_text plan.nodes s) (steps_text plan.nodes ss) (codes "settle") ∙ ap (λ l. l ++ rest) r.0.part
-      ∙ append_assoc text (codes "; ") rest)
-      ∙ ap (map (drop 1)) (split_at 59 (32 ∷ text) (32 ∷ rest) r.0.whole)
-      ∙ ap (λ l. text ∷ l) (parts_are ss r.1)
+  free_of : (steps : List Step) (r : AllRead steps) → AllLack (texts_of steps r)
+  free_of [] r = tt
+  free_of (s ∷ ss) r = (r.0.whole, free_of ss r.1)
+
+  script_is : (f : Form) (steps : List Step) (r : AllRead steps)
+      → flat_map (step_part f plan.nodes) steps ++ step_quote f ++ settle ++ step_quote f
+      ≡ written (step_quote f) (between_steps f) (texts_of steps r)
+  script_is f [] r = append_assoc (step_quote f) settle (step_quote f)
+  script_is f (s ∷ ss) r =
+      let q = step_quote f in
+      let b = between_steps f in
+      let rest = flat_map (step_part f plan.nodes) ss in
+      front_first (step_part f plan.nodes s) rest q settle
+      ∙ ap (λ l. step_part f plan.nodes s ++ l) (script_is f ss r.1)
+      ∙ ap (λ t. q ++ t ++ q ++ b ++ written q b (texts_of ss r.1)) r.0.part
+      ∙ part_first q r.0.text b (written q b (texts_of ss r.1))
 
   settle_read : step_read (codes "settle") ≡ step.Settle
   unfolding form_step
@@ -361,14 +369,19 @@ module _ (plan : Planned) (fits : IsPlanned plan) where
   all_pass (s ∷ ss) r =
       All-cons (λ text. Passes (words text)) r.0.text (texts_of ss r.1 ++ codes "settle" ∷ []) r.0.passes (all_pass ss r.1)
 
-  module _ (case : List Failure) (all : All (IsFailureIn (length plan.nodes)) case) where
+  module _ (f : Form) (case : List Failure) (all : All (IsFailureIn (length plan.nodes)) case) where
     abbrev steps : List Step
     steps = case_steps (length plan.nodes) threshold case
 
-    pub steps_back : steps_read plan (texts_in (case_text plan case)) ≡ steps ++ step.Settle ∷ []
-    steps_back = ap (steps_read plan) (parts_are steps (case_read case all)) ∙ all_back steps (case_read case all)
+    texts_are : texts_in (field_read f (script_text f plan case)) ≡ texts_of steps (case_read case all) ++ settle ∷ []
+    texts_are =
+        ap (λ t. texts_in (field_read f t)) (script_is f steps (case_read case all))
+        ∙ read_back f (texts_of steps (case_read case all)) (free_of steps (case_read case all))
 
-    pub texts_pass : PassChecks plan (texts_in (case_text plan case))
+    pub steps_back : steps_read plan (texts_in (field_read f (script_text f plan case))) ≡ steps ++ step.Settle ∷ []
+    steps_back = ap (steps_read plan) texts_are ∙ all_back steps (case_read case all)
+
+    pub texts_pass : PassChecks plan (texts_in (field_read f (script_text f plan case)))
     texts_pass =
-        All-same (λ text. Passes (words text)) (texts_in (case_text plan case))
-        (texts_of steps (case_read case all) ++ codes "settle" ∷ []) (parts_are steps (case_read case all)) (all_pass steps (case_read case all))
+        All-same (λ text. Passes (words text)) (texts_in (field_read f (script_text f plan case)))
+        (texts_of steps (case_read case all) ++ settle ∷ []) texts_are (all_pass steps (case_read case all))

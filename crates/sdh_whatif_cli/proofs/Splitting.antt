@@ -9,7 +9,7 @@ use Rattle.std.proofs.lemmas.List.Folds.{list_all_at}
 use Rattle.std.proofs.lemmas.List.Splits.{slice_split-cons_yes, slice_split-cons_no}
 use Rattle.sdh_plan.specs.Words.{is_number, is_empty, decimal_from, numeral_in}
 
-turned : (b : Bool) → not b ≡ true → b ≡ false
+pub turned : (b : Bool) → not b ≡ true → b ≡ false
 turned true h = cc
 turned false h = refl
 
@@ -58,33 +58,33 @@ ranged p n i all low =
 
 abbrev is_read : ℕ → Bool
 is_read k =
-    is_number (decimal k) && ((decimal_from 0 (decimal k) == k) && (not (is_empty (decimal k)) && (lacks 32 (decimal k) && lacks 59 (decimal k))))
+    is_number (decimal k) && ((decimal_from 0 (decimal k) == k) && (not (is_empty (decimal k)) && (lacks 32 (decimal k) && lacks 34 (decimal k))))
 
 all_read : list_all is_read (range_with_len 0 49) ≡ true
 unfolding digits
 all_read = refl
 
--- the digits of a number are a word, without spaces and semicolons, that gives the number
+-- the digits of a number are a word, without spaces and quotes, that gives the number
 pub record IsRead (k : ℕ) : Type 0 where
   pub number : is_number (decimal k) ≡ true
   pub value : decimal_from 0 (decimal k) ≡ k
   pub some : is_empty (decimal k) ≡ false
   pub spaces : lacks 32 (decimal k) ≡ true
-  pub semicolons : lacks 59 (decimal k) ≡ true
+  pub quotes : lacks 34 (decimal k) ≡ true
 
 pub read : (k : ℕ) → k < 49 → IsRead k
 read k low =
     let w = decimal k in
-    let one = and_parts (is_number w) ((decimal_from 0 w == k) && (not (is_empty w) && (lacks 32 w && lacks 59 w))) (ranged is_read 49 k all_read low) in
-    let two = and_parts (decimal_from 0 w == k) (not (is_empty w) && (lacks 32 w && lacks 59 w)) one.1 in
-    let three = and_parts (not (is_empty w)) (lacks 32 w && lacks 59 w) two.1 in
-    let four = and_parts (lacks 32 w) (lacks 59 w) three.1 in
+    let one = and_parts (is_number w) ((decimal_from 0 w == k) && (not (is_empty w) && (lacks 32 w && lacks 34 w))) (ranged is_read 49 k all_read low) in
+    let two = and_parts (decimal_from 0 w == k) (not (is_empty w) && (lacks 32 w && lacks 34 w)) one.1 in
+    let three = and_parts (not (is_empty w)) (lacks 32 w && lacks 34 w) two.1 in
+    let four = and_parts (lacks 32 w) (lacks 34 w) three.1 in
     record {
       number = one.0;
       value = eqb-true (decimal_from 0 w) k two.0;
       some = turned (is_empty w) three.0;
       spaces = four.0;
-      semicolons = four.1;
+      quotes = four.1;
     }
 
 pub numeral_is : (low high k : ℕ) → IsRead k → low ≤ k → k ≤ high → numeral_in low high (decimal k) ≡ Some k

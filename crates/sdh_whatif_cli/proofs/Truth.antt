@@ -1,7 +1,8 @@
 -- What a line says is so.
-use Rattle.std.proofs.Common.{◌≡◌, ℕ, ◌-◌, ◌*◌, ◌/◌, ◌<◌, ◌≤◌, Bool, true, false, ◌==◌, nat_lt, [], ◌∷◌, ◌++◌, length, All, refl, sym, ap}
+use Rattle.std.proofs.Common.{◌≡◌, ℕ, ◌-◌, ◌*◌, ◌/◌, ◌<◌, ◌≤◌, Bool, true, false, ◌==◌, nat_lt, List, [], ◌∷◌, ◌++◌, length, All, refl, sym, ap, ◌∙◌}
 use Rattle.std.proofs.Common.{arith, ltb-true}
-use Rattle.std.specs.Prelude.{if◌then◌else◌}
+use Rattle.std.specs.Prelude.{◌&&◌, if◌then◌else◌, Option, Some, None}
+use Rattle.std.specs.Option.{option_map_or}
 use Rattle.std.proofs.lemmas.List.Elements.{All-nil, All-cons}
 use Rattle.std.proofs.Math.Nat.{mod-lt}
 use Rattle.sdh_plan.specs.Planned.{Planned, IsPlanned}
@@ -9,7 +10,9 @@ use Rattle.sdh_verdicts.specs.declared.failure.Failure.{Failure}
 use Rattle.sdh_verdicts.specs.declared.failure.Failure.TheVariants.{Degraded, Cut, Span, Node, Manual, Forced}
 use Rattle.sdh_verdicts.specs.Failures.{IsFailureIn, failure_at, half, side_of}
 use Rattle.sdh_verdicts.specs.Laws.{LongerPlansArePlans, CasesAreShown}
-use Rattle.sdh_whatif_cli.specs.Cases.{base, first, second, third, failures_of, case_at, is_told}
+use Rattle.sdh_whatif_cli.specs.declared.ask.Ask.{Ask}
+use Rattle.sdh_whatif_cli.specs.declared.forms.Entry.{Entry}
+use Rattle.sdh_whatif_cli.specs.Cases.{base, first, second, third, failures_of, case_at, is_told, told_below, is_in_part}
 use Rattle.sdh_whatif_cli.specs.Lines.{line_text}
 use Rattle.sdh_whatif_cli.specs.Laws.{IsTrueLine, LinesAreTrue}
 use Rattle.sdh_whatif_cli.proofs.Reading.{steps_back, texts_pass}
@@ -64,18 +67,22 @@ case_in plan c some =
 
 -- ---- lines
 
-true_line : LongerPlansArePlans → CasesAreShown → (plan : Planned) (number : ℕ) → IsPlanned plan → is_told plan number ≡ true
-    → IsTrueLine plan number
-true_line longer shown plan number fits told =
-    let case = case_at plan number in
-    let all = case_in plan number (omega (arith, fits.nodes_fit.enough)) in
+true_line : LongerPlansArePlans → CasesAreShown → (plan : Planned) (ask : Ask) (c : ℕ) → IsPlanned plan → is_told plan ask c ≡ true
+    → IsTrueLine plan ask c
+true_line longer shown plan ask c fits told =
+    let case = case_at plan c in
+    let number = told_below plan ask c in
+    let all = case_in plan c (omega (arith, fits.nodes_fit.enough)) in
+    let line : Option Entry → List ℕ = λ e. option_map_or (line_text plan case) e [] in
     record {
-      line = ap (λ b. if b then line_text plan case else []) told;
-      steps = λ limit. ap (λ l. plan.steps ++ l) (sym (steps_back plan fits case all));
-      checks = texts_pass plan fits case all;
+      line = λ inside. ap (λ b. line (if b && is_in_part ask number then Some (record { form = ask.form; number = number }) else None)) told
+          ∙ ap (λ b. line (if b then Some (record { form = ask.form; number = number }) else None)) inside;
+      steps = λ limit. ap (λ l. plan.steps ++ l) (sym (steps_back plan fits ask.form case all));
+      checks = texts_pass plan fits ask.form case all;
       planned = λ limit. longer plan case limit fits all;
       shown = shown plan case fits;
     }
 
 pub lines_are_true : LongerPlansArePlans → CasesAreShown → LinesAreTrue
-lines_are_true longer shown plan fits = (λ number told. true_line longer shown plan number fits told, λ case. shown plan case fits)
+lines_are_true longer shown plan fits =
+    (λ ask c told. true_line longer shown plan ask c fits told, λ case. shown plan case fits)

@@ -1,12 +1,17 @@
 -- The cases that are told, in their order: nothing; each failure alone; each two; each three.
-use Rattle.std.specs.Prelude.{ℕ, ◌+◌, ◌-◌, ◌*◌, ◌/◌, ◌%◌, Bool, ◌==◌, ◌&&◌, ◌||◌, not, nat_lt, if◌then◌else◌, List, [], ◌∷◌, length}
+use Rattle.std.specs.Prelude.{ℕ, zero, suc, ◌+◌, ◌-◌, ◌*◌, ◌/◌, ◌%◌, Bool, ◌==◌, ◌&&◌, ◌||◌, not, nat_lt, if◌then◌else◌, List, [], ◌∷◌, length, Option, Some, None}
 use Rattle.sdh_plan.specs.Planned.{Planned}
 use Rattle.sdh_verdicts.specs.declared.failure.Failure.{Failure}
+use Rattle.sdh_verdicts.specs.declared.failure.Failure.TheVariants.{Degraded, Cut, Span, Node, Manual, Forced}
 use Rattle.sdh_verdicts.specs.Failures.{failure_at}
 use Rattle.sdh_verdicts.specs.Verdicts.{mends}
 use Rattle.sdh_whatif_cli.specs.declared.ask.Ask.{Ask}
+use Rattle.sdh_whatif_cli.specs.declared.forms.Entry.{Entry}
+use Rattle.sdh_whatif_cli.specs.declared.ask.Kind.{Kind}
+use Rattle.sdh_whatif_cli.specs.declared.ask.Kind.TheVariants as kind
 use Rattle.sdh_whatif_cli.specs.declared.ask.Depth.{Depth}
 use Rattle.sdh_whatif_cli.specs.declared.ask.Depth.TheVariants.{Single, Double, Triple}
+use Rattle.sdh_whatif_cli.specs.Words.{takes}
 
 -- A case is a number of three digits, counted in so many: digit 0 is nothing, and digit d failure d - 1 of the ring's.
 abbrev pub base : ℕ → ℕ
@@ -39,23 +44,44 @@ failures_of n d e f =
     if d == 0 then failure_at n (e - 1) ∷ failure_at n (f - 1) ∷ [] else
     failure_at n (d - 1) ∷ failure_at n (e - 1) ∷ failure_at n (f - 1) ∷ []
 
--- a digit's failure would mend what the script has set
-abbrev pub mends_at : Planned → ℕ → Bool
-mends_at plan d = not (d == 0) && mends plan (failure_at (length plan.nodes) (d - 1))
+-- the kind of a failure
+abbrev pub kind_of : Failure → Kind
+kind_of (Degraded at side) = kind.Degraded
+kind_of (Cut at side) = kind.Fibres
+kind_of (Span at) = kind.Spans
+kind_of (Node at) = kind.Nodes
+kind_of (Manual at side) = kind.Manual
+kind_of (Forced at side) = kind.Forced
 
--- a number of these digits stands for a case, of which each has one, and it is told: none of its failures would mend
--- anything
-abbrev pub are_told : Planned → ℕ → ℕ → ℕ → Bool
-are_told plan d e f = goes_before d e && (goes_before e f && (not (mends_at plan d) && (not (mends_at plan e) && not (mends_at plan f))))
+-- a digit is nothing, or its failure is of a kind that is taken and would mend nothing
+abbrev pub is_taken : Planned → Ask → ℕ → Bool
+is_taken plan ask d =
+    (d == 0) || (takes ask.kinds (kind_of (failure_at (length plan.nodes) (d - 1))) && not (mends plan (failure_at (length plan.nodes) (d - 1))))
+
+-- a number of these digits stands for a case, of which each has one, and it is told
+abbrev pub are_told : Planned → Ask → ℕ → ℕ → ℕ → Bool
+are_told plan ask d e f = goes_before d e && (goes_before e f && (is_taken plan ask d && (is_taken plan ask e && is_taken plan ask f)))
 
 -- the case of a number that stands for one
 abbrev pub case_at : Planned → ℕ → List Failure
 case_at plan c = (let n = length plan.nodes in failures_of n (first n c) (second n c) (third n c))
 
 -- the number stands for a case that is told
-abbrev pub is_told : Planned → ℕ → Bool
-is_told plan c = (let n = length plan.nodes in are_told plan (first n c) (second n c) (third n c))
+abbrev pub is_told : Planned → Ask → ℕ → Bool
+is_told plan ask c = (let n = length plan.nodes in are_told plan ask (first n c) (second n c) (third n c))
 
--- it is in the part that is asked for
+-- of the first c numbers so many do; so many cases stand before the one of number c
+abbrev pub told_below : Planned → Ask → ℕ → ℕ
+told_below plan ask zero = 0
+told_below plan ask (suc c) = told_below plan ask c + (if is_told plan ask c then 1 else 0)
+
+-- the case that has this number among those that are told is in the part that is asked for
 abbrev pub is_in_part : Ask → ℕ → Bool
-is_in_part ask c = c % ask.parts == ask.part - 1
+is_in_part ask number = number % ask.parts == ask.part - 1
+
+-- so a case is written: where it is told and in this part, in the form that is asked for and with its number
+abbrev pub entry_of : Ask → Bool → ℕ → Option Entry
+entry_of ask told number = if told && is_in_part ask number then Some (record { form = ask.form; number = number }) else None
+
+abbrev pub entry_at : Planned → Ask → ℕ → Option Entry
+entry_at plan ask c = entry_of ask (is_told plan ask c) (told_below plan ask c)

@@ -1,22 +1,53 @@
--- The circuits of a plan in a case, counted.
-use Rattle.std.specs.Prelude.{ℕ, Bool, true, false, List, count_by, map}
-use Rattle.sdh_restoration.specs.Applied.{highest}
+-- What becomes of the circuits of a plan in a case, and counts of them.
+use Rattle.std.specs.Prelude.{ℕ, Bool, true, false, if◌then◌else◌, List, count_by, length, map}
+use Rattle.sdh_circuits.specs.Provisioned.{Provisioned}
+use Rattle.sdh_restoration.specs.Applied.{highest, is_applied}
 use Rattle.sdh_plan.specs.Planned.{Planned}
 use Rattle.sdh_verdicts.specs.declared.failure.Failure.{Failure}
+use Rattle.sdh_verdicts.specs.declared.judging.CaseSpans.{CaseSpans}
 use Rattle.sdh_verdicts.specs.declared.judging.Verdict.{Verdict}
-use Rattle.sdh_verdicts.specs.declared.judging.Verdict.TheVariants.{Kept, Over, Lost}
-use Rattle.sdh_verdicts.specs.Verdicts.{verdict_of, hops_of}
+use Rattle.sdh_verdicts.specs.declared.judging.Verdict.TheVariants as verdict
+use Rattle.sdh_verdicts.specs.Verdicts.{AreSpans, requests_with, is_troubled, verdict_of, is_impaired, hops_of}
+use Rattle.sdh_whatif_cli.specs.declared.counting.Counts.{Counts}
+use Rattle.sdh_whatif_cli.specs.declared.counting.Fate.{Fate}
+use Rattle.sdh_whatif_cli.specs.declared.counting.Fate.TheVariants.{Kept, Impaired, Over, Lost}
 
-abbrev pub same_verdict : Verdict → Verdict → Bool
-same_verdict Kept Kept = true
-same_verdict Over Over = true
-same_verdict Lost Lost = true
-same_verdict v w = false
+abbrev pub fate_by : Verdict → Bool → Fate
+fate_by verdict.Kept impaired = if impaired then Impaired else Kept
+fate_by verdict.Over impaired = Over
+fate_by verdict.Lost impaired = Lost
+
+-- what becomes of a circuit in a case; it is impaired only where it is kept
+abbrev pub fate_of : Planned → List Failure → Provisioned → Fate
+fate_of plan case c = fate_by (verdict_of plan case c) (is_impaired plan case c)
+
+abbrev pub same_fate : Fate → Fate → Bool
+same_fate Kept Kept = true
+same_fate Impaired Impaired = true
+same_fate Over Over = true
+same_fate Lost Lost = true
+same_fate f g = false
 
 -- of so many circuits this becomes
-abbrev pub count_of : Planned → List Failure → Verdict → ℕ
-count_of plan case v = count_by (λ c. same_verdict v (verdict_of plan case c)) plan.circuits
+abbrev pub count_of : Planned → List Failure → Fate → ℕ
+count_of plan case fate = count_by (λ c. same_fate fate (fate_of plan case c)) plan.circuits
 
 -- over how many spans the longest way leads, of the circuits whose ends are joined; 0 where none are
 abbrev pub longest_of : Planned → List Failure → ℕ
 longest_of plan case = highest (map (hops_of plan case) plan.circuits)
+
+abbrev pub counts_of : Planned → List Failure → Counts
+counts_of plan case = record {
+  kept = count_of plan case Kept;
+  impaired = count_of plan case Impaired;
+  over = count_of plan case Over;
+  lost = count_of plan case Lost;
+  hops = longest_of plan case;
+}
+
+-- ---- what the program keeps
+
+-- these are the spans of a case: those that are applied, and those in trouble
+pub record AreSpansOf (plan : Planned) (case : List Failure) (s : CaseSpans) : Type 0 where
+  pub applied : AreSpans (length plan.nodes) (is_applied (requests_with plan case)) s.applied
+  pub troubled : AreSpans (length plan.nodes) (is_troubled (requests_with plan case)) s.troubled

@@ -1,29 +1,86 @@
--- The lines of the table: fields parted by commas, one newline byte behind each line. The texts are this project's own.
-use Rattle.std.specs.Prelude.{ℕ, ◌<◌, zero, suc, List, [], ◌++◌, codes, decimal, length, slice_index, if◌then◌else◌}
+-- The records of the table, and the lines of JSON. The texts are this project's own; those of the table are after RFC 4180.
+use Rattle.std.specs.Prelude.{ℕ, ◌<◌, zero, suc, Bool, true, false, List, [], ◌∷◌, ◌++◌, codes, decimal, length, map, slice_index, if◌then◌else◌}
 use Rattle.std.specs.List.{flat_map}
+use Rattle.std.specs.Option.{option_map_or}
 use Rattle.sdh_ringmap.specs.declared.Pos.{Pos}
 use Rattle.sdh_ringmap.specs.declared.Side.{Side}
-use Rattle.sdh_report.specs.Lines.{own_line, side_text}
+use Rattle.sdh_ringmap.specs.declared.Side.TheVariants.{East}
+use Rattle.sdh_ringmap.specs.Places.{neighbour}
+use Rattle.sdh_report.specs.Lines.{side_text}
 use Rattle.sdh_terms.specs.declared.Condition.{Condition}
 use Rattle.sdh_terms.specs.declared.Condition.TheVariants as condition
 use Rattle.sdh_request.specs.declared.Command.{Command}
 use Rattle.sdh_request.specs.declared.Command.TheVariants as command
 use Rattle.sdh_circuits.specs.Provisioned.{Provisioned}
+use Rattle.sdh_restoration.specs.Applied.{is_applied}
 use Rattle.sdh_plan.specs.Planned.{Planned}
 use Rattle.sdh_plan.specs.declared.step.Step.{Step}
 use Rattle.sdh_plan.specs.declared.step.Step.TheVariants as step
 use Rattle.sdh_verdicts.specs.declared.failure.Failure.{Failure}
-use Rattle.sdh_verdicts.specs.declared.judging.Verdict.TheVariants.{Kept, Over, Lost}
+use Rattle.sdh_verdicts.specs.declared.failure.Failure.TheVariants.{Degraded, Cut, Span, Node, Manual, Forced}
 use Rattle.sdh_verdicts.specs.Failures.{case_steps}
-use Rattle.sdh_verdicts.specs.Verdicts.{verdict_of}
+use Rattle.sdh_verdicts.specs.Verdicts.{requests_with, hops_of, places_below}
 use Rattle.sdh_whatif_cli.specs.declared.ask.Ask.{Ask}
-use Rattle.sdh_whatif_cli.specs.Counting.{same_verdict, count_of, longest_of}
+use Rattle.sdh_whatif_cli.specs.declared.ask.Form.{Form}
+use Rattle.sdh_whatif_cli.specs.declared.ask.Form.TheVariants as form
+use Rattle.sdh_whatif_cli.specs.declared.counting.Counts.{Counts}
+use Rattle.sdh_whatif_cli.specs.declared.counting.Fate.{Fate}
+use Rattle.sdh_whatif_cli.specs.declared.counting.Fate.TheVariants as fate
+use Rattle.sdh_whatif_cli.specs.declared.forms.Entry.{Entry}
+use Rattle.sdh_whatif_cli.specs.Counting.{fate_of, counts_of}
 use Rattle.sdh_whatif_cli.specs.Singles.{singles_text}
-use Rattle.sdh_whatif_cli.specs.Cases.{numbers_of, case_at, is_told, is_in_part}
+use Rattle.sdh_whatif_cli.specs.Cases.{numbers_of, case_at, entry_at}
 
--- a verb, and the node and the side that it is about, where the nodes have these identifiers
+-- texts, with this between each two of them
+abbrev pub joined : List ℕ → List (List ℕ) → List ℕ
+joined between [] = []
+joined between (text ∷ more) = text ++ flat_map (λ t. between ++ t) more
+
+-- ---- forms
+
+-- lines of JSON, or records of the table
+abbrev pub is_json : Form → Bool
+is_json form.Json = true
+is_json form.Table = false
+is_json form.Headed = false
+is_json form.Summary = false
+
+-- the one text in JSON, and the other in the table
+abbrev pub either : Form → List ℕ → List ℕ → List ℕ
+either f json table = if is_json f then json else table
+
+-- what stands around a name, and around a step: a field of the table that has quotes stands in quotes, and each of its own is doubled
+abbrev pub quote : Form → List ℕ
+quote f = either f (codes "\"") []
+
+abbrev pub step_quote : Form → List ℕ
+step_quote f = either f (codes "\"") (codes "\"\"")
+
+-- ---- names
+
+abbrev pub id_text : List ℕ → ℕ → List ℕ
+id_text nodes p = decimal (slice_index nodes p)
+
+-- the fibre that leaves a node on a side, or that side: the node, and its neighbour there
+abbrev pub toward_text : List ℕ → Pos → Side → List ℕ
+toward_text nodes at side = id_text nodes at.0 ++ codes ">" ++ id_text nodes (neighbour (length nodes) at.0 side)
+
+-- a span: the nodes at its ends, the west one first
+abbrev pub span_text : List ℕ → ℕ → List ℕ
+span_text nodes s = id_text nodes s ++ codes "-" ++ id_text nodes (neighbour (length nodes) s East)
+
+abbrev pub failure_text : List ℕ → Failure → List ℕ
+failure_text nodes (Degraded at side) = codes "degraded " ++ toward_text nodes at side
+failure_text nodes (Cut at side) = codes "fibre " ++ toward_text nodes at side
+failure_text nodes (Span at) = codes "span " ++ span_text nodes at.0
+failure_text nodes (Node at) = codes "node " ++ id_text nodes at.0
+failure_text nodes (Manual at side) = codes "manual " ++ toward_text nodes at side
+failure_text nodes (Forced at side) = codes "forced " ++ toward_text nodes at side
+
+-- ---- steps, in the plan's own words
+
 abbrev pub place_text : List ℕ → List ℕ → Pos → Side → List ℕ
-place_text nodes verb at side = verb ++ decimal (slice_index nodes at.0) ++ codes " " ++ side_text side
+place_text nodes verb at side = verb ++ id_text nodes at.0 ++ codes " " ++ side_text side
 
 abbrev pub fibre_text : List ℕ → Pos → Side → Condition → List ℕ
 fibre_text nodes at side condition.Clear = place_text nodes (codes "mend ") at side
@@ -41,59 +98,104 @@ IsAt n (step.Fibre e) = e.at.0 < n
 IsAt n (step.Order at side c) = at.0 < n
 IsAt n s = Unit {0}
 
--- a step in the plan's own words, and what parts it from the next; a failure has no others than these
+-- a failure has no other steps than those of the first two kinds
 abbrev pub step_text : List ℕ → Step → List ℕ
-step_text nodes (step.Fibre e) = fibre_text nodes e.at e.side e.condition ++ codes "; "
-step_text nodes (step.Order at side c) = order_text nodes at side c ++ codes "; "
+step_text nodes (step.Fibre e) = fibre_text nodes e.at e.side e.condition
+step_text nodes (step.Order at side c) = order_text nodes at side c
 step_text nodes s = []
 
-abbrev pub steps_text : List ℕ → List Step → List ℕ
-steps_text nodes steps = flat_map (step_text nodes) steps
+-- ---- the fields of a case
 
--- the steps of a case, and the settle step behind them: what a script is to be followed by
-abbrev pub case_text : Planned → List Failure → List ℕ
-case_text plan case = steps_text plan.nodes (case_steps (length plan.nodes) plan.settings.threshold case) ++ codes "settle"
+abbrev pub name_text : Form → List ℕ → Failure → List ℕ
+name_text f nodes x = quote f ++ failure_text nodes x ++ quote f
 
--- ---- circuits
+abbrev pub names_text : Form → List ℕ → List Failure → List ℕ
+names_text f nodes case = joined (either f (codes ",") (codes " + ")) (map (name_text f nodes) case)
 
--- the name of a circuit that is lost
-abbrev pub lost_text : Planned → List Failure → Provisioned → List ℕ
-lost_text plan case c = if same_verdict Lost (verdict_of plan case c) then codes "," ++ c.name else []
+-- a step, and what parts it from the next
+abbrev pub step_part : Form → List ℕ → Step → List ℕ
+step_part f nodes s = step_quote f ++ step_text nodes s ++ step_quote f ++ either f (codes ",") (codes ", ")
 
--- a number behind a comma
-abbrev pub number_text : ℕ → List ℕ
-number_text number = codes "," ++ decimal number
+-- the steps of a case, and the settle step behind them
+abbrev pub script_text : Form → Planned → List Failure → List ℕ
+script_text f plan case =
+    flat_map (step_part f plan.nodes) (case_steps (length plan.nodes) plan.settings.threshold case) ++ step_quote f ++ codes "settle"
+    ++ step_quote f
 
--- ---- the table
+abbrev pub span_part : Form → List ℕ → ℕ → List ℕ
+span_part f nodes s = quote f ++ span_text nodes s ++ quote f
 
--- the line of a case: its steps, how many circuits keep their way, how many go round applied spans, how many are lost,
--- the longest way in spans, and the names of those that are lost
-abbrev pub line_text : Planned → List Failure → List ℕ
-line_text plan case =
-    case_text plan case ++ number_text (count_of plan case Kept) ++ number_text (count_of plan case Over)
-    ++ number_text (count_of plan case Lost) ++ number_text (longest_of plan case) ++ flat_map (lost_text plan case) plan.circuits
-    ++ codes "\n"
+-- the applied spans
+abbrev pub spans_text : Form → Planned → List Failure → List ℕ
+spans_text f plan case =
+    joined (either f (codes ",") (codes " "))
+    (map (span_part f plan.nodes) (places_below (is_applied (requests_with plan case)) (length plan.nodes)))
 
--- of a number, where it stands for a case that is told
-abbrev pub number_line : Planned → ℕ → List ℕ
-number_line plan c = if is_told plan c then line_text plan (case_at plan c) else []
+-- the number of a case, its failures, its steps and the spans that are applied in it
+abbrev pub case_text : Form → Planned → ℕ → List Failure → List ℕ
+case_text f plan number case =
+    either f (codes "{\"number\":") [] ++ decimal number ++ either f (codes ",\"failures\":[") (codes ",") ++ names_text f plan.nodes case
+    ++ either f (codes "],\"steps\":[") (codes ",\"") ++ script_text f plan case ++ either f (codes "],\"applied\":[") (codes "\",")
+    ++ spans_text f plan case ++ either f (codes "]") []
 
--- where it is asked for
+-- how many circuits are kept, impaired, led round applied spans and lost, and the longest way in spans
+abbrev pub counts_text : Form → Counts → List ℕ
+counts_text f k =
+    either f (codes ",\"kept\":") (codes ",") ++ decimal k.kept ++ either f (codes ",\"impaired\":") (codes ",") ++ decimal k.impaired
+    ++ either f (codes ",\"over\":") (codes ",") ++ decimal k.over ++ either f (codes ",\"lost\":") (codes ",") ++ decimal k.lost
+    ++ either f (codes ",\"hops\":") (codes ",") ++ decimal k.hops
+
+-- ---- the fields of circuits
+
+-- what becomes of a circuit whose bytes go over so many spans; in the table there is nothing where it is kept
+abbrev pub fate_cell : Form → Fate → ℕ → List ℕ
+fate_cell f fate.Kept hops = either f (codes "\"kept\"") []
+fate_cell f fate.Impaired hops = either f (codes "\"impaired\"") (codes "i")
+fate_cell f fate.Over hops = decimal hops
+fate_cell f fate.Lost hops = either f (codes "\"lost\"") (codes "x")
+
+-- what stands before it: in JSON the circuit's name
+abbrev pub before_fate : Form → List ℕ → List ℕ
+before_fate f name = if is_json f then codes "\"" ++ name ++ codes "\":" else codes ","
+
+abbrev pub fate_text : Form → Planned → List Failure → Provisioned → List ℕ
+fate_text f plan case c = before_fate f c.name ++ fate_cell f (fate_of plan case c) (hops_of plan case c)
+
+abbrev pub fates_text : Form → Planned → List Failure → List ℕ
+fates_text f plan case = joined (either f (codes ",") []) (map (fate_text f plan case) plan.circuits)
+
+-- ---- lines
+
+-- the line of a case, in a form and with the number that it has among those that are told
+abbrev pub line_text : Planned → List Failure → Entry → List ℕ
+line_text plan case e =
+    case_text e.form plan e.number case ++ counts_text e.form (counts_of plan case) ++ either e.form (codes ",\"circuits\":{") []
+    ++ fates_text e.form plan case ++ either e.form (codes "}}\n") (codes "\r\n")
+
+-- of the c-th number of digits, where its case is told in the part that is asked for
 abbrev pub line_at : Planned → Ask → ℕ → List ℕ
-line_at plan ask c = if is_in_part ask c then number_line plan c else []
+line_at plan ask c = option_map_or (line_text plan (case_at plan c)) (entry_at plan ask c) []
 
--- the lines of the first k numbers
+-- the lines of the first k numbers of digits
 abbrev pub lines_below : Planned → Ask → ℕ → List ℕ
 lines_below plan ask zero = []
 lines_below plan ask (suc k) = lines_below plan ask k ++ line_at plan ask k
 
-abbrev pub head_line : List ℕ
-head_line = own_line (codes "steps,kept,over,lost,hops,circuits")
+abbrev pub cases_text : Planned → Ask → List ℕ
+cases_text plan ask = lines_below plan ask (numbers_of (length plan.nodes) ask.depth)
 
--- behind them what each failure alone takes, and the last line
-abbrev pub last_lines : Planned → List ℕ
-last_lines plan = singles_text plan ++ own_line (codes "done")
+-- ---- all of it
 
--- all of it
+-- the record of the fields' names
+abbrev pub head_record : Planned → List ℕ
+head_record plan =
+    codes "number,failures,steps,applied,kept,impaired,over,lost,hops" ++ flat_map (λ c. codes "," ++ c.name) plan.circuits ++ codes "\r\n"
+
+abbrev pub table_of : Form → Planned → Ask → List ℕ
+table_of form.Table plan ask = cases_text plan ask
+table_of form.Headed plan ask = head_record plan ++ cases_text plan ask
+table_of form.Json plan ask = cases_text plan ask
+table_of form.Summary plan ask = singles_text plan ask.kinds
+
 abbrev pub table_text : Planned → Ask → List ℕ
-table_text plan ask = head_line ++ lines_below plan ask (numbers_of (length plan.nodes) ask.depth) ++ last_lines plan
+table_text plan ask = table_of ask.form plan ask

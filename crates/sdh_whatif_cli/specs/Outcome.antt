@@ -11,7 +11,7 @@ use Rattle.sdh_whatif_cli.specs.Lines.{table_text}
 
 -- the line of a refusal
 abbrev pub refusal : Status → List ℕ
-refusal status.Usage = own_line (codes "usage: sdhwhatif single, double, triple, and PART PARTS")
+refusal status.Usage = own_line (codes "usage: sdhwhatif single, double, triple, with kinds, part K N, head, json, summary")
 refusal how = last_line how
 
 -- there is no plan, or its table is told

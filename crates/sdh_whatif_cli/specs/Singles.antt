@@ -1,10 +1,14 @@
--- What each failure alone takes, kind by kind: the lines behind the table, for a person to read. The texts are this project's own.
+-- What each failure alone takes, kind by kind. The texts are this project's own, after RFC 4180.
 use Rattle.std.specs.Prelude.{ℕ, ◌+◌, ◌*◌, zero, suc, max, ◌==◌, if◌then◌else◌, List, [], ◌∷◌, ◌++◌, codes, decimal, length}
 use Rattle.sdh_plan.specs.Planned.{Planned}
-use Rattle.sdh_verdicts.specs.declared.judging.Verdict.TheVariants.{Lost}
 use Rattle.sdh_verdicts.specs.Failures.{failure_at}
 use Rattle.sdh_verdicts.specs.Verdicts.{mends}
+use Rattle.sdh_whatif_cli.specs.declared.ask.Kind.{Kind}
+use Rattle.sdh_whatif_cli.specs.declared.ask.Kind.TheVariants as kind
+use Rattle.sdh_whatif_cli.specs.declared.ask.Kinds.{Kinds}
+use Rattle.sdh_whatif_cli.specs.declared.counting.Fate.TheVariants.{Lost}
 use Rattle.sdh_whatif_cli.specs.declared.singles.Tally.{Tally}
+use Rattle.sdh_whatif_cli.specs.Words.{takes}
 use Rattle.sdh_whatif_cli.specs.Counting.{count_of}
 
 abbrev pub new_tally : Tally
@@ -27,21 +31,46 @@ abbrev pub tally_of : Planned → ℕ → ℕ → Tally
 tally_of plan from zero = new_tally
 tally_of plan from (suc k) = tallied plan (from + k) (tally_of plan from k)
 
--- ---- the lines
+-- ---- the records
 
-abbrev pub some_text : Tally → List ℕ
-some_text t = codes "circuits are lost in " ++ decimal t.losing ++ codes " of them; at most " ++ decimal t.most
+-- the word of a kind
+abbrev pub kind_text : Kind → List ℕ
+kind_text kind.Degraded = codes "degraded"
+kind_text kind.Fibres = codes "fibres"
+kind_text kind.Spans = codes "spans"
+kind_text kind.Nodes = codes "nodes"
+kind_text kind.Manual = codes "manual"
+kind_text kind.Forced = codes "forced"
 
-abbrev pub losses_text : Tally → List ℕ
-losses_text t = if t.losing == 0 then codes "no circuit is lost" else some_text t
+-- failures of this kind: so many, so many of them in which circuits are lost, and the most that are lost in one
+abbrev pub tally_record : Kind → Tally → List ℕ
+tally_record k t =
+    kind_text k ++ codes "," ++ decimal t.cases ++ codes "," ++ decimal t.losing ++ codes "," ++ decimal t.most ++ codes "\r\n"
 
--- failures of this name: so many, so many of them in which circuits are lost, and the most that are lost in one
-abbrev pub tally_line : List ℕ → Tally → List ℕ
-tally_line kind t = codes "single " ++ kind ++ codes ": " ++ decimal t.cases ++ codes "; " ++ losses_text t ++ codes "\n"
+-- where a ring of n has those of a kind: from which number on, and how many
+abbrev pub first_of : ℕ → Kind → ℕ
+first_of n kind.Degraded = 0
+first_of n kind.Fibres = 2 * n
+first_of n kind.Spans = 4 * n
+first_of n kind.Nodes = 5 * n
+first_of n kind.Manual = 6 * n
+first_of n kind.Forced = 8 * n
 
-abbrev pub singles_text : Planned → List ℕ
-singles_text plan = (let n = length plan.nodes in
-    tally_line (codes "degraded fibres") (tally_of plan 0 (2 * n)) ++ tally_line (codes "cut fibres") (tally_of plan (2 * n) (2 * n))
-    ++ tally_line (codes "spans") (tally_of plan (4 * n) n) ++ tally_line (codes "nodes") (tally_of plan (5 * n) n)
-    ++ tally_line (codes "manual switches") (tally_of plan (6 * n) (2 * n))
-    ++ tally_line (codes "forced switches") (tally_of plan (8 * n) (2 * n)))
+abbrev pub number_of : ℕ → Kind → ℕ
+number_of n kind.Degraded = 2 * n
+number_of n kind.Fibres = 2 * n
+number_of n kind.Spans = n
+number_of n kind.Nodes = n
+number_of n kind.Manual = 2 * n
+number_of n kind.Forced = 2 * n
+
+-- the record of a kind, where it is taken
+abbrev pub kind_record : Planned → Kinds → Kind → List ℕ
+kind_record plan kinds k =
+    if takes kinds k then tally_record k (tally_of plan (first_of (length plan.nodes) k) (number_of (length plan.nodes) k)) else []
+
+abbrev pub singles_text : Planned → Kinds → List ℕ
+singles_text plan kinds =
+    codes "kind,cases,losing,most\r\n" ++ kind_record plan kinds kind.Degraded ++ kind_record plan kinds kind.Fibres
+    ++ kind_record plan kinds kind.Spans ++ kind_record plan kinds kind.Nodes ++ kind_record plan kinds kind.Manual
+    ++ kind_record plan kinds kind.Forced

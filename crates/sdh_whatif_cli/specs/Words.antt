@@ -1,11 +1,20 @@
 -- What the words of a command line ask for. The words are this project's own.
-use Rattle.std.specs.Prelude.{ℕ, ◌-◌, ◌^◌, List, [], ◌∷◌, codes, Option, Some, None, option_map, if◌then◌else◌}
+use Rattle.std.specs.Prelude.{ℕ, ◌≤◌, ◌-◌, ◌^◌, Bool, true, false, ◌&&◌, ◌||◌, not, List, [], ◌∷◌, codes, Option, Some, None, option_map}
+use Rattle.std.specs.Prelude.{if◌then◌else◌}
 use Rattle.std.specs.Option.{option_and_then}
 use Rattle.std.specs.Str.{bytes_eq}
 use Rattle.sdh_plan.specs.Words.{numeral_in}
 use Rattle.sdh_whatif_cli.specs.declared.ask.Ask.{Ask}
+use Rattle.sdh_whatif_cli.specs.declared.ask.Awaited.{Awaited}
+use Rattle.sdh_whatif_cli.specs.declared.ask.Awaited.TheVariants as awaited
 use Rattle.sdh_whatif_cli.specs.declared.ask.Depth.{Depth}
 use Rattle.sdh_whatif_cli.specs.declared.ask.Depth.TheVariants.{Single, Double, Triple}
+use Rattle.sdh_whatif_cli.specs.declared.ask.Form.{Form}
+use Rattle.sdh_whatif_cli.specs.declared.ask.Form.TheVariants as form
+use Rattle.sdh_whatif_cli.specs.declared.ask.Kind.{Kind}
+use Rattle.sdh_whatif_cli.specs.declared.ask.Kind.TheVariants as kind
+use Rattle.sdh_whatif_cli.specs.declared.ask.Kinds.{Kinds}
+use Rattle.sdh_whatif_cli.specs.declared.ask.AskedSoFar.{AskedSoFar}
 
 -- how many failures at most are taken together
 abbrev pub depth_named : List ℕ → Option Depth
@@ -13,19 +22,154 @@ depth_named word =
     if bytes_eq word (codes "single") then Some Single else if bytes_eq word (codes "double")
     then Some Double else if bytes_eq word (codes "triple") then Some Triple else None
 
-abbrev pub ask_of : Depth → ℕ → ℕ → Ask
-ask_of depth part parts = record { depth = depth; part = part; parts = parts }
+-- which failures
+abbrev pub kind_named : List ℕ → Option Kind
+kind_named word =
+    if bytes_eq word (codes "degraded") then Some kind.Degraded
+    else if bytes_eq word (codes "fibres") then Some kind.Fibres
+    else if bytes_eq word (codes "spans") then Some kind.Spans
+    else if bytes_eq word (codes "nodes") then Some kind.Nodes
+    else if bytes_eq word (codes "manual") then Some kind.Manual
+    else if bytes_eq word (codes "forced") then Some kind.Forced
+    else None
 
--- a word, and which part of how many, counted from 1
-abbrev pub part_of : List ℕ → List ℕ → List ℕ → Option Ask
-part_of word part parts =
-    option_and_then (λ depth. option_and_then (λ n. option_map (λ k. ask_of depth k n) (numeral_in 1 n part))
-    (numeral_in 1 (2 ^ 32 - 1) parts)) (depth_named word)
+-- in which form they are told
+abbrev pub form_named : List ℕ → Option Form
+form_named word =
+    if bytes_eq word (codes "head") then Some form.Headed
+    else if bytes_eq word (codes "json") then Some form.Json
+    else if bytes_eq word (codes "summary") then Some form.Summary
+    else None
 
--- what the words ask for: a word alone is for the whole of it
-abbrev pub asked : List (List ℕ) → Option Ask
+-- ---- kinds
+
+abbrev pub no_kinds : Kinds
+no_kinds = record { degraded = false; fibres = false; spans = false; nodes = false; manual = false; forced = false }
+
+-- the kind is one of these
+abbrev pub has_kind : Kinds → Kind → Bool
+has_kind kinds kind.Degraded = kinds.degraded
+has_kind kinds kind.Fibres = kinds.fibres
+has_kind kinds kind.Spans = kinds.spans
+has_kind kinds kind.Nodes = kinds.nodes
+has_kind kinds kind.Manual = kinds.manual
+has_kind kinds kind.Forced = kinds.forced
+
+-- and this one
+abbrev pub with_kind : Kinds → Kind → Kinds
+with_kind kinds kind.Degraded = record kinds { degraded = true }
+with_kind kinds kind.Fibres = record kinds { fibres = true }
+with_kind kinds kind.Spans = record kinds { spans = true }
+with_kind kinds kind.Nodes = record kinds { nodes = true }
+with_kind kinds kind.Manual = record kinds { manual = true }
+with_kind kinds kind.Forced = record kinds { forced = true }
+
+-- some kind is named
+abbrev pub has_some : Kinds → Bool
+has_some kinds = kinds.degraded || kinds.fibres || kinds.spans || kinds.nodes || kinds.manual || kinds.forced
+
+-- failures of the kind are taken: it is named, or none is
+abbrev pub takes : Kinds → Kind → Bool
+takes kinds k = has_kind kinds k || not (has_some kinds)
+
+-- ---- words
+
+-- what a depth alone asks for: all cases of all kinds, in records of the table
+abbrev pub all_of : Depth → Ask
+all_of depth = record { depth = depth; kinds = no_kinds; form = form.Table; part = 1; parts = 1 }
+
+-- nothing but the depth was read
+abbrev pub begun : Depth → AskedSoFar
+begun depth = record { ask = all_of depth; awaited = awaited.Any; is_parted = false }
+
+-- the kind is asked for too, where it isn't yet
+abbrev pub ask_kind : Ask → Kind → Option Ask
+ask_kind ask k = if has_kind ask.kinds k then None else Some (record ask { kinds = with_kind ask.kinds k })
+
+-- no form is asked for
+abbrev pub is_plain : Form → Bool
+is_plain form.Table = true
+is_plain form.Headed = false
+is_plain form.Json = false
+is_plain form.Summary = false
+
+-- the form is asked for, where none is
+abbrev pub ask_form : Ask → Form → Option Ask
+ask_form ask f = if is_plain ask.form then Some (record ask { form = f }) else None
+
+-- a kind or a form is asked for
+abbrev pub ask_named : Ask → Option Kind → Option Form → Option Ask
+ask_named ask (Some k) f = ask_kind ask k
+ask_named ask None f = option_and_then (ask_form ask) f
+
+abbrev pub ask_word : Ask → List ℕ → Option Ask
+ask_word ask word = ask_named ask (kind_named word) (form_named word)
+
+abbrev pub with_ask : AskedSoFar → Ask → AskedSoFar
+with_ask r ask = record r { ask = ask }
+
+-- a part is asked for, where none is; its two numbers come next
+abbrev pub begin_part : AskedSoFar → Option AskedSoFar
+begin_part r = if r.is_parted then None else Some (record r { awaited = awaited.Part; is_parted = true })
+
+-- a word that is none of those numbers
+abbrev pub read_any : AskedSoFar → List ℕ → Option AskedSoFar
+read_any r word = if bytes_eq word (codes "part") then begin_part r else option_map (with_ask r) (ask_word r.ask word)
+
+abbrev pub with_part : Ask → ℕ → ℕ → Ask
+with_part ask part parts = record ask { part = part; parts = parts }
+
+-- which part
+abbrev pub read_part : AskedSoFar → List ℕ → Option AskedSoFar
+read_part r word =
+    option_map (λ k. record { ask = with_part r.ask k (2 ^ 32 - 1); awaited = awaited.Parts; is_parted = r.is_parted })
+    (numeral_in 1 (2 ^ 32 - 1) word)
+
+-- of how many: no fewer than its own number
+abbrev pub read_parts : AskedSoFar → List ℕ → Option AskedSoFar
+read_parts r word =
+    option_map (λ k. record { ask = with_part r.ask r.ask.part k; awaited = awaited.Any; is_parted = r.is_parted })
+    (numeral_in r.ask.part (2 ^ 32 - 1) word)
+
+abbrev pub read_awaited : Awaited → AskedSoFar → List ℕ → Option AskedSoFar
+read_awaited awaited.Any r word = read_any r word
+read_awaited awaited.Part r word = read_part r word
+read_awaited awaited.Parts r word = read_parts r word
+
+-- one word more
+abbrev pub read_word : AskedSoFar → List ℕ → Option AskedSoFar
+read_word r word = read_awaited r.awaited r word
+
+-- these words, one by one
+abbrev pub read_words : AskedSoFar → List (List ℕ) → Option AskedSoFar
+read_words r [] = Some r
+read_words r (word ∷ more) = option_and_then (λ next. read_words next more) (read_word r word)
+
+-- no number is missing
+abbrev pub is_whole : Awaited → Bool
+is_whole awaited.Any = true
+is_whole awaited.Part = false
+is_whole awaited.Parts = false
+
+-- what each failure alone takes comes in one piece
+abbrev pub may_be_parted : Form → Bool
+may_be_parted form.Table = true
+may_be_parted form.Headed = true
+may_be_parted form.Json = true
+may_be_parted form.Summary = false
+
+-- what was asked for at the end of the words
+abbrev pub finished : AskedSoFar → Option Ask
+finished r = if is_whole r.awaited && (not r.is_parted || may_be_parted r.ask.form) then Some r.ask else None
+
+-- What the words ask for: a depth; and behind it, in any order, kinds, at most one form, and at most once `part` with the number of a part
+-- and of how many.
+unfoldable pub asked : List (List ℕ) → Option Ask
 asked [] = None
-asked (word ∷ []) = option_map (λ depth. ask_of depth 1 1) (depth_named word)
-asked (word ∷ part ∷ []) = None
-asked (word ∷ part ∷ parts ∷ []) = part_of word part parts
-asked (word ∷ part ∷ parts ∷ more ∷ others) = None
+asked (word ∷ others) = option_and_then (λ depth. option_and_then finished (read_words (begun depth) others)) (depth_named word)
+
+-- ---- what the program keeps
+
+-- a part is one of so many
+abbrev pub IsPart : Ask → Type 0
+IsPart ask = (1 ≤ ask.part) × (ask.part ≤ ask.parts)

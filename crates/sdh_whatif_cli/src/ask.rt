@@ -1,7 +1,9 @@
 //! What the words of the command line ask for.
-ghost use Rattle.std.specs.Prelude.{◌≡◌, ◌≤◌, option_map, IfSome};
+ghost use Rattle.std.specs.Prelude.{◌≡◌, ◌≤◌, IfSome};
 ghost use Rattle.sdh_shell.specs.Calls.{words_of};
-ghost use Rattle.sdh_whatif_cli.specs.Words.{depth_named, ask_of, part_of, asked};
+ghost use Rattle.sdh_whatif_cli.specs.Words.{depth_named, kind_named, form_named, no_kinds, has_kind, with_kind, has_some, takes, all_of, begun};
+ghost use Rattle.sdh_whatif_cli.specs.Words.{ask_kind, is_plain, ask_form, ask_word, begin_part, read_any, with_part, read_part, read_parts};
+ghost use Rattle.sdh_whatif_cli.specs.Words.{read_word, read_words, is_whole, may_be_parted, finished, asked, IsPart};
 
 use sdh_plan::numeral_in;
 
@@ -13,15 +15,150 @@ pub enum Depth {
     Triple,
 }
 
-/// Which cases are told: those of so many failures at most, and of them one part of so many, counted from 1.
+/// A kind of failures.
+#[derive(Clone, Copy, Debug, PartialEq, Eq)]
+pub enum Kind {
+    /// A fibre is degraded.
+    Degraded,
+    /// A fibre is cut.
+    Fibres,
+    /// A span is cut both ways.
+    Spans,
+    /// Both spans of a node are.
+    Nodes,
+    /// A side has a manual switch.
+    Manual,
+    /// A side has a forced switch.
+    Forced,
+}
+
+/// The kinds that are named.
+#[derive(Clone, Copy, Debug, PartialEq, Eq)]
+pub struct Kinds {
+    pub degraded: bool,
+    pub fibres: bool,
+    pub spans: bool,
+    pub nodes: bool,
+    pub manual: bool,
+    pub forced: bool,
+}
+
+/// In which form cases are told.
+#[derive(Clone, Copy, Debug, PartialEq, Eq)]
+pub enum Form {
+    /// Records of a table.
+    Table,
+    /// The same, behind one of the fields' names.
+    Headed,
+    /// Lines of JSON.
+    Json,
+    /// In their place what each failure alone takes, kind by kind.
+    Summary,
+}
+
+/// Which cases are told, and how: those of so many failures at most, of these kinds; and of them one part of so many,
+/// counted from 1. Where no kind is named all are taken.
 #[derive(Clone, Copy, Debug, PartialEq, Eq)]
 pub struct Ask {
     pub depth: Depth,
+    pub kinds: Kinds,
+    pub form: Form,
     pub part: u32,
     pub parts: u32,
 }
 
-// The depth that a word names.
+/// What the next word is.
+#[derive(Clone, Copy, Debug, PartialEq, Eq)]
+pub enum Awaited {
+    /// A kind, a form, or `part`.
+    Any,
+    /// Which part.
+    Part,
+    /// Of how many.
+    Parts,
+}
+
+/// What the words so far ask for.
+#[derive(Clone, Copy, Debug, PartialEq, Eq)]
+pub struct AskedSoFar {
+    pub ask: Ask,
+    pub awaited: Awaited,
+    // whether `part` was read
+    pub is_parted: bool,
+}
+
+const NO_KINDS: Kinds = Kinds {
+    degraded: false,
+    fibres: false,
+    spans: false,
+    nodes: false,
+    manual: false,
+    forced: false,
+};
+
+impl Kinds {
+    // Returns whether the kind is named.
+    fn has(self, kind: Kind) -> bool
+        ensures { result ≡ has_kind self kind }
+    {
+        match kind {
+            Kind::Degraded => self.degraded,
+            Kind::Fibres => self.fibres,
+            Kind::Spans => self.spans,
+            Kind::Nodes => self.nodes,
+            Kind::Manual => self.manual,
+            Kind::Forced => self.forced,
+        }
+    }
+
+    // With this kind too.
+    fn with(self, kind: Kind) -> Kinds
+        ensures { result ≡ with_kind self kind }
+    {
+        match kind {
+            Kind::Degraded => Kinds {
+                degraded: true,
+                ..self
+            },
+            Kind::Fibres => Kinds {
+                fibres: true,
+                ..self
+            },
+            Kind::Spans => Kinds {
+                spans: true,
+                ..self
+            },
+            Kind::Nodes => Kinds {
+                nodes: true,
+                ..self
+            },
+            Kind::Manual => Kinds {
+                manual: true,
+                ..self
+            },
+            Kind::Forced => Kinds {
+                forced: true,
+                ..self
+            },
+        }
+    }
+
+    // Returns whether any is named.
+    fn has_some(self) -> bool
+        ensures { result ≡ has_some self }
+    {
+        self.degraded || self.fibres || self.spans || self.nodes || self.manual || self.forced
+    }
+
+    /// Returns whether failures of the kind are taken: it is named, or none is.
+    pub fn takes(self, kind: Kind) -> bool
+        ensures { result ≡ takes self kind }
+    {
+        self.has(kind) || !self.has_some()
+    }
+}
+
+// Returns the depth that a word names.
 fn depth_named(word: &str) -> Option<Depth>
     ensures { result ≡ depth_named word.now }
 {
@@ -36,38 +173,248 @@ fn depth_named(word: &str) -> Option<Depth>
     }
 }
 
-// What a word and the two numbers of a part ask for.
-fn part_of(word: &str, part: &str, parts: &str) -> Option<Ask>
-    ensures is { result ≡ part_of word.now part.now parts.now }
-    ensures part { IfSome result (λ ask. (1 ≤ ask.part) × (ask.part ≤ ask.parts)) }
+// Returns the kind that a word names.
+fn kind_named(word: &str) -> Option<Kind>
+    ensures { result ≡ kind_named word.now }
 {
-    let depth = depth_named(word)?;
-    let parts = numeral_in(parts.as_bytes(), 1, u32::MAX)?;
-    let part = numeral_in(part.as_bytes(), 1, parts)?;
-    Some(Ask { depth, part, parts })
+    if word == "degraded" {
+        Some(Kind::Degraded)
+    } else if word == "fibres" {
+        Some(Kind::Fibres)
+    } else if word == "spans" {
+        Some(Kind::Spans)
+    } else if word == "nodes" {
+        Some(Kind::Nodes)
+    } else if word == "manual" {
+        Some(Kind::Manual)
+    } else if word == "forced" {
+        Some(Kind::Forced)
+    } else {
+        None
+    }
 }
 
-// What one word asks for.
-fn whole(word: &str) -> Option<Ask>
-    ensures is { result ≡ option_map (λ depth. ask_of depth 1 1) (depth_named word.now) }
-    ensures part { IfSome result (λ ask. (1 ≤ ask.part) × (ask.part ≤ ask.parts)) }
+// Returns the form that a word names.
+fn form_named(word: &str) -> Option<Form>
+    ensures { result ≡ form_named word.now }
 {
-    let depth = depth_named(word)?;
-    Some(Ask {
-        depth,
-        part: 1,
-        parts: 1,
+    if word == "head" {
+        Some(Form::Headed)
+    } else if word == "json" {
+        Some(Form::Json)
+    } else if word == "summary" {
+        Some(Form::Summary)
+    } else {
+        None
+    }
+}
+
+// Returns what is asked for with one more kind.
+fn ask_kind(ask: Ask, kind: Kind) -> Option<Ask>
+    requires part { IsPart ask }
+    ensures is { result ≡ ask_kind ask kind }
+    ensures part { IfSome result IsPart }
+{
+    if ask.kinds.has(kind) {
+        return None;
+    }
+    let kinds = ask.kinds.with(kind);
+    Some(Ask { kinds, ..ask })
+}
+
+// Returns whether no form is asked for.
+fn is_plain(form: Form) -> bool
+    ensures { result ≡ is_plain form }
+{
+    match form {
+        Form::Table => true,
+        Form::Headed | Form::Json | Form::Summary => false,
+    }
+}
+
+// Returns what is asked for in this form.
+fn ask_form(ask: Ask, form: Form) -> Option<Ask>
+    requires part { IsPart ask }
+    ensures is { result ≡ ask_form ask form }
+    ensures part { IfSome result IsPart }
+{
+    if is_plain(ask.form) {
+        Some(Ask { form, ..ask })
+    } else {
+        None
+    }
+}
+
+// Returns what is asked for with a word that names a kind or a form.
+fn ask_word(ask: Ask, word: &str) -> Option<Ask>
+    requires part { IsPart ask }
+    ensures is { result ≡ ask_word ask word.now }
+    ensures part { IfSome result IsPart }
+{
+    match kind_named(word) {
+        Some(kind) => ask_kind(ask, kind),
+        None => match form_named(word) {
+            Some(form) => ask_form(ask, form),
+            None => None,
+        },
+    }
+}
+
+// Returns what is asked for with `part`.
+fn begin_part(so_far: AskedSoFar) -> Option<AskedSoFar>
+    requires part { IsPart so_far.ask }
+    ensures is { result ≡ begin_part so_far }
+    ensures part { IfSome result (λ next. IsPart next.ask) }
+{
+    if so_far.is_parted {
+        return None;
+    }
+    Some(AskedSoFar {
+        awaited: Awaited::Part,
+        is_parted: true,
+        ..so_far
     })
 }
 
-/// What the words ask for, or `None` where they have none of the forms that there are.
+// Returns what is asked for with a word that is no number of a part.
+fn read_any(so_far: AskedSoFar, word: &str) -> Option<AskedSoFar>
+    requires part { IsPart so_far.ask }
+    ensures is { result ≡ read_any so_far word.now }
+    ensures part { IfSome result (λ next. IsPart next.ask) }
+{
+    if word == "part" {
+        return begin_part(so_far);
+    }
+    match ask_word(so_far.ask, word) {
+        Some(ask) => Some(AskedSoFar { ask, ..so_far }),
+        None => None,
+    }
+}
+
+// Returns what is asked for with the number of a part.
+fn read_part(so_far: AskedSoFar, word: &str) -> Option<AskedSoFar>
+    ensures is { result ≡ read_part so_far word.now }
+    ensures part { IfSome result (λ next. IsPart next.ask) }
+{
+    let part = numeral_in(word.as_bytes(), 1, u32::MAX)?;
+    Some(AskedSoFar {
+        ask: Ask {
+            part,
+            parts: u32::MAX,
+            ..so_far.ask
+        },
+        awaited: Awaited::Parts,
+        is_parted: so_far.is_parted,
+    })
+}
+
+// Returns what is asked for with the number of parts.
+fn read_parts(so_far: AskedSoFar, word: &str) -> Option<AskedSoFar>
+    requires part { IsPart so_far.ask }
+    ensures is { result ≡ read_parts so_far word.now }
+    ensures part { IfSome result (λ next. IsPart next.ask) }
+{
+    let parts = numeral_in(word.as_bytes(), so_far.ask.part, u32::MAX)?;
+    Some(AskedSoFar {
+        ask: Ask {
+            parts,
+            ..so_far.ask
+        },
+        awaited: Awaited::Any,
+        is_parted: so_far.is_parted,
+    })
+}
+
+// Returns what is asked for with one more word.
+fn read_word(so_far: AskedSoFar, word: &str) -> Option<AskedSoFar>
+    requires part { IsPart so_far.ask }
+    ensures is { result ≡ read_word so_far word.now }
+    ensures part { IfSome result (λ next. IsPart next.ask) }
+{
+    match so_far.awaited {
+        Awaited::Any => read_any(so_far, word),
+        Awaited::Part => read_part(so_far, word),
+        Awaited::Parts => read_parts(so_far, word),
+    }
+}
+
+// Returns what is asked for with these words more.
+fn read_words(start: AskedSoFar, words: &[String]) -> Option<AskedSoFar>
+    requires part { IsPart start.ask }
+    ensures is { result ≡ read_words start (words_of words.now) }
+    ensures part { IfSome result (λ next. IsPart next.ask) }
+{
+    let mut so_far = start;
+    for word in words {
+        match read_word(so_far, word) {
+            Some(next) => so_far = next,
+            None => return None,
+        }
+    }
+    Some(so_far)
+}
+
+// Returns whether no number is missing.
+fn is_whole(awaited: Awaited) -> bool
+    ensures { result ≡ is_whole awaited }
+{
+    match awaited {
+        Awaited::Any => true,
+        Awaited::Part | Awaited::Parts => false,
+    }
+}
+
+// Returns whether a form has parts.
+fn may_be_parted(form: Form) -> bool
+    ensures { result ≡ may_be_parted form }
+{
+    match form {
+        Form::Table | Form::Headed | Form::Json => true,
+        Form::Summary => false,
+    }
+}
+
+// Returns what was asked for at the end of the words.
+fn finished(so_far: AskedSoFar) -> Option<Ask>
+    requires part { IsPart so_far.ask }
+    ensures is { result ≡ finished so_far }
+    ensures part { IfSome result IsPart }
+{
+    if is_whole(so_far.awaited) && (!so_far.is_parted || may_be_parted(so_far.ask.form)) {
+        Some(so_far.ask)
+    } else {
+        None
+    }
+}
+
+// Nothing but a depth was read.
+fn begun(depth: Depth) -> AskedSoFar
+    ensures is { result ≡ begun depth }
+    ensures part { IsPart result.ask }
+{
+    AskedSoFar {
+        ask: Ask {
+            depth,
+            kinds: NO_KINDS,
+            form: Form::Table,
+            part: 1,
+            parts: 1,
+        },
+        awaited: Awaited::Any,
+        is_parted: false,
+    }
+}
+
+/// Returns what the words ask for, or `None` where they have none of the forms that there are.
+#[tactic(auto, unfolding(crate::specs::Words::asked))]
 pub fn asked(words: &[String]) -> Option<Ask>
     ensures is { result ≡ asked (words_of words.now) }
-    ensures part { IfSome result (λ ask. (1 ≤ ask.part) × (ask.part ≤ ask.parts)) }
+    ensures part { IfSome result IsPart }
 {
-    match words {
-        [word] => whole(word),
-        [word, part, parts] => part_of(word, part, parts),
-        _ => None,
-    }
+    let [word, others @ ..] = words else {
+        return None;
+    };
+    let depth = depth_named(word)?;
+    let so_far = read_words(begun(depth), others)?;
+    finished(so_far)
 }

@@ -1,49 +1,114 @@
-//! The circuits of a plan in a case, counted.
-ghost use Rattle.std.specs.Prelude.{◌≡◌, ◌*◌, ◌≤◌, List, length, count_by};
-ghost use Rattle.sdh_restoration.specs.Applied.{is_applied};
+//! What becomes of the circuits of a plan in a case, and counts of them.
+ghost use Rattle.std.specs.Prelude.{◌≡◌, ◌+◌, ◌<◌, ◌≤◌, List, Some, if◌then◌else◌, length, max, slice_get};
+ghost use Rattle.sdh_circuits.specs.Provisioned.{Provisioned};
 ghost use Rattle.sdh_verdicts.specs.declared.failure.Failure.{Failure};
-ghost use Rattle.sdh_verdicts.specs.Verdicts.{AreApplied, requests_with};
-ghost use Rattle.sdh_whatif_cli.specs.Counting.{same_verdict, count_of, longest_of};
+ghost use Rattle.sdh_whatif_cli.specs.Counting.{AreSpansOf, fate_by, fate_of, same_fate, counts_of};
 
 use sdh_plan::Plan;
-use sdh_verdicts::{AppliedSpans, Verdict, told, told_hops};
+use sdh_verdicts::{CaseSpans, Verdict, told, told_hops, told_impaired};
 
-/// Whether two verdicts are one.
-pub fn same_verdict(verdict: Verdict, other: Verdict) -> bool
-    ensures { result ≡ same_verdict verdict other }
+/// What becomes of a circuit.
+#[derive(Clone, Copy, Debug, PartialEq, Eq)]
+pub enum Fate {
+    /// Its ends are joined by its own arc, of which no span is degraded or asked for.
+    Kept,
+    /// They are joined by its own arc, and a span of it is degraded or asked for.
+    Impaired,
+    /// They are joined round applied spans.
+    Over,
+    /// They aren't joined.
+    Lost,
+}
+
+/// How many circuits become each of these, and over how many spans the longest way leads.
+#[derive(Clone, Copy, Debug, PartialEq, Eq)]
+pub struct Counts {
+    pub kept: u8,
+    pub impaired: u8,
+    pub over: u8,
+    pub lost: u8,
+    pub hops: u8,
+}
+
+// Returns what becomes of a circuit with this verdict.
+fn fate_by(verdict: Verdict, impaired: bool) -> Fate
+    ensures { result ≡ fate_by verdict impaired }
 {
-    match (verdict, other) {
-        (Verdict::Kept, Verdict::Kept) => true,
-        (Verdict::Over, Verdict::Over) => true,
-        (Verdict::Lost, Verdict::Lost) => true,
-        _ => false,
+    match verdict {
+        Verdict::Kept if impaired => Fate::Impaired,
+        Verdict::Kept => Fate::Kept,
+        Verdict::Over => Fate::Over,
+        Verdict::Lost => Fate::Lost,
     }
 }
 
-/// Of how many circuits this becomes.
-pub fn count_of(plan: &Plan, applied: &AppliedSpans, verdict: Verdict) -> u8
-    requires case { (case : List Failure) × AreApplied (length plan.now.nodes) (is_applied (requests_with plan.now case)) applied.now }
-    ensures { (case : List Failure) → AreApplied (length plan.now.nodes) (is_applied (requests_with plan.now case)) applied.now
-        → result ≡ count_of plan.now case verdict }
+/// Returns what becomes of a circuit, by its number, in the case of which these are the spans.
+pub fn fate_of(plan: &Plan, spans: &CaseSpans, number: u8) -> Fate
+    requires number { number < length plan.now.circuits }
+    requires case { (case : List Failure) × AreSpansOf plan.now case spans.now }
+    ensures { (case : List Failure) (c : Provisioned) → AreSpansOf plan.now case spans.now
+        → slice_get plan.now.circuits number ≡ Some c → result ≡ fate_of plan.now case c }
 {
-    let mut count = 0;
-    for i in 0..plan.circuits().len() {
-        if same_verdict(verdict, told(plan, applied, i as u8)) {
-            count += 1;
-        }
-    }
-    count
+    let verdict = told(plan, &spans.applied, number);
+    let impaired = told_impaired(plan, &spans.troubled, number);
+    fate_by(verdict, impaired)
 }
 
-/// Over how many spans the longest way leads, of the circuits whose ends are joined.
-pub fn longest_of(plan: &Plan, applied: &AppliedSpans) -> u8
-    requires case { (case : List Failure) × AreApplied (length plan.now.nodes) (is_applied (requests_with plan.now case)) applied.now }
-    ensures { (case : List Failure) → AreApplied (length plan.now.nodes) (is_applied (requests_with plan.now case)) applied.now
-        → result ≡ longest_of plan.now case }
+// Returns the counts with one circuit more, of which this becomes, and whose bytes go over so many spans.
+fn with_fate(counts: Counts, fate: Fate, hops: u8) -> Counts
+    requires few { (counts.kept < 255) × (counts.impaired < 255) × (counts.over < 255) × (counts.lost < 255) }
+    ensures kept { result.kept ≡ counts.kept + (if same_fate Fate.Kept fate then 1 else 0) }
+    ensures impaired { result.impaired ≡ counts.impaired + (if same_fate Fate.Impaired fate then 1 else 0) }
+    ensures over { result.over ≡ counts.over + (if same_fate Fate.Over fate then 1 else 0) }
+    ensures lost { result.lost ≡ counts.lost + (if same_fate Fate.Lost fate then 1 else 0) }
+    ensures hops { result.hops ≡ max hops counts.hops }
+    ensures low { (result.kept ≤ counts.kept + 1) × (result.impaired ≤ counts.impaired + 1) × (result.over ≤ counts.over + 1)
+        × (result.lost ≤ counts.lost + 1) }
 {
-    let mut longest = 0;
-    for i in 0..plan.circuits().len() {
-        longest = told_hops(plan, applied, i as u8).max(longest);
+    let hops = hops.max(counts.hops);
+    match fate {
+        Fate::Kept => Counts {
+            kept: counts.kept + 1,
+            hops,
+            ..counts
+        },
+        Fate::Impaired => Counts {
+            impaired: counts.impaired + 1,
+            hops,
+            ..counts
+        },
+        Fate::Over => Counts {
+            over: counts.over + 1,
+            hops,
+            ..counts
+        },
+        Fate::Lost => Counts {
+            lost: counts.lost + 1,
+            hops,
+            ..counts
+        },
     }
-    longest
+}
+
+const NO_COUNTS: Counts = Counts {
+    kept: 0,
+    impaired: 0,
+    over: 0,
+    lost: 0,
+    hops: 0,
+};
+
+/// Returns the counts of the case of which these are the spans.
+pub fn counts_of(plan: &Plan, spans: &CaseSpans) -> Counts
+    requires case { (case : List Failure) × AreSpansOf plan.now case spans.now }
+    ensures { (case : List Failure) → AreSpansOf plan.now case spans.now → result ≡ counts_of plan.now case }
+{
+    let mut counts = NO_COUNTS;
+    for i in 0..plan.circuits().len() {
+        let number = i as u8;
+        let fate = fate_of(plan, spans, number);
+        let hops = told_hops(plan, &spans.applied, number);
+        counts = with_fate(counts, fate, hops);
+    }
+    counts
 }

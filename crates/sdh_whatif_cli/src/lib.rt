@@ -5,14 +5,18 @@
 
 mod ask;
 mod counting;
+mod forms;
 pub mod laws;
 mod line;
 mod lines;
+mod names;
 mod singles;
 mod table;
 mod top;
 
-pub use ask::{Ask, Depth, asked};
+pub use ask::{Ask, AskedSoFar, Awaited, Depth, Form, Kind, Kinds, asked};
+pub use counting::{Counts, Fate};
+pub use forms::Entry;
 pub use line::Line;
 pub use sdh_report::Status;
 pub use singles::Tally;

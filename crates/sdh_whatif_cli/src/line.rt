@@ -6,7 +6,7 @@ use std::alloc::{AllocError, Global};
 use std::marker::Model;
 
 /// Room for any one line, in bytes.
-pub const LINE_ROOM: usize = 4096;
+pub const LINE_ROOM: usize = 8192;
 
 /// The bytes of a line. Its room is reserved when it is made, so no part of a line takes memory.
 #[derive(Drop)]
@@ -21,11 +21,11 @@ impl Model for Line {
 
     ghost view = { λ l. l.bytes.items };
 
-    ghost invariant = { λ l. 4096 ≤ vec_capacity l.bytes };
+    ghost invariant = { λ l. 8192 ≤ vec_capacity l.bytes };
 }
 
 impl Line {
-    /// An empty line.
+    /// Returns an empty line.
     pub fn try_new(alloc: Global) -> Result<Line, AllocError>
         ensures { IfOk result (λ line. line ≡ []) }
     {
@@ -34,7 +34,7 @@ impl Line {
         })
     }
 
-    /// The line so far.
+    /// Returns the line so far.
     pub fn bytes(&self) -> &[u8]
         ensures { result.now ≡ self.now }
     {
@@ -50,7 +50,7 @@ impl Line {
 
     /// Appends a part.
     pub fn put(&mut self, part: &[u8])
-        requires { length self.old + length part.now ≤ 4096 }
+        requires { length self.old + length part.now ≤ 8192 }
         ensures { self.new ≡ self.old ++ part.now }
     {
         self.bytes.extend_from_slice(part).unwrap();
@@ -58,15 +58,25 @@ impl Line {
 
     /// Appends a number in decimal.
     pub fn put_number(&mut self, number: u64)
-        requires { length self.old + length (decimal number) ≤ 4096 }
+        requires { length self.old + length (decimal number) ≤ 8192 }
         ensures { self.new ≡ self.old ++ decimal number }
     {
         let mut buffer = Buffer::new();
         self.put(buffer.format(number).as_bytes());
     }
+
+    /// Appends a number of any size in decimal.
+    pub fn put_long(&mut self, number: u64)
+        requires room { length self.old + 20 ≤ 8192 }
+        ensures text { self.new ≡ self.old ++ decimal number }
+        ensures short { length self.new ≤ length self.old + 20 }
+    {
+        self.put_number(number);
+    }
+
     /// Appends a small number in decimal.
     pub fn put_small(&mut self, number: u16)
-        requires room { length self.old + 5 ≤ 4096 }
+        requires room { length self.old + 5 ≤ 8192 }
         ensures text { self.new ≡ self.old ++ decimal number }
         ensures short { length self.new ≤ length self.old + 5 }
     {

@@ -1,204 +1,180 @@
-//! The parts of a line.
-ghost use Rattle.std.specs.Prelude.{◌≡◌, ◌+◌, ◌*◌, ◌<◌, ◌≤◌, ◌++◌, List, All, codes, decimal, length, slice_index, slice_get, Some, []};
-ghost use Rattle.std.specs.List.{flat_map};
-ghost use Rattle.std.specs.Option.{option_map_or};
+//! The lines of cases.
+ghost use Rattle.std.specs.Prelude.{◌≡◌, ◌+◌, ◌<◌, ◌≤◌, ◌++◌, List, All, [], codes, decimal, length, slice_get, Some};
 ghost use Rattle.sdh_circuits.specs.Provisioned.{Provisioned};
-ghost use Rattle.sdh_restoration.specs.Applied.{is_applied};
-ghost use Rattle.sdh_report.specs.Lines.{side_text};
 ghost use Rattle.sdh_verdicts.specs.declared.failure.Failure.{Failure};
-ghost use Rattle.sdh_verdicts.specs.Failures.{IsFailureIn, steps_of, case_steps};
-ghost use Rattle.sdh_verdicts.specs.Verdicts.{AreApplied, AreSidesOf, requests_with};
-ghost use Rattle.sdh_whatif_cli.specs.Lines.{place_text, fibre_text, order_text, step_text, steps_text, IsAt, lost_text, number_text};
-ghost use Rattle.sdh_whatif_cli.specs.Lines.{line_text};
+ghost use Rattle.sdh_verdicts.specs.Failures.{IsFailureIn};
+ghost use Rattle.sdh_verdicts.specs.Verdicts.{AreSidesOf};
+ghost use Rattle.sdh_whatif_cli.specs.Counting.{AreSpansOf};
+ghost use Rattle.sdh_whatif_cli.specs.Lines.{spans_text, case_text, counts_text, fate_cell, before_fate, fate_text, fates_text, line_text, head_record};
 
-use crate::counting::{count_of, longest_of, same_verdict};
+use crate::ask::Form;
+use crate::counting::{Counts, Fate, counts_of, fate_of};
+use crate::forms::{Entry, is_json, put_between, put_either};
 use crate::line::Line;
-use sdh_plan::{Plan, Step};
-use sdh_request::Command;
-use sdh_ringmap::{Pos, RingMap, Side};
-use sdh_terms::Condition;
-use sdh_verdicts::{AppliedSpans, Failure, Sides, Verdict, step_of, told};
+use crate::names::{put_names, put_script, put_span_name};
+use sdh_plan::Plan;
+use sdh_ringmap::Pos;
+use sdh_verdicts::{CaseSpans, Failure, Sides, told_hops};
 
-// The identifier of a node.
-fn put_id(line: &mut Line, map: &RingMap, at: Pos)
-    requires at { at.0 < length map.now }
-    requires room { length line.old + 2 ≤ 4096 }
-    ensures text { line.new ≡ line.old ++ decimal (slice_index map.now at.0) }
-    ensures short { length line.new ≤ length line.old + 2 }
-{
-    line.put_number(u64::from(map.id(at)));
-}
+// ---- a case
 
-// A side.
-fn put_side(line: &mut Line, side: Side)
-    requires room { length line.old + 4 ≤ 4096 }
-    ensures text { line.new ≡ line.old ++ side_text side }
-    ensures short { length line.new ≤ length line.old + 4 }
+// The applied spans.
+fn put_spans(line: &mut Line, form: Form, plan: &Plan, spans: &CaseSpans)
+    requires case { (case : List Failure) × AreSpansOf plan.now case spans.now }
+    requires room { length line.old + 704 ≤ 8192 }
+    ensures text { (case : List Failure) → AreSpansOf plan.now case spans.now → line.new ≡ line.old ++ spans_text form plan.now case }
+    ensures short { length line.new ≤ length line.old + 704 }
 {
-    match side {
-        Side::West => line.put(b"west"),
-        Side::East => line.put(b"east"),
+    let applied = spans.applied.spans();
+    for i in 0..applied.len() {
+        put_between(line, form, b",", b" ", i);
+        put_span_name(line, form, plan.map(), Pos(applied[i].0));
     }
 }
 
-// A verb, and the node and the side that it is about.
-fn put_place(line: &mut Line, map: &RingMap, verb: &[u8], at: Pos, side: Side)
-    requires at { at.0 < length map.now }
-    requires verb { length verb.now ≤ 8 }
-    requires room { length line.old + 15 ≤ 4096 }
-    ensures text { line.new ≡ line.old ++ place_text map.now verb.now at side }
-    ensures short { length line.new ≤ length line.old + 15 }
-{
-    line.put(verb);
-    put_id(line, map, at);
-    line.put(b" ");
-    put_side(line, side);
-}
-
-// A condition of a fibre.
-fn put_fibre(line: &mut Line, map: &RingMap, at: Pos, side: Side, condition: Condition)
-    requires at { at.0 < length map.now }
-    requires room { length line.old + 21 ≤ 4096 }
-    ensures text { line.new ≡ line.old ++ fibre_text map.now at side condition }
-    ensures short { length line.new ≤ length line.old + 21 }
-{
-    match condition {
-        Condition::Clear => put_place(line, map, b"mend ", at, side),
-        Condition::Cut => put_place(line, map, b"cut ", at, side),
-        Condition::Degraded(count) => {
-            put_place(line, map, b"degrade ", at, side);
-            line.put(b" ");
-            line.put_small(count);
-        }
-    }
-}
-
-// A command.
-fn put_order(line: &mut Line, map: &RingMap, at: Pos, side: Side, command: Command)
-    requires at { at.0 < length map.now }
-    requires room { length line.old + 15 ≤ 4096 }
-    ensures text { line.new ≡ line.old ++ order_text map.now at side command }
-    ensures short { length line.new ≤ length line.old + 15 }
-{
-    match command {
-        Command::Clear => put_place(line, map, b"clear ", at, side),
-        Command::Forced => put_place(line, map, b"forced ", at, side),
-        Command::Manual => put_place(line, map, b"manual ", at, side),
-    }
-}
-
-// A step, and what parts it from the next.
-fn put_step(line: &mut Line, map: &RingMap, step: Step)
-    requires at { IsAt (length map.now) step }
-    requires room { length line.old + 23 ≤ 4096 }
-    ensures text { line.new ≡ line.old ++ step_text map.now step }
-    ensures short { length line.new ≤ length line.old + 23 }
-{
-    match step {
-        Step::Fibre(event) => {
-            put_fibre(line, map, event.at, event.side, event.condition);
-            line.put(b"; ");
-        }
-        Step::Order(at, side, command) => {
-            put_order(line, map, at, side, command);
-            line.put(b"; ");
-        }
-        Step::Moment(_) | Step::Hold(_, _) | Step::Slip(_, _, _) | Step::Settle => {}
-    }
-}
-
-// Of a failure's steps, the one at a place, where there is one.
-fn put_step_at(line: &mut Line, map: &RingMap, threshold: u16, failure: Failure, i: usize)
-    requires failure { IsFailureIn (length map.now) failure }
-    requires room { length line.old + 23 ≤ 4096 }
-    ensures text { line.new ≡ line.old ++ option_map_or (step_text map.now) (slice_get (steps_of (length map.now) threshold failure) i) [] }
-    ensures short { length line.new ≤ length line.old + 23 }
-{
-    if let Some(step) = step_of(map, threshold, failure, i) {
-        put_step(line, map, step);
-    }
-}
-
-// The steps of a failure.
-fn put_failure(line: &mut Line, map: &RingMap, threshold: u16, failure: Failure)
-    requires failure { IsFailureIn (length map.now) failure }
-    requires room { length line.old + 92 ≤ 4096 }
-    ensures text { line.new ≡ line.old ++ steps_text map.now (steps_of (length map.now) threshold failure) }
-    ensures short { length line.new ≤ length line.old + 92 }
-{
-    put_step_at(line, map, threshold, failure, 0);
-    put_step_at(line, map, threshold, failure, 1);
-    put_step_at(line, map, threshold, failure, 2);
-    put_step_at(line, map, threshold, failure, 3);
-}
-
-// The steps of a case.
-fn put_case(line: &mut Line, map: &RingMap, threshold: u16, case: &[Failure])
-    requires case { All (IsFailureIn (length map.now)) case.now }
+// The number of a case, its failures, its steps and its applied spans.
+fn put_case(line: &mut Line, plan: &Plan, spans: &CaseSpans, entry: Entry, case: &[Failure])
+    requires case { All (IsFailureIn (length plan.now.nodes)) case.now }
     requires few { length case.now ≤ 3 }
-    requires room { length line.old + 276 ≤ 4096 }
-    ensures text { line.new ≡ line.old ++ steps_text map.now (case_steps (length map.now) threshold case.now) }
-    ensures short { length line.new ≤ length line.old + 276 }
+    requires spans { AreSpansOf plan.now case.now spans.now }
+    requires room { length line.old + 1700 ≤ 8192 }
+    ensures text { line.new ≡ line.old ++ case_text entry.form plan.now entry.number case.now }
+    ensures short { length line.new ≤ length line.old + 1700 }
 {
-    for failure in case {
-        put_failure(line, map, threshold, *failure);
+    put_either(line, entry.form, b"{\"number\":", b"");
+    line.put_long(entry.number as u64);
+    put_either(line, entry.form, b",\"failures\":[", b",");
+    put_names(line, entry.form, plan.map(), case);
+    put_either(line, entry.form, b"],\"steps\":[", b",\"");
+    put_script(
+        line,
+        entry.form,
+        plan.map(),
+        plan.settings().threshold,
+        case,
+    );
+    put_either(line, entry.form, b"],\"applied\":[", b"\",");
+    put_spans(line, entry.form, plan, spans);
+    put_either(line, entry.form, b"]", b"");
+}
+
+// ---- counts
+
+// Counts of circuits, and the longest way.
+fn put_counts(line: &mut Line, form: Form, counts: Counts)
+    requires room { length line.old + 90 ≤ 8192 }
+    ensures text { line.new ≡ line.old ++ counts_text form counts }
+    ensures short { length line.new ≤ length line.old + 90 }
+{
+    put_either(line, form, b",\"kept\":", b",");
+    line.put_small(u16::from(counts.kept));
+    put_either(line, form, b",\"impaired\":", b",");
+    line.put_small(u16::from(counts.impaired));
+    put_either(line, form, b",\"over\":", b",");
+    line.put_small(u16::from(counts.over));
+    put_either(line, form, b",\"lost\":", b",");
+    line.put_small(u16::from(counts.lost));
+    put_either(line, form, b",\"hops\":", b",");
+    line.put_small(u16::from(counts.hops));
+}
+
+// ---- circuits
+
+// What becomes of a circuit whose bytes go over so many spans.
+fn put_cell(line: &mut Line, form: Form, fate: Fate, hops: u8)
+    requires room { length line.old + 13 ≤ 8192 }
+    ensures text { line.new ≡ line.old ++ fate_cell form fate hops }
+    ensures short { length line.new ≤ length line.old + 13 }
+{
+    match fate {
+        Fate::Kept => put_either(line, form, b"\"kept\"", b""),
+        Fate::Impaired => put_either(line, form, b"\"impaired\"", b"i"),
+        Fate::Over => line.put_small(u16::from(hops)),
+        Fate::Lost => put_either(line, form, b"\"lost\"", b"x"),
     }
 }
 
-// A number behind a comma.
-fn put_count(line: &mut Line, count: u8)
-    requires room { length line.old + 6 ≤ 4096 }
-    ensures text { line.new ≡ line.old ++ number_text count }
-    ensures short { length line.new ≤ length line.old + 6 }
+// What stands before that, where the circuit has this name.
+fn put_before(line: &mut Line, form: Form, name: &[u8])
+    requires name { length name.now ≤ 16 }
+    requires room { length line.old + 19 ≤ 8192 }
+    ensures text { line.new ≡ line.old ++ before_fate form name.now }
+    ensures short { length line.new ≤ length line.old + 19 }
 {
-    line.put(b",");
-    line.put_small(u16::from(count));
-}
-
-// The name of a circuit where it is lost.
-fn put_if_lost(line: &mut Line, plan: &Plan, applied: &AppliedSpans, number: u8)
-    requires number { number < length plan.now.circuits }
-    requires case { (case : List Failure) × AreApplied (length plan.now.nodes) (is_applied (requests_with plan.now case)) applied.now }
-    requires room { length line.old + 17 ≤ 4096 }
-    ensures text { (case : List Failure) (c : Provisioned)
-        → AreApplied (length plan.now.nodes) (is_applied (requests_with plan.now case)) applied.now
-        → slice_get plan.now.circuits number ≡ Some c → line.new ≡ line.old ++ lost_text plan.now case c }
-    ensures short { length line.new ≤ length line.old + 17 }
-{
-    if same_verdict(Verdict::Lost, told(plan, applied, number)) {
+    if is_json(form) {
+        line.put(b"\"");
+        line.put(name);
+        line.put(b"\":");
+    } else {
         line.put(b",");
-        line.put(plan.circuits().get(number).name().as_slice());
     }
 }
 
-// The names of the circuits that are lost.
-fn put_lost(line: &mut Line, plan: &Plan, applied: &AppliedSpans)
-    requires case { (case : List Failure) × AreApplied (length plan.now.nodes) (is_applied (requests_with plan.now case)) applied.now }
-    requires room { length line.old + 2176 ≤ 4096 }
-    ensures text { (case : List Failure) → AreApplied (length plan.now.nodes) (is_applied (requests_with plan.now case)) applied.now
-        → line.new ≡ line.old ++ flat_map (lost_text plan.now case) plan.now.circuits }
-    ensures short { length line.new ≤ length line.old + 2176 }
+// The field of a circuit, by its number.
+fn put_fate(line: &mut Line, form: Form, plan: &Plan, spans: &CaseSpans, number: u8)
+    requires number { number < length plan.now.circuits }
+    requires case { (case : List Failure) × AreSpansOf plan.now case spans.now }
+    requires room { length line.old + 32 ≤ 8192 }
+    ensures text { (case : List Failure) (c : Provisioned) → AreSpansOf plan.now case spans.now
+        → slice_get plan.now.circuits number ≡ Some c → line.new ≡ line.old ++ fate_text form plan.now case c }
+    ensures short { length line.new ≤ length line.old + 32 }
+{
+    let fate = fate_of(plan, spans, number);
+    let hops = told_hops(plan, &spans.applied, number);
+    put_before(line, form, plan.circuits().get(number).name().as_slice());
+    put_cell(line, form, fate, hops);
+}
+
+// The fields of all circuits.
+fn put_fates(line: &mut Line, form: Form, plan: &Plan, spans: &CaseSpans)
+    requires case { (case : List Failure) × AreSpansOf plan.now case spans.now }
+    requires room { length line.old + 5760 ≤ 8192 }
+    ensures text { (case : List Failure) → AreSpansOf plan.now case spans.now → line.new ≡ line.old ++ fates_text form plan.now case }
+    ensures short { length line.new ≤ length line.old + 5760 }
 {
     for i in 0..plan.circuits().len() {
-        put_if_lost(line, plan, applied, i as u8);
+        put_between(line, form, b",", b"", i);
+        put_fate(line, form, plan, spans, i as u8);
     }
 }
 
-/// The line of a case.
-pub fn put_line(line: &mut Line, plan: &Plan, sides: &Sides<'_>, case: &[Failure])
+// ---- lines
+
+/// Appends the line of a case, in a form and with the number that it has among those that are told.
+pub fn put_line(line: &mut Line, plan: &Plan, sides: &Sides<'_>, entry: Entry, case: &[Failure])
     requires sides { AreSidesOf plan.now sides.now }
     requires case { All (IsFailureIn (length plan.now.nodes)) case.now }
     requires few { length case.now ≤ 3 }
     requires empty { line.old ≡ [] }
-    ensures { line.new ≡ line_text plan.now case.now }
+    ensures { line.new ≡ line_text plan.now case.now entry }
 {
-    let applied = sides.applied(case);
-    put_case(line, plan.map(), plan.settings().threshold, case);
-    line.put(b"settle");
-    put_count(line, count_of(plan, &applied, Verdict::Kept));
-    put_count(line, count_of(plan, &applied, Verdict::Over));
-    put_count(line, count_of(plan, &applied, Verdict::Lost));
-    put_count(line, longest_of(plan, &applied));
-    put_lost(line, plan, &applied);
-    line.put(b"\n");
+    let spans = sides.spans(case);
+    put_case(line, plan, &spans, entry, case);
+    put_counts(line, entry.form, counts_of(plan, &spans));
+    put_either(line, entry.form, b",\"circuits\":{", b"");
+    put_fates(line, entry.form, plan, &spans);
+    put_either(line, entry.form, b"}}\n", b"\r\n");
+}
+
+// The name of a circuit, by its number, behind a comma.
+fn put_circuit(line: &mut Line, plan: &Plan, number: u8)
+    requires number { number < length plan.now.circuits }
+    requires room { length line.old + 17 ≤ 8192 }
+    ensures text { (c : Provisioned) → slice_get plan.now.circuits number ≡ Some c → line.new ≡ line.old ++ (codes "," ++ c.name) }
+    ensures short { length line.new ≤ length line.old + 17 }
+{
+    line.put(b",");
+    line.put(plan.circuits().get(number).name().as_slice());
+}
+
+/// Appends the record of the fields' names.
+pub fn put_head(line: &mut Line, plan: &Plan)
+    requires empty { line.old ≡ [] }
+    ensures { line.new ≡ head_record plan.now }
+{
+    line.put(b"number,failures,steps,applied,kept,impaired,over,lost,hops");
+    for i in 0..plan.circuits().len() {
+        put_circuit(line, plan, i as u8);
+    }
+    line.put(b"\r\n");
 }

@@ -1,12 +1,13 @@
 //! What each failure alone takes, kind by kind.
-ghost use Rattle.std.specs.Prelude.{◌≡◌, ◌+◌, ◌*◌, ◌<◌, ◌≤◌, ◌++◌, codes, decimal, length};
+ghost use Rattle.std.specs.Prelude.{◌≡◌, ◌+◌, ◌*◌, ◌<◌, ◌≤◌, ◌++◌, codes, decimal, length, []};
 ghost use Rattle.sdh_verdicts.specs.Verdicts.{AreSidesOf};
-ghost use Rattle.sdh_whatif_cli.specs.Singles.{with_case, tallied, tally_of, some_text, losses_text, tally_line, singles_text};
+ghost use Rattle.sdh_whatif_cli.specs.Singles.{with_case, tallied, tally_of, kind_text, tally_record, first_of, number_of, kind_record, singles_text};
 
-use crate::counting::count_of;
+use crate::ask::{Kind, Kinds};
+use crate::counting::counts_of;
 use crate::line::Line;
 use sdh_plan::Plan;
-use sdh_verdicts::{Sides, Verdict, failure_at};
+use sdh_verdicts::{Sides, failure_at};
 
 /// So many cases, so many of them in which circuits are lost, and the most that are lost in one.
 #[derive(Clone, Copy, Debug, PartialEq, Eq)]
@@ -40,8 +41,8 @@ fn tallied(plan: &Plan, sides: &Sides<'_>, number: usize, tally: Tally) -> Tally
     if sides.mends(failure) {
         return tally;
     }
-    let applied = sides.applied(&[failure]);
-    with_case(count_of(plan, &applied, Verdict::Lost), tally)
+    let spans = sides.spans(&[failure]);
+    with_case(counts_of(plan, &spans).lost, tally)
 }
 
 // Of so many failures, from a number on.
@@ -62,67 +63,87 @@ fn tally_of(plan: &Plan, sides: &Sides<'_>, from: usize, count: usize) -> Tally
     tally
 }
 
-// In how many of them circuits are lost, and how many at most.
-fn put_some(line: &mut Line, tally: Tally)
-    requires room { length line.old + 49 ≤ 4096 }
-    ensures text { line.new ≡ line.old ++ some_text tally }
-    ensures short { length line.new ≤ length line.old + 49 }
+// A number behind a comma.
+fn put_field(line: &mut Line, number: u8)
+    requires room { length line.old + 6 ≤ 8192 }
+    ensures text { line.new ≡ line.old ++ codes "," ++ decimal number }
+    ensures short { length line.new ≤ length line.old + 6 }
 {
-    line.put(b"circuits are lost in ");
-    line.put_small(u16::from(tally.losing));
-    line.put(b" of them; at most ");
-    line.put_small(u16::from(tally.most));
+    line.put(b",");
+    line.put_small(u16::from(number));
 }
 
-// What is lost in them.
-fn put_losses(line: &mut Line, tally: Tally)
-    requires room { length line.old + 49 ≤ 4096 }
-    ensures text { line.new ≡ line.old ++ losses_text tally }
-    ensures short { length line.new ≤ length line.old + 49 }
+// The word of a kind.
+fn put_kind(line: &mut Line, kind: Kind)
+    requires room { length line.old + 8 ≤ 8192 }
+    ensures text { line.new ≡ line.old ++ kind_text kind }
+    ensures short { length line.new ≤ length line.old + 8 }
 {
-    if tally.losing == 0 {
-        line.put(b"no circuit is lost");
-    } else {
-        put_some(line, tally);
+    match kind {
+        Kind::Degraded => line.put(b"degraded"),
+        Kind::Fibres => line.put(b"fibres"),
+        Kind::Spans => line.put(b"spans"),
+        Kind::Nodes => line.put(b"nodes"),
+        Kind::Manual => line.put(b"manual"),
+        Kind::Forced => line.put(b"forced"),
     }
 }
 
-// The line of some failures.
-fn put_tally(line: &mut Line, kind: &[u8], tally: Tally)
-    requires kind { length kind.now ≤ 15 }
-    requires room { length line.old + 81 ≤ 4096 }
-    ensures text { line.new ≡ line.old ++ tally_line kind.now tally }
-    ensures short { length line.new ≤ length line.old + 81 }
+// The record of some failures.
+fn put_tally(line: &mut Line, kind: Kind, tally: Tally)
+    requires room { length line.old + 28 ≤ 8192 }
+    ensures text { line.new ≡ line.old ++ tally_record kind tally }
+    ensures short { length line.new ≤ length line.old + 28 }
 {
-    line.put(b"single ");
-    line.put(kind);
-    line.put(b": ");
-    line.put_small(u16::from(tally.cases));
-    line.put(b"; ");
-    put_losses(line, tally);
-    line.put(b"\n");
+    put_kind(line, kind);
+    put_field(line, tally.cases);
+    put_field(line, tally.losing);
+    put_field(line, tally.most);
+    line.put(b"\r\n");
 }
 
-/// The lines of all single failures, kind by kind.
-pub fn put_singles(line: &mut Line, plan: &Plan, sides: &Sides<'_>)
-    requires sides { AreSidesOf plan.now sides.now }
-    requires room { length line.old + 486 ≤ 4096 }
-    ensures text { line.new ≡ line.old ++ singles_text plan.now }
-    ensures short { length line.new ≤ length line.old + 486 }
+// Returns where a ring has the failures of a kind: from which number on, and how many.
+fn numbers_of(nodes: usize, kind: Kind) -> (usize, usize)
+    requires few { nodes ≤ 16 }
+    ensures first { result.0 ≡ first_of nodes kind }
+    ensures count { result.1 ≡ number_of nodes kind }
+    ensures within { result.0 + result.1 ≤ 10 * nodes }
+    ensures small { (result.0 ≤ 128) × (result.1 ≤ 32) }
 {
-    let n = plan.map().len();
-    put_tally(line, b"degraded fibres", tally_of(plan, sides, 0, 2 * n));
-    put_tally(line, b"cut fibres", tally_of(plan, sides, 2 * n, 2 * n));
-    put_tally(line, b"spans", tally_of(plan, sides, 4 * n, n));
-    put_tally(line, b"nodes", tally_of(plan, sides, 5 * n, n));
-    put_tally(
-        line,
-        b"manual switches",
-        tally_of(plan, sides, 6 * n, 2 * n),
-    );
-    put_tally(
-        line,
-        b"forced switches",
-        tally_of(plan, sides, 8 * n, 2 * n),
-    );
+    match kind {
+        Kind::Degraded => (0, 2 * nodes),
+        Kind::Fibres => (2 * nodes, 2 * nodes),
+        Kind::Spans => (4 * nodes, nodes),
+        Kind::Nodes => (5 * nodes, nodes),
+        Kind::Manual => (6 * nodes, 2 * nodes),
+        Kind::Forced => (8 * nodes, 2 * nodes),
+    }
+}
+
+// The record of a kind, where it is taken.
+fn put_record(line: &mut Line, plan: &Plan, sides: &Sides<'_>, kinds: Kinds, kind: Kind)
+    requires sides { AreSidesOf plan.now sides.now }
+    requires room { length line.old + 28 ≤ 8192 }
+    ensures text { line.new ≡ line.old ++ kind_record plan.now kinds kind }
+    ensures short { length line.new ≤ length line.old + 28 }
+{
+    if kinds.takes(kind) {
+        let (first, count) = numbers_of(plan.map().len(), kind);
+        put_tally(line, kind, tally_of(plan, sides, first, count));
+    }
+}
+
+/// Appends the records of all single failures, kind by kind.
+pub fn put_singles(line: &mut Line, plan: &Plan, sides: &Sides<'_>, kinds: Kinds)
+    requires sides { AreSidesOf plan.now sides.now }
+    requires empty { line.old ≡ [] }
+    ensures { line.new ≡ singles_text plan.now kinds }
+{
+    line.put(b"kind,cases,losing,most\r\n");
+    put_record(line, plan, sides, kinds, Kind::Degraded);
+    put_record(line, plan, sides, kinds, Kind::Fibres);
+    put_record(line, plan, sides, kinds, Kind::Spans);
+    put_record(line, plan, sides, kinds, Kind::Nodes);
+    put_record(line, plan, sides, kinds, Kind::Manual);
+    put_record(line, plan, sides, kinds, Kind::Forced);
 }

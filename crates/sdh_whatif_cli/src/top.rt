@@ -6,7 +6,7 @@ ghost use Rattle.sdh_outside.specs.Reading.{TakesCount};
 ghost use Rattle.sdh_shell.specs.Reading.{HasPlan};
 ghost use Rattle.sdh_shell.specs.Writing.{Writes, Wrote};
 ghost use Rattle.sdh_shell.specs.Calls.{words_of};
-ghost use Rattle.sdh_whatif_cli.specs.Words.{asked};
+ghost use Rattle.sdh_whatif_cli.specs.Words.{asked, IsPart};
 ghost use Rattle.sdh_whatif_cli.specs.Lines.{table_text};
 ghost use Rattle.sdh_whatif_cli.specs.Laws.{LinesAreTrue};
 ghost use Rattle.sdh_whatif_cli.specs.Outcome.{refusal, OfBytes, IsOutcome, told};
@@ -37,7 +37,9 @@ fn refusal(text: &mut Text, status: Status)
     ensures { text.new.bytes ≡ refusal status }
 {
     match status {
-        Status::Usage => text.own_line(b"usage: sdhwhatif single, double, triple, and PART PARTS"),
+        Status::Usage => text.own_line(
+            b"usage: sdhwhatif single, double, triple, with kinds, part K N, head, json, summary",
+        ),
         _ => {
             last_line_is_short(&status);
             text.last_line(&status);
@@ -60,7 +62,7 @@ fn refuse<W: Sink>(sink: &mut W, mut text: Text, status: Status) -> Told
 
 // Writes the table of a plan.
 fn tell<W: Sink>(alloc: Global, sink: &mut W, plan: &Plan, ask: Ask) -> Result<Told, AllocError>
-    requires part { (1 ≤ ask.part) × (ask.part ≤ ask.parts) }
+    requires part { IsPart ask }
     ensures status { IfOk result (λ x. x.status ≡ Status.Ok) }
     ensures wrote { IfOk result (λ x. Wrote W.exact (W.written sink.old) (W.written sink.new) (W.faults sink.old) (W.faults sink.new)
         (table_text plan.now ask) x.wrote) }
@@ -75,14 +77,14 @@ fn tell<W: Sink>(alloc: Global, sink: &mut W, plan: &Plan, ask: Ask) -> Result<T
     })
 }
 
-// What is asked for, with the plan that a source has.
+// Returns what is asked for, with the plan that a source has.
 fn answer_ask<R: Source, W: Sink>(
     alloc: Global,
     ask: Ask,
     source: &mut R,
     sink: &mut W,
 ) -> Result<Told, AllocError>
-    requires part { (1 ≤ ask.part) × (ask.part ≤ ask.parts) }
+    requires part { IsPart ask }
     ensures outcome { IfOk result (λ x. (text : List ℕ) × (IfSome (R.left source.old) (λ bytes. OfBytes ask bytes x.status text)
         × Wrote W.exact (W.written sink.old) (W.written sink.new) (W.faults sink.old) (W.faults sink.new) text x.wrote)) }
     ensures fault { IfOk result (λ x. x.status ≡ Status.ReadFault → Rose (R.faults source.old) (R.faults source.new)) }
@@ -103,7 +105,7 @@ fn answer_ask<R: Source, W: Sink>(
     }
 }
 
-// All that is done with memory.
+// Returns all that is done with memory.
 fn answer<R: Source, W: Sink>(
     alloc: Global,
     words: &[String],
@@ -135,8 +137,9 @@ fn answer<R: Source, W: Sink>(
 }
 
 /// Does all that the program does. With the word `single`, `double` or `triple` it reads a plan from the source and writes a table:
-/// what becomes of each circuit where nothing more fails than in the plan's script, and where one, two or three things more do; with
-/// two numbers behind the word one part of so many of it. It is written line by line, and all memory is taken before the first.
+/// what becomes of each circuit where nothing more fails than in the plan's script, and where one, two or three things more do; words
+/// behind it tell which kinds of things, which part of the cases, and in which form. It is written line by line, and all memory is
+/// taken before the first.
 pub fn whatif<R: Source, W: Sink>(
     alloc: Global,
     words: &[String],

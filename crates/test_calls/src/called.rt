@@ -7,6 +7,7 @@ use sdh_plant::{FibrePlant, Plant};
 use std::alloc::{AllocError, Global};
 use std::process::Abort;
 use std::test::Fail;
+use test_texts::words_of;
 
 /// A source and a sink: how many bytes they give and take at a time, which of their calls fail, counted from 1, and the room of
 /// the sink.
@@ -44,15 +45,6 @@ pub const NO_WORDS: &[&str] = &[];
 /// Room for every text of these tests, in bytes.
 pub const ROOM: usize = 16_384;
 
-/// The words as the call takes them.
-pub fn words_of(alloc: Global, words: &[&str]) -> Result<Vec<String>, AllocError> {
-    let mut list = Vec::new(alloc);
-    for word in words {
-        list.push(String::from_str(alloc, word)?)?;
-    }
-    Ok(list)
-}
-
 /// The status, and the sink with what was written.
 pub fn call_over<P: Plant>(
     alloc: Global,
@@ -80,11 +72,6 @@ pub fn call(
 ) -> Result<(Status, MemSink), AllocError> {
     let mut plant = FibrePlant::new();
     call_over(alloc, words, document, outside, &mut plant)
-}
-
-/// A plan with the steps of another script, which are quoted texts with commas between them. The plan's own is one settle step.
-pub fn scripted(alloc: Global, plan: &str, script: &str) -> Result<String, AllocError> {
-    plan.replacen(alloc, "\"settle\"", script, 1)
 }
 
 /// How a call ends: its status, the number of it, and all that is written.

@@ -2,14 +2,14 @@
 //! next call is as any other.
 
 use crate::called::{
-    CHECK, DROP_OTHER, NO_WORDS, Outside, READERS, ROOM, RUN, SOUND, ends, ends_over, scripted,
-    words_of,
+    CHECK, DROP_OTHER, NO_WORDS, Outside, READERS, ROOM, RUN, SOUND, ends, ends_over,
 };
-use crate::plans::{SMALLEST, SMALLEST_BROKEN, SMALLEST_TABLES, SMALLEST_TEXT, USAGE};
+use crate::plans::{SMALLEST_BROKEN, SMALLEST_TABLES, SMALLEST_TEXT, USAGE};
 use sdh_cli::{Status, sdhring};
 use sdh_outside::{MemSink, MemSource};
 use sdh_plant::{FailingPlant, FibrePlant, PlantCall, RecordingPlant};
 use std::test::Fail;
+use test_texts::{SMALLEST, scripted, words_of};
 
 // The plan comes in pieces of 64 bytes, and its end in a read of its own.
 #[test]

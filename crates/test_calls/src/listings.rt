@@ -1,10 +1,11 @@
 //! What `drop` and `big` list.
 ghost use Rattle.std.specs.Prelude.{◌≤◌};
 
-use crate::called::{DROP, Outside, SOUND, call, ends, scripted};
-use crate::plans::{CUT_OFF, SMALLEST};
+use crate::called::{DROP, Outside, SOUND, call, ends};
+use crate::plans::CUT_OFF;
 use sdh_cli::Status;
 use std::test::Fail;
+use test_texts::{SMALLEST, scripted};
 
 // The digits of the byte at a place of a chunk, both counted from 1: of nine lines, and of 261 bytes in each.
 fn digits_at(text: &[u8], line: usize, byte: usize) -> Option<&[u8]>

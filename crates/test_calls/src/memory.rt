@@ -1,10 +1,11 @@
 //! Calls that run out of memory.
 
 use crate::called::{CHECK, DROP_OTHER, NO_WORDS, RUN, SOUND, call};
-use crate::plans::{CUT_OFF, CUT_OFF_TABLES, SMALLEST, SMALLEST_TEXT, USAGE};
+use crate::plans::{CUT_OFF, CUT_OFF_TABLES, SMALLEST_TEXT, USAGE};
 use sdh_cli::Status;
 use std::alloc::Global;
 use std::test::Fail;
+use test_texts::SMALLEST;
 
 // The words, the document, and the status and the text of the answer.
 type Row = (&'static [&'static str], &'static str, Status, &'static str);

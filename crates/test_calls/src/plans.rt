@@ -1,21 +1,6 @@
 //! Plans, and the texts that their runs write.
 
-/// The smallest ordinary run: three nodes and a circuit between two neighbours.
-pub const SMALLEST: &str = r#"rate = 4
-nodes = [1, 2, 3]
-threshold = 3
-wait = 10
-limit = 1000
-script = ["settle"]
-[[circuit]]
-name = "c1"
-from = 1
-to = 2
-slot = 1
-text_a = "ALPHA"
-text_b = "BETA!"
-"#;
-
+/// What is written of the smallest plan.
 pub const SMALLEST_TEXT: &str = "settle 1 round 128
 node 1 idle west 03 10 east 02 10
 node 2 idle west 01 20 east 03 20
@@ -35,7 +20,7 @@ port c1 b norm 0 00414c504841414c504841414c504841
 plant fault
 ";
 
-/// Its ring without the circuit.
+/// The ring of the smallest plan, without its circuit.
 pub const NO_CIRCUITS: &str = r#"rate = 4
 nodes = [1, 2, 3]
 threshold = 3

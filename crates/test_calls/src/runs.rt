@@ -1,11 +1,12 @@
 //! Runs over fibres of another kind.
 
 use crate::called::{CHECK, RUN, SOUND, ends_over};
-use crate::plans::{CUT_OFF, CUT_OFF_TABLES, NO_CIRCUITS, SMALLEST, SMALLEST_TABLES};
+use crate::plans::{CUT_OFF, CUT_OFF_TABLES, NO_CIRCUITS, SMALLEST_TABLES};
 use sdh_cli::Status;
 use sdh_plant::{RecordingPlant, ToldPlant};
 use sdh_terms::Rate;
 use std::test::Fail;
+use test_texts::SMALLEST;
 
 // No round is run: these fibres have no room for a frame, and the limit is too small for a settle step.
 #[test]

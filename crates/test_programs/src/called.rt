@@ -6,6 +6,7 @@ use sdh_plant::{FibrePlant, Plant};
 use sdh_sncp_cli::sdhpath;
 use sdh_watch::sdhwatch;
 use std::alloc::{AllocError, Global};
+use test_texts::words_of;
 
 /// A program that runs plans and answers a number.
 #[derive(Clone, Copy, Debug)]
@@ -40,20 +41,6 @@ pub const WRITE: usize = 50;
 
 /// How a call ends: its number, and all that is written.
 pub type Ending<'a> = (u8, &'a str);
-
-// The words as the calls take them.
-fn words_of(alloc: Global, words: &[&str]) -> Result<Vec<String>, AllocError> {
-    let mut list = Vec::new(alloc);
-    for word in words {
-        list.push(String::from_str(alloc, word)?)?;
-    }
-    Ok(list)
-}
-
-/// A plan with the steps of another script, which are quoted texts with commas between them. The plan's own is one settle step.
-pub fn scripted(alloc: Global, plan: &str, script: &str) -> Result<String, AllocError> {
-    plan.replacen(alloc, "\"settle\"", script, 1)
-}
 
 // The number, and the sink with what was written.
 fn call_over<P: Plant>(

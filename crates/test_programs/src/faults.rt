@@ -1,15 +1,16 @@
 //! What is outside fails in mid-stream: the failure is reported, in place of an answer to what came before it.
 
-use crate::called::{Given, Program, READ, SOUND, WRITE, ends, ends_over, scripted};
-use crate::plans::{BOTH_WAYS, BOTH_WAYS_BROKEN, HEALTHY, TWO_SPANS, WATCHED, WATCHED_BROKEN};
+use crate::called::{Given, Program, READ, SOUND, WRITE, ends, ends_over};
+use crate::plans::{BOTH_WAYS, BOTH_WAYS_BROKEN, TWO_SPANS, WATCHED, WATCHED_BROKEN};
 use sdh_plant::{FailingPlant, PlantCall, RecordingPlant};
 use std::alloc::{AllocError, Global};
 use std::test::Fail;
+use test_texts::{SMALLEST, scripted};
 
 // A program, a plan, and the text of its run.
 const RUNS: &[(Program, &str, &str)] = &[
     (Program::Path, TWO_SPANS, BOTH_WAYS),
-    (Program::Watch, HEALTHY, WATCHED),
+    (Program::Watch, SMALLEST, WATCHED),
 ];
 
 // The plan comes in pieces, and its end in a read of its own.
@@ -139,7 +140,7 @@ fn each_call_of_watched_fibres_that_fails_is_told(rt: HostRuntime) -> Result<(),
     for row in WATCHES {
         let (script, _, count, _, _) = row;
         assert!(rt;
-            is_told(rt.alloc(), Program::Watch, HEALTHY, row)?,
+            is_told(rt.alloc(), Program::Watch, SMALLEST, row)?,
             "{script} {count}"
         );
     }
@@ -150,8 +151,8 @@ fn each_call_of_watched_fibres_that_fails_is_told(rt: HostRuntime) -> Result<(),
 const ROOMS: &[(Program, &str, usize, &str)] = &[
     (Program::Path, TWO_SPANS, 1031, BROKEN),
     (Program::Path, TWO_SPANS, 1032, BOTH_WAYS_BROKEN),
-    (Program::Watch, HEALTHY, 1541, BROKEN),
-    (Program::Watch, HEALTHY, 1542, WATCHED_BROKEN),
+    (Program::Watch, SMALLEST, 1541, BROKEN),
+    (Program::Watch, SMALLEST, 1542, WATCHED_BROKEN),
 ];
 
 #[test]

@@ -1,22 +1,6 @@
 //! Plans, and the texts that their runs write.
 
-/// Three nodes and a circuit between two neighbours.
-pub const HEALTHY: &str = r#"rate = 4
-nodes = [1, 2, 3]
-threshold = 3
-wait = 10
-limit = 1000
-script = ["settle"]
-[[circuit]]
-name = "c1"
-from = 1
-to = 2
-slot = 1
-text_a = "ALPHA"
-text_b = "BETA!"
-"#;
-
-/// What its watches show.
+/// What the watches of the smallest plan show.
 pub const WATCHED: &str = "settle 1 round 128
 watch c1 a vcs 127 b3 0 label 0 trace ok
 watch c1 b vcs 127 b3 0 label 0 trace ok
@@ -30,7 +14,7 @@ watch c1 b vcs 127 b3 0 label 0 trace ok
 plant fault
 ";
 
-/// The same, where port a sends with pointer value 522: each chunk that port b gets is a whole VC-4.
+/// The smallest plan, where port a sends with pointer value 522: each chunk that port b gets is a whole VC-4.
 pub const AT_522: &str = r#"rate = 4
 nodes = [1, 2, 3]
 threshold = 3

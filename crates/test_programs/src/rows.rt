@@ -1,12 +1,11 @@
 //! Worked rows.
 
-use crate::called::{Given, Program, SOUND, ends, ends_over, scripted};
-use crate::plans::{
-    AT_522, BOTH_WAYS, HEALTHY, SAME_SLOT, THREE_SPANS, TWO_SPANS, UNSETTLED, WATCHED,
-};
+use crate::called::{Given, Program, SOUND, ends, ends_over};
+use crate::plans::{AT_522, BOTH_WAYS, SAME_SLOT, THREE_SPANS, TWO_SPANS, UNSETTLED, WATCHED};
 use sdh_plant::ToldPlant;
 use sdh_terms::Rate;
 use std::test::Fail;
+use test_texts::{SMALLEST, scripted};
 
 // The plan, its script, and the number and the text.
 type Row = (Program, &'static str, &'static str, u8, &'static str);
@@ -75,7 +74,7 @@ done
 ];
 
 const WATCHES: &[Row] = &[
-    (Program::Watch, HEALTHY, "\"settle\"", 0, WATCHED),
+    (Program::Watch, SMALLEST, "\"settle\"", 0, WATCHED),
     (
         Program::Watch,
         AT_522,
@@ -175,7 +174,7 @@ done
 #[test]
 fn fibres_out_of_which_nothing_comes(rt: HostRuntime) -> Result<(), Fail> {
     let given = Given {
-        document: HEALTHY,
+        document: SMALLEST,
         ..SOUND
     };
     for (program, text) in DARK {

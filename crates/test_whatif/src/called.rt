@@ -20,11 +20,12 @@ pub const SOUND: Outside<'static> = Outside {
 };
 
 /// The words of these tests.
-pub const SINGLE: &[&str] = &["single"];
+pub const SINGLE: &[&str] = &["single", "head"];
 
 pub const NO_WORDS: &[&str] = &[];
 
-pub const USAGE: &str = "usage: sdhwhatif single, double, triple, and PART PARTS\n";
+pub const USAGE: &str =
+    "usage: sdhwhatif single, double, triple, with kinds, part K N, head, json, summary\n";
 
 /// A ring of three with one circuit.
 pub const PLAN: &str = "rate = 4\n\
@@ -42,46 +43,39 @@ text_a = \"ALPHA\"\n\
 text_b = \"BETA!\"\n\
 ";
 
-/// Its table for `single`, as the rules make it.
-pub const TABLE: &str = "steps,kept,over,lost,hops,circuits\n\
-settle,1,0,0,1\n\
-degrade 1 west 3; settle,1,0,0,1\n\
-degrade 1 east 3; settle,0,1,0,2\n\
-degrade 2 west 3; settle,0,1,0,2\n\
-degrade 2 east 3; settle,1,0,0,1\n\
-degrade 3 west 3; settle,1,0,0,1\n\
-degrade 3 east 3; settle,1,0,0,1\n\
-cut 1 west; settle,1,0,0,1\n\
-cut 1 east; settle,0,1,0,2\n\
-cut 2 west; settle,0,1,0,2\n\
-cut 2 east; settle,1,0,0,1\n\
-cut 3 west; settle,1,0,0,1\n\
-cut 3 east; settle,1,0,0,1\n\
-cut 1 east; cut 2 west; settle,0,1,0,2\n\
-cut 2 east; cut 3 west; settle,1,0,0,1\n\
-cut 3 east; cut 1 west; settle,1,0,0,1\n\
-cut 1 east; cut 2 west; cut 3 east; cut 1 west; settle,0,0,1,0,c1\n\
-cut 2 east; cut 3 west; cut 1 east; cut 2 west; settle,0,0,1,0,c1\n\
-cut 3 east; cut 1 west; cut 2 east; cut 3 west; settle,1,0,0,1\n\
-manual 1 west; settle,1,0,0,1\n\
-manual 1 east; settle,0,1,0,2\n\
-manual 2 west; settle,0,1,0,2\n\
-manual 2 east; settle,1,0,0,1\n\
-manual 3 west; settle,1,0,0,1\n\
-manual 3 east; settle,1,0,0,1\n\
-forced 1 west; settle,1,0,0,1\n\
-forced 1 east; settle,0,1,0,2\n\
-forced 2 west; settle,0,1,0,2\n\
-forced 2 east; settle,1,0,0,1\n\
-forced 3 west; settle,1,0,0,1\n\
-forced 3 east; settle,1,0,0,1\n\
-single degraded fibres: 6; no circuit is lost\n\
-single cut fibres: 6; no circuit is lost\n\
-single spans: 3; no circuit is lost\n\
-single nodes: 3; circuits are lost in 2 of them; at most 1\n\
-single manual switches: 6; no circuit is lost\n\
-single forced switches: 6; no circuit is lost\n\
-done\n\
+/// Its table, as the rules make it.
+pub const TABLE: &str = "number,failures,steps,applied,kept,impaired,over,lost,hops,c1\r\n\
+0,,\"\"\"settle\"\"\",,1,0,0,0,1,\r\n\
+1,degraded 1>3,\"\"\"degrade 1 west 3\"\", \"\"settle\"\"\",3-1,1,0,0,0,1,\r\n\
+2,degraded 1>2,\"\"\"degrade 1 east 3\"\", \"\"settle\"\"\",1-2,0,0,1,0,2,2\r\n\
+3,degraded 2>1,\"\"\"degrade 2 west 3\"\", \"\"settle\"\"\",1-2,0,0,1,0,2,2\r\n\
+4,degraded 2>3,\"\"\"degrade 2 east 3\"\", \"\"settle\"\"\",2-3,1,0,0,0,1,\r\n\
+5,degraded 3>2,\"\"\"degrade 3 west 3\"\", \"\"settle\"\"\",2-3,1,0,0,0,1,\r\n\
+6,degraded 3>1,\"\"\"degrade 3 east 3\"\", \"\"settle\"\"\",3-1,1,0,0,0,1,\r\n\
+7,fibre 1>3,\"\"\"cut 1 west\"\", \"\"settle\"\"\",3-1,1,0,0,0,1,\r\n\
+8,fibre 1>2,\"\"\"cut 1 east\"\", \"\"settle\"\"\",1-2,0,0,1,0,2,2\r\n\
+9,fibre 2>1,\"\"\"cut 2 west\"\", \"\"settle\"\"\",1-2,0,0,1,0,2,2\r\n\
+10,fibre 2>3,\"\"\"cut 2 east\"\", \"\"settle\"\"\",2-3,1,0,0,0,1,\r\n\
+11,fibre 3>2,\"\"\"cut 3 west\"\", \"\"settle\"\"\",2-3,1,0,0,0,1,\r\n\
+12,fibre 3>1,\"\"\"cut 3 east\"\", \"\"settle\"\"\",3-1,1,0,0,0,1,\r\n\
+13,span 1-2,\"\"\"cut 1 east\"\", \"\"cut 2 west\"\", \"\"settle\"\"\",1-2,0,0,1,0,2,2\r\n\
+14,span 2-3,\"\"\"cut 2 east\"\", \"\"cut 3 west\"\", \"\"settle\"\"\",2-3,1,0,0,0,1,\r\n\
+15,span 3-1,\"\"\"cut 3 east\"\", \"\"cut 1 west\"\", \"\"settle\"\"\",3-1,1,0,0,0,1,\r\n\
+16,node 1,\"\"\"cut 1 east\"\", \"\"cut 2 west\"\", \"\"cut 3 east\"\", \"\"cut 1 west\"\", \"\"settle\"\"\",1-2 3-1,0,0,0,1,0,x\r\n\
+17,node 2,\"\"\"cut 2 east\"\", \"\"cut 3 west\"\", \"\"cut 1 east\"\", \"\"cut 2 west\"\", \"\"settle\"\"\",1-2 2-3,0,0,0,1,0,x\r\n\
+18,node 3,\"\"\"cut 3 east\"\", \"\"cut 1 west\"\", \"\"cut 2 east\"\", \"\"cut 3 west\"\", \"\"settle\"\"\",2-3 3-1,1,0,0,0,1,\r\n\
+19,manual 1>3,\"\"\"manual 1 west\"\", \"\"settle\"\"\",3-1,1,0,0,0,1,\r\n\
+20,manual 1>2,\"\"\"manual 1 east\"\", \"\"settle\"\"\",1-2,0,0,1,0,2,2\r\n\
+21,manual 2>1,\"\"\"manual 2 west\"\", \"\"settle\"\"\",1-2,0,0,1,0,2,2\r\n\
+22,manual 2>3,\"\"\"manual 2 east\"\", \"\"settle\"\"\",2-3,1,0,0,0,1,\r\n\
+23,manual 3>2,\"\"\"manual 3 west\"\", \"\"settle\"\"\",2-3,1,0,0,0,1,\r\n\
+24,manual 3>1,\"\"\"manual 3 east\"\", \"\"settle\"\"\",3-1,1,0,0,0,1,\r\n\
+25,forced 1>3,\"\"\"forced 1 west\"\", \"\"settle\"\"\",3-1,1,0,0,0,1,\r\n\
+26,forced 1>2,\"\"\"forced 1 east\"\", \"\"settle\"\"\",1-2,0,0,1,0,2,2\r\n\
+27,forced 2>1,\"\"\"forced 2 west\"\", \"\"settle\"\"\",1-2,0,0,1,0,2,2\r\n\
+28,forced 2>3,\"\"\"forced 2 east\"\", \"\"settle\"\"\",2-3,1,0,0,0,1,\r\n\
+29,forced 3>2,\"\"\"forced 3 west\"\", \"\"settle\"\"\",2-3,1,0,0,0,1,\r\n\
+30,forced 3>1,\"\"\"forced 3 east\"\", \"\"settle\"\"\",3-1,1,0,0,0,1,\r\n\
 ";
 
 /// The status, and the sink with what was written.

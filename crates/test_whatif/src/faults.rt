@@ -21,10 +21,10 @@ fn first_lines(text: &[u8], lines: usize) -> usize
     text.len()
 }
 
-// Each line is written by itself, and what stands after the table at once.
+// Each line is written by itself.
 #[test]
 fn each_write_that_fails_is_told(rt: HostRuntime) -> Result<(), Fail> {
-    for number in 1..=33u32 {
+    for number in 1..=32u32 {
         let failing = [number];
         let outside = Outside {
             writes: &failing,
@@ -46,7 +46,7 @@ fn each_write_that_fails_is_told(rt: HostRuntime) -> Result<(), Fail> {
 fn what_comes_in_pieces_is_the_same(rt: HostRuntime) -> Result<(), Fail> {
     let pieces = Outside { piece: 7, ..SOUND };
     let outside = Outside {
-        writes: &[34],
+        writes: &[33],
         ..SOUND
     };
     for outside in [SOUND, pieces, outside] {

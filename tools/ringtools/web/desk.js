@@ -6,7 +6,7 @@
   const data = JSON.parse(by("data").textContent);
   const count = data.failures.length, most = 3, ring = by("ring");
   let triples = null, unpacking = data.triples !== null;
-  const words = { k: "kept", o: "over", l: "lost" };
+  const words = { k: "kept", i: "impaired", o: "over", l: "lost" };
   let chosen = [], whose = "";
 
   // The place of a case in the list: nothing, each alone, each two; and of three in a list of its own.
@@ -49,10 +49,11 @@
   const sentence = (found) => {
     const what = chosen.map((number) => data.failures[number][0]).join(" and ") || "Nothing fails";
     if (!found) return `${what}: ${missing()}`;
-    const [over, lost] = ["o", "l"].map((letter) => namesOf(found[1], letter));
-    const kept = data.circuits.length - over.length - lost.length;
+    const [impaired, over, lost] = ["i", "o", "l"].map((letter) => namesOf(found[1], letter));
+    const kept = data.circuits.length - impaired.length - over.length - lost.length;
     const list = (names) => (names.length ? `: ${names.join(", ")}` : "");
-    return `${what}. ${lost.length} lost${list(lost)}. ${over.length} over protection${list(over)}. ${kept} kept.`;
+    const also = impaired.length ? ` ${impaired.length} kept but impaired${list(impaired)}.` : "";
+    return `${what}. ${lost.length} lost${list(lost)}. ${over.length} over protection${list(over)}.${also} ${kept} kept.`;
   };
 
   const angle = (position) => (2 * Math.PI * position) / data.size;

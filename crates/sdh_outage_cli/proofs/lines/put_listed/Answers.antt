@@ -8,6 +8,7 @@ use Rattle.sdh_outage_cli.proofs.lines.put_listed.Goals as goal
 
 pub returns-clause-bytes : goal.returns-clause-bytes
 returns-clause-bytes c =
+    let cs = c.args.circuits.now.circuits in
     let items = c.args.items.now.items in
     let i = c.args.port.circuit in
     let end = c.args.port.end in
@@ -15,5 +16,5 @@ returns-clause-bytes c =
     let both = c.index-both.result.now in
     let at : slice_get items i ≡ Some both =
     slice_get_read items _ i both refl (omega (arith, c.requires.many, c.requires.port)) c.index-both.ensures in
-    let is = ap₂ (λ (x : Option Provisioned) (y : Option ListenerPair). port_text x y end) c.get-named.ensures at in
-    c.put_heard.ensures.bytes ∙ ap (λ l. c.args.text.now.bytes ++ l) (ap (heard_text named.name end) c.at.ensures ∙ sym is)
+    let is = ap₂ (λ (x : Option Provisioned) (y : Option ListenerPair). port_text cs x y end) c.get-named.ensures at in
+    c.put_heard.ensures.bytes ∙ ap (λ l. c.args.text.now.bytes ++ l) (ap (heard_text cs named.name end) c.at.ensures ∙ sym is)

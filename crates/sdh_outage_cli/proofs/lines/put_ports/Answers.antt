@@ -18,24 +18,25 @@ loop-i-preserved c =
     let items = c.args.items.now.items in
     let i = c.loop-i.i in
     let named = c.get.result.now in
-    let both = c.index.result.now in
+    let both = c.index-both.result.now in
     let inv = c.loop-i.invariant in
     let lt : i < length cs = omega (arith, c.loop-i-test.true, c.len-i-end.ensures.len) in
-    let at : slice_get items i ≡ Some both = slice_get_read items _ i both refl (omega (arith, lt, c.requires.many)) c.index.ensures in
+    let at : slice_get items i ≡ Some both = slice_get_read items _ i both refl (omega (arith, lt, c.requires.many)) c.index-both.ensures in
     let before = shown (take i cs) (take i items) in
     let more = shown_more cs items i named both c.get.ensures at in
-    let lines = flat_map told_line (both_shown named both) in
+    let tells = told_line cs in
+    let lines = flat_map tells (both_shown named both) in
     record {
       bytes =
-          c.put_both.ensures.bytes ∙ ap (λ l. l ++ lines) inv.bytes ∙ append_assoc c.args.text.now.bytes (flat_map told_line before) lines
-          ∙ ap (λ l. c.args.text.now.bytes ++ l) (sym (flat_map-append told_line before (both_shown named both))
-          ∙ ap (flat_map told_line) (sym more));
+          c.put_both.ensures.bytes ∙ ap (λ l. l ++ lines) inv.bytes ∙ append_assoc c.args.text.now.bytes (flat_map tells before) lines
+          ∙ ap (λ l. c.args.text.now.bytes ++ l) (sym (flat_map-append tells before (both_shown named both))
+          ∙ ap (flat_map tells) (sym more));
       room = omega (arith, c.put_both.ensures.room, inv.room);
       said =
-          c.put_both.ensures.summary ∙ ap (λ s. with_outage (with_outage s both.a.outage) both.b.outage) inv.said
+          c.add_both.ensures.summary ∙ ap (λ s. with_outage (with_outage s both.a.outage) both.b.outage) inv.said
           ∙ said_more before named both
           ∙ ap (λ ports. summary_of (map (λ (p : PortOutage). p.outage) ports)) (sym more);
-      few = omega (arith, c.put_both.ensures.few, inv.few);
+      few = omega (arith, c.add_both.ensures.few, inv.few);
     }
 
 pub returns-clause-bytes : goal.returns-clause-bytes
@@ -50,5 +51,5 @@ returns-clause-bytes c =
     (take_all i items (omega (arith, c.loop-i-test.false, c.len-i-end.ensures.len, c.requires.many))) in
     let ports = shown (take i cs) (take i items) in
     c.put_summary.ensures.bytes ∙ ap₂ (λ l s. l ++ summary_line s) inv.bytes inv.said
-    ∙ append_assoc start (flat_map told_line ports) (summary_line (summary_of (map (λ (p : PortOutage). p.outage) ports)))
-    ∙ ap (λ l. start ++ ports_text l) all
+    ∙ append_assoc start (flat_map (told_line cs) ports) (summary_line (summary_of (map (λ (p : PortOutage). p.outage) ports)))
+    ∙ ap (λ l. start ++ ports_text cs l) all

@@ -6,7 +6,14 @@ use Rattle.sdh_circuits.specs.Provisioning.{Provisioning}
 use Rattle.sdh_scripts.proofs.Lists.{set_upto, set_behind}
 use Rattle.sdh_outage_cli.specs.declared.ports.ListenerPair.{ListenerPair}
 use Rattle.sdh_outage_cli.specs.Ports.{Looked}
+use Rattle.sdh_outage_cli.specs.Streams.{AreEarly}
 use Rattle.sdh_outage_cli.proofs.ports.look_all.Goals as goal
+
+pub look_both-requires-clause-many : goal.look_both-requires-clause-many
+look_both-requires-clause-many c = ap length c.loop-i.invariant.streams ∙ c.requires.streams
+
+pub look_both-requires-clause-early : goal.look_both-requires-clause-early
+look_both-requires-clause-early c = subst AreEarly (sym c.loop-i.invariant.streams) c.requires.early
 
 pub look_both-requires-clause-few : goal.look_both-requires-clause-few
 look_both-requires-clause-few c =
@@ -36,8 +43,10 @@ loop-i-preserved c =
     let was : slice_get old i ≡ Some x = sym (inv.rest i (omega arith)) ∙ slice_get_read ws _ i x refl lt c.index_mut.ensures.value in
     record {
       len = simp length-set (omega arith);
-      each = set_upto (λ j after. (before : ListenerPair) → slice_get old j ≡ Some before → Looked r j before after) ws i y lt
-          (λ before there. subst (λ b. Looked r i b y) (same_Some _ _ (sym was ∙ there)) c.look_both.ensures) inv.each;
+      each = set_upto (λ j after. (before : ListenerPair) → slice_get old j ≡ Some before → Looked r c.args.streams.now.pairs.items j before after) ws i y lt
+          (λ before there. subst (λ b. Looked r c.args.streams.now.pairs.items i b y) (same_Some _ _ (sym was ∙ there))
+          (subst (λ l. Looked r l i x y) inv.streams c.look_both.ensures.looked)) inv.each;
+      streams = c.look_both.ensures.streams ∙ inv.streams;
       rest = λ j le. set_behind ws i y j (omega arith) ∙ inv.rest j (omega arith);
     }
 

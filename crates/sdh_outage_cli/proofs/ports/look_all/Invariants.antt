@@ -8,6 +8,7 @@ abbrev pub invariant-loop-i : goal.invariant-loop-i
 invariant-loop-i l = record {
   len : length l.items.items ≡ length l.fn.items.items;
   each : (j : ℕ) (after : ListenerPair) → j < l.i → slice_get l.items.items j ≡ Some after → (before : ListenerPair)
-      → slice_get l.fn.items.items j ≡ Some before → Looked l.ring j before after;
+      → slice_get l.fn.items.items j ≡ Some before → Looked l.ring l.fn.streams.pairs.items j before after;
+  streams : l.streams.pairs.items ≡ l.fn.streams.pairs.items;
   rest : (j : ℕ) → l.i ≤ j → slice_get l.items.items j ≡ slice_get l.fn.items.items j;
 }

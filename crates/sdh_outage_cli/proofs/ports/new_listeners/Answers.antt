@@ -1,28 +1,19 @@
-use Rattle.std.proofs.Common.{◌≡◌, ◌+◌, length, Some, ap, sym, subst, ◌∙◌, arith}
+use Rattle.std.proofs.Common.{◌≡◌, ◌+◌, length, Some, ap, subst, ◌∙◌}
 use Rattle.std.specs.Prelude.{slice_get}
 use Rattle.std.proofs.lemmas.List.{length_push}
-use Rattle.std.proofs.lemmas.Option.{same_Some}
-use Rattle.sdh_circuits.specs.Provisioned.{Provisioned}
-use Rattle.sdh_outage_cli.specs.Ports.{IsReady}
+use Rattle.sdh_outage_cli.specs.declared.ports.ListenerPair.{ListenerPair}
 use Rattle.sdh_outage_cli.proofs.Lists.{all_pushed}
 use Rattle.sdh_outage_cli.proofs.ports.new_listeners.Goals as goal
 
-pub loop-i-preserved : goal.loop-i-preserved
-loop-i-preserved c =
-    let cs = c.args.circuits.now.circuits in
-    let old = c.loop-i.items.items in
-    let made = c.in_ok-pair_for.field-0 in
-    let inv = c.loop-i.invariant in
+pub loop-preserved : goal.loop-preserved
+loop-preserved c =
+    let old = c.loop.items.items in
+    let made = c.in_ok-new_both.field-0 in
+    let inv = c.loop.invariant in
     record {
       len = ap length c.in_ok-push.ensures.items ∙ length_push old made ∙ ap (λ n. n + 1) inv.len;
       each =
-          λ j both here. all_pushed (λ k other. (x : Provisioned) → slice_get cs k ≡ Some x → IsReady x 0 other) old c.loop-i.i made inv.len
-          (λ x there. subst (λ y. IsReady y 0 made) (same_Some _ _ (sym c.get.ensures ∙ there)) c.in_ok-pair_for.ensures) inv.each j both
+          λ j both here. all_pushed (λ k (other : ListenerPair). (other.a.round ≡ 0) × (other.b.round ≡ 0)) old c.loop.counter made inv.len
+          c.in_ok-new_both.ensures inv.each j both
           (subst (λ l. slice_get l j ≡ Some both) c.in_ok-push.ensures.items here);
     }
-
-pub returns : goal.returns
-returns c = record {
-  many = omega (arith, c.loop-i.invariant.len, c.loop-i-test.false, c.loop-i.auto.i-end, c.len-count.ensures.len);
-  each = λ i x both there here. c.loop-i.invariant.each i both here x there;
-}

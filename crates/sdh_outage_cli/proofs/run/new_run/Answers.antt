@@ -6,7 +6,8 @@ use Rattle.sdh_scripts.specs.Texts.{HasRoom}
 use Rattle.sdh_scripts.proofs.Plans.{may_begin}
 use Rattle.sdh_owed.proofs.Steps.{may_new}
 use Rattle.sdh_owed.proofs.Plans.{adm_new}
-use Rattle.sdh_outage_cli.specs.Ports.{AreReady}
+use Rattle.sdh_outage_cli.specs.Ports.{AreAt, AreReady}
+use Rattle.sdh_outage_cli.specs.Streams.{AreNear}
 use Rattle.sdh_outage_cli.specs.Running.{MayList, lines_room}
 use Rattle.sdh_outage_cli.specs.Plans.{outage_account}
 use Rattle.sdh_outage_cli.proofs.run.new_run.Goals as goal
@@ -32,9 +33,16 @@ returns-clause-may c =
     c.lines_room.ensures.room ∙ ap (λ (p : Provisioning). lines_room c.args.listing (length p.circuits))
     (c.circuits.ensures ∙ sym circuits) in
     let listing = subst (λ (p : Provisioning). MayList (length p.circuits) c.args.listing) (sym circuits) c.requires.listing in
-    let ready = subst (λ n. AreReady c.in_ok-ring.ring.circuits.circuits n c.in_ok-items.items.items) (sym rounds)
-    (subst (λ (p : Provisioning). AreReady p.circuits 0 c.in_ok-items.items.items)
-    (c.circuits-2.ensures ∙ sym circuits) c.in_ok-items.ensures) in
+    let each_there = ap (λ (p : Provisioning). length p.circuits) (c.circuits-2.ensures ∙ sym circuits) in
+    let near = subst (λ n. AreNear c.in_ok-ring.ring.circuits.circuits n c.in_ok-streams.streams.pairs.items) (sym rounds)
+    (subst (λ (p : Provisioning). AreNear p.circuits 0 c.in_ok-streams.streams.pairs.items)
+    (c.circuits-3.ensures ∙ sym circuits) c.in_ok-streams.ensures) in
+    let ready : AreReady c.in_ok-ring.ring.circuits.circuits c.in_ok-ring.ring.rounds c.in_ok-items.items.items c.in_ok-streams.streams.pairs.items =
+    record {
+      many = c.in_ok-items.ensures.many ∙ each_there;
+      rounds_are = subst (λ n. AreAt n c.in_ok-items.items.items) (sym rounds) c.in_ok-items.ensures.rounds;
+      near = near;
+    } in
     may_begin _ outage_account c.args.plan _ is _ _ form adm_new rate size (λ f. (
       listing,
       record { ring_may = may_new 65536 c.args.plan c.in_ok-ring.ring _ _ _ f form is.ring_is rate size is.steps_are; ready = ready },

@@ -1,4 +1,4 @@
-use Rattle.std.proofs.Common.{None, refl, subst, inl, inr}
+use Rattle.std.proofs.Common.{refl, subst, inl, inr}
 use Rattle.std.specs.Prelude.{IfSome}
 use Rattle.sdh_plant.specs.Arrivals.{Knows}
 use Rattle.sdh_shell.specs.Calls.{words_of}

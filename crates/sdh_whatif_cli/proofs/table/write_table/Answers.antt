@@ -1,27 +1,19 @@
-use Rattle.std.proofs.Common.{◌++◌, length, Ok, Err}
-use Rattle.sdh_whatif_cli.specs.Cases.{numbers_of}
-use Rattle.sdh_whatif_cli.specs.Lines.{head_line, lines_below, last_lines}
-use Rattle.sdh_shell.proofs.Pieces.{after, stopped}
+use Rattle.std.proofs.Common.{sym, ap}
+use Rattle.sdh_whatif_cli.specs.Lines.{head_record, cases_text, table_of}
+use Rattle.sdh_shell.proofs.Pieces.{as_text, after, stopped}
 use Rattle.sdh_whatif_cli.proofs.table.write_table.Goals as goal
 
 pub returns-in-Err : goal.returns-in-Err
 returns-in-Err g c =
-    let lines = lines_below c.args.plan.now c.args.ask (numbers_of (length c.args.plan.now.nodes) c.args.ask.depth) in
-    let last = last_lines c.args.plan.now in
-    stopped _ _ _ _ _ (head_line ++ lines) last c.in-Err.fault
-    (stopped _ _ _ _ _ head_line lines c.in-Err.fault c.in-Err.ensures.wrote)
+    let plan = c.args.plan.now in
+    let ask = c.args.ask in
+    as_text _ _ _ _ _ _ _ _ (ap (λ f. table_of f plan ask) (sym c.in-Headed.is))
+    (stopped _ _ _ _ _ (head_record plan) (cases_text plan ask) c.in-Err.fault c.in-Err.ensures)
 
-pub returns-in-Err-write_cases : goal.returns-in-Err-write_cases
-returns-in-Err-write_cases g c =
-    let lines = lines_below c.args.plan.now c.args.ask (numbers_of (length c.args.plan.now.nodes) c.args.ask.depth) in
-    let last = last_lines c.args.plan.now in
-    stopped _ _ _ _ _ (head_line ++ lines) last c.in-Err-write_cases.fault
-    (after _ _ _ _ _ _ _ head_line lines tt (Err c.in-Err-write_cases.fault) c.in_default.ensures.wrote c.in-Err-write_cases.ensures)
-
-pub returns : goal.returns
-returns g c =
-    let lines = lines_below c.args.plan.now c.args.ask (numbers_of (length c.args.plan.now.nodes) c.args.ask.depth) in
-    let last = last_lines c.args.plan.now in
-    after _ _ _ _ _ _ _ (head_line ++ lines) last tt c.write_last.result
-    (after _ _ _ _ _ _ _ head_line lines tt (Ok tt) c.in_default.ensures.wrote c.in_default-write_cases.ensures)
-    c.write_last.ensures
+pub returns-in_default : goal.returns-in_default
+returns-in_default g c =
+    let plan = c.args.plan.now in
+    let ask = c.args.ask in
+    as_text _ _ _ _ _ _ _ _ (ap (λ f. table_of f plan ask) (sym c.in-Headed.is))
+    (after _ _ _ _ _ _ _ (head_record plan) (cases_text plan ask) tt c.write_cases-in-Headed.result c.in_default.ensures
+    c.write_cases-in-Headed.ensures)

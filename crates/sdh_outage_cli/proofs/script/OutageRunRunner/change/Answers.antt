@@ -20,7 +20,7 @@ returns-clause-next g c number later may =
     let is = c.in_ok-change.ensures.ok in (
       subst (λ (p : Provisioning). MayList (length p.circuits) c.args.self.now.listing)
           (sym (changed_circuits c.args.step w left is)) may.0,
-      changed_ready number c.args.step w left c.args.self.now.listeners.items.items c.requires.other is later may.1,
+      changed_ready number c.args.step w left c.args.self.now.listeners.items.items c.args.self.now.listeners.streams.pairs.items c.requires.other is later may.1,
     )
 
 pub returns-clause-same_room : goal.returns-clause-same_room

@@ -19,10 +19,11 @@ begin_all-requires g c = c.requires.may.1.1.ready.many
 pub settle_with-requires-clause-ready : goal.settle_with-requires-clause-ready
 settle_with-requires-clause-ready g c = λ at is.
     listening_none c.args.self.now.ring c.args.self.now.listeners.items.items c.begin_all.new.items.items
+    c.args.self.now.listeners.streams.pairs.items
     (few_before c.args.number _ _ _ c.requires.may.1.1.ring_may) c.requires.may.1.1.ready c.begin_all.ensures.many c.begin_all.ensures.each at (ap (λ (v : World). v.ring) (sym is))
 
 pub put_step-requires-clause-many : goal.put_step-requires-clause-many
-put_step-requires-clause-many g c = many_then _ _ c.args.limit c.settle_with.new.observer.items.items c.in_ok-settle_with.ensures.heard
+put_step-requires-clause-many g c = many_then _ _ c.args.limit c.settle_with.new.observer.items.items c.settle_with.new.observer.streams.pairs.items c.in_ok-settle_with.ensures.heard
 
 pub put_step-requires-clause-listing : goal.put_step-requires-clause-listing
 put_step-requires-clause-listing g c =
@@ -48,7 +49,7 @@ returns-clause-ok g c =
       ended = ended_with outage_walk refl c.args.limit (c.args.number + 1) w left x.settles;
       text =
           c.put_step.ensures.bytes ∙ ap (λ l. c.args.text.now.bytes ++ l)
-          (listed_is w left c.args.limit c.settle_with.new.observer.items.items x c.args.self.now.listing (c.args.number + 1));
+          (listed_is w left c.args.limit c.settle_with.new.observer.items.items c.settle_with.new.observer.streams.pairs.items x c.args.self.now.listing (c.args.number + 1));
     }
 
 pub returns-clause-next : goal.returns-clause-next
@@ -61,7 +62,7 @@ returns-clause-next g c later may =
     let none = λ (port : PortId). c.in_ok-settle_with.ensures.laws.slips port (omega (arith, long.1)) in (
       subst (λ (r : HeldRing). MayList (length r.circuits.circuits) c.args.self.now.listing)
           (sym (settled_held w left c.args.limit s)) may.0,
-      heard_next w left c.args.limit c.settle_with.new.observer.items.items c.in_ok-settle_with.ensures.heard c.args.number c.args.self.now.listeners.items.items c.requires.few long.0 none
+      heard_next w left c.args.limit c.settle_with.new.observer.items.items c.settle_with.new.observer.streams.pairs.items c.in_ok-settle_with.ensures.heard c.args.number c.args.self.now.listeners.items.items c.args.self.now.listeners.streams.pairs.items c.requires.few long.0 none
           (c.in_ok-settle_with.ensures.step.prepared (settled_whole w left c.args.limit s may.1.ring_may.whole)) later may.1,
     )
 

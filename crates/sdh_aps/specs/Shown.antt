@@ -1,0 +1,40 @@
+-- Whether a node shows the same in two rounds.
+use Rattle.std.specs.Prelude.{ℕ, Bool, true, false, ◌==◌, ◌&&◌, Option, Some, None}
+use Rattle.sdh_terms.specs.Requests.{code_number}
+use Rattle.sdh_report.specs.declared.node_line.StateWord.{StateWord}
+use Rattle.sdh_report.specs.declared.node_line.StateWord.TheVariants as word
+use Rattle.sdh_report.specs.declared.node_line.WordBytes.{WordBytes}
+use Rattle.sdh_aps.specs.declared.shown.Shown.{Shown}
+
+abbrev pub same_bytes : WordBytes → WordBytes → Bool
+same_bytes v w = (v.first == w.first) && (v.second == w.second)
+
+-- the same word is heard, or none twice
+abbrev pub same_heard : Option WordBytes → Option WordBytes → Bool
+same_heard None None = true
+same_heard (Some v) (Some w) = same_bytes v w
+same_heard v w = false
+
+-- the far end is the same, or there is none twice
+abbrev pub same_far : Option ℕ → Option ℕ → Bool
+same_far None None = true
+same_far (Some a) (Some b) = a == b
+same_far a b = false
+
+abbrev pub same_state : StateWord → StateWord → Bool
+same_state word.Idle word.Idle = true
+same_state word.Pass word.Pass = true
+same_state word.SwitchWest word.SwitchWest = true
+same_state word.SwitchEast word.SwitchEast = true
+same_state word.Isolated word.Isolated = true
+same_state s t = false
+
+-- the words sent and heard, and the requests
+abbrev pub same_words : Shown → Shown → Bool
+same_words a b =
+    same_bytes a.sent.west b.sent.west && (same_bytes a.sent.east b.sent.east && (same_heard a.heard_west b.heard_west
+    && (same_heard a.heard_east b.heard_east && ((code_number a.asks_west == code_number b.asks_west)
+    && (code_number a.asks_east == code_number b.asks_east)))))
+
+abbrev pub same_shown : Shown → Shown → Bool
+same_shown a b = same_state a.state b.state && (same_far a.far b.far && same_words a b)

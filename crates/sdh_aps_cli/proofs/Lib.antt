@@ -1,0 +1,6 @@
+pub mod Lines
+pub mod Rounds
+pub mod Known
+pub mod Plans
+pub mod Steps
+pub mod Stages

@@ -1,0 +1,9 @@
+pub mod Endings
+pub mod Words
+pub mod Signalled
+pub mod Listing
+pub mod Recording
+pub mod Keeping
+pub mod Scripts
+pub mod Plans
+pub mod Outcome

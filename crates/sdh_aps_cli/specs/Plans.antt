@@ -1,0 +1,51 @@
+-- What is written of a plan whose signalling is shown, over fibres that aren't there yet.
+use Rattle.std.specs.Prelude.{ℕ, ◌≡◌, ◌⊎◌, List, [], ◌++◌, Option}
+use Rattle.std.specs.List.{flat_map}
+use Rattle.sdh_plant.specs.Fibres.{Fibres}
+use Rattle.sdh_node.specs.Node.{Node}
+use Rattle.sdh_world.specs.Rounds.{World}
+use Rattle.sdh_plan.specs.Planned.{Planned}
+use Rattle.sdh_report.specs.declared.status.Status.{Status}
+use Rattle.sdh_report.specs.declared.status.Status.TheVariants as status
+use Rattle.sdh_scripts.specs.Plans.{Account, ReportsOwe}
+use Rattle.sdh_scripts.specs.Plans as plans
+use Rattle.sdh_scripts.specs.Texts.{Stopped, WriteFailed}
+use Rattle.sdh_owed.specs.Plans.{new_ring_of, world_of}
+use Rattle.sdh_aps_cli.specs.Signalled.{Signalled}
+use Rattle.sdh_aps_cli.specs.Scripts.{signalling_walk}
+use Rattle.sdh_aps_cli.specs.Listing.{begun_text, ended_text}
+use Rattle.sdh_aps_cli.specs.declared.listing.SignalListing.{SignalListing}
+
+abbrev pub signalling_account : Account Node Signalled
+signalling_account = record { walk = signalling_walk; new_ring = new_ring_of }
+
+-- nothing is owed: over honest fibres too it shows what the rounds were
+abbrev pub Owes : ReportsOwe Signalled
+Owes plan f reports end left = Unit {0}
+
+-- one list, of the settle steps that ended, told in each way: what ran over every plant, what it comes to where the arrivals are known, and
+-- over honest fibres that no settle step with a large limit is unsettled
+abbrev pub IsRunOf : Planned → Fibres → List Signalled → Status → Fibres → Type 0
+IsRunOf = plans.IsRunOf signalling_account Owes
+
+-- What is written after the settle steps that ended. The script was done, or the plant made no fibres, and it is nothing; or it is what is
+-- written of the rounds that ran of the step with which the script ended.
+abbrev pub IsTail : Planned → SignalListing → Fibres → List Signalled → List ℕ → Status → Fibres → Type 0
+IsTail plan listing f reports tail end left =
+    ((tail ≡ []) × ((end ≡ status.Ok) ⊎ ((end ≡ status.PlantFault) × (reports ≡ []) × (left ≡ f))))
+    ⊎ ((last : World) × (last.fibres ≡ left)
+    × Stopped signalling_walk plan.limit (begun_text listing) plan.steps (world_of plan f) reports tail end last)
+
+-- a plan was run over any plant, it ended so, and this is the text of the rounds that ran, step by step
+pub record IsTextOf (plan : Planned) (listing : SignalListing) (f : Fibres) (text : List ℕ) (end : Status) (left : Fibres) : Type 0 where
+  pub reports : List Signalled
+  pub came : IsRunOf plan f reports end left
+  pub tail : List ℕ
+  pub tail_is : IsTail plan listing f reports tail end left
+  pub text_is : text ≡ flat_map (ended_text listing) reports ++ tail
+
+-- a write failed while it ran: a front of that was written, and no round ran after it
+abbrev pub BreaksWriting : Planned → SignalListing → Fibres → Option (List ℕ) → Option (List ℕ) → Fibres → Type 0
+BreaksWriting plan listing f old new left =
+    (last : World) × (last.fibres ≡ left)
+    × WriteFailed signalling_walk plan.limit (ended_text listing) (begun_text listing) plan.steps (world_of plan f) old new last

@@ -1,0 +1,53 @@
+-- What is recorded of the rounds of a settle step.
+use Rattle.std.specs.Prelude.{ℕ, ◌≡◌, ◌+◌, ◌*◌, ◌≤◌, Bool, true, List, length, Option, Some, slice_get}
+use Rattle.std.specs.Io.KnownBytes.{Appends}
+use Rattle.sdh_basics.specs.Causes.{Rose, one_more}
+use Rattle.sdh_outside.specs.Writing.{AppendsFewer}
+use Rattle.sdh_world.specs.Held.{HeldRing}
+use Rattle.sdh_world.specs.Rounds.{World}
+use Rattle.sdh_report.specs.Written.{Written}
+use Rattle.sdh_aps.specs.declared.shown.Shown.{Shown}
+use Rattle.sdh_aps_cli.specs.Signalled.{shown_at, changes_in}
+use Rattle.sdh_aps_cli.specs.Listing.{changes_text}
+use Rattle.sdh_aps_cli.specs.declared.listing.SignalListing.{SignalListing}
+
+-- ---- what is kept from one round to the next
+
+-- these are what nodes showed, by position
+abbrev pub AreShown : (ℕ → Shown) → List Shown → Type 0
+AreShown was items = (j : ℕ) (s : Shown) → slice_get items j ≡ Some s → s ≡ was j
+
+-- how many bytes a text has room for in all
+abbrev pub room_in : Written → ℕ
+room_in t = t.room + length t.bytes
+
+-- there is a place for what each node of a ring shows, and room for a line of each
+pub record IsReady (r : HeldRing) (items : List Shown) (text : Written) : Type 0 where
+  pub many : length items ≡ length r.ids
+  pub room : 128 * length r.ids ≤ room_in text
+
+-- ---- a settle step, whose course gives the world after each number of rounds
+
+-- after k rounds of it their lines were written, and what the nodes showed in the last one is kept
+pub record IsRecorded (listing : SignalListing) (at : ℕ → World) (k : ℕ) (items : List Shown) (text : Written)
+    (old new : Option (List ℕ)) : Type 0 where
+  pub ready : IsReady (at k).ring items text
+  pub shown : AreShown (shown_at (at k).ring) items
+  pub written : Appends old new (changes_text listing (changes_in k at))
+
+-- a write failed in the k-th of its rounds, and a front of the lines of these rounds was written
+abbrev pub IsCut : SignalListing → (ℕ → World) → ℕ → Option (List ℕ) → Option (List ℕ) → Type 0
+IsCut listing at k old new = AppendsFewer old new (changes_text listing (changes_in k at))
+
+-- ---- writes that failed, which a count of faults shows, exactly where `exact` says so
+
+-- none did
+pub record NoneFailed (exact : Bool) (before after : ℕ) : Type 0 where
+  pub later : before ≤ after
+  pub none : exact ≡ true → after ≡ before
+
+-- one did
+pub record OneFailed (exact : Bool) (before after : ℕ) : Type 0 where
+  pub later : before ≤ after
+  pub rose : Rose before after
+  pub one : exact ≡ true → after ≡ one_more before

@@ -1,0 +1,20 @@
+-- What comes of a script whose signalling is shown. No round is run after a settle step.
+use Rattle.sdh_node.specs.Node.{Node}
+use Rattle.sdh_node.specs.Stations.{adm}
+use Rattle.sdh_scripts.specs.Walks.{Walk}
+use Rattle.sdh_scripts.specs.Scripts as scripts
+use Rattle.sdh_world.specs.Steps.{after_step}
+use Rattle.sdh_aps_cli.specs.Signalled.{Signalled, signalled_in}
+
+abbrev pub signalling_walk : Walk Node Signalled
+signalling_walk = record {
+  station = adm;
+  does = after_step;
+  behind = 0;
+  tells = signalled_in;
+  last = λ (s : Signalled). s.round;
+}
+
+-- what a script comes to where arrivals are known
+abbrev pub Ran : Type 0
+Ran = scripts.Ran Node Signalled

@@ -1,0 +1,79 @@
+-- What is shown of how a ring signals, round by round: of each node that shows something else than in the round before, and in the first
+-- round of all nodes, what it shows.
+use Rattle.std.specs.Prelude.{ℕ, zero, suc, ◌-◌, ◌==◌, ◌||◌, Bool, not, List, [], ◌∷◌, ◌++◌, length, get_or, option_map}
+use Rattle.std.specs.Prelude.{if◌then◌else◌}
+use Rattle.std.specs.List.{flat_map}
+use Rattle.sdh_basics.specs.Cells.{cells}
+use Rattle.sdh_ringmap.specs.declared.Pos.{Pos}
+use Rattle.sdh_nodestate.specs.FarEnds.{far_of}
+use Rattle.sdh_nodestate.specs.Filtering.{hears}
+use Rattle.sdh_node.specs.Node.{Node}
+use Rattle.sdh_world.specs.Held.{HeldRing, node_at}
+use Rattle.sdh_world.specs.Rounds.{World}
+use Rattle.sdh_owed.specs.Reports.{state_word, bytes_told}
+use Rattle.sdh_aps.specs.declared.shown.Shown.{Shown}
+use Rattle.sdh_aps.specs.Shown.{same_shown}
+
+-- ---- a node in a round
+
+-- what the last round left it to show: its state and the identifier of its far end, the words that it sent, those that it hears, and what
+-- its sides ask for
+unfoldable pub shown_of : Node → Shown
+shown_of n = record {
+  state = state_word n.state;
+  far = option_map (λ (p : Pos). get_or n.ids p.0 0) (far_of n.state);
+  sent = record { west = bytes_told n.west_out.word; east = bytes_told n.east_out.word };
+  heard_west = option_map bytes_told (hears n.west.brought);
+  heard_east = option_map bytes_told (hears n.east.brought);
+  asks_west = n.west.request;
+  asks_east = n.east.request;
+}
+
+-- of the node at a position
+abbrev pub shown_at : HeldRing → ℕ → Shown
+shown_at r p = shown_of (node_at r.nodes p)
+
+-- ---- a round
+
+-- in a round the node of this identifier showed this
+pub record Change : Type 0 where
+  pub round : ℕ
+  pub id : ℕ
+  pub shown : Shown
+
+-- in the last round of a ring the node at a position showed something else than this, or it was the first round of all
+unfoldable pub is_told : Shown → HeldRing → ℕ → Bool
+is_told was r p = (r.rounds == 1) || not (same_shown was (shown_at r p))
+
+-- what the node at a position showed in the last round of a ring
+abbrev pub change_of : HeldRing → ℕ → Change
+change_of r p = record { round = r.rounds - 1; id = get_or r.ids p 0; shown = shown_at r p }
+
+-- the same, where that is shown, and `was` is what each node showed before that round
+abbrev pub change_at : (ℕ → Shown) → HeldRing → ℕ → List Change
+change_at was r p = if is_told (was p) r p then change_of r p ∷ [] else []
+
+-- of the nodes at the first k positions, in ring order
+abbrev pub changes_to : (ℕ → Shown) → HeldRing → ℕ → List Change
+changes_to was r k = flat_map (change_at was r) (cells (λ p. p) k)
+
+-- of all nodes, in the round that led from one ring to the other
+abbrev pub changes_of : HeldRing → HeldRing → List Change
+changes_of before after = changes_to (shown_at before) after (length after.ids)
+
+-- ---- a settle step
+
+-- in the first k rounds of a course, which gives the world after each number of rounds
+abbrev pub changes_in : ℕ → (ℕ → World) → List Change
+changes_in zero at = []
+changes_in (suc k) at = changes_in k at ++ changes_of (at k).ring (at (suc k)).ring
+
+-- the settle step, counted from 1; its last round; and all changes in its rounds
+pub record Signalled : Type 0 where
+  pub number : ℕ
+  pub round : ℕ
+  pub changes : List Change
+
+-- of settle step `number`, of which k rounds of a course ran
+abbrev pub signalled_in : ℕ → (ℕ → World) → ℕ → Signalled
+signalled_in number at k = record { number = number; round = (at k).ring.rounds - 1; changes = changes_in k at }

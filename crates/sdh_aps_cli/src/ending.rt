@@ -1,0 +1,43 @@
+//! How the program ends.
+ghost use Rattle.std.specs.Prelude.{◌≡◌};
+ghost use Rattle.sdh_aps_cli.specs.Endings.{number_of, line_of, signalling_endings};
+
+use sdh_report::{Status, Text};
+use sdh_shell::Ends;
+
+/// How the program ends.
+#[derive(Clone, Copy, Debug, PartialEq, Eq)]
+pub enum Ending {
+    /// The plan has no node of the identifier.
+    NoSuchNode,
+    /// As the program `sdhring` ends with the same words and plan: `Ok`, `Usage`, `ReadFault`, `WriteFault`, `NotToml`,
+    /// `BadPlan`, `Unsettled`, `PlantFault`, `TooLong` or `Memory`.
+    Shared(Status),
+}
+
+impl Ending {
+    /// Returns the number with which the program ends.
+    pub fn number(&self) -> u8
+        ensures { result ≡ number_of self.now }
+    {
+        match self {
+            Ending::NoSuchNode => 15,
+            Ending::Shared(status) => status.number(),
+        }
+    }
+}
+
+impl Ends for Ending {
+    ghost endings = { signalling_endings };
+
+    fn of(status: Status) -> Ending {
+        Ending::Shared(status)
+    }
+
+    fn put_line(&self, text: &mut Text) {
+        match *self {
+            Ending::NoSuchNode => text.own_line(b"no such node"),
+            Ending::Shared(status) => status.put_line(text),
+        }
+    }
+}

@@ -1,0 +1,176 @@
+//! What looks at the ring after each round, and writes what its nodes show anew.
+ghost use Rattle.std.specs.Prelude.{◌≡◌, ℕ, ◌-◌, ◌+◌, ◌*◌, ◌≤◌, ◌<◌, [], ◌++◌, if◌then◌else◌, IfOk, length};
+ghost use Rattle.sdh_report.specs.Lines.{settle_line};
+ghost use Rattle.sdh_aps.specs.declared.shown.Shown.{Shown};
+ghost use Rattle.sdh_aps_cli.specs.Signalled.{Change, shown_at, is_told, change_of, changes_to};
+ghost use Rattle.sdh_aps_cli.specs.Listing.{lists, change_text, changes_text};
+ghost use Rattle.sdh_aps_cli.specs.Recording.{AreShown, room_in};
+
+use crate::listing::SignalListing;
+use crate::showing::shown_at;
+use sdh_aps::{LINE_MAX, Shown, WordPair, same_shown, signal_line};
+use sdh_report::{StateWord, Text, WordBytes};
+use sdh_ring::Ring;
+use sdh_ringmap::Pos;
+use sdh_terms::Code;
+use std::alloc::{AllocError, Global};
+
+/// What the nodes of a ring showed in the last round, and room for the lines of one round.
+#[derive(Drop)]
+pub struct SignalRecorder {
+    pub before: Vec<Shown>,
+    pub text: Text,
+    pub listing: SignalListing,
+}
+
+// Returns whether the lines of the node of an identifier are listed.
+fn lists(listing: SignalListing, id: u8) -> bool
+    ensures { result ≡ lists listing id }
+{
+    match listing {
+        SignalListing::All => true,
+        SignalListing::Node(one) => one == id,
+    }
+}
+
+// Appends the line of a node that showed this in the last round, where it is listed.
+fn put_change(text: &mut Text, ring: &Ring, at: Pos, now: &Shown, listing: SignalListing)
+    requires at { at.0 < length ring.now.ids }
+    requires ran { 1 ≤ ring.now.rounds }
+    requires now { now.now ≡ shown_at ring.now at.0 }
+    requires room { 128 ≤ text.old.room }
+    ensures bytes { text.new.bytes ≡ text.old.bytes ++ change_text listing (change_of ring.now at.0) }
+    ensures room { text.old.room ≤ text.new.room + 128 }
+    ensures kept { room_in text.new ≡ room_in text.old }
+{
+    let id = ring.map().id(at);
+    if lists(listing, id) {
+        signal_line(text, ring.rounds() - 1, id, now);
+    }
+}
+
+// Appends the line of the node at a position, where it shows something else than before the last round.
+#[tactic(auto, unfolding(crate::specs::Signalled::is_told))]
+fn put_new(text: &mut Text, ring: &Ring, at: Pos, was: &Shown, listing: SignalListing)
+    requires at { at.0 < length ring.now.ids }
+    requires ran { 1 ≤ ring.now.rounds }
+    requires room { 128 ≤ text.old.room }
+    ensures bytes { text.new.bytes ≡ text.old.bytes
+        ++ (if is_told was.now ring.now at.0 then change_text listing (change_of ring.now at.0) else []) }
+    ensures room { text.old.room ≤ text.new.room + 128 }
+    ensures kept { room_in text.new ≡ room_in text.old }
+{
+    let now = shown_at(ring, at);
+    if ring.rounds() == 1 || !same_shown(was, &now) {
+        put_change(text, ring, at, &now, listing);
+    }
+}
+
+// Appends the lines of the last round, before which the nodes showed this.
+fn put_round(text: &mut Text, ring: &Ring, before: &Vec<Shown>, listing: SignalListing)
+    requires many { length before.now.items ≡ length ring.now.ids }
+    requires ran { 1 ≤ ring.now.rounds }
+    requires room { 128 * length ring.now.ids ≤ text.old.room }
+    ensures bytes { (was : ℕ → Shown) → AreShown was before.now.items
+        → text.new.bytes ≡ text.old.bytes ++ changes_text listing (changes_to was ring.now (length ring.now.ids)) }
+    ensures kept { room_in text.new ≡ room_in text.old }
+{
+    for i in 0..ring.map().len() {
+        put_new(text, ring, Pos(i as u8), &before[i], listing);
+    }
+}
+
+// Keeps what all nodes show since the last round.
+fn keep_all(before: &mut Vec<Shown>, ring: &Ring)
+    requires { length before.old.items ≡ length ring.now.ids }
+    ensures many { length before.new.items ≡ length before.old.items }
+    ensures shown { AreShown (shown_at ring.now) before.new.items }
+{
+    for i in 0..ring.map().len() {
+        before[i] = shown_at(ring, Pos(i as u8));
+    }
+}
+
+// Returns what no node shows.
+fn nothing_shown() -> Shown {
+    let none = WordBytes {
+        first: 0,
+        second: 0,
+    };
+    Shown {
+        state: StateWord::Idle,
+        far: None,
+        sent: WordPair {
+            west: none,
+            east: none,
+        },
+        heard_west: None,
+        heard_east: None,
+        asks_west: Code::Nr,
+        asks_east: Code::Nr,
+    }
+}
+
+impl SignalRecorder {
+    /// Returns one for a ring of so many nodes. All memory is taken here.
+    pub fn try_new(
+        alloc: Global,
+        nodes: usize,
+        listing: SignalListing,
+    ) -> Result<SignalRecorder, AllocError>
+        requires { nodes ≤ 16 }
+        ensures many { IfOk result (λ recorder. length recorder.before.items ≡ nodes) }
+        ensures room { IfOk result (λ recorder. 128 * nodes ≤ room_in recorder.text) }
+        ensures listing { IfOk result (λ recorder. recorder.listing ≡ listing) }
+    {
+        let before = vec![in alloc; nothing_shown(); nodes]?;
+        let text = Text::try_new(alloc, LINE_MAX * nodes)?;
+        Ok(SignalRecorder {
+            before,
+            text,
+            listing,
+        })
+    }
+
+    /// Begins a settle step: keeps what the nodes of a ring show before it.
+    pub fn begin(&mut self, ring: &Ring)
+        requires { length self.old.before.items ≡ length ring.now.ids }
+        ensures many { length self.new.before.items ≡ length self.old.before.items }
+        ensures shown { AreShown (shown_at ring.now) self.new.before.items }
+        ensures text { self.new.text ≡ self.old.text }
+        ensures listing { self.new.listing ≡ self.old.listing }
+    {
+        keep_all(&mut self.before, ring);
+    }
+
+    /// Makes the lines of the last round, and keeps what the nodes show since then.
+    pub fn look(&mut self, ring: &Ring)
+        requires many { length self.old.before.items ≡ length ring.now.ids }
+        requires ran { 1 ≤ ring.now.rounds }
+        requires room { 128 * length ring.now.ids ≤ room_in self.old.text }
+        ensures bytes { (was : ℕ → Shown) → AreShown was self.old.before.items
+            → self.new.text.bytes ≡ changes_text self.old.listing (changes_to was ring.now (length ring.now.ids)) }
+        ensures many { length self.new.before.items ≡ length self.old.before.items }
+        ensures shown { AreShown (shown_at ring.now) self.new.before.items }
+        ensures room { room_in self.new.text ≡ room_in self.old.text }
+        ensures listing { self.new.listing ≡ self.old.listing }
+    {
+        self.text.clear();
+        put_round(&mut self.text, ring, &self.before, self.listing);
+        keep_all(&mut self.before, ring);
+    }
+
+    /// Makes the line of settle step `number`, which left a ring.
+    pub fn end(&mut self, ring: &Ring, number: u32)
+        requires ran { 1 ≤ ring.now.rounds }
+        requires room { 96 ≤ room_in self.old.text }
+        ensures bytes { self.new.text.bytes ≡ settle_line number (ring.now.rounds - 1) }
+        ensures room { room_in self.new.text ≡ room_in self.old.text }
+        ensures before { self.new.before ≡ self.old.before }
+        ensures listing { self.new.listing ≡ self.old.listing }
+    {
+        sdh_report::laws::lines_are_short();
+        self.text.clear();
+        self.text.settle_line(number, ring.rounds() - 1);
+    }
+}

@@ -1,0 +1,72 @@
+//! A ring that a script is run over, of which each round is shown.
+ghost use Rattle.sdh_node.specs.Node.{Node as AddDrop};
+ghost use Rattle.sdh_owed.specs.Running.{MayRun as MayRunRing};
+ghost use Rattle.sdh_aps_cli.specs.Signalled.{Signalled};
+ghost use Rattle.sdh_aps_cli.specs.Scripts.{signalling_walk};
+ghost use Rattle.sdh_aps_cli.specs.Listing.{begun_text, ended_text};
+ghost use Rattle.sdh_aps_cli.specs.Recording.{IsReady};
+
+use crate::recorder::SignalRecorder;
+use sdh_outside::{Sink, write_text};
+use sdh_plan::Step;
+use sdh_plant::Plant;
+use sdh_ring::{PlantFault, Ring, SettleError, change};
+use sdh_scripts::{StepError, Teller};
+
+/// A ring, and what records its rounds.
+#[derive(Drop)]
+pub struct SignalRun {
+    pub ring: Ring,
+    pub recorder: SignalRecorder,
+}
+
+impl<W: Sink> Teller<W> for SignalRun {
+    ghost Node = { AddDrop };
+
+    ghost Told = { Signalled };
+
+    ghost walk = { signalling_walk };
+
+    ghost ring = { λ r. r.ring };
+
+    ghost text_of = { λ r told. ended_text r.recorder.listing told };
+
+    ghost begun_of = { λ r told. begun_text r.recorder.listing told };
+
+    ghost room = { λ r. 0 };
+
+    ghost MayRun = { λ number steps r f. MayRunRing 65536 number steps r.ring f × IsReady r.ring r.recorder.before.items r.recorder.text };
+
+    fn change<P: Plant>(&mut self, plant: &mut P, step: Step) -> Result<(), PlantFault> {
+        change(&mut self.ring, plant, step)?;
+        Ok(())
+    }
+
+    fn settle<P: Plant>(
+        &mut self,
+        plant: &mut P,
+        limit: u32,
+        number: u32,
+        output: &mut W,
+    ) -> Result<(), StepError> {
+        self.recorder.begin(&self.ring);
+        let Ok(ended) = self
+            .ring
+            .settle_recording(plant, limit, &mut self.recorder, output)
+        else {
+            return Err(StepError::WriteFault);
+        };
+        match ended {
+            Ok(()) => {}
+            Err(SettleError::Unsettled) => return Err(StepError::Unsettled),
+            Err(SettleError::PlantFault) => return Err(StepError::PlantFault),
+        }
+        self.recorder.end(&self.ring, number + 1);
+        match write_text(output, self.recorder.text.bytes()) {
+            Ok(()) => Ok(()),
+            Err(_) => Err(StepError::WriteFault),
+        }
+    }
+
+    ghost few = { λ number later r f may. may.0.steps_fit.0.few_settles };
+}

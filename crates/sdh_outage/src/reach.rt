@@ -1,0 +1,236 @@
+//! Some chunks of a customer's stream.
+ghost use Rattle.std.specs.Prelude.{◌≡◌, ◌+◌, ◌-◌, ◌*◌, ◌^◌, ◌<◌, ◌≤◌, ◌++◌, IfOk, take, drop, length, vec_len, vec_capacity};
+ghost use Rattle.sdh_payload.specs.Clock.{waiting};
+ghost use Rattle.sdh_payload.specs.Feed.{next_feed};
+ghost use Rattle.sdh_payload.specs.Stream.{stream_from};
+ghost use Rattle.sdh_outage.specs.Kept.{Reached};
+
+use sdh_payload::{Cells, Feed, Port};
+use std::alloc::{AllocError, Global};
+use std::fmt;
+use std::marker::Model;
+
+/// The bytes of a chunk where no clock slips.
+pub(crate) const CHUNK: usize = 2349;
+
+/// Chunks of a port's stream, one after the other, of which later ones are made as they are asked for. It takes the memory for them
+/// when it is made, and uses it once they are there.
+#[derive(Drop)]
+pub(crate) struct Reach {
+    feed: Feed,
+    chunk: Cells,
+    bytes: Vec<u8>,
+    first: u32,
+    made: u32,
+    most: u32,
+}
+
+impl Model for Reach {
+    ghost use Rattle.std.specs.Prelude.{◌≡◌, ◌+◌, ◌-◌, ◌*◌, ◌≤◌, vec_len, vec_capacity};
+    ghost use Rattle.sdh_outage.specs.Kept.{Reached, IsReach};
+
+    ghost Value = { Reached };
+
+    ghost view = { λ r. record { port = r.feed.port; first = r.first; made = r.made; most = r.most } };
+
+    ghost invariant = { λ r. IsReach r.feed r.first r.made r.bytes.items × (vec_len r.bytes ≡ 2349 * (r.made - r.first))
+        × (r.made ≤ r.first + r.most) × (r.most ≤ 78) × (2349 * r.most ≤ vec_capacity r.bytes) };
+}
+
+impl fmt::Debug for Reach {
+    fn fmt<W: fmt::Write>(&self, f: &mut fmt::Formatter<W>) -> fmt::Result {
+        write!(f, "Reach({} to {})", self.first, self.made)
+    }
+}
+
+// Copies the bytes behind a place to the front, where they are no more than those before it.
+fn copy_down(bytes: &mut [u8], count: usize)
+    requires inside { count ≤ length bytes.old }
+    requires short { length bytes.old ≤ 2 * count }
+    ensures front { take (length bytes.old - count) bytes.new ≡ drop count bytes.old }
+    ensures len { length bytes.new ≡ length bytes.old }
+{
+    let (front, back) = bytes.split_at_mut(count);
+    let rest = back.len();
+    front[..rest].copy_from_slice(back);
+}
+
+// Puts the bytes behind a place to the front, whatever comes behind them then.
+fn move_down(bytes: &mut [u8], count: usize)
+    requires { count ≤ length bytes.old }
+    ensures front { take (length bytes.old - count) bytes.new ≡ drop count bytes.old }
+    ensures len { length bytes.new ≡ length bytes.old }
+{
+    if bytes.len() - count <= count {
+        copy_down(bytes, count);
+    } else {
+        bytes.rotate_left(count);
+    }
+}
+
+// Drops the first bytes, and keeps their memory.
+fn drop_front(bytes: &mut Vec<u8>, count: usize)
+    requires { count ≤ vec_len bytes.old }
+    ensures bytes { bytes.new.items ≡ drop count bytes.old.items }
+    ensures count { vec_len bytes.new + count ≡ vec_len bytes.old }
+    ensures room { vec_capacity bytes.new ≡ vec_capacity bytes.old }
+{
+    let rest = bytes.len() - count;
+    move_down(bytes, count);
+    bytes.truncate(rest);
+}
+
+/// Makes the next chunk of a stream and puts it behind others, for which there is room.
+pub(crate) fn put_chunk(feed: &mut Feed, chunk: &mut Cells, bytes: &mut Vec<u8>)
+    requires plain { waiting feed.old.clock ≡ 0 }
+    requires few { feed.old.clock.rounds < 2 ^ 32 }
+    requires room { vec_len bytes.old + 2349 ≤ vec_capacity bytes.old }
+    ensures bytes { bytes.new.items ≡ bytes.old.items ++ stream_from feed.old.port feed.old.clock.sent 2349 }
+    ensures len { vec_len bytes.new ≡ vec_len bytes.old + 2349 }
+    ensures room { vec_capacity bytes.old ≤ vec_capacity bytes.new }
+    ensures next { feed.new ≡ next_feed feed.old }
+{
+    feed.next(chunk);
+    bytes.extend_from_slice(chunk.as_slice()).unwrap();
+}
+
+impl Reach {
+    /// Before chunk 0, with room for this many chunks.
+    pub(crate) fn try_new(alloc: Global, port: &Port, most: u32) -> Result<Reach, AllocError>
+        requires { most ≤ 78 }
+        ensures { IfOk result (λ reach. reach ≡ record { port = port.now; first = 0; made = 0; most = most }) }
+    {
+        let feed = Feed::new(port);
+        let chunk = Cells::try_new(alloc)?;
+        let bytes = Vec::with_capacity(alloc, CHUNK * most as usize)?;
+        Ok(Reach {
+            feed,
+            chunk,
+            bytes,
+            first: 0,
+            made: 0,
+            most,
+        })
+    }
+
+    /// Returns the number of the first chunk that is kept.
+    pub(crate) fn first(&self) -> u32
+        ensures { result ≡ self.now.first }
+    {
+        self.first
+    }
+
+    /// Returns the number of the one behind the last that is kept.
+    pub(crate) fn made(&self) -> u32
+        ensures { result ≡ self.now.made }
+    {
+        self.made
+    }
+
+    /// Returns the chunks that are kept.
+    pub(crate) fn bytes(&self) -> &[u8]
+        ensures { result.now ≡ stream_from self.now.port (2349 * self.now.first) (2349 * (self.now.made - self.now.first)) }
+    {
+        &self.bytes
+    }
+
+    // The next chunk is made and not kept.
+    fn pass(&mut self)
+        requires none { self.old.first ≡ self.old.made }
+        requires few { self.old.made + 1 < 2 ^ 32 }
+        ensures { self.new ≡ record self.old { first = self.old.made + 1; made = self.old.made + 1 } }
+    {
+        self.feed.next(&mut self.chunk);
+        self.made += 1;
+        self.first = self.made;
+    }
+
+    // The next chunk is made and kept.
+    fn push(&mut self)
+        requires room { self.old.made < self.old.first + self.old.most }
+        requires few { self.old.made + 1 < 2 ^ 32 }
+        ensures { self.new ≡ record self.old { made = self.old.made + 1 } }
+    {
+        put_chunk(&mut self.feed, &mut self.chunk, &mut self.bytes);
+        self.made += 1;
+    }
+
+    // None are kept.
+    #[tactic(auto, using(crate::proofs::Windows::reach_cleared))]
+    fn clear(&mut self)
+        ensures { self.new ≡ record self.old { first = self.old.made } }
+    {
+        self.bytes.clear();
+        self.first = self.made;
+    }
+
+    // None are kept, and the next is this one.
+    fn pass_to(&mut self, from: u32)
+        requires later { self.old.made ≤ from }
+        requires few { from + 1 < 2 ^ 32 }
+        ensures { self.new ≡ record self.old { first = from; made = from } }
+    {
+        self.clear();
+        for _ in self.made..from {
+            self.pass();
+        }
+    }
+
+    // Those before this one aren't kept.
+    fn drop_to(&mut self, from: u32)
+        requires after { self.old.first ≤ from }
+        requires before { from ≤ self.old.made }
+        ensures { self.new ≡ record self.old { first = from } }
+    {
+        drop_front(&mut self.bytes, CHUNK * (from - self.first) as usize);
+        self.first = from;
+    }
+
+    // All up to this one are kept.
+    fn fill_to(&mut self, end: u32)
+        requires room { end ≤ self.old.first + self.old.most }
+        requires few { end < 2 ^ 32 }
+        ensures same { self.new ≡ record self.old { made = self.new.made } }
+        ensures made { end ≤ self.new.made }
+    {
+        for _ in self.made..end {
+            self.push();
+        }
+    }
+
+    // None before `low` are kept, and there is room for so many from this one on. As few are dropped as that needs.
+    fn make_room(&mut self, low: u32, from: u32, count: u32)
+        requires order { low ≤ from }
+        requires later { self.old.first ≤ from }
+        requires few { from + 80 < 2 ^ 32 }
+        requires room { count ≤ self.old.most }
+        ensures port { self.new.port ≡ self.old.port }
+        ensures most { self.new.most ≡ self.old.most }
+        ensures first { self.new.first ≤ from }
+        ensures low { low ≤ self.new.first }
+        ensures room { from + count ≤ self.new.first + self.new.most }
+    {
+        if from > self.made {
+            self.pass_to(from);
+        } else if self.first < low || self.first + self.most < from + count {
+            self.drop_to(from);
+        }
+    }
+
+    /// Keeps so many chunks from this one on, and none before `low`.
+    pub(crate) fn reach(&mut self, low: u32, from: u32, count: u32)
+        requires order { low ≤ from }
+        requires later { self.old.first ≤ from }
+        requires few { from + 80 < 2 ^ 32 }
+        requires room { count ≤ self.old.most }
+        requires most { count ≤ 78 }
+        ensures port { self.new.port ≡ self.old.port }
+        ensures most { self.new.most ≡ self.old.most }
+        ensures first { self.new.first ≤ from }
+        ensures low { low ≤ self.new.first }
+        ensures made { from + count ≤ self.new.made }
+    {
+        self.make_room(low, from, count);
+        self.fill_to(from + count);
+    }
+}

@@ -1,0 +1,91 @@
+//! Room for the bytes of one customer that can be on their way.
+ghost use Rattle.std.specs.Prelude.{◌≡◌, ◌+◌, ◌-◌, ◌*◌, ◌^◌, ◌<◌, ◌≤◌, [], IfOk, vec_len, vec_capacity};
+ghost use Rattle.sdh_payload.specs.Stream.{stream_from};
+ghost use Rattle.sdh_outage.specs.Near.{near};
+ghost use Rattle.sdh_outage.specs.Kept.{IsReach};
+
+use crate::reach::{CHUNK, put_chunk};
+use sdh_payload::{Cells, Feed, Port};
+use std::alloc::{AllocError, Global};
+use std::fmt;
+use std::marker::Model;
+
+/// How many chunks are near.
+pub(crate) const CHUNKS: u32 = 78;
+
+/// How many rounds before a round's own the first of them is sent.
+pub(crate) const BEHIND: u32 = 71;
+
+/// Room for the bytes of a customer that are near in a round, made anew for each look. Its memory is taken when it is made, and serves
+/// for all customers.
+#[derive(Drop)]
+pub struct Scratch {
+    chunk: Cells,
+    bytes: Vec<u8>,
+}
+
+impl Model for Scratch {
+    ghost use Rattle.std.specs.Prelude.{ℕ, ◌*◌, ◌≤◌, List, vec_capacity};
+
+    ghost Value = { List ℕ };
+
+    ghost view = { λ s. s.bytes.items };
+
+    ghost invariant = { λ s. 2349 * 78 ≤ vec_capacity s.bytes };
+}
+
+impl fmt::Debug for Scratch {
+    fn fmt<W: fmt::Write>(&self, f: &mut fmt::Formatter<W>) -> fmt::Result {
+        write!(f, "Scratch({} bytes)", self.bytes.len())
+    }
+}
+
+// Returns the feed of a port before this chunk of its stream.
+fn feed_before(port: &Port, chunk: &mut Cells, first: u32) -> Feed
+    requires { first < 2 ^ 32 }
+    ensures at { IsReach result first first [] }
+    ensures port { result.port ≡ port.now }
+{
+    let mut feed = Feed::new(port);
+    for _ in 0..first {
+        feed.next(chunk);
+    }
+    feed
+}
+
+// Puts as many chunks as are near, from the feed's next one on.
+fn put_near(feed: &mut Feed, chunk: &mut Cells, bytes: &mut Vec<u8>)
+    requires at { IsReach feed.old feed.old.clock.rounds feed.old.clock.rounds [] }
+    requires few { feed.old.clock.rounds + 80 < 2 ^ 32 }
+    requires none { bytes.old.items ≡ [] }
+    requires empty { vec_len bytes.old ≡ 0 }
+    requires room { 2349 * 78 ≤ vec_capacity bytes.old }
+    ensures bytes { bytes.new.items ≡ stream_from feed.old.port (2349 * feed.old.clock.rounds) (2349 * 78) }
+    ensures room { vec_capacity bytes.old ≤ vec_capacity bytes.new }
+{
+    for _ in 0..CHUNKS {
+        put_chunk(feed, chunk, bytes);
+    }
+}
+
+impl Scratch {
+    /// With room for the bytes of any customer.
+    pub fn try_new(alloc: Global) -> Result<Scratch, AllocError>
+        ensures { IfOk result (λ scratch. scratch ≡ []) }
+    {
+        let chunk = Cells::try_new(alloc)?;
+        let bytes = Vec::with_capacity(alloc, CHUNK * CHUNKS as usize)?;
+        Ok(Scratch { chunk, bytes })
+    }
+
+    /// Returns the bytes of a port that are near in a round.
+    pub(crate) fn near(&mut self, port: &Port, round: u32) -> &[u8]
+        requires { round + 88 ≤ 2 ^ 32 }
+        ensures { result.now ≡ near port.now round }
+    {
+        let mut feed = feed_before(port, &mut self.chunk, round.saturating_sub(BEHIND));
+        self.bytes.clear();
+        put_near(&mut feed, &mut self.chunk, &mut self.bytes);
+        &self.bytes
+    }
+}

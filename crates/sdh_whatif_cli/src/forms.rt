@@ -1,0 +1,49 @@
+//! The forms in which cases are told.
+ghost use Rattle.std.specs.Prelude.{◌≡◌, ◌+◌, ◌≤◌, ◌++◌, [], length, ◌==◌, if◌then◌else◌};
+ghost use Rattle.sdh_whatif_cli.specs.Lines.{is_json, either};
+
+use crate::ask::Form;
+use crate::line::Line;
+
+/// In which form a case is told, and the number that it has among all that are told.
+#[derive(Clone, Copy, Debug, PartialEq, Eq)]
+pub struct Entry {
+    pub form: Form,
+    pub number: usize,
+}
+
+/// Returns whether cases are told in lines of JSON, and not in records of the table.
+pub fn is_json(form: Form) -> bool
+    ensures { result ≡ is_json form }
+{
+    match form {
+        Form::Json => true,
+        Form::Table | Form::Headed | Form::Summary => false,
+    }
+}
+
+/// Appends the one text in JSON, and the other in the table.
+pub fn put_either(line: &mut Line, form: Form, json: &[u8], table: &[u8])
+    requires short { (length json.now ≤ 13) × (length table.now ≤ 13) }
+    requires room { length line.old + 13 ≤ 8192 }
+    ensures text { line.new ≡ line.old ++ either form json.now table.now }
+    ensures short { length line.new ≤ length line.old + 13 }
+{
+    if is_json(form) {
+        line.put(json);
+    } else {
+        line.put(table);
+    }
+}
+
+/// Appends what parts the text of this number from the one before it; nothing before the first.
+pub fn put_between(line: &mut Line, form: Form, json: &[u8], table: &[u8], i: usize)
+    requires short { (length json.now ≤ 13) × (length table.now ≤ 13) }
+    requires room { length line.old + 13 ≤ 8192 }
+    ensures text { line.new ≡ line.old ++ (if i == 0 then [] else either form json.now table.now) }
+    ensures short { length line.new ≤ length line.old + 13 }
+{
+    if i != 0 {
+        put_either(line, form, json, table);
+    }
+}

@@ -1,0 +1,265 @@
+//! Names of failures and spans, and steps.
+ghost use Rattle.std.specs.Prelude.{◌≡◌, ◌+◌, ◌<◌, ◌≤◌, ◌++◌, List, All, [], codes, length, slice_get};
+ghost use Rattle.std.specs.List.{flat_map};
+ghost use Rattle.std.specs.Option.{option_map_or};
+ghost use Rattle.sdh_report.specs.Lines.{side_text};
+ghost use Rattle.sdh_verdicts.specs.declared.failure.Failure.{Failure};
+ghost use Rattle.sdh_verdicts.specs.Failures.{IsFailureIn, steps_of, case_steps};
+ghost use Rattle.sdh_whatif_cli.specs.Lines.{id_text, toward_text, span_text, failure_text, place_text, fibre_text, order_text, IsAt};
+ghost use Rattle.sdh_whatif_cli.specs.Lines.{step_text, step_quote, name_text, names_text, step_part, span_part};
+
+use crate::ask::Form;
+use crate::forms::{put_between, put_either};
+use crate::line::Line;
+use sdh_plan::Step;
+use sdh_request::Command;
+use sdh_ringmap::{Pos, RingMap, Side};
+use sdh_terms::Condition;
+use sdh_verdicts::{Failure, step_of};
+
+// The identifier of a node.
+fn put_id(line: &mut Line, map: &RingMap, at: Pos)
+    requires at { at.0 < length map.now }
+    requires room { length line.old + 2 ≤ 8192 }
+    ensures text { line.new ≡ line.old ++ id_text map.now at.0 }
+    ensures short { length line.new ≤ length line.old + 2 }
+{
+    line.put_number(u64::from(map.id(at)));
+}
+
+// A side.
+fn put_side(line: &mut Line, side: Side)
+    requires room { length line.old + 4 ≤ 8192 }
+    ensures text { line.new ≡ line.old ++ side_text side }
+    ensures short { length line.new ≤ length line.old + 4 }
+{
+    match side {
+        Side::West => line.put(b"west"),
+        Side::East => line.put(b"east"),
+    }
+}
+
+// ---- names
+
+// A kind, and the fibre that leaves a node on a side, or that side.
+fn put_toward(line: &mut Line, map: &RingMap, kind: &[u8], at: Pos, side: Side)
+    requires at { at.0 < length map.now }
+    requires kind { length kind.now ≤ 9 }
+    requires room { length line.old + 14 ≤ 8192 }
+    ensures text { line.new ≡ line.old ++ kind.now ++ toward_text map.now at side }
+    ensures short { length line.new ≤ length line.old + 14 }
+{
+    line.put(kind);
+    put_id(line, map, at);
+    line.put(b">");
+    put_id(line, map, map.step(at, side));
+}
+
+// A span.
+fn put_span(line: &mut Line, map: &RingMap, at: Pos)
+    requires at { at.0 < length map.now }
+    requires room { length line.old + 5 ≤ 8192 }
+    ensures text { line.new ≡ line.old ++ span_text map.now at.0 }
+    ensures short { length line.new ≤ length line.old + 5 }
+{
+    put_id(line, map, at);
+    line.put(b"-");
+    put_id(line, map, map.step(at, Side::East));
+}
+
+// The name of a failure.
+fn put_failure_name(line: &mut Line, map: &RingMap, failure: Failure)
+    requires failure { IsFailureIn (length map.now) failure }
+    requires room { length line.old + 14 ≤ 8192 }
+    ensures text { line.new ≡ line.old ++ failure_text map.now failure }
+    ensures short { length line.new ≤ length line.old + 14 }
+{
+    match failure {
+        Failure::Degraded(at, side) => put_toward(line, map, b"degraded ", at, side),
+        Failure::Cut(at, side) => put_toward(line, map, b"fibre ", at, side),
+        Failure::Span(at) => {
+            line.put(b"span ");
+            put_span(line, map, at);
+        }
+        Failure::Node(at) => {
+            line.put(b"node ");
+            put_id(line, map, at);
+        }
+        Failure::Manual(at, side) => put_toward(line, map, b"manual ", at, side),
+        Failure::Forced(at, side) => put_toward(line, map, b"forced ", at, side),
+    }
+}
+
+// It, with what stands around it.
+fn put_name(line: &mut Line, form: Form, map: &RingMap, failure: Failure)
+    requires failure { IsFailureIn (length map.now) failure }
+    requires room { length line.old + 40 ≤ 8192 }
+    ensures text { line.new ≡ line.old ++ name_text form map.now failure }
+    ensures short { length line.new ≤ length line.old + 40 }
+{
+    put_either(line, form, b"\"", b"");
+    put_failure_name(line, map, failure);
+    put_either(line, form, b"\"", b"");
+}
+
+/// Appends the names of a case's failures.
+pub fn put_names(line: &mut Line, form: Form, map: &RingMap, case: &[Failure])
+    requires case { All (IsFailureIn (length map.now)) case.now }
+    requires few { length case.now ≤ 3 }
+    requires room { length line.old + 159 ≤ 8192 }
+    ensures text { line.new ≡ line.old ++ names_text form map.now case.now }
+    ensures short { length line.new ≤ length line.old + 159 }
+{
+    for i in 0..case.len() {
+        put_between(line, form, b",", b" + ", i);
+        put_name(line, form, map, case[i]);
+    }
+}
+
+/// Appends a span, with what stands around it.
+pub fn put_span_name(line: &mut Line, form: Form, map: &RingMap, at: Pos)
+    requires at { at.0 < length map.now }
+    requires room { length line.old + 31 ≤ 8192 }
+    ensures text { line.new ≡ line.old ++ span_part form map.now at.0 }
+    ensures short { length line.new ≤ length line.old + 31 }
+{
+    put_either(line, form, b"\"", b"");
+    put_span(line, map, at);
+    put_either(line, form, b"\"", b"");
+}
+
+// ---- steps
+
+// A verb, and the node and the side that it is about.
+fn put_place(line: &mut Line, map: &RingMap, verb: &[u8], at: Pos, side: Side)
+    requires at { at.0 < length map.now }
+    requires verb { length verb.now ≤ 8 }
+    requires room { length line.old + 15 ≤ 8192 }
+    ensures text { line.new ≡ line.old ++ place_text map.now verb.now at side }
+    ensures short { length line.new ≤ length line.old + 15 }
+{
+    line.put(verb);
+    put_id(line, map, at);
+    line.put(b" ");
+    put_side(line, side);
+}
+
+// A condition of a fibre.
+fn put_fibre(line: &mut Line, map: &RingMap, at: Pos, side: Side, condition: Condition)
+    requires at { at.0 < length map.now }
+    requires room { length line.old + 21 ≤ 8192 }
+    ensures text { line.new ≡ line.old ++ fibre_text map.now at side condition }
+    ensures short { length line.new ≤ length line.old + 21 }
+{
+    match condition {
+        Condition::Clear => put_place(line, map, b"mend ", at, side),
+        Condition::Cut => put_place(line, map, b"cut ", at, side),
+        Condition::Degraded(count) => {
+            put_place(line, map, b"degrade ", at, side);
+            line.put(b" ");
+            line.put_small(count);
+        }
+    }
+}
+
+// A command.
+fn put_order(line: &mut Line, map: &RingMap, at: Pos, side: Side, command: Command)
+    requires at { at.0 < length map.now }
+    requires room { length line.old + 15 ≤ 8192 }
+    ensures text { line.new ≡ line.old ++ order_text map.now at side command }
+    ensures short { length line.new ≤ length line.old + 15 }
+{
+    match command {
+        Command::Clear => put_place(line, map, b"clear ", at, side),
+        Command::Forced => put_place(line, map, b"forced ", at, side),
+        Command::Manual => put_place(line, map, b"manual ", at, side),
+    }
+}
+
+// The words of a step.
+fn put_words(line: &mut Line, map: &RingMap, step: Step)
+    requires at { IsAt (length map.now) step }
+    requires room { length line.old + 21 ≤ 8192 }
+    ensures text { line.new ≡ line.old ++ step_text map.now step }
+    ensures short { length line.new ≤ length line.old + 21 }
+{
+    match step {
+        Step::Fibre(event) => put_fibre(line, map, event.at, event.side, event.condition),
+        Step::Order(at, side, command) => put_order(line, map, at, side, command),
+        Step::Moment(_) | Step::Hold(_, _) | Step::Slip(_, _, _) | Step::Settle => {}
+    }
+}
+
+// A step, and what parts it from the next.
+fn put_step(line: &mut Line, form: Form, map: &RingMap, step: Step)
+    requires at { IsAt (length map.now) step }
+    requires room { length line.old + 60 ≤ 8192 }
+    ensures text { line.new ≡ line.old ++ step_part form map.now step }
+    ensures short { length line.new ≤ length line.old + 60 }
+{
+    put_either(line, form, b"\"", b"\"\"");
+    put_words(line, map, step);
+    put_either(line, form, b"\"", b"\"\"");
+    put_either(line, form, b",", b", ");
+}
+
+// Of a failure's steps, the one at a place, where there is one.
+fn put_step_at(
+    line: &mut Line,
+    form: Form,
+    map: &RingMap,
+    threshold: u16,
+    failure: Failure,
+    i: usize,
+)
+    requires failure { IsFailureIn (length map.now) failure }
+    requires room { length line.old + 60 ≤ 8192 }
+    ensures text { line.new ≡ line.old
+        ++ option_map_or (step_part form map.now) (slice_get (steps_of (length map.now) threshold failure) i) [] }
+    ensures short { length line.new ≤ length line.old + 60 }
+{
+    if let Some(step) = step_of(map, threshold, failure, i) {
+        put_step(line, form, map, step);
+    }
+}
+
+// The steps of a failure, each with what parts it from the next.
+fn put_failure(line: &mut Line, form: Form, map: &RingMap, threshold: u16, failure: Failure)
+    requires failure { IsFailureIn (length map.now) failure }
+    requires room { length line.old + 240 ≤ 8192 }
+    ensures text { line.new ≡ line.old ++ flat_map (step_part form map.now) (steps_of (length map.now) threshold failure) }
+    ensures short { length line.new ≤ length line.old + 240 }
+{
+    put_step_at(line, form, map, threshold, failure, 0);
+    put_step_at(line, form, map, threshold, failure, 1);
+    put_step_at(line, form, map, threshold, failure, 2);
+    put_step_at(line, form, map, threshold, failure, 3);
+}
+
+// The steps of a case.
+fn put_steps(line: &mut Line, form: Form, map: &RingMap, threshold: u16, case: &[Failure])
+    requires case { All (IsFailureIn (length map.now)) case.now }
+    requires few { length case.now ≤ 3 }
+    requires room { length line.old + 720 ≤ 8192 }
+    ensures text { line.new ≡ line.old ++ flat_map (step_part form map.now) (case_steps (length map.now) threshold case.now) }
+    ensures short { length line.new ≤ length line.old + 720 }
+{
+    for failure in case {
+        put_failure(line, form, map, threshold, *failure);
+    }
+}
+
+/// Appends the steps of a case, and the settle step behind them.
+pub fn put_script(line: &mut Line, form: Form, map: &RingMap, threshold: u16, case: &[Failure])
+    requires case { All (IsFailureIn (length map.now)) case.now }
+    requires few { length case.now ≤ 3 }
+    requires room { length line.old + 752 ≤ 8192 }
+    ensures text { line.new ≡ line.old ++ (flat_map (step_part form map.now) (case_steps (length map.now) threshold case.now)
+        ++ step_quote form ++ codes "settle" ++ step_quote form) }
+    ensures short { length line.new ≤ length line.old + 752 }
+{
+    put_steps(line, form, map, threshold, case);
+    put_either(line, form, b"\"", b"\"\"");
+    line.put(b"settle");
+    put_either(line, form, b"\"", b"\"\"");
+}
