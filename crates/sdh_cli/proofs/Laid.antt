@@ -1,4 +1,4 @@
--- A circuit that is laid behind others is added: no check refuses it.
+-- A circuit that is laid after others is added: no check refuses it.
 use Rattle.std.proofs.Common.{◌≡◌, ℕ, ◌+◌, ◌-◌, ◌%◌, ◌<◌, ◌≤◌, List, ◌++◌, length, get_or, drop, Bool, true, false, not, cond, ◌&&◌, ◌==◌}
 use Rattle.std.proofs.Common.{nat_le, nat_lt, All, Option, Some, None, codes, refl, unwrap_or, sym, ap, ◌∙◌, subst, arith}
 use Rattle.std.specs.Prelude.{pos, Result, Err, Ok, IfNone, IfErr, OnOk}

@@ -13,8 +13,8 @@ use Rattle.sdh_outage.specs.Near.{near, is_part, is_torn}
 abbrev pub are_ones : List ℕ → Bool
 are_ones bytes = list_all (λ byte. byte == 255) bytes
 
--- where these bytes of a stream are near, a chunk doesn't follow what came in the round before: that was a chunk of them too, and the
--- two don't stand there one behind the other
+-- where these bytes of a stream are near, a chunk doesn't follow what came in the round before: that was a chunk of
+-- them too, and the two don't stand there one after the other
 abbrev pub jumps : List ℕ → Delivered → List ℕ → Bool
 jumps others Ais bytes = false
 jumps others (Chunk last) bytes = is_part last others && not (is_part (last ++ bytes) others)

@@ -70,7 +70,7 @@ kind_word kind.Strange = codes "strange"
 abbrev pub change_line : Change → List ℕ
 change_line c = codes "round " ++ decimal c.round ++ codes " " ++ kind_word c.kind ++ codes "\n"
 
--- so many changes came behind those that are told
+-- so many changes came after those that are told
 abbrev pub more_line : ℕ → List ℕ
 more_line count = codes "more " ++ decimal count ++ codes "\n"
 

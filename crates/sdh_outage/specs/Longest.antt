@@ -4,7 +4,7 @@ use Rattle.std.specs.List.{list_all}
 use Rattle.sdh_outage.specs.declared.kind.Kind.{Kind}
 use Rattle.sdh_outage.specs.Outages.{is_out, outage_of}
 
--- among these rounds so many stand one behind the other that all brought none of the far customer's bytes
+-- among these rounds so many stand one after the other that all brought none of the far customer's bytes
 pub record HasRun (kinds : List Kind) (n : ℕ) : Type 0 where
   pub later : List Kind
   pub run : List Kind

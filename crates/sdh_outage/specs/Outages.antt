@@ -50,12 +50,12 @@ no_outage = record {
   stretch = None;
 }
 
--- from the first round that wasn't in order to the last one, with this round behind it
+-- from the first round that wasn't in order to the last one, with this round after it
 abbrev pub up_to : ℕ → Option Stretch → Option Stretch
 up_to round None = Some (record { from = round; to = round })
 up_to round (Some s) = Some (record s { to = round })
 
--- the first port whose bytes came, with those of this one behind it
+-- the first port whose bytes came, with those of this one after it
 abbrev pub first_port : Option PortId → PortId → Option PortId
 first_port None port = Some port
 first_port (Some first) port = Some first
@@ -85,8 +85,8 @@ abbrev pub with_round : ℕ → Kind → Outage → Outage
 with_round round kind o =
     record (with_kind kind o) { runs = with_run (is_out kind) o.runs; stretch = stretch_with round kind o.stretch }
 
--- of the rounds of these kinds from round `first` on, the latest first: a run that came before them is none of them, and one that
--- goes on behind them ends with the last of them
+-- of the rounds of these kinds from round `first` on, the latest first: a run that came before them is none of them,
+-- and one that goes on after them ends with the last of them
 abbrev pub outage_of : ℕ → List Kind → Outage
 outage_of first [] = no_outage
 outage_of first (kind ∷ earlier) = with_round (first + length earlier) kind (outage_of first earlier)

@@ -11,9 +11,9 @@ pub enum Kind {
     Ais,
     /// A chunk all of ones: nobody's bytes.
     Ones,
-    /// A chunk of the far customer's, behind that of the round before or after none of them.
+    /// A chunk of the far customer's, after that of the round before or after none of them.
     InOrder,
-    /// A chunk of the far customer's that isn't behind that of the round before.
+    /// A chunk of the far customer's that isn't after that of the round before.
     Jump,
     /// A chunk of the far customer's in two pieces, with other bytes amid, or without some of his.
     Torn,

@@ -69,7 +69,7 @@ impl Last {
         self.bytes.len()
     }
 
-    /// Returns whether a chunk stands among bytes of a stream, behind it at this place, or at the place itself where it
+    /// Returns whether a chunk stands among bytes of a stream, after it at this place, or at the place itself where it
     /// is AIS.
     pub(crate) fn stands_before(&self, chunk: &[u8], others: &[u8], at: usize) -> bool
         ensures { result ≡ true → Stands self.now chunk.now others.now }

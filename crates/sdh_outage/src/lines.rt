@@ -159,7 +159,7 @@ pub fn change_line(text: &mut Text, change: &Change)
     text.put(b"\n");
 }
 
-/// The line of so many changes behind those that were written.
+/// The line of so many changes after those that were written.
 pub fn more_line(text: &mut Text, count: u32)
     requires { length (more_line count) ≤ text.old.room }
     ensures { text.new ≡ with_part text.old (more_line count) }

@@ -19,7 +19,7 @@ pub struct Stretch {
     pub to: u32,
 }
 
-/// The runs of rounds, one behind the other, that brought none of the far customer's bytes.
+/// The runs of rounds, one after the other, that brought none of the far customer's bytes.
 #[derive(Clone, Copy, Debug, PartialEq, Eq)]
 pub struct Runs {
     /// How many there were.
@@ -37,7 +37,7 @@ pub struct Outage {
     pub ais: u32,
     /// How many a chunk all of ones.
     pub ones: u32,
-    /// How many the far customer's bytes, but not those behind the ones before.
+    /// How many the far customer's bytes, but not those after the ones before.
     pub jump: u32,
     /// How many the far customer's bytes with others amid.
     pub torn: u32,

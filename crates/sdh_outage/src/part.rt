@@ -6,7 +6,8 @@ ghost use Rattle.sdh_outage.specs.Near.{is_part, front, back, is_torn, holds};
 use crate::kind::Kind;
 use memchr::memmem;
 
-/// The bytes of a chunk before the place where an AU-4 is justified, and the fewest behind all that a justification changes there.
+/// The bytes of a chunk before the place where an AU-4 is justified, and the fewest after all that a justification
+/// changes there.
 const FRONT: usize = 783;
 
 const BACK: usize = 1560;
@@ -37,7 +38,7 @@ fn front(chunk: &[u8]) -> &[u8]
     &chunk[..FRONT]
 }
 
-// Those behind all that a justification changes.
+// Those after all that a justification changes.
 fn back(chunk: &[u8]) -> &[u8]
     ensures { result.now ≡ back chunk.now }
 {

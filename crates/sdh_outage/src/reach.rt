@@ -43,7 +43,7 @@ impl fmt::Debug for Reach {
     }
 }
 
-// Copies the bytes behind a place to the front, where they are no more than those before it.
+// Copies the bytes after a place to the front, where they are no more than those before it.
 fn copy_down(bytes: &mut [u8], count: usize)
     requires inside { count ≤ length bytes.old }
     requires short { length bytes.old ≤ 2 * count }
@@ -55,7 +55,7 @@ fn copy_down(bytes: &mut [u8], count: usize)
     front[..rest].copy_from_slice(back);
 }
 
-// Puts the bytes behind a place to the front, whatever comes behind them then.
+// Puts the bytes after a place to the front, whatever comes after them then.
 fn move_down(bytes: &mut [u8], count: usize)
     requires { count ≤ length bytes.old }
     ensures front { take (length bytes.old - count) bytes.new ≡ drop count bytes.old }
@@ -80,7 +80,7 @@ fn drop_front(bytes: &mut Vec<u8>, count: usize)
     bytes.truncate(rest);
 }
 
-/// Makes the next chunk of a stream and puts it behind others, for which there is room.
+/// Makes the next chunk of a stream and puts it after others, for which there is room.
 pub(crate) fn put_chunk(feed: &mut Feed, chunk: &mut Cells, bytes: &mut Vec<u8>)
     requires plain { waiting feed.old.clock ≡ 0 }
     requires few { feed.old.clock.rounds < 2 ^ 32 }
@@ -120,7 +120,7 @@ impl Reach {
         self.first
     }
 
-    /// Returns the number of the one behind the last that is kept.
+    /// Returns the number of the one after the last that is kept.
     pub(crate) fn made(&self) -> u32
         ensures { result ≡ self.now.made }
     {

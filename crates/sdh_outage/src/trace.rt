@@ -83,7 +83,7 @@ impl Trace {
         &self.changes
     }
 
-    /// Returns how many there were behind these.
+    /// Returns how many there were after these.
     pub fn more(&self) -> u32
         ensures { result ≡ self.now.count - 64 }
     {

@@ -15,7 +15,7 @@ use std::alloc::{AllocError, Global};
 use std::fmt;
 use std::marker::Model;
 
-/// How many chunks hold the last one and that behind it, wherever they begin.
+/// How many chunks hold the last one and that after it, wherever they begin.
 const AHEAD: u32 = 3;
 
 /// How many chunks there is room for where the next ones are looked for, so that the bytes aren't moved in each round.
@@ -64,7 +64,7 @@ impl Window {
         })
     }
 
-    // The last chunk that came begins `index` bytes behind the start of this chunk of the stream.
+    // The last chunk that came begins `index` bytes after the start of this chunk of the stream.
     fn put_place(&mut self, from: u32, index: usize)
         requires { index ≤ 200000 }
         ensures { self.new ≡ self.old }
@@ -73,7 +73,7 @@ impl Window {
         self.at = index % CHUNK;
     }
 
-    // Returns whether a chunk stands where it is looked for first: behind the last one, where that was a chunk.
+    // Returns whether a chunk stands where it is looked for first: after the last one, where that was a chunk.
     fn comes_next(&mut self, last: &Last, chunk: &[u8]) -> bool
         requires { self.old.round + 88 ≤ 2 ^ 32 }
         ensures answer { result ≡ true → (is_part chunk.now (near self.old.port self.old.round) ≡ true)

@@ -36,7 +36,7 @@ settle_step_text number round circuits ports = settle_line number round ++ ports
 
 -- ---- one port
 
--- the lines of these changes, and where there are more, how many came behind them
+-- the lines of these changes, and where there are more, how many came after them
 abbrev pub changes_text : List Change → ℕ → List ℕ
 changes_text changes more = flat_map change_line changes ++ (if more == 0 then [] else more_line more)
 

@@ -63,7 +63,7 @@ pub record AreListening (at : ℕ → World) (k : ℕ) (items : List ListenerPai
 abbrev pub AreFew : ℕ → List ListenerPair → Type 0
 AreFew rounds items = (i : ℕ) (both : ListenerPair) → slice_get items i ≡ Some both → (both.a.round ≤ rounds) × (both.b.round ≤ rounds)
 
--- the listeners of the circuit of this number began anew behind the last round of a ring
+-- the listeners of the circuit of this number began anew after the last round of a ring
 pub record HaveBegun (r : HeldRing) (index : ℕ) (before after : ListenerPair) : Type 0 where
   pub a : (far : Customer) (whose : Whose) → after.a ≡ heard far whose before.a.round (delivered_at r (port_id index A)) []
   pub b : (far : Customer) (whose : Whose) → after.b ≡ heard far whose before.b.round (delivered_at r (port_id index B)) []

@@ -105,7 +105,7 @@ fn put_change(text: &mut Text, change: &Change)
     change_line(text, change);
 }
 
-// How many changes came behind those that were told, where there are any.
+// How many changes came after those that were told, where there are any.
 fn put_more(text: &mut Text, more: u32)
     requires room { 250 ≤ text.old.room }
     ensures bytes { text.new.bytes ≡ text.old.bytes ++ (if more == 0 then [] else more_line more) }

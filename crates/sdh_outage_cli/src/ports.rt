@@ -59,7 +59,7 @@ pub fn new_listeners(alloc: Global, circuits: &CircuitMap) -> Result<Vec<Listene
     Ok(items)
 }
 
-// The listener on a port begins anew behind the last round.
+// The listener on a port begins anew after the last round.
 fn begin(listener: &mut Listener, ring: &Ring, port: PortId)
     requires { port.circuit < length ring.now.circuits.circuits }
     ensures { (far : Customer) (whose : Whose) → listener.new ≡ heard far whose listener.old.round (delivered_at ring.now port) [] }
@@ -90,7 +90,7 @@ fn begin_both(both: &mut ListenerPair, ring: &Ring, circuit: u8)
     );
 }
 
-/// All listeners begin anew behind the last round.
+/// All listeners begin anew after the last round.
 pub fn begin_all(ring: &Ring, items: &mut Vec<ListenerPair>)
     requires { length items.old.items ≡ length ring.now.circuits.circuits }
     ensures many { length items.new.items ≡ length items.old.items }

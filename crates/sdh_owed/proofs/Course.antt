@@ -44,7 +44,7 @@ use Rattle.sdh_owed.proofs.Standing.{Stands, whole, stretch_to, changed_then, se
 use Rattle.sdh_owed.specs.Course.{stretch, HaveCondition, IsLeftOff, WentThrough, AreSentAlike, HasSent, NoneEverMeetsAStranger}
 use Rattle.sdh_owed.specs.Course.{AllIsOwedSoon, HasCourse, CoursesAreTold}
 
--- ---- stretches one behind the other
+-- ---- stretches one after the other
 
 happens_then : (ss later : List Stretch) (w : World) → MayHappen w ss → MayHappen (after_stretches ss w) later → MayHappen w (ss ++ later)
 happens_then [] later w may then = then
@@ -56,7 +56,7 @@ happens_cut : (ss : List Stretch) (last : Stretch) (later : List Stretch) (k : �
 happens_cut [] last later k w may = (may.0, tt)
 happens_cut (s ∷ ss) last later k w may = (may.0, happens_cut ss last later k (after_stretch s w) may.1)
 
--- the first of some ends with a window, and so do those behind it
+-- the first of some ends with a window, and so do those after it
 ends_quietly : (s : Stretch) (w : World) (ss : List Stretch) → EndsWindow (course (all_changed s.changes w)) s.rounds
     → EndQuietly (after_stretch s w) ss → EndQuietly w (s ∷ ss)
 ends_quietly s w [] window behind = tt
@@ -152,7 +152,7 @@ module _ (s : Settings) (ids : List ℕ) (circuits : Provisioning) (f : Fibres) 
   abbrev Now : Past → List Stretch → List Change → World → Type 0
   Now past earlier changes w = Stands s ids circuits f may past earlier changes w
 
-  -- what happened behind some stretches
+  -- what happened after some stretches
   record GoesOn (limit : ℕ) (earlier : List Stretch) (later : List (List Change)) (reports : List Report) (end : Status)
       (left : Fibres) : Type 0 where
     pub stretches : List Stretch
@@ -219,7 +219,7 @@ module _ (s : Settings) (ids : List ℕ) (circuits : Provisioning) (f : Fibres) 
           sent = inr (is, inl (subst (λ v. IsBrokenOff v left) same b.off));
         }
 
-    -- one that ended, and what happened behind it
+    -- one that ended, and what happened after it
     settled : (later : List (List Change)) (mid : World) (number : ℕ) (reports : List Report) (end : Status) (left : Fibres)
         → (let last = stretch_to s ids circuits f may past earlier changes w h mid in
         IsLast (length ids) limit (rounds_in earlier) (mid.ring.rounds - 1)

@@ -132,7 +132,7 @@ not_none : (before : List Stretch) (prev : Stretch) → before ++ prev ∷ [] �
 not_none [] prev z = cc
 not_none (s ∷ before) prev z = cc
 
--- behind a stretch that ended with a quiet window
+-- after a stretch that ended with a quiet window
 module _ (law : StillRingsAreSettled) (s : Settings) (ids : List ℕ) (circuits : Provisioning) (f : Fibres) (may : MayStart s ids f)
     (before : List Stretch) (prev : Stretch) (happens : MayHappen (new_world s ids circuits f) (before ++ prev ∷ []))
     (ends : EndsWindow (course (all_changed prev.changes (after_stretches before (new_world s ids circuits f)))) prev.rounds) where

@@ -138,7 +138,7 @@ long_front (s ∷ r ∷ earlier) last more w two begins quiet = (
   long_front (r ∷ earlier) last more (after_stretch s w) (omega (arith, size s w two begins quiet.0, two)) (inr quiet.0.place) quiet.1,
 )
 
--- behind them no controller is held and no slip waits
+-- after them no controller is held and no slip waits
 ready_after : (ss : List Stretch) (w : World) → IsWhole w → MayHappen w ss → AllLong ss → IsReady w → IsReady (after_stretches ss w)
 ready_after [] w whole may long ready = ready
 ready_after (s ∷ ss) w whole may long ready =
@@ -164,7 +164,7 @@ module _ (s : Settings) (ids : List ℕ) (circuits : Provisioning) (f : Fibres) 
       (happens_front earlier (last ∷ more) from happens)
       (long_front earlier last more from may.ids_ok.enough (inl refl) quiet) (ready_new s ids circuits f)
 
-  -- ---- k rounds behind the changes of a stretch
+  -- ---- k rounds after the changes of a stretch
 
   module _ (form : HasCircuits (layout_in (new_ring s ids circuits))) (earlier : List Stretch) (last : Stretch) (k : ℕ)
       (happens : MayHappen from (earlier ++ stretch last.changes k ∷ [])) (ready : IsReady (after_stretches earlier from)) where

@@ -114,7 +114,7 @@ settled_held w left limit s =
 pub settled_whole : (w left : World) (limit : ℕ) → Settles w limit left → w.ring.broken ≡ false → left.ring.broken ≡ false
 settled_whole w left limit s whole = ap (λ (r : HeldRing). r.broken) (settled_held w left limit s) ∙ whole
 
--- a ring that a settle step and the rounds behind it left, so many together, over fibres that are prepared for it
+-- a ring that a settle step and the rounds after it left, so many together, over fibres that are prepared for it
 pub next_by : (each before k : ℕ) (w left : World) → left.ring ≡ record w.ring { nodes = left.ring.nodes; rounds = w.ring.rounds + k }
     → k ≤ each → BeginsAtAMultiple left.ring → ((port : PortId) → waiting_at left.ring port ≡ 0)
     → IsPrepared w.ring.settings.rate (length w.ring.ids) left.fibres → (later : List Step)

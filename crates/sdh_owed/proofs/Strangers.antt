@@ -282,7 +282,7 @@ module _ (s : Settings) (ids : List ℕ) (circuits : Provisioning) (f : Fibres) 
         (none_since oldest (clocks_by circuits.circuits all_now) (round (run t begun_now)).ring after
         (none_meets known_now (run t begun_now) here (ready_aside known_now (run t begun_now) here vouched_now)))
 
-  -- ---- a stretch behind a quiet window
+  -- ---- a stretch after a quiet window
 
   module _ (law : StillRingsAreSettled) (before : List Stretch) (prev next : Stretch)
       (happens : MayHappen from ((before ++ prev ∷ []) ++ next ∷ [])) (quiet : EndQuietly from ((before ++ prev ∷ []) ++ next ∷ []))
@@ -362,7 +362,7 @@ module _ (s : Settings) (ids : List ℕ) (circuits : Provisioning) (f : Fibres) 
     shields_next =
         subst (AllShielded known_next) until_now (window_shields known_next law opened form_then whole_then (3 * n) window_then told_then)
 
-    -- the rounds behind it
+    -- the rounds after it
     abbrev start : World
     start = all_changed next.changes closed
 

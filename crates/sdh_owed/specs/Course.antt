@@ -48,9 +48,10 @@ IsLeftOff limit ran changes status.PlantFault ss =
     ((ss ≡ []) × ((ran ≡ 0) ⊎ HaveCondition changes)) ⊎ ((rounds : ℕ) × (rounds < limit) × (ss ≡ stretch changes rounds ∷ []))
 IsLeftOff limit ran changes end ss = ⊥
 
--- These stretches are what happened in a script over a ring of n that gave these reports and ended so, where so many rounds had run before and
--- these are the changes before each settle step: with each report its changes, and the rounds from there to its own, which may be
--- the last one of a step; behind them what ran of the step that has none. There is no report but of these steps.
+-- These stretches are what happened in a script over a ring of n that gave these reports and ended so, where so many
+-- rounds had run before and these are the changes before each settle step: with each report its changes, and the rounds
+-- from there to its own, which may be the last one of a step; after them what ran of the step that has none. There is
+-- no report but of these steps.
 abbrev pub WentThrough : ℕ → ℕ → ℕ → List (List Change) → List Report → Status → List Stretch → Type 0
 WentThrough n limit ran [] reports end ss = (reports ≡ []) × (ss ≡ [])
 WentThrough n limit ran (changes ∷ later) [] end ss = IsLeftOff limit ran changes end ss
@@ -63,8 +64,8 @@ pub record AreSentAlike (f g : Fibres) : Type 0 where
   pub carried : f.carried ≡ g.carried
   pub sent : f.sent ≡ g.sent
 
--- All that was sent, and all that is under way, is what the rounds of these stretches sent; or a fault broke the round behind them off, or
--- the plant made no fibres, so that none ran.
+-- All that was sent, and all that is under way, is what the rounds of these stretches sent; or a fault broke the round
+-- after them off, or the plant made no fibres, so that none ran.
 abbrev pub HasSent : World → List Stretch → Status → Fibres → Type 0
 HasSent w ss end left =
     AreSentAlike left (after_stretches ss w).fibres ⊎ ((end ≡ status.PlantFault)
@@ -101,8 +102,8 @@ abbrev pub SlipNone : List Change → Type 0
 SlipNone [] = Unit {0}
 SlipNone (c ∷ cs) = SlipsNone c × SlipNone cs
 
--- So many rounds behind these changes are enough in a ring of n: 12n + 2 where they hold no controller and give no port slips; where they
--- give some, 12n + 2 and 8n + 61; and whatever they are 12n + 102.
+-- So many rounds after these changes are enough in a ring of n: 12n + 2 where they hold no controller and give no port
+-- slips; where they give some, 12n + 2 and 8n + 61; and whatever they are 12n + 102.
 abbrev pub IsLate : ℕ → List Change → ℕ → Type 0
 IsLate n changes k = (HoldNone changes × (12 * n + 2 ≤ k) × (SlipNone changes ⊎ (8 * n + 61 ≤ k))) ⊎ (12 * n + 102 ≤ k)
 
@@ -111,8 +112,8 @@ abbrev pub ChangeNothing : List Stretch → Type 0
 ChangeNothing [] = Unit {0}
 ChangeNothing (s ∷ ss) = (s.changes ≡ []) × ChangeNothing ss
 
--- From so many rounds behind the last changes on each port has what it is owed, in each round of the settle step and of those behind it that
--- change nothing, and whether they are settled or not.
+-- From so many rounds after the last changes on each port has what it is owed, in each round of the settle step and of
+-- those after it that change nothing, and whether they are settled or not.
 abbrev pub AllIsOwedSoon : World → Ring → List Stretch → Type 0
 AllIsOwedSoon w ring ss =
     (earlier same later : List Stretch) (last : Stretch) → ss ≡ earlier ++ last ∷ (same ++ later) → ChangeNothing same → (k : ℕ)

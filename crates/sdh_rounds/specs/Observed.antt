@@ -6,7 +6,7 @@ use Rattle.sdh_rounds.specs.Held.{HeldRing, World}
 use Rattle.sdh_rounds.specs.Runs.{IsRound, IsBrokenOff, run_with, ArriveIn, course_with}
 use Rattle.sdh_rounds.specs.Quiet.{EndsWindow, Settles}
 
--- behind k rounds of a course, which gives the world after each number of rounds, one more was run and left this ring
+-- after k rounds of a course, which gives the world after each number of rounds, one more was run and left this ring
 pub record RanOne {N : Type 0} (s : Station N) (at : ℕ → World N) (k : ℕ) (ring : HeldRing N) : Type 0 where
   pub few : k < 65536
   pub round : IsRound s (at k) (at (suc k))

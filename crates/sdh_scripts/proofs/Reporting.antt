@@ -1,4 +1,4 @@
--- Walks that run no round behind a settle step.
+-- Walks that run no round after a settle step.
 use Rattle.std.proofs.Common.{◌≡◌, ℕ, ◌+◌, ◌-◌, List, [], ◌∷◌, ◌++◌, length, refl, ap, sym, ◌∙◌, subst, arith, inl, inr, append-nil}
 use Rattle.sdh_plant.specs.Fibres.{Arrival, Fibres}
 use Rattle.sdh_rounds.specs.Stations.{Station}

@@ -20,7 +20,7 @@ use Rattle.sdh_scripts.specs.Runners.{Refused, WroteStep}
 use Rattle.sdh_scripts.specs.Tellers.{WasToWrite, WroteBegun}
 use Rattle.sdh_scripts.specs.declared.teller.StepError.TheVariants as why
 
--- the step at a place, and those behind it
+-- the step at a place, and those after it
 pub here : (steps : List Step) (i : ℕ) (d : Step) → i < length steps → drop i steps ≡ get_or steps i d ∷ drop (i + 1) steps
 here steps i d lt = drop-cons steps i d lt ∙ ap (λ k. get_or steps i d ∷ drop k steps) (sym (add-one i))
 
@@ -34,7 +34,7 @@ room_now each before room few h = one each (64 - before) (omega arith) h
     one c zero some h = absurd (omega arith)
     one c (suc k) some h = omega arith
 
--- and for a line behind it
+-- and for a line after it
 pub room_more : (each before : ℕ) → before + 1 ≤ 64 → each + 96 ≤ room_for each before
 room_more each before few = one each (64 - before) (omega arith)
   where
@@ -42,7 +42,7 @@ room_more each before few = one each (64 - before) (omega arith)
     one c zero some = absurd (omega arith)
     one c (suc k) some = omega arith
 
--- and behind it for what is written of those that come then
+-- and after it for what is written of those that come then
 pub room_next : (each before : ℕ) → before + 1 ≤ 64 → each + room_for each (before + 1) ≡ room_for each before
 room_next each before few =
     let left : suc (64 - (before + 1)) ≡ 64 - before = omega (arith, few) in

@@ -15,7 +15,7 @@ pub record DoesNoRound {N : Type 0} (does : Step → World N → World N) : Type
   pub sent : (s : Step) (w : World N) → (does s w).fibres.sent ≡ w.fibres.sent
   pub knows : (s : Step) (w : World N) → Knows w.fibres → Knows (does s w).fibres
 
--- what is told of a settle step tells its last round, and is told by its rounds and those behind it alone
+-- what is told of a settle step tells its last round, and is told by its rounds and those after it alone
 pub record KeepsRounds {N T : Type 0} (walk : Walk N T) : Type 0 where
   pub other : DoesNoRound walk.does
   pub last : (number : ℕ) (at : ℕ → World N) (k : ℕ) → walk.last (walk.tells number at k) ≡ (at k).ring.rounds - 1

@@ -35,8 +35,8 @@ pub record IsDone {N T : Type 0} (r : Ran N T) (reports : List T) (end : Status)
   pub end_is : end ≡ r.ending
   pub left_is : left ≡ r.left.fibres
 
--- A fault broke it off when the first so many of its frames were sent: the reports are those of exactly the settle steps of which all
--- frames were sent, and all of the rounds behind them, in a ring of n.
+-- A fault broke it off when the first so many of its frames were sent: the reports are those of exactly the settle
+-- steps of which all frames were sent, and all of the rounds after them, in a ring of n.
 pub record IsCut {N T : Type 0} (walk : Walk N T) (r : Ran N T) (n : ℕ) (f : Fibres) (reports : List T) (left : Fibres) : Type 0 where
   pub count : ℕ
   pub frames : Appends f (take count r.frames) left

@@ -13,7 +13,7 @@ use Rattle.sdh_scripts.specs.declared.teller.StepError.TheVariants.{Unsettled, P
 
 -- ---- its rounds so far
 
--- rounds of a settle step ran, none of them behind a quiet window, and this is told of them
+-- rounds of a settle step ran, none of them after a quiet window, and this is told of them
 pub record InStep {N T : Type 0} (walk : Walk N T) (limit number : ℕ) (w : World N) (told : T) (mid : World N) : Type 0 where
   pub rounds : List (List Arrival)
   pub arrive : ArriveIn walk.station rounds w
@@ -22,7 +22,7 @@ pub record InStep {N T : Type 0} (walk : Walk N T) (limit number : ℕ) (w : Wor
   pub mid_is : mid ≡ run_with walk.station rounds w
   pub told_is : told ≡ walk.tells number (course_with walk.station rounds w) (length rounds)
 
--- it ended, rounds ran of those behind it, and this is told of them all
+-- it ended, rounds ran of those after it, and this is told of them all
 pub record BehindStep {N T : Type 0} (walk : Walk N T) (limit number : ℕ) (w : World N) (told : T) (mid : World N) : Type 0 where
   pub settled : World N
   pub settles : Settles walk.station w limit settled
@@ -46,7 +46,7 @@ pub record Begun {N T : Type 0} (walk : Walk N T) (limit number : ℕ) (begun_of
 
 -- ---- how it didn't end
 
--- why it didn't, with the rounds behind it
+-- why it didn't, with the rounds after it
 abbrev pub StopsBy : {N T : Type 0} → Walk N T → ℕ → World N → StepError → World N → Type 0
 StopsBy walk limit w Unsettled left = Unsettles walk.station w limit left
 StopsBy walk limit w PlantFault left = Breaks walk limit w left.fibres

@@ -11,15 +11,15 @@ pub record Walk (N T : Type 0) : Type 0 where
   pub station : Station N
   -- what a step that runs no round does to the ring and its fibres
   pub does : Step → World N → World N
-  -- how many rounds are run behind a settle step that ended, and looked at
+  -- how many rounds are run after a settle step that ended, and looked at
   pub behind : ℕ
-  -- what is told of the settle step of this number that ended with the k-th round of a course, which gives the world after each
-  -- number of rounds of the step and of those behind it
+  -- what is told of the settle step of this number that ended with the k-th round of a course, which gives the world
+  -- after each number of rounds of the step and of those after it
   pub tells : ℕ → (ℕ → World N) → ℕ → T
   -- the last round of the settle step of which this is told
   pub last : T → ℕ
 
--- one that runs no round behind a settle step, and reports the ring that the step left
+-- one that runs no round after a settle step, and reports the ring that the step left
 abbrev pub reporting : {N : Type 0} → Station N → (Step → World N → World N) → (ℕ → HeldRing N → Report) → Walk N Report
 reporting station does report = record {
   station = station;

@@ -48,7 +48,7 @@ pub trait Runner {
         ensures same_room { OnOk result (room self.new ≡ room self.old) }
         ensures cause { HasCause P.exact (P.faults plant.old) (P.faults plant.new) result };
 
-    /// A settle step after so many that have ended, the rounds behind it, and what is written of it.
+    /// A settle step after so many that have ended, the rounds after it, and what is written of it.
     fn settle<P: Plant>(
         &mut self,
         plant: &mut P,

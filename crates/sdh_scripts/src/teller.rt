@@ -12,7 +12,7 @@ use sdh_plant::Plant;
 use sdh_rounds::PlantFault;
 use sdh_shell::Output;
 
-/// Why a settle step, with the rounds behind it, didn't end.
+/// Why a settle step, with the rounds after it, didn't end.
 #[derive(Clone, Copy, Debug, PartialEq, Eq)]
 pub enum StepError {
     /// No quiet window came within the limit.
@@ -65,8 +65,8 @@ pub trait Teller<O: Output> {
         ensures same_room { OnOk result (room self.new ≡ room self.old) }
         ensures cause { HasCause P.exact (P.faults plant.old) (P.faults plant.new) result };
 
-    /// A settle step after so many that have ended, and the rounds behind it. What is told of it is written as it comes, and
-    /// with a write that fails nothing more is run.
+    /// A settle step after so many that have ended, and the rounds after it. What is told of it is written as it comes,
+    /// and with a write that fails nothing more is run.
     fn settle<P: Plant>(
         &mut self,
         plant: &mut P,

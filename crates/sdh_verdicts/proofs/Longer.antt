@@ -1,4 +1,4 @@
--- When the plan with a case behind its script is a plan.
+-- When the plan with a case after its script is a plan.
 use Rattle.std.proofs.Common.{◌≡◌, ℕ, ◌+◌, ◌-◌, ◌*◌, ◌<◌, ◌≤◌, true, false, cond, Some, List, [], ◌∷◌, ◌++◌, length, count_by, All}
 use Rattle.std.proofs.Common.{refl, sym, ap, ◌∙◌, subst, arith, append_assoc, length-append}
 use Rattle.std.specs.Prelude.{slice_get}
@@ -28,7 +28,7 @@ use Rattle.sdh_verdicts.specs.Failures.{IsFailureIn, condition_step, neighbour_p
 use Rattle.sdh_verdicts.specs.Verdicts.{longer_steps}
 use Rattle.sdh_verdicts.specs.Laws.{longer_plan, HasRoom, LongerPlansArePlans}
 
--- ---- steps behind others
+-- ---- steps after others
 
 module _ (rate : Rate) (size circuits : ℕ) where
   steps_more : (past : Past) (xs ys : List Step) → AreSteps rate size circuits past xs

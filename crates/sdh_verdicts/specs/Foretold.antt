@@ -22,7 +22,7 @@ RequestsRest =
     (ring : Ring) (ss : List Stretch) (t : ℕ) → 1 ≤ ring.threshold → AreLong ss → rounds_in ss ≡ t + 1
     → requests_by ring ss t ≡ requests_after ring (changes_in ss)
 
--- the stretches of a script's settle steps that have reports, behind those before them: the changes before each, and as
+-- the stretches of a script's settle steps that have reports, after those before them: the changes before each, and as
 -- many rounds as there are from the last stretch to the round that its report tells
 abbrev pub stretches_by : List Stretch → List (List Change) → List PortReport → List Stretch
 stretches_by earlier [] reports = earlier

@@ -23,13 +23,13 @@ use Rattle.sdh_verdicts.specs.declared.judging.Verdict.TheVariants.{Kept, Over, 
 use Rattle.sdh_verdicts.specs.Failures.{IsFailureIn, case_steps}
 use Rattle.sdh_verdicts.specs.Verdicts.{longer_steps, scenes_with, requests_with, verdict_under, verdict_of, hops_of}
 
--- the plan with a case behind its script, and another limit
+-- the plan with a case after its script, and another limit
 abbrev pub longer_plan : Planned → List Failure → ℕ → Planned
 longer_plan plan case limit = record plan { limit = limit; steps = longer_steps plan case }
 
 -- ---- when it is a plan
 
--- There is room behind the plan's script for the case's steps and a settle step: with them it has at most 1,000 steps,
+-- There is room after the plan's script for the case's steps and a settle step: with them it has at most 1,000 steps,
 -- 64 of which are settle steps. And a plan may have this limit; 64 n + 512, with which each step ends in a ring of n,
 -- is one.
 pub record HasRoom (plan : Planned) (case : List Failure) (limit : ℕ) : Type 0 where
@@ -79,7 +79,7 @@ pub record IsShown (plan : Planned) (case : List Failure) (reports : List PortRe
   pub verdicts : (c : Provisioned) → verdict_of plan case c ≡ verdict_under (length plan.nodes)
       (is_applied (requests_by (ring_of plan) (stretches_by [] (scenes_with plan case) reports) foretold.last.round)) c
 
--- the reports of the plan with a case behind its script, where they come to its end and owe what the promise says
+-- the reports of the plan with a case after its script, where they come to its end and owe what the promise says
 abbrev pub CaseIsShown : Planned → List Failure → Type 0
 CaseIsShown plan case = (limit : ℕ) (reports : List Report) → OwesAll (longer_plan plan case limit) reports status.Ok
     → IsShown plan case (map ports_of reports)

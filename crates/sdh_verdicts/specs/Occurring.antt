@@ -36,7 +36,7 @@ three = record {
   steps = step.Slip (record { circuit = 0; end = A }) Up 3 ∷ step.Hold (position_of 1) 7 ∷ step.Settle ∷ [];
 }
 
--- the span behind the first node is cut
+-- the span after the first node is cut
 abbrev pub cut : List Failure
 cut = Span (position_of 0) ∷ []
 

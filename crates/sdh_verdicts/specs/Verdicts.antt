@@ -1,4 +1,4 @@
--- What becomes of each circuit where these fail behind a plan's script.
+-- What becomes of each circuit where these fail after a plan's script.
 use Rattle.std.specs.Prelude.{ℕ, ◌≡◌, ◌+◌, ◌*◌, ◌/◌, ◌%◌, ◌<◌, ◌≤◌, zero, suc, Bool, true, false, if◌then◌else◌, List, [], ◌∷◌, ◌++◌}
 use Rattle.std.specs.Prelude.{not, nat_le, length, slice_index, map, take}
 use Rattle.sdh_basics.specs.Cells.{cells}
@@ -75,7 +75,7 @@ hops_of plan case c = hops_under (length plan.nodes) (is_applied (requests_with 
 
 -- ---- failures that are none
 
--- what side d of position p has come to behind the plan's script
+-- what side d of position p has come to after the plan's script
 abbrev pub left_by : Planned → ℕ → Side → rest.Resting
 left_by plan p d = rests plan.settings.threshold (length plan.nodes) p d plan.steps rest.fresh
 
@@ -96,7 +96,7 @@ mends plan (Forced at side) = false
 
 -- ---- what the program keeps
 
--- what a side asks for behind the longer script
+-- what a side asks for after the longer script
 abbrev pub asks_with : Planned → List Failure → ℕ → Side → Code
 asks_with plan case p d =
     rest.asks plan.settings.wait (rest.rest_in plan.settings.threshold (length plan.nodes) p d (scenes_with plan case) rest.fresh)
@@ -105,7 +105,7 @@ asks_with plan case p d =
 abbrev pub asked_at : Planned → List Failure → ℕ → LocalRequests
 asked_at plan case p = record { west = asks_with plan case p West; east = asks_with plan case p East }
 
--- what the side of a number has come to behind the plan's script
+-- what the side of a number has come to after the plan's script
 abbrev pub numbered : Planned → ℕ → rest.Resting
 numbered plan number = left_by plan (number / 2) (side_of number)
 

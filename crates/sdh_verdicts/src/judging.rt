@@ -143,7 +143,7 @@ impl<'a> Sides<'a> {
         })
     }
 
-    // Returns what a side has come to behind the plan's script.
+    // Returns what a side has come to after the plan's script.
     fn kept(&self, place: Place) -> Resting
         requires sides { length self.now.rests.items ≡ 2 * length self.now.map.now }
         requires at { place.at.0 < length self.now.map.now }

@@ -2,7 +2,7 @@
 ghost use Rattle.sdh_verdicts.specs.Laws.{LongerPlansArePlans, CasesAreShown};
 ghost use Rattle.sdh_verdicts.specs.Occurring.{CaseOccurs};
 
-/// A plan with a case behind its script is a plan exactly where there is room for it.
+/// A plan with a case after its script is a plan exactly where there is room for it.
 pub fn longer_plans_are_plans()
     ensures { LongerPlansArePlans }
 {}

@@ -32,7 +32,7 @@ second n c = c / base n % base n
 abbrev pub third : ℕ → ℕ → ℕ
 third n c = c % base n
 
--- one digit behind another: larger, or behind nothing
+-- one digit after another: larger, or behind nothing
 abbrev pub goes_before : ℕ → ℕ → Bool
 goes_before d e = (d == 0) || nat_lt d e
 

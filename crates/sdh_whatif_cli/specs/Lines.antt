@@ -116,7 +116,7 @@ names_text f nodes case = joined (either f (codes ",") (codes " + ")) (map (name
 abbrev pub step_part : Form → List ℕ → Step → List ℕ
 step_part f nodes s = step_quote f ++ step_text nodes s ++ step_quote f ++ either f (codes ",") (codes ", ")
 
--- the steps of a case, and the settle step behind them
+-- the steps of a case, and the settle step after them
 abbrev pub script_text : Form → Planned → List Failure → List ℕ
 script_text f plan case =
     flat_map (step_part f plan.nodes) (case_steps (length plan.nodes) plan.settings.threshold case) ++ step_quote f ++ codes "settle"

@@ -18,7 +18,7 @@ new_tally = record { cases = 0; losing = 0; most = 0 }
 abbrev pub with_case : ℕ → Tally → Tally
 with_case lost t = record { cases = t.cases + 1; losing = t.losing + (if lost == 0 then 0 else 1); most = max lost t.most }
 
--- so many are lost where the failure of this number is all that fails behind the script
+-- so many are lost where the failure of this number is all that fails after the script
 abbrev pub lost_by : Planned → ℕ → ℕ
 lost_by plan number = count_of plan (failure_at (length plan.nodes) number ∷ []) Lost
 

@@ -162,8 +162,8 @@ may_be_parted form.Summary = false
 abbrev pub finished : AskedSoFar → Option Ask
 finished r = if is_whole r.awaited && (not r.is_parted || may_be_parted r.ask.form) then Some r.ask else None
 
--- What the words ask for: a depth; and behind it, in any order, kinds, at most one form, and at most once `part` with the number of a part
--- and of how many.
+-- What the words ask for: a depth; and after it, in any order, kinds, at most one form, and at most once `part` with
+-- the number of a part and of how many.
 unfoldable pub asked : List (List ℕ) → Option Ask
 asked [] = None
 asked (word ∷ others) = option_and_then (λ depth. option_and_then finished (read_words (begun depth) others)) (depth_named word)

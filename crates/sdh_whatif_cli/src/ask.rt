@@ -48,7 +48,7 @@ pub struct Kinds {
 pub enum Form {
     /// Records of a table.
     Table,
-    /// The same, behind one of the fields' names.
+    /// The same, after one of the fields' names.
     Headed,
     /// Lines of JSON.
     Json,

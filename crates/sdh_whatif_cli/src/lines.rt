@@ -156,7 +156,7 @@ pub fn put_line(line: &mut Line, plan: &Plan, sides: &Sides<'_>, entry: Entry, c
     put_either(line, entry.form, b"}}\n", b"\r\n");
 }
 
-// The name of a circuit, by its number, behind a comma.
+// The name of a circuit, by its number, after a comma.
 fn put_circuit(line: &mut Line, plan: &Plan, number: u8)
     requires number { number < length plan.now.circuits }
     requires room { length line.old + 17 ≤ 8192 }

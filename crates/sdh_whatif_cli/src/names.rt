@@ -249,7 +249,7 @@ fn put_steps(line: &mut Line, form: Form, map: &RingMap, threshold: u16, case: &
     }
 }
 
-/// Appends the steps of a case, and the settle step behind them.
+/// Appends the steps of a case, and the settle step after them.
 pub fn put_script(line: &mut Line, form: Form, map: &RingMap, threshold: u16, case: &[Failure])
     requires case { All (IsFailureIn (length map.now)) case.now }
     requires few { length case.now ≤ 3 }

@@ -63,7 +63,7 @@ fn tally_of(plan: &Plan, sides: &Sides<'_>, from: usize, count: usize) -> Tally
     tally
 }
 
-// A number behind a comma.
+// A number after a comma.
 fn put_field(line: &mut Line, number: u8)
     requires room { length line.old + 6 ≤ 8192 }
     ensures text { line.new ≡ line.old ++ codes "," ++ decimal number }

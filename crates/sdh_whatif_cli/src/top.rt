@@ -136,10 +136,10 @@ fn answer<R: Source, W: Sink>(
     }
 }
 
-/// Does all that the program does. With the word `single`, `double` or `triple` it reads a plan from the source and writes a table:
-/// what becomes of each circuit where nothing more fails than in the plan's script, and where one, two or three things more do; words
-/// behind it tell which kinds of things, which part of the cases, and in which form. It is written line by line, and all memory is
-/// taken before the first.
+/// Does all that the program does. With the word `single`, `double` or `triple` it reads a plan from the source and
+/// writes a table: what becomes of each circuit where nothing more fails than in the plan's script, and where one, two
+/// or three things more do; words after it tell which kinds of things, which part of the cases, and in which form. It
+/// is written line by line, and all memory is taken before the first.
 pub fn whatif<R: Source, W: Sink>(
     alloc: Global,
     words: &[String],
@@ -152,7 +152,7 @@ pub fn whatif<R: Source, W: Sink>(
         (λ bytes. Writes (λ how text. IsOutcome (asked (words_of words.now)) bytes how text) result (W.written sink.old)
         (W.written sink.new)) }
 
-    // What each line says is what reports show: the last one of the plan with the line's steps behind its script.
+    // What each line says is what reports show: the last one of the plan with the line's steps after its script.
     ensures lines { LinesAreTrue }
 
     // Over every source and sink.
