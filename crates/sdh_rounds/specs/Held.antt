@@ -1,4 +1,4 @@
--- What a ring holds, whatever kind its nodes are of.
+-- What a ring of nodes of any kind holds.
 use Rattle.std.specs.Prelude.{ℕ, zero, suc, ◌≡◌, ◌/◌, ◌<◌, Bool, false, Some, List, [], ◌∷◌, length, slice_get, slice_index_or}
 use Rattle.std.specs.Option.{option_map_or}
 use Rattle.sdh_basics.specs.Cells.{cells}

@@ -1,5 +1,6 @@
-//! Rounds of a ring over its fibres, whatever kind its nodes are of: what a round asks of a node is the trait `Station`, a round is
-//! in `specs/Rounds.antt`, a run whatever arrives in `specs/Runs.antt`, and where a settle step ends in `specs/Quiet.antt`. What has no work to do here is a law.
+//! Rounds of a ring over its fibres, for nodes of any kind: what a round asks of a node is the trait `Station`, a round
+//! is in `specs/Rounds.antt`, a run with any arrivals in `specs/Runs.antt`, and where a settle step ends in
+//! `specs/Quiet.antt`. What has no work to do here is a law.
 #![tactic(auto)]
 
 ghost use Rattle.sdh_rounds.specs.Laws.{KnownRounds, RoundsKeep, FaultsKeep, HonestRounds, RunsKeep, SettledNumbers, BrokenStepsSend};

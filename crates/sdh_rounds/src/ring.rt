@@ -22,7 +22,7 @@ use sdh_ringmap::{Pos, RingMap};
 use std::alloc::{AllocError, Global};
 use std::marker::Model;
 
-/// The nodes of a ring, whatever kind they are of, and what a round of them needs. They may be changed between rounds.
+/// The nodes of a ring, of any kind, and what a round of them needs. The nodes may be changed between rounds.
 #[derive(Debug, Drop)]
 pub struct StationRing<N: Station> {
     settings: Settings,
@@ -137,15 +137,15 @@ impl<N: Station> StationRing<N> {
         }
     }
 
-    /// Tells the present moment, at which the next rounds run.
+    /// Sets the present moment, at which the next rounds run.
     pub fn moment(&mut self, now: Moment)
         ensures { self.new ≡ record self.old { moment = now.0 } }
     {
         self.present = now;
     }
 
-    /// One round: all nodes receive, except in round 0, and then all send. It takes no memory. After a fault of the plant
-    /// the ring is broken.
+    /// Runs a round: all nodes receive, except in round 0, and then all send. A round takes no memory. After a fault of
+    /// the plant the ring is broken.
     pub fn round<P: Plant>(&mut self, plant: &mut P) -> Result<(), PlantFault>
         requires prepared { IsPrepared self.old.settings.rate (length self.old.ids) (P.fibres plant.old) }
         requires whole { self.old.broken ≡ false }
@@ -176,7 +176,7 @@ impl<N: Station> StationRing<N> {
         all_calm(self.nodes.as_slice())
     }
 
-    /// Returns whether a quiet window ends now, where the last round ends so many calm ones.
+    /// Returns whether a quiet window ends with the last round, which ends `calm` calm rounds in a row.
     pub fn is_over(&self, calm: u32) -> bool
         requires { 0 < self.now.rounds }
         ensures { IsTrue result ↔ ((3 * length self.now.ids ≤ calm) × ((self.now.rounds - 1) % 128 ≡ 0)) }

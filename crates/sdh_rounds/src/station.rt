@@ -20,7 +20,7 @@ use std::alloc::{AllocError, Global};
 
 /// A node that runs in rounds: it takes in what arrived on both its sides, and then sends a frame on each.
 pub trait Station: Drop {
-    /// What it does, as definitions tell it.
+    /// What the node does, by definitions.
     ghost kind: { Kind Self };
 
     /// The rate of its frames.
@@ -42,8 +42,8 @@ pub trait Station: Drop {
         requires kept { KeepsRing circuits.now map.now }
         ensures { IfOk result (λ node. node ≡ kind.new settings map.now circuits.now.circuits at) };
 
-    /// Keeps what arrived on a side for its next round, in place of what arrived there since the last one. What landed is taken in
-    /// exchange for another buffer of the same rate, in which nothing has landed.
+    /// Keeps what arrived on a side for its next round, in place of what arrived there since the last one. A frame that
+    /// landed is taken in exchange for another buffer of its rate, in which nothing has landed.
     fn receive_landed(&mut self, side: Side, arrived: Arrived, inbox: &mut Landed)
         requires rate { inbox.old.rate ≡ rate self.old }
         requires here { arrived ≡ Arrived.Frame → inbox.old.landed ≢ None }
