@@ -58,11 +58,11 @@ module _ {N T : Type 0} (walk : Walk N T) (law : KeepsRounds walk) where
 
   -- ---- a settle step where arrivals are known
 
-  -- what is told of the settle step of this number that ends with its k-th round
+  -- what is reported of the settle step of this number that ends with its k-th round
   abbrev of_step : ℕ → ℕ → World N → T
   of_step number k w = walk.tells number (course st w) k
 
-  -- so many rounds run then
+  -- the number of rounds that run then
   abbrev whole : ℕ → ℕ
   whole k = k + walk.behind
 
@@ -277,7 +277,7 @@ module _ {N T : Type 0} (walk : Walk N T) (law : KeepsRounds walk) where
 
   -- ---- after a fault
 
-  -- the frames that were sent are the first of those of the script, and of no settle step all are among them
+  -- the frames that were sent are the first of those of the script, and no settle step has all of its frames among them
   cut_short : (limit before : ℕ) (later : List Step) (w left : World N) (o : Option ℕ) → settles_in st w limit ≡ o → (j out : ℕ)
       → 1 ≤ length w.ring.ids → length w.ring.nodes ≡ length w.ring.ids
       → IsSentTo st w left.fibres j out → j < option_map_or whole o limit

@@ -1,4 +1,4 @@
--- What is told of a plan, by the laws of its ring.
+-- What is reported of a plan, by the laws of its ring.
 use Rattle.std.proofs.Common.{◌≡◌, true, ℕ, ◌≤◌, List, [], ◌++◌, length, refl, ap, sym, ◌∙◌, subst, arith, inl, inr, Some}
 use Rattle.std.proofs.Common.{append-nil}
 use Rattle.std.specs.List.{flat_map}
@@ -98,7 +98,7 @@ module _ {N T R : Type 0} (ring : R → HeldRing N) (t : Account N T) (plan : Pl
       (subst (λ (k : ℕ). Came t.walk k text_of plan.steps (with_fibres (ring run.runner) f) f text end left) is.limit_is
       (subst (λ (l : List Step). Came t.walk run.limit text_of l (with_fibres (ring run.runner) f) f text end left) is.steps_are x))
 
--- ---- all that is told
+-- ---- all that is reported
 
 module _ {N T : Type 0} (t : Account N T) (plan : Planned) (f left : Fibres) (end : Status) where
   pub known_then : KeepsRounds t.walk → IsNew t.new_ring → IsPlanned plan → (reports : List T) → Comes t plan f reports end left

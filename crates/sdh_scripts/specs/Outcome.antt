@@ -15,8 +15,8 @@ use Rattle.sdh_scripts.specs.Programs.{Deed, Refuses, Writes, Runs, Program}
 
 -- ---- with a plan
 
--- A plan was run over new fibres and the run came to its end: the text is what is listed of what is told of its settle steps, and the
--- last line.
+-- A plan was run over new fibres and the run came to its end: the text is what is listed of its settle steps' reports,
+-- and the last line.
 pub record IsRunOutcome {A L T E : Type 0} (program : Program A L T E) (listing : L) (plan : Planned) (f : Fibres) (how : E)
     (text : List ℕ) (left : Fibres) : Type 0 where
   pub status : Status
@@ -62,8 +62,8 @@ abbrev pub OfOwnPlan : {A L T E : Type 0} → Program A L T E → A → Option P
 OfOwnPlan program ask None bytes f how text left = OfBytes program ask bytes f how text left
 OfOwnPlan program ask (Some plan) bytes f how text left = OfPlan program ask plan f how text left
 
--- what is asked, if anything, comes to this ending, with this text, where the source had these bytes left. No outcome is a write fault
--- or want of memory: they may stand in place of one
+-- what is asked, if anything, comes to this ending, with this text, where the source had these bytes left. No outcome
+-- is a write fault or a lack of memory: each may stand in place of an outcome
 abbrev pub IsOutcome : {A L T E : Type 0} → Program A L T E → Option A → List ℕ → Fibres → E → List ℕ → Fibres → Type 0
 IsOutcome program None bytes f how text left = (how ≡ program.endings.of status.Usage) × Says (own_line program.usage) text f left
 IsOutcome program (Some ask) bytes f how text left = OfOwnPlan program ask (program.own_plan ask) bytes f how text left

@@ -1,5 +1,5 @@
--- What comes of a script, whatever kind the ring is of and whatever is told of a settle step. It is run step by step; of each
--- settle step that ends there is a report, which is what is told of it.
+-- What comes of a script over a ring of any kind, with any report of a settle step. The script is run step by step, and
+-- each settle step that ends has a report.
 use Rattle.std.specs.Prelude.{ℕ, ◌≡◌, ◌⊎◌, ◌+◌, ◌*◌, ◌<◌, List, [], ◌∷◌, ◌++◌, length, take, nat_le, if◌then◌else◌}
 use Rattle.std.specs.Option.{option_map_or}
 use Rattle.sdh_plant.specs.Fibres.{Arrival, Fibres}
@@ -15,7 +15,7 @@ use Rattle.sdh_scripts.specs.Walks.{Walk}
 
 -- ---- a settle step, over any fibres
 
--- it ended with a quiet window, the rounds after it were run and left this world, and this is told
+-- a settle step ended with a quiet window, the rounds after it were run and left this world, and this is its report
 pub record Ended {N T : Type 0} (walk : Walk N T) (limit number : ℕ) (w : World N) (told : T) (left : World N) : Type 0 where
   pub mid : World N
   pub settles : Settles walk.station w limit mid
@@ -106,16 +106,16 @@ pub record IsRan {N T : Type 0} (r : Ran N T) (reports : List T) (end : Status) 
   pub end_is : end ≡ r.ending
   pub left_is : left ≡ r.left
 
--- of reports, those of settle steps whose last round, or the last of those after it, is among the first that send so
--- many frames: a ring of n sends 2 n in a round
+-- of reports, those of settle steps whose last round, or the last of those after it, is among the first that send
+-- `frames` frames: a ring of n sends 2 n in a round
 abbrev pub reports_within : {N T : Type 0} → Walk N T → ℕ → ℕ → List T → List T
 reports_within walk n frames [] = []
 reports_within walk n frames (r ∷ reports) =
     if nat_le (2 * n * (walk.last r + 1 + walk.behind)) frames
     then r ∷ reports_within walk n frames reports else reports_within walk n frames reports
 
--- A fault broke it off when so many of its frames were sent, after `before` that had been sent in rounds before: its
--- reports are those of the settle steps of which all frames were sent, and all of the rounds after them.
+-- A fault broke the script off when `count` of its frames were sent, after `before` that had been sent in rounds
+-- before. Its reports are those of the settle steps with all frames sent, of their rounds and of all rounds after them.
 pub record IsCutShort {N T : Type 0} (walk : Walk N T) (r : Ran N T) (n before : ℕ) (w : World N) (reports : List T)
     (left : World N) : Type 0 where
   pub count : ℕ

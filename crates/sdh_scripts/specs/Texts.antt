@@ -12,8 +12,8 @@ use Rattle.sdh_scripts.specs.Walks.{Walk}
 use Rattle.sdh_scripts.specs.Scripts.{Refuses, Runs}
 use Rattle.sdh_scripts.specs.Tellers.{Begun, WasToWrite}
 
--- room enough for what is written after `before` settle steps of at most 64, with so much for each of them, and for a
--- last line
+-- room enough for what is written after `before` settle steps of at most 64, with `each` bytes for each of them, and
+-- for a last line
 abbrev pub room_for : ℕ → ℕ → ℕ
 room_for each before = each * (64 - before) + 96
 
@@ -32,8 +32,8 @@ pub record Went {N T : Type 0} (walk : Walk N T) (limit : ℕ) (text_of : T → 
   pub goes : (later : List Step) (rest : List T) (end : Status) (last : World N) → Runs walk limit now later left rest end last
       → Runs walk limit before (gone ++ later) w (reports ++ rest) end last
 
--- This is to be written of the step with which a script ended, after so many settle steps: of a settle step what is
--- written of the rounds that ran of it, and of one that was refused nothing.
+-- This is to be written of the step with which a script ended, after `before` settle steps: of a settle step what is
+-- written of its rounds that ran, and nothing of a step that was refused.
 abbrev pub WritesLast : {N T : Type 0} → Walk N T → ℕ → (T → List ℕ) → ℕ → Step → World N → List ℕ → Status → World N → Type 0
 WritesLast {T = T} walk limit begun_of before step.Settle w text end left =
     Runs {T = T} walk limit before (step.Settle ∷ []) w [] end left × Begun walk limit (before + 1) begun_of w text left

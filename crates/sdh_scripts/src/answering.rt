@@ -25,7 +25,7 @@ pub fn ending_of<'a, M: RunsPlans<'a>>(status: Status) -> M::Ending
     M::Ending::of(status)
 }
 
-// Returns the line that tells how the program is called.
+// Returns the line that says how the program is called.
 fn ended_usage<'a, M: RunsPlans<'a>>(alloc: Global) -> Result<EndedText<M::Ending>, AllocError>
     ensures { IfOk result
         (λ report. (report.ending ≡ M.program.endings.of Status.Usage) × (report.text.bytes ≡ own_line M.program.usage)) }
@@ -86,7 +86,7 @@ fn ended_asked<'a, M: RunsPlans<'a>, R: Source, P: Plant>(
         return asked.run(alloc, plan, plant);
     }
 
-    // Room for the line is taken first, so that a read that fails is always told.
+    // Room for the line is taken first, so that a read that fails is always reported.
     let line = Text::try_new(alloc, LINE_MAX)?;
     match plan_in(alloc, source) {
         Ok(plan) => asked.run(alloc, plan, plant),

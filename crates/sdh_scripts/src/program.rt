@@ -19,22 +19,22 @@ pub trait RunsPlans<'a>: Copy {
     /// How it ends.
     type Ending: Ends;
 
-    /// What that can be, as definitions tell it.
+    /// What can be asked for, by definitions.
     ghost Ask: { Type 0 };
 
     /// What can be listed of a plan.
     ghost Listing: { Type 0 };
 
-    /// What is told of a settle step.
+    /// What is reported of a settle step.
     ghost Told: { Type 0 };
 
-    /// How the program is called, and what it tells of plans.
+    /// How the program is called, and what it reports of plans.
     ghost program: { Program Ask Listing Told Self.Ending };
 
     /// What is asked for.
     ghost ask_of: { Self → Ask };
 
-    /// Returns the line that tells how the program is called, of at most 95 bytes, without its newline byte.
+    /// Returns the line that says how the program is called, of at most 95 bytes, without its newline byte.
     fn usage() -> &'static [u8]
         ensures line { result.now ≡ program.usage }
         ensures short { length result.now ≤ 95 };
@@ -47,9 +47,9 @@ pub trait RunsPlans<'a>: Copy {
     fn own_plan(self, alloc: Global) -> Result<Option<Plan>, AllocError>
         ensures { IfOk result (λ own. own ≡ program.own_plan (ask_of self)) };
 
-    /// Does what is asked for with a plan, and runs it over new fibres where it is to be run: the text of what is listed of
-    /// its settle steps, and the last line; or the text that is written of it, and the last line; or that line alone, where
-    /// the plan is refused.
+    /// Does what is asked for with a plan, and runs it over new fibres where it is to be run. Returns the text of what
+    /// is listed of its settle steps, or the text that is written of the plan, with the last line after it; or the last
+    /// line alone, where the plan is refused.
     fn run<P: Plant>(
         self,
         alloc: Global,
