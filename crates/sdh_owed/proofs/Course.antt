@@ -184,7 +184,7 @@ module _ (s : Settings) (ids : List ℕ) (circuits : Provisioning) (f : Fibres) 
     knows : Knows w.fibres
     knows = inl (whole s ids circuits f may past earlier changes w h).paired.honest.honest
 
-    -- so many rounds from there on
+    -- `k` rounds from there on
     after_rounds : (k : ℕ) → run k w ≡ after_stretches (earlier ++ stretch changes k ∷ []) from
     after_rounds k = ap (run k) h.is ∙ sym (after_last earlier (stretch changes k) from)
 
@@ -330,7 +330,7 @@ none_last : (earlier : List Stretch) (last : Stretch) (later : List Stretch) (A 
 none_last [] last later A is = absurd (grind arith)
 none_last (s ∷ earlier) last later A is = absurd (grind arith)
 
--- where a fault ended the script and no fibres had been made no round is told of
+-- where a fault ended the script and no fibres had been made the course has no round
 pub none_ran : (w : World) (ring : Ring) (limit : ℕ) (steps : List Step) (reports : List Report) (end : Status) (left : Fibres)
     → reports ≡ [] → end ≡ status.PlantFault → HasNoFibres left → left.sent ≡ w.fibres.sent
     → HasCourse w ring limit steps reports end left

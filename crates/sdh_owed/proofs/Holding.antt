@@ -1,4 +1,4 @@
--- Controllers that are held: for how many turns, and of which nodes.
+-- Controllers that are held: for how many turns, and at which nodes.
 use Rattle.std.proofs.Common.{◌≡◌, ℕ, zero, suc, ◌+◌, ◌-◌, ◌<◌, ◌≤◌, List, [], ◌∷◌, ◌++◌, length, ap, sym, ◌∙◌, subst, arith, inl, inr}
 use Rattle.std.proofs.Math.Nat.{le-max_left, le-max_right}
 use Rattle.std.proofs.lemmas.Bool.{cases_lt}
@@ -80,7 +80,7 @@ held_run most w whole few (suc k) =
     subst (λ j. AreHeldFor j (run (suc k) w)) (let e : most - k - 1 ≡ most - suc k = omega arith in e)
     (held_after (run k w) (whole_run w k whole) (most - k) (held_run most w whole few k))
 
--- ---- of which nodes
+-- ---- at which nodes
 
 no_pass_aside : (x : NodeState) → IsAside x → IsNoPass x
 no_pass_aside (state.Idle i) a = tt

@@ -1,4 +1,4 @@
--- How soon each port has what it is owed, behind stretches that ended with quiet windows.
+-- How soon each port has what it is owed, after stretches that ended with quiet windows.
 use Rattle.std.proofs.Common.{◌≡◌, ◌⊎◌, ℕ, ◌+◌, ◌-◌, ◌*◌, ◌≤◌, false, List, [], ◌∷◌, ◌++◌, length, refl, ap, sym, ◌∙◌, subst, arith, inl, inr}
 use Rattle.std.specs.Prelude.{nat_le, ◌%◌}
 use Rattle.sdh_ringmap.specs.Places.{position_of}
@@ -109,7 +109,7 @@ unslipped_all (c ∷ cs) w none all = unslipped_all cs (changed c w) none.1 (uns
 
 -- ---- stretches that ended with quiet windows
 
--- each has so many rounds that no held turn is left, and no slip
+-- each has enough rounds that no held turn is left, and no slip
 abbrev AllLong : List Stretch → Type 0
 AllLong [] = Unit {0}
 AllLong (s ∷ ss) = (100 ≤ s.rounds) × AllLong ss
@@ -217,7 +217,7 @@ module _ (s : Settings) (ids : List ℕ) (circuits : Provisioning) (f : Fibres) 
     whole_begun : 1 ≤ k → IsWhole begun
     whole_begun some = whole_v s ids circuits f earlier (stretch last.changes k) t may happens form (many some)
 
-    -- what the ring comes to by itself is told by the history
+    -- what the ring comes to by itself follows from the history
     by_history : 1 ≤ k → 3 * length ids ≤ k → IsRestored (clocks_from begun) (run k begun) (requests_of (run k begun)) → Restored
     by_history some long restored =
         restored_by_history s ids circuits f earlier (stretch last.changes k) t may happens form (many some)

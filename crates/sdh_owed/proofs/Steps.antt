@@ -64,7 +64,7 @@ less_room (step.Slip port turn count) a b less h = omega (arith, less.slips port
 less_room (step.Moment m) a b less h = h
 less_room step.Settle a b less h = h
 
--- there the same steps can be done
+-- steps that may be done after a past may be done after one that is less
 steps_less : (rate : Rate) (n circuits : ℕ) (steps : List Step) (a b : Past) → IsLess a b → AreSteps rate n circuits b steps
     → AreSteps rate n circuits a steps
 steps_less rate n circuits [] a b less each = tt
@@ -114,7 +114,7 @@ settled_held w left limit s =
 pub settled_whole : (w left : World) (limit : ℕ) → Settles w limit left → w.ring.broken ≡ false → left.ring.broken ≡ false
 settled_whole w left limit s whole = ap (λ (r : HeldRing). r.broken) (settled_held w left limit s) ∙ whole
 
--- a ring that a settle step and the rounds after it left, so many together, over fibres that are prepared for it
+-- a ring that a settle step and the rounds after it left, k rounds together, over fibres that are prepared for it
 pub next_by : (each before k : ℕ) (w left : World) → left.ring ≡ record w.ring { nodes = left.ring.nodes; rounds = w.ring.rounds + k }
     → k ≤ each → BeginsAtAMultiple left.ring → ((port : PortId) → waiting_at left.ring port ≡ 0)
     → IsPrepared w.ring.settings.rate (length w.ring.ids) left.fibres → (later : List Step)

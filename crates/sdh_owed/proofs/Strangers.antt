@@ -49,7 +49,7 @@ use Rattle.sdh_owed.specs.Strangers as since
 use Rattle.sdh_owed.proofs.Soon.{IsReady}
 use Rattle.sdh_owed.proofs.Holding.{AreHeldFor, held_for_none, held_by_all, held_run, held_beside_passing}
 
--- ---- clocks of which nothing is known before a round
+-- ---- clocks that aren't known before a round
 
 -- those from this round on, and before it the one that it begins with
 clocks_since : ℕ → (PortId → ℕ → Clock) → PortId → ℕ → Clock
@@ -222,7 +222,7 @@ module _ (s : Settings) (ids : List ℕ) (circuits : Provisioning) (f : Fibres) 
     abbrev begun_now : World
     begun_now = all_changed last.changes (after_stretches earlier from)
 
-    -- the world so many rounds before
+    -- the world `many` rounds before
     abbrev past : World
     past = run (t - many) begun_now
 

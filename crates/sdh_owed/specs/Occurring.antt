@@ -1,4 +1,4 @@
--- A ring of three of which the promise of every round is worked out: after slips, a cut span and a held controller.
+-- A ring of three for which the promise of every round is worked out: after slips, a cut span and a held controller.
 use Rattle.std.specs.Prelude.{ℕ, ◌+◌, ◌-◌, ◌<◌, ◌≤◌, List, [], ◌∷◌, ◌++◌, length}
 use Rattle.sdh_ringmap.specs.declared.Side.TheVariants.{West, East}
 use Rattle.sdh_terms.specs.declared.Condition.TheVariants.{Clear, Cut}
@@ -35,8 +35,8 @@ ring_of_three = ring_by settings (length three) one_circuit.circuits
 abbrev pub three_over : Fibres → World
 three_over f = new_world settings three one_circuit f
 
--- these may happen to it before its first round, so many rounds are enough after them, and then each port shows what it
--- is owed
+-- these changes may happen to the ring before its first round, `k` rounds are enough after them, and then each port
+-- shows what it is owed
 pub record IsOwedBehind (f : Fibres) (changes : List Change) (k : ℕ) : Type 0 where
   pub happens : MayHappen (three_over f) (stretch changes k ∷ [])
   pub late : IsLate (length three) changes k
@@ -74,8 +74,8 @@ pub record GetsItsOwn (f : Fibres) (earlier : List Stretch) (last : Stretch) (t 
       NoneMeetsAStrangerSince (rounds_in earlier + t - age) (clocks_by ring_of_three.circuits now)
       (round (world_in now (three_over f) (rounds_in earlier + t))).ring)
 
--- In 64 rounds after the span is cut in a new ring, and in as many after it is mended after a quiet window: 41 rounds
--- are n (n + 1), 3n and the hold, and from round 32 on 12 are enough.
+-- In 64 rounds after the span is cut in a new ring, and in 64 after it is mended after a quiet window: 41 rounds are n
+-- (n + 1), 3n and the hold, and from round 32 on 12 are enough.
 pub record ThreeGetTheirOwn (f : Fibres) : Type 0 where
   pub cut : (t : ℕ) → t < 64 → GetsItsOwn f [] (stretch cutting_held 64) t 41
   pub cut_later : (t : ℕ) → 32 ≤ t → t < 64 → GetsItsOwn f [] (stretch cutting_held 64) t 12

@@ -1,4 +1,4 @@
--- What the report of a settle step tells of the ring that it left.
+-- What the report of a settle step shows of the ring that it left.
 use Rattle.std.specs.Prelude.{ℕ, ◌-◌, List, length, get_or}
 use Rattle.sdh_basics.specs.Cells.{cells}
 use Rattle.sdh_circuits.specs.declared.End.{End}

@@ -1,4 +1,4 @@
--- Whose bytes a port delivers, and of which rounds.
+-- Whose bytes a port delivers, and from which rounds.
 use Rattle.std.specs.Prelude.{ℕ, ◌≡◌, ◌⊎◌, ◌+◌, ◌-◌, ◌*◌, ◌<◌, ◌≤◌, max, Some, List, [], ◌∷◌, ◌++◌, slice_get}
 use Rattle.sdh_frame.specs.Aus.{Au, ones}
 use Rattle.sdh_circuits.specs.Provisioned.{Provisioned, customer_at}

@@ -134,7 +134,7 @@ pub fn settle_recording<R: RunsRounds, P: Plant, L, O: Recorder<R, L>>(
         (Hears R.Node.kind (λ at k. O.Records recorder.old log.old at k recorder.new log.new)
         (world (R.held ring.old) (P.fibres plant.old)) limit (world (R.held ring.new) (P.fibres plant.new)))) }
 
-    // Of one that didn't end it is what is to be recorded of its whole rounds.
+    // What is recorded of a step that didn't end is what is to be recorded of its whole rounds.
     ensures begun { IfOk result (λ ended. OnErr ended
         (HearsSome R.Node.kind (λ at k. O.Records recorder.old log.old at k recorder.new log.new)
         (world (R.held ring.old) (P.fibres plant.old)) limit (world (R.held ring.new) (P.fibres plant.new)))) }
