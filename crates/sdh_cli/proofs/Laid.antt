@@ -227,7 +227,7 @@ not_refused slot l p two low high is some were =
     (passes _ _ _ (both _ _ a.0 (ap not free))
     (passes _ _ _ (ap (λ d. not (list_any (do_share 16 d) p.circuits)) given ∙ ap not room) refl)))))))
 
--- where no check refuses, want of memory alone is answered
+-- where no check refuses, a lack of memory is the only answer
 pub memory_alone : (o : Option AddError) (r : Result (Unit {0}) AddError) (why : AddError) → o ≡ None → r ≡ Err why
     → IfNone o (IfErr r (λ why. why ≡ refused.Memory)) → why ≡ refused.Memory
 memory_alone None r why e f h = let P : Result (Unit {0}) AddError → Type 0 = λ q. IfErr q (λ why. why ≡ refused.Memory) in subst P f h

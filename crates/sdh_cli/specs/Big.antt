@@ -28,7 +28,7 @@ pub record Laying : Type 0 where
   pub number : ℕ
   -- the position where it starts
   pub at : ℕ
-  -- so many spans have no circuit yet
+  -- the number of spans that have no circuit yet
   pub left : ℕ
   -- the generator's state
   pub state : ℕ
@@ -45,7 +45,7 @@ spans_of l = min (1 + drawn l.state % 5) l.left
 abbrev pub laying_end : Laying → ℕ
 laying_end l = (l.at + spans_of l) % 16
 
--- three draws are after it: its number of spans, and the offset at each end
+-- three draws follow the state with which a circuit begins: its number of spans, and the offset at each end
 abbrev pub with_next : Laying → Laying
 with_next l = record { number = l.number + 1; at = laying_end l; left = l.left - spans_of l; state = next (next (next l.state)) }
 
@@ -57,7 +57,7 @@ name_in slot number = codes "c" ++ (decimal slot ++ (codes "-" ++ decimal number
 abbrev pub customer_of : List ℕ → List ℕ → ℕ → Customer
 customer_of name letter offset = record { text = name ++ letter; trace = name; offset = offset }
 
--- the circuit of this number over so many spans from a position on, with the offsets that are drawn from a state on
+-- the circuit of this number over `spans` spans from a position on, with the offsets that are drawn from a state on
 abbrev pub laid_circuit : ℕ → ℕ → ℕ → ℕ → ℕ → Provisioned
 laid_circuit slot number at spans x = record {
   name = name_in slot number;
@@ -72,7 +72,7 @@ laid_circuit slot number at spans x = record {
 abbrev pub next_circuit : ℕ → Laying → Provisioned
 next_circuit slot l = laid_circuit slot l.number l.at (spans_of l) (next l.state)
 
--- the next circuits of a slot, so many at most
+-- the next circuits of a slot, at most a given number
 abbrev pub circuits_from : ℕ → ℕ → Laying → List Provisioned
 circuits_from zero slot l = []
 circuits_from (suc most) slot l = if l.left == 0 then [] else next_circuit slot l ∷ circuits_from most slot (with_next l)

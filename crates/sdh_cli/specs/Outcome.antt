@@ -37,7 +37,7 @@ ringing = record {
   MaySettle = MaySettle;
 }
 
--- what has to be known of a source: its bytes, or nothing where it isn't read
+-- what must be known of a source: its bytes, or nothing where it isn't read
 abbrev pub told : Option Ask → Option (List ℕ) → Option (List ℕ)
 told = outcome.told ringing
 

@@ -30,7 +30,7 @@ pub record AreAsPromised (plan : Planned) (f : Fibres) (reports : List Report) (
   pub healthy : AllSettle plan.steps → ShowsHealth plan reports end
   pub rounds : RunsWell plan f reports end left
 
--- ---- all that is told of one run
+-- ---- all that is so of one run
 
 abbrev pub adm_account : Account Node Report
 adm_account = record { walk = adm_walk; new_ring = new_ring_of }
@@ -43,7 +43,7 @@ ran_of = plans.ran_of adm_account
 abbrev pub MaySettle : Planned → Fibres → Type 0
 MaySettle = plans.MaySettle adm_account
 
--- one list of reports, told in each way
+-- what is so of one list of reports: over every plant, where the arrivals are known, and over honest fibres
 abbrev pub IsRunOf : Planned → Fibres → List Report → Status → Fibres → Type 0
 IsRunOf = plans.IsRunOf adm_account AreAsPromised
 

@@ -123,7 +123,7 @@ fn add_stretch(
     add_free(circuits, ring, &wish)
 }
 
-// Fills a slot with circuits that are laid end to end. Those before are of lower slots.
+// Fills a slot with circuits that are laid end to end. The circuits that are there are in lower slots.
 fn fill_slot(
     alloc: Global,
     circuits: &mut CircuitMap,
@@ -175,7 +175,7 @@ fn circuits_drawn(
     Ok(circuits)
 }
 
-// A fibre comes into a condition.
+// Returns the step in which the fibre that comes in on a side of a position gets a condition.
 fn fibre(condition: Condition, at: u8, side: Side) -> Step
     ensures { result ≡ fibre_comes condition at side }
 {
@@ -186,7 +186,7 @@ fn fibre(condition: Condition, at: u8, side: Side) -> Step
     })
 }
 
-// Both fibres of a span come into a condition, and rounds run.
+// Returns the steps in which both fibres of a span get a condition, and rounds run.
 fn span(condition: Condition, span: u8) -> [Step; 3]
     requires { span < 16 }
     ensures { result ≡ span_comes condition span ++ Step.Settle ∷ [] }

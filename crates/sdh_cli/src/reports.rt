@@ -17,7 +17,7 @@ use sdh_ring::Ring;
 use sdh_ringmap::{Pos, Side};
 use sdh_scripts::put_settle;
 
-// Returns what is told of a state.
+// Returns the word of a state.
 fn state_told(state: &NodeState) -> StateWord
     ensures { result ≡ state_word state.now }
 {
@@ -40,7 +40,7 @@ fn bytes_told(word: K) -> WordBytes
     WordBytes { first, second }
 }
 
-// Returns what is told of the node at a position.
+// Returns the line of the node at a position.
 fn node_told(ring: &Ring, at: u8) -> NodeLine
     requires at { at < length ring.now.ids }
     requires whole { ring.now.broken ≡ false }
@@ -139,7 +139,7 @@ fn put_delivered(text: &mut Text, ring: &Ring, port: PortId)
     text.drop_lines(ring.port(port));
 }
 
-// One for a port that delivered a chunk.
+// Returns 1 for a port that delivered a chunk, else 0.
 fn chunks_of(ring: &Ring, circuit: u8, end: End) -> u32
     requires inside { circuit < length ring.now.circuits.circuits }
     ensures chunks { result ≡ chunks_of (outlet_at ring.now (record { circuit = circuit; end = end })).delivered }

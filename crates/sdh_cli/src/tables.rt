@@ -69,7 +69,7 @@ fn put_side(text: &mut Text, plan: &Plan, table: &Table, at: Pos, side: Side)
     }
 }
 
-// The lines of the node at a position.
+// Appends the lines of the node at a position.
 fn put_node(text: &mut Text, alloc: Global, plan: &Plan, at: Pos) -> Result<(), AllocError>
     requires at { at.0 < length plan.now.nodes }
     requires room { 1536 ≤ text.old.room }
@@ -83,7 +83,7 @@ fn put_node(text: &mut Text, alloc: Global, plan: &Plan, at: Pos) -> Result<(), 
     Ok(())
 }
 
-// The lines of all nodes.
+// Appends the lines of all nodes.
 fn put_nodes(text: &mut Text, alloc: Global, plan: &Plan) -> Result<(), AllocError>
     requires room { 1536 * length plan.now.nodes ≤ text.old.room }
     ensures bytes { OnOk result (text.new.bytes ≡ text.old.bytes ++ tables_of plan.now) }
