@@ -11,15 +11,15 @@ use Rattle.sdh_report.specs.Reports.{Report, text_of}
 use Rattle.sdh_report.specs.Statuses.{last_line}
 use Rattle.sdh_rounds.specs.Quiet.{enough_for}
 use Rattle.sdh_owed.specs.Plans.{world_of}
-use Rattle.sdh_cli.specs.Plans.{ran_of, AreAsPromised}
+use Rattle.sdh_cli.specs.Plans.{ran_of, MaySettle, AreAsPromised}
 use Rattle.sdh_cli.specs.Words.{Ask, listing_of}
-use Rattle.sdh_cli.specs.Outcome.{ringing}
+use Rattle.sdh_cli.specs.Outcome.{own_plan, Does}
 use Rattle.sdh_scripts.specs.Headline as headline
 use Rattle.sdh_shell.specs.Calls.{HasRun}
 
 -- the plan of what is asked: that of the source's bytes, or the one of the number
 abbrev pub IsPlanFor : Ask → List ℕ → Planned → Type 0
-IsPlanFor = headline.IsPlanFor ringing
+IsPlanFor ask bytes plan = headline.is_plan_for (own_plan ask) bytes plan
 
 -- this plan is run, and this is listed of its reports
 abbrev pub Lists : Option Ask → List ℕ → Planned → Listing → Type 0
@@ -49,4 +49,4 @@ AlwaysSettles ask bytes how = (plan : Planned) (listing : Listing) → Lists ask
 -- that settles, as it does over honest fibres where the limit is large
 abbrev pub MayBeDone : Option Ask → Option (List ℕ) → Fibres → Type 0
 MayBeDone None left f = ⊥
-MayBeDone (Some ask) left f = headline.MayBeDone ringing ask left f
+MayBeDone (Some ask) left f = headline.may_be_done_by own_plan (headline.may_go_by Does MaySettle) ask left f

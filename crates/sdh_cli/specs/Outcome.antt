@@ -24,6 +24,9 @@ abbrev pub deed_of : Ask → Planned → Deed Listing Status
 deed_of Check plan = Writes (tables_of plan)
 deed_of ask plan = deed_listing (listing_of ask plan)
 
+abbrev pub Does : Ask → Planned → Deed Listing Status → Type 0
+Does ask plan deed = deed ≡ deed_of ask plan
+
 -- it runs a plan over a shared ring, and lists the report of each settle step
 abbrev pub ringing : Program Ask Listing Report Status
 ringing = record {
@@ -31,7 +34,7 @@ ringing = record {
   asked = asked;
   endings = statuses;
   own_plan = own_plan;
-  Does = λ ask plan deed. deed ≡ deed_of ask plan;
+  Does = Does;
   text_of = text_of;
   IsRunOf = IsRunOf;
   MaySettle = MaySettle;
@@ -39,11 +42,11 @@ ringing = record {
 
 -- what must be known of a source: its bytes, or nothing where it isn't read
 abbrev pub told : Option Ask → Option (List ℕ) → Option (List ℕ)
-told = outcome.told ringing
+told = outcome.told_by own_plan
 
 -- the source isn't read
 abbrev pub LeavesSource : Option Ask → Type 0
-LeavesSource ask = outcome.reads_source ringing ask ≡ false
+LeavesSource ask = outcome.reads_by own_plan ask ≡ false
 
 -- no fibre is made
 abbrev pub LeavesPlant : Option Ask → Type 0
@@ -51,7 +54,7 @@ LeavesPlant = outcome.LeavesPlant ringing
 
 -- a source that is read was read to its end
 abbrev pub HasRead : Option Ask → Option (List ℕ) → Type 0
-HasRead ask left = outcome.HasRead (outcome.reads_source ringing ask) left
+HasRead ask left = outcome.HasRead (outcome.reads_by own_plan ask) left
 
 -- an outcome that these failures allow
 abbrev pub MayEnd : Option Ask → List ℕ → Fibres → Counts → Counts → Status → List ℕ → Fibres → Type 0

@@ -36,17 +36,26 @@ EndsAs Known ending bytes how =
 abbrev pub AlwaysSettles : List ℕ → Status → Type 0
 AlwaysSettles bytes how = (plan : Planned) → TellsPlan bytes plan → enough_for (length plan.nodes) ≤ plan.limit → IsSettled how
 
--- all is given for this: a text is written of the plan, or the plan is run and comes to its end
+-- all is given for this: a text is written of the plan; or the plan is run, and `MaySettle` gives what a run needs to come to its end
+abbrev pub may_do_by : {L E : Type 0} → (Planned → Fibres → Type 0) → Deed L E → Planned → Fibres → Type 0
+may_do_by MaySettle (Refuses why) plan f = ⊥
+may_do_by MaySettle (Writes told) plan f = Unit {0}
+may_do_by MaySettle (Runs listing) plan f = MaySettle plan f
+
 abbrev pub may_do : {A L T E : Type 0} → Program A L T E → Deed L E → Planned → Fibres → Type 0
-may_do program (Refuses why) plan f = ⊥
-may_do program (Writes told) plan f = Unit {0}
-may_do program (Runs listing) plan f = program.MaySettle plan f
+may_do program = may_do_by program.MaySettle
 
--- all is given for what is asked with a plan
+-- all is given for what is asked with a plan, where this is done with it
+abbrev pub may_go_by : {A L E : Type 0} → (A → Planned → Deed L E → Type 0) → (Planned → Fibres → Type 0) → A → Planned → Fibres → Type 0
+may_go_by {L = L} {E = E} Does MaySettle ask plan f = (deed : Deed L E) × Does ask plan deed × may_do_by MaySettle deed plan f
+
 abbrev pub MayGo : {A L T E : Type 0} → Program A L T E → A → Planned → Fibres → Type 0
-MayGo {L = L} {E = E} program ask plan f = (deed : Deed L E) × program.Does ask plan deed × may_do program deed plan f
+MayGo program = may_go_by program.Does program.MaySettle
 
--- the source has the bytes of a plan with which all is given
+-- the source's bytes are known, and all is given with the plan of what is asked: its own, or that of the bytes
+abbrev pub may_be_done_by : {A : Type 0} → (A → Option Planned) → (A → Planned → Fibres → Type 0) → A → Option (List ℕ) → Fibres → Type 0
+may_be_done_by own_plan May ask None f = ⊥
+may_be_done_by own_plan May ask (Some bytes) f = (plan : Planned) × is_plan_for (own_plan ask) bytes plan × May ask plan f
+
 abbrev pub MayBeDone : {A L T E : Type 0} → Program A L T E → A → Option (List ℕ) → Fibres → Type 0
-MayBeDone program ask None f = ⊥
-MayBeDone program ask (Some bytes) f = (plan : Planned) × IsPlanFor program ask bytes plan × MayGo program ask plan f
+MayBeDone program = may_be_done_by program.own_plan (MayGo program)

@@ -87,14 +87,20 @@ abbrev pub reads_without : Option Planned → Bool
 reads_without None = true
 reads_without (Some plan) = false
 
--- it is read for what is asked
+-- it is read for what is asked, where these are the plans that a program has of its own
+abbrev pub reads_by : {A : Type 0} → (A → Option Planned) → Option A → Bool
+reads_by own_plan None = false
+reads_by own_plan (Some ask) = reads_without (own_plan ask)
+
 abbrev pub reads_source : {A L T E : Type 0} → Program A L T E → Option A → Bool
-reads_source program None = false
-reads_source program (Some ask) = reads_without (program.own_plan ask)
+reads_source program = reads_by program.own_plan
 
 -- what has to be known of a source: its bytes, or nothing where it isn't read
+abbrev pub told_by : {A : Type 0} → (A → Option Planned) → Option A → Option (List ℕ) → Option (List ℕ)
+told_by own_plan asked left = told_if (reads_by own_plan asked) left
+
 abbrev pub told : {A L T E : Type 0} → Program A L T E → Option A → Option (List ℕ) → Option (List ℕ)
-told program asked left = told_if (reads_source program asked) left
+told program = told_by program.own_plan
 
 -- a source that is read was read to its end
 abbrev pub HasRead : Bool → Option (List ℕ) → Type 0
