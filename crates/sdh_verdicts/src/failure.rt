@@ -27,7 +27,7 @@ pub enum Failure {
     Forced(Pos, Side),
 }
 
-/// Returns how many failures a ring of so many nodes has.
+/// Returns the number of failures that a ring of `nodes` nodes has.
 pub fn count_of(nodes: usize) -> usize
     requires { nodes ≤ 16 }
     ensures { result ≡ 10 * nodes }
@@ -88,7 +88,7 @@ fn cut(at: Pos, side: Side) -> Step
     })
 }
 
-// Of steps, the one at a place.
+// Returns the step at a place of these, if there is one.
 fn pick(steps: &[Step], i: usize) -> Option<Step>
     ensures { result ≡ slice_get steps.now i }
 {

@@ -35,9 +35,9 @@ pub struct Sides<'a> {
 /// Some spans of a ring.
 #[derive(Clone, Copy)]
 pub struct SpanSet {
-    // how many there are among the first so many, counted from span 0 on and round the ring twice
+    // by a number i: how many of the spans are among the first i, counted from span 0 on and round the ring twice
     before: [u8; 33],
-    // each of them, so many
+    // the spans: the first `many` of these
     spans: [Span; 16],
     many: usize,
 }
@@ -54,9 +54,9 @@ pub struct CaseSpans {
 pub enum Verdict {
     /// Its ends are joined by its own arc.
     Kept,
-    /// They are joined round applied spans.
+    /// Its ends are joined only round applied spans.
     Over,
-    /// They aren't joined.
+    /// Its ends aren't joined.
     Lost,
 }
 
@@ -234,7 +234,7 @@ fn is_troubled(requests: &[Code], span: Span) -> bool
     requests[span.0 as usize].number() >= Code::Ms.number()
 }
 
-// The marked spans, one by one, and how many they are.
+// Returns the marked spans, and their number.
 fn list(marks: &[bool]) -> ([Span; 16], usize)
     requires few { length marks.now ≤ 16 }
     ensures few { result.1 ≤ 16 }
@@ -298,7 +298,7 @@ fn troubled_in(requests: &[Code]) -> SpanSet
 }
 
 impl SpanSet {
-    /// Returns them one by one, in their order.
+    /// Returns the spans in their order.
     pub fn spans(&self) -> &[Span]
         requires { self.now.many ≤ 16 }
         ensures { result.now ≡ take self.now.many self.now.spans }
@@ -340,7 +340,8 @@ pub fn meets(map: &RingMap, spans: &SpanSet, circuit: &Circuit) -> bool
     spans.before[first + over] != spans.before[first]
 }
 
-/// Over how many spans the bytes of a circuit go from port to port where these spans are applied; 0 where its ends aren't joined.
+/// Returns the number of spans over which the bytes of a circuit go from port to port where these spans are applied; 0
+/// where its ends aren't joined.
 pub fn way(map: &RingMap, applied: &SpanSet, circuit: &Circuit) -> u8
     requires of { (p : ℕ → Bool) × AreSpans (length map.now) p applied.now }
     requires from { circuit.now.from.0 < length map.now }

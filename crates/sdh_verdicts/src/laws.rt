@@ -7,15 +7,15 @@ pub fn longer_plans_are_plans()
     ensures { LongerPlansArePlans }
 {}
 
-/// The last report of the longer script shows each port with what is told of its circuit in the case: AIS where it is
-/// lost, and else what the other end's customer sent as many rounds before as is told.
+/// The last report of the longer script shows each port as the verdict on its circuit says: AIS where it is lost, and
+/// else what the other end's customer sent `hops_of` rounds before.
 pub fn cases_are_shown()
     ensures { CasesAreShown }
 {
     crate::foretold::last_reports_are_foretold();
 }
 
-/// A plan of three nodes and a case of which both laws hold: a circuit goes round where a span is cut.
+/// A plan of three nodes has a case for which both laws hold: a circuit goes round where a span is cut.
 pub fn a_case_occurs()
     ensures { CaseOccurs }
 {
