@@ -33,7 +33,7 @@ kind_named word =
     else if bytes_eq word (codes "forced") then Some kind.Forced
     else None
 
--- in which form they are told
+-- the form in which cases are listed
 abbrev pub form_named : List ℕ → Option Form
 form_named word =
     if bytes_eq word (codes "head") then Some form.Headed
@@ -140,7 +140,7 @@ read_awaited awaited.Parts r word = read_parts r word
 abbrev pub read_word : AskedSoFar → List ℕ → Option AskedSoFar
 read_word r word = read_awaited r.awaited r word
 
--- these words, one by one
+-- these words, one after the other
 abbrev pub read_words : AskedSoFar → List (List ℕ) → Option AskedSoFar
 read_words r [] = Some r
 read_words r (word ∷ more) = option_and_then (λ next. read_words next more) (read_word r word)
@@ -170,6 +170,6 @@ asked (word ∷ others) = option_and_then (λ depth. option_and_then finished (r
 
 -- ---- what the program keeps
 
--- a part is one of so many
+-- a part is one of `parts` parts
 abbrev pub IsPart : Ask → Type 0
 IsPart ask = (1 ≤ ask.part) × (ask.part ≤ ask.parts)

@@ -43,21 +43,21 @@ pub struct Kinds {
     pub forced: bool,
 }
 
-/// In which form cases are told.
+/// The form in which cases are listed.
 #[derive(Clone, Copy, Debug, PartialEq, Eq)]
 pub enum Form {
     /// Records of a table.
     Table,
-    /// The same, after one of the fields' names.
+    /// Records of a table, after a record of the fields' names.
     Headed,
     /// Lines of JSON.
     Json,
-    /// In their place what each failure alone takes, kind by kind.
+    /// No cases, but the counts of circuits lost in each failure alone, kind by kind.
     Summary,
 }
 
-/// Which cases are told, and how: those of so many failures at most, of these kinds; and of them one part of so many,
-/// counted from 1. Where no kind is named all are taken.
+/// Which cases are listed, and how. They have at most `depth` failures, of these kinds; where no kind is named all are
+/// taken. Of these cases part `part` of `parts` is listed, counted from 1.
 #[derive(Clone, Copy, Debug, PartialEq, Eq)]
 pub struct Ask {
     pub depth: Depth,
@@ -111,7 +111,7 @@ impl Kinds {
         }
     }
 
-    // With this kind too.
+    // Returns the kinds with this one named too.
     fn with(self, kind: Kind) -> Kinds
         ensures { result ≡ with_kind self kind }
     {
@@ -387,7 +387,7 @@ fn finished(so_far: AskedSoFar) -> Option<Ask>
     }
 }
 
-// Nothing but a depth was read.
+// Returns what is asked for where nothing but a depth was read.
 fn begun(depth: Depth) -> AskedSoFar
     ensures is { result ≡ begun depth }
     ensures part { IsPart result.ask }

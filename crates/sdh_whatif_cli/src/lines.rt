@@ -80,7 +80,7 @@ fn put_counts(line: &mut Line, form: Form, counts: Counts)
 
 // ---- circuits
 
-// What becomes of a circuit whose bytes go over so many spans.
+// Appends what becomes of a circuit whose bytes go over `hops` spans.
 fn put_cell(line: &mut Line, form: Form, fate: Fate, hops: u8)
     requires room { length line.old + 13 ≤ 8192 }
     ensures text { line.new ≡ line.old ++ fate_cell form fate hops }
@@ -140,7 +140,7 @@ fn put_fates(line: &mut Line, form: Form, plan: &Plan, spans: &CaseSpans)
 
 // ---- lines
 
-/// Appends the line of a case, in a form and with the number that it has among those that are told.
+/// Appends the line of a case, in a form and with the number that it has among those that are listed.
 pub fn put_line(line: &mut Line, plan: &Plan, sides: &Sides<'_>, entry: Entry, case: &[Failure])
     requires sides { AreSidesOf plan.now sides.now }
     requires case { All (IsFailureIn (length plan.now.nodes)) case.now }

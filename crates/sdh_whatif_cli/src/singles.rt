@@ -9,7 +9,7 @@ use crate::line::Line;
 use sdh_plan::Plan;
 use sdh_verdicts::{Sides, failure_at};
 
-/// So many cases, so many of them in which circuits are lost, and the most that are lost in one.
+/// A number of cases, the number of them in which circuits are lost, and the most circuits that are lost in one.
 #[derive(Clone, Copy, Debug, PartialEq, Eq)]
 pub struct Tally {
     pub cases: u8,
@@ -17,7 +17,7 @@ pub struct Tally {
     pub most: u8,
 }
 
-// With one case more, in which so many circuits are lost.
+// Returns the tally with one case more, in which `lost` circuits are lost.
 fn with_case(lost: u8, tally: Tally) -> Tally
     requires few { (tally.cases < 255) × (tally.losing < 255) }
     ensures { result ≡ with_case lost tally }
@@ -29,7 +29,7 @@ fn with_case(lost: u8, tally: Tally) -> Tally
     }
 }
 
-// With the failure of a number.
+// Returns the tally with the failure of a number, unless that would mend what the script has set.
 fn tallied(plan: &Plan, sides: &Sides<'_>, number: usize, tally: Tally) -> Tally
     requires sides { AreSidesOf plan.now sides.now }
     requires number { number < 10 * length plan.now.nodes }
@@ -45,7 +45,7 @@ fn tallied(plan: &Plan, sides: &Sides<'_>, number: usize, tally: Tally) -> Tally
     with_case(counts_of(plan, &spans).lost, tally)
 }
 
-// Of so many failures, from a number on.
+// Returns the tally of `count` failures, from number `from` on.
 fn tally_of(plan: &Plan, sides: &Sides<'_>, from: usize, count: usize) -> Tally
     requires sides { AreSidesOf plan.now sides.now }
     requires numbers { from + count ≤ 10 * length plan.now.nodes }

@@ -87,7 +87,7 @@ fn digits_of(nodes: usize, number: usize) -> (usize, usize, usize)
     )
 }
 
-// Returns whether a number of these digits stands for a case that is told.
+// Returns whether a number of these digits stands for a case that is listed.
 fn are_told(sides: &Sides<'_>, nodes: usize, ask: Ask, digits: (usize, usize, usize)) -> bool
     requires sides { length sides.now.rests.items ≡ 2 * length sides.now.map.now }
     requires nodes { nodes ≡ length sides.now.map.now }
@@ -103,7 +103,7 @@ fn are_told(sides: &Sides<'_>, nodes: usize, ask: Ask, digits: (usize, usize, us
         && is_taken(sides, nodes, ask, third)
 }
 
-// Returns whether a number stands for a case that is told.
+// Returns whether a number stands for a case that is listed.
 fn is_told(plan: &Plan, sides: &Sides<'_>, ask: Ask, number: usize) -> bool
     requires sides { AreSidesOf plan.now sides.now }
     ensures { result ≡ is_told plan.now ask number }
@@ -112,7 +112,8 @@ fn is_told(plan: &Plan, sides: &Sides<'_>, ask: Ask, number: usize) -> bool
     are_told(sides, n, ask, digits_of(n, number))
 }
 
-// How a case is written, where it is told and in the part that is asked for: the one with so many told before it.
+// Returns how a case is written that has `number` cases listed before it, or `None` where it isn't listed or is in
+// another part.
 fn entry_of(ask: Ask, told: bool, number: usize) -> Option<Entry>
     requires part { IsPart ask }
     ensures { result ≡ entry_of ask told number }
@@ -207,7 +208,7 @@ fn write_entry<W: Sink>(
     }
 }
 
-// Writes the lines of all cases that are told in the part that is asked for.
+// Writes the lines of all cases that are listed in the part that is asked for.
 fn write_cases<W: Sink>(
     sink: &mut W,
     line: &mut Line,
@@ -242,7 +243,7 @@ fn write_head<W: Sink>(sink: &mut W, line: &mut Line, plan: &Plan) -> Result<(),
     sink.put(line.bytes())
 }
 
-// Writes what each failure alone takes.
+// Writes how many circuits are lost in each failure alone.
 fn write_singles<W: Sink>(
     sink: &mut W,
     line: &mut Line,
