@@ -36,7 +36,7 @@ short-three n h =
       one_digit (n % 10) (omega arith),
     )
 
--- of so many microseconds with so many digits before the point
+-- the text of a number of microseconds with at most `digits` digits before the point
 short-ms : (us digits : ℕ) → length (decimal (us / 1000)) ≤ digits → length (ms_text us) ≤ digits + 4
 short-ms us digits h =
     let a = decimal (us / 1000) in

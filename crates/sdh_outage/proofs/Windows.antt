@@ -87,7 +87,7 @@ feed_next feed next made n still rounds sent =
       ap (λ (f : Fed). f.port) n,
     )
 
--- one more, which isn't kept where none are
+-- one chunk more, which isn't kept where no chunks are
 pub reach_passed : (feed next : Fed) (made : ℕ) (bytes : List ℕ) → next ≡ next_feed feed → IsReach feed made made bytes
     → IsReach next (made + 1) (made + 1) bytes
 reach_passed feed next made bytes n r =

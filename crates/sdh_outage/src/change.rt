@@ -13,7 +13,7 @@ pub struct Change {
     pub kind: Kind,
 }
 
-// Returns whether two rounds are of one kind, whosever foreign bytes they brought.
+// Returns whether two rounds are of one kind, whatever port the foreign bytes came from.
 fn same_kind(one: Kind, other: Kind) -> bool
     ensures { result ≡ same_kind one other }
 {

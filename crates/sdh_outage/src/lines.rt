@@ -25,7 +25,7 @@ fn put_three(text: &mut Text, number: u64)
     text.put_number(number % 10);
 }
 
-// How many milliseconds so many rounds are. Eight rounds are one.
+// Appends the time of `rounds` rounds in milliseconds, with three decimals. Eight rounds are 1 ms.
 fn put_ms(text: &mut Text, rounds: u64)
     requires { length (ms_text (125 * rounds)) ≤ text.old.room }
     ensures { text.new ≡ with_part text.old (ms_text (125 * rounds)) }
@@ -35,7 +35,7 @@ fn put_ms(text: &mut Text, rounds: u64)
     put_three(text, rounds % 8 * 125);
 }
 
-// So many rounds, and how long they are.
+// Appends a number of rounds, and how long they are.
 fn put_rounds(text: &mut Text, rounds: u64)
     requires { length (rounds_text rounds) ≤ text.old.room }
     ensures { text.new ≡ with_part text.old (rounds_text rounds) }
@@ -159,7 +159,7 @@ pub fn change_line(text: &mut Text, change: &Change)
     text.put(b"\n");
 }
 
-/// The line of so many changes after those that were written.
+/// Appends the line that says how many changes came after those that were written.
 pub fn more_line(text: &mut Text, count: u32)
     requires { length (more_line count) ≤ text.old.room }
     ensures { text.new ≡ with_part text.old (more_line count) }
@@ -192,8 +192,8 @@ fn put_longest(text: &mut Text, summary: &Summary)
     text.put_number(u64::from(summary.over));
 }
 
-/// The line of a settle step: the longest run of rounds of a port that came back, and how many ports there were of which kind. A second
-/// line says how many got bytes of another circuit, where any did.
+/// Appends the line of a settle step: the longest run of rounds of a port that came back, and the number of ports of
+/// each kind. A second line says how many got bytes of another circuit, where any did.
 pub fn summary_line(text: &mut Text, summary: &Summary)
     requires { length (summary_line summary.now) ≤ text.old.room }
     ensures { text.new ≡ with_part text.old (summary_line summary.now) }

@@ -38,7 +38,7 @@ fn front(chunk: &[u8]) -> &[u8]
     &chunk[..FRONT]
 }
 
-// Those after all that a justification changes.
+// Returns the bytes of a chunk after all that a justification changes.
 fn back(chunk: &[u8]) -> &[u8]
     ensures { result.now ≡ back chunk.now }
 {
@@ -52,7 +52,8 @@ fn is_torn(chunk: &[u8], others: &[u8]) -> bool
     is_part(front(chunk), others) && is_part(back(chunk), others)
 }
 
-/// Returns what a round is that brings a chunk which doesn't stand in these bytes as one part.
+/// Returns the kind of a round that brings a chunk which doesn't stand in these bytes as one part; None where its
+/// pieces don't stand there either.
 pub(crate) fn kind_of_pieces(chunk: &[u8], others: &[u8]) -> Option<Kind>
     ensures { result ≡ kind_of_pieces chunk.now others.now }
 {

@@ -13,8 +13,8 @@ use std::marker::Model;
 /// The bytes of a chunk where no clock slips.
 pub(crate) const CHUNK: usize = 2349;
 
-/// Chunks of a port's stream, one after the other, of which later ones are made as they are asked for. It takes the memory for them
-/// when it is made, and uses it once they are there.
+/// Chunks of a port's stream, one after the other. Later ones are made as they are asked for. The memory for the chunks
+/// is taken when this is made, and used once the chunks are there.
 #[derive(Drop)]
 pub(crate) struct Reach {
     feed: Feed,
@@ -95,7 +95,7 @@ pub(crate) fn put_chunk(feed: &mut Feed, chunk: &mut Cells, bytes: &mut Vec<u8>)
 }
 
 impl Reach {
-    /// Before chunk 0, with room for this many chunks.
+    /// Returns a reach before chunk 0, with room for `most` chunks.
     pub(crate) fn try_new(alloc: Global, port: &Port, most: u32) -> Result<Reach, AllocError>
         requires { most ≤ 78 }
         ensures { IfOk result (λ reach. reach ≡ record { port = port.now; first = 0; made = 0; most = most }) }
@@ -176,7 +176,7 @@ impl Reach {
         }
     }
 
-    // Those before this one aren't kept.
+    // Drops the chunks before this one.
     fn drop_to(&mut self, from: u32)
         requires after { self.old.first ≤ from }
         requires before { from ≤ self.old.made }
@@ -186,7 +186,7 @@ impl Reach {
         self.first = from;
     }
 
-    // All up to this one are kept.
+    // Makes all chunks up to this one.
     fn fill_to(&mut self, end: u32)
         requires room { end ≤ self.old.first + self.old.most }
         requires few { end < 2 ^ 32 }
@@ -198,7 +198,8 @@ impl Reach {
         }
     }
 
-    // None before `low` are kept, and there is room for so many from this one on. As few are dropped as that needs.
+    // Makes room for `count` chunks from this one on, and drops those before `low`. No more are dropped than that
+    // needs.
     fn make_room(&mut self, low: u32, from: u32, count: u32)
         requires order { low ≤ from }
         requires later { self.old.first ≤ from }
@@ -217,7 +218,7 @@ impl Reach {
         }
     }
 
-    /// Keeps so many chunks from this one on, and none before `low`.
+    /// Keeps `count` chunks from this one on, and none before `low`.
     pub(crate) fn reach(&mut self, low: u32, from: u32, count: u32)
         requires order { low ≤ from }
         requires later { self.old.first ≤ from }

@@ -69,7 +69,7 @@ fn put_near(feed: &mut Feed, chunk: &mut Cells, bytes: &mut Vec<u8>)
 }
 
 impl Scratch {
-    /// With room for the bytes of any customer.
+    /// Returns an empty scratch with room for the bytes of any customer that are near.
     pub fn try_new(alloc: Global) -> Result<Scratch, AllocError>
         ensures { IfOk result (λ scratch. scratch ≡ []) }
     {

@@ -21,7 +21,7 @@ pub struct Summary {
     pub foreign: u32,
 }
 
-// One more where this holds.
+// Returns the count, and one more where this holds.
 fn counted(count: u32, holds: bool) -> u32
     requires { count + 1 < 2 ^ 32 }
     ensures { result ≡ count + (if holds then 1 else 0) }
@@ -30,7 +30,7 @@ fn counted(count: u32, holds: bool) -> u32
 }
 
 impl Summary {
-    /// Before any port.
+    /// Returns the summary of no port.
     pub fn new() -> Summary
         ensures { result ≡ summary_of [] }
     {
@@ -43,7 +43,7 @@ impl Summary {
         }
     }
 
-    /// A port had this outage.
+    /// Adds a port that had this outage.
     pub fn add(&mut self, outage: &Outage)
         requires room { ports_in self.old + 4 < 2 ^ 32 }
         ensures ports { (others : List Outage) → self.old ≡ summary_of others → self.new ≡ summary_of (others ++ outage.now ∷ []) }

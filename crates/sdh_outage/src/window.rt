@@ -18,7 +18,8 @@ use std::marker::Model;
 /// How many chunks hold the last one and that after it, wherever they begin.
 const AHEAD: u32 = 3;
 
-/// How many chunks there is room for where the next ones are looked for, so that the bytes aren't moved in each round.
+/// The number of chunks that there is room for where the next ones are looked for, so that the bytes aren't moved in
+/// each round.
 const ROOM: u32 = 6;
 
 /// The bytes of a port's stream that are near in a round. They are made where they are looked at: mostly only those that come next, and
@@ -51,7 +52,7 @@ impl fmt::Debug for Window {
 }
 
 impl Window {
-    /// Those of a port in round 0.
+    /// Returns the bytes that are near in round 0, of a port's stream.
     pub fn try_new(alloc: Global, port: &Port) -> Result<Window, AllocError>
         ensures { IfOk result (λ window. window ≡ record { port = port.now; round = 0 }) }
     {
