@@ -32,7 +32,7 @@ fn same_bytes(left: WordBytes, right: WordBytes) -> bool
     left.first == right.first && left.second == right.second
 }
 
-// Returns whether the same word is heard, or none twice.
+// Returns whether one word is heard both times, or none both times.
 fn same_heard(left: Option<WordBytes>, right: Option<WordBytes>) -> bool
     ensures { result ≡ same_heard left right }
 {
@@ -43,7 +43,7 @@ fn same_heard(left: Option<WordBytes>, right: Option<WordBytes>) -> bool
     }
 }
 
-// Returns whether the far end is the same, or there is none twice.
+// Returns whether there is one far end both times, or none both times.
 fn same_far(left: Option<u8>, right: Option<u8>) -> bool
     ensures { result ≡ same_far left right }
 {
@@ -68,7 +68,7 @@ fn same_state(left: StateWord, right: StateWord) -> bool
     }
 }
 
-// Returns whether the words sent, those heard, and the requests are the same.
+// Returns whether the words sent, those heard, and the requests are equal.
 fn same_words(left: &Shown, right: &Shown) -> bool
     ensures { result ≡ same_words left.now right.now }
 {
@@ -80,7 +80,7 @@ fn same_words(left: &Shown, right: &Shown) -> bool
         && left.asks_east.number() == right.asks_east.number()
 }
 
-/// Returns whether a node shows the same.
+/// Returns whether a node shows in two rounds what is equal in all parts.
 pub fn same_shown(left: &Shown, right: &Shown) -> bool
     ensures { result ≡ same_shown left.now right.now }
 {

@@ -1,6 +1,6 @@
-//! Of which nodes lines are written.
+//! The nodes whose lines are written.
 
-/// Of which nodes lines are written.
+/// The nodes whose lines are written.
 #[derive(Clone, Copy, Debug, PartialEq, Eq)]
 pub enum SignalListing {
     /// Of all.

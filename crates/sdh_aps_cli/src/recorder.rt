@@ -112,7 +112,7 @@ fn nothing_shown() -> Shown {
 }
 
 impl SignalRecorder {
-    /// Returns one for a ring of so many nodes. All memory is taken here.
+    /// Returns a recorder for a ring of `nodes` nodes, which nothing has been shown to. All memory is taken here.
     pub fn try_new(
         alloc: Global,
         nodes: usize,

@@ -98,7 +98,7 @@ out o = o.ais + o.ones + o.strange + o.foreign
 
 -- ---- all ports
 
--- the summary of no port
+-- a summary that counts no port
 abbrev pub no_ports : Summary
 no_ports = record { longest = 0; over = 0; none = 0; still = 0; foreign = 0 }
 

@@ -30,7 +30,7 @@ fn counted(count: u32, holds: bool) -> u32
 }
 
 impl Summary {
-    /// Returns the summary of no port.
+    /// Returns a summary that counts no port.
     pub fn new() -> Summary
         ensures { result ≡ summary_of [] }
     {

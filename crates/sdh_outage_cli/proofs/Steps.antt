@@ -55,7 +55,7 @@ module _ (w left : World) (limit : ℕ) (items : List ListenerPair) (streams : L
   pub many_then : length items ≡ length left.ring.circuits.circuits
   many_then = x.kept.many ∙ ap (λ (v : World). length v.ring.circuits.circuits) (sym left_at)
 
-  -- what is told of it
+  -- what is reported of the settle step
   pub told_is : (number : ℕ) → (let told : Outaged = record {
     number = number;
     round = left.ring.rounds - 1;

@@ -12,9 +12,9 @@ use sdh_shell::end_lettered;
 /// What the program is asked for.
 #[derive(Clone, Copy, Debug)]
 pub enum Command<'a> {
-    /// Run the plan and tell the outages of all ports.
+    /// Run the plan and list the outages of all ports.
     Run,
-    /// Run the plan and tell the changes of one port.
+    /// Run the plan and list the changes of one port.
     Trace(&'a str, End),
 }
 

@@ -185,7 +185,7 @@ impl<N: Station> StationRing<N> {
     }
 }
 
-// What the ring lends.
+// What can be read of the ring, and its nodes by position.
 impl<N: Station> StationRing<N> {
     /// Returns the position of the node where a port of a circuit is.
     pub fn place_of(&self, port: PortId) -> usize
