@@ -55,7 +55,7 @@ fn node_told(ring: &Ring, at: u8) -> NodeLine
     }
 }
 
-// The line of the node at a position.
+// Appends the line of the node at a position.
 fn put_node(text: &mut Text, ring: &Ring, at: u8)
     requires at { at < length ring.now.ids }
     requires whole { ring.now.broken ≡ false }
@@ -67,7 +67,7 @@ fn put_node(text: &mut Text, ring: &Ring, at: u8)
     text.node_line(&line);
 }
 
-// The lines of all nodes.
+// Appends the lines of all nodes.
 fn put_nodes(text: &mut Text, ring: &Ring)
     requires whole { ring.now.broken ≡ false }
     requires room { 96 * length ring.now.ids ≤ text.old.room }
@@ -79,7 +79,7 @@ fn put_nodes(text: &mut Text, ring: &Ring)
     }
 }
 
-// The line of the port at an end of a circuit.
+// Appends the line of the port at an end of a circuit.
 fn put_port(text: &mut Text, ring: &Ring, circuit: u8, named: &Circuit, end: End)
     requires inside { circuit < length ring.now.circuits.circuits }
     requires room { 96 ≤ text.old.room }
@@ -90,7 +90,7 @@ fn put_port(text: &mut Text, ring: &Ring, circuit: u8, named: &Circuit, end: End
     text.port_line(named.name(), end, ring.port(port), ring.value(port));
 }
 
-// The lines of both ports of a circuit.
+// Appends the lines of both ports of a circuit.
 fn put_circuit(text: &mut Text, ring: &Ring, circuit: u8, named: &Circuit)
     requires inside { circuit < length ring.now.circuits.circuits }
     requires room { 192 ≤ text.old.room }
@@ -102,7 +102,7 @@ fn put_circuit(text: &mut Text, ring: &Ring, circuit: u8, named: &Circuit)
     put_port(text, ring, circuit, named, End::B);
 }
 
-// The lines of all ports.
+// Appends the lines of all ports.
 fn put_ports(text: &mut Text, ring: &Ring)
     requires whole { ring.now.broken ≡ false }
     requires room { 192 * length ring.now.circuits.circuits ≤ text.old.room }
@@ -115,7 +115,7 @@ fn put_ports(text: &mut Text, ring: &Ring)
     }
 }
 
-// The whole report.
+// Appends the whole report.
 #[tactic(auto, unfolding(sdh_owed::specs::Reports::report_of))]
 fn put_whole(text: &mut Text, ring: &Ring, number: u32)
     requires whole { ring.now.broken ≡ false }
@@ -129,7 +129,7 @@ fn put_whole(text: &mut Text, ring: &Ring, number: u32)
     put_ports(text, ring);
 }
 
-// All that one port delivered.
+// Appends all that one port delivered.
 fn put_delivered(text: &mut Text, ring: &Ring, port: PortId)
     requires inside { port.circuit < length ring.now.circuits.circuits }
     requires room { 4707 ≤ text.old.room }
@@ -183,7 +183,7 @@ fn ports_of(ring: &Ring) -> u32
     2 * ring.circuits().len() as u32
 }
 
-// How many ports delivered a chunk, and how many AIS.
+// Appends how many ports delivered a chunk, and how many AIS.
 fn put_counts(text: &mut Text, ring: &Ring, number: u32)
     requires whole { ring.now.broken ≡ false }
     requires ran { 1 ≤ ring.now.rounds }
@@ -196,7 +196,7 @@ fn put_counts(text: &mut Text, ring: &Ring, number: u32)
     text.count_line(number, ring.rounds() - 1, chunks, ports_of(ring) - chunks);
 }
 
-/// What is listed of the report of settle step `number`, counted from 1.
+/// Appends what is listed of the report of settle step `number`, counted from 1.
 #[tactic(auto, unfolding(sdh_owed::specs::Reports::report_of))]
 pub fn put_report(text: &mut Text, ring: &Ring, number: u32, listing: Listing)
     requires whole { ring.now.broken ≡ false }

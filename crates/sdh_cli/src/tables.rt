@@ -12,7 +12,7 @@ use sdh_ringmap::{Pos, RingMap, Side};
 use sdh_squelch::Table;
 use std::alloc::{AllocError, Global};
 
-// The line of a circuit of this name between the nodes at two positions.
+// Appends the line of a circuit of this name between the nodes at two positions.
 fn put_circuit(
     text: &mut Text,
     map: &RingMap,
@@ -34,7 +34,7 @@ fn put_circuit(
     text.table_line(map.id(at), side, slot, name, map.id(ends.0), map.id(ends.1));
 }
 
-// The line of a slot, which has none where no circuit is there.
+// Appends the line of a slot, which has none where no circuit is there.
 fn put_slot(text: &mut Text, plan: &Plan, table: &Table, at: Pos, side: Side, slot: Slot)
     requires at { at.0 < length plan.now.nodes }
     requires table { table.now ≡ table_of plan.now.nodes plan.now.circuits at }
@@ -55,7 +55,7 @@ fn put_slot(text: &mut Text, plan: &Plan, table: &Table, at: Pos, side: Side, sl
     put_circuit(text, plan.map(), at, side, slot, name, ends);
 }
 
-// The lines of a side.
+// Appends the lines of a side.
 fn put_side(text: &mut Text, plan: &Plan, table: &Table, at: Pos, side: Side)
     requires at { at.0 < length plan.now.nodes }
     requires table { table.now ≡ table_of plan.now.nodes plan.now.circuits at }

@@ -134,7 +134,7 @@ impl Reach {
         &self.bytes
     }
 
-    // The next chunk is made and not kept.
+    // Makes the next chunk and doesn't keep it.
     fn pass(&mut self)
         requires none { self.old.first ≡ self.old.made }
         requires few { self.old.made + 1 < 2 ^ 32 }
@@ -145,7 +145,7 @@ impl Reach {
         self.first = self.made;
     }
 
-    // The next chunk is made and kept.
+    // Makes the next chunk and keeps it.
     fn push(&mut self)
         requires room { self.old.made < self.old.first + self.old.most }
         requires few { self.old.made + 1 < 2 ^ 32 }
@@ -155,7 +155,7 @@ impl Reach {
         self.made += 1;
     }
 
-    // None are kept.
+    // Drops all chunks that are kept.
     #[tactic(auto, using(crate::proofs::Windows::reach_cleared))]
     fn clear(&mut self)
         ensures { self.new ≡ record self.old { first = self.old.made } }
@@ -164,7 +164,7 @@ impl Reach {
         self.first = self.made;
     }
 
-    // None are kept, and the next is this one.
+    // Drops all chunks that are kept, and makes those before this one, so that it is next.
     fn pass_to(&mut self, from: u32)
         requires later { self.old.made ≤ from }
         requires few { from + 1 < 2 ^ 32 }

@@ -65,7 +65,7 @@ impl Window {
         })
     }
 
-    // The last chunk that came begins `index` bytes after the start of this chunk of the stream.
+    // Keeps the place of the last chunk that came: `index` bytes after the start of this chunk of the stream.
     fn put_place(&mut self, from: u32, index: usize)
         requires { index ≤ 200000 }
         ensures { self.new ≡ self.old }
@@ -152,7 +152,7 @@ impl Window {
         holds(chunk, scratch.near(&self.port, self.round))
     }
 
-    /// Those of the next round.
+    /// Moves to the bytes that are near in the next round.
     pub fn step(&mut self)
         requires { self.old.round + 8 ≤ 2 ^ 32 }
         ensures { self.new ≡ record self.old { round = self.old.round + 1 } }

@@ -23,12 +23,12 @@ pub fn known_rounds_are<S: Station>()
     ensures { KnownRounds S.kind }
 {}
 
-/// What a round keeps, and the frames that it appends.
+/// A round leaves the ring and its conditions but for its nodes and its number, and appends its frames.
 pub fn rounds_keep<S: Station>()
     ensures { RoundsKeep S.kind }
 {}
 
-/// What a round keeps that a fault broke off, and the frames that it appends.
+/// A round that a fault broke off leaves conditions and honesty as they were, and appends the first of its frames.
 #[tactic(auto, using(crate::proofs::Laws::faults_keep))]
 pub fn faults_keep<S: Station>()
     ensures { FaultsKeep S.kind }
@@ -40,7 +40,8 @@ pub fn honest_fibres_stay_honest<S: Station>()
     ensures { HonestRounds S.kind }
 {}
 
-/// What rounds one after the other keep, and the frames that they append.
+/// Rounds one after the other leave the ring and its conditions but for its nodes and its number, and append their
+/// frames.
 pub fn runs_keep<S: Station>()
     ensures { RunsKeep S.kind }
 {}
@@ -61,7 +62,7 @@ pub fn known_steps<S: Station>()
     ensures { KnownSteps S.kind }
 {}
 
-/// And its number of rounds can be computed.
+/// Where arrivals are known the number of rounds of a step can be computed.
 #[tactic(auto, using(crate::proofs::Laws::steps_are_computed))]
 pub fn steps_are_computed<S: Station>()
     ensures { StepsAreComputed S.kind }

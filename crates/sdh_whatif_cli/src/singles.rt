@@ -63,7 +63,7 @@ fn tally_of(plan: &Plan, sides: &Sides<'_>, from: usize, count: usize) -> Tally
     tally
 }
 
-// A number after a comma.
+// Appends a number after a comma.
 fn put_field(line: &mut Line, number: u8)
     requires room { length line.old + 6 ≤ 8192 }
     ensures text { line.new ≡ line.old ++ codes "," ++ decimal number }
@@ -73,7 +73,7 @@ fn put_field(line: &mut Line, number: u8)
     line.put_small(u16::from(number));
 }
 
-// The word of a kind.
+// Appends the word of a kind.
 fn put_kind(line: &mut Line, kind: Kind)
     requires room { length line.old + 8 ≤ 8192 }
     ensures text { line.new ≡ line.old ++ kind_text kind }
@@ -89,7 +89,7 @@ fn put_kind(line: &mut Line, kind: Kind)
     }
 }
 
-// The record of some failures.
+// Appends the record of some failures.
 fn put_tally(line: &mut Line, kind: Kind, tally: Tally)
     requires room { length line.old + 28 ≤ 8192 }
     ensures text { line.new ≡ line.old ++ tally_record kind tally }
@@ -120,7 +120,7 @@ fn numbers_of(nodes: usize, kind: Kind) -> (usize, usize)
     }
 }
 
-// The record of a kind, where it is taken.
+// Appends the record of a kind, where it is taken.
 fn put_record(line: &mut Line, plan: &Plan, sides: &Sides<'_>, kinds: Kinds, kind: Kind)
     requires sides { AreSidesOf plan.now sides.now }
     requires room { length line.old + 28 ≤ 8192 }

@@ -30,7 +30,7 @@ struct Told {
     wrote: Result<(), WriteFault>,
 }
 
-// The line of a refusal.
+// Appends the line of a refusal.
 fn refusal(text: &mut Text, status: Status)
     requires room { 96 ≤ text.old.room }
     requires empty { text.old.bytes ≡ [] }
