@@ -23,12 +23,13 @@ pub fn known_rounds_are<S: Station>()
     ensures { KnownRounds S.kind }
 {}
 
-/// A round leaves the ring and its conditions but for its nodes and its number, and appends its frames.
+/// A round changes nothing of the ring but its nodes and its number of rounds, keeps the conditions of the fibres, and
+/// appends its frames.
 pub fn rounds_keep<S: Station>()
     ensures { RoundsKeep S.kind }
 {}
 
-/// A round that a fault broke off leaves conditions and honesty as they were, and appends the first of its frames.
+/// A round that a fault broke off keeps the conditions of the fibres, and appends the first of its frames.
 #[tactic(auto, using(crate::proofs::Laws::faults_keep))]
 pub fn faults_keep<S: Station>()
     ensures { FaultsKeep S.kind }
@@ -40,8 +41,8 @@ pub fn honest_fibres_stay_honest<S: Station>()
     ensures { HonestRounds S.kind }
 {}
 
-/// Rounds one after the other leave the ring and its conditions but for its nodes and its number, and append their
-/// frames.
+/// Rounds one after the other change nothing of the ring but its nodes and its number of rounds, keep the conditions of
+/// the fibres, and append their frames.
 pub fn runs_keep<S: Station>()
     ensures { RunsKeep S.kind }
 {}
