@@ -245,7 +245,7 @@ wish_same slot number at spans x y name text_a text_b offset_a offset_b a b c d 
     ∙ ap (λ v. wish_with slot at spans n (n ++ codes "a") (n ++ codes "b") v offset_b) e
     ∙ ap (λ v. wish_with slot at spans n (n ++ codes "a") (n ++ codes "b") (drawn x % 783) v) (f ∙ ap (λ z. drawn z % 783) d)
 
--- so that the circuit is laid where it is added
+-- where a circuit is added for such a wish, the one that is laid is added
 pub added_laid : {E : Type 0} (r : Result (Unit {0}) E) (p q : Provisioning) (ids : List ℕ) (wish : Wish) (slot number at spans x : ℕ)
     → ids ≡ big_nodes → at < 16 → wish ≡ wish_laid slot number at spans x
     → OnOk r (q ≡ with_circuit p ids (circuit_of ids wish)) → OnOk r (q ≡ with_circuit p ids (laid_circuit slot number at spans x))

@@ -165,13 +165,13 @@ module _ (plan : Planned) (at : Pos) (t : SquelchTable) (same : t ≡ table_of p
     pub number_inside : j < length plan.circuits
     number_inside = slice_get_within plan.circuits j is_there.circuit is_there.there
 
-    -- and both its ends are positions of the ring
+    -- both ends of a circuit in the table are positions of the ring
     pub ends_inside : IsProvisioning (provisioning_of plan) → (ends.0.0 < n) × (ends.1.0 < n)
     ends_inside form =
         row-ends (provisioning_of plan) plan.nodes
         (circuits_keep_the_ring plan) form j is_there.circuit ends.0 ends.1 is_there.there is_there.from_is is_there.to_is
 
-    -- and it has the line
+    -- a circuit in the table has its line
     pub its_line : (c : Provisioned) → slice_get plan.circuits j ≡ Some c
         → slot_line plan.nodes plan.circuits at.0 d m ≡ table_line (slice_index plan.nodes at.0) d (record { 0 = m }) c.name
         (slice_index plan.nodes ends.0.0) (slice_index plan.nodes ends.1.0)

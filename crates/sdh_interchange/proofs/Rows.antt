@@ -131,7 +131,7 @@ module _ (row : ℕ) (some : 1 ≤ row) (few : row ≤ 9) where
       ∙ ap (aus_byte (n_of rate) 1 aus (a + i)) (sym (get_or-drop a xs i 0) ∙ ap (λ l. get_or l i 0) same ∙ get_or-drop a ys i 0)
       ∙ sym (at_aus rate 1 aus ys (a + i) two within) ∙ sym (at rate (with_aus (n_of rate) 1 aus ys) i small)))
 
--- a frame's bytes that were lent, of which as many come back
+-- bytes of a frame that were handed out, where as many come back
 pub lent : (old new : List ℕ) → length new ≡ length old → take (length old) (new ++ drop (length new) old) ≡ new
 lent old new same =
     let none : drop (length new) old ≡ [] = drop_all (length new) old (omega arith) in

@@ -36,7 +36,7 @@ none_longer_ends (kind ∷ kinds) (r ∷ run) earlier e o =
     let more = ap (λ (x : Runs). x.going) (goes_on kind (runs kinds) true (ap is_out head ∙ both.0)) in
     omega (arith, rest, more)
 
--- and that one is such a run
+-- the run that goes on is a run with which the rounds end
 pub record Ends (kinds : List Kind) (n : ℕ) : Type 0 where
   pub run : List Kind
   pub earlier : List Kind

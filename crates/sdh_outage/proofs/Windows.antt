@@ -100,7 +100,7 @@ reach_passed feed next made bytes n r =
       bytes_are = r.bytes_are ∙ no_chunk feed.port (2349 * made) made ∙ sym (no_chunk next.port (2349 * (made + 1)) (made + 1));
     }
 
--- or is
+-- one chunk more, which is kept
 pub reach_pushed : (feed next : Fed) (first made : ℕ) (bytes chunk : List ℕ) → next ≡ next_feed feed
     → chunk ≡ stream_from feed.port feed.clock.sent 2349 → IsReach feed first made bytes → IsReach next first (made + 1) (bytes ++ chunk)
 reach_pushed feed next first made bytes chunk n e r =

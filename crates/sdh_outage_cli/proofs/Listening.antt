@@ -181,7 +181,7 @@ few_near at k items streams small x i pair here =
 
 -- ---- a step ended
 
--- they have heard of all rounds
+-- the listeners have heard of all rounds
 pub ready_then : (at : ℕ → World) (k : ℕ) (items : List ListenerPair) (streams : List StreamPair) → AreListening at k items streams
     → (at k).ring.rounds ≡ (at 0).ring.rounds + k → AreReady (at k).ring.circuits.circuits (at k).ring.rounds items streams
 ready_then at k items streams x rounds = record {

@@ -19,7 +19,7 @@ use Rattle.sdh_outage_cli.proofs.Known.{keeps_rounds}
 
 -- ---- all that is reported
 
--- it settles as a script does that reports the ring
+-- the run settles as a script does that reports the ring
 pub tells : ScriptsSettle → (plan : Planned) (listing : OutageListing) (f left : Fibres) (text : List ℕ) (end : Status) → IsPlanned plan
     → (f.honest ≡ true → IsHonest f)
     → Came outage_walk plan.limit (listed listing) plan.steps (world_of plan f) f text end left → Tells plan listing f text end left

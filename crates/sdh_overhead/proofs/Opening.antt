@@ -77,7 +77,7 @@ given-is frame here kept bytes view e =
     (λ i. record { rate = frame.rate; bytes = back i }) ∙ ap (λ (r : Rate). record { rate = r; bytes = scrambled (9 * n_of r) bytes })
     (ap (λ (l : LandedFrame). l.rate) view)
 
--- a buffer that was lent whole
+-- a buffer that was handed out whole
 abbrev pub lent : List ℕ → List ℕ → List ℕ
 lent old to = take (length old) (to ++ drop (length to) old)
 

@@ -178,7 +178,7 @@ section-more n row m clear bytes some (inl one) at long = let single : m * (270 
     ap (λ k. k * (270 * n)) one in section-one n row clear bytes some at (omega (arith, long, single))
 section-more n row m clear bytes some (inr late) at long = section-late n row clear bytes late at
 
--- ---- what is kept of the rows that have gone by
+-- ---- what is kept of the rows that have passed
 
 pub some-under-way : (u : UnderWay) → 1 ≤ u.rows → under_way_of u ≡ Some u
 some-under-way u h = let some : (u.rows == 0) ≡ false = ne_eqb _ _ (λ (e : u.rows ≡ 0). omega arith) in rw some refl
@@ -207,7 +207,7 @@ section-none n =
     four _ _ _ _ [] [] [] [] (range-past (9 * n) (270 * n) [] (omega arith)) (range-past (279 * n) (540 * n) [] (omega arith))
     (range-past (549 * n) (810 * n) [] (omega arith)) (drop-past (810 * n) [] (omega arith))
 
--- the rows that have gone by, also before the first
+-- the rows that have passed, also before the first
 pub as-passed : (n : ℕ) (place : Position) (clear line : List ℕ) (u : UnderWay) → IsPlaced n u.rows place u.line u.clear
     → ArePassed n clear line (under_way_of u) → HavePassed n clear line u
 as-passed n place clear line u placed are =

@@ -134,7 +134,7 @@ none_through n limit ran changes (step.Slip port turn count ∷ later) end is h 
 none_through n limit ran changes (step.Moment m ∷ later) end is h =
     none_through n limit ran (changes ++ changes_of (step.Moment m)) later end is (more_so changes (changes_of (step.Moment m)) ran h)
 
--- and where it refused one
+-- nothing ran of a settle step for which the plant refused a condition
 refused_through : (n limit ran : ℕ) (changes : List Change) (s : Step) (later : List Step) (w : World) (reports : List Report)
     (end : Status) (left : World) → Refuses s w reports end left → end ≡ status.PlantFault
     → WentThrough n limit ran (scenes changes (s ∷ later)) [] end []
@@ -204,7 +204,7 @@ module _ (s : Settings) (ids : List ℕ) (circuits : Provisioning) (f : Fibres) 
           (ap (λ (v : World). v.fibres) ((known_unsettles adm w limit left knows x).1 ∙ after_rounds limit)));
     }
 
-    -- and one that a fault broke off
+    -- what happened in a settle step that a fault broke off
     broken_off : (later : List (List Change)) (end : Status) (left : Fibres) → end ≡ status.PlantFault → BreaksOff w limit left
         → GoesOn limit earlier (changes ∷ later) [] end left
     broken_off later end left is b =
@@ -219,7 +219,7 @@ module _ (s : Settings) (ids : List ℕ) (circuits : Provisioning) (f : Fibres) 
           sent = inr (is, inl (subst (λ v. IsBrokenOff v left) same b.off));
         }
 
-    -- one that ended, and what happened after it
+    -- what happened in a settle step that ended, and after it
     settled : (later : List (List Change)) (mid : World) (number : ℕ) (reports : List Report) (end : Status) (left : Fibres)
         → (let last = stretch_to s ids circuits f may past earlier changes w h mid in
         IsLast (length ids) limit (rounds_in earlier) (mid.ring.rounds - 1)

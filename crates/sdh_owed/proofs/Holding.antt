@@ -72,7 +72,7 @@ held_by_all most [] w long few = few
 held_by_all most (c ∷ cs) w long few =
     held_by_all most cs (changed c w) (longest_later most c cs long) (held_by_one most c cs w long few)
 
--- and each round takes one turn away
+-- each round takes one held turn away
 pub held_run : (most : ℕ) (w : World) → IsWhole w → AreHeldFor most w → (k : ℕ) → AreHeldFor (most - k) (run k w)
 unfolding any_run.run
 held_run most w whole few zero = subst (λ j. AreHeldFor j w) (let e : most ≡ most - zero = omega arith in e) few
@@ -93,7 +93,7 @@ no_pass_aside (state.SwitchEast f) a = tt
 abbrev Follow : List ℕ → World → Type 0
 Follow rs w = AtEach (λ p n. n.state ≡ settled rs p) w.ring.nodes
 
--- and stays in it over a change
+-- the nodes stay in the states of these requests over a change
 follow_on : (rs : List ℕ) (c : Change) (w : World) → Follow rs w → Follow rs (changed c w)
 unfolding changed
 follow_on rs (change.Fibre p d condition) w all = all

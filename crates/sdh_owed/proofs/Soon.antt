@@ -86,7 +86,7 @@ pub free_all : (cs : List Change) (w : World) → HoldNone cs → NoneHeld w →
 free_all [] w none free = free
 free_all (c ∷ cs) w none free = free_all cs (changed c w) none.1 (free_changed c w none.0 free)
 
--- and changes that give no slips
+-- no slip waits after changes that give none
 none_more : (turn : Turn) (count : ℕ) (c : Clock) → count ≡ 0 → waiting c ≡ 0 → waiting (with_waiting turn count c) ≡ 0
 none_more turn count c none rests = omega (arith, waiting_waits turn count c, none, rests)
 
@@ -114,7 +114,7 @@ abbrev AllLong : List Stretch → Type 0
 AllLong [] = Unit {0}
 AllLong (s ∷ ss) = (100 ≤ s.rounds) × AllLong ss
 
--- one that begins and ends at a multiple of 128
+-- a stretch that begins and ends at a multiple of 128 has at least 100 rounds
 long_between : (a b : ℕ) → (a ≡ 0) ⊎ ((a - 1) % 128 ≡ 0) → 6 ≤ b → (a + b - 1) % 128 ≡ 0 → 100 ≤ b
 long_between a b (inl none) some ends = omega (arith, none, some, ends)
 long_between a b (inr begins) some ends = omega (arith, begins, some, ends)

@@ -200,7 +200,7 @@ module _ (s : Settings) (ids : List ℕ) (circuits : Provisioning) (f : Fibres) 
     abbrev pub stretch_to : World → Stretch
     stretch_to mid = record { changes = changes; rounds = mid.ring.rounds - 1 + 1 - rounds_in earlier }
 
-    -- it ended, and so the script's history went on
+    -- the settle step ended, and the script's history went on
     pub record Ended (limit : ℕ) (mid : World) : Type 0 where
       pub last : IsLast (length ids) limit (rounds_in earlier) (mid.ring.rounds - 1)
       pub happens : MayHappen from (earlier ++ stretch_to mid ∷ [])

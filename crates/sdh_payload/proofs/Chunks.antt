@@ -124,7 +124,7 @@ length-around front middle back xs fits =
     ∙ ap (λ k. k + length (middle ++ drop back xs)) (length-take-le front xs fits)
     ∙ ap (λ k. front + k) (length-append middle (drop back xs) ∙ ap (λ k. length middle + k) (length-drop back xs))
 
--- it fills a payload
+-- a chunk that is laid out fills a payload
 pub length-laid_payload : (form : ChunkForm) (bytes : List ℕ) → length bytes ≡ taken_len form → length (laid_payload form bytes) ≡ 2349
 length-laid_payload Plain bytes len = len
 length-laid_payload Short bytes len = length-around 783 (0 ∷ 0 ∷ 0 ∷ []) 783 bytes (omega (arith, len)) ∙ omega (arith, len)

@@ -40,7 +40,7 @@ rest_fewer Long before = omega arith
 no_more : (t : Bool) → true ≡ not (t && false)
 no_more t = ap not (sym (and_right t false refl))
 
--- it rests in just those rounds that may not justify
+-- a clock rests in just those rounds that may not justify
 rests : (before : List ChunkForm) → nat_le 1 (rest_after before) ≡ not (may_justify before)
 rests [] = refl
 rests (Short ∷ before) = no_more _
@@ -152,7 +152,7 @@ same_form : (rest may : Bool) (ups ups' downs downs' : ℕ) → rest ≡ may →
     ≡ (if may then Plain else if nat_le 1 ups' then Short else if nat_le 1 downs' then Long else Plain)
 same_form rest may ups ups' downs downs' r u d = cc
 
--- so it sends what the rule says
+-- a clock sends what the rule says
 form_is : (offset ups downs : ℕ) (before : List ChunkForm) (c : Clock) → Keeps offset ups downs before c
     → next_form c ≡ form_then before ups downs
 form_is offset ups downs before c k =

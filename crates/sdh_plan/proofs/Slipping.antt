@@ -122,7 +122,7 @@ slips_more s t port more few here others = fun_ext (λ other. by other (same_end
         ∙ ap (λ b. cond b (slips_in s other + more) (slips_in s other))
         (sym (ap (λ b. (other.circuit == port.circuit) && b) e ∙ both_false (other.circuit == port.circuit)))
 
--- the same of the port at an end
+-- the counts at an end with more slips of the port there
 pub slips_more_at : (s t : Slips) (port : PortId) (more : ℕ) (end : End) → port.end ≡ end → port.circuit < length (counts_at s end)
     → counts_at t end ≡ set (counts_at s end) port.circuit (slips_in s port + more)
     → ((d : End) → same_end d end ≡ false → counts_at t d ≡ counts_at s d) → slips_in t ≡ more_slips port more (slips_in s)

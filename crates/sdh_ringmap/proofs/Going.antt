@@ -83,7 +83,7 @@ module _ (n : ℕ) (some : 0 < n) where
       sym (going-next d (going n d p i) j) ∙ ap (λ q. neighbour n q d) (going-add d p i j) ∙ going-next d p (i + j)
       ∙ ap (going n d p) (omega arith)
 
-  -- the same positions, from the last one back
+  -- the positions on a way, from the last one back
   pub mirror : (d : Side) (p i j m : ℕ) → i + j ≡ m → going n (opposite d) (going n d p m) i ≡ going n d p j
   mirror d p zero j m e = going-none (opposite d) (going n d p m) (going-inside d p m) ∙ ap (going n d p) (omega arith)
   mirror d p (suc i) j m e =

@@ -101,7 +101,7 @@ module _ {N : Type 0} (st : Station N) where
             (some.nodes ∙ first_none r.moment (told_some st some.arrivals r.nodes));
       }
 
-  -- and while they sent
+  -- what a fault leaves that came while the nodes sent
   pub breaks_sending : (r : HeldRing N) (f g h : Fibres) (ns new : List N) → length r.nodes ≡ length r.ids
       → FirstReceive st (receivers_in r.rounds (length r.nodes)) f g r.nodes ns → SendsSome st r.moment ns new g h
       → BreaksRound st (world r f) (world (record r { nodes = new; broken = true }) h)

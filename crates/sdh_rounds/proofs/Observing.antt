@@ -84,7 +84,7 @@ module _ {N : Type 0} (st : Station N) where
       → Observes heard w w 0 0
   observes_none heard w some ready = let on = goes_none st w some in record { on = on; kept = ready (course_with st on.went.rounds w) refl }
 
-  -- it ended a window
+  -- a step that ended, as its last round ended a window
   pub hears : (heard : (ℕ → World N) → ℕ → Type 0) (w now : World N) (k calm : ℕ) → HasLooked heard w now k calm
       → (limit : ℕ) → k ≤ limit → (3 * length now.ring.ids ≤ calm) × ((now.ring.rounds - 1) % 128 ≡ 0) → Hears st heard w limit now
   unfolding settles
@@ -93,7 +93,7 @@ module _ {N : Type 0} (st : Station N) where
     kept = subst (heard (course_with st x.went.rounds w)) (sym x.went.count) x.kept;
   }
 
-  -- it didn't
+  -- a step that goes on, as its last round ended no window
   pub observes_on : (heard : (ℕ → World N) → ℕ → Type 0) (w now : World N) (k calm : ℕ) → HasLooked heard w now (k + 1) calm
       → ((3 * length now.ring.ids ≤ calm) × ((now.ring.rounds - 1) % 128 ≡ 0) → ⊥) → Observes heard w now (k + 1) calm
   unfolding goes_on
@@ -115,7 +115,7 @@ module _ {N : Type 0} (st : Station N) where
         kept = subst (heard (course_with st x.on.went.rounds w)) (sym c) x.kept;
       }
 
-  -- and one more, which may have ended one
+  -- after rounds that ended no window, and one more that may have ended one
   pub ran_last : (kept_of : (ℕ → World N) → ℕ → Type 0) (w now : World N) (k calm : ℕ) → HasLooked kept_of w now k calm → (limit : ℕ)
       → k ≤ limit → RanSome st kept_of w limit now
   ran_last kept_of w now k calm x limit low =

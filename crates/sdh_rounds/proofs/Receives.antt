@@ -29,7 +29,7 @@ told_one : (o : Option (List Arrival)) (k : ℕ) → option_map (drop 1) (option
 told_one None k = refl
 told_one (Some told) k = ap Some (drop-drop 1 k told)
 
--- one more was given
+-- one arrival more was given
 pub taken_one : (f : Fibres) (k : ℕ) → after_receive (after_given k f) ≡ after_given (k + 1) f
 unfolding after_given
 taken_one f k = ap (λ told. record f { told = told }) (told_one f.told k)

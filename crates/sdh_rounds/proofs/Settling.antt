@@ -34,7 +34,7 @@ module _ {N : Type 0} (st : Station N) where
     pub calm_is : calm ≡ streak st (course_with st rounds w) k
     pub before : (j : ℕ) → j < k → EndsWindow st (course_with st rounds w) j → ⊥
 
-  -- and none ended a window
+  -- a step that is at `now` after k rounds that ended no window
   pub record GoesOn (w now : World N) (k calm : ℕ) : Type 0 where
     pub went : Went w now k calm
     pub never : NeverSettles st (course_with st went.rounds w) k

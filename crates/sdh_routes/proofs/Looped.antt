@@ -88,7 +88,7 @@ module _ (n : ℕ) (cs : List Provisioned) (some : 0 < n) (d : Side) (p : ℕ) (
     pub beyond : IsBeyond
     beyond = by_round (cases_lt (j + k) n)
 
-    -- so it comes back at the chain's other end
+    -- the circuit comes back at the chain's other end
     pub comes-back : circuit_from n (span_at n f (opposite d)) c.slot.0 0 cs ≡ Some (entry index c)
     comes-back =
         let b = beyond in let a = b.after in let w = b.within in

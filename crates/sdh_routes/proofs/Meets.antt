@@ -84,11 +84,11 @@ module _ (n : ℕ) (cs : List Provisioned) (ring : AreOnRing n cs) (some : 0 < n
         ap (λ k. circuit_from n (span_at n f.0 (opposite d)) k 0 cs) (sym slot) ∙ returned ∙ ap Some (sym row),
       )
 
-  -- at the far end's outward span the same circuit is met
+  -- at the far end's outward span one and the same circuit is met
   pub meets-own : carries_in n cs q d m (Some f) ≡ true → circuit_from n (span_at n f.0 (opposite d)) m 0 cs
       ≡ circuit_from n (span_at n q d) m 0 cs
   meets-own t = (by_entry (circuit_from n (span_at n q d) m 0 cs) refl (sym (carries-by n cs q d m f.0) ∙ t)).1
 
-  -- and the far end is farther along its arc
+  -- the far end is farther along the circuit's arc
   pub meets-farther : carries_in n cs q d m (Some f) ≡ true → IsFarther n cs d q m f.0
   meets-farther t = (by_entry (circuit_from n (span_at n q d) m 0 cs) refl (sym (carries-by n cs q d m f.0) ∙ t)).0

@@ -90,7 +90,7 @@ module _ {N : Type 0} (st : Station N) where
       let one : 2 * n * suc k ≡ 2 * n + 2 * n * k = omega arith in
       omega (arith, length-append (frames_with st xs w) (frames_in st (arrivals_in st k v) v), length-one xs w, rest, one)
 
-  -- those of the first j rounds, of the next one, and of the others
+  -- the frames of the first j rounds, of the next one, and of the others
   frames_parted : (j m : ℕ) (w : World N) → (rest : List (List ℕ))
       × (frames_in st (arrivals_in st (j + suc m) w) w ≡ frames_in st (arrivals_in st j w) w
       ++ (frames_with st (arrivals_of (run st j w)) (run st j w) ++ rest))

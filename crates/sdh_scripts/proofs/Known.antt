@@ -66,7 +66,7 @@ module _ {N T : Type 0} (walk : Walk N T) (law : KeepsRounds walk) where
   abbrev whole : ℕ → ℕ
   whole k = k + walk.behind
 
-  -- one that ended
+  -- a settle step that ended
   record IsKnown (w : World N) (limit number : ℕ) (told : T) (left : World N) : Type 0 where
     rounds : ℕ
     settles : SettlesAt st (course st w) limit rounds
@@ -91,7 +91,7 @@ module _ {N T : Type 0} (walk : Walk N T) (law : KeepsRounds walk) where
         ∙ ap (course_with st (s.rounds ++ behind) w) (length-append s.rounds behind)
         ∙ same_all (length s.rounds + length behind) (omega arith)
 
-    -- it ends with as many rounds as are known
+    -- a settle step ends with as many rounds as are known
     count_all : (k : ℕ) → mid ≡ run st k w → k ≡ length s.rounds
     count_all k there =
         let held = ap (λ (r : HeldRing N). r.rounds) (held_run st s.rounds w) in
@@ -121,7 +121,7 @@ module _ {N T : Type 0} (walk : Walk N T) (law : KeepsRounds walk) where
             ∙ ap (λ j. of_step number j w) (sym count);
       }
 
-  -- one that a fault broke off, or a round after it
+  -- a settle step that a fault broke off, or a round after it
   record IsBroken (w : World N) (limit : ℕ) (left : Fibres) : Type 0 where
     ran : ℕ
     out : ℕ
@@ -195,7 +195,7 @@ module _ {N T : Type 0} (walk : Walk N T) (law : KeepsRounds walk) where
       let same : length (run st k w).ring.ids ≡ length w.ring.ids = ap (λ (x : List ℕ). length x) (left_run st k w).ids in
       omega (arith, long, same, some)
 
-  -- so few frames are none of a round after a step that runs no round, where they are none of one after it
+  -- frames that are too few for the next round are too few for it after a step that runs no round
   none_after : (n frames : ℕ) (this : Step) (w : World N) (A : Type 0) → 1 ≤ length w.ring.ids → frames < 2 * n * (w.ring.rounds + 1)
       → (1 ≤ length (walk.does this w).ring.ids → frames < 2 * n * ((walk.does this w).ring.rounds + 1) → A) → A
   none_after n frames this w A some low goes =

@@ -54,7 +54,7 @@ module _ {N T : Type 0} (walk : Walk N T) where
   comes_ends limit steps w f left reports end (inl x) = inr (inr x.0)
   comes_ends limit steps w f left reports end (inr x) = ends_in limit 0 steps w reports end x.0 x.2
 
-  -- one that settles, and that no fault broke off, is done
+  -- a script that settles, and that no fault broke off, is done
   pub settled_done : (limit : ℕ) (steps : List Step) (w : World N) (f left : Fibres) (reports : List T) (end : Status)
       → ComesOfSteps walk limit steps w f reports end left → IsSettled end → (end ≡ status.PlantFault → ⊥) → end ≡ status.Ok
   settled_done limit steps w f left reports end x settled fine = elim (comes_ends limit steps w f left reports end x) [

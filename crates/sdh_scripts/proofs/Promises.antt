@@ -49,7 +49,7 @@ module _ {A L T E : Type 0} (program : Program A L T E) (ask : A) (f left : Fibr
       subst (λ p. OfPlan program ask p f how text left) (one_plan bytes x.0 plan x.1 tells) x.2
   of_own (Some own) bytes how text plan s is h same x = subst (λ p. OfPlan program ask p f how text left) (sym same) x
 
-  -- it wasn't refused
+  -- a plan whose run came to its end wasn't refused
   ran_deed : (deed : Deed L E) (how : E) (text : List ℕ) (plan : Planned) (s : Status) → how ≡ program.endings.of s → HasRun s
       → NeverWrites program ask → program.Does ask plan deed → OfDeed program deed plan f how text left
       → (listing : L) × program.Does ask plan (Runs listing)

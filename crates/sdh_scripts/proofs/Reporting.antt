@@ -34,7 +34,7 @@ module _ {N T : Type 0} (walk : Walk N T) (none : walk.behind ≡ 0) where
     told_is = ap (λ rs. walk.tells number (course_with walk.station rs w) (length s.rounds)) (sym (append-nil s.rounds));
   }
 
-  -- one that ended left this world
+  -- a settle step that ended left this world
   pub settles_with : (limit number : ℕ) (w : World N) (told : T) (left : World N) → Ended walk limit number w told left
       → Settles walk.station w limit left
   settles_with limit number w told left e =

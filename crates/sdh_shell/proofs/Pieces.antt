@@ -76,7 +76,7 @@ module _ {T E : Type 0} (exact : Bool) where
         counted = f.counted;
       }
 
--- the same text
+-- what was written of a text was written of an equal one
 pub as_text : {T E : Type 0} (exact : Bool) (a b : Option (List ℕ)) (x y : ℕ) (s t : List ℕ) (r : Result T E) → s ≡ t
     → Wrote {T = T} {E = E} exact a b x y s r → Wrote {T = T} {E = E} exact a b x y t r
 as_text {T = T} {E = E} exact a b x y s t r same w = subst (λ l. Wrote {T = T} {E = E} exact a b x y l r) same w

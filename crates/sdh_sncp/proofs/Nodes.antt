@@ -1,4 +1,4 @@
--- The nodes of a path ring, one by one, and what stays of them whatever arrives.
+-- The nodes of a path ring, one at a time, and what stays of them whatever arrives.
 use Rattle.std.proofs.Common.{◌≡◌, ℕ, zero, suc, ◌+◌, ◌<◌, Bool, true, false, List, [], ◌∷◌, length, map, Option, Some, None, refl, ap, sym}
 use Rattle.std.proofs.Common.{subst, ◌∙◌, arith}
 use Rattle.std.specs.Prelude.{All, ◌==◌, if◌then◌else◌}

@@ -1,4 +1,4 @@
--- A plan's steps of which none is strange can be done in a path ring.
+-- A plan's steps can be done in a path ring where none of them is strange.
 use Rattle.std.proofs.Common.{◌≡◌, ℕ, ◌+◌, ◌≤◌, Bool, true, false, None, Some, List, [], ◌∷◌, length, refl, arith}
 use Rattle.std.specs.Prelude.{nat_lt, option_map, cond}
 use Rattle.std.specs.List.{position_or_len}

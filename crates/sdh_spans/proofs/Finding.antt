@@ -57,7 +57,7 @@ found_word rate threshold k line last says other =
     ∙ ap (frame_reception rate threshold clear kept) (received_says rate k last line says) in
     subst (FindsWord clear threshold b2 k kept) (sym is) (found_at rate threshold clear kept k b2 other)
 
--- violations against the same B2 are the same
+-- violations against one B2 are equal
 pub b2_by : (n : ℕ) (last : Option Parities) (a b : List ℕ) → b2_in n a ≡ b2_in n b → b2_violations n last a ≡ b2_violations n last b
 b2_by n None a b e = refl
 b2_by n (Some last) a b e = ap (violations_of last.b2) e
@@ -77,7 +77,7 @@ inlets_stay at threshold i is = record {
       (found threshold i).bytes i.readings ∙ is.readings;
 }
 
--- one that received nothing
+-- a side that received nothing
 pub untold_sides_find_nothing : UntoldSidesFindNothing
 unfolding taken_in after_taking
 untold_sides_find_nothing threshold i none =

@@ -46,7 +46,7 @@ hops_same n p q arc some same =
     ∙ ap (by (first_applied n q arc) (last_applied n q arc))
     (none_same (applied_at_place n p arc) (applied_at_place n q arc) at 0 arc.spans)
 
--- it is that of a circuit that is kept, or goes round
+-- the number of hops of a circuit that is kept or goes round
 pub hops_are : (n : ℕ) (p : ℕ → Bool) (c : Provisioned) (v : Verdict) (k : ℕ) → (v ≡ Kept) ⊎ (v ≡ Over) → v ≡ verdict_under n p c
     → k ≡ hops n p (arc_of n c) → k ≡ hops_under n p c
 hops_are n p c v k (inl kept) is way = way ∙ ap (λ w. hops_where w n p c) (sym kept ∙ is)

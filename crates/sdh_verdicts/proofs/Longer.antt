@@ -56,7 +56,7 @@ module _ (rate : Rate) (size circuits : ℕ) where
       let fewer : past.settles + 1 ≤ 64 = omega (arith, few) in
       (record { in_ring = tt; forward = same; few_settles = fewer; few_slips = tt }, tt)
 
-  -- ---- those of a case
+  -- ---- the steps of a case
 
   module _ (threshold : ℕ) (from_1 : 1 ≤ threshold) (small : threshold ≤ 3 * n_of rate) (some : 0 < size) where
     one_fits : (past : Past) (f : Failure) (rest : List Step) → past.settles ≤ 63 → IsFailureIn size f

@@ -90,7 +90,7 @@ told_at number limit w mid s behind count =
 
 -- ---- a settle step, and the rounds that are watched after it
 
--- it ended, and its 128 rounds were run and showed this
+-- a settle step ended, and its 128 rounds were run and showed this
 pub record IsWatched (limit number : ℕ) (w : World) (told : Watched) (left : World) : Type 0 where
   pub mid : World
   pub heard : PortId → List Given

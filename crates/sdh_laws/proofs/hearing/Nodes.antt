@@ -1,4 +1,4 @@
--- The nodes of a ring, one by one, and what stays of them whatever arrives.
+-- The nodes of a ring, one at a time, and what stays of them whatever arrives.
 use Rattle.std.proofs.Common.{◌≡◌, ℕ, zero, suc, ◌+◌, ◌<◌, Bool, true, false, List, [], ◌∷◌, length, get_or, map, Option, Some, None, refl}
 use Rattle.std.proofs.Common.{ap, sym, subst, ◌∙◌, arith}
 use Rattle.std.specs.Prelude.{All, ◌==◌, if◌then◌else◌}

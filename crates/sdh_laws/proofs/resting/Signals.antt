@@ -182,7 +182,7 @@ module _ (law : StillRingsAreSettled) (w : World) (whole : IsWhole w) (calm : (j
   pub heard_stays : (p : ℕ) (d : Side) → p < length w.ring.nodes → hears (kept 7 p d) ≡ hears (kept 6 p d)
   heard_stays p d h = ap hears (kept_stays 3 p d (omega arith) h)
 
-  -- ---- so the ring of signals stands still
+  -- ---- the ring of signals stands still
 
   filters_same : (p : ℕ) → p < length w.ring.nodes → filters_of (node_at (run 6 w).ring.nodes p)
       ≡ filters_of (node_at (run 5 w).ring.nodes p)

@@ -169,7 +169,7 @@ module _ (clocks : PortId → ℕ → Clock) where
         } in
         kept_in clocks (λ v c. HoldsNone c) IsClearing clearing_changed clearing_then ss 0 w t form begins may (none_in w ss none) tells few
 
-    -- and then the ring is vouched for
+    -- a ring that has cleared for `most` and n (n + 1) rounds is vouched for
     pub cleared : (w : World) (j : ℕ) → IsClearing j w → most + length w.ring.ids * (length w.ring.ids + 1) ≤ j → IsVouched clocks w
     cleared w j k long =
         let n = length w.ring.ids in

@@ -70,9 +70,9 @@ place_on n d (Some r) p = steps n d (start_of d r) p
 abbrev pub working_lag : ℕ → Side → Option OnSpan → ℕ → ℕ
 working_lag n d o p = place_on n d o p * (n + 1)
 
--- The lag of a protection AU-4 that the node at p sends on the side opposite to d, under a word of which this node is
--- the source and which speaks of this: the source had it in the working slot, and this is the number of spans that it
--- has crossed since.
+-- The lag of a protection AU-4 that the node at p sends on the side opposite to d, under a word that has this node as
+-- its source and speaks of this: the source had it in the working slot, and this is the number of spans that it has
+-- crossed since.
 abbrev pub protection_lag : ℕ → Side → Option OnSpan → Option Pos → ℕ → ℕ
 protection_lag n d o None p = 0
 protection_lag n d o (Some g) p = place_on n d o g.0 * (n + 1) + steps n (opposite d) g.0 p + 1

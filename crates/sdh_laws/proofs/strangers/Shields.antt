@@ -103,7 +103,7 @@ module _ (s : Scene) (p : ℕ) (ids : List ℕ) (same : s.ids ≡ ids) (at : s.a
   own_is : own_id s ≡ slice_index ids p
   own_is i = slice_index (same i) (at i)
 
-  -- of a word of its own the source is the node
+  -- the source of a node's own word is the node
   own_by : (k : K) → k.from ≡ own_id s → (o : Option K) → long_word k ≡ o → (o ≡ None) ⊎ (o ≡ Some k) → (g : Pos)
       → source_in ids k ≡ Some g → g.0 ≡ p
   own_by k from o is (inl none) g h = absurd (no (sym (ap (option_and_then (λ (k : K). found_at ids k.from)) (is ∙ none)) ∙ h))
@@ -172,7 +172,7 @@ pub open_on : (e : Side) (f : Option Pos) → is_open (Switch (opposite e) f) e 
 open_on West f = refl
 open_on East f = refl
 
--- one of four
+-- a node's state is one of four: aside, passing through, or switched on one side or the other
 pub by_state : (e : Side) (x : NodeState) (A : Type 0) → (IsAside x → A) → (x ≡ state.PassThrough tt → A) → ((f : Option Pos) → x ≡ Switch e f → A)
     → ((f : Option Pos) → x ≡ Switch (opposite e) f → A) → A
 by_state e (state.Idle i) A aside pass this other = aside tt

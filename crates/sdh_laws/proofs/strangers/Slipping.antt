@@ -308,7 +308,7 @@ module _ (clock : ℕ → Clock) (source : IsSource clock) where
       apart : action.Ais ≡ action.Down → ⊥
       apart z = cc
 
-  -- it comes later than the first bytes
+  -- a pointer step down comes later than the first bytes
   pub down_late : (k t : ℕ) → does k t ≡ action.Down → k < t
   down_late k t e = elim (cases_lt t k) [
     | inl before ↦ absurd (early_not_down k t before e)
