@@ -41,7 +41,7 @@ slot_begun x = record { number = 1; at = drawn x % 16; left = 16; state = next x
 abbrev pub spans_of : Laying → ℕ
 spans_of l = min (1 + drawn l.state % 5) l.left
 
--- it ends there
+-- the position where the next circuit of a slot ends
 abbrev pub laying_end : Laying → ℕ
 laying_end l = (l.at + spans_of l) % 16
 

@@ -34,8 +34,8 @@ abbrev pub IsAsPromised : Option Ask → List ℕ → Fibres → Status → Opti
 IsAsPromised ask bytes f how old new left = (plan : Planned) (listing : Listing) → Lists ask bytes plan listing → HasRun how
     → (reports : List Report) × Appends old new (text_of listing reports ++ last_line how) × AreAsPromised plan f reports how left
 
--- it ends as the script does where the arrivals are known: unsettled at exactly the step in which no quiet window comes within the
--- limit; or a plant's call failed
+-- the program ends as the script does where the arrivals are known: unsettled at exactly the step in which no quiet
+-- window comes within the limit; or a plant's call failed
 abbrev pub EndsAsItRuns : Option Ask → List ℕ → Fibres → Status → Type 0
 EndsAsItRuns ask bytes f how = (plan : Planned) (listing : Listing) → Lists ask bytes plan listing → HasRun how
     → Knows (world_of plan f).fibres → (how ≡ (ran_of plan f).ending) ⊎ (how ≡ status.PlantFault)

@@ -27,7 +27,7 @@ deed_of ask plan = deed_listing (listing_of ask plan)
 abbrev pub Does : Ask → Planned → Deed Listing Status → Type 0
 Does ask plan deed = deed ≡ deed_of ask plan
 
--- it runs a plan over a shared ring, and lists the report of each settle step
+-- the program runs a plan over a shared ring, and lists the report of each settle step
 abbrev pub ringing : Program Ask Listing Report Status
 ringing = record {
   usage = codes "usage: sdhring run, check, drop NAME END, big NUMBER";

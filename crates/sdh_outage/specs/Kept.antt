@@ -58,7 +58,7 @@ pub record Heard : Type 0 where
   pub last : Delivered
   -- what was counted since the settle step began
   pub outage : Outage
-  -- and the changes since then
+  -- the changes since the settle step began
   pub trace : Traced
 
 -- by the far customer and whose bytes else came, the number of the settle step's first round, what came before that, and what came in

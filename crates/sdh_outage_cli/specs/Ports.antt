@@ -111,7 +111,7 @@ abbrev pub heard_text : List Provisioned → List ℕ → End → Heard → List
 heard_text circuits name end h =
     changes_text h.trace.changes (h.trace.count - 64) ++ told_line circuits (record { name = name; end = end; outage = h.outage })
 
--- those of a port, where there are its circuit, which is one of these, and its listeners
+-- the lines of a port, where its circuit is one of these and its listeners are there
 abbrev pub port_text : List Provisioned → Option Provisioned → Option ListenerPair → End → List ℕ
 port_text circuits (Some c) (Some both) end = heard_text circuits c.name end (listener_at both end)
 port_text circuits c both end = []

@@ -32,7 +32,7 @@ bytes_told k = record { first = first_byte k; second = second_byte k }
 abbrev pub node_told : ℕ → Node → NodeLine
 node_told id n = record { id = id; state = state_word n.state; west = bytes_told n.west_out.word; east = bytes_told n.east_out.word }
 
--- of the node at a position
+-- the line of the node at a position
 abbrev pub told_at : HeldRing → ℕ → NodeLine
 told_at r p = node_told (get_or r.ids p 0) (node_at r.nodes p)
 

@@ -34,7 +34,7 @@ pub data MeetsNoStrangerSince (circuits : List Provisioned) (clocks : PortId →
   bytes_come : (value : ℕ) (form : ChunkForm) (a : Au) → o ≡ delivering value (taken form a.payload (h3_of a.pointers))
       → HoldsSince circuits clocks first t (other_port port) a → MeetsNoStrangerSince circuits clocks first t port o
 
--- so does each port of a ring in the last round
+-- no port of a ring met a stranger in the last round, by what was sent from round `first` on
 abbrev pub NoneMeetsAStrangerSince : ℕ → (PortId → ℕ → Clock) → HeldRing → Type 0
 NoneMeetsAStrangerSince first clocks r = (index : ℕ) (c : Provisioned) → slice_get r.circuits.circuits index ≡ Some c → (e : End)
     → MeetsNoStrangerSince r.circuits.circuits clocks first (r.rounds - 1) (port_id index e) (outlet_at r (port_id index e))

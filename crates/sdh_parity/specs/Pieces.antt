@@ -9,7 +9,7 @@ use Rattle.sdh_parity.specs.Parity.{lane, bip_lanes}
 unfoldable pub scrambled_from : ℕ → ℕ → List ℕ → List ℕ
 scrambled_from clear i bytes = map_from (scrambled_byte clear) i bytes
 
--- how many bytes of a frame stay clear, and how many bytes of it have gone by
+-- how many bytes of a frame stay clear, and how many bytes of it have passed
 pub record Position : Type 0 where
   pub clear : ℕ
   pub at : ℕ

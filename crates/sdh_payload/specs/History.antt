@@ -11,7 +11,7 @@ use Rattle.sdh_payload.specs.declared.chunk.ChunkForm.TheVariants.{Plain, Short,
 use Rattle.sdh_payload.specs.declared.clock.Turn.{Turn}
 use Rattle.sdh_payload.specs.declared.clock.Turn.TheVariants.{Up, Down}
 
--- what happens at a port: a number of slips are ordered, or a round goes by
+-- what happens at a port: a number of slips are ordered, or a round runs
 pub data Happening : Type 0 where
   told : Turn → ℕ → Happening
   went : Happening

@@ -71,7 +71,7 @@ with_one_more Apply c = record c { applies = one_more c.applies }
 with_one_more Send c = record c { sends = one_more c.sends }
 with_one_more Receive c = record c { receives = one_more c.receives }
 
--- fibres of which some calls fail
+-- fibres with some calls that fail
 pub record HeldFailing : Type 0 where
   pub fibres : HeldFibres
   -- the calls that fail, by their kind and by their number among those of the kind, counted from 1

@@ -126,7 +126,7 @@ pub record ComesToRest (w : ℕ) (r : Reading) : Type 0 where
   pub kept : after_word last w ≡ last
   pub sound : IsSound (action_on last w) last.value
 
--- so does each word that a generator repeats, whatever the interpreter kept
+-- each word that a generator repeats brings an interpreter to rest, whatever the interpreter kept
 abbrev pub RepeatedWordsRest : Type 0
 RepeatedWordsRest = (a : Action) (v : ℕ) → IsSound a v → (r : Reading) → ComesToRest (word_of (lasting_form a) v) r
 

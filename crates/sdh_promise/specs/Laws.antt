@@ -23,7 +23,7 @@ GoOn limit ran [] = Unit {0}
 GoOn limit ran (r ∷ reports) =
     (ran ≤ r.round) × (1 ≤ r.round) × (r.round + 1 ≤ ran + limit) × (r.round % 128 ≡ 0) × GoOn limit (r.round + 1) reports
 
--- and so do those of reports that are owed, in a ring of two nodes or more
+-- the rounds of reports that are owed go on after those of earlier stretches, in a ring of two nodes or more
 abbrev pub ReportsGoOn : Type 0
 ReportsGoOn =
     (ring : Ring) (limit : ℕ) (earlier : List Stretch) (before : ℕ) (later : List (List Change)) (reports : List PortReport) (end : Status)

@@ -39,7 +39,7 @@ last_end threshold h zero = None
 last_end threshold h (suc t) = if ends_at threshold h (suc t) then Some (suc t) else last_end threshold h t
 
 -- the local request of the side in round t: the highest code that applies, where a side waits to restore as long as
--- fewer than `wait` moments have gone by since the round in which its last defect ended
+-- fewer than `wait` moments have passed since the round in which its last defect ended
 unfoldable pub local_request : ℕ → ℕ → SideHistory → ℕ → Code
 local_request threshold wait h t =
     highest_code (h.command t) (defect_at threshold h t)

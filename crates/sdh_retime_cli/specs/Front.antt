@@ -26,7 +26,7 @@ shown_with Normal bytes = bytes
 shown_with Up bytes = bytes
 shown_with Down bytes = bytes
 
--- those of all turns, in their order
+-- what is shown of all turns, in their order
 abbrev pub all_shown : List TurnTold → List ℕ
 all_shown [] = []
 all_shown (t ∷ earlier) = all_shown earlier ++ shown_with t.action t.given

@@ -1,4 +1,5 @@
--- What is kept of the rounds of a settle step by one who looks at a ring of add-drop multiplexers after each of them.
+-- What an observer keeps of the rounds of a settle step. It looks at a ring of add-drop multiplexers after each of
+-- them.
 use Rattle.std.specs.Prelude.{ℕ, Bool}
 use Rattle.sdh_node.specs.Stations.{adm}
 use Rattle.sdh_rounds.specs.Observed as observed

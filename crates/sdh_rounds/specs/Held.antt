@@ -77,14 +77,14 @@ outlet_at s r port =
     option_map_or (λ c. option_map_or (s.outlet port) (slice_get r.nodes (end_of c port.end).0) silent)
     (slice_get r.circuits.circuits port.circuit) silent
 
--- it is at position p of the ring
+-- the port is at position p of the ring
 pub record IsPlaceOf {N : Type 0} (r : HeldRing N) (port : PortId) (p : ℕ) : Type 0 where
   pub circuit : Provisioned
   pub circuit_is : slice_get r.circuits.circuits port.circuit ≡ Some circuit
   pub place : p ≡ (end_of circuit port.end).0
   pub inside : p < length r.nodes
 
--- it is at node n
+-- the port is at node n
 pub record IsNodeOf {N : Type 0} (r : HeldRing N) (port : PortId) (n : N) : Type 0 where
   pub at : ℕ
   pub place : IsPlaceOf r port at

@@ -79,7 +79,7 @@ pub record KnownSteps {N : Type 0} (s : Station N) : Type 0 where
   pub unsettled : (w left : World N) (limit : ℕ) → Knows w.fibres → Unsettles s w limit left
       → NeverSettles s (course s w) limit × (left ≡ run s limit w)
 
--- and its number of rounds can be computed
+-- where a step ends with its k-th round, or doesn't end, can be computed
 pub record StepsAreComputed {N : Type 0} (s : Station N) : Type 0 where
   pub settled : (w : World N) (limit k : ℕ) → (settles_in s w limit ≡ Some k) ↔ SettlesAt s (course s w) limit k
   pub unsettled : (w : World N) (limit : ℕ) → (settles_in s w limit ≡ None) ↔ NeverSettles s (course s w) limit

@@ -46,7 +46,7 @@ settles_in s w limit = find (ends_window s (course s w)) (range_with_len 0 (limi
 
 -- ---- what a step leaves, whatever arrives
 
--- it ended with a window
+-- a settle step ended with a window
 pub record Settles {N : Type 0} (s : Station N) (w : World N) (limit : ℕ) (left : World N) : Type 0 where
   pub rounds : List (List Arrival)
   pub arrive : ArriveIn s rounds w

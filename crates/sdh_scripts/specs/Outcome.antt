@@ -50,7 +50,7 @@ pub record HasRefused {A L T E : Type 0} (program : Program A L T E) (bytes : Li
   pub none : HasNoPlan bytes status
   pub says : Says (program.endings.line how) text f left
 
--- or what is asked comes to this with the plan
+-- the bytes are refused, or what is asked comes to this with their plan
 abbrev pub OfBytes : {A L T E : Type 0} → Program A L T E → A → List ℕ → Fibres → E → List ℕ → Fibres → Type 0
 OfBytes program ask bytes f how text left =
     HasRefused program bytes f how text left ⊎ ((plan : Planned) × TellsPlan bytes plan × OfPlan program ask plan f how text left)
@@ -87,7 +87,7 @@ abbrev pub reads_without : Option Planned → Bool
 reads_without None = true
 reads_without (Some plan) = false
 
--- it is read for what is asked, where these are the plans that a program has of its own
+-- the source is read for what is asked, where these are the plans that a program has of its own
 abbrev pub reads_by : {A : Type 0} → (A → Option Planned) → Option A → Bool
 reads_by own_plan None = false
 reads_by own_plan (Some ask) = reads_without (own_plan ask)

@@ -15,7 +15,7 @@ of_ports tells index (c ∷ cs) = tells index c A ∷ tells index c B ∷ of_por
 abbrev pub port_line_at : (ℕ → Provisioned → End → Outlet) → ℕ → Provisioned → End → PortLine
 port_line_at gives index c e = record { name = c.name; end = e; outlet = gives index c e }
 
--- those of these circuits
+-- the lines of the ports of these circuits, which are counted from a number
 abbrev pub lines_from : (ℕ → Provisioned → End → Outlet) → ℕ → List Provisioned → List PortLine
 lines_from gives = of_ports (port_line_at gives)
 

@@ -25,7 +25,7 @@ pub record Ended {N T : Type 0} (walk : Walk N T) (limit number : ℕ) (w : Worl
   pub left_is : left ≡ run_with walk.station behind mid
   pub told_is : told ≡ walk.tells number (course_with walk.station (settles.rounds ++ behind) w) (length settles.rounds)
 
--- it ended, and a fault broke one of the rounds off that are run after it
+-- a settle step ended, and a fault broke off one of the rounds after it
 pub record BreaksBehind {N T : Type 0} (walk : Walk N T) (limit : ℕ) (w : World N) (left : Fibres) : Type 0 where
   pub mid : World N
   pub settles : Settles walk.station w limit mid
@@ -85,7 +85,7 @@ ran_unsettled walk limit number w =
       frames = frames_in walk.station (arrivals_in walk.station limit w) w;
     }
 
--- it ends in k rounds, those after it are run, and the script goes on
+-- a settle step ends in k rounds, those after it are run, and the script goes on
 abbrev pub ran_settled : {N T : Type 0} → Walk N T → ℕ → ℕ → World N → Ran N T → Ran N T
 ran_settled walk k number w later = record later {
   reports = walk.tells number (course walk.station w) k ∷ later.reports;
@@ -100,7 +100,7 @@ script walk limit before (step.Settle ∷ later) w =
     (settles_in walk.station w limit) (ran_unsettled walk limit (before + 1) w)
 script walk limit before (s ∷ later) w = script walk limit before later (walk.does s w)
 
--- so it ended
+-- the script ended so
 pub record IsRan {N T : Type 0} (r : Ran N T) (reports : List T) (end : Status) (left : World N) : Type 0 where
   pub reports_are : reports ≡ r.reports
   pub end_is : end ≡ r.ending
@@ -122,7 +122,7 @@ pub record IsCutShort {N T : Type 0} (walk : Walk N T) (r : Ran N T) (n before :
   pub frames : Appends w.fibres (take count r.frames) left.fibres
   pub reports_are : reports ≡ reports_within walk n (before + count) r.reports
 
--- it ended so, or a fault broke it off
+-- the script ended as it does where arrivals are known, or a fault broke it off
 abbrev pub ComesTo : {N T : Type 0} → Walk N T → ℕ → ℕ → List Step → World N → List T → Status → World N → Type 0
 ComesTo walk limit before steps w reports end left =
     IsRan (script walk limit before steps w) reports end left

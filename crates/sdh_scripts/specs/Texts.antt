@@ -57,7 +57,7 @@ pub record FailsAt {N T : Type 0} (walk : Walk N T) (limit : ℕ) (text_of begun
 
 -- ---- a script
 
--- it ended with the step that comes after these, and this is to be written of that
+-- the script ended with the step that comes after these, and this is to be written of that step
 pub record Stopped {N T : Type 0} (walk : Walk N T) (limit : ℕ) (begun_of : T → List ℕ) (steps : List Step) (w : World N)
     (reports : List T) (tail : List ℕ) (end : Status) (left : World N) : Type 0 where
   pub gone : List Step

@@ -29,7 +29,7 @@ abbrev pub request_on : Needs → Side → Code
 request_on x West = x.west
 request_on x East = x.east
 
--- that side fails
+-- a side fails
 abbrev pub fails_on : Needs → Side → Bool
 fails_on x West = x.west_fails
 fails_on x East = x.east_fails

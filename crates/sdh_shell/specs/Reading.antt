@@ -40,7 +40,7 @@ abbrev pub HasPlan : Option (List ℕ) → Type 0
 HasPlan None = ⊥
 HasPlan (Some bytes) = (plan : Planned) × TellsPlan bytes plan
 
--- such an answer has its reason in the bytes; a lack of memory needs none
+-- an answer without a plan has its reason in the bytes; a lack of memory needs none
 abbrev pub IsWhyNone : List ℕ → NoPlan → Type 0
 IsWhyNone bytes none.Memory = Unit {0}
 IsWhyNone bytes (none.Refused how) = HasNoPlan bytes how

@@ -20,7 +20,7 @@ pub record AreFirstToShare (circuits : List Provisioned) (i j : ℕ) : Type 0 wh
   pub least_second : (k l : ℕ) → k < l → l < j → Share circuits k l → ⊥
   pub least_first : (k : ℕ) → k < i → Share circuits k j → ⊥
 
--- ---- the same, computed
+-- ---- circuits that share a slot, computed
 
 unfoldable pub slot_at : List Provisioned → ℕ → ℕ
 slot_at circuits i = option_map_or (λ c. c.slot.0) (slice_get circuits i) 0

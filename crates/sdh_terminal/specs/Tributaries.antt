@@ -29,7 +29,7 @@ pub record Tributary : Type 0 where
   -- the side on which its circuit leaves the node, and its working slot there
   pub side : Side
   pub slot : Slot
-  -- the port's stream, of which bytes are taken in each round
+  -- the port's stream; bytes of it are taken in each round
   pub feed : Fed
   -- what it delivered in the last round
   pub outlet : Outlet
@@ -52,7 +52,7 @@ tributaries_of at i c =
     (if c.from.0 == at.0 then new_tributary i A East c.slot c.a ∷ [] else [])
     ++ (if c.to.0 == at.0 then new_tributary i B West c.slot c.b ∷ [] else [])
 
--- those of circuits that are numbered from i on
+-- the ports at a position, of circuits that are numbered from i on
 abbrev pub tributaries_from : Pos → ℕ → List Provisioned → List Tributary
 tributaries_from at i [] = []
 tributaries_from at i (c ∷ cs) = tributaries_of at i c ++ tributaries_from at (i + 1) cs

@@ -30,7 +30,7 @@ watching = record {
   MaySettle = MaySettle;
 }
 
--- the number of a status of which this is so
+-- the number is that of a status for which this is so
 abbrev pub IsNumberOf : ℕ → (Status → Type 0) → Type 0
 IsNumberOf number Is = (how : Status) × (number ≡ number_of how) × Is how
 

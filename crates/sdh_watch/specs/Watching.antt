@@ -61,7 +61,7 @@ port_watched r heard index c e = (let port : PortId = record { circuit = index; 
           (path_report_of (customer_at c (other_end e)).trace (heard port));
     })
 
--- those of these circuits, which are counted from `index`
+-- the watches on the ports of these circuits, which are counted from `index`
 abbrev pub ports_watched : HeldRing → (PortId → List Given) → ℕ → List Provisioned → List WatchLine
 ports_watched r heard = of_ports (port_watched r heard)
 
@@ -73,6 +73,6 @@ watched number mid left heard = record {
   watches = ports_watched left heard 0 left.circuits.circuits;
 }
 
--- of settle step `number`, which ended with the k-th round of a course, and the 128 rounds after it
+-- what is reported of settle step `number`, which ended with the k-th round of a course, and the 128 rounds after it
 abbrev pub watched_in : ℕ → (ℕ → World) → ℕ → Watched
 watched_in number at k = watched number (at k).ring (at (k + 128)).ring (heard_in 128 (λ j. at (k + j)))

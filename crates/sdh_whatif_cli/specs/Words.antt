@@ -55,7 +55,7 @@ has_kind kinds kind.Nodes = kinds.nodes
 has_kind kinds kind.Manual = kinds.manual
 has_kind kinds kind.Forced = kinds.forced
 
--- and this one
+-- these kinds with this one named too
 abbrev pub with_kind : Kinds → Kind → Kinds
 with_kind kinds kind.Degraded = record kinds { degraded = true }
 with_kind kinds kind.Fibres = record kinds { fibres = true }
@@ -125,7 +125,7 @@ read_part r word =
     option_map (λ k. record { ask = with_part r.ask k (2 ^ 32 - 1); awaited = awaited.Parts; is_parted = r.is_parted })
     (numeral_in 1 (2 ^ 32 - 1) word)
 
--- of how many: no fewer than its own number
+-- the number of parts that the cases are parted into: no fewer than the number of the part
 abbrev pub read_parts : AskedSoFar → List ℕ → Option AskedSoFar
 read_parts r word =
     option_map (λ k. record { ask = with_part r.ask r.ask.part k; awaited = awaited.Any; is_parted = r.is_parted })

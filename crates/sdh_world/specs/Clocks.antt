@@ -24,7 +24,7 @@ first_clock circuits port = new_clock (offset_of circuits port)
 abbrev pub port_in : HeldRing → PortId → Option Tributary
 port_in r port = option_and_then (λ n. port_of port n.ports) (slice_get r.nodes (place_of_port r port))
 
--- it is there
+-- the port is in the ring
 abbrev pub HasPortIn : HeldRing → PortId → Type 0
 HasPortIn r port = IsSome (port_in r port)
 

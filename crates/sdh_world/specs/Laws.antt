@@ -54,17 +54,17 @@ IsChangeOf w (Hold p turns) = turns ≤ 100
 IsChangeOf w (Slip port turn count) = waiting_at w.ring port + count ≤ 16
 IsChangeOf w (Now t) = Unit {0}
 
--- so is each of these, one after the other
+-- each of these changes may happen, one after the other
 abbrev pub AreChangesOf : World → List Change → Type 0
 AreChangesOf w [] = Unit {0}
 AreChangesOf w (c ∷ cs) = IsChangeOf w c × AreChangesOf (changed c w) cs
 
--- and each of the stretches
+-- the changes of each of these stretches may happen, one stretch after the other
 abbrev pub MayHappen : World → List Stretch → Type 0
 MayHappen w [] = Unit {0}
 MayHappen w (s ∷ ss) = AreChangesOf w s.changes × MayHappen (after_stretch s w) ss
 
--- such changes leave prepared fibres prepared
+-- changes that may happen leave prepared fibres prepared
 abbrev pub ChangesKeepPrepared : Type 0
 ChangesKeepPrepared =
     (n : ℕ) (w : World) (c : Change) → IsChangeOf w c → IsPrepared w.ring.settings.rate n w.fibres

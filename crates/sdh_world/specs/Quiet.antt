@@ -32,7 +32,7 @@ settles_in = quiet.settles_in adm
 
 -- ---- what a step leaves, whatever arrives
 
--- it ended with a window
+-- a settle step ended with a window
 abbrev pub Settles : World → ℕ → World → Type 0
 Settles = quiet.Settles adm
 

@@ -93,6 +93,6 @@ SettledRingsRestore =
 
 -- ---- where circuits come from
 
--- those of every ring are circuits of its size and rate
+-- the circuits of every ring are circuits of its size and rate
 abbrev pub RingsHaveCircuits : Type 0
 RingsHaveCircuits = (r : HeldRing) → IsRing r → HasCircuits (layout_in r)

@@ -94,7 +94,7 @@ HeldBesidePassing Quiet w (s ∷ ss) =
     (EachMay HoldsAside w s.changes ⊎ (Quiet × EachMay HoldsNoPass w s.changes))
     × HeldBesidePassing (EndsWindow (course (all_changed s.changes w)) s.rounds) (after_stretch s w) ss
 
--- ---- the same, by what happened
+-- ---- where requests follow from what happened
 
 -- the requests of all spans in the last round of these stretches, from a new ring of n on, with this threshold and this wait
 abbrev pub last_requests : ℕ → ℕ → ℕ → List Stretch → List ℕ
