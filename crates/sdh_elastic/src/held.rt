@@ -8,7 +8,7 @@ use sdh_payload::Cells;
 use std::alloc::{AllocError, Global};
 use std::marker::Model;
 
-/// How many chunks are kept: two of which bytes are held, and the one whose room the next one takes.
+/// The number of chunks that are kept: two whose bytes are held, and the one whose room the next chunk takes.
 const KEPT: usize = 3;
 
 /// The bytes held, the first to be given first. They lie in the last chunks that were taken in, so that bytes come and go in runs.
@@ -57,7 +57,7 @@ fn chunk_at(chunks: &HeapCircularBuffer<Cells>, index: usize) -> &[u8]
     chunks.get(index).unwrap().as_slice()
 }
 
-// Adds up to `left` bytes of a chunk after its first `skip`. It answers how many bytes of later chunks are still to be
+// Adds up to `left` bytes of a chunk after its first `skip`. Returns how many bytes of later chunks are still to be
 // passed over, and to be given.
 fn give_part(chunk: &[u8], skip: usize, left: usize, out: &mut Cells) -> (usize, usize)
     requires few { length out.old + left ≤ 2352 }

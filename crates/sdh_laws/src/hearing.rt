@@ -31,7 +31,7 @@ pub fn sides_bring()
     ensures { SidesBring }
 {}
 
-/// Behind a fibre that isn't cut a side reads each AU-4 as it was sent, and after one that is, ones.
+/// A side reads each AU-4 as it was sent where its fibre isn't cut, and ones where it is.
 #[tactic(auto, using(crate::proofs::hearing::Rounds::sides_read))]
 pub fn sides_read()
     ensures { SidesRead }

@@ -35,8 +35,8 @@ pub fn nodes_aside_may_be_held()
     ensures { NodesAsideMayBeHeld }
 {}
 
-/// Behind a quiet window the controllers of switched nodes may be held as well: of all nodes but those that pass
-/// traffic through.
+/// After a quiet window the controllers of switched nodes may be held as well: of all nodes but those that pass traffic
+/// through.
 pub fn nodes_that_do_not_pass_may_be_held()
     ensures { NodesThatDoNotPassMayBeHeld }
 {

@@ -135,8 +135,8 @@ impl CrossConnect {
         }
     }
 
-    /// Both sides take what arrived, and the interpreters read. Whether the requests, the words heard and what the
-    /// interpreters keep are as before.
+    /// Lets both sides take what arrived, and the interpreters read. Returns whether the requests, the words heard and
+    /// what the interpreters keep are as before.
     #[tactic(auto, unfolding(crate::specs::Crossing::after_intakes))]
     pub fn take(&mut self, threshold: u16, now: Moment) -> bool
         requires west { self.old.west.local.moment ≤ now.0 }

@@ -10,9 +10,9 @@ use sdh_ringmap::Pos;
 pub enum Shape {
     Idle,
     PassThrough,
-    /// With the far end, if there is one.
+    /// The west side is switched. The position is that of the far end, if there is one.
     SwitchWest(Option<Pos>),
-    /// With the far end, if there is one.
+    /// The east side is switched. The position is that of the far end, if there is one.
     SwitchEast(Option<Pos>),
     Isolated,
 }

@@ -15,7 +15,7 @@ pub enum Reason {
     Slot = 4,
     /// An end isn't in the ring.
     End = 5,
-    /// Both ends are the same node.
+    /// Both ends are one node.
     SameEnds = 6,
     /// An offset isn't 0 to 782.
     Offset = 7,

@@ -29,7 +29,7 @@ pub struct NodeLine {
 }
 
 impl StateWord {
-    /// Its letters.
+    /// Returns the letters of a state.
     pub fn letters(self) -> &'static [u8]
         ensures { result.now ≡ state_text self }
     {

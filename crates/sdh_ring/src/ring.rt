@@ -300,7 +300,8 @@ impl Ring {
         sdh_rounds::settle(self, plant, limit, observer)
     }
 
-    /// The same, with one who records each round, and may stop the step after it.
+    /// Runs rounds as `settle` does, with a recorder that looks at the ring after each round and may stop the step
+    /// then. Returns how the step ended, and an error only where the recorder stopped it.
     pub fn settle_recording<P: Plant, L, O: Recorder<Ring, L>>(
         &mut self,
         plant: &mut P,

@@ -26,7 +26,7 @@ pub trait Station: Drop {
     /// The rate of its frames.
     ghost rate: { Self → Rate };
 
-    /// It may run a round at a moment.
+    /// A node may run a round at a moment.
     ghost MayRun: { ℕ → Self → Type 0 };
 
     /// Returns a new node at a position of a ring with these circuits. All its memory is taken here.

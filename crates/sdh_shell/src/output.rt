@@ -18,7 +18,7 @@ pub trait Output {
     /// The count rises by one with each piece that wasn't written whole, and with nothing else.
     ghost exact: { Bool };
 
-    /// It takes at least this number of bytes more.
+    /// The output takes at least this number of bytes more.
     ghost Takes: { ℕ → Self → Type 0 };
 
     /// Appends a piece whole; or, where writing fails, a front of it.

@@ -86,7 +86,8 @@ impl PathCross {
         }
     }
 
-    /// Both sides take what arrived, and the interpreters read. Whether they keep what they kept.
+    /// Lets both sides take what arrived, and the interpreters read. Returns whether the interpreters keep what they
+    /// kept.
     #[tactic(auto, unfolding(crate::specs::Node::after_taken))]
     pub fn take(&mut self, threshold: u16) -> bool
         ensures cross { self.new ≡ after_taken threshold self.old }

@@ -123,7 +123,7 @@ fn content_of<'a, 'b>(
     }
 }
 
-// Both frames are put together, get their overhead and are scrambled, row by row.
+// Puts both frames together, gives them their overhead and scrambles them, row by row.
 fn send_rows(
     west: &Content,
     east: &Content,
@@ -190,8 +190,8 @@ fn send_rows(
     }
 }
 
-/// Both sides send their next frames. Whether all generators of the west side, and all of the east side, are in the states in which
-/// they were.
+/// Sends the next frames of both sides. Returns whether all generators of the west side, and all of the east side, are
+/// in the states in which they were.
 pub fn send_both<X: Matrix>(
     west: &mut Sender,
     east: &mut Sender,

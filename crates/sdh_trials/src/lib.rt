@@ -29,7 +29,7 @@ fn kind_of(kind: u8) -> PlantCall {
     }
 }
 
-// As much as there is room for.
+// Copies as much as there is room for.
 fn copy_front(from: &[u8], to: &mut [u8]) {
     let count = from.len().min(to.len());
     to[..count].copy_from_slice(&from[..count]);

@@ -24,7 +24,7 @@ pub enum Kind {
     Fibres,
     /// A span is cut both ways.
     Spans,
-    /// Both spans of a node are.
+    /// Both spans of a node are cut both ways.
     Nodes,
     /// A side has a manual switch.
     Manual,
@@ -72,9 +72,9 @@ pub struct Ask {
 pub enum Awaited {
     /// A kind, a form, or `part`.
     Any,
-    /// Which part.
+    /// The number of the part.
     Part,
-    /// Of how many.
+    /// The number of parts.
     Parts,
 }
 

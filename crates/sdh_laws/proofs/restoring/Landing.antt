@@ -77,7 +77,7 @@ module _ (w v : ℕ) (normal : is_normal w ≡ true) (carries : value_in w ≡ v
   keeps_for zero r at = at
   keeps_for (suc k) r at = keeps_for k (after_word r w) (keeps r at)
 
-  -- the answer there, and the answer that led there
+  -- in Norm at the value of the word the action is Normal
   pub answers_there : (r : Reading) → IsAt r → action_on r w ≡ action.Normal
   answers_there r at = same_action w v normal carries r at.0 at.1
 

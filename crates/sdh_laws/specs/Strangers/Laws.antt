@@ -100,7 +100,7 @@ HeldBesidePassing Quiet w (s ∷ ss) =
 abbrev pub last_requests : ℕ → ℕ → ℕ → List Stretch → List ℕ
 last_requests threshold wait n ss = span_requests n (asked_in threshold wait n ss (rounds_in ss - 1))
 
--- Behind these stretches a change holds no controller, or that of a node that doesn't pass traffic through: in a new
+-- After these stretches a change holds no controller, or that of a node that doesn't pass traffic through: in a new
 -- ring none does, and in a quiet one the requests of the last round decide it.
 abbrev pub HoldsNonePassing : ℕ → ℕ → ℕ → List Stretch → Change → Type 0
 HoldsNonePassing threshold wait n earlier (Fibre p d condition) = Unit {0}
