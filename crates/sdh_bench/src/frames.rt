@@ -14,7 +14,7 @@ fn rate_of(n: usize) -> Rate
     if n == 4 { Rate::Four } else { Rate::Sixteen }
 }
 
-// A frame of these bytes.
+// Returns a frame of these bytes.
 fn frame_of(alloc: Global, rate: Rate, bytes: &[u8]) -> Result<FrameBuf, AllocError>
     requires { length bytes.now ≡ 2430 * n_of rate }
     ensures { IfOk result (λ frame. frame.rate ≡ rate) }
@@ -48,7 +48,7 @@ pub extern "C" fn sdh_bench_write_sections(
     true
 }
 
-// What a section found, as a number.
+// Returns what a section found, as a number.
 fn number_of(received: Received) -> u64 {
     match received {
         Received::Framed { k1, k2, b1, b2 } => {

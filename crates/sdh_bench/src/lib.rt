@@ -26,7 +26,7 @@ pub extern "C" fn sdh_bench_scramble(n: usize, bytes: &mut [u8])
     sdh_parity::scramble(Rate9(9 * n), bytes);
 }
 
-/// BIP-8 of these bytes.
+/// Returns BIP-8 of these bytes.
 #[unsafe(no_mangle)]
 pub extern "C" fn sdh_bench_bip8(bytes: &[u8]) -> u8
     ensures { result ≡ parity_of bytes.now }

@@ -13,7 +13,7 @@ fn part(bytes: &[u8], from: usize, count: usize) -> &[u8]
     &bytes[from..from + count]
 }
 
-// The chunk of a turn: four of them are the input, the first with 2346 bytes and the others with 2349.
+// Returns the chunk of a turn. Four of them are the input, the first with 2346 bytes and the others with 2349.
 fn chunk_in(input: &[u8], turn: u32) -> &[u8]
     requires { length input.now ≡ 9393 }
     ensures least { 2346 ≤ length result.now }

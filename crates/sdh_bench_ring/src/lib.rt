@@ -23,7 +23,7 @@ fn rate_of(n: usize) -> Rate
     if n == 4 { Rate::Four } else { Rate::Sixteen }
 }
 
-// The name of a circuit: four letters.
+// Returns the name of a circuit: four letters.
 fn name_at(names: &str, number: usize) -> &str
     requires { number < 128 }
 {
@@ -170,7 +170,7 @@ fn is_chunk(ring: &Ring, port: PortId) -> bool
     }
 }
 
-// How many ports delivered a chunk in the last round.
+// Returns how many ports delivered a chunk in the last round.
 fn chunks_in(ring: &Ring) -> u32
     ensures { result ≤ 256 }
 {

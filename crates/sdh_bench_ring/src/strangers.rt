@@ -20,7 +20,7 @@ const PORT_SIZE: usize = 2354;
 /// The most ports whose state of a round is written.
 const PORTS: usize = 32;
 
-// One byte, and 0 after the last.
+// Returns one byte, and 0 after the last.
 fn byte_at(bytes: &[u8], at: usize) -> u8 {
     match bytes.get(at) {
         Some(byte) => *byte,
@@ -28,7 +28,7 @@ fn byte_at(bytes: &[u8], at: usize) -> u8 {
     }
 }
 
-// The letter of a port, and none after the last.
+// Returns the letter of a port, and none after the last.
 fn letter_at(letters: &str, port: usize) -> &str
     requires { port ≤ 1000 }
 {
@@ -38,8 +38,8 @@ fn letter_at(letters: &str, port: usize) -> &str
     }
 }
 
-// The circuits that are asked for, in three bytes each: the nodes from and to which each leads eastwards, and its slot. Its text is
-// one letter at each end, and its name the first of them.
+// Returns the circuits that are asked for, in three bytes each: the nodes from and to which each leads eastwards, and
+// its slot. Its text is one letter at each end, and its name the first of them.
 fn asked_for(
     alloc: Global,
     map: &RingMap,
@@ -102,7 +102,7 @@ struct Event {
     count: u8,
 }
 
-// The event of this number: four bytes each.
+// Returns the event of this number: four bytes each.
 fn event_at(events: &[u8], number: usize) -> Event
     requires { number ≤ 100000 }
 {
@@ -138,7 +138,7 @@ fn bring<P: Plant>(ring: &Ring, plant: &mut P, event: Event)
     }
 }
 
-// A side of a node is given a command.
+// Gives a side of a node a command.
 fn order(ring: &mut Ring, event: Event)
     ensures prepared { (n : ℕ) (f : _) → IsPrepared ring.old.settings.rate n f → IsPrepared ring.new.settings.rate n f }
     ensures ids { ring.new.ids ≡ ring.old.ids }
@@ -155,7 +155,7 @@ fn order(ring: &mut Ring, event: Event)
     }
 }
 
-// More slips wait at a port of a circuit.
+// Adds pending slips at a port of a circuit.
 fn slip(ring: &mut Ring, event: Event)
     ensures prepared { (n : ℕ) (f : _) → IsPrepared ring.old.settings.rate n f → IsPrepared ring.new.settings.rate n f }
     ensures ids { ring.new.ids ≡ ring.old.ids }
@@ -192,7 +192,7 @@ fn hold(ring: &mut Ring, event: Event)
     }
 }
 
-// The moment goes on.
+// Moves the present moment on, and returns it.
 fn tell(ring: &mut Ring, moment: u64, event: Event) -> u64
     requires moment { ring.old.moment ≡ moment }
     ensures moment { ring.new.moment ≡ result }
@@ -208,7 +208,7 @@ fn tell(ring: &mut Ring, moment: u64, event: Event) -> u64
     now
 }
 
-// What happens between rounds; the moment after it.
+// Does what happens between rounds, and returns the moment after it.
 fn happens<P: Plant>(ring: &mut Ring, plant: &mut P, moment: u64, event: Event) -> u64
     requires prepared { IsPrepared ring.old.settings.rate (length ring.old.ids) (P.fibres plant.old) }
     requires whole { ring.old.broken ≡ false }
@@ -264,7 +264,7 @@ fn write_ports(ring: &Ring, place: &mut [u8]) {
     }
 }
 
-// All that happens, and what the ports deliver in each round; how many rounds ran.
+// Does all that happens, and writes what the ports deliver in each round. Returns how many rounds ran.
 fn episode<P: Plant>(
     ring: &mut Ring,
     plant: &mut P,

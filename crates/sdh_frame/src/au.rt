@@ -8,7 +8,7 @@ ghost use Rattle.sdh_frame.specs.Aus.{payload_of, with_payload, with_pointers, w
 use crate::places::byte_of;
 use crate::{FrameBuf, Rate};
 
-// The payload of an AU-4 of another frame becomes that of one of this frame, in row r.
+// Copies row r of the payload of an AU-4 of another frame to an AU-4 of this frame.
 #[inline(always)]
 fn copy_row<const N: usize>(bytes: &mut [u8], to: usize, source: &[u8], from: usize, r: usize)
     requires rate { (N ≡ 4) ⊎ (N ≡ 16) }
@@ -27,7 +27,7 @@ fn copy_row<const N: usize>(bytes: &mut [u8], to: usize, source: &[u8], from: us
     }
 }
 
-// The payload of an AU-4 becomes ones, in row r.
+// Sets row r of the payload of an AU-4 to ones.
 #[inline(always)]
 fn fill_row<const N: usize>(bytes: &mut [u8], au: usize, r: usize)
     requires rate { (N ≡ 4) ⊎ (N ≡ 16) }
@@ -43,7 +43,7 @@ fn fill_row<const N: usize>(bytes: &mut [u8], au: usize, r: usize)
     }
 }
 
-// In all rows. In the callers' code N is a constant.
+// Copies all rows of the payload of an AU-4 of another frame. In the callers' code N is a constant.
 #[inline(always)]
 fn copy_rows<const N: usize>(bytes: &mut [u8], to: usize, source: &[u8], from: usize)
     requires rate { (N ≡ 4) ⊎ (N ≡ 16) }
@@ -73,7 +73,7 @@ fn fill_rows<const N: usize>(bytes: &mut [u8], au: usize)
     }
 }
 
-// The pointer bytes of an AU-4.
+// Sets the pointer bytes of an AU-4.
 #[inline(always)]
 fn put_pointer<const N: usize>(bytes: &mut [u8], au: usize, pointers: &[u8])
     requires rate { (N ≡ 4) ⊎ (N ≡ 16) }

@@ -95,8 +95,8 @@ impl<'a> Choice<'a> {
         }
     }
 
-    // A row of the AU-4s, counted from 0, becomes that of their sources; all else stays. It is code of its own for each rate, in
-    // which N is a constant.
+    // Sets a row of the AU-4s, counted from 0, to that of their sources; all else stays. Each rate has code of its own,
+    // in which N is a constant.
     pub(crate) fn choose_row(&self, bytes: &mut [u8], r: usize, inputs: &Inputs<'_>)
         requires row { r < 9 }
         requires size { length bytes.old ≡ size_of self.now.rate }

@@ -48,7 +48,7 @@ impl<'a> Payloads<'a> {
         Payloads { pieces }
     }
 
-    /// The payload for the AU-4 of this number, 1 to 16, becomes this one.
+    /// Sets the payload for the AU-4 of this number, 1 to 16.
     pub fn put(&mut self, k: u16, payload: &'a [u8])
         requires first { 1 ≤ k }
         requires last { k ≤ 16 }

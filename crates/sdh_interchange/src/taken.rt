@@ -88,7 +88,7 @@ impl Taken {
         })
     }
 
-    /// A frame comes, of which nothing has been taken.
+    /// Begins with a frame. Nothing of it has been taken.
     pub fn begin(&mut self, frame: &FrameBuf)
         ensures { IsOf frame.now self.new }
     {
@@ -96,7 +96,7 @@ impl Taken {
         self.here = [false; 16];
     }
 
-    // The payloads of half of the AU-4s, those after the first `base`.
+    // Takes the payloads of half of the AU-4s, those after the first `base`.
     fn take(&mut self, frame: &FrameBuf, base: usize)
         requires held { IsOf frame.now self.old }
         requires base { (base ≡ 0) ⊎ (base ≡ self.old.half) }

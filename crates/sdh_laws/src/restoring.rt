@@ -47,7 +47,7 @@ pub fn unsettled_rings_are_restored()
     sdh_settling::rings_settle();
 }
 
-/// After any stretches of changes and rounds, the last of which has at least 12n + 102 rounds.
+/// Traffic is restored after any stretches of changes and rounds, where the last one has at least 12n + 102 rounds.
 pub fn stretches_are_restored_soon()
     ensures { StretchesAreRestoredSoon }
 {

@@ -19,7 +19,7 @@ pub fn rounds_keep_strangers_out()
     ensures { RoundsKeepStrangersOut }
 {}
 
-/// A ring that is vouched for stays so over every settle step, in no round of which a port meets a stranger.
+/// A ring that is vouched for stays so over every settle step. In no round of the step a port meets a stranger.
 pub fn steps_keep_strangers_out()
     ensures { StepsKeepStrangersOut }
 {}

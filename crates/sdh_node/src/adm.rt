@@ -185,14 +185,14 @@ impl Adm {
         self.cross.receiver(side).request()
     }
 
-    /// The identifier of the far end, where the node switches one side and has one.
+    /// Returns the identifier of the far end, where the node switches one side and has one.
     pub fn far_id(&self) -> Option<u8>
         ensures { result ≡ option_map (λ (p : Pos). get_or self.now.ids p.0 0) (far_of self.now.state) }
     {
         self.cross.far_id()
     }
 
-    /// The word that is heard on a side since the last round, if one is.
+    /// Returns the word that is heard on a side since the last round, if one is.
     pub fn heard(&self, side: Side) -> Option<K>
         ensures word { result ≡ hears (receiving_on side self.now).brought }
         ensures spellable { IfSome result IsSpellable }
@@ -256,8 +256,8 @@ impl Adm {
     }
 }
 
-// What decides whether a round is calm: whether it may be, and of each of its calls whether what it compares is the
-// same.
+// What decides whether a round is calm: whether it may be, and for each of its calls whether what it compares is as
+// before.
 #[derive(Drop)]
 struct Signs {
     counts: bool,

@@ -59,7 +59,7 @@ impl Model for CrossConnect {
     } };
 }
 
-// The far end of a state, where it has one.
+// Returns the far end of a state, where it has one.
 fn far_of(state: &NodeState) -> Option<Pos>
     ensures { result ≡ far_of state.now }
 {
@@ -154,7 +154,7 @@ impl CrossConnect {
         west && east
     }
 
-    // The state of this round by the rules, and the words. Whether the state is as before.
+    // Finds the state of this round by the rules. Returns the words to be sent, and whether the state is as before.
     #[tactic(auto, unfolding(crate::specs::Crossing::after_decision, crate::specs::Crossing::scene_of))]
     fn step(&mut self) -> (Sent, bool)
         ensures cross { self.new ≡ after_decision false self.old }
@@ -206,7 +206,7 @@ impl CrossConnect {
         &self.state
     }
 
-    /// The identifier of the far end, where there is one.
+    /// Returns the identifier of the far end, where there is one.
     pub fn far_id(&self) -> Option<u8>
         ensures { result ≡ option_map (λ (p : Pos). get_or self.now.ids p.0 0) (far_of self.now.state) }
     {

@@ -17,8 +17,8 @@ use sdh_frame::FrameBuf;
 use sdh_terms::Rate;
 use std::marker::Model;
 
-/// The parities of the last frame in one direction of a section, or none, and the state of a frame of which some rows
-/// were written or read.
+/// The parities of the last frame in one direction of a section, or none, and the state of a frame with some rows
+/// written or read.
 #[derive(Debug, Drop)]
 pub struct Section {
     rate: Rate,
@@ -79,7 +79,7 @@ impl Section {
         }
     }
 
-    /// The section has no parities then, and no frame is under way.
+    /// Forgets the parities. No frame is under way then.
     pub fn forget(&mut self)
         ensures { self.new ≡ holding self.old.rate None }
     {
@@ -89,7 +89,7 @@ impl Section {
         self.rows = Rows::new(self.rate.n());
     }
 
-    // No frame is under way then.
+    // Begins a frame: none is under way.
     fn begin(&mut self)
         ensures { self.new ≡ record self.old { under_way = None } }
     {

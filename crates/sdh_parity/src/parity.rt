@@ -16,7 +16,7 @@ pub fn bip8(bytes: &[u8]) -> u8
     parity
 }
 
-/// BIP-24N of a whole frame of the rate N, 4 or 16, without columns 1 to 9N of rows 1 to 3, into 3N bytes.
+/// Puts BIP-24N of a whole frame of the rate N, 4 or 16, without columns 1 to 9N of rows 1 to 3, into 3N bytes.
 pub fn bip_section(n: usize, bytes: &[u8], out: &mut [u8])
     requires rate { (n ≡ 4) ⊎ (n ≡ 16) }
     requires frame { length bytes.now ≡ 2430 * n }

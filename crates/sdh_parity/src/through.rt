@@ -170,7 +170,8 @@ fn add_key(bytes: &mut [u8], len: usize, k: usize)
     }
 }
 
-// Part of a row of 48 bytes.
+// Adds the sequence to part of a row of 48 bytes, and the part's bytes to the lanes: those after it where `clear_after`
+// holds, and else those before.
 #[inline(always)]
 fn pass_part(bytes: &mut [u8], len: usize, k: usize, lanes: &mut [u8], clear_after: bool)
     requires bytes { length bytes.old ≡ len }

@@ -24,7 +24,7 @@ pub struct Tally {
     pub vcs: u32,
     /// In how many bits their B3 differ from the parities of the VC-4s before them.
     pub b3: u32,
-    /// How many of them aren't labelled as equipped.
+    /// The number of VC-4s that aren't labelled as equipped.
     pub label: u32,
     /// The parity of the last of them.
     pub due: u8,

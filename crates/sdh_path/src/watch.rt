@@ -36,7 +36,7 @@ pub struct PathReport {
     pub vcs: u32,
     /// In how many bits B3 differs from the parity of the VC-4 before.
     pub b3: u32,
-    /// How many VC-4s aren't labelled as equipped.
+    /// The number of VC-4s that aren't labelled as equipped.
     pub label: u32,
     /// What is said of their path trace.
     pub trace: TraceWord,
@@ -123,8 +123,8 @@ impl Watch {
         self.chunks > 0 && self.value == value
     }
 
-    /// The 2349 bytes that the port delivered in a round, with the pointer value with which they came. A value other than that of the
-    /// last chunk begins anew with this one.
+    /// Looks at the 2349 bytes that the port delivered in a round, with the pointer value with which they came. A value
+    /// other than that of the last chunk begins anew with this one.
     pub fn chunk(&mut self, bytes: &[u8], value: u16)
         requires bytes { length bytes.now ≡ 2349 }
         requires value { value ≤ 782 }
@@ -142,7 +142,7 @@ impl Watch {
         self.chunks = before + 1;
     }
 
-    /// AIS, with which the watch begins anew.
+    /// Looks at AIS, with which the watch begins anew.
     pub fn ais(&mut self)
         ensures history { (trace : List ℕ) (past : List Given) → CameBy trace past self.old → CameBy trace (Ais ∷ past) self.new }
         ensures none { self.new.chunks ≡ 0 }

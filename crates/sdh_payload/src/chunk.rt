@@ -16,8 +16,8 @@ pub enum ChunkForm {
     Long,
 }
 
-/// What a port delivers of an AU-4: the 2349 bytes of its payload and its three H3 bytes give the bytes that take the
-/// place of those in `out`. It takes no memory.
+/// Puts what a port delivers of an AU-4 in the place of the bytes in `out`. The bytes come from the 2349 bytes of the
+/// payload and the three H3 bytes. Takes no memory.
 #[tactic(auto, using(crate::proofs::Splicing::written_whole))]
 pub fn take_chunk(payload: &[u8], h3: &[u8], form: ChunkForm, out: &mut Cells)
     requires payload { length payload.now ≡ 2349 }

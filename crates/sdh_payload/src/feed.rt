@@ -57,7 +57,8 @@ impl Feed {
         form
     }
 
-    /// The 2349 bytes that the port sends in the next round, where no slip waits. What `out` held before is dropped.
+    /// Puts the 2349 bytes that the port sends in the next round into `out`, where no slip waits. What `out` held
+    /// before is dropped.
     pub fn next(&mut self, out: &mut Cells)
         requires few { self.old.clock.rounds < 2 ^ 32 }
         requires plain { waiting self.old.clock ≡ 0 }

@@ -12,7 +12,7 @@ use std::marker::Model;
 /// The bytes of a VC-4.
 const VC4_LEN: usize = 2349;
 
-/// The columns of a VC-4, the first of which is the path overhead.
+/// The number of columns of a VC-4. The first is the path overhead.
 const COLUMNS: usize = 261;
 
 /// A space, which pads a trace.

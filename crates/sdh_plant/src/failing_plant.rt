@@ -1,4 +1,4 @@
-//! Honest fibres in memory of which some calls fail.
+//! Honest fibres in memory, with some calls that fail.
 ghost use Rattle.std.specs.Prelude.{◌≡◌, ◌≢◌, true, ◌<◌, ◌≤◌, ◌↔◌, None, Ok, Err, IfOk, IsErr, OnOk, OnErr, IsErrOf, IsTrue, Contains};
 ghost use Rattle.std.specs.Prelude.{refl};
 ghost use Rattle.sdh_basics.specs.Causes.{Rose, IsCounted, HasCause, one_more};
@@ -27,7 +27,7 @@ pub enum PlantCall {
     Receive,
 }
 
-/// Fibres as those of a `FibrePlant`, of which the calls of a list fail, and no others.
+/// Fibres as those of a `FibrePlant`. The calls of a list fail, and no others.
 #[derive(Debug, Drop)]
 pub struct FailingPlant {
     plant: FibrePlant,

@@ -200,8 +200,8 @@ impl Ring {
         ensures ok { OnOk result (IsRound (world self.old (P.fibres plant.old)) (world self.new (P.fibres plant.new))) }
         ensures prepared { OnOk result (IsPrepared self.old.settings.rate (length self.old.ids) (P.fibres plant.new)) }
 
-        // Where what comes is what was sent, states, words and filters are those of a ring of signals with the same needs and held
-        // nodes.
+        // Where what comes is what was sent, states, words and filters are those of a ring of signals with its needs
+        // and held nodes.
         ensures signals { OnOk result (IsWhole (world self.old (P.fibres plant.old))
             → GoesAsSignals (world self.old (P.fibres plant.old)) (world self.new (P.fibres plant.new))) }
 
@@ -243,7 +243,7 @@ impl Ring {
         let _ = &self.ring;
     }
 
-    // At most 16 slips wait at each port: the same.
+    // At most 16 slips wait at each port: the function does nothing, and its contract is the law.
     fn few_slips_wait(&self)
         requires { self.now.broken ≡ false }
         ensures { (port : PortId) → HasPortIn self.now port → IsRested (clock_at self.now port) }
@@ -355,7 +355,7 @@ impl RunsRounds for Ring {
     }
 }
 
-// What the ring lends.
+// What can be read of the ring's ports and nodes.
 impl Ring {
     // Returns the node where a port of a circuit is.
     fn node_of(&self, port: PortId) -> &Adm

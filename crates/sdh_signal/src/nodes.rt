@@ -86,7 +86,7 @@ impl Hearing {
     }
 }
 
-/// All nodes take what comes in.
+/// Lets all nodes take what comes in.
 pub fn hear_all(map: &RingMap, words: &[Sent], needs: &[Needs], filters: &mut Vec<Hearing>)
     requires few { length map.now ≤ 16 }
     requires needs { length needs.now ≡ length map.now }
@@ -127,7 +127,7 @@ fn step_at(
     stays
 }
 
-/// One node's part of a round, once all have taken what comes in.
+/// Does one node's part of a round, once all have taken what comes in.
 fn turn_at(
     map: &RingMap,
     at: Pos,

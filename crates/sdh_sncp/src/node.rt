@@ -146,8 +146,8 @@ fn has_run(rounds: u64) -> bool
     rounds >= 1
 }
 
-// What decides whether a round was calm: whether one ran before it, and of each of its calls whether what it compares
-// is the same.
+// What decides whether a round was calm: whether one ran before it, and for each of its calls whether what it compares
+// is as before.
 #[derive(Drop)]
 struct Signs {
     ran: bool,

@@ -137,7 +137,7 @@ impl PathRing {
         let _ = &self.ring;
     }
 
-    // Each node is where it belongs: the same.
+    // Each node is where it belongs: the function does nothing, and its contract is the law.
     fn nodes_are_placed(&self)
         requires { self.now.broken ≡ false }
         ensures { IsPlacedRing self.now }
@@ -203,7 +203,7 @@ impl RunsRounds for PathRing {
     }
 }
 
-// What the ring lends.
+// What can be read of the ring's ports and nodes.
 impl PathRing {
     // Returns the node where a port of a circuit is.
     fn node_of(&self, port: PortId) -> &PathNode

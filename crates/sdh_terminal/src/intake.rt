@@ -86,7 +86,7 @@ impl Intake {
         inbox.swap_frame(&mut self.frame);
     }
 
-    /// A frame of ones.
+    /// Makes the frame one of ones.
     pub fn fill_ones(&mut self)
         ensures { self.new ≡ record self.old { frame = record { rate = self.old.frame.rate; bytes = all_ones self.old.frame.rate } } }
     {
@@ -122,7 +122,7 @@ impl Intake {
         find_frame(threshold, received, &mut self.frame)
     }
 
-    /// All interpreters read the frame. Whether they keep what they kept.
+    /// Lets all interpreters read the frame. Returns whether they keep what they kept.
     pub fn read(&mut self, interps: &mut Vec<Interp>) -> bool
         requires { length interps.old.items ≡ n_of self.old.frame.rate }
         ensures intake { self.new ≡ record self.old {
@@ -136,7 +136,7 @@ impl Intake {
         read_all(&self.frame, interps, &mut self.actions)
     }
 
-    /// No interpreter reads, and every AU-4 counts as AIS.
+    /// Lets every AU-4 count as AIS. No interpreter reads.
     pub fn silence(&mut self)
         ensures { self.new ≡ record self.old { actions = replicate (n_of self.old.frame.rate) Action.Ais } }
     {
@@ -196,7 +196,7 @@ fn word_at(frame: &FrameBuf, au: u16) -> Word
     read_word(&[frame.pointer(au, 0), frame.pointer(au, 3)])
 }
 
-// All interpreters read the frame. Whether they keep what they kept.
+// Lets all interpreters read the frame. Returns whether they keep what they kept.
 fn read_all(frame: &FrameBuf, interps: &mut Vec<Interp>, actions: &mut Vec<Action>) -> bool
     requires few { n_of frame.now.rate ≤ 16 }
     requires interps { length interps.old.items ≡ n_of frame.now.rate }

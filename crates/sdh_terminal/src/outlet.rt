@@ -77,7 +77,7 @@ impl Outlet {
         self.value = 0;
     }
 
-    /// Delivers an AU-4 of a frame, of which some payloads have been taken out.
+    /// Delivers an AU-4 of a frame. Some payloads have been taken out of the frame.
     pub fn deliver_au(
         &mut self,
         frame: &FrameBuf,
@@ -117,7 +117,7 @@ fn take_cells(delivered: &mut Delivered, spare: &mut Option<Cells>) -> Cells
     }
 }
 
-// The bytes that a port takes from an AU-4 of a frame.
+// Takes the bytes of a port from an AU-4 of a frame.
 fn take_au(frame: &FrameBuf, payloads: &mut Taken, au: u16, form: ChunkForm, cells: &mut Cells)
     requires first { 1 ≤ au }
     requires last { au ≤ n_of frame.now.rate }

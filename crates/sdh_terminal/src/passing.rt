@@ -58,7 +58,7 @@ fn pointers_for(action: Action, form: Form, word: Word, frame: &FrameBuf, au: u1
     }
 }
 
-// Where the payload of an AU-4 comes from that a side received.
+// Returns where the payload of an AU-4 comes from that a side received.
 fn source_for(action: Action, side: Side, au: u16) -> Source
     requires { 1 ≤ au }
     ensures source { (n to : ℕ) → au ≤ n → IsSource n to result }
@@ -74,7 +74,7 @@ fn source_for(action: Action, side: Side, au: u16) -> Source
     }
 }
 
-// AIS.
+// Steps a generator with AIS. Returns where the payload comes from, and the pointer bytes.
 #[tactic(auto, unfolding(crate::specs::Passing::au_sent))]
 fn send_ais(generator: &mut Gen) -> (Source, [u8; 9])
     ensures generator { generator.new ≡ after_action generator.old Action.Ais 0 }

@@ -158,7 +158,7 @@ impl Tributaries {
         port.slip(turn, count);
     }
 
-    /// Each port takes the next bytes of its stream.
+    /// Takes the next bytes of each port's stream.
     #[tactic(auto, using(crate::proofs::Places::fed_stay))]
     pub fn feed(&mut self)
         requires { All (λ t. t.feed.clock.rounds < 2 ^ 32) self.old }
@@ -167,7 +167,7 @@ impl Tributaries {
         feed_all(&mut self.items);
     }
 
-    /// Each port delivers what is dropped to it.
+    /// Delivers at each port what is dropped to it.
     #[tactic(auto, using(crate::proofs::Places::delivered_stay))]
     pub fn deliver<X: Matrix>(&mut self, cross: &X)
         requires { All (λ t. (1 ≤ t.slot.0) × (2 * t.slot.0 ≤ n_of (X.lines cross.now).rate)) self.old }

@@ -164,7 +164,7 @@ impl Tributary {
     }
 }
 
-// A port that sends fewer or more bytes justifies its pointer.
+// Returns what a port asks of its pointer generator: a port that sends fewer or more bytes justifies its pointer.
 fn action_of(form: ChunkForm) -> Action
     ensures { result ≡ action_of form }
 {
@@ -183,7 +183,7 @@ pub fn place_of(ports: &[Tributary], id: PortId) -> Option<usize>
     ports.iter().position(|port| port.is(id))
 }
 
-/// Each port takes the next bytes of its stream.
+/// Takes the next bytes of each port's stream.
 pub fn feed_all(ports: &mut Vec<Tributary>)
     requires { All (λ t. t.feed.clock.rounds < 2 ^ 32) ports.old.items }
     ensures { ports.new.items ≡ all_fed ports.old.items }
@@ -194,7 +194,7 @@ pub fn feed_all(ports: &mut Vec<Tributary>)
     }
 }
 
-/// Each port delivers what is dropped to it.
+/// Delivers at each port what is dropped to it.
 pub fn deliver_all<X: Matrix>(
     cross: &X,
     ports: &mut Vec<Tributary>,

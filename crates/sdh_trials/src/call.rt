@@ -24,7 +24,7 @@ impl Failing {
     };
 }
 
-// The list of these words.
+// Returns the list of these words.
 fn listed(alloc: Global, words: &[&str]) -> Result<Vec<String>, AllocError> {
     let mut list = Vec::new(alloc);
     for word in words {
@@ -33,7 +33,7 @@ fn listed(alloc: Global, words: &[&str]) -> Result<Vec<String>, AllocError> {
     Ok(list)
 }
 
-// The words of a command by its number: `run`, `check`, `drop c1 a`, and no words.
+// Returns the words of a command by its number: `run`, `check`, `drop c1 a`, and no words.
 fn words_of(alloc: Global, command: u8) -> Result<Vec<String>, AllocError> {
     match command {
         0 => listed(alloc, &["run"]),
@@ -43,7 +43,7 @@ fn words_of(alloc: Global, command: u8) -> Result<Vec<String>, AllocError> {
     }
 }
 
-/// The status, and the sink with what was written.
+/// Returns the status, and the sink with what was written.
 pub fn call_over<P: Plant>(
     alloc: Global,
     command: u8,

@@ -35,7 +35,7 @@ fn copy_front(from: &[u8], to: &mut [u8]) {
     to[..count].copy_from_slice(&from[..count]);
 }
 
-// How much was written, and its front.
+// Copies the front of what was written, and returns how much was.
 fn show(sink: &MemSink, text: &mut [u8]) -> u64 {
     copy_front(sink.bytes(), text);
     sink.bytes().len() as u64

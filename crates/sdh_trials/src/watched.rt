@@ -32,7 +32,7 @@ impl Model for Watched {
 }
 
 impl Watched {
-    /// A plant without fibres that will give these arrivals.
+    /// Returns a plant without fibres that will give these arrivals.
     pub fn new(alloc: Global, rate: Rate, arrivals: Vec<Told>) -> Watched
         requires { All (IsToldAt rate) arrivals.items }
         ensures { result ≡ record { fibres = clear_fibres rate 0; told = map arrival_of arrivals.items } }
@@ -43,7 +43,7 @@ impl Watched {
         }
     }
 
-    /// The frames that were sent, one after the other.
+    /// Returns the frames that were sent, one after the other.
     pub fn sent(&self) -> &[u8] {
         &self.sent
     }

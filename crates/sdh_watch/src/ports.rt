@@ -69,7 +69,7 @@ pub fn new_watches(alloc: Global, circuits: &CircuitMap) -> Result<Vec<WatchPair
     Ok(watches)
 }
 
-// Each watch begins anew.
+// Lets each watch begin anew.
 fn begin_anew(circuits: &CircuitMap, watches: &mut Vec<WatchPair>)
     requires { length watches.old.items ≡ length circuits.now.circuits }
     ensures new { AreWatching circuits.now.circuits (λ port. []) watches.new.items }
@@ -80,7 +80,7 @@ fn begin_anew(circuits: &CircuitMap, watches: &mut Vec<WatchPair>)
     }
 }
 
-// What a port delivered in the last round is given to its watch.
+// Gives a port's watch what the port delivered in the last round.
 fn look(watch: &mut Watch, ring: &Ring, port: PortId)
     requires port { port.circuit < length ring.now.circuits.circuits }
     requires few { watch.old.chunks < 1000000 }
@@ -101,7 +101,7 @@ fn look(watch: &mut Watch, ring: &Ring, port: PortId)
     }
 }
 
-// What both ports of a circuit delivered is given to their watches.
+// Gives the watches of a circuit what both ports delivered in the last round.
 fn look_both(both: &mut WatchPair, ring: &Ring, circuit: u8)
     requires port { circuit < length ring.now.circuits.circuits }
     requires few { (both.old.a.chunks < 1000000) × (both.old.b.chunks < 1000000) }
@@ -125,7 +125,7 @@ fn look_both(both: &mut WatchPair, ring: &Ring, circuit: u8)
     );
 }
 
-// What all ports delivered is given to their watches.
+// Gives all watches what their ports delivered in the last round.
 fn look_all(ring: &Ring, watches: &mut Vec<WatchPair>)
     requires many { length watches.old.items ≡ length ring.now.circuits.circuits }
     requires few { AreFew 999999 watches.old.items }
@@ -138,7 +138,7 @@ fn look_all(ring: &Ring, watches: &mut Vec<WatchPair>)
     }
 }
 
-/// The watches begin anew and look at what the ports deliver in the next rounds. It takes no memory.
+/// Lets the watches begin anew and look at what the ports deliver in the next rounds. Takes no memory.
 pub fn watch_rounds<P: Plant>(
     ring: &mut Ring,
     plant: &mut P,
@@ -164,7 +164,7 @@ pub fn watch_rounds<P: Plant>(
     Ok(())
 }
 
-// The line of the watch on a port.
+// Appends the line of the watch on a port.
 fn put_watch(text: &mut Text, ring: &Ring, circuit: u8, named: &Circuit, end: End, watch: &Watch)
     requires inside { circuit < length ring.now.circuits.circuits }
     requires room { 96 ≤ text.old.room }
@@ -178,7 +178,7 @@ fn put_watch(text: &mut Text, ring: &Ring, circuit: u8, named: &Circuit, end: En
     watch_line(text, named.name(), end, ring.port(port), &report);
 }
 
-// The lines of the watches on both ports of a circuit.
+// Appends the lines of the watches on both ports of a circuit.
 fn put_both(text: &mut Text, ring: &Ring, circuit: u8, named: &Circuit, both: &WatchPair)
     requires inside { circuit < length ring.now.circuits.circuits }
     requires room { 192 ≤ text.old.room }
@@ -190,7 +190,7 @@ fn put_both(text: &mut Text, ring: &Ring, circuit: u8, named: &Circuit, both: &W
     put_watch(text, ring, circuit, named, End::B, &both.b);
 }
 
-/// The lines of all watches.
+/// Appends the lines of all watches.
 pub fn put_watches(text: &mut Text, ring: &Ring, watches: &Vec<WatchPair>)
     requires many { length watches.now.items ≡ length ring.now.circuits.circuits }
     requires room { 192 * length ring.now.circuits.circuits ≤ text.old.room }
