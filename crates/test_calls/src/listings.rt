@@ -7,7 +7,7 @@ use sdh_cli::Status;
 use std::test::Fail;
 use test_texts::{SMALLEST, scripted};
 
-// The digits of the byte at a place of a chunk, both counted from 1: of nine lines, and of 261 bytes in each.
+// Returns the digits of the byte at a place of a chunk, both counted from 1: of nine lines, and of 261 bytes in each.
 fn digits_at(text: &[u8], line: usize, byte: usize) -> Option<&[u8]>
     requires line { (1 ≤ line) × (line ≤ 9) }
     requires byte { (1 ≤ byte) × (byte ≤ 261) }

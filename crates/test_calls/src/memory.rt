@@ -18,7 +18,7 @@ const ROWS: &[Row] = &[
     (NO_WORDS, SMALLEST, Status::Usage, USAGE),
 ];
 
-// Whether a call has no memory and writes nothing, or ends so.
+// Returns whether a call has no memory and writes nothing, or ends so.
 fn answers(
     alloc: Global,
     words: &[&str],

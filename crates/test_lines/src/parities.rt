@@ -33,7 +33,7 @@ fn frame(alloc: Global, n: usize) -> Result<Vec<u8>, AllocError>
     vec![in alloc; 0; 2430 * n]
 }
 
-// The bytes of a frame of zeros from the first that is scrambled on, after the first 9N bytes of row 1.
+// Returns the bytes of a frame of zeros from the first that is scrambled on, after the first 9N bytes of row 1.
 fn scrambled(alloc: Global, n: usize) -> Result<Vec<u8>, AllocError>
     requires { n ≤ 16 }
     ensures { IfOk result (λ v. vec_len v ≡ 2430 * n) }
@@ -93,14 +93,14 @@ fn section_parities(rt: HostRuntime) -> Result<(), Fail> {
     Ok(())
 }
 
-// The value of byte i of a frame that is cut.
+// Returns the value of byte i of a frame that is cut.
 fn mixed(i: usize) -> u8
     requires { i < 38880 }
 {
     (i * 7 % 251) as u8
 }
 
-// An STM-16 frame of mixed bytes.
+// Returns an STM-16 frame of mixed bytes.
 fn mixed_frame(alloc: Global) -> Result<Vec<u8>, AllocError>
     ensures { IfOk result (λ v. vec_len v ≡ 38880) }
 {
@@ -111,7 +111,7 @@ fn mixed_frame(alloc: Global) -> Result<Vec<u8>, AllocError>
     Ok(bytes)
 }
 
-// Both parities of two pieces, one after the other.
+// Returns both parities of two pieces, one after the other.
 fn of_pieces(bytes: &[u8], cut: usize, wide: &mut [u8]) -> u8
     requires bytes { cut ≤ length bytes.now }
     requires wide { length wide.old ≡ 48 }

@@ -36,7 +36,7 @@ fn each_read_that_fails_is_told(rt: HostRuntime) -> Result<(), Fail> {
     Ok(())
 }
 
-// The front of a text that `writes` writes take.
+// Returns the front of a text that `writes` writes take.
 fn front(text: &str, writes: u32) -> &str {
     let count = (writes as usize).saturating_mul(WRITE).min(text.len());
     text.get(..count).unwrap_or("")
@@ -111,7 +111,7 @@ const WATCHES: &[Row] = &[
     (ONCE, PlantCall::Send, 1543, 0, WATCHED),
 ];
 
-// Whether a run of a plan with the row's script ends as the row says.
+// Returns whether a run of a plan with the row's script ends as the row says.
 fn is_told(alloc: Global, program: Program, plan: &str, row: &Row) -> Result<bool, AllocError> {
     let (script, call, count, number, text) = *row;
     let document = scripted(alloc, plan, script)?;

@@ -10,7 +10,7 @@ use sdh_ringmap::{Pos, Side};
 use sdh_terms::{Code, Condition, FibreEvent, Rate};
 use std::alloc::{AllocError, Global};
 
-// What the third node asks for on its west side.
+// Returns what the third node asks for on its west side.
 fn asked(ring: &Ring) -> Option<Code> {
     if ring.map().len() < 3 {
         return None;
@@ -36,7 +36,7 @@ fn degrade<P: Plant>(ring: &Ring, plant: &mut P, rate: Rate, columns: u16) -> bo
         .is_ok()
 }
 
-// What the node asks for after `rounds` rounds over a fibre that inverts the bits of `columns` columns.
+// Returns what the node asks for after `rounds` rounds over a fibre that inverts the bits of `columns` columns.
 fn asked_behind<P: Plant>(
     ring: &mut Ring,
     plant: &mut P,
@@ -56,7 +56,8 @@ fn asked_behind<P: Plant>(
     asked(ring)
 }
 
-// The same of a new ring.
+// Returns what the node of a new ring asks for after `rounds` rounds over a fibre that inverts the bits of `columns`
+// columns.
 fn asked_degraded<P: Plant>(
     alloc: Global,
     plant: &mut P,
@@ -126,7 +127,7 @@ fn is_mended<P: Plant>(ring: &mut Ring, plant: &mut P) -> bool
     apply(ring, plant, 1, Side::East, Condition::Clear) && run(ring, plant, 2).is_ok()
 }
 
-// What is asked for at a moment after the fibre was cut and mended at moment 0.
+// Returns what is asked for at a moment after the fibre was cut and mended at moment 0.
 fn asked_mended<P: Plant>(
     alloc: Global,
     plant: &mut P,

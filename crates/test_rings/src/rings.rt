@@ -50,7 +50,7 @@ pub(crate) fn state_of(state: &NodeState) -> State {
 /// The state of a node, and the K bytes that it sends west and east.
 pub(crate) type Line = (State, (u8, u8), (u8, u8));
 
-/// The line of the node at a position.
+/// Returns the line of the node at a position.
 pub(crate) fn line_of(ring: &Ring, at: usize) -> Option<Line> {
     if at >= ring.map().len() {
         return None;
@@ -63,7 +63,7 @@ pub(crate) fn line_of(ring: &Ring, at: usize) -> Option<Line> {
     ))
 }
 
-/// The circuits that are asked for; a refusal counts as a lack of memory here.
+/// Returns the circuits that are asked for; a refusal counts as a lack of memory here.
 pub(crate) fn circuits_of(
     alloc: Global,
     rate: Rate,
@@ -80,8 +80,8 @@ pub(crate) fn circuits_of(
     Ok(circuits)
 }
 
-/// The ring of these settings, nodes and circuits, with the plant prepared for it. A refusal counts as a lack of memory
-/// here.
+/// Returns the ring of these settings, nodes and circuits, with the plant prepared for it. A refusal counts as a lack
+/// of memory here.
 pub(crate) fn laid_as<P: Plant>(
     alloc: Global,
     plant: &mut P,
@@ -104,7 +104,8 @@ pub(crate) fn laid_as<P: Plant>(
     Ok(Ring::try_new(alloc, settings, map, circuits)?)
 }
 
-/// The same at a rate, with a threshold of three and a wait of ten.
+/// Returns the ring of these nodes and circuits at a rate, with a threshold of three and a wait of ten, and the plant
+/// prepared for it.
 pub(crate) fn laid_with<P: Plant>(
     alloc: Global,
     plant: &mut P,
@@ -127,7 +128,7 @@ pub(crate) fn laid_with<P: Plant>(
     laid_as(alloc, plant, settings, ids, asked)
 }
 
-/// The ring of these nodes with the one circuit.
+/// Returns the ring of these nodes with the one circuit.
 pub(crate) fn laid<P: Plant>(
     alloc: Global,
     plant: &mut P,

@@ -61,7 +61,7 @@ enum Step {
     Settle,
 }
 
-// A ring of four nodes with both circuits, and the plant laid for it.
+// Returns a ring of four nodes with both circuits, and the plant laid for it.
 fn laid<P: Plant>(alloc: Global, plant: &mut P) -> Result<Ring, AllocError>
     requires { HasNoFibres (P.fibres plant.old) }
     ensures prepared { IfOk result (λ ring. IsPrepared ring.settings.rate (length ring.ids) (P.fibres plant.new)) }
@@ -70,7 +70,7 @@ fn laid<P: Plant>(alloc: Global, plant: &mut P) -> Result<Ring, AllocError>
     laid_as(alloc, plant, SETTINGS, &[0, 1, 2, 3], &[X, Y])
 }
 
-// The letter that a port delivers, and a dash for AIS.
+// Returns the letter that a port delivers, and a dash for AIS.
 fn letter(ring: &Ring, circuit: u8, end: End) -> u8 {
     if circuit as usize >= ring.circuits().len() {
         return b'?';
@@ -81,7 +81,7 @@ fn letter(ring: &Ring, circuit: u8, end: End) -> u8 {
     }
 }
 
-// Those of x's ports and of y's, A before B.
+// Returns the letters that x's ports and y's deliver, A before B.
 fn letters(ring: &Ring) -> [u8; 4] {
     [
         letter(ring, 0, End::A),
@@ -91,7 +91,7 @@ fn letters(ring: &Ring) -> [u8; 4] {
     ]
 }
 
-// Whether a port gets the bytes of the other circuit.
+// Returns whether a port gets the bytes of the other circuit.
 fn meets(ring: &Ring) -> bool {
     let [xa, xb, ya, yb] = letters(ring);
     is_of(xa, b'C', b'D') || is_of(xb, b'C', b'D') || is_of(ya, b'A', b'B') || is_of(yb, b'A', b'B')
@@ -157,7 +157,7 @@ fn slip(ring: &mut Ring, port: PortId, count: u8) -> Result<(), AllocError>
     Ok(())
 }
 
-// One step, and in how many of its rounds a port met a stranger; those of a settle step aren't counted.
+// Does one step, and returns in how many of its rounds a port met a stranger. Those of a settle step aren't counted.
 fn taken<P: Plant>(ring: &mut Ring, plant: &mut P, step: Step) -> Result<u32, AllocError>
     requires prepared { IsPrepared ring.old.settings.rate (length ring.old.ids) (P.fibres plant.old) }
     requires whole { ring.old.broken ≡ false }
@@ -192,7 +192,7 @@ fn taken<P: Plant>(ring: &mut Ring, plant: &mut P, step: Step) -> Result<u32, Al
     Ok(0)
 }
 
-// In how many of the rounds of these steps a port met a stranger.
+// Returns in how many of the rounds of these steps a port met a stranger.
 fn all_taken<P: Plant>(ring: &mut Ring, plant: &mut P, steps: &[Step]) -> Result<u32, AllocError>
     requires prepared { IsPrepared ring.old.settings.rate (length ring.old.ids) (P.fibres plant.old) }
     requires whole { ring.old.broken ≡ false }
@@ -204,7 +204,7 @@ fn all_taken<P: Plant>(ring: &mut Ring, plant: &mut P, steps: &[Step]) -> Result
     Ok(met)
 }
 
-// The same, from a new ring on.
+// Returns in how many of the rounds of these steps, from a new ring on, a port met a stranger.
 fn met(alloc: Global, steps: &[Step]) -> Result<u32, AllocError> {
     let mut plant = FibrePlant::new();
     let mut ring = laid(alloc, &mut plant)?;
@@ -280,7 +280,7 @@ fn laid_quiet<P: Plant>(alloc: Global, plant: &mut P) -> Result<Ring, AllocError
     laid_as(alloc, plant, WAITING, &[0, 1, 2, 3, 4], &[V, U])
 }
 
-// The fibres that leave nodes 1 and 2 eastwards come into these conditions.
+// Brings the fibres that leave nodes 1 and 2 eastwards into these conditions.
 fn eastwards<P: Plant>(
     ring: &Ring,
     plant: &mut P,

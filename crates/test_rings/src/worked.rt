@@ -114,7 +114,7 @@ fn befalls<P: Plant>(ring: &Ring, plant: &mut P, trouble: Trouble) -> bool
     }
 }
 
-// Whether a port shows this, and no slip waits at it.
+// Returns whether a port shows this, and no slip waits at it.
 fn shows(ring: &Ring, port: PortId, shown: Shown) -> bool {
     if ring.circuits().len() <= port.circuit as usize || ring.waiting(port) != 0 {
         return false;

@@ -5,7 +5,7 @@ use crate::called::{Outside, PLAN, SINGLE, SOUND, TABLE, call};
 use sdh_whatif_cli::Status;
 use std::test::Fail;
 
-// How many bytes the first lines of a text have.
+// Returns how many bytes the first lines of a text have.
 fn first_lines(text: &[u8], lines: usize) -> usize
     ensures { result ≤ length text.now }
 {
