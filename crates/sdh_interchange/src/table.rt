@@ -57,7 +57,7 @@ pub(crate) fn transpose8(v: [u8x16; 8]) -> [u8x16; 8]
     turn8(turn8(turn8(v)))
 }
 
-// Returns the two columns of each vector as vectors of their own, of which only the first eight lanes count.
+// Returns the two columns of each vector as vectors of their own. Only the first eight lanes of each count.
 #[inline(always)]
 pub(crate) fn apart(v: [u8x16; 8]) -> [u8x16; 16]
     requires { IsTable 8 v }

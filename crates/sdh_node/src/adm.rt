@@ -269,7 +269,7 @@ struct Signs {
     east_made: bool,
 }
 
-// Returns whether the round is calm: it may be, and all that is compared is the same.
+// Returns whether the round is calm: it may be, and all that is compared is as before.
 fn is_calm(signs: &Signs) -> bool
     ensures { result ≡ (signs.now.counts && (signs.now.taken && signs.now.decided && (signs.now.west_said && signs.now.west_made)
         && (signs.now.east_said && signs.now.east_made))) }

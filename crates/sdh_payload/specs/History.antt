@@ -1,5 +1,5 @@
--- A customer's clock by its history alone: the slips that were ordered at the port and the rounds that went by decide
--- what it sends. A `Clock` keeps of a history just what it needs; that every clock goes by its history is the law
+-- A customer's clock by its history alone: the slips that were ordered at the port and the rounds that ran decide what
+-- it sends. A `Clock` keeps of a history just what it needs; that every clock goes by its history is the law
 -- `clocks_go_by_history`. That a clock slips when it is ordered to, and in which round its port makes that good by a
 -- justification of the AU-4 pointer (ITU-T G.707 clause 8.1), is this project's own.
 use Rattle.std.specs.Prelude.{ℕ, ◌+◌, ◌-◌, ◌*◌, ℤ, pos, ◌+ℤ◌, ◌-ℤ◌, Bool, true, false, not, ◌&&◌, nat_le, if◌then◌else◌, List, [], ◌∷◌}

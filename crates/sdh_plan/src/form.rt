@@ -256,7 +256,7 @@ fn told(
     }
 }
 
-// Returns the step that words give, of which none is empty.
+// Returns the step that words give. None of the words is empty.
 #[tactic(auto, unfolding(crate::specs::Steps::form_faults, crate::specs::Steps::form_step))]
 fn step_in(
     ring: &RingMap,

@@ -93,7 +93,7 @@ fn ends_settled(steps: &[Step]) -> bool
     }
 }
 
-// Returns the steps that texts give, the last of which runs rounds, or the first check that fails.
+// Returns the steps that texts give, or the first check that fails. The last step runs rounds.
 #[tactic(auto, using(crate::proofs::Checking::refused_before, crate::proofs::Checking::refused_behind, crate::proofs::Scripts::counted, crate::proofs::Scripts::last_fails, crate::proofs::Scripts::last_passes))]
 fn settled_steps(
     alloc: Global,

@@ -84,8 +84,8 @@ fn is_led(word: &[u8]) -> bool
     }
 }
 
-/// Returns the number that the word is, where it is one from `low` to `high`: decimal digits, the first of which isn't
-/// `0` unless it is the only one.
+/// Returns the number that the word is, where it is one from `low` to `high`: decimal digits that don't begin with `0`,
+/// or `0` alone.
 #[tactic(auto, unfolding(crate::specs::Words::numeral_in))]
 pub fn numeral_in(word: &[u8], low: u32, high: u32) -> Option<u32>
     ensures number { result ≡ numeral_in low high word.now }

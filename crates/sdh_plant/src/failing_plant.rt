@@ -57,7 +57,7 @@ fn is_among(failing: &[(PlantCall, u32)], call: PlantCall, number: u64) -> bool
 }
 
 impl FailingPlant {
-    /// Returns a plant without fibres, of which these calls fail, each kind counted from 1.
+    /// Returns a plant without fibres. These of its calls fail, each kind counted from 1.
     pub fn new(alloc: Global, calls: &[(PlantCall, u32)]) -> Result<FailingPlant, AllocError>
         ensures { IfOk result (λ plant. plant ≡ record {
           fibres = clear_fibres plant.fibres.rate 0;

@@ -178,7 +178,7 @@ GoesOn None action.Normal v r = ⊥
 GoesOn None action.Up v r = ⊥
 GoesOn None action.Down v r = ⊥
 
--- then that interpreter reads the same action with the same value, and stays in step
+-- an interpreter in step reads the action that was sent with its value, and stays in step
 pub record IsReadAsSent (s : Option ℕ) (a : Action) (v : ℕ) (r : Reading) : Type 0 where
   pub answer : action_on r (word_sent s a v) ≡ a
   pub value : a ≢ action.Ais → (after_word r (word_sent s a v)).value ≡ v

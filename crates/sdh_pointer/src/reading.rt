@@ -121,7 +121,7 @@ fn news_with(reading: &Reading, value: u16) -> u8
     }
 }
 
-// Returns the state with a new value, of which `news` equal ones stand in a row.
+// Returns the state with a new value that came `news` times in a row.
 fn with_new(reading: Reading, value: u16, news: u8, since: u8) -> Reading
     requires { news ≡ news_with reading value }
     ensures { result ≡ with_new reading value since }
@@ -331,7 +331,7 @@ fn same_mode(left: Mode, right: Mode) -> bool
     }
 }
 
-// Returns whether two interpreters keep the same.
+// Returns whether two interpreters keep equal readings.
 #[tactic(auto, unfolding(crate::specs::Reading::same_reading))]
 pub fn same_reading(left: &Reading, right: &Reading) -> bool
     ensures { result ≡ same_reading left.now right.now }

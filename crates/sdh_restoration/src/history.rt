@@ -11,7 +11,8 @@ use sdh_terms::Code;
 #[derive(Clone, Copy, Debug, PartialEq, Eq)]
 pub struct SideRound {
     pub is_cut: bool,
-    /// How many bits of a frame are inverted, each of which shows as a violation of B2; 0 on a fibre that isn't degraded.
+    /// The number of bits of a frame that are inverted. Each shows as a violation of B2. 0 on a fibre that isn't
+    /// degraded.
     pub degraded: u16,
     pub command: Command,
     pub moment: Moment,

@@ -30,8 +30,8 @@ pub record RanSome {N : Type 0} (s : Station N) (kept_of : (ℕ → World N) →
   pub mid_is : mid ≡ run_with s rounds w
   pub kept : kept_of (course_with s rounds w) (length rounds)
 
--- what is kept of a settle step that didn't end: no more rounds ran after those of which it is kept, or a fault broke
--- the next one off
+-- what is kept of a settle step that didn't end: after the rounds that are kept no more ran, or a fault broke the next
+-- one off
 pub record HearsSome {N : Type 0} (s : Station N) (heard : (ℕ → World N) → ℕ → Type 0) (w : World N) (limit : ℕ)
     (left : World N) : Type 0 where
   pub mid : World N

@@ -38,7 +38,7 @@ StillRingsAreSettled =
     → ChangesNoWord third (free_round second (free_round first s))
     → (free_round third (free_round second (free_round first s))).states ≡ settled_states (requests_in third)
 
--- a round that holds no node is the same in both forms of saying so
+-- a round that holds no node is one round, by both definitions of it
 abbrev pub FreeRounds : Type 0
 FreeRounds = (needs : List Needs) (held : List Bool) (s : Signals) → All (λ b. b ≡ false) held → round needs held s ≡ free_round needs s
 

@@ -109,7 +109,7 @@ round needs held s = record {
 abbrev pub free_round : List Needs → Signals → Signals
 free_round needs s = round needs [] s
 
--- t such rounds with the same needs
+-- t rounds in which no node is held, all with these needs
 abbrev pub rounds : List Needs → ℕ → Signals → Signals
 rounds needs zero s = s
 rounds needs (suc t) s = free_round needs (rounds needs t s)

@@ -29,7 +29,7 @@ use Rattle.sdh_spans.specs.Spans.{IsSpan, line_after, TakesWord, word_behind, Is
 
 -- ---- frames
 
--- a frame says the same word after every fibre that isn't cut, and after one that is nothing comes
+-- a frame says its word after every fibre that isn't cut, and nothing comes after one that is
 pub record FramesComeThrough : Type 0 where
   pub word : (at : Rate) (k : K) (c : Condition) (a : Arrival) → is_cut c ≡ false → CarriesWord at k a
       → CarriesWord at k (through (n_of at) c a)

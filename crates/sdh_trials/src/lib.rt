@@ -77,9 +77,8 @@ pub extern "C" fn sdh_trials_call(
     status.number()
 }
 
-/// Runs a plan over told arrivals, each of which is a byte, 0 where nothing comes, and the bytes of a frame. Returns
-/// how many bytes were written and how many bytes of frames were sent, all frames one after the other, of which `sent`
-/// gets the front.
+/// Runs a plan over told arrivals. Each is a byte, 0 where nothing comes, and the bytes of a frame. Returns how many
+/// bytes were written and how many bytes of frames were sent; `sent` gets the front of all frames, one after the other.
 #[unsafe(no_mangle)]
 pub extern "C" fn sdh_trials_told(
     alloc: Global,
