@@ -44,7 +44,7 @@ OfPlan listing plan f how text left = of_plan (has_node listing plan.nodes) list
 
 -- ---- with the bytes of a source
 
--- there is no plan in them, the last line is all of the text, and the fibres are left alone
+-- there is no plan in the bytes, the last line is all of the text, and the fibres are left alone
 pub record HasRefused (bytes : List ℕ) (f : Fibres) (how : Ending) (text : List ℕ) (left : Fibres) : Type 0 where
   pub status : Status
   pub how_is : how ≡ ending.Shared status

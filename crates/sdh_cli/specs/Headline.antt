@@ -40,7 +40,7 @@ abbrev pub EndsAsItRuns : Option Ask → List ℕ → Fibres → Status → Type
 EndsAsItRuns ask bytes f how = (plan : Planned) (listing : Listing) → Lists ask bytes plan listing → HasRun how
     → Knows (world_of plan f).fibres → (how ≡ (ran_of plan f).ending) ⊎ (how ≡ status.PlantFault)
 
--- with so large a limit no settle step is unsettled
+-- with a limit that is always enough no settle step is unsettled
 abbrev pub AlwaysSettles : Option Ask → List ℕ → Status → Type 0
 AlwaysSettles ask bytes how = (plan : Planned) (listing : Listing) → Lists ask bytes plan listing
     → enough_for (length plan.nodes) ≤ plan.limit → (k : ℕ) → how ≢ status.Unsettled k

@@ -16,8 +16,8 @@ use Rattle.sdh_report.specs.Lines.{table_line}
 abbrev pub circuit_at : ℕ → List Provisioned → ℕ → Side → ℕ → Option Provisioned
 circuit_at n circuits p d m = find (is_on n (span_at n p d) m) circuits
 
--- its line: the node's identifier, the side, the slot, the circuit's name, and the identifiers of the nodes where its arc starts
--- and ends
+-- the line of a circuit in a slot: the node's identifier, the side, the slot, the circuit's name, and the identifiers
+-- of the nodes where its arc starts and ends
 abbrev pub squelch_line : List ℕ → ℕ → Side → ℕ → Provisioned → List ℕ
 squelch_line nodes p d m c =
     table_line (slice_index nodes p) d (record { 0 = m }) c.name (slice_index nodes c.from.0) (slice_index nodes c.to.0)

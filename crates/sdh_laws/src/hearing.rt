@@ -19,7 +19,7 @@ pub fn new_worlds_are_whole()
     ensures { NewWorldsAreWhole }
 {}
 
-/// Rounds leave it so, and so does what may happen between them.
+/// Rounds leave a ring over its fibres in order, and what may happen between rounds does too.
 #[tactic(auto, using(crate::proofs::hearing::Changes::stay_whole))]
 pub fn stay_whole()
     ensures { StayWhole }

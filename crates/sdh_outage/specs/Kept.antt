@@ -81,7 +81,7 @@ pub record AreRunsFew (r : Runs) (rounds : ℕ) : Type 0 where
   pub longest : r.longest ≤ rounds
   pub going : r.going ≤ rounds
 
--- there was no more than one count a round
+-- an outage has no more than one count a round
 abbrev pub AreFew : Outage → ℕ → Type 0
 AreFew o rounds = (are_few o ≤ rounds) × AreRunsFew o.runs rounds
 

@@ -106,7 +106,7 @@ no_ports = record { longest = 0; over = 0; none = 0; still = 0; foreign = 0 }
 abbrev pub is_back : Outage → Bool
 is_back o = o.runs.going == 0
 
--- its longest run has more than 400 rounds, 50 ms (ITU-T G.841 allows as long for a switch)
+-- the port's longest run has more than 400 rounds, 50 ms (ITU-T G.841 allows as long for a switch)
 abbrev pub is_over : Outage → Bool
 is_over o = nat_le 401 o.runs.longest
 

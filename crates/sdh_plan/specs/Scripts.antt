@@ -16,7 +16,7 @@ IsStepIn rate size circuits (step.Hold at turns) = (at.0 < size) × (1 ≤ turns
 IsStepIn rate size circuits (step.Slip port turn count) = (port.circuit < circuits) × (1 ≤ count) × (count ≤ 16)
 IsStepIn rate size circuits step.Settle = Unit {0}
 
--- with the slips that ports got since the last settle step, each has at most 16
+-- each port has at most 16 slips after the step, with those that it got since the last settle step
 abbrev pub HasRoom : (PortId → ℕ) → Step → Type 0
 HasRoom slips (step.Fibre event) = Unit {0}
 HasRoom slips (step.Order at on c) = Unit {0}

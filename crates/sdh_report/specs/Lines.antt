@@ -29,7 +29,7 @@ settle_line number round = step_ended number round ++ codes "\n"
 
 -- ---- a node
 
--- its state
+-- the word of a state
 abbrev pub state_text : StateWord → List ℕ
 state_text word.Idle = codes "idle"
 state_text word.Pass = codes "pass"
@@ -41,7 +41,7 @@ state_text word.Isolated = codes "isolated"
 abbrev pub word_text : WordBytes → List ℕ
 word_text w = hex_of (w.first ∷ []) ++ codes " " ++ hex_of (w.second ∷ [])
 
--- its identifier, its state, and the words that it sent last
+-- the line of a node: its identifier, its state, and the words that it sent last
 abbrev pub node_line : NodeLine → List ℕ
 node_line l =
     codes "node " ++ decimal l.id ++ codes " " ++ state_text l.state ++ codes " west " ++ word_text l.west ++ codes " east "
@@ -102,7 +102,7 @@ table_place id side slot = codes "node " ++ decimal id ++ codes " " ++ side_text
 abbrev pub table_ends : ℕ → ℕ → List ℕ
 table_ends from to = codes " " ++ decimal from ++ codes " " ++ decimal to ++ codes "\n"
 
--- there is the circuit of this name, between these two nodes
+-- the line of the circuit of this name, which is at this place, between these two nodes
 abbrev pub table_line : ℕ → Side → Slot → List ℕ → ℕ → ℕ → List ℕ
 table_line id side slot name from to = table_place id side slot ++ codes " " ++ name ++ table_ends from to
 

@@ -102,7 +102,7 @@ AtEach none P ns = (p : ℕ) → p < length ns → P p (slice_index_or ns p none
 
 -- ---- what is true of every ring
 
--- its circuits are circuits of a ring of its size and rate, and it has a node at each position
+-- the circuits of a ring are circuits of a ring of its size and rate, and the ring has a node at each position
 pub record HasItsNodes {N : Type 0} (r : HeldRing N) : Type 0 where
   pub ids : AreIds r.ids
   pub circuits : IsProvisioning r.circuits

@@ -31,11 +31,11 @@ world_of t plan f = with_fibres (t.new_ring plan) f
 abbrev pub ran_of : {N T : Type 0} → Account N T → Planned → Fibres → Ran N T
 ran_of t plan f = script t.walk plan.limit 0 plan.steps (world_of t plan f)
 
--- over any plant
+-- what comes of the script of a plan over any plant
 abbrev pub Comes : {N T : Type 0} → Account N T → Planned → Fibres → List T → Status → Fibres → Type 0
 Comes t plan f reports end left = ComesOfSteps t.walk plan.limit plan.steps (world_of t plan f) f reports end left
 
--- where the arrivals are known
+-- what comes of the script of a plan where the arrivals are known
 abbrev pub ComesKnown : {N T : Type 0} → Account N T → Planned → Fibres → List T → Status → Fibres → Type 0
 ComesKnown t plan f reports end left = ComesOfKnownRun t.walk (ran_of t plan f) (length plan.nodes) f reports end left
 

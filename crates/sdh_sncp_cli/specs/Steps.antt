@@ -18,7 +18,7 @@ is_strange step.Settle = false
 unfoldable pub first_strange : List Step → Option ℕ
 first_strange steps = option_map (λ i. i + 1) (position is_strange steps)
 
--- there is none
+-- no step is strange to a path ring
 abbrev pub AreKnown : List Step → Type 0
 AreKnown steps = first_strange steps ≡ None
 

@@ -85,6 +85,6 @@ abbrev pub CaseIsShown : Planned → List Failure → Type 0
 CaseIsShown plan case = (limit : ℕ) (reports : List Report) → OwesAll (longer_plan plan case limit) reports status.Ok
     → IsShown plan case (map ports_of reports)
 
--- for every plan and case
+-- every case of every plan is shown
 abbrev pub CasesAreShown : Type 0
 CasesAreShown = (plan : Planned) (case : List Failure) → IsPlanned plan → CaseIsShown plan case

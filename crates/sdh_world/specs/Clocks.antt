@@ -28,7 +28,7 @@ port_in r port = option_and_then (λ n. port_of port n.ports) (slice_get r.nodes
 abbrev pub HasPortIn : HeldRing → PortId → Type 0
 HasPortIn r port = IsSome (port_in r port)
 
--- its clock; that of no port where there is no such circuit
+-- the clock of a port; a new one of offset 0 where the ring has no such port
 unfoldable pub clock_at : HeldRing → PortId → Clock
 clock_at r port = option_map_or (λ t. t.feed.clock) (port_in r port) (new_clock 0)
 

@@ -51,7 +51,7 @@ RoundsGetCalm = (w : World) → IsWhole w → HasCircuits (layout_of w) → (j :
 abbrev pub WindowsComeSoon : Type 0
 WindowsComeSoon = (w : World) → IsWhole w → HasCircuits (layout_of w) → WindowBy w (34 * length w.ring.ids + 256)
 
--- a step with so large a limit ends with a window
+-- a window ends within a limit that is always enough, and a step with this limit or a larger one ends with a window
 pub record Converges (w : World) : Type 0 where
   pub window : WindowBy w (enough_for (length w.ring.ids))
   pub answers : (limit : ℕ) → enough_for (length w.ring.ids) ≤ limit → (k : ℕ) × (settles_in w limit ≡ Some k)
