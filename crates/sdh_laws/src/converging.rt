@@ -73,7 +73,7 @@ pub fn healthy_rings_apply_nothing()
     ensures { HealthyRingsApplyNothing }
 {}
 
-/// After each of them each port has delivered what it is owed where nothing is applied.
+/// After each settle step of a healthy ring each port has delivered what it is owed where nothing is applied.
 pub fn healthy_steps_deliver()
     ensures { HealthyStepsDeliver }
 {

@@ -86,7 +86,7 @@ pub fn windows_are_settled()
     sdh_settling::still_rings_are_settled();
 }
 
-/// A step that ends with such a window leaves the ring in order, and its nodes in the settled states.
+/// A step that ends with a quiet window leaves the ring in order, and its nodes in the settled states.
 pub fn steps_settle()
     ensures { StepsSettle }
 {

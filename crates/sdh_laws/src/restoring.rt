@@ -12,7 +12,7 @@ pub fn rings_are_restored_soon()
     sdh_settling::rings_settle();
 }
 
-/// Where no controller misses a turn, from number 12n + 2 on, and from 8n + 61 on where slips wait.
+/// Where no controller misses a turn, traffic is restored from the larger of round numbers 12n + 2 and 8n + 61 on.
 pub fn free_rings_are_restored_soon()
     ensures { FreeRingsAreRestoredSoon }
 {
@@ -26,7 +26,8 @@ pub fn unslipped_rings_are_restored_soon()
     sdh_settling::rings_settle();
 }
 
-/// Each port by its own number: by the hops of its circuit, and by the ring's size where it is owed AIS.
+/// From every whole ring on, each port delivers what it is owed from a round of its own on: by the hops of its circuit,
+/// and by the ring's size where it is owed AIS.
 pub fn ports_are_owed_soon()
     ensures { PortsAreOwedSoon }
 {

@@ -30,13 +30,14 @@ pub fn no_port_ever_meets_a_stranger()
     ensures { NoPortEverMeetsAStranger }
 {}
 
-/// No port meets a stranger either where the held controllers are of nodes that stand aside then, idle or isolated.
+/// From a new ring on no port meets a stranger where controllers are held of nodes alone that stand aside then, idle or
+/// isolated.
 pub fn nodes_aside_may_be_held()
     ensures { NodesAsideMayBeHeld }
 {}
 
-/// After a quiet window the controllers of switched nodes may be held as well: of all nodes but those that pass traffic
-/// through.
+/// From a new ring on no port meets a stranger where, after a stretch that ended with a quiet window, controllers are
+/// held of all nodes but those that pass traffic through.
 pub fn nodes_that_do_not_pass_may_be_held()
     ensures { NodesThatDoNotPassMayBeHeld }
 {
