@@ -186,8 +186,8 @@ fn chunks_in(ring: &Ring) -> u32
     chunks.min(256)
 }
 
-/// Makes a ring of these nodes with `circuits` circuits and `cuts` cut spans, runs `rounds` rounds, and returns how
-/// many ports delivered a chunk in the last, or 1,000 where there is no such ring or no memory.
+/// Makes a ring of these nodes with `circuits` circuits and `cuts` cut spans, and runs `rounds` rounds. Returns how
+/// many ports delivered a chunk in the last round, or 1,000 where there is no such ring or no memory.
 #[unsafe(no_mangle)]
 pub extern "C" fn sdh_bench_ring(
     alloc: Global,

@@ -1,6 +1,6 @@
-//! Lanes of vectors over whole columns. The bytes of the N AU-4s of a frame take turns, so sixteen neighbouring bytes are one
-//! column of all AU-4s (STM-16) or four (STM-4), and a lane of such a vector reads the same lane, or another one, of the vector
-//! at the same place in its source.
+//! Lanes of vectors over whole columns. The bytes of the N AU-4s of a frame take turns, so sixteen neighbouring bytes
+//! are one column of all AU-4s (STM-16) or four (STM-4). A lane of such a vector reads the same lane, or another one,
+//! of the vector at the same place in its source.
 ghost use Rattle.std.specs.Prelude.{◌≡◌, ℕ, ◌+◌, ◌*◌, ◌%◌, ◌<◌, ◌≤◌, ◌⊎◌, length, slice_index};
 ghost use Rattle.sdh_interchange.specs.Choosing.{IsSource, AreSources};
 ghost use Rattle.sdh_interchange.specs.Lanes.{IsLane, AreLanes};

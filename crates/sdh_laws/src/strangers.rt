@@ -1,5 +1,6 @@
-//! What holds of a ring over honest fibres in every round, quiet or not, whatever is cut, mended, degraded or commanded
-//! and whenever clocks slip, as long as only controllers of nodes that don't pass traffic through miss turns.
+//! What holds of a ring over honest fibres in every round, quiet or not, as long as only controllers of nodes that
+//! don't pass traffic through miss turns. Fibres may be cut, mended and degraded, sides commanded, and clocks slip at
+//! any time.
 //!
 //! Each function here is a law: it does nothing, and its contract is the law, whose words are in `specs/`.
 

@@ -61,8 +61,9 @@ cutting_held = Slip (record { circuit = 0; end = A }) Up 3 ∷ Fibre 0 East Cut 
 abbrev pub mending_held : List Change
 mending_held = Hold 0 20 ∷ Fibre 0 East Clear ∷ Fibre 1 West Clear ∷ []
 
--- These stretches may happen to it, each but the last ends with a quiet window, the last one's changes hold no node that passes traffic
--- through, and by these no bytes of its round t are older than `age`. So in this round no port meets a stranger, nor older bytes.
+-- These stretches may happen to the ring, and each but the last ends with a quiet window. The last one's changes hold
+-- no node that passes traffic through, and by these no bytes of its round t are older than `age`. So in this round no
+-- port meets a stranger, nor older bytes.
 pub record GetsItsOwn (f : Fibres) (earlier : List Stretch) (last : Stretch) (t age : ℕ) : Type 0 where
   pub happens : MayHappen (three_over f) (earlier ++ last ∷ [])
   pub quiet : EndQuietly (three_over f) (earlier ++ last ∷ [])

@@ -26,8 +26,8 @@ pub data HoldsSince (circuits : List Provisioned) (clocks : PortId → ℕ → C
   customers : (c : Provisioned) (r : ℕ) → slice_get circuits port.circuit ≡ Some c → first ≤ r → r < t
       → HasBytesOf (put_by (customer_at c port.end) (clocks port r)) a → HoldsSince circuits clocks first t port a
 
--- In round t a port delivers AIS, or a chunk, with whatever pointer value, taken from an AU-4 that holds ones or what its circuit's
--- other port put into its AU-4 in one of the rounds from `first` on.
+-- In round t a port delivers AIS, or a chunk with any pointer value. The chunk is taken from an AU-4 that holds ones,
+-- or what the other port of the circuit put into its AU-4 in one of the rounds from `first` on.
 pub data MeetsNoStrangerSince (circuits : List Provisioned) (clocks : PortId → ℕ → Clock) (first t : ℕ) (port : PortId)
     (o : Outlet) : Type 0 where
   ais_comes : o ≡ silent → MeetsNoStrangerSince circuits clocks first t port o

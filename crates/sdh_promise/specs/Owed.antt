@@ -66,9 +66,9 @@ pub record IsLast (n limit ran t : ℕ) : Type 0 where
   pub within : t + 1 ≤ ran + limit
   pub multiple : t % 128 ≡ 0
 
--- Each report shows what is owed under the requests of the history and by what happened at the ports, where `earlier`
--- had happened, `before` settle steps had ended, and these are the changes before each step to come. Report by report
--- the number grows by 1, and the round shows how many rounds the step ran. A settle step without a report is where the
+-- Each report shows what is owed under the requests of the history and by what happened at the ports. `earlier` had
+-- happened, `before` settle steps had ended, and these are the changes before each step to come. Report by report the
+-- number grows by 1, and the round shows how many rounds the step ran. A settle step without a report is where the
 -- script ended, unsettled or by a fault.
 abbrev pub AreOwed : Ring → ℕ → List Stretch → ℕ → List (List Change) → List PortReport → Status → Type 0
 AreOwed ring limit earlier before [] reports end = (reports ≡ []) × ((end ≡ status.Ok) ⊎ (end ≡ status.PlantFault))

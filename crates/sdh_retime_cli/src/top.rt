@@ -112,10 +112,10 @@ fn answer<R: Source, W: Sink>(
     }
 }
 
-/// Does all that the program does, and answers the number with which it ends. With one word of 1 to 64 digits from 0 to 6 it
-/// reads all bytes of the source and takes them into a store chunk by chunk, where digit g means a chunk of 2346 + g bytes and
-/// the digits repeat. It writes the lines of every turn, and what is left or the turn that is a drift. The text is written
-/// once, at the end.
+/// Does all that the program does, and returns the number with which it ends. With one word of 1 to 64 digits from 0 to
+/// 6 it reads all bytes of the source and takes them into a store chunk by chunk. Digit g means a chunk of 2346 + g
+/// bytes, and the digits repeat. It writes the lines of every turn, and what is left or the turn that is a drift. The
+/// text is written once, at the end.
 pub fn retime<R: Source, W: Sink>(
     alloc: Global,
     words: &[String],

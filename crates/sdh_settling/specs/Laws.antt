@@ -42,8 +42,9 @@ StillRingsAreSettled =
 abbrev pub FreeRounds : Type 0
 FreeRounds = (needs : List Needs) (held : List Bool) (s : Signals) → All (λ b. b ≡ false) held → round needs held s ≡ free_round needs s
 
--- Convergence: whatever its words were, as long as each had a source in the ring, and whatever its filters kept, a ring of signals whose
--- needs stay the same and in which no node is held is in the settled states after 4n + 8 rounds, and changes no word and no state after 5n + 8 rounds.
+-- Convergence. A ring of signals whose needs stay and in which no node is held is in the settled states after 4n + 8
+-- rounds, and changes no word and no state after 5n + 8 rounds. That is so whatever its filters kept and whatever its
+-- words were, as long as each word had a source in the ring.
 pub record Settles (needs : List Needs) (s : Signals) : Type 0 where
   pub settled : (t : ℕ) → 4 * length s.ids + 8 ≤ t → (rounds needs t s).states ≡ settled_states (requests_in needs)
   pub words : (t : ℕ) → 5 * length s.ids + 8 ≤ t → (rounds needs (suc t) s).words ≡ (rounds needs t s).words

@@ -8,10 +8,10 @@ use Rattle.sdh_whatif_cli.specs.Cases.{case_at, is_told, told_below, is_in_part}
 use Rattle.sdh_whatif_cli.specs.Lines.{script_text, line_text, line_at}
 use Rattle.sdh_whatif_cli.specs.Reading.{texts_in, field_read, steps_read, PassChecks}
 
--- The line of a number of digits, where it is in the part that is asked for, is that of its case. The texts of its
--- steps, as a reader of the line takes them out of their field and the reader of plans reads them, are what the longer
--- plan has after the plan's own, and pass the checks of their words. The longer plan is a plan exactly where there is
--- room for it. The last report that it comes to shows each port as the line says of its circuit.
+-- The line of a number of digits, where it is in the part that is asked for, is that of its case. A reader of the line
+-- takes the texts of its steps out of their field, and the reader of plans reads them: they are what the longer plan
+-- has after the plan's own, and pass the checks of their words. The longer plan is a plan exactly where there is room
+-- for it. The last report that it comes to shows each port as the line says of its circuit.
 pub record IsTrueLine (plan : Planned) (ask : Ask) (c : ℕ) : Type 0 where
   pub line : is_in_part ask (told_below plan ask c) ≡ true
       → line_at plan ask c ≡ line_text plan (case_at plan c) (record { form = ask.form; number = told_below plan ask c })

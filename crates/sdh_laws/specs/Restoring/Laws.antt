@@ -29,10 +29,10 @@ use Rattle.sdh_laws.specs.Converging.Steady.{IsUnslipped}
 abbrev pub NoneHeld : World → Type 0
 NoneHeld w = AtEach (λ p n. is_held n ≡ false) w.ring.nodes
 
--- From every whole ring on: all nodes are in the settled states, and every port delivers what it is owed, in each round from number
--- 12n + 102 on, whatever the nodes' interpreters, generators, parities, words, filters and held turns were, however many slips wait at
--- their ports, and whichever fibres are cut or degraded. That is 294 in a ring of 16, so less than 400 rounds, in which 400 frames
--- of 125 microseconds cross each span.
+-- From every whole ring on, in each round from number 12n + 102 on, all nodes are in the settled states and every port
+-- delivers what it is owed. That is so whatever the nodes' interpreters, generators, parities, words, filters and held
+-- turns were, however many slips wait at their ports, and whichever fibres are cut or degraded. The number is 294 in a
+-- ring of 16, so less than 400 rounds, in which 400 frames of 125 microseconds cross each span.
 abbrev pub RingsAreRestoredSoon : Type 0
 RingsAreRestoredSoon =
     (w : World) → IsWhole w → HasCircuits (layout_of w) → (k : ℕ) → 12 * length w.ring.ids + 102 ≤ k
