@@ -144,7 +144,7 @@ fn three_arrivals(alloc: Global, rate: Rate) -> Result<Vec<Told>, Fail>
     Ok(arrivals)
 }
 
-// Prepares a plant, sends a frame over a span, and answers what comes.
+// Prepares a plant, sends a frame over a span, and returns what comes.
 fn over_a_span<P: Plant>(alloc: Global, plant: &mut P, rate: Rate) -> Result<Option<u8>, Fail>
     requires { HasNoFibres (P.fibres plant.old) }
 {
@@ -156,7 +156,7 @@ fn over_a_span<P: Plant>(alloc: Global, plant: &mut P, rate: Rate) -> Result<Opt
     Ok(came(plant, Pos(1), Side::West, &mut frame))
 }
 
-// The same for each plant; the last one is given byte 1.
+// Returns what comes over a span of each plant. The last one is given byte 1.
 fn over_each(alloc: Global, rate: Rate) -> Result<[Option<u8>; 4], Fail> {
     let mut failing = FailingPlant::new(alloc, &[(PlantCall::Send, 2)])?;
     let mut told = ToldPlant::new(rate, three_arrivals(alloc, rate)?);

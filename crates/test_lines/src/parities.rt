@@ -56,8 +56,9 @@ fn the_sequence(rt: HostRuntime) -> Result<(), Fail> {
     Ok(())
 }
 
-// The first 9N columns of rows 1 to 3 are left out: of STM-4 the bytes 0 to 35, 1080 to 1115 and 2160 to 2195. Of the
-// bytes that count, those of the first row start at lane 0, as do those of the other rows.
+// Returns BIP-24N of an STM-4 frame with five bytes set. The first 9N columns of rows 1 to 3 are left out: of STM-4 the
+// bytes 0 to 35, 1080 to 1115 and 2160 to 2195. Of the bytes that count, those of the first row start at lane 0, as do
+// those of the other rows.
 fn of_four(four: &mut [u8]) -> [u8; 12]
     requires { length four.old ≡ 9720 }
 {

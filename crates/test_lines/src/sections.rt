@@ -169,7 +169,7 @@ fn read_by_rows(receiving: &mut Section, bytes: &mut [u8]) -> Received
     receiving.finish_read()
 }
 
-// Returns a frame of zeros, by its rows: what is read, and the first two bytes of B2.
+// Reads a frame of zeros by its rows. Returns what is read, and the first two bytes of B2.
 fn by_rows(
     alloc: Global,
     sending: &mut Section,
@@ -190,7 +190,7 @@ fn by_rows(
     Ok((received, bytes[4320], bytes[4321]))
 }
 
-// Three of them, with the rows that come next after them.
+// Reads three frames of zeros by their rows. Returns what is read of each, and the rows that come next after them.
 fn three_by_rows(alloc: Global) -> Result<([(Received, u8, u8); 3], u16, u16), AllocError> {
     let mut sending = Section::try_new(Rate::Four);
     let mut receiving = Section::try_new(Rate::Four);

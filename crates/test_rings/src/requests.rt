@@ -111,7 +111,7 @@ fn asked_at<P: Plant>(ring: &mut Ring, plant: &mut P, now: u64) -> Option<Code>
     asked(ring)
 }
 
-// The fibre is cut, and mended three rounds later; two more are run.
+// Cuts the fibre, mends it three rounds later, and runs two more rounds. Returns whether all of that could be done.
 fn is_mended<P: Plant>(ring: &mut Ring, plant: &mut P) -> bool
     requires prepared { IsPrepared ring.old.settings.rate (length ring.old.ids) (P.fibres plant.old) }
     requires whole { ring.old.broken ≡ false }

@@ -81,7 +81,8 @@ fn settles<P: Plant>(
     Ok(ring.rounds() == u64::from(number) + 1 && has_lines(ring, lines))
 }
 
-// The same, and each port of the one circuit has delivered all that the other end sent `hops` rounds before.
+// Returns whether a settle step ends with the round of this number, each node has its line then, and each port of the
+// one circuit has delivered all that the other end sent `hops` rounds before.
 fn delivers<P: Plant>(
     ring: &mut Ring,
     plant: &mut P,

@@ -223,7 +223,7 @@ fn new_far<'a>(
     })
 }
 
-// What it sends in a round.
+// Keeps what the far end sends in a round.
 fn send(far: &mut Far<'_>, round: u64) {
     let left = far.slips.after(round);
     let sent = sent_in(far.sender.offset, far.slips, left, round);
@@ -237,7 +237,7 @@ fn send(far: &mut Far<'_>, round: u64) {
     far.sent = sent;
 }
 
-// In two of five rounds, up to four slips at a port.
+// Adds up to four slips at a port in two of five rounds.
 fn slip_by_chance(ring: &mut Ring, far: &mut Far<'_>, chance: &mut Chance)
     ensures settings { ring.new.settings ≡ ring.old.settings }
     ensures ids { ring.new.ids ≡ ring.old.ids }
@@ -255,8 +255,8 @@ fn slip_by_chance(ring: &mut Ring, far: &mut Far<'_>, chance: &mut Chance)
     }
 }
 
-// One round, before which both clocks slip by chance: whether each port delivers what the other end sent in the round before, and as
-// many slips wait as are to.
+// Runs one round, before which both clocks slip by chance. Returns whether each port delivers what the other end sent
+// in the round before, and as many slips wait as are to.
 fn go<P: Plant>(
     ring: &mut Ring,
     plant: &mut P,
@@ -447,7 +447,7 @@ fn comes_out<P: Plant>(
     Ok(a && b && at_a && at_b)
 }
 
-// The same of a ring of four nodes with a circuit over two spans.
+// Returns whether a row comes out in a new ring of four nodes with a circuit over two spans.
 fn row_comes_out<P: Plant>(alloc: Global, plant: &mut P, row: Row) -> Result<bool, AllocError>
     requires { HasNoFibres (P.fibres plant.old) }
 {

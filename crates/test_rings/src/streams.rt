@@ -58,8 +58,8 @@ fn parity_but_b3(sender: Sender<'_>, number: u64) -> u8
     parity
 }
 
-// B3 has the parity of the VC-4 before it, whose B3 has that of the one before that, and so on: so it has the parity of all
-// bytes before it but the B3s.
+// Returns the B3 of a VC-4. B3 has the parity of the VC-4 before it, whose B3 has that of the one before that, and so
+// on: so it has the parity of all bytes before it but the B3s.
 fn b3(sender: Sender<'_>, number: u64) -> u8
     requires text { 1 ≤ length sender.text.now }
     requires few { number ≤ 10000 }

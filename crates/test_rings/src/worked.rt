@@ -146,7 +146,7 @@ fn comes_out<P: Plant>(
     Ok(a && b && befell && ended && shown)
 }
 
-// At either rate.
+// Returns whether a row comes out at either rate.
 fn both_come_out(alloc: Global, row: Row) -> bool {
     let (mut four, mut sixteen) = (FibrePlant::new(), FibrePlant::new());
     comes_out(alloc, &mut four, Rate::Four, row) == Ok(true)

@@ -52,7 +52,8 @@ fn four(one: Needs, two: Needs, three: Needs, four: Needs) -> [Needs; 4]
     [one, two, three, four]
 }
 
-// Rounds with the same needs and no held node until the ring of four is still: how many, or 0 where 40 are too few.
+// Runs rounds with these needs and no held node until the ring of four is still. Returns how many, or 0 where 40 are
+// too few.
 fn rounds_until_still(ring: &mut SignalRing, needs: &[Needs]) -> u32
     requires four { length ring.old.ring.ids ≡ 4 }
     requires needs { length needs.now ≡ 4 }
@@ -163,7 +164,8 @@ const IDLE: &[Line] = &[
     (Idle, (0x03, 0x40), (0x01, 0x40)),
 ];
 
-// Before a ring without requests runs, and after each of four rounds: whether it is still, and whether it has these lines.
+// Returns whether a ring without requests is still, and whether it has these lines, before it runs and after each of
+// four rounds.
 fn idle_rounds(ring: &mut SignalRing) -> [(bool, bool); 5]
     requires four { length ring.old.ring.ids ≡ 4 }
 {
