@@ -101,7 +101,7 @@ impl CircuitMap {
         Ok(circuit)
     }
 
-    /// Adds the circuit that is asked for after the others, or answers the first check that fails: the slot, the ends,
+    /// Adds the circuit that is asked for after the others, or returns the first check that fails: the slot, the ends,
     /// that they are two nodes, both offsets, both texts, both traces, the name, and that no other circuit is on one of
     /// its spans in its slot. A refusal changes nothing.
     pub fn add(&mut self, map: &RingMap, asked: &Asked<'_>) -> Result<(), AddError>

@@ -7,7 +7,7 @@ ghost use Rattle.sdh_outage.specs.Kept.{are_few, AreRunsFew};
 use crate::kind::Kind;
 use sdh_circuits::PortId;
 
-/// How many rounds a switch may take, 50 ms of frames (ITU-T G.841).
+/// The number of rounds that a switch may take, 50 ms of frames (ITU-T G.841).
 const SWITCH_MAX: u32 = 400;
 
 /// The rounds from one to another.

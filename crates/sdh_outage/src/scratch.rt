@@ -10,10 +10,10 @@ use std::alloc::{AllocError, Global};
 use std::fmt;
 use std::marker::Model;
 
-/// How many chunks are near.
+/// The number of chunks that are near.
 pub(crate) const CHUNKS: u32 = 78;
 
-/// How many rounds before a round's own the first of them is sent.
+/// The number of near chunks before a round's own.
 pub(crate) const BEHIND: u32 = 71;
 
 /// Room for the bytes of a customer that are near in a round, made anew for each look. Its memory is taken when it is made, and serves

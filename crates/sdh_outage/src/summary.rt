@@ -9,15 +9,15 @@ use crate::outage::Outage;
 /// What is said of the outages of all ports of a settle step.
 #[derive(Clone, Copy, Debug, PartialEq, Eq)]
 pub struct Summary {
-    /// How many rounds the longest run has of the ports that came back.
+    /// The number of rounds of the longest run of the ports that came back.
     pub longest: u32,
-    /// How many of these were out for more than 400 rounds at a time.
+    /// The number of these ports that were out for more than 400 rounds at a time.
     pub over: u32,
-    /// How many ports were never out.
+    /// The number of ports that were never out.
     pub none: u32,
-    /// How many are out still.
+    /// The number of ports that are out still.
     pub still: u32,
-    /// How many got what a port of another circuit sends.
+    /// The number of ports that got what a port of another circuit sends.
     pub foreign: u32,
 }
 

@@ -8,7 +8,7 @@ use crate::kind::Kind;
 use std::alloc::{AllocError, Global};
 use std::marker::Model;
 
-/// How many changes of a settle step are kept.
+/// The number of changes of a settle step that are kept.
 const KEPT: u32 = 64;
 
 /// The changes of a port in the rounds of a settle step: the first of them, and how many there were.

@@ -15,7 +15,7 @@ use std::alloc::{AllocError, Global};
 use std::fmt;
 use std::marker::Model;
 
-/// How many chunks hold the last one and that after it, wherever they begin.
+/// The number of chunks that hold the last one and the one after it, wherever they begin.
 const AHEAD: u32 = 3;
 
 /// The number of chunks that there is room for where the next ones are looked for, so that the bytes aren't moved in

@@ -93,7 +93,7 @@ waiting_waits Down count c = omega arith
 true_false : true ≡ false → ⊥
 true_false e = cc
 
--- at each port at most `slips` wait
+-- at each port at most as many slips wait as `slips` gives
 abbrev pub WaitAtMost : World → (PortId → ℕ) → Type 0
 WaitAtMost w slips = (port : PortId) → waiting_at w.ring port ≤ slips port
 

@@ -72,7 +72,7 @@ fn outcome_of<R: Source>(
     run(alloc, digits, &bytes)
 }
 
-// Does all, and answers how it ended.
+// Does all that the program does, and returns how it ended.
 fn answer<R: Source, W: Sink>(
     alloc: Global,
     words: &[String],

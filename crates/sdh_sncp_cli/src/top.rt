@@ -16,9 +16,9 @@ use sdh_plant::Plant;
 use sdh_scripts::call;
 use std::alloc::Global;
 
-/// Does all that the program does, and answers the number with which it ends. With the word `run` it reads a plan from the source,
-/// runs a path ring of it over the plant, and writes the report of every settle step: its line and that of each port. The last line
-/// says how it ended. All is written once, at the end.
+/// Does all that the program does, and returns the number with which it ends. With the word `run` it reads a plan from
+/// the source, runs a path ring of it over the plant, and writes the report of every settle step: its line and that of
+/// each port. The last line says how it ended. All is written once, at the end.
 pub fn sdhpath<R: Source, W: Sink, P: Plant>(
     alloc: Global,
     words: &[String],

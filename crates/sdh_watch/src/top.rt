@@ -18,7 +18,7 @@ use sdh_plant::Plant;
 use sdh_scripts::call;
 use std::alloc::Global;
 
-/// Does all that the program does, and answers the number with which it ends. With the word `run` it reads a plan from
+/// Does all that the program does, and returns the number with which it ends. With the word `run` it reads a plan from
 /// the source and runs its ring over the plant; after each settle step that ends, a new watch looks at what each port
 /// delivers in 128 more rounds, and the lines of all watches are written after that of the step. The last line says how
 /// it ended. All is written once, at the end.

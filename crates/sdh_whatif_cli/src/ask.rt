@@ -7,7 +7,7 @@ ghost use Rattle.sdh_whatif_cli.specs.Words.{read_word, read_words, is_whole, ma
 
 use sdh_plan::numeral_in;
 
-/// How many failures are taken together at most.
+/// The most failures that are taken together in a case.
 #[derive(Clone, Copy, Debug, PartialEq, Eq)]
 pub enum Depth {
     Single,
