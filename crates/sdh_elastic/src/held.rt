@@ -15,7 +15,7 @@ const KEPT: usize = 3;
 #[derive(Debug, Drop)]
 pub(crate) struct Held {
     chunks: HeapCircularBuffer<Cells>,
-    // How many bytes of these chunks are given already.
+    // The number of bytes of these chunks that are given already.
     given: usize,
     len: usize,
 }

@@ -11,7 +11,7 @@ const FRAME: usize = 2349;
 /// The bytes of a step of the pointer.
 const STEP: usize = 3;
 
-/// How many pointer values there are.
+/// The number of pointer values.
 const VALUES: u16 = 783;
 
 /// Which turn of a store is next, or how many turns ran after turn 2 and the last justification.

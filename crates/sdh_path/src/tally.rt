@@ -20,15 +20,15 @@ const EQUIPPED: u8 = 1;
 /// What is kept of a run of bytes that begins with a VC-4.
 #[derive(Clone, Copy, Debug)]
 pub struct Tally {
-    /// How many VC-4s are whole.
+    /// The number of whole VC-4s.
     pub vcs: u32,
-    /// In how many bits their B3 differ from the parities of the VC-4s before them.
+    /// The number of bits in which their B3 differ from the parities of the VC-4s before them.
     pub b3: u32,
     /// The number of VC-4s that aren't labelled as equipped.
     pub label: u32,
     /// The parity of the last of them.
     pub due: u8,
-    /// How many bytes stand after it, and their parity.
+    /// The number of bytes after the last whole VC-4, and their parity.
     pub index: usize,
     pub parity: u8,
     /// B3 and C2 among these, and 0 where they haven't come.

@@ -32,9 +32,9 @@ pub enum TraceWord {
 /// What a watch reports of the chunks since it began anew.
 #[derive(Clone, Copy, Debug, PartialEq, Eq)]
 pub struct PathReport {
-    /// How many VC-4s there are in them, whole.
+    /// The number of whole VC-4s in these chunks.
     pub vcs: u32,
-    /// In how many bits B3 differs from the parity of the VC-4 before.
+    /// The number of bits in which B3 differs from the parity of the VC-4 before.
     pub b3: u32,
     /// The number of VC-4s that aren't labelled as equipped.
     pub label: u32,

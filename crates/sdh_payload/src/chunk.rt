@@ -4,8 +4,8 @@ ghost use Rattle.sdh_payload.specs.Chunk.{taken, taken_len, laid_payload, laid_h
 
 use crate::cells::Cells;
 
-/// How many bytes an AU-4 delivers in a frame: fewer or more in a frame with a pointer justification
-/// (ITU-T G.707 clause 8.1).
+/// The number of bytes that an AU-4 delivers in a frame: fewer or more in a frame with a pointer justification (ITU-T
+/// G.707 clause 8.1).
 #[derive(Clone, Copy, Debug, PartialEq, Eq)]
 pub enum ChunkForm {
     /// The 2349 bytes of the payload.

@@ -5,7 +5,7 @@ ghost use Rattle.sdh_payload.specs.Clock.{new_clock, waiting, with_waiting, next
 use crate::chunk::ChunkForm;
 use std::marker::Model;
 
-/// How many values an AU-4 pointer has.
+/// The number of values of an AU-4 pointer.
 const VALUES: u16 = 783;
 
 /// A slip of a customer's clock against the ring's, which its port makes good by a justification of the AU-4 pointer
@@ -24,7 +24,7 @@ pub struct Clock {
     rounds: u64,
     ups: u8,
     downs: u8,
-    // How many rounds come before one that may slip.
+    // The number of rounds still to come before one that may slip.
     rest: u8,
     sent: u64,
     value: u16,

@@ -5,7 +5,7 @@ ghost use Rattle.sdh_plan.specs.Counted.{slips_in};
 
 use sdh_circuits::{End, PortId};
 
-/// How many slips each port was given.
+/// The number of slips that each port was given.
 #[derive(Debug, Drop)]
 pub struct Slips {
     at_a: [u8; 256],

@@ -50,7 +50,7 @@ pub trait Plant {
     /// The fibres, with the arrivals to come and the frames sent, as far as the plant shows them.
     ghost fibres: { Self → Fibres };
 
-    /// How often a call has failed. It never falls, and stands still at its type's end.
+    /// The number of calls that have failed. It never falls, and stands still at its type's end.
     ghost faults: { Self → ℕ };
 
     /// The count rises by one with each call that fails, and with nothing else.

@@ -32,7 +32,7 @@ pub enum Told {
 pub struct ToldPlant {
     plant: FibrePlant,
     arrivals: Vec<Told>,
-    // How many of them were given.
+    // The number of arrivals that were given.
     next: usize,
 }
 

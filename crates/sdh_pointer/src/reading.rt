@@ -62,14 +62,14 @@ const LAST: u16 = 782;
 // The number of values that the last ten bits of a word can hold.
 const VALUE_END: u16 = 1024;
 
-// How many AIS words, equal new values and invalid words in a row are needed.
+// The numbers of AIS words, of equal new values and of invalid words in a row that are needed.
 const AIS_NEEDED: u8 = 3;
 
 const NEWS_NEEDED: u8 = 3;
 
 const BAD_NEEDED: u8 = 8;
 
-// How many steps must lie between a new data flag or a justification and the next justification.
+// The number of steps that must lie between a new data flag or a justification and the next justification.
 const STEADY: u8 = 3;
 
 // Returns a state in which nothing is counted.

@@ -12,7 +12,7 @@ pub trait Output {
     /// The bytes that were written, where the output shows them.
     ghost written: { Self → Option (List ℕ) };
 
-    /// How often writing a piece has failed.
+    /// The number of times that writing a piece has failed.
     ghost faults: { Self → ℕ };
 
     /// The count rises by one with each piece that wasn't written whole, and with nothing else.

@@ -7,7 +7,8 @@ use sdh_outside::{MemSink, MemSource};
 use sdh_plant::Plant;
 use std::alloc::{AllocError, Global};
 
-/// How many bytes a source and a sink give and take at a time, and the numbers of the read and the write that fail, 0 for none.
+/// The number of bytes that a source and a sink give and take at a time, and the numbers of the read and the write that
+/// fail, 0 for none.
 #[derive(Clone, Copy)]
 pub struct Failing {
     pub piece: usize,

@@ -25,7 +25,7 @@ use sdh_report::Text;
 use sdh_ring::{PlantFault, Ring};
 use std::alloc::{AllocError, Global};
 
-/// How many rounds are watched after each settle step.
+/// The number of rounds that are watched after each settle step.
 const ROUNDS: u32 = 128;
 
 /// The watches on both ports of a circuit.
