@@ -1,5 +1,5 @@
-# Completion of sdhring, sdhwatch, sdhoutage, sdhpath, sdhretime, sdhwhatif and the tools beside them, for bash: source
-# it, or have `--install` put it in place.
+# Completion of sdhring, sdhwatch, sdhoutage, sdhpath, sdhretime, sdhwhatif, sdhaps and the tools beside them, for bash:
+# source it, or have `--install` put it in place.
 
 _sdhring_words() {
   local program=${COMP_WORDS[0]##*/} word=${COMP_WORDS[COMP_CWORD]}
@@ -11,6 +11,7 @@ _sdhring_words() {
     sdhwatch:1:* | sdhpath:1:*) mapfile -t COMPREPLY < <(compgen -W "run $1" -- "$word") ;;
     sdhwhatif:1:*) mapfile -t COMPREPLY < <(compgen -W "single double triple $1" -- "$word") ;;
     sdhwhatif:*) mapfile -t COMPREPLY < <(compgen -W "degraded fibres spans nodes manual forced part head json summary" -- "$word") ;;
+    sdhaps:1:*) mapfile -t COMPREPLY < <(compgen -W "run node $1" -- "$word") ;;
     sdhretime:1:*) mapfile -t COMPREPLY < <(compgen -W "$1" -- "$word") ;;
     *:*:--install | *:*:--uninstall) compopt -o dirnames ;;
   esac
@@ -31,14 +32,14 @@ _sdhring_tools() {
     sdhring-plan) words='new import --nodes --rate --threshold --wait --limit --steps --to --version --help' ;;
     sdhring-availability) words='--nodes --groups --cuts-per-1000-km --without-script --csv --json --causes --version --help' ;;
     sdhring-desk) words='--to --title --depth --spans --nodes --groups --cuts-per-1000-km --teller --version --help' ;;
-    sdhring-view) words='--to --svg --outages --program --version --help' ;;
+    sdhring-view) words='--to --svg --outages --signalling --program --version --help' ;;
     sdhring-whatif) words='--also --works --title --without-script --kinds --dir --program --jobs --shard --sshlogin --parallel --all --depth --frames --against --outages --require --teller --counter --anew --version --help' ;;
   esac
   mapfile -t COMPREPLY < <(compgen -W "$words" -- "$word")
   [ "${#COMPREPLY[@]}" -ne 0 ] || compopt -o default
 }
 
-complete -F _sdhring {,./}sdh{ring,watch,outage,path,retime,whatif}
+complete -F _sdhring {,./}sdh{ring,watch,outage,path,retime,whatif,aps}
 complete -F _sdhring_tools {,./}sdhring-{availability,desk,explain,plan,report,view,whatif}
 # repository
 complete -F _sdhring_tools {,./}tools/rows

@@ -11,7 +11,7 @@ from .build import HOME, PROGRAMS, record_of, version, write_build
 TOOLS = ("sdhring-availability", "sdhring-desk", "sdhring-explain", "sdhring-plan", "sdhring-report", "sdhring-view", "sdhring-whatif")
 DOCUMENTS = (
     *("AVAILABILITY.md", "DESK.md", "FORMATS.md", "LOOKING.md", "OUTAGES.md", "PATHS.md", "RETIMING.md", "RING.md", "TABLES.md", "WATCHING.md"),
-    "WHATIF.md",
+    *("SIGNALLED.md", "WHATIF.md"),
 )
 LIB, DOC, MAN = "lib/sdhring", "share/doc/sdhring", "share/man/man1"
 COMPLETIONS = "share/bash-completion/completions"

@@ -12,6 +12,7 @@ CODES = {
     0: ("NR", "no request"),
 }
 MARKS = {7: "MS-AIS", 6: "RDI", 2: "bridged and switched", 1: "bridged", 0: "idle"}
+MARK_LETTERS = {7: "AIS", 6: "RDI", 2: "BrSw", 1: "Br", 0: "Id"}
 
 
 @dataclass(frozen=True)
@@ -27,6 +28,23 @@ class Word:
     def mark(self):
         return self.k2 & 7
 
+    @property
+    def to(self):
+        return self.k1 & 15
+
+    @property
+    def sender(self):
+        return self.k2 >> 4
+
+    @property
+    def path(self):
+        return "long" if self.k2 & 8 else "short"
+
+    @property
+    def counts(self):
+        """What makes it another word for those who hear it: all of it but the mark."""
+        return self.k1, self.k2 >> 3
+
     def known(self):
         return self.code in CODES and self.mark in MARKS
 
@@ -36,5 +54,8 @@ class Word:
     def words(self):
         """As 'SF (signal fail) to 3 from 2, long path, bridged and switched'."""
         short, long = CODES[self.code]
-        path = "long" if self.k2 & 8 else "short"
-        return f"{short} ({long}) to {self.k1 & 15} from {self.k2 >> 4}, {path} path, {MARKS[self.mark]}"
+        return f"{short} ({long}) to {self.to} from {self.sender}, {self.path} path, {MARKS[self.mark]}"
+
+    def letters(self):
+        """Code, destination, source and path, as 'SF/3/2/L'."""
+        return f"{CODES[self.code][0]}/{self.to}/{self.sender}/{self.path[0].upper()}"

@@ -46,6 +46,8 @@ class Outage:
     is_out_still: bool  # whether that holds at the end of the step
     starts: bool = False  # whether it begins with the ring, in round 0
     is_whole: bool = True  # whether it is one stretch of rounds
+    begin: int | None = None  # its first round, and its last one; none where nothing was amiss
+    end: int | None = None
 
     @property
     def jumps(self):
@@ -156,7 +158,8 @@ def read_port(lines, name, end, first, last):
         return Outage(0, 0, 0, counts, whose, False)
     begin, end_ = int(found[8]), int(found[10])
     lines.check(first <= begin <= end_ <= last and out + odd <= end_ + 1 - begin, "rounds from and to that can't be")
-    return Outage(out, runs, longest, counts, whose, end_ == last and out > 0, begin == 0 < out, out + odd == end_ + 1 - begin)
+    ends = end_ == last and out > 0, begin == 0 < out, out + odd == end_ + 1 - begin
+    return Outage(out, runs, longest, counts, whose, *ends, begin, end_)
 
 
 def read_longest(lines, told):

@@ -25,6 +25,7 @@ FOLDERS = {
     "sdhpath": TESTING / "paths",
     "sdhretime": TESTING / "lines",
     "sdhwhatif": TESTING / "whatif",
+    "sdhaps": TESTING / "signals",
 }
 TABLE = "rows.md"
 COLUMNS = ["Row", "Words", "Plan", "Change", "Status", "Text"]

@@ -75,6 +75,7 @@ class Dist(unittest.TestCase):
             ("sdhring", ["drop", "c1", "a", "examples/tie.toml"], "./sdhring drop c1 a < examples/tie.toml"),
             ("sdhoutage", ["examples/tie.toml"], "./sdhoutage run < examples/tie.toml"),
             ("sdhwhatif", ["double", "examples/tie.toml"], "./sdhwhatif double < examples/tie.toml"),
+            ("sdhaps", ["node", "2", "examples/tie.toml"], "./sdhaps node 2 < examples/tie.toml"),
         ):
             with self.subTest(words=words):
                 ended = run([self.top / name, *words], self.top, input=b"")

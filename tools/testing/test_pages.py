@@ -15,6 +15,7 @@ from ringtools.markup import whole
 
 RINGS_RUN = ["before-maintenance", "end-of-waiting", "node-cut-off", "all-dark", "two-nodes", "longest-route", "span-cut"]
 WEB = TOOLS / "ringtools" / "web"
+CODES = "fs", "sf", "sd", "ms", "wtr", "rr", "nr"  # the codes of K1
 SIGNS = {"kept": "kept", "over": "protection", "lost": "lost"}
 # What a reader does, and what is lit and told after each.
 DEEDS = """
@@ -108,7 +109,7 @@ class Looks(unittest.TestCase):
         light, dark = self.palettes()
         self.assertEqual(set(light), set(dark))
         texts = [("ink", ("paper", "head", "set-off", "over-cell", "applied")), ("soft", ("paper",)), ("own", ("paper",)), ("lost-ink", ("lost-cell",))]
-        lines = [(name, ("paper",)) for name in ("fibre", "over", "degraded", "applied-edge", "wrong", "edge", "cut")]
+        lines = [(name, ("paper",)) for name in ("fibre", "over", "degraded", "applied-edge", "wrong", "edge", "cut", *CODES)]
         for palette in (light, dark):
             for pairs, least in ((texts, 4.5), (lines, 3)):
                 for name, grounds in pairs:
@@ -118,7 +119,7 @@ class Looks(unittest.TestCase):
 
     def test_no_colour_besides_the_palette(self):
         """So that nothing stays light in the dark."""
-        for name in ("page.css", "drawing.css", "whatif.css"):
+        for name in ("page.css", "drawing.css", "whatif.css", "spacetime.css", "signals.css"):
             style = (WEB / name).read_text()
             self.assertIsNone(re.search(r":[^;{}]*(#[0-9a-f]{3}|\brgb|\b(black|white)\b(?!-))", style), name)
             self.assertLessEqual(set(re.findall(r"var\(--([a-z-]+)\)", style)), set(self.palettes()[0]))
