@@ -1,4 +1,4 @@
--- Whether a node shows the same in two rounds.
+-- Whether what a node shows is equal in two rounds.
 use Rattle.std.specs.Prelude.{ℕ, Bool, true, false, ◌==◌, ◌&&◌, Option, Some, None}
 use Rattle.sdh_terms.specs.Requests.{code_number}
 use Rattle.sdh_report.specs.declared.node_line.StateWord.{StateWord}
@@ -9,13 +9,13 @@ use Rattle.sdh_aps.specs.declared.shown.Shown.{Shown}
 abbrev pub same_bytes : WordBytes → WordBytes → Bool
 same_bytes v w = (v.first == w.first) && (v.second == w.second)
 
--- the same word is heard, or none twice
+-- one word is heard both times, or none both times
 abbrev pub same_heard : Option WordBytes → Option WordBytes → Bool
 same_heard None None = true
 same_heard (Some v) (Some w) = same_bytes v w
 same_heard v w = false
 
--- the far end is the same, or there is none twice
+-- there is one far end both times, or none both times
 abbrev pub same_far : Option ℕ → Option ℕ → Bool
 same_far None None = true
 same_far (Some a) (Some b) = a == b
@@ -29,7 +29,7 @@ same_state word.SwitchEast word.SwitchEast = true
 same_state word.Isolated word.Isolated = true
 same_state s t = false
 
--- the words sent and heard, and the requests
+-- the words sent, those heard, and the requests are equal
 abbrev pub same_words : Shown → Shown → Bool
 same_words a b =
     same_bytes a.sent.west b.sent.west && (same_bytes a.sent.east b.sent.east && (same_heard a.heard_west b.heard_west

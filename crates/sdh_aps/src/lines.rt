@@ -10,7 +10,7 @@ use sdh_terms::Code;
 /// Room for any line of a node in a round, in bytes.
 pub const LINE_MAX: usize = 128;
 
-// The letters of a code.
+// Returns the letters of a code.
 fn letters(code: Code) -> &'static [u8]
     ensures { result.now ≡ code_text code }
 {
@@ -25,7 +25,7 @@ fn letters(code: Code) -> &'static [u8]
     }
 }
 
-// The far end.
+// Appends the far end.
 fn put_far(text: &mut Text, far: Option<u8>)
     requires { length (far_text far) ≤ text.old.room }
     ensures { text.new ≡ with_part text.old (far_text far) }
@@ -36,7 +36,7 @@ fn put_far(text: &mut Text, far: Option<u8>)
     }
 }
 
-// A word that is heard, or none.
+// Appends a word that is heard, or none.
 fn put_heard(text: &mut Text, word: Option<WordBytes>)
     requires { length (heard_text word) ≤ text.old.room }
     ensures { text.new ≡ with_part text.old (heard_text word) }
@@ -47,7 +47,7 @@ fn put_heard(text: &mut Text, word: Option<WordBytes>)
     }
 }
 
-// The state, the far end and the words sent.
+// Appends the state, the far end and the words sent.
 fn put_sent(text: &mut Text, shown: &Shown)
     requires { length (sent_text shown.now) ≤ text.old.room }
     ensures { text.new ≡ with_part text.old (sent_text shown.now) }
@@ -61,7 +61,7 @@ fn put_sent(text: &mut Text, shown: &Shown)
     text.put_word(shown.sent.east);
 }
 
-// The words heard and the requests.
+// Appends the words heard and the requests.
 fn put_heard_and_asked(text: &mut Text, shown: &Shown)
     requires { length (heard_and_asked_text shown.now) ≤ text.old.room }
     ensures { text.new ≡ with_part text.old (heard_and_asked_text shown.now) }
@@ -76,7 +76,7 @@ fn put_heard_and_asked(text: &mut Text, shown: &Shown)
     text.put(letters(shown.asks_east));
 }
 
-// The round, and the identifier of the node.
+// Appends the round, and the identifier of the node.
 fn put_place(text: &mut Text, round: u64, id: u8)
     requires { length (place_text round id) ≤ text.old.room }
     ensures { text.new ≡ with_part text.old (place_text round id) }
@@ -88,7 +88,7 @@ fn put_place(text: &mut Text, round: u64, id: u8)
     text.put(b" ");
 }
 
-// The line, where there is room for it.
+// Appends the line, where there is room for it.
 fn put_line(text: &mut Text, round: u64, id: u8, shown: &Shown)
     requires { length (signal_line round id shown.now) ≤ text.old.room }
     ensures { text.new ≡ with_part text.old (signal_line round id shown.now) }

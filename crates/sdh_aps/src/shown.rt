@@ -25,14 +25,14 @@ pub struct Shown {
     pub asks_east: Code,
 }
 
-// Whether two words have the same bytes.
+// Returns whether two words have the same bytes.
 fn same_bytes(left: WordBytes, right: WordBytes) -> bool
     ensures { result ≡ same_bytes left right }
 {
     left.first == right.first && left.second == right.second
 }
 
-// Whether the same word is heard, or none twice.
+// Returns whether one word is heard both times, or none both times.
 fn same_heard(left: Option<WordBytes>, right: Option<WordBytes>) -> bool
     ensures { result ≡ same_heard left right }
 {
@@ -43,7 +43,7 @@ fn same_heard(left: Option<WordBytes>, right: Option<WordBytes>) -> bool
     }
 }
 
-// Whether the far end is the same, or there is none twice.
+// Returns whether there is one far end both times, or none both times.
 fn same_far(left: Option<u8>, right: Option<u8>) -> bool
     ensures { result ≡ same_far left right }
 {
@@ -54,7 +54,7 @@ fn same_far(left: Option<u8>, right: Option<u8>) -> bool
     }
 }
 
-// Whether two states have one word.
+// Returns whether two states have one word.
 fn same_state(left: StateWord, right: StateWord) -> bool
     ensures { result ≡ same_state left right }
 {
@@ -68,7 +68,7 @@ fn same_state(left: StateWord, right: StateWord) -> bool
     }
 }
 
-// Whether the words sent, those heard, and the requests are the same.
+// Returns whether the words sent, those heard, and the requests are equal.
 fn same_words(left: &Shown, right: &Shown) -> bool
     ensures { result ≡ same_words left.now right.now }
 {
@@ -80,7 +80,7 @@ fn same_words(left: &Shown, right: &Shown) -> bool
         && left.asks_east.number() == right.asks_east.number()
 }
 
-/// Whether a node shows the same.
+/// Returns whether a node shows in two rounds what is equal in all parts.
 pub fn same_shown(left: &Shown, right: &Shown) -> bool
     ensures { result ≡ same_shown left.now right.now }
 {

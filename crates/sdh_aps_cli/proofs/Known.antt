@@ -1,4 +1,4 @@
--- What is shown of a settle step is told by its rounds alone.
+-- What is shown of a settle step depends only on its rounds.
 use Rattle.std.proofs.Common.{◌≡◌, ℕ, ◌+◌, ◌-◌, ◌≤◌, refl, arith}
 use Rattle.sdh_world.specs.Rounds.{World}
 use Rattle.sdh_scripts.specs.Laws.{KeepsRounds}

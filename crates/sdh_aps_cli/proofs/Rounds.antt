@@ -46,7 +46,7 @@ module _ (at : ℕ → World) (k : ℕ) (ring : HeldRing) (ran : RanOne at k rin
         ap (λ l. changes_text listing (changes_in k at) ++ l) text_is
         ∙ sym (flat_map-append (change_text listing) (changes_in k at) (changes_of (at k).ring (at (suc k)).ring))
 
-    -- they were written
+    -- what is recorded with one more round, once its lines were written
     pub recorded_more : (now : List Shown) (before after : Written) (old mid new : Option (List ℕ))
         → IsRecorded listing at k items before old mid → length now ≡ length items → AreShown (shown_at ring) now
         → room_in after ≡ room_in before → Appends mid new text → IsRecorded listing at (suc k) now after old new

@@ -63,7 +63,7 @@ shown_cut how shown e = front_whole (sym (ap (telling_in signalling_endings) e) 
 
 -- ---- what was written
 
--- the text of an outcome was to be written, of which this is the end that was written last
+-- the text of an outcome was to be written; `line` is its end, which was written last
 pub tells_end : (may : Ending → List ℕ → Type 0) (off : Type 0) (told how : Ending) (first line : List ℕ) (old mid new : Option (List ℕ))
     → IsShown signalling_endings told → may told (first ++ line) → Appends old mid first
     → (how ≢ ending.Shared status.WriteFault → (how ≡ told) × Appends mid new line)

@@ -41,7 +41,7 @@ on_ok_is {P = P} r a is x = subst (λ q. OnOk q P) is x
 
 -- ---- a step
 
--- it leaves the nodes as many
+-- a settle step leaves the number of nodes
 pub ids_at : (w left : World) (limit : ℕ) (s : Settles w limit left)
     → length (course_with s.rounds w (length s.rounds)).ring.ids ≡ length w.ring.ids
 ids_at w left limit s =
@@ -49,7 +49,7 @@ ids_at w left limit s =
     ap (λ (v : World). length v.ring.ids) (sym at) ∙ ap (λ (r : HeldRing). length r.ids) (settled_held w left limit s)
 
 module _ (w left : World) (limit number : ℕ) (listing : SignalListing) (old new : Option (List ℕ)) where
-  -- ---- it didn't end
+  -- ---- a settle step that didn't end
 
   -- its whole rounds are in the step
   in_step : (kept_of : (ℕ → World) → ℕ → Type 0) (mid : World) → (x : RanSome adm kept_of w limit mid)
@@ -100,7 +100,7 @@ module _ (w left : World) (limit number : ℕ) (listing : SignalListing) (old ne
         front at k x.kept,
       )
 
-  -- ---- it ended
+  -- ---- a settle step that ended
 
   module _ (kept_of : (ℕ → World) → ℕ → Type 0) (x : Hears adm kept_of w limit left) where
     abbrev at : ℕ → World

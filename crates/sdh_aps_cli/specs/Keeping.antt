@@ -1,4 +1,4 @@
--- What is recorded is told by the rounds that went by alone.
+-- What is recorded depends only on the rounds that have run.
 use Rattle.std.specs.Prelude.{◌≡◌, ℕ, zero, suc, ◌≤◌, List, ◌++◌, Option}
 use Rattle.std.specs.Io.KnownBytes.{Appends}
 use mathlib.Core.Path.{refl, ap, ap₂, subst}
@@ -19,7 +19,7 @@ changes_same (suc k) at bt same =
     let now = same (suc k) (le_refl (suc k)) in
     λ i. past i ++ changes_of (before i).ring (now i).ring
 
--- courses that are the same so far
+-- what is recorded of one course is recorded of an equal course
 pub recorded_same : (listing : SignalListing) (at bt : ℕ → World) (k : ℕ) (items : List Shown) (text : Written) (old new : Option (List ℕ))
     → ((j : ℕ) → j ≤ k → at j ≡ bt j) → IsRecorded listing at k items text old new → IsRecorded listing bt k items text old new
 recorded_same listing at bt k items text old new same x =

@@ -24,6 +24,6 @@ changes_text listing changes = flat_map (change_text listing) changes
 abbrev pub begun_text : SignalListing → Signalled → List ℕ
 begun_text listing s = changes_text listing s.changes
 
--- of a settle step that ended
+-- the text of a settle step that ended
 abbrev pub ended_text : SignalListing → Signalled → List ℕ
 ended_text listing s = begun_text listing s ++ settle_line s.number s.round

@@ -24,7 +24,7 @@ usage = codes "usage: sdhaps run, node ID"
 
 -- ---- with a plan
 
--- it was run over new fibres and the run came to its end: the text is that of its rounds, and the last line
+-- the plan was run over new fibres and the run came to its end: the text is that of its rounds, and the last line
 pub record IsRunOutcome (listing : SignalListing) (plan : Planned) (f : Fibres) (how : Ending) (text : List ℕ) (left : Fibres) : Type 0 where
   pub status : Status
   pub how_is : how ≡ ending.Shared status
@@ -33,7 +33,8 @@ pub record IsRunOutcome (listing : SignalListing) (plan : Planned) (f : Fibres) 
   pub text_is : text ≡ told ++ last_line status
   pub ran : IsTextOf plan listing f told status left
 
--- It is run where it has the node that is asked for. Else the last line is all of the text, and the fibres are left alone.
+-- A plan is run where it has the node that is asked for. Else the last line is all of the text, and the fibres are left
+-- alone.
 abbrev pub of_plan : Bool → SignalListing → Planned → Fibres → Ending → List ℕ → Fibres → Type 0
 of_plan false listing plan f how text left = (how ≡ ending.NoSuchNode) × Says (line_of ending.NoSuchNode) text f left
 of_plan true listing plan f how text left = IsRunOutcome listing plan f how text left
@@ -43,7 +44,7 @@ OfPlan listing plan f how text left = of_plan (has_node listing plan.nodes) list
 
 -- ---- with the bytes of a source
 
--- there is no plan in them, the last line is all of the text, and the fibres are left alone
+-- there is no plan in the bytes, the last line is all of the text, and the fibres are left alone
 pub record HasRefused (bytes : List ℕ) (f : Fibres) (how : Ending) (text : List ℕ) (left : Fibres) : Type 0 where
   pub status : Status
   pub how_is : how ≡ ending.Shared status

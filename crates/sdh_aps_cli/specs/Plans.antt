@@ -1,4 +1,4 @@
--- What is written of a plan whose signalling is shown, over fibres that aren't there yet.
+-- What is written of a plan whose signalling is shown, where its fibres aren't made yet.
 use Rattle.std.specs.Prelude.{ℕ, ◌≡◌, ◌⊎◌, List, [], ◌++◌, Option}
 use Rattle.std.specs.List.{flat_map}
 use Rattle.sdh_plant.specs.Fibres.{Fibres}
@@ -19,12 +19,12 @@ use Rattle.sdh_aps_cli.specs.declared.listing.SignalListing.{SignalListing}
 abbrev pub signalling_account : Account Node Signalled
 signalling_account = record { walk = signalling_walk; new_ring = new_ring_of }
 
--- nothing is owed: over honest fibres too it shows what the rounds were
+-- nothing is owed: over honest fibres too the reports show what the rounds were
 abbrev pub Owes : ReportsOwe Signalled
 Owes plan f reports end left = Unit {0}
 
--- one list, of the settle steps that ended, told in each way: what ran over every plant, what it comes to where the arrivals are known, and
--- over honest fibres that no settle step with a large limit is unsettled
+-- what is so of one list of the settle steps that ended: what ran over every plant, what it comes to where the arrivals
+-- are known, and over honest fibres that no settle step with a limit that is always enough is unsettled
 abbrev pub IsRunOf : Planned → Fibres → List Signalled → Status → Fibres → Type 0
 IsRunOf = plans.IsRunOf signalling_account Owes
 
@@ -44,7 +44,7 @@ pub record IsTextOf (plan : Planned) (listing : SignalListing) (f : Fibres) (tex
   pub tail_is : IsTail plan listing f reports tail end left
   pub text_is : text ≡ flat_map (ended_text listing) reports ++ tail
 
--- a write failed while it ran: a front of that was written, and no round ran after it
+-- a write failed while the plan ran: a front of the text was written, and no round ran after it
 abbrev pub BreaksWriting : Planned → SignalListing → Fibres → Option (List ℕ) → Option (List ℕ) → Fibres → Type 0
 BreaksWriting plan listing f old new left =
     (last : World) × (last.fibres ≡ left)

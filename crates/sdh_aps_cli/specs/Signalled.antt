@@ -16,8 +16,8 @@ use Rattle.sdh_aps.specs.Shown.{same_shown}
 
 -- ---- a node in a round
 
--- what the last round left it to show: its state and the identifier of its far end, the words that it sent, those that it hears, and what
--- its sides ask for
+-- what a node shows after the last round: its state and the identifier of its far end, the words that it sent, those
+-- that it hears, and what its sides ask for
 unfoldable pub shown_of : Node → Shown
 shown_of n = record {
   state = state_word n.state;
@@ -29,7 +29,7 @@ shown_of n = record {
   asks_east = n.east.request;
 }
 
--- of the node at a position
+-- what the node at a position shows
 abbrev pub shown_at : HeldRing → ℕ → Shown
 shown_at r p = shown_of (node_at r.nodes p)
 
@@ -49,21 +49,21 @@ is_told was r p = (r.rounds == 1) || not (same_shown was (shown_at r p))
 abbrev pub change_of : HeldRing → ℕ → Change
 change_of r p = record { round = r.rounds - 1; id = get_or r.ids p 0; shown = shown_at r p }
 
--- the same, where that is shown, and `was` is what each node showed before that round
+-- the change of the node at a position, where it is shown; `was` is what each node showed before that round
 abbrev pub change_at : (ℕ → Shown) → HeldRing → ℕ → List Change
 change_at was r p = if is_told (was p) r p then change_of r p ∷ [] else []
 
--- of the nodes at the first k positions, in ring order
+-- the changes of the nodes at the first k positions, in ring order
 abbrev pub changes_to : (ℕ → Shown) → HeldRing → ℕ → List Change
 changes_to was r k = flat_map (change_at was r) (cells (λ p. p) k)
 
--- of all nodes, in the round that led from one ring to the other
+-- the changes of all nodes, in the round that led from one ring to the other
 abbrev pub changes_of : HeldRing → HeldRing → List Change
 changes_of before after = changes_to (shown_at before) after (length after.ids)
 
 -- ---- a settle step
 
--- in the first k rounds of a course, which gives the world after each number of rounds
+-- the changes in the first k rounds of a course, which gives the world after each number of rounds
 abbrev pub changes_in : ℕ → (ℕ → World) → List Change
 changes_in zero at = []
 changes_in (suc k) at = changes_in k at ++ changes_of (at k).ring (at (suc k)).ring
@@ -74,6 +74,6 @@ pub record Signalled : Type 0 where
   pub round : ℕ
   pub changes : List Change
 
--- of settle step `number`, of which k rounds of a course ran
+-- what is shown of settle step `number`, where k rounds of a course ran in it
 abbrev pub signalled_in : ℕ → (ℕ → World) → ℕ → Signalled
 signalled_in number at k = record { number = number; round = (at k).ring.rounds - 1; changes = changes_in k at }

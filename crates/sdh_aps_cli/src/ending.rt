@@ -10,13 +10,13 @@ use sdh_shell::Ends;
 pub enum Ending {
     /// The plan has no node of the identifier.
     NoSuchNode,
-    /// As the program `sdhring` ends with the same words and plan: `Ok`, `Usage`, `ReadFault`, `WriteFault`, `NotToml`,
-    /// `BadPlan`, `Unsettled`, `PlantFault`, `TooLong` or `Memory`.
+    /// An ending that the program `sdhring` has too: `Ok`, `Usage`, `ReadFault`, `WriteFault`, `NotToml`, `BadPlan`,
+    /// `Unsettled`, `PlantFault`, `TooLong` or `Memory`.
     Shared(Status),
 }
 
 impl Ending {
-    /// The number with which the program ends.
+    /// Returns the number with which the program ends.
     pub fn number(&self) -> u8
         ensures { result ≡ number_of self.now }
     {

@@ -1,10 +1,10 @@
-//! Of which nodes lines are written.
+//! The nodes whose lines are written.
 
-/// Of which nodes lines are written.
+/// The nodes whose lines are written.
 #[derive(Clone, Copy, Debug, PartialEq, Eq)]
 pub enum SignalListing {
-    /// Of all.
+    /// The lines of all nodes.
     All,
-    /// Of the node of this identifier.
+    /// The lines of the node of this identifier.
     Node(u8),
 }

@@ -23,7 +23,7 @@ pub struct SignalRecorder {
     pub listing: SignalListing,
 }
 
-// Whether the lines of the node of an identifier are listed.
+// Returns whether the lines of the node of an identifier are listed.
 fn lists(listing: SignalListing, id: u8) -> bool
     ensures { result ≡ lists listing id }
 {
@@ -91,7 +91,7 @@ fn keep_all(before: &mut Vec<Shown>, ring: &Ring)
     }
 }
 
-// What no node shows.
+// Returns what no node shows.
 fn nothing_shown() -> Shown {
     let none = WordBytes {
         first: 0,
@@ -112,7 +112,7 @@ fn nothing_shown() -> Shown {
 }
 
 impl SignalRecorder {
-    /// Returns one for a ring of so many nodes. All memory is taken here.
+    /// Returns a recorder for a ring of `nodes` nodes, which nothing has been shown to. All memory is taken here.
     pub fn try_new(
         alloc: Global,
         nodes: usize,

@@ -1,4 +1,4 @@
-//! The rounds of a settle step, recorded one by one.
+//! The rounds of a settle step, recorded one after the other.
 ghost use Rattle.std.specs.Prelude.{◌≡◌};
 ghost use Rattle.sdh_aps_cli.specs.Recording.{IsRecorded, IsCut, NoneFailed, OneFailed};
 ghost use Rattle.sdh_aps_cli.specs.Keeping.{recorded_same};

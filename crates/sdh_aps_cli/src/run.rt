@@ -18,9 +18,9 @@ use sdh_ring::Ring;
 use sdh_scripts::run_script;
 use std::alloc::{AllocError, Global};
 
-/// Runs the script of a plan over new fibres, and writes how its ring signals, round by round. It answers how the script ended: `Ok`,
-/// `Unsettled` or `PlantFault`; or `WriteFault`, where a write failed, and nothing more was run. All memory is taken before the first
-/// round.
+/// Runs the script of a plan over new fibres, and writes how its ring signals, round by round. Returns how the script
+/// ended: `Ok`, `Unsettled` or `PlantFault`; or `WriteFault`, where a write failed, and nothing more was run. All
+/// memory is taken before the first round.
 pub fn run_plan<W: Sink, P: Plant>(
     alloc: Global,
     plan: Plan,

@@ -1,4 +1,4 @@
-//! A ring that a script is run over, of which each round is shown.
+//! A ring that a script is run over, with each round shown.
 ghost use Rattle.sdh_node.specs.Node.{Node as AddDrop};
 ghost use Rattle.sdh_owed.specs.Running.{MayRun as MayRunRing};
 ghost use Rattle.sdh_aps_cli.specs.Signalled.{Signalled};

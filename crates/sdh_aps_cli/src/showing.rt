@@ -12,7 +12,7 @@ use sdh_report::{StateWord, WordBytes};
 use sdh_ring::Ring;
 use sdh_ringmap::{Pos, Side};
 
-// The word of a state.
+// Returns the word of a state.
 fn state_told(state: &NodeState) -> StateWord
     ensures { result ≡ state_word state.now }
 {
@@ -25,7 +25,7 @@ fn state_told(state: &NodeState) -> StateWord
     }
 }
 
-// The bytes of a word.
+// Returns the bytes of a word.
 fn bytes_told(word: K) -> WordBytes
     requires to { word.to ≤ 15 }
     requires from { word.from ≤ 15 }
@@ -35,7 +35,7 @@ fn bytes_told(word: K) -> WordBytes
     WordBytes { first, second }
 }
 
-// The bytes of a word that is heard.
+// Returns the bytes of a word that is heard.
 fn heard_told(word: Option<K>) -> Option<WordBytes>
     requires { IfSome word IsSpellable }
     ensures { result ≡ option_map bytes_told word }
@@ -46,7 +46,7 @@ fn heard_told(word: Option<K>) -> Option<WordBytes>
     }
 }
 
-// What a node shows since the last round.
+// Returns what a node shows since the last round.
 #[tactic(auto, unfolding(crate::specs::Signalled::shown_of))]
 fn shown_of(node: &Adm) -> Shown
     ensures { result ≡ shown_of node.now }

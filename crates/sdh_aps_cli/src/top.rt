@@ -25,7 +25,7 @@ use sdh_report::{LINE_MAX, Status, Text};
 use sdh_shell::{Ends, NoPlan, plan_in};
 use std::alloc::{AllocError, Global};
 
-// Writes the last line of an ending, and answers that, or a write fault.
+// Writes the last line of an ending, and returns that ending, or a write fault.
 fn end<W: Sink>(sink: &mut W, mut text: Text, ending: Ending) -> Ending
     requires room { 96 ≤ text.room }
     requires empty { text.bytes ≡ [] }
@@ -44,7 +44,7 @@ fn end<W: Sink>(sink: &mut W, mut text: Text, ending: Ending) -> Ending
     }
 }
 
-// Runs a plan and writes how its ring signals, and the last line.
+// Runs a plan and writes how its ring signals, and the last line. Returns how it ended.
 fn answer_run<W: Sink, P: Plant>(
     alloc: Global,
     plan: Plan,
@@ -73,7 +73,7 @@ fn answer_run<W: Sink, P: Plant>(
     }
 }
 
-// What is asked for, with the plan that a source has.
+// Returns what is asked for, with the plan that a source has.
 fn answer<R: Source, W: Sink, P: Plant>(
     alloc: Global,
     listing: SignalListing,
@@ -94,7 +94,7 @@ fn answer<R: Source, W: Sink, P: Plant>(
         × (W.faults sink.old ≤ W.faults sink.new) }
     ensures memory { OnErr result ((sink.new ≡ sink.old) × (P.fibres plant.new ≡ P.fibres plant.old)) }
 {
-    // Room for the line is taken first, so that a read that fails is always told.
+    // Room for the line is taken first, so that a read that fails is always reported.
     let text = Text::try_new(alloc, LINE_MAX)?;
     match plan_in(alloc, source) {
         Ok(plan) => answer_run(alloc, plan, listing, sink, plant),
@@ -103,7 +103,7 @@ fn answer<R: Source, W: Sink, P: Plant>(
     }
 }
 
-// Writes how the program is called.
+// Writes how the program is called, and returns that ending, or a write fault.
 fn usage<W: Sink>(alloc: Global, sink: &mut W) -> Result<Ending, AllocError>
     ensures whole { IfOk result (λ how. how ≢ Ending.Shared Status.WriteFault
         → (how ≡ Ending.Shared Status.Usage) × Appends (W.written sink.old) (W.written sink.new) (own_line usage)) }
@@ -123,10 +123,11 @@ fn usage<W: Sink>(alloc: Global, sink: &mut W) -> Result<Ending, AllocError>
     }
 }
 
-/// Does all that the program does. With the word `run` it reads a plan from the source and runs its ring over the plant. Of the first round
-/// it writes what each node shows, and of each later one what each node shows that showed something else before: its state and far end,
-/// the words that it sent, those that it hears, and what its sides ask for. With `node` and an identifier it writes the same of this node
-/// alone. Each round is written before the next one runs, and the last line says how it ended.
+/// Does all that the program does, and returns how it ended. With the word `run` it reads a plan from the source and
+/// runs its ring over the plant. Of the first round it writes what each node shows, and of each later one what each
+/// node shows that showed something else before: its state and far end, the words that it sent, those that it hears,
+/// and what its sides ask for. With `node` and an identifier it writes this of that node alone. Each round is written
+/// before the next one runs, and the last line says how it ended.
 pub fn sdhaps<R: Source, W: Sink, P: Plant>(
     alloc: Global,
     words: &[String],
@@ -136,8 +137,8 @@ pub fn sdhaps<R: Source, W: Sink, P: Plant>(
 ) -> Ending
     requires fresh { HasNoFibres (P.fibres plant.old) }
 
-    // The ending and the text that is written, for a source that tells its bytes, where it is read, and a sink that tells what was
-    // written.
+    // The ending and the text that is written, for a source whose bytes are known, where it is read, and a sink that
+    // shows what was written.
     ensures outcome { IfSome (told_if (is_some (asked (words_of words.now))) (R.left source.old)) (λ bytes.
         Tells (asked (words_of words.now)) bytes (P.fibres plant.old) result (W.written sink.old) (W.written sink.new) (P.fibres plant.new)) }
 

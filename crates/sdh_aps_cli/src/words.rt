@@ -7,7 +7,7 @@ use crate::listing::SignalListing;
 use sdh_plan::numeral_in;
 use sdh_ringmap::RingMap;
 
-// What one word asks for.
+// Returns what one word asks for.
 fn asked_alone(word: &str) -> Option<SignalListing>
     ensures { result ≡ asked_alone word.now }
 {
@@ -18,7 +18,7 @@ fn asked_alone(word: &str) -> Option<SignalListing>
     }
 }
 
-// What a word and an identifier ask for.
+// Returns what a word and an identifier ask for.
 fn asked_of_node(word: &str, id: &str) -> Option<SignalListing>
     ensures { result ≡ asked_of_node word.now id.now }
 {
@@ -29,7 +29,7 @@ fn asked_of_node(word: &str, id: &str) -> Option<SignalListing>
     Some(SignalListing::Node(id as u8))
 }
 
-/// What the words ask for, or `None` where they have none of the forms that there are.
+/// Returns what the words ask for, or `None` where they have none of the forms that there are.
 pub fn asked(words: &[String]) -> Option<SignalListing>
     ensures { result ≡ asked (words_of words.now) }
 {
@@ -40,7 +40,7 @@ pub fn asked(words: &[String]) -> Option<SignalListing>
     }
 }
 
-/// Whether a ring has the node that is asked for.
+/// Returns whether a ring has the node that is asked for.
 pub fn has_node(listing: SignalListing, map: &RingMap) -> bool
     ensures { result ≡ has_node listing map.now }
 {

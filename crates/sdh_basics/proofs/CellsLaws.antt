@@ -52,7 +52,7 @@ get_or-map_from f i [] k d e h = absurd (omega arith)
 get_or-map_from f i (x ∷ xs) zero d e h = ap (λ n. f n x) (omega arith)
 get_or-map_from f i (x ∷ xs) (suc k) d e h = get_or-map_from f (i + 1) xs k d e (omega arith) ∙ ap (λ n. f n (get_or xs k d)) (omega arith)
 
--- the same from place 0
+-- an element of a list that is mapped by places, from place 0
 pub get_or-placed : {X Y : Type 0} (f : ℕ → X → Y) (xs : List X) (k : ℕ) (d : X) (e : Y) → k < length xs
     → get_or (map_from f 0 xs) k e ≡ f k (get_or xs k d)
 get_or-placed f xs k d e h = get_or-map_from f 0 xs k d e h ∙ ap (λ n. f n (get_or xs k d)) (omega arith)

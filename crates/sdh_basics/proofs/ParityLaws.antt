@@ -41,7 +41,7 @@ pub bip8-nil : bip8 [] ≡ 0
 unfolding bip8 from_bits
 bip8-nil = refl
 
--- one more byte
+-- BIP-8 of bytes with one more byte
 pub bip8-push : (bytes : List ℕ) (x : ℕ) → x < 2 ^ 8 → bip8 (bytes ++ x ∷ []) ≡ bit_xor (bip8 bytes) x
 bip8-push bytes x h =
     same_from_bits_below 8 _ _ (bip8-lt _) (xor_lt 8 _ _ (bip8-lt bytes) h)
@@ -52,7 +52,7 @@ bip8-push bytes x h =
 mod_sums : (a b : ℕ) → (a + b) % 2 ≡ (a % 2 + b % 2) % 2
 mod_sums a b = omega arith
 
--- of two lists, one after the other
+-- BIP-8 of two lists, one after the other
 pub bip8-append : (xs ys : List ℕ) → bip8 (xs ++ ys) ≡ bit_xor (bip8 xs) (bip8 ys)
 bip8-append xs ys =
     same_from_bits_below 8 _ _ (bip8-lt _) (xor_lt 8 _ _ (bip8-lt xs) (bip8-lt ys))

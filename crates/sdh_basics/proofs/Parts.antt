@@ -12,7 +12,7 @@ length-part a n s h = grind (arith, common_steps)
 pub get_or-part : (a n : ℕ) (s : List ℕ) (k : ℕ) → k < n → get_or (take n (drop a s)) k 0 ≡ get_or s (a + k) 0
 get_or-part a n s k h = grind (arith, elements)
 
--- the places from a up to b, of which there are n
+-- the n places from a up to b
 pub length-range : (a b n : ℕ) (s : List ℕ) → b ≡ a + n → b ≤ length s → length (slice_range s a b) ≡ n
 length-range a b n s e h = omega (arith, length-take (b - a) (drop a s), length-drop a s)
 

@@ -4,8 +4,8 @@ ghost use Rattle.std.specs.Prelude.{◌≡◌, length};
 use sdh_payload::{Cells, Feed, Port};
 use std::alloc::Global;
 
-/// Makes so many chunks of a port's stream, and gives the last of them. It is false where the port can't be made, or there is no
-/// memory or no chunk.
+/// Makes `chunks` chunks of a port's stream, puts the last of them into `out`, and returns whether that was done: false
+/// where the port cannot be made, memory runs out, or `chunks` is 0.
 #[unsafe(no_mangle)]
 pub extern "C" fn sdh_bench_chunks(
     alloc: Global,

@@ -14,7 +14,7 @@ fn rate_of(n: usize) -> Rate
     if n == 4 { Rate::Four } else { Rate::Sixteen }
 }
 
-// A frame of these bytes.
+// Returns a frame of these bytes.
 fn frame_of(alloc: Global, rate: Rate, bytes: &[u8]) -> Result<FrameBuf, AllocError>
     requires { length bytes.now ≡ 2430 * n_of rate }
     ensures { IfOk result (λ frame. frame.rate ≡ rate) }
@@ -24,7 +24,8 @@ fn frame_of(alloc: Global, rate: Rate, bytes: &[u8]) -> Result<FrameBuf, AllocEr
     Ok(frame)
 }
 
-/// Writes the section overhead of a frame so many times over, with the rounds as K bytes. It is false where there is no memory.
+/// Writes the section overhead of a frame `rounds` times, with the number of the round as K bytes. Returns false where
+/// memory runs out.
 #[unsafe(no_mangle)]
 pub extern "C" fn sdh_bench_write_sections(
     alloc: Global,
@@ -47,7 +48,7 @@ pub extern "C" fn sdh_bench_write_sections(
     true
 }
 
-// What a section found, as a number.
+// Returns what a section found, as a number.
 fn number_of(received: Received) -> u64 {
     match received {
         Received::Framed { k1, k2, b1, b2 } => {
@@ -57,7 +58,7 @@ fn number_of(received: Received) -> u64 {
     }
 }
 
-/// Reads a frame so many times over, and gives a sum of what was found. It is 0 where there is no memory.
+/// Reads a frame `rounds` times, and returns a sum of what was found, or 0 where memory runs out.
 #[unsafe(no_mangle)]
 pub extern "C" fn sdh_bench_read_sections(
     alloc: Global,
@@ -81,8 +82,8 @@ pub extern "C" fn sdh_bench_read_sections(
     sum
 }
 
-/// Copies the payload of each AU-4 of a frame so many times over to the AU-4 behind it in another frame, and that of the last to the
-/// first. It gives the other frame, whose overhead is zero. It is false where there is no memory.
+/// Copies the payload of each AU-4 of a frame `rounds` times to the next AU-4 of another frame, and that of the last to
+/// the first. It leaves the other frame, whose overhead is zero, in `bytes`. Returns false where memory runs out.
 #[unsafe(no_mangle)]
 pub extern "C" fn sdh_bench_copy_payloads(
     alloc: Global,
@@ -107,7 +108,7 @@ pub extern "C" fn sdh_bench_copy_payloads(
     true
 }
 
-// Copies the payload of each AU-4 to the one behind it, and of the last to the first.
+// Copies the payload of each AU-4 to the one after it, and of the last to the first.
 fn copy_all(to: &mut FrameBuf, from: &FrameBuf)
     requires { to.old.rate ≡ from.now.rate }
     ensures { to.new.rate ≡ to.old.rate }

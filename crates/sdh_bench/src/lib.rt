@@ -1,6 +1,7 @@
-//! Kernels that `bench/` measures against the same kernels in plain Rust. No other crate uses this one. A function that calls one
-//! kernel states its clauses again. A function that works on a frame or a stream round after round says nothing of its own: the
-//! called crates' contracts tell what a round does, and the measurement compares every byte with plain Rust's.
+//! Kernels that `bench/` measures against the same kernels in plain Rust. No other crate uses this one. A function that
+//! calls one kernel states its clauses again. A function that works on a frame or a stream round after round says
+//! nothing of its own: the called crates' contracts say what a round does, and the measurement compares every byte with
+//! plain Rust's.
 #![tactic(auto)]
 
 mod feeds;
@@ -25,7 +26,7 @@ pub extern "C" fn sdh_bench_scramble(n: usize, bytes: &mut [u8])
     sdh_parity::scramble(Rate9(9 * n), bytes);
 }
 
-/// BIP-8 of these bytes.
+/// Returns BIP-8 of these bytes.
 #[unsafe(no_mangle)]
 pub extern "C" fn sdh_bench_bip8(bytes: &[u8]) -> u8
     ensures { result ≡ parity_of bytes.now }

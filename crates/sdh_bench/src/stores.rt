@@ -5,7 +5,7 @@ use sdh_elastic::Elastic;
 use sdh_payload::Cells;
 use std::alloc::Global;
 
-// So many bytes from a place on.
+// Returns `count` bytes from a place on.
 fn part(bytes: &[u8], from: usize, count: usize) -> &[u8]
     requires { from + count ≤ length bytes.now }
     ensures { length result.now ≡ count }
@@ -13,7 +13,7 @@ fn part(bytes: &[u8], from: usize, count: usize) -> &[u8]
     &bytes[from..from + count]
 }
 
-// The chunk of a turn: four of them are the input, the first with 2346 bytes and the others with 2349.
+// Returns the chunk of a turn. Four of them are the input, the first with 2346 bytes and the others with 2349.
 fn chunk_in(input: &[u8], turn: u32) -> &[u8]
     requires { length input.now ≡ 9393 }
     ensures least { 2346 ≤ length result.now }
@@ -27,8 +27,8 @@ fn chunk_in(input: &[u8], turn: u32) -> &[u8]
     }
 }
 
-/// Takes so many turns of an elastic store, over the input again and again, and gives the bytes of the last turn and their number. It
-/// is 0 where there is no memory or no turn.
+/// Runs an elastic store for `turns` turns over the input, again and again, puts the bytes of the last turn into `out`,
+/// and returns their number, or 0 where memory runs out or `turns` is 0.
 #[unsafe(no_mangle)]
 pub extern "C" fn sdh_bench_turns(alloc: Global, input: &[u8], turns: u32, out: &mut [u8]) -> usize
     requires input { length input.now ≡ 9393 }

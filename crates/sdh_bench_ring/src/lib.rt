@@ -23,7 +23,7 @@ fn rate_of(n: usize) -> Rate
     if n == 4 { Rate::Four } else { Rate::Sixteen }
 }
 
-// The name of a circuit: four letters.
+// Returns the name of a circuit: four letters.
 fn name_at(names: &str, number: usize) -> &str
     requires { number < 128 }
 {
@@ -33,7 +33,8 @@ fn name_at(names: &str, number: usize) -> &str
     }
 }
 
-// So many circuits: the first ones leave each node eastwards for the next in slot 1, those after them in slot 2, and so on.
+// Returns `count` circuits: the first ones leave each node eastwards for the next in slot 1, those after them in slot
+// 2, and so on.
 fn circuits_of(
     alloc: Global,
     rate: Rate,
@@ -68,7 +69,8 @@ fn circuits_of(
     Ok(circuits)
 }
 
-// The ring of these nodes and circuits, and the plant laid for it; a refusal counts as want of memory here.
+// Returns the ring of these nodes and circuits, with the plant prepared for it. A refusal counts as a lack of memory
+// here.
 pub(crate) fn made<P: Plant>(
     alloc: Global,
     plant: &mut P,
@@ -91,7 +93,7 @@ pub(crate) fn made<P: Plant>(
     Ok(Ring::try_new(alloc, settings, map, circuits)?)
 }
 
-// The ring of these nodes with so many circuits.
+// Returns the ring of these nodes with `count` circuits.
 fn laid<P: Plant>(
     alloc: Global,
     plant: &mut P,
@@ -130,7 +132,7 @@ fn cut<P: Plant>(plant: &mut P, at: usize, side: Side)
     let _ = plant.apply(event);
 }
 
-// Cuts so many spans both ways, five nodes apart.
+// Cuts `count` spans in both directions, five nodes apart.
 fn cut_spans<P: Plant>(ring: &Ring, plant: &mut P, count: usize)
     requires prepared { IsPrepared ring.now.settings.rate (length ring.now.ids) (P.fibres plant.old) }
     requires count { count ≤ 3 }
@@ -144,7 +146,7 @@ fn cut_spans<P: Plant>(ring: &Ring, plant: &mut P, count: usize)
     }
 }
 
-// Runs so many rounds.
+// Runs `rounds` rounds.
 pub(crate) fn run<P: Plant>(ring: &mut Ring, plant: &mut P, rounds: u32) -> Result<(), PlantFault>
     requires prepared { IsPrepared ring.old.settings.rate (length ring.old.ids) (P.fibres plant.old) }
     requires whole { ring.old.broken ≡ false }
@@ -168,7 +170,7 @@ fn is_chunk(ring: &Ring, port: PortId) -> bool
     }
 }
 
-// How many ports delivered a chunk in the last round.
+// Returns how many ports delivered a chunk in the last round.
 fn chunks_in(ring: &Ring) -> u32
     ensures { result ≤ 256 }
 {
@@ -184,8 +186,8 @@ fn chunks_in(ring: &Ring) -> u32
     chunks.min(256)
 }
 
-/// Makes a ring of these nodes with so many circuits and so many spans that are cut, runs so many rounds, and tells how many
-/// ports delivered a chunk in the last. It is 1,000 where there is no such ring, or no memory.
+/// Makes a ring of these nodes with `circuits` circuits and `cuts` cut spans, and runs `rounds` rounds. Returns how
+/// many ports delivered a chunk in the last round, or 1,000 where there is no such ring or no memory.
 #[unsafe(no_mangle)]
 pub extern "C" fn sdh_bench_ring(
     alloc: Global,

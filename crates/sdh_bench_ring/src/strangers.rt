@@ -17,10 +17,10 @@ use std::alloc::{AllocError, Global};
 /// What is written of a port in a round: how many bytes it delivered, in two bytes, and they; none where it delivers AIS.
 const PORT_SIZE: usize = 2354;
 
-/// There is room for so many ports in what is written of a round.
+/// The most ports whose state of a round is written.
 const PORTS: usize = 32;
 
-// One byte, and 0 behind the last.
+// Returns one byte, and 0 after the last.
 fn byte_at(bytes: &[u8], at: usize) -> u8 {
     match bytes.get(at) {
         Some(byte) => *byte,
@@ -28,7 +28,7 @@ fn byte_at(bytes: &[u8], at: usize) -> u8 {
     }
 }
 
-// The letter of a port, and none behind the last.
+// Returns the letter of a port, and none after the last.
 fn letter_at(letters: &str, port: usize) -> &str
     requires { port ≤ 1000 }
 {
@@ -38,8 +38,8 @@ fn letter_at(letters: &str, port: usize) -> &str
     }
 }
 
-// The circuits that are asked for, in three bytes each: the nodes from and to which each leads eastwards, and its slot. Its text is
-// one letter at each end, and its name the first of them.
+// Returns the circuits that are asked for, in three bytes each: the nodes from and to which each leads eastwards, and
+// its slot. Its text is one letter at each end, and its name the first of them.
 fn asked_for(
     alloc: Global,
     map: &RingMap,
@@ -69,7 +69,7 @@ fn asked_for(
     Ok(circuits)
 }
 
-// The ring, and the plant laid for it; a refusal counts as want of memory here.
+// Returns the ring, with the plant prepared for it. A refusal counts as a lack of memory here.
 fn laid<P: Plant>(
     alloc: Global,
     plant: &mut P,
@@ -102,7 +102,7 @@ struct Event {
     count: u8,
 }
 
-// The event of this number: four bytes each.
+// Returns the event of this number: four bytes each.
 fn event_at(events: &[u8], number: usize) -> Event
     requires { number ≤ 100000 }
 {
@@ -119,7 +119,7 @@ fn event_at(events: &[u8], number: usize) -> Event
     }
 }
 
-// The fibre that leaves a node on a side is clear, cut or degraded by so many bits.
+// Gives the fibre that leaves a node on a side a condition: clear, cut, or degraded by a number of bits.
 fn bring<P: Plant>(ring: &Ring, plant: &mut P, event: Event)
     requires prepared { IsPrepared ring.now.settings.rate (length ring.now.ids) (P.fibres plant.old) }
     ensures prepared { IsPrepared ring.now.settings.rate (length ring.now.ids) (P.fibres plant.new) }
@@ -138,7 +138,7 @@ fn bring<P: Plant>(ring: &Ring, plant: &mut P, event: Event)
     }
 }
 
-// A side of a node is given a command.
+// Gives a side of a node a command.
 fn order(ring: &mut Ring, event: Event)
     ensures prepared { (n : ℕ) (f : _) → IsPrepared ring.old.settings.rate n f → IsPrepared ring.new.settings.rate n f }
     ensures ids { ring.new.ids ≡ ring.old.ids }
@@ -155,7 +155,7 @@ fn order(ring: &mut Ring, event: Event)
     }
 }
 
-// More slips wait at a port of a circuit.
+// Adds pending slips at a port of a circuit.
 fn slip(ring: &mut Ring, event: Event)
     ensures prepared { (n : ℕ) (f : _) → IsPrepared ring.old.settings.rate n f → IsPrepared ring.new.settings.rate n f }
     ensures ids { ring.new.ids ≡ ring.old.ids }
@@ -180,7 +180,7 @@ fn slip(ring: &mut Ring, event: Event)
     }
 }
 
-// The controller of a node misses so many turns.
+// Lets the controller of a node miss a number of turns.
 fn hold(ring: &mut Ring, event: Event)
     ensures prepared { (n : ℕ) (f : _) → IsPrepared ring.old.settings.rate n f → IsPrepared ring.new.settings.rate n f }
     ensures ids { ring.new.ids ≡ ring.old.ids }
@@ -192,7 +192,7 @@ fn hold(ring: &mut Ring, event: Event)
     }
 }
 
-// The moment goes on.
+// Moves the present moment on, and returns it.
 fn tell(ring: &mut Ring, moment: u64, event: Event) -> u64
     requires moment { ring.old.moment ≡ moment }
     ensures moment { ring.new.moment ≡ result }
@@ -208,7 +208,7 @@ fn tell(ring: &mut Ring, moment: u64, event: Event) -> u64
     now
 }
 
-// What happens between rounds; the moment after it.
+// Does what happens between rounds, and returns the moment after it.
 fn happens<P: Plant>(ring: &mut Ring, plant: &mut P, moment: u64, event: Event) -> u64
     requires prepared { IsPrepared ring.old.settings.rate (length ring.old.ids) (P.fibres plant.old) }
     requires whole { ring.old.broken ≡ false }
@@ -264,7 +264,7 @@ fn write_ports(ring: &Ring, place: &mut [u8]) {
     }
 }
 
-// All that happens, and what the ports deliver in each round; how many rounds ran.
+// Does all that happens, and writes what the ports deliver in each round. Returns how many rounds ran.
 fn episode<P: Plant>(
     ring: &mut Ring,
     plant: &mut P,
@@ -297,8 +297,8 @@ fn episode<P: Plant>(
     Ok(rounds as u32)
 }
 
-/// Makes a ring of these nodes and circuits at STM-4, lets all of this happen to it, and writes what each port delivers in each round. It tells
-/// how many rounds ran, and 1,000,000 where there is no such ring, or no memory.
+/// Makes a ring of these nodes and circuits at STM-4, lets all of this happen to it, and writes what each port delivers
+/// in each round. Returns how many rounds ran, or 1,000,000 where there is no such ring or no memory.
 #[unsafe(no_mangle)]
 pub extern "C" fn sdh_bench_strangers(
     alloc: Global,

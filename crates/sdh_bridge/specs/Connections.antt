@@ -23,7 +23,7 @@ sent_of p (Some r) through =
     if r.from.0 == p.0 then Add (record { circuit = r.circuit; end = A }) else
     if r.to.0 == p.0 then Add (record { circuit = r.circuit; end = B }) else through
 
--- A node at position p of a ring of n. `on` tells the circuit on the span of each side in the slot.
+-- A node at position p of a ring of n. `on` gives the circuit on the span of each side in the slot.
 module _ (n : ℕ) (p : Pos) (on : Side → Option OnSpan) where
   -- the chain of the node where it switches a side and has that far end
   abbrev pub chain_on : Side → Option Pos → Option Chain

@@ -28,7 +28,7 @@ pub enum Origin {
     Ais,
 }
 
-// Whether there is a chain over which the circuit on a side in a slot may be carried.
+// Returns whether there is a chain over which the circuit on a side in a slot may be carried.
 fn may_carry(chain: Option<Chain>, map: &RingMap, table: &Table, side: Side, slot: Slot) -> bool
     requires table { table.now.ring ≡ map.now }
     requires slot { (1 ≤ slot.0) × (slot.0 ≤ 8) }
@@ -42,9 +42,9 @@ fn may_carry(chain: Option<Chain>, map: &RingMap, table: &Table, side: Side, slo
     }
 }
 
-/// What the working arrival of a slot from a side stands for: that arrival; or, where the side is switched, what arrives
-/// on protection from the other side if the circuit may be carried round, and else AIS. A port whose circuit is on the
-/// side delivers it.
+/// Returns what the working arrival of a slot from a side stands for: that arrival; or, where the side is switched,
+/// what arrives on protection from the other side if the circuit may be carried round, and else AIS. A port whose
+/// circuit is on the side delivers it.
 #[tactic(auto, unfolding(crate::specs::Connections::stands_for, crate::specs::Connections::may_carry))]
 pub fn drop_origin(
     state: &NodeState,
@@ -80,8 +80,9 @@ pub fn drop_origin(
     }
 }
 
-/// What leaves on a side in a working slot: the stream of the port where the circuit there ends at the node, else what
-/// the working arrival from the other side stands for; AIS where there is no circuit, and from an isolated node.
+/// Returns what leaves on a side in a working slot: the stream of the port where the circuit there ends at the node,
+/// else what the working arrival from the other side stands for; AIS where there is no circuit, and from an isolated
+/// node.
 #[tactic(auto, unfolding(crate::specs::Connections::leaves_working))]
 pub fn working_origin(
     state: &NodeState,
@@ -120,9 +121,9 @@ pub fn working_origin(
     }
 }
 
-/// What leaves on a side in a protection slot: what arrives on protection from the other side where the node passes
-/// through; what leaves on the other side in the working slot where that side alone is switched and the circuit there
-/// may be carried round; else AIS.
+/// Returns what leaves on a side in a protection slot: what arrives on protection from the other side where the node
+/// passes through; what leaves on the other side in the working slot where that side alone is switched and the circuit
+/// there may be carried round; else AIS.
 #[tactic(auto, unfolding(crate::specs::Connections::leaves_protection, crate::specs::Connections::may_carry))]
 pub fn protection_origin(
     state: &NodeState,

@@ -12,7 +12,7 @@ turned : (b : Bool) (o : Option AddError) → cond (not b) None o ≡ cond b o N
 turned true o = refl
 turned false o = refl
 
--- eight checks, the first seven of which pass
+-- eight checks; the first seven pass
 last : (a b c d e f g h : Bool) (s t u v w x y z : AddError) → a ≡ true → b ≡ true → c ≡ true → d ≡ true → e ≡ true → f ≡ true → g ≡ true
     → cond a (cond b (cond c (cond d (cond e (cond f (cond g (cond h None (Some z)) (Some y)) (Some x)) (Some w)) (Some v)) (Some u))
     (Some t)) (Some s) ≡ cond h None (Some z)

@@ -128,6 +128,6 @@ first_failing (check ∷ later) = if check.0 then first_failing later else Some 
 unfoldable pub refusal : Provisioning → List ℕ → Wish → Option AddError
 refusal before ids wish = first_failing (checks before ids wish)
 
--- the circuit map after the circuit was added: it stands behind the others, and the ring is kept
+-- the circuit map after the circuit was added: it stands after the others, and the ring is kept
 abbrev pub with_circuit : Provisioning → List ℕ → Provisioned → Provisioning
 with_circuit before ids circuit = record { slots = before.slots; ring = Some ids; circuits = before.circuits ++ circuit ∷ [] }

@@ -23,7 +23,7 @@ pub record IsInRing (n : ℕ) (c : Provisioned) : Type 0 where
   pub to_inside : c.to.0 < n
   pub two_ends : c.from.0 ≢ c.to.0
 
--- the circuit's slot is one of so many
+-- the circuit's slot is 1 to `slots`
 pub record IsInSlots (slots : ℕ) (c : Provisioned) : Type 0 where
   pub from_1 : 1 ≤ c.slot.0
   pub small : c.slot.0 ≤ slots
@@ -33,9 +33,8 @@ pub record HasOffsets (c : Provisioned) : Type 0 where
   pub a : c.a.offset ≤ 782
   pub b : c.b.offset ≤ 782
 
--- what is true of the circuits of a ring of n with so many working slots: the ends of each are two nodes of
--- the ring, each slot is one of them, each name has its form, and no two circuits have one name, or
--- share a span and a slot
+-- what is true of the circuits of a ring of n with `slots` working slots: the ends of each are two nodes of the ring,
+-- each slot is one of them, each name has its form, and no two circuits have one name, or share a span and a slot
 pub record AreCircuits (n slots : ℕ) (circuits : List Provisioned) : Type 0 where
   pub in_ring : All (IsInRing n) circuits
   pub in_slots : All (IsInSlots slots) circuits

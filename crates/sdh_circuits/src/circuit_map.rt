@@ -31,8 +31,8 @@ impl Model for CircuitMap {
 }
 
 impl CircuitMap {
-    /// No circuits, at a rate with so many working slots on each span: half of its N. It belongs to no ring before the
-    /// first circuit is added, which brings its ring along.
+    /// Returns an empty map, at a rate with `rate_half` working slots on each span: half of its N. It belongs to no
+    /// ring before the first circuit is added, which brings its ring along.
     pub fn new(alloc: Global, rate_half: u8) -> CircuitMap
         requires { IsRateHalf rate_half }
         ensures { result ≡ record { slots = rate_half; ring = None; circuits = [] } }
@@ -44,7 +44,7 @@ impl CircuitMap {
         }
     }
 
-    // The name, where it has its form and no circuit has it.
+    // Returns the name, where it has its form and no circuit has it.
     fn free_name(&self, name: &str) -> Option<Name>
         ensures free { is_some result ≡ is_free_name self.now.circuits name.now }
         ensures name { IfSome result (λ free. free ≡ name.now) }
@@ -55,7 +55,7 @@ impl CircuitMap {
         Name::new(name.as_bytes())
     }
 
-    // The circuit that is asked for, or the first check that fails.
+    // Returns the circuit that is asked for, or the first check that fails.
     #[tactic(auto, using(crate::proofs::Kept::inside_kept, crate::proofs::Kept::in_ring, crate::proofs::Refusing::last_check), unfolding(crate::specs::Checks::refusal, crate::specs::Checks::checks))]
     fn check(&self, map: &RingMap, asked: &Asked<'_>) -> Result<Circuit, AddError>
         requires { IfSome self.now.ring (λ ids. ids ≡ map.now) }
@@ -101,14 +101,14 @@ impl CircuitMap {
         Ok(circuit)
     }
 
-    /// Adds the circuit that is asked for behind the others, or answers the first check that fails: the slot,
-    /// the ends, that they are two nodes, both offsets, both texts, both traces, the name, and that no other
-    /// circuit is on one of its spans in its slot. A refusal changes nothing.
+    /// Adds the circuit that is asked for after the others, or returns the first check that fails: the slot, the ends,
+    /// that they are two nodes, both offsets, both texts, both traces, the name, and that no other circuit is on one of
+    /// its spans in its slot. A refusal changes nothing.
     pub fn add(&mut self, map: &RingMap, asked: &Asked<'_>) -> Result<(), AddError>
         requires { IfSome self.old.ring (λ kept. kept ≡ map.now) }
         ensures added { OnOk result (self.new ≡ with_circuit self.old map.now (circuit_of map.now (wish_of asked.now))) }
 
-        // The first check that fails is answered, and want of memory only where none does.
+        // The first check that fails is the answer. A lack of memory is one only where no check fails.
         ensures refused { IfSome (refusal self.old map.now (wish_of asked.now)) (λ why. result ≡ Err why) }
         ensures memory { IfNone (refusal self.old map.now (wish_of asked.now)) (IfErr result (λ why. why ≡ AddError.Memory)) }
         ensures unchanged { OnErr result (self.new ≡ self.old) }
@@ -131,7 +131,7 @@ impl CircuitMap {
         Ok(())
     }
 
-    /// How many circuits there are.
+    /// Returns how many circuits there are.
     #[tactic(auto, using(crate::proofs::Few::few_circuits))]
     pub fn len(&self) -> usize
         ensures len { result ≡ length self.now.circuits }
@@ -141,7 +141,7 @@ impl CircuitMap {
         self.circuits.len()
     }
 
-    /// A circuit by its number, counted from 0.
+    /// Returns a circuit by its number, counted from 0.
     pub fn get(&self, circuit: u8) -> &Circuit
         requires { circuit < length self.now.circuits }
         ensures { slice_get self.now.circuits circuit ≡ Some result.now }
@@ -149,7 +149,7 @@ impl CircuitMap {
         &self.circuits[circuit as usize]
     }
 
-    /// The circuit that is on a span in a slot, or `None` where no circuit is.
+    /// Returns the circuit that is on a span in a slot, or `None` where no circuit is.
     pub fn on_span(&self, span: Span, slot: Slot) -> Option<u8>
         ensures { result ≡ on_span self.now span.0 slot.0 }
     {
@@ -158,7 +158,7 @@ impl CircuitMap {
         Some(at as u8)
     }
 
-    /// The circuit of a name, or `None` where no circuit has it.
+    /// Returns the circuit of a name, or `None` where no circuit has it.
     pub fn at_port(&self, name: &str) -> Option<u8>
         ensures { result ≡ at_port self.now name.now }
     {

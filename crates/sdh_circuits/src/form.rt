@@ -10,42 +10,42 @@ use sdh_payload::Port;
 use sdh_payload::port::is_text;
 use sdh_ringmap::{Pos, RingMap};
 
-// Whether the number is from `least` to `most`.
+// Returns whether the number is from `least` to `most`.
 fn is_within(least: u16, most: u16, number: i64) -> bool
     ensures { result ≡ is_within least most number }
 {
     i64::from(least) <= number && number <= i64::from(most)
 }
 
-// Whether the slot is one of so many working slots.
+// Returns whether the slot is a working slot, where there are `slots` of them.
 pub(crate) fn has_slot(slots: u8, asked: &Asked<'_>) -> bool
     ensures { result ≡ has_slot slots (wish_of asked.now) }
 {
     is_within(1, u16::from(slots), asked.slot)
 }
 
-// Whether both offsets are 0 to 782.
+// Returns whether both offsets are 0 to 782.
 pub(crate) fn has_offsets(asked: &Asked<'_>) -> bool
     ensures { result ≡ has_offsets (wish_of asked.now) }
 {
     is_within(0, 782, asked.offset_a) && is_within(0, 782, asked.offset_b)
 }
 
-// Whether both texts have their form.
+// Returns whether both texts have their form.
 pub(crate) fn has_texts(asked: &Asked<'_>) -> bool
     ensures { result ≡ has_texts (wish_of asked.now) }
 {
     is_text(asked.text_a.as_bytes()) && is_text(asked.text_b.as_bytes())
 }
 
-// Whether both traces have their form.
+// Returns whether both traces have their form.
 pub(crate) fn has_traces(asked: &Asked<'_>) -> bool
     ensures { result ≡ has_traces (wish_of asked.now) }
 {
     is_text(asked.trace_a.as_bytes()) && is_text(asked.trace_b.as_bytes())
 }
 
-// The number as an identifier, where it is one.
+// Returns the number as an identifier, where it is one.
 fn identifier(number: i64) -> Option<u8>
     ensures form { IsSome result ↔ (is_id number ≡ true) }
     ensures number { IfSome result (λ id. id ≡ magnitude number) }
@@ -57,14 +57,14 @@ fn identifier(number: i64) -> Option<u8>
     }
 }
 
-// The position of the node with this number.
+// Returns the position of the node with this number.
 fn node_of(map: &RingMap, number: i64) -> Option<Pos>
     ensures { result ≡ node_of map.now number }
 {
     map.find(identifier(number)?)
 }
 
-// The positions of both ends.
+// Returns the positions of both ends.
 pub(crate) fn ends(map: &RingMap, asked: &Asked<'_>) -> Option<(Pos, Pos)>
     ensures missing { IfNone result (has_ends map.now (wish_of asked.now) ≡ false) }
     ensures from { IfSome result (λ ends. node_of map.now asked.now.from ≡ Some ends.0) }
@@ -75,14 +75,14 @@ pub(crate) fn ends(map: &RingMap, asked: &Asked<'_>) -> Option<(Pos, Pos)>
     Some((from, to))
 }
 
-// Whether the ends are two nodes.
+// Returns whether the ends are two nodes.
 pub(crate) fn has_two_ends(asked: &Asked<'_>) -> bool
     ensures { result ≡ has_two_ends (wish_of asked.now) }
 {
     asked.from != asked.to
 }
 
-// The port that is asked for, where its parts have their form.
+// Returns the port that is asked for, where its parts have their form.
 pub(crate) fn port(text: &str, trace: &str, offset: i64) -> Port
     requires text { is_text text.now ≡ true }
     requires trace { is_text trace.now ≡ true }

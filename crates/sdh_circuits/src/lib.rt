@@ -26,7 +26,7 @@ pub enum End {
     B,
 }
 
-/// Whether two ends are the same.
+/// Returns whether two ends are the same.
 pub fn same_end(left: End, right: End) -> bool
     ensures { result ≡ same_end left right }
 {

@@ -35,21 +35,21 @@ impl fmt::Debug for Name {
     }
 }
 
-// Whether a byte may stand in a name.
+// Returns whether a byte may stand in a name.
 fn is_name_byte(byte: u8) -> bool
     ensures { result ≡ is_name_byte byte }
 {
     byte.is_ascii_lowercase() || byte.is_ascii_digit() || byte == b'-' || byte == b'_'
 }
 
-// Whether each byte may stand in a name.
+// Returns whether each byte may stand in a name.
 fn are_name_bytes(bytes: &[u8]) -> bool
     ensures { result ≡ list_all is_name_byte bytes.now }
 {
     bytes.iter().all(|byte| is_name_byte(*byte))
 }
 
-// Whether the bytes are a name.
+// Returns whether the bytes are a name.
 #[tactic(auto, unfolding(crate::specs::Naming::is_name))]
 fn is_name(bytes: &[u8]) -> bool
     ensures form { result ≡ is_name bytes.now }
@@ -59,7 +59,7 @@ fn is_name(bytes: &[u8]) -> bool
 }
 
 impl Name {
-    // The name of these bytes, or `None` where they are none.
+    // Returns the name of these bytes, or `None` where they are none.
     pub(crate) fn new(bytes: &[u8]) -> Option<Name>
         ensures form { is_some result ≡ is_name bytes.now }
         ensures bytes { IfSome result (λ name. name ≡ bytes.now) }
@@ -74,7 +74,7 @@ impl Name {
         Some(Name { bytes: kept })
     }
 
-    /// The bytes of the name.
+    /// Returns the bytes of the name.
     pub fn as_slice(&self) -> &[u8]
         ensures bytes { result.now ≡ self.now }
         ensures form { is_name self.now ≡ true }
@@ -103,7 +103,7 @@ impl Model for Circuit {
 }
 
 impl Circuit {
-    /// Its name, of at most 16 bytes.
+    /// Returns its name, of at most 16 bytes.
     #[tactic(auto, unfolding(crate::specs::Naming::is_name))]
     pub fn name(&self) -> &Name
         ensures name { result.now ≡ self.now.name }
@@ -114,28 +114,28 @@ impl Circuit {
         name
     }
 
-    /// Where its arc starts, and its port A is.
+    /// Returns where its arc starts, and its port A is.
     pub fn from(&self) -> Pos
         ensures { result ≡ self.now.from }
     {
         self.from
     }
 
-    /// Where its arc ends, and its port B is.
+    /// Returns where its arc ends, and its port B is.
     pub fn to(&self) -> Pos
         ensures { result ≡ self.now.to }
     {
         self.to
     }
 
-    /// Its working slot, on each span of its arc.
+    /// Returns its working slot, which it has on each span of its arc.
     pub fn slot(&self) -> Slot
         ensures { result ≡ self.now.slot }
     {
         self.slot
     }
 
-    /// The port at one of its ends.
+    /// Returns the port at one of its ends.
     pub fn port(&self, end: End) -> &Port
         ensures { result.now ≡ customer_at self.now end }
     {

@@ -10,7 +10,7 @@ ghost use Rattle.sdh_circuits.specs.Checks.{do_share};
 use crate::{Circuit, Slot};
 use sdh_ringmap::{RingMap, Span};
 
-// Whether the circuit's arc holds the span.
+// Returns whether the circuit's arc holds the span.
 fn holds(map: &RingMap, circuit: &Circuit, span: Span) -> bool
     requires { IsInRing (length map.now) circuit.now }
     ensures { result ≡ holds_span (length map.now) (arc_of (length map.now) circuit.now) span.0 }
@@ -18,7 +18,7 @@ fn holds(map: &RingMap, circuit: &Circuit, span: Span) -> bool
     map.holds(circuit.from(), circuit.to(), span)
 }
 
-// Whether the circuit is on the span in the slot.
+// Returns whether the circuit is on the span in the slot.
 fn is_on(map: &RingMap, circuit: &Circuit, span: Span, slot: Slot) -> bool
     requires { IsInRing (length map.now) circuit.now }
     ensures { result ≡ is_on (length map.now) span.0 slot.0 circuit.now }
@@ -26,7 +26,7 @@ fn is_on(map: &RingMap, circuit: &Circuit, span: Span, slot: Slot) -> bool
     circuit.slot() == slot && holds(map, circuit, span)
 }
 
-// The first circuit that is on the span in the slot.
+// Returns the first circuit that is on the span in the slot.
 pub(crate) fn index_on(map: &RingMap, circuits: &[Circuit], span: Span, slot: Slot) -> Option<usize>
     requires { All (IsInRing (length map.now)) circuits.now }
     ensures index { result ≡ position (is_on (length map.now) span.0 slot.0) circuits.now }
@@ -37,21 +37,21 @@ pub(crate) fn index_on(map: &RingMap, circuits: &[Circuit], span: Span, slot: Sl
         .position(|circuit| is_on(map, circuit, span, slot))
 }
 
-// Whether the circuit has the name.
+// Returns whether the circuit has the name.
 fn has_name(circuit: &Circuit, name: &str) -> bool
     ensures { result ≡ bytes_eq circuit.now.name name.now }
 {
     circuit.name().as_slice() == name.as_bytes()
 }
 
-// Whether one of the circuits has the name.
+// Returns whether one of the circuits has the name.
 pub(crate) fn is_named(circuits: &[Circuit], name: &str) -> bool
     ensures { result ≡ list_any (λ c. bytes_eq c.name name.now) circuits.now }
 {
     circuits.iter().any(|circuit| has_name(circuit, name))
 }
 
-// The circuit of the name.
+// Returns the circuit of the name.
 pub(crate) fn index_named(circuits: &[Circuit], name: &str) -> Option<usize>
     ensures index { result ≡ position (λ c. bytes_eq c.name name.now) circuits.now }
     ensures within { IfSome result (λ i. i < length circuits.now) }
@@ -61,8 +61,8 @@ pub(crate) fn index_named(circuits: &[Circuit], name: &str) -> Option<usize>
         .position(|circuit| circuit.name().as_slice() == name.as_bytes())
 }
 
-// Whether two circuits share a span and a slot. Two arcs share a span exactly where one of them holds the
-// span at which the other starts.
+// Returns whether two circuits share a span and a slot. Two arcs share a span exactly where one of them holds the span
+// at which the other starts.
 #[tactic(auto, using(crate::proofs::Shares::share_by_starts))]
 fn do_share(map: &RingMap, one: &Circuit, other: &Circuit) -> bool
     requires one { IsInRing (length map.now) one.now }
@@ -73,7 +73,7 @@ fn do_share(map: &RingMap, one: &Circuit, other: &Circuit) -> bool
         && (holds(map, one, Span(other.from().0)) || holds(map, other, Span(one.from().0)))
 }
 
-// Whether one of the circuits shares a span and a slot with this one.
+// Returns whether one of the circuits shares a span and a slot with this one.
 pub(crate) fn is_taken(map: &RingMap, circuits: &[Circuit], circuit: &Circuit) -> bool
     requires circuits { All (IsInRing (length map.now)) circuits.now }
     requires circuit { IsInRing (length map.now) circuit.now }

@@ -1,4 +1,4 @@
--- A circuit that is laid behind others is added: no check refuses it.
+-- A circuit that is laid after others is added: no check refuses it.
 use Rattle.std.proofs.Common.{◌≡◌, ℕ, ◌+◌, ◌-◌, ◌%◌, ◌<◌, ◌≤◌, List, ◌++◌, length, get_or, drop, Bool, true, false, not, cond, ◌&&◌, ◌==◌}
 use Rattle.std.proofs.Common.{nat_le, nat_lt, All, Option, Some, None, codes, refl, unwrap_or, sym, ap, ◌∙◌, subst, arith}
 use Rattle.std.specs.Prelude.{pos, Result, Err, Ok, IfNone, IfErr, OnOk}
@@ -227,7 +227,7 @@ not_refused slot l p two low high is some were =
     (passes _ _ _ (both _ _ a.0 (ap not free))
     (passes _ _ _ (ap (λ d. not (list_any (do_share 16 d) p.circuits)) given ∙ ap not room) refl)))))))
 
--- where no check refuses, want of memory alone is answered
+-- where no check refuses, a lack of memory is the only answer
 pub memory_alone : (o : Option AddError) (r : Result (Unit {0}) AddError) (why : AddError) → o ≡ None → r ≡ Err why
     → IfNone o (IfErr r (λ why. why ≡ refused.Memory)) → why ≡ refused.Memory
 memory_alone None r why e f h = let P : Result (Unit {0}) AddError → Type 0 = λ q. IfErr q (λ why. why ≡ refused.Memory) in subst P f h
@@ -245,7 +245,7 @@ wish_same slot number at spans x y name text_a text_b offset_a offset_b a b c d 
     ∙ ap (λ v. wish_with slot at spans n (n ++ codes "a") (n ++ codes "b") v offset_b) e
     ∙ ap (λ v. wish_with slot at spans n (n ++ codes "a") (n ++ codes "b") (drawn x % 783) v) (f ∙ ap (λ z. drawn z % 783) d)
 
--- so that the circuit is laid where it is added
+-- where a circuit is added for such a wish, the one that is laid is added
 pub added_laid : {E : Type 0} (r : Result (Unit {0}) E) (p q : Provisioning) (ids : List ℕ) (wish : Wish) (slot number at spans x : ℕ)
     → ids ≡ big_nodes → at < 16 → wish ≡ wish_laid slot number at spans x
     → OnOk r (q ≡ with_circuit p ids (circuit_of ids wish)) → OnOk r (q ≡ with_circuit p ids (laid_circuit slot number at spans x))

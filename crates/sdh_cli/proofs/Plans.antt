@@ -47,7 +47,7 @@ module _ (plan : Planned) (f left : Fibres) (reports : List Report) (end : Statu
       subst (RunsWell plan f reports end) x.1 (law plan.settings plan.nodes (provisioning_of plan) f (may_start plan f fits honest)
       (circuits_fit plan fits) plan.limit new_past plan.steps fits.steps_fit reports end x.0 x.2)
 
--- ---- all that is told
+-- ---- all that is so of one run
 
 pub tells : ReportsAreOwed → ScriptsSettle → HealthyScripts → CoursesAreTold
     → (plan : Planned) (listing : Listing) (f left : Fibres) (text : List ℕ) (end : Status) → IsPlanned plan

@@ -149,7 +149,7 @@ module _ (plan : Planned) (at : Pos) (t : SquelchTable) (same : t ≡ table_of p
   abbrev row_in : SquelchTable → Option Row
   row_in x = circuits_at (length x.ring) x.circuits x.at.0 m d
 
-  -- where it tells no circuit there is no line
+  -- where the table has no circuit there is no line
   pub no_line : None ≡ option_map (λ r. r.circuit) (row_in t) → slot_line plan.nodes plan.circuits at.0 d m ≡ []
   no_line none = line_none plan.nodes plan.circuits at.0 d m (none ∙ ap (λ x. option_map (λ (r : Row). r.circuit) (row_in x)) same)
 
@@ -161,24 +161,24 @@ module _ (plan : Planned) (at : Pos) (t : SquelchTable) (same : t ≡ table_of p
         (number ∙ ap (λ x. option_map (λ (r : Row). r.circuit) (row_in x)) same)
         (both ∙ ap (λ x. option_map {U = Pos × Pos} (λ (r : Row). (r.from, r.to)) (row_in x)) same)
 
-    -- a circuit that it tells is one of the plan's
+    -- a circuit that the table has is one of the plan's
     pub number_inside : j < length plan.circuits
     number_inside = slice_get_within plan.circuits j is_there.circuit is_there.there
 
-    -- and both its ends are positions of the ring
+    -- both ends of a circuit in the table are positions of the ring
     pub ends_inside : IsProvisioning (provisioning_of plan) → (ends.0.0 < n) × (ends.1.0 < n)
     ends_inside form =
         row-ends (provisioning_of plan) plan.nodes
         (circuits_keep_the_ring plan) form j is_there.circuit ends.0 ends.1 is_there.there is_there.from_is is_there.to_is
 
-    -- and it has the line
+    -- a circuit in the table has its line
     pub its_line : (c : Provisioned) → slice_get plan.circuits j ≡ Some c
         → slot_line plan.nodes plan.circuits at.0 d m ≡ table_line (slice_index plan.nodes at.0) d (record { 0 = m }) c.name
         (slice_index plan.nodes ends.0.0) (slice_index plan.nodes ends.1.0)
     its_line c get = line_some plan.nodes plan.circuits at.0 d m j c ends is_there get
 
 module _ (f : ℕ → List ℕ) (a : ℕ) where
-  -- the lines of so many numbers from a on, and those of the next one
+  -- the lines of n numbers from a on, and those of the next one
   pub lines_more : (n j : ℕ) → a + n ≡ j → flat_map f (range_with_len a (n + 1)) ≡ flat_map f (range_with_len a n) ++ f j
   lines_more n j e =
       let same : ℕ → ℕ = λ x. x in

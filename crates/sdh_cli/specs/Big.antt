@@ -14,7 +14,7 @@ use Rattle.sdh_plan.specs.declared.step.Step.{Step}
 use Rattle.sdh_plan.specs.declared.step.Step.TheVariants as step
 use Rattle.sdh_plan.specs.Planned.{Planned}
 
--- the generator's state behind a draw
+-- the generator's state after a draw
 unfoldable pub next : ℕ → ℕ
 next x = (x * 1664525 + 1013904223) % 4294967296
 
@@ -28,7 +28,7 @@ pub record Laying : Type 0 where
   pub number : ℕ
   -- the position where it starts
   pub at : ℕ
-  -- so many spans have no circuit yet
+  -- the number of spans that have no circuit yet
   pub left : ℕ
   -- the generator's state
   pub state : ℕ
@@ -41,11 +41,11 @@ slot_begun x = record { number = 1; at = drawn x % 16; left = 16; state = next x
 abbrev pub spans_of : Laying → ℕ
 spans_of l = min (1 + drawn l.state % 5) l.left
 
--- it ends there
+-- the position where the next circuit of a slot ends
 abbrev pub laying_end : Laying → ℕ
 laying_end l = (l.at + spans_of l) % 16
 
--- three draws are behind it: its number of spans, and the offset at each end
+-- three draws follow the state with which a circuit begins: its number of spans, and the offset at each end
 abbrev pub with_next : Laying → Laying
 with_next l = record { number = l.number + 1; at = laying_end l; left = l.left - spans_of l; state = next (next (next l.state)) }
 
@@ -57,7 +57,7 @@ name_in slot number = codes "c" ++ (decimal slot ++ (codes "-" ++ decimal number
 abbrev pub customer_of : List ℕ → List ℕ → ℕ → Customer
 customer_of name letter offset = record { text = name ++ letter; trace = name; offset = offset }
 
--- the circuit of this number over so many spans from a position on, with the offsets that are drawn from a state on
+-- the circuit of this number over `spans` spans from a position on, with the offsets that are drawn from a state on
 abbrev pub laid_circuit : ℕ → ℕ → ℕ → ℕ → ℕ → Provisioned
 laid_circuit slot number at spans x = record {
   name = name_in slot number;
@@ -72,12 +72,12 @@ laid_circuit slot number at spans x = record {
 abbrev pub next_circuit : ℕ → Laying → Provisioned
 next_circuit slot l = laid_circuit slot l.number l.at (spans_of l) (next l.state)
 
--- the next circuits of a slot, so many at most
+-- the next circuits of a slot, at most a given number
 abbrev pub circuits_from : ℕ → ℕ → Laying → List Provisioned
 circuits_from zero slot l = []
 circuits_from (suc most) slot l = if l.left == 0 then [] else next_circuit slot l ∷ circuits_from most slot (with_next l)
 
--- the generator's state behind them
+-- the generator's state after them
 abbrev pub state_behind : ℕ → Laying → ℕ
 state_behind zero l = l.state
 state_behind (suc most) l = if l.left == 0 then l.state else state_behind most (with_next l)
@@ -86,7 +86,7 @@ state_behind (suc most) l = if l.left == 0 then l.state else state_behind most (
 unfoldable pub slot_circuits : ℕ → ℕ → List Provisioned
 slot_circuits slot x = circuits_from 16 slot (slot_begun x)
 
--- the generator's state behind a slot
+-- the generator's state after a slot
 unfoldable pub behind_slot : ℕ → ℕ
 behind_slot x = state_behind 16 (slot_begun x)
 
@@ -103,7 +103,7 @@ abbrev pub span_comes : Condition → ℕ → List Step
 span_comes condition span = fibre_comes condition span East ∷ fibre_comes condition ((span + 1) % 16) West ∷ []
 
 -- one span is cut and then another, they are mended in this order, and the present moment comes at which both sides
--- have waited to restore; rounds run before the first and behind each
+-- have waited to restore; rounds run before the first and after each
 abbrev pub big_steps : ℕ → ℕ → List Step
 big_steps u v =
     step.Settle ∷ (span_comes Cut u ++ step.Settle ∷ (span_comes Cut v ++ step.Settle
@@ -118,7 +118,7 @@ first_cut x = drawn x % 16
 abbrev pub second_cut : ℕ → ℕ
 second_cut x = (first_cut x + 1 + drawn (next x) % 15) % 16
 
--- the script, drawn behind both slots
+-- the script, drawn after both slots
 abbrev pub big_script : ℕ → List Step
 big_script x = big_steps (first_cut x) (second_cut x)
 

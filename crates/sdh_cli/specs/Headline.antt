@@ -34,13 +34,13 @@ abbrev pub IsAsPromised : Option Ask → List ℕ → Fibres → Status → Opti
 IsAsPromised ask bytes f how old new left = (plan : Planned) (listing : Listing) → Lists ask bytes plan listing → HasRun how
     → (reports : List Report) × Appends old new (text_of listing reports ++ last_line how) × AreAsPromised plan f reports how left
 
--- it ends as the script does where the arrivals are known: unsettled at exactly the step in which no quiet window comes within the
--- limit; or a plant's call failed
+-- the program ends as the script does where the arrivals are known: unsettled at exactly the step in which no quiet
+-- window comes within the limit; or a plant's call failed
 abbrev pub EndsAsItRuns : Option Ask → List ℕ → Fibres → Status → Type 0
 EndsAsItRuns ask bytes f how = (plan : Planned) (listing : Listing) → Lists ask bytes plan listing → HasRun how
     → Knows (world_of plan f).fibres → (how ≡ (ran_of plan f).ending) ⊎ (how ≡ status.PlantFault)
 
--- with so large a limit no settle step is unsettled
+-- with a limit that is always enough no settle step is unsettled
 abbrev pub AlwaysSettles : Option Ask → List ℕ → Status → Type 0
 AlwaysSettles ask bytes how = (plan : Planned) (listing : Listing) → Lists ask bytes plan listing
     → enough_for (length plan.nodes) ≤ plan.limit → (k : ℕ) → how ≢ status.Unsettled k

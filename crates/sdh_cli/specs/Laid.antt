@@ -39,7 +39,7 @@ wish_with slot at spans name text_a text_b offset_a offset_b = record {
   trace_b = name;
 }
 
--- so that it is laid with the offsets that are drawn
+-- the wish for a circuit that is laid with the offsets that are drawn
 abbrev pub wish_laid : ℕ → ℕ → ℕ → ℕ → ℕ → Wish
 wish_laid slot number at spans x =
     wish_with slot at spans (name_in slot number) (name_in slot number ++ codes "a") (name_in slot number ++ codes "b") (drawn x % 783)

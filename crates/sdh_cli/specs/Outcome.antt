@@ -19,7 +19,7 @@ abbrev pub own_plan : Ask → Option Planned
 own_plan (Big number) = Some (big_planned number)
 own_plan ask = None
 
--- its tables are written, or it is run
+-- what is done with a plan: its tables are written, or it is run
 abbrev pub deed_of : Ask → Planned → Deed Listing Status
 deed_of Check plan = Writes (tables_of plan)
 deed_of ask plan = deed_listing (listing_of ask plan)
@@ -27,7 +27,7 @@ deed_of ask plan = deed_listing (listing_of ask plan)
 abbrev pub Does : Ask → Planned → Deed Listing Status → Type 0
 Does ask plan deed = deed ≡ deed_of ask plan
 
--- it runs a plan over a shared ring, and lists the report of each settle step
+-- the program runs a plan over a shared ring, and lists the report of each settle step
 abbrev pub ringing : Program Ask Listing Report Status
 ringing = record {
   usage = codes "usage: sdhring run, check, drop NAME END, big NUMBER";
@@ -40,7 +40,7 @@ ringing = record {
   MaySettle = MaySettle;
 }
 
--- what has to be known of a source: its bytes, or nothing where it isn't read
+-- what must be known of a source: its bytes, or nothing where it isn't read
 abbrev pub told : Option Ask → Option (List ℕ) → Option (List ℕ)
 told = outcome.told_by own_plan
 

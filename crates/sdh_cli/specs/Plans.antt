@@ -24,13 +24,14 @@ ShowsHealth plan reports end = IsHealthy plan.limit (length plan.nodes) plan.cir
 abbrev pub RunsWell : Planned → Fibres → List Report → Status → Fibres → Type 0
 RunsWell plan f reports end left = HasCourse (world_of plan f) (ring_of plan) plan.limit plan.steps reports end left
 
--- of one list of reports: what is owed and healthy, and what holds in every round that gave them
+-- what is promised of one list of reports: they show what is owed and a healthy ring, and what holds in every round
+-- that gave them
 pub record AreAsPromised (plan : Planned) (f : Fibres) (reports : List Report) (end : Status) (left : Fibres) : Type 0 where
   pub owed : OwesAll plan reports end
   pub healthy : AllSettle plan.steps → ShowsHealth plan reports end
   pub rounds : RunsWell plan f reports end left
 
--- ---- all that is told of one run
+-- ---- all that is so of one run
 
 abbrev pub adm_account : Account Node Report
 adm_account = record { walk = adm_walk; new_ring = new_ring_of }
@@ -43,7 +44,7 @@ ran_of = plans.ran_of adm_account
 abbrev pub MaySettle : Planned → Fibres → Type 0
 MaySettle = plans.MaySettle adm_account
 
--- one list of reports, told in each way
+-- what is so of one list of reports: over every plant, where the arrivals are known, and over honest fibres
 abbrev pub IsRunOf : Planned → Fibres → List Report → Status → Fibres → Type 0
 IsRunOf = plans.IsRunOf adm_account AreAsPromised
 

@@ -1,4 +1,4 @@
--- The text of the squelch tables of a plan, told by the arcs of its circuits. Squelch tables are those of ITU-T G.841, MS
+-- The text of the squelch tables of a plan, by the arcs of its circuits. Squelch tables are those of ITU-T G.841, MS
 -- shared protection rings; the lines and their order are this project's own.
 use Rattle.std.specs.Prelude.{ℕ, ◌/◌, Option, List, [], ◌++◌, length, slice_index}
 use Rattle.std.specs.List.{find, flat_map, range_with_len}
@@ -16,8 +16,8 @@ use Rattle.sdh_report.specs.Lines.{table_line}
 abbrev pub circuit_at : ℕ → List Provisioned → ℕ → Side → ℕ → Option Provisioned
 circuit_at n circuits p d m = find (is_on n (span_at n p d) m) circuits
 
--- its line: the node's identifier, the side, the slot, the circuit's name, and the identifiers of the nodes where its arc starts
--- and ends
+-- the line of a circuit in a slot: the node's identifier, the side, the slot, the circuit's name, and the identifiers
+-- of the nodes where its arc starts and ends
 abbrev pub squelch_line : List ℕ → ℕ → Side → ℕ → Provisioned → List ℕ
 squelch_line nodes p d m c =
     table_line (slice_index nodes p) d (record { 0 = m }) c.name (slice_index nodes c.from.0) (slice_index nodes c.to.0)
@@ -26,7 +26,7 @@ squelch_line nodes p d m c =
 unfoldable pub slot_line : List ℕ → List Provisioned → ℕ → Side → ℕ → List ℕ
 slot_line nodes circuits p d m = option_map_or (squelch_line nodes p d m) (circuit_at (length nodes) circuits p d m) []
 
--- the lines of a side, slot by slot from 1 on, of which there are so many
+-- the lines of a side, slot by slot, from slot 1 to slot `slots`
 abbrev pub side_lines : ℕ → List ℕ → List Provisioned → ℕ → Side → List ℕ
 side_lines slots nodes circuits p d = flat_map (slot_line nodes circuits p d) (range_with_len 1 slots)
 

@@ -23,7 +23,7 @@ struct Stretch {
     spans: u8,
 }
 
-// A ring of sixteen nodes, each with its position as identifier.
+// Returns a ring of sixteen nodes, each with its position as identifier.
 #[tactic(auto, unfolding(sdh_ringmap::specs::Numbering::ring_of))]
 fn big_ring() -> RingMap
     ensures { result ≡ big_nodes }
@@ -34,7 +34,7 @@ fn big_ring() -> RingMap
     }
 }
 
-// How many spans the next circuit has.
+// Returns how many spans the next circuit has.
 fn spans_drawn(draws: &mut Draws, left: u8) -> u8
     ensures spans { result ≡ min (1 + drawn draws.old % 5) left }
     ensures draws { draws.new ≡ next draws.old }
@@ -43,7 +43,7 @@ fn spans_drawn(draws: &mut Draws, left: u8) -> u8
     spans.min(left)
 }
 
-// What is asked for a circuit.
+// Returns what is asked for a circuit.
 fn asked<'a>(
     stretch: Stretch,
     name: &'a str,
@@ -83,14 +83,14 @@ fn add_free(circuits: &mut CircuitMap, ring: &RingMap, asked: &Asked<'_>) -> Res
     }
 }
 
-// The name of a circuit in a slot.
+// Returns the name of a circuit in a slot.
 fn name_in(alloc: Global, slot: u8, number: u8) -> Result<String, AllocError>
     ensures { IfOk result (λ name. string_bytes name ≡ name_in slot number) }
 {
     format!(in alloc; "c{slot}-{number}")
 }
 
-// The text that is sent at an end: the circuit's name and a letter.
+// Returns the text that is sent at an end: the circuit's name and a letter.
 fn text_of(alloc: Global, name: &str, letter: &str) -> Result<String, AllocError>
     ensures { IfOk result (λ text. string_bytes text ≡ name.now ++ letter.now) }
 {
@@ -123,7 +123,7 @@ fn add_stretch(
     add_free(circuits, ring, &wish)
 }
 
-// Fills a slot with circuits that are laid end to end. Those before are of lower slots.
+// Fills a slot with circuits that are laid end to end. The circuits that are there are in lower slots.
 fn fill_slot(
     alloc: Global,
     circuits: &mut CircuitMap,
@@ -159,7 +159,7 @@ fn fill_slot(
     Ok(())
 }
 
-// The circuits of both slots.
+// Returns the circuits of both slots.
 fn circuits_drawn(
     alloc: Global,
     ring: &RingMap,
@@ -175,7 +175,7 @@ fn circuits_drawn(
     Ok(circuits)
 }
 
-// A fibre comes into a condition.
+// Returns the step in which the fibre that comes in on a side of a position gets a condition.
 fn fibre(condition: Condition, at: u8, side: Side) -> Step
     ensures { result ≡ fibre_comes condition at side }
 {
@@ -186,7 +186,7 @@ fn fibre(condition: Condition, at: u8, side: Side) -> Step
     })
 }
 
-// Both fibres of a span come into a condition, and rounds run.
+// Returns the steps in which both fibres of a span get a condition, and rounds run.
 fn span(condition: Condition, span: u8) -> [Step; 3]
     requires { span < 16 }
     ensures { result ≡ span_comes condition span ++ Step.Settle ∷ [] }
@@ -198,7 +198,7 @@ fn span(condition: Condition, span: u8) -> [Step; 3]
     ]
 }
 
-// The script that cuts and mends these spans.
+// Returns the script that cuts and mends these spans.
 fn steps_at(alloc: Global, u: u8, v: u8) -> Result<Vec<Step>, AllocError>
     requires u { u < 16 }
     requires v { v < 16 }
@@ -213,7 +213,7 @@ fn steps_at(alloc: Global, u: u8, v: u8) -> Result<Vec<Step>, AllocError>
     Ok(steps)
 }
 
-// The script, with the spans that are drawn.
+// Returns the script, with the spans that are drawn.
 fn steps_drawn(alloc: Global, draws: &mut Draws) -> Result<Vec<Step>, AllocError>
     ensures { IfOk result (λ steps. steps.items ≡ big_script draws.old) }
 {
@@ -222,8 +222,8 @@ fn steps_drawn(alloc: Global, draws: &mut Draws) -> Result<Vec<Step>, AllocError
     steps_at(alloc, u, v as u8)
 }
 
-/// The large plan of a number: sixteen nodes at STM-4, circuits on every span of both working slots, and a script that
-/// cuts two spans and mends them.
+/// Returns the large plan of a number: sixteen nodes at STM-4, circuits on every span of both working slots, and a
+/// script that cuts two spans and mends them.
 pub fn big_plan(alloc: Global, number: u32) -> Result<Plan, AllocError>
     ensures { IfOk result (λ plan. plan ≡ big_planned number) }
 {

@@ -19,14 +19,14 @@ impl Model for Draws {
 }
 
 impl Draws {
-    /// A generator that begins in this state.
+    /// Returns a generator that begins in this state.
     pub fn new(state: u32) -> Draws
         ensures { result ≡ state }
     {
         Draws { state }
     }
 
-    /// The next number, which is the upper half of the next state.
+    /// Returns the next number, which is the upper half of the next state.
     #[tactic(auto, unfolding(crate::specs::Big::next))]
     pub fn draw(&mut self) -> u16
         ensures drawn { result ≡ drawn self.old }

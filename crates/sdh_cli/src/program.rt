@@ -24,7 +24,7 @@ use sdh_scripts::RunsPlans;
 use sdh_shell::{EndedText, ended, ended_line};
 use std::alloc::{AllocError, Global};
 
-// The squelch tables of a plan.
+// Returns the squelch tables of a plan.
 fn ended_tables(alloc: Global, plan: &Plan) -> Result<EndedText<Status>, AllocError>
     ensures { IfOk result (λ report. (report.ending ≡ Status.Ok) × (report.text.bytes ≡ tables_of plan.now ++ last_line report.ending)) }
 {
@@ -32,7 +32,7 @@ fn ended_tables(alloc: Global, plan: &Plan) -> Result<EndedText<Status>, AllocEr
     Ok(ended(Status::Ok, text))
 }
 
-// A plan that is run.
+// Returns a plan that is run.
 fn ended_run<P: Plant>(
     alloc: Global,
     plan: Plan,
@@ -56,7 +56,7 @@ fn ended_run<P: Plant>(
     Ok(ended(run.status, run.text))
 }
 
-// What is listed of each report.
+// Returns what is listed of each report.
 fn listing_of(command: Command<'_>, plan: &Plan) -> Option<Listing>
     ensures listing { result ≡ listing_of (what_is_asked command.entry) plan.now }
     ensures may { IfSome result (λ listing. MayList (length plan.now.circuits) listing) }

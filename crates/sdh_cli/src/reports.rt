@@ -17,7 +17,7 @@ use sdh_ring::Ring;
 use sdh_ringmap::{Pos, Side};
 use sdh_scripts::put_settle;
 
-// What is told of a state.
+// Returns the word of a state.
 fn state_told(state: &NodeState) -> StateWord
     ensures { result ≡ state_word state.now }
 {
@@ -30,7 +30,7 @@ fn state_told(state: &NodeState) -> StateWord
     }
 }
 
-// The bytes of a word.
+// Returns the bytes of a word.
 fn bytes_told(word: K) -> WordBytes
     requires to { word.to ≤ 15 }
     requires from { word.from ≤ 15 }
@@ -40,7 +40,7 @@ fn bytes_told(word: K) -> WordBytes
     WordBytes { first, second }
 }
 
-// What is told of the node at a position.
+// Returns the line of the node at a position.
 fn node_told(ring: &Ring, at: u8) -> NodeLine
     requires at { at < length ring.now.ids }
     requires whole { ring.now.broken ≡ false }
@@ -55,7 +55,7 @@ fn node_told(ring: &Ring, at: u8) -> NodeLine
     }
 }
 
-// The line of the node at a position.
+// Appends the line of the node at a position.
 fn put_node(text: &mut Text, ring: &Ring, at: u8)
     requires at { at < length ring.now.ids }
     requires whole { ring.now.broken ≡ false }
@@ -67,7 +67,7 @@ fn put_node(text: &mut Text, ring: &Ring, at: u8)
     text.node_line(&line);
 }
 
-// The lines of all nodes.
+// Appends the lines of all nodes.
 fn put_nodes(text: &mut Text, ring: &Ring)
     requires whole { ring.now.broken ≡ false }
     requires room { 96 * length ring.now.ids ≤ text.old.room }
@@ -79,7 +79,7 @@ fn put_nodes(text: &mut Text, ring: &Ring)
     }
 }
 
-// The line of the port at an end of a circuit.
+// Appends the line of the port at an end of a circuit.
 fn put_port(text: &mut Text, ring: &Ring, circuit: u8, named: &Circuit, end: End)
     requires inside { circuit < length ring.now.circuits.circuits }
     requires room { 96 ≤ text.old.room }
@@ -90,7 +90,7 @@ fn put_port(text: &mut Text, ring: &Ring, circuit: u8, named: &Circuit, end: End
     text.port_line(named.name(), end, ring.port(port), ring.value(port));
 }
 
-// The lines of both ports of a circuit.
+// Appends the lines of both ports of a circuit.
 fn put_circuit(text: &mut Text, ring: &Ring, circuit: u8, named: &Circuit)
     requires inside { circuit < length ring.now.circuits.circuits }
     requires room { 192 ≤ text.old.room }
@@ -102,7 +102,7 @@ fn put_circuit(text: &mut Text, ring: &Ring, circuit: u8, named: &Circuit)
     put_port(text, ring, circuit, named, End::B);
 }
 
-// The lines of all ports.
+// Appends the lines of all ports.
 fn put_ports(text: &mut Text, ring: &Ring)
     requires whole { ring.now.broken ≡ false }
     requires room { 192 * length ring.now.circuits.circuits ≤ text.old.room }
@@ -115,7 +115,7 @@ fn put_ports(text: &mut Text, ring: &Ring)
     }
 }
 
-// The whole report.
+// Appends the whole report.
 #[tactic(auto, unfolding(sdh_owed::specs::Reports::report_of))]
 fn put_whole(text: &mut Text, ring: &Ring, number: u32)
     requires whole { ring.now.broken ≡ false }
@@ -129,7 +129,7 @@ fn put_whole(text: &mut Text, ring: &Ring, number: u32)
     put_ports(text, ring);
 }
 
-// All that one port delivered.
+// Appends all that one port delivered.
 fn put_delivered(text: &mut Text, ring: &Ring, port: PortId)
     requires inside { port.circuit < length ring.now.circuits.circuits }
     requires room { 4707 ≤ text.old.room }
@@ -139,7 +139,7 @@ fn put_delivered(text: &mut Text, ring: &Ring, port: PortId)
     text.drop_lines(ring.port(port));
 }
 
-// One for a port that delivered a chunk.
+// Returns 1 for a port that delivered a chunk, else 0.
 fn chunks_of(ring: &Ring, circuit: u8, end: End) -> u32
     requires inside { circuit < length ring.now.circuits.circuits }
     ensures chunks { result ≡ chunks_of (outlet_at ring.now (record { circuit = circuit; end = end })).delivered }
@@ -151,7 +151,7 @@ fn chunks_of(ring: &Ring, circuit: u8, end: End) -> u32
     }
 }
 
-// How many ports of a circuit delivered a chunk.
+// Returns how many ports of a circuit delivered a chunk.
 fn chunks_at(ring: &Ring, circuit: u8) -> u32
     requires inside { circuit < length ring.now.circuits.circuits }
     ensures chunks { result ≡ chunks_of (outlet_at ring.now (record { circuit = circuit; end = A })).delivered + chunks_of
@@ -161,7 +161,7 @@ fn chunks_at(ring: &Ring, circuit: u8) -> u32
     chunks_of(ring, circuit, End::A) + chunks_of(ring, circuit, End::B)
 }
 
-// How many ports delivered a chunk.
+// Returns how many ports delivered a chunk.
 fn chunks_in(ring: &Ring) -> u32
     requires whole { ring.now.broken ≡ false }
     ensures { result ≡ chunks_in (ports_told ring.now) }
@@ -174,7 +174,7 @@ fn chunks_in(ring: &Ring) -> u32
     count
 }
 
-// How many ports there are.
+// Returns how many ports there are.
 fn ports_of(ring: &Ring) -> u32
     requires whole { ring.now.broken ≡ false }
     ensures count { result ≡ 2 * length ring.now.circuits.circuits }
@@ -183,7 +183,7 @@ fn ports_of(ring: &Ring) -> u32
     2 * ring.circuits().len() as u32
 }
 
-// How many ports delivered a chunk, and how many AIS.
+// Appends how many ports delivered a chunk, and how many AIS.
 fn put_counts(text: &mut Text, ring: &Ring, number: u32)
     requires whole { ring.now.broken ≡ false }
     requires ran { 1 ≤ ring.now.rounds }
@@ -196,7 +196,7 @@ fn put_counts(text: &mut Text, ring: &Ring, number: u32)
     text.count_line(number, ring.rounds() - 1, chunks, ports_of(ring) - chunks);
 }
 
-/// What is listed of the report of settle step `number`, counted from 1.
+/// Appends what is listed of the report of settle step `number`, counted from 1.
 #[tactic(auto, unfolding(sdh_owed::specs::Reports::report_of))]
 pub fn put_report(text: &mut Text, ring: &Ring, number: u32, listing: Listing)
     requires whole { ring.now.broken ≡ false }

@@ -16,7 +16,7 @@ use sdh_ringmap::RingMap;
 use sdh_scripts::{NewRun, Run, Runner, lines_room, start, text_for};
 use std::alloc::{AllocError, Global};
 
-// Room for what is listed of a report, in bytes.
+// Returns the number of bytes that is room enough for what is listed of a report.
 fn report_room(listing: Listing, map: &RingMap, circuits: &CircuitMap) -> usize
     ensures room { result ≡ report_room listing (length map.now) (length circuits.now.circuits) }
     ensures few { result ≤ 131072 }
@@ -28,7 +28,7 @@ fn report_room(listing: Listing, map: &RingMap, circuits: &CircuitMap) -> usize
     }
 }
 
-// The run of a plan, before its fibres are there.
+// Returns the run of a plan, before its fibres are there.
 fn new_run(alloc: Global, plan: Plan, listing: Listing) -> Result<NewRun<RingRun>, AllocError>
     requires listing { MayList (length plan.circuits) listing }
     ensures may { IfOk result (MayBegin ⟦<RingRun as Runner>⟧.ring ⟦<RingRun as Runner>⟧.room ⟦<RingRun as Runner>⟧.MayRun) }
@@ -51,7 +51,8 @@ fn new_run(alloc: Global, plan: Plan, listing: Listing) -> Result<NewRun<RingRun
     })
 }
 
-/// Runs the script of a plan over new fibres and lists the reports. All memory is taken before the first round.
+/// Runs the script of a plan over new fibres and lists the reports. Returns the text and how the run ended. All memory
+/// is taken before the first round.
 pub fn run_plan<P: Plant>(
     alloc: Global,
     plan: Plan,
@@ -61,8 +62,8 @@ pub fn run_plan<P: Plant>(
     requires fresh { HasNoFibres (P.fibres plant.old) }
     requires listing { MayList (length plan.circuits) listing }
 
-    // The text is what is listed of one list of reports, which is told over every plant, where the arrivals are known, and over
-    // honest fibres, with every round that gave them.
+    // The text is what is listed of one list of reports. What is so of these reports is said over every plant, where
+    // the arrivals are known, and over honest fibres, with every round that gave them.
     ensures came { IfOk result (λ run. Tells plan listing (P.fibres plant.old) run.text.bytes run.status (P.fibres plant.new)) }
 
     // A fault has a cause, and without one a script that settles is done.

@@ -12,7 +12,7 @@ use sdh_ringmap::{Pos, RingMap, Side};
 use sdh_squelch::Table;
 use std::alloc::{AllocError, Global};
 
-// The line of a circuit of this name between the nodes at two positions.
+// Appends the line of a circuit of this name between the nodes at two positions.
 fn put_circuit(
     text: &mut Text,
     map: &RingMap,
@@ -34,7 +34,7 @@ fn put_circuit(
     text.table_line(map.id(at), side, slot, name, map.id(ends.0), map.id(ends.1));
 }
 
-// The line of a slot, which has none where no circuit is there.
+// Appends the line of a slot, which has none where no circuit is there.
 fn put_slot(text: &mut Text, plan: &Plan, table: &Table, at: Pos, side: Side, slot: Slot)
     requires at { at.0 < length plan.now.nodes }
     requires table { table.now ≡ table_of plan.now.nodes plan.now.circuits at }
@@ -55,7 +55,7 @@ fn put_slot(text: &mut Text, plan: &Plan, table: &Table, at: Pos, side: Side, sl
     put_circuit(text, plan.map(), at, side, slot, name, ends);
 }
 
-// The lines of a side.
+// Appends the lines of a side.
 fn put_side(text: &mut Text, plan: &Plan, table: &Table, at: Pos, side: Side)
     requires at { at.0 < length plan.now.nodes }
     requires table { table.now ≡ table_of plan.now.nodes plan.now.circuits at }
@@ -69,7 +69,7 @@ fn put_side(text: &mut Text, plan: &Plan, table: &Table, at: Pos, side: Side)
     }
 }
 
-// The lines of the node at a position.
+// Appends the lines of the node at a position.
 fn put_node(text: &mut Text, alloc: Global, plan: &Plan, at: Pos) -> Result<(), AllocError>
     requires at { at.0 < length plan.now.nodes }
     requires room { 1536 ≤ text.old.room }
@@ -83,7 +83,7 @@ fn put_node(text: &mut Text, alloc: Global, plan: &Plan, at: Pos) -> Result<(), 
     Ok(())
 }
 
-// The lines of all nodes.
+// Appends the lines of all nodes.
 fn put_nodes(text: &mut Text, alloc: Global, plan: &Plan) -> Result<(), AllocError>
     requires room { 1536 * length plan.now.nodes ≤ text.old.room }
     ensures bytes { OnOk result (text.new.bytes ≡ text.old.bytes ++ tables_of plan.now) }
@@ -95,8 +95,8 @@ fn put_nodes(text: &mut Text, alloc: Global, plan: &Plan) -> Result<(), AllocErr
     Ok(())
 }
 
-/// The text of a plan's squelch tables: for each node by position, its west side before its east side, and each working slot in
-/// which a circuit is there, the line of that circuit. Room for a line more is left.
+/// Returns the text of a plan's squelch tables: for each node by position, its west side before its east side, and each
+/// working slot in which a circuit is there, the line of that circuit. Room for a line more is left.
 pub fn table_text(alloc: Global, plan: &Plan) -> Result<Text, AllocError>
     ensures text { IfOk result (λ text. text.bytes ≡ tables_of plan.now) }
     ensures room { IfOk result (λ text. 96 ≤ text.room) }

@@ -17,10 +17,11 @@ use sdh_report::Status;
 use sdh_scripts::call;
 use std::alloc::Global;
 
-/// Does all that the program does. With the word `run` it reads a plan from the source, runs its ring over the plant, and writes
-/// the report of every settle step; with `drop`, a name and `a` or `b` all bytes that this port delivers in each; with `big` and
-/// a number it runs the large plan of the number and counts; with `check` it writes the squelch tables of the plan that it reads.
-/// The last line says how it ended. All is written once, at the end.
+/// Does all that the program does, and returns how it ended. With the word `run` it reads a plan from the source, runs
+/// its ring over the plant, and writes the report of every settle step; with `drop`, a name and `a` or `b` all bytes
+/// that this port delivers in each; with `big` and a number it runs the large plan of that number and counts; with
+/// `check` it writes the squelch tables of the plan that it reads. The last line says how it ended. All is written
+/// once, at the end.
 pub fn sdhring<R: Source, W: Sink, P: Plant>(
     alloc: Global,
     words: &[String],
@@ -30,8 +31,8 @@ pub fn sdhring<R: Source, W: Sink, P: Plant>(
 ) -> Status
     requires fresh { HasNoFibres (P.fibres plant.old) }
 
-    // The status and the text that is written, for a source that tells its bytes, where it is read, and a sink that tells what was
-    // written.
+    // The status and the text that is written, for a source whose bytes are known, where it is read, and a sink that
+    // shows what was written.
     ensures outcome { let ask = asked (words_of words.now) in
         let reads : Counts = record { before = R.faults source.old; after = R.faults source.new } in
         let calls : Counts = record { before = P.faults plant.old; after = P.faults plant.new } in
@@ -39,10 +40,10 @@ pub fn sdhring<R: Source, W: Sink, P: Plant>(
         (λ bytes. Writes (λ how text. MayEnd ask bytes (P.fibres plant.old) reads calls how text (P.fibres plant.new)) result
         (W.written sink.old) (W.written sink.new)) }
 
-    // Over honest fibres, of one list of reports: they show for every port what it is owed; a script of settle steps alone shows a healthy
-    // ring; and the rounds that gave them are as many as they tell and sent what was sent. In no round of a settle step a port
-    // delivers another customer's byte, unless a node that passes through is held right before that step; and soon after the
-    // last changes every port delivers what it is owed.
+    // Over honest fibres, of one list of reports: they show for every port what it is owed; a script of settle steps
+    // alone shows a healthy ring; and the rounds that gave them are as many as they say and sent what was sent. In no
+    // round of a settle step a port delivers another customer's byte, unless a node that passes through is held right
+    // before that step; and soon after the last changes every port delivers what it is owed.
     ensures promised { (P.fibres plant.old).honest ≡ true
         → IfSome (told (asked (words_of words.now)) (R.left source.old)) (λ bytes. IsAsPromised (asked (words_of words.now)) bytes
         (P.fibres plant.old) result (W.written sink.old) (W.written sink.new) (P.fibres plant.new)) }
@@ -66,8 +67,9 @@ pub fn sdhring<R: Source, W: Sink, P: Plant>(
     ensures plant_fault { result ≡ Status.PlantFault → Rose (P.faults plant.old) (P.faults plant.new) }
     ensures write_fault { result ≡ Status.WriteFault → Rose (W.faults sink.old) (W.faults sink.new) }
 
-    // Where an object's count is exact, each of its calls that failed is told by its fault, and none is tried again; a write fault
-    // may stand in place of what was to be told. With TooLong one byte more than a plan may have was taken.
+    // Where an object's count is exact, each of its calls that failed is reported by its fault, and none is tried
+    // again; a write fault may stand in place of what was to be reported. With TooLong one byte more than a plan may
+    // have was taken.
     ensures came { let reads : Counts = record { before = R.faults source.old; after = R.faults source.new } in
         let calls : Counts = record { before = P.faults plant.old; after = P.faults plant.new } in
         (how : Status) × ((result ≡ how) ⊎ (result ≡ Status.WriteFault))

@@ -20,7 +20,7 @@ pub enum Command<'a> {
     Big(u32),
 }
 
-// What one word asks for.
+// Returns what one word asks for.
 fn asked_alone<'a>(word: &str) -> Option<Command<'a>>
     ensures { option_map ask_of result ≡ asked_alone word.now }
 {
@@ -33,7 +33,7 @@ fn asked_alone<'a>(word: &str) -> Option<Command<'a>>
     }
 }
 
-// What a word and a number ask for.
+// Returns what a word and a number ask for.
 fn asked_with_number<'a>(word: &str, number: &str) -> Option<Command<'a>>
     ensures { option_map ask_of result ≡ asked_with_number word.now number.now }
 {
@@ -44,7 +44,7 @@ fn asked_with_number<'a>(word: &str, number: &str) -> Option<Command<'a>>
     Some(Command::Big(number))
 }
 
-// What a word, a name and a letter ask for.
+// Returns what a word, a name and a letter ask for.
 fn asked_with_port<'a>(word: &str, name: &'a str, letter: &str) -> Option<Command<'a>>
     ensures { option_map ask_of result ≡ asked_with_port word.now name.now letter.now }
 {
@@ -55,7 +55,7 @@ fn asked_with_port<'a>(word: &str, name: &'a str, letter: &str) -> Option<Comman
     Some(Command::Drop(name, end))
 }
 
-/// What the words ask for, or `None` where they have none of the forms that there are.
+/// Returns what the words ask for, or `None` where they have none of the forms that there are.
 pub fn command_of(words: &[String]) -> Option<Command<'_>>
     ensures { option_map ask_of result ≡ asked (words_of words.now) }
 {

@@ -36,7 +36,7 @@ pub no_more : (chunks : List (List ℕ)) (i skip left : ℕ) (out : List ℕ) �
 no_more chunks i skip left out past =
     ap (λ l. out ++ l) (none_taken left skip (joined (drop i chunks)) (ap joined (drop_of_length-le chunks past))) ∙ append-nil out
 
--- a chunk behind the others, in the room of the oldest one
+-- a chunk after the others, in the room of the oldest one
 pub behind : (a : List ℕ) (cs : List (List ℕ)) (x : List ℕ) (g : ℕ) → length a ≤ g → g ≤ length (joined (a ∷ cs))
     → drop (g - length a) (joined (cs ++ x ∷ [])) ≡ drop g (joined (a ∷ cs)) ++ x
 behind a cs x g some there =
@@ -75,7 +75,7 @@ kept (a ∷ b ∷ c ∷ []) given k = record {
 }
 kept (a ∷ b ∷ c ∷ d ∷ more) given k = absurd k
 
--- what is held, and a chunk behind it
+-- what is held, and a chunk after it
 pub renewed : (chunks : List (List ℕ)) (given : ℕ) (x : List ℕ) → IsKept chunks given
     → drop (given - length (get_or chunks 0 [])) (joined (drop 1 chunks ++ x ∷ [])) ≡ drop given (joined chunks) ++ x
 renewed [] given x k = absurd k
@@ -96,7 +96,7 @@ long_after chunks given x len count k is =
     ∙ ap (λ (n : ℕ). n + length x) (length-drop given (joined chunks)) in
     omega (arith, both, is)
 
--- the chunks that are kept once so many bytes are given
+-- the chunks that are kept once `count` more bytes are given
 pub kept_after : (chunks : List (List ℕ)) (given : ℕ) (x : List ℕ) (count : ℕ) → IsKept chunks given → 2346 ≤ length x → length x ≤ 2352
     → count ≤ length (drop given (joined chunks)) + length x → length (drop given (joined chunks)) + length x ≤ count + 2358
     → IsKept (drop 1 chunks ++ x ∷ []) (given - length (get_or chunks 0 []) + count)

@@ -196,7 +196,7 @@ pub new_store : (first : ℕ) → CameBy first [] (empty first)
 unfolding store_of actions
 new_store first = record { lasts = refl; kept = refl }
 
--- ---- what a store tells of its history
+-- ---- what a store shows of its history
 
 pub word_of_history : (s : Store) (first : ℕ) (past : List (List ℕ)) → CameBy first past s
     → s.word ≡ last_word first (actions (lengths past))

@@ -71,7 +71,7 @@ pub small_of : (first : ℕ) (acts : List Action) → first ≤ 782 → value_of
 small_of first [] h = h
 small_of first (a ∷ acts) h = small_value a (value_of first acts) (small_of first acts h)
 
--- an interpreter that has read all words is where the store's stage and value tell
+-- an interpreter that has read all words is where the store's stage and value say
 pub heard_so_far : (first : ℕ) (ls : List ℕ) → first ≤ 782 → heard first (actions ls)
     ≡ reading_in (stage_of (actions ls)) (value_of first (actions ls))
 unfolding actions reading_in

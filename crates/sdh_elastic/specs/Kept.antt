@@ -1,7 +1,7 @@
 -- Where the bytes held lie among the last three chunks taken in.
 use Rattle.std.specs.Prelude.{◌≡◌, ℕ, ◌+◌, ◌≤◌, ◌⊎◌, List, [], ◌∷◌, length}
 
--- of three chunks so many bytes are given
+-- three chunks; the first `given` bytes of them were given
 pub record AreKept (a b c : List ℕ) (given : ℕ) : Type 0 where
   -- the oldest chunk is given
   pub oldest : length a ≤ given

@@ -1,5 +1,5 @@
--- Steady runs: in each four turns in a row about four frames' bytes are taken in. A list of lengths tells how many
--- bytes each turn so far took in, the last one first.
+-- Steady runs: in each four turns in a row about four frames' bytes are taken in. A list of lengths gives the number of
+-- bytes that each turn so far took in, the last one first.
 use Rattle.std.specs.Prelude.{ℕ, ◌+◌, Bool, true, ◌&&◌, nat_le, List, [], ◌∷◌}
 use Rattle.sdh_elastic.specs.declared.lengths.Lengths.{Lengths}
 use Rattle.sdh_elastic.specs.declared.lengths.Lengths.TheVariants.{Empty, One, Two, Three}
@@ -8,12 +8,12 @@ use Rattle.sdh_elastic.specs.declared.lengths.Lengths.TheVariants.{Empty, One, T
 abbrev pub are_four : ℕ → ℕ → ℕ → ℕ → Bool
 are_four a b c d = nat_le 9393 (a + b + c + d) && nat_le (a + b + c + d) 9399
 
--- so are those of the last four turns, where there are four
+-- the last four turns, where there are four, took about four frames' bytes in
 abbrev pub is_last_steady : List ℕ → Bool
 is_last_steady (a ∷ b ∷ c ∷ d ∷ earlier) = are_four a b c d
 is_last_steady _ = true
 
--- so are those of each four turns in a row
+-- each four turns in a row took about four frames' bytes in
 abbrev pub is_steady : List ℕ → Bool
 is_steady [] = true
 is_steady (n ∷ earlier) = is_steady earlier && is_last_steady (n ∷ earlier)

@@ -16,7 +16,7 @@ use Rattle.sdh_elastic.specs.History as history
 pub record Store : Type 0 where
   -- the bytes held, the first to be given first
   pub held : List ℕ
-  -- which turn is next, or how many lie behind turn 2 and the last justification
+  -- which turn is next, or how many ran after turn 2 and the last justification
   pub stage : Stage
   -- the pointer value
   pub value : ℕ
@@ -63,7 +63,7 @@ stage_after Free a = if moves a then Moved else Free
 abbrev pub action_at : Store → Action
 action_at s = action_in s.stage (length s.held)
 
--- the fill after a turn that takes in so many bytes
+-- the fill after a turn that takes in n bytes
 abbrev pub fill_after : Store → ℕ → ℕ
 fill_after s n = length s.held + n - given (action_at s)
 

@@ -1,4 +1,4 @@
--- The turns of an elastic store: what each one does, how many bytes it gives, and the pointer word that tells it. All
+-- The turns of an elastic store: what each one does, how many bytes it gives, and the pointer word that shows it. All
 -- numbers are this project's own; the words and the moves of the pointer value are those of ITU-T G.707 clause 8.1.
 use Rattle.std.specs.Prelude.{◌≤◌, ℕ, Bool, true, false, ◌||◌, ◌&&◌, not, nat_le, if◌then◌else◌, List, [], ◌∷◌}
 use Rattle.sdh_pointer.specs.declared.reading.Action.{Action}
@@ -31,7 +31,7 @@ moves Ais = false
 abbrev pub justified : ℕ → Action
 justified fill = if nat_le 2352 fill then Down else if nat_le fill 2346 then Up else Normal
 
--- A list of actions tells what the turns so far did, the last one first.
+-- A list of actions says what the turns so far did, the last one first.
 
 -- none of the last three turns was turn 2 or a justification
 abbrev pub may_justify : List Action → Bool

@@ -8,14 +8,14 @@ use sdh_payload::Cells;
 use std::alloc::{AllocError, Global};
 use std::marker::Model;
 
-/// How many chunks are kept: two of which bytes are held, and the one whose room the next one takes.
+/// The number of chunks that are kept: two whose bytes are held, and the one whose room the next chunk takes.
 const KEPT: usize = 3;
 
 /// The bytes held, the first to be given first. They lie in the last chunks that were taken in, so that bytes come and go in runs.
 #[derive(Debug, Drop)]
 pub(crate) struct Held {
     chunks: HeapCircularBuffer<Cells>,
-    // How many bytes of these chunks are given already.
+    // The number of bytes of these chunks that are given already.
     given: usize,
     len: usize,
 }
@@ -33,7 +33,7 @@ impl Model for Held {
         × IsKept h.chunks.items h.given };
 }
 
-// Puts a chunk into the room of the oldest one, behind the others, and tells the length of the oldest.
+// Puts a chunk into the room of the oldest one, after the others, and returns the length of the oldest.
 fn renew(chunks: &mut HeapCircularBuffer<Cells>, input: &[u8]) -> usize
     requires some { 0 < length chunks.old.items }
     requires room { length chunks.old.items ≤ chunks.old.capacity }
@@ -49,7 +49,7 @@ fn renew(chunks: &mut HeapCircularBuffer<Cells>, input: &[u8]) -> usize
     len
 }
 
-// The chunk at an index.
+// Returns the chunk at an index.
 fn chunk_at(chunks: &HeapCircularBuffer<Cells>, index: usize) -> &[u8]
     requires { index < length chunks.now.items }
     ensures bytes { result.now ≡ get_or chunks.now.items index [] }
@@ -57,7 +57,7 @@ fn chunk_at(chunks: &HeapCircularBuffer<Cells>, index: usize) -> &[u8]
     chunks.get(index).unwrap().as_slice()
 }
 
-// Adds up to `left` bytes of a chunk behind its first `skip`. It answers how many bytes of later chunks are still to be
+// Adds up to `left` bytes of a chunk after its first `skip`. Returns how many bytes of later chunks are still to be
 // passed over, and to be given.
 fn give_part(chunk: &[u8], skip: usize, left: usize, out: &mut Cells) -> (usize, usize)
     requires few { length out.old + left ≤ 2352 }
@@ -75,7 +75,7 @@ fn give_part(chunk: &[u8], skip: usize, left: usize, out: &mut Cells) -> (usize,
     (0, left - count)
 }
 
-// Gives so many bytes of the chunks behind the first `skip`.
+// Puts `count` bytes of the chunks, after their first `skip`, into `out`.
 fn give(chunks: &HeapCircularBuffer<Cells>, skip: usize, count: usize, out: &mut Cells)
     requires few { count ≤ 2352 }
     ensures { out.new ≡ take count (drop skip (flat_map (λ c. c) chunks.now.items)) }
@@ -92,7 +92,7 @@ fn give(chunks: &HeapCircularBuffer<Cells>, skip: usize, count: usize, out: &mut
 }
 
 impl Held {
-    /// No bytes. It takes all its memory here.
+    /// Returns an empty store of bytes. It takes all its memory here.
     pub(crate) fn try_new(alloc: Global) -> Result<Held, AllocError>
         ensures { IfOk result (λ held. held ≡ []) }
     {
@@ -107,7 +107,7 @@ impl Held {
         })
     }
 
-    /// How many bytes are held.
+    /// Returns how many bytes are held.
     pub(crate) fn len(&self) -> usize
         ensures { result ≡ length self.now }
     {

@@ -18,7 +18,7 @@ pub enum Lengths {
 }
 
 impl Lengths {
-    /// The last three, after one more chunk of this length.
+    /// Returns the last three, after one more chunk of this length.
     pub(crate) fn with(self, length: u16) -> Lengths
         ensures { result ≡ with_length length self }
     {
@@ -31,7 +31,7 @@ impl Lengths {
         }
     }
 
-    /// Whether a run stays steady with one more chunk of this length.
+    /// Returns whether a run stays steady with one more chunk of this length.
     pub(crate) fn keeps_steady(self, length: u16) -> bool
         requires chunks { AreChunks self }
         requires short { length ≤ 2352 }

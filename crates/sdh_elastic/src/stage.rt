@@ -11,10 +11,10 @@ const FRAME: usize = 2349;
 /// The bytes of a step of the pointer.
 const STEP: usize = 3;
 
-/// How many pointer values there are.
+/// The number of pointer values.
 const VALUES: u16 = 783;
 
-/// Which turn of a store is next, or how many turns lie behind turn 2 and the last justification.
+/// Which turn of a store is next, or how many turns ran after turn 2 and the last justification.
 #[derive(Clone, Copy, Debug, PartialEq, Eq)]
 pub enum Stage {
     /// Turn 1 is next.
@@ -23,7 +23,7 @@ pub enum Stage {
     Second,
     /// The last turn was turn 2 or a justification.
     Moved,
-    /// One turn came after turn 2 and the last justification.
+    /// One turn ran after turn 2 and the last justification.
     OneLater,
     /// Two turns did.
     TwoLater,
@@ -31,7 +31,7 @@ pub enum Stage {
     Free,
 }
 
-// What a turn that may justify does: it gives more where much is held, and less where little is.
+// Returns what a turn that may justify does: it gives more where much is held, and less where little is.
 fn justified(fill: usize) -> Action
     ensures { result ≡ justified fill }
 {
@@ -45,7 +45,7 @@ fn justified(fill: usize) -> Action
 }
 
 impl Stage {
-    /// What the next turn does, by the number of bytes held before it.
+    /// Returns what the next turn does, by the number of bytes held before it.
     pub(crate) fn action(self, fill: usize) -> Action
         ensures { result ≡ action_in self fill }
     {
@@ -57,7 +57,7 @@ impl Stage {
         }
     }
 
-    /// The stage after a turn that did this.
+    /// Returns the stage after a turn that did this.
     pub(crate) fn after(self, action: Action) -> Stage
         ensures { result ≡ stage_after self action }
     {
@@ -73,7 +73,7 @@ impl Stage {
     }
 }
 
-/// How many bytes a turn gives.
+/// Returns how many bytes a turn gives.
 pub(crate) fn given(action: Action) -> usize
     ensures count { result ≡ given action }
     ensures few { result ≤ 2352 }
@@ -86,7 +86,7 @@ pub(crate) fn given(action: Action) -> usize
     }
 }
 
-/// The pointer value after a turn.
+/// Returns the pointer value after a turn.
 #[tactic(auto, unfolding(crate::specs::Turns::value_after))]
 pub(crate) fn value_after(action: Action, value: u16) -> u16
     requires { value ≤ 782 }
@@ -100,7 +100,7 @@ pub(crate) fn value_after(action: Action, value: u16) -> u16
     }
 }
 
-/// The pointer word of a turn, by the value before it.
+/// Returns the pointer word of a turn, by the value before it.
 #[tactic(auto, unfolding(crate::specs::Turns::word_for))]
 pub(crate) fn word_for(action: Action, value: u16) -> Word
     requires { value ≤ 782 }

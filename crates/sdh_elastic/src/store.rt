@@ -38,7 +38,7 @@ struct Course {
 }
 
 impl Course {
-    // After a turn that takes in so many bytes and does this.
+    // Returns the course after a turn that takes in `length` bytes with this action.
     fn after(self, action: Action, length: u16) -> Course
         requires value { self.value ≤ 782 }
         requires chunks { AreChunks self.lengths }
@@ -78,7 +78,7 @@ impl Model for Elastic {
 }
 
 impl Elastic {
-    /// An empty store with this pointer value. It takes all its memory here.
+    /// Returns an empty store with this pointer value. It takes all its memory here.
     pub fn try_new(alloc: Global, value: u16) -> Result<Elastic, AllocError>
         requires { value ≤ 782 }
         ensures empty { IfOk result (λ store. store ≡ empty value) }
@@ -127,7 +127,7 @@ impl Elastic {
         Ok(action)
     }
 
-    /// The pointer word of the last turn, and all ones before the first.
+    /// Returns the pointer word of the last turn, and all ones before the first.
     pub fn word(&self) -> Word
         ensures kept { result.0 ≡ self.now.word }
         ensures history { (first : ℕ) (past : List (List ℕ)) → CameBy first past self.now
@@ -136,7 +136,7 @@ impl Elastic {
         self.course.word
     }
 
-    /// How many bytes are held.
+    /// Returns how many bytes are held.
     pub fn fill(&self) -> usize
         ensures kept { result ≡ length self.now.held }
         ensures history { (first : ℕ) (past : List (List ℕ)) → CameBy first past self.now → result ≡ fill (lengths past) }
@@ -144,7 +144,7 @@ impl Elastic {
         self.held.len()
     }
 
-    /// Whether each four turns in a row so far took in between 9393 and 9399 bytes.
+    /// Returns whether each four turns in a row so far took in between 9393 and 9399 bytes.
     pub fn is_steady(&self) -> bool
         ensures kept { result ≡ self.now.steady }
         ensures history { (first : ℕ) (past : List (List ℕ)) → CameBy first past self.now → result ≡ is_steady (lengths past) }

@@ -72,7 +72,7 @@ unfolding payload_byte
 payload_fixed n k p i x y at h = let a : eqb (i % n + 1) k ≡ true = eq-eqb _ _ at in let c : leb (9 * n) (i % (270 * n)) ≡ true =
     le-leb _ _ h in rw (a, c) refl
 
--- byte i of the frame is of the pointers
+-- byte i of the frame is a pointer byte
 record IsInPointers (n i : ℕ) : Type 0 where
   row : i / (270 * n) ≡ 3
   before : i % (270 * n) < 9 * n

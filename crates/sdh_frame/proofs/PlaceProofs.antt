@@ -25,7 +25,7 @@ pub field-pointer : (n column : ℕ) → column ≤ 9 * n → field_at n 4 colum
 unfolding field_at
 field-pointer n column h = let e : ltb (9 * n) column ≡ false = le-ltb _ _ h in rw e refl
 
--- what holds of each overhead field holds of the fields of the first 9 N columns of a row that isn't row 4
+-- what is true of each overhead field is true of the fields in the first 9 N columns of every row but row 4
 pub field-overhead : (P : field.Field → Type 0) (n row column : ℕ) → column ≤ 9 * n
     → (row ≡ 4 → P (Pointer ((column - 1) % n + 1) ((column - 1) / n)))
     → P A1 → P A2 → P J0 → P Fixed → P B1 → P (B2 (column - 1)) → P K1 → P K2 → P Unused → P (field_at n row column)

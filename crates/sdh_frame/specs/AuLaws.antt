@@ -14,8 +14,8 @@ pub record IsAu (is : Au) : Type 0 where
   pub pointers : length is.pointers ≡ 9
   pub payload : length is.payload ≡ 2349
 
--- of a frame whose AU-4 number au became this one: it is found, the others stay, and every byte that is none of its
--- own stays, with that all overhead
+-- What is true of a frame once this AU-4 was written as number au: it reads back, and every byte that is not its own
+-- stays, so all other AU-4s and all overhead do.
 pub record IsWritten (rate : Rate) (au : ℕ) (is : Au) (bytes : List ℕ) : Type 0 where
   pub size : length (with_au (n_of rate) au is bytes) ≡ size_of rate
   pub found : au_of (n_of rate) au (with_au (n_of rate) au is bytes) ≡ is
@@ -47,7 +47,8 @@ pub record IsOverhead (rate : Rate) (place : Place) : Type 0 where
 abbrev pub IsAuByte : Rate → Place → Type 0
 IsAuByte rate place = ((au : ℕ) × (field_of rate place ≡ Payload au)) ⊎ ((au : ℕ) × ((p : ℕ) × (field_of rate place ≡ Pointer au p)))
 
--- of a frame into which these AU-4s were written one after the other, from number 1 on: each is found, and overhead stays
+-- What is true of a frame once these AU-4s were written one after the other, from number 1 on: each reads back, and
+-- overhead stays.
 pub record AreWritten (rate : Rate) (aus : List Au) (bytes : List ℕ) : Type 0 where
   pub size : length (with_aus (n_of rate) 1 aus bytes) ≡ size_of rate
   pub found : (j : ℕ) (none : Au) → j < length aus → j < n_of rate → IsAu (slice_index_or aus j none)
@@ -58,7 +59,7 @@ pub record AreWritten (rate : Rate) (aus : List Au) (bytes : List ℕ) : Type 0 
 abbrev pub WritingAllKeeps : Type 0
 WritingAllKeeps = (rate : Rate) (aus : List Au) (bytes : List ℕ) → length bytes ≡ size_of rate → AreWritten rate aus bytes
 
--- once all AU-4s are written, no byte of them depends on what stood in the frame before
+-- once all AU-4s are written, none of their bytes depends on the frame's former bytes
 abbrev pub WritingAllCovers : Type 0
 WritingAllCovers =
     (rate : Rate) (aus : List Au) (bytes other : List ℕ) (place : Place) → length bytes ≡ size_of rate → length other ≡ size_of rate

@@ -8,8 +8,8 @@ use Rattle.sdh_frame.specs.declared.Place.{Place}
 abbrev pub index_of : ℕ → Place → ℕ
 index_of n place = (place.row - 1) * (270 * n) + (place.column - 1)
 
--- the field at a row and column. Columns behind the first 9 N are payload, byte-interleaved over the AU-4s; of the
--- first 9 N row 4 is AU pointers, rows 1 to 3 are regenerator and rows 5 to 9 multiplex section overhead
+-- The field at a row and column. Columns after the first 9 N are payload, byte-interleaved over the AU-4s. Of the first
+-- 9 N columns, row 4 holds the AU pointers, rows 1 to 3 the regenerator and rows 5 to 9 the multiplex section overhead.
 unfoldable pub field_at : ℕ → ℕ → ℕ → field.Field
 field_at n row column =
     if nat_lt (9 * n) column then Payload ((column - 9 * n - 1) % n + 1) else

@@ -46,7 +46,7 @@ pub record IsPointerPlace (rate : Rate) (au p : ℕ) : Type 0 where
 abbrev pub PointerPlaces : Type 0
 PointerPlaces = (rate : Rate) (au p : ℕ) → 1 ≤ au → au ≤ n_of rate → p < 9 → IsPointerPlace rate au p
 
--- the place is that of the pointer byte p of the AU-4, and of no other byte of its pointer
+-- the place is that of pointer byte p of the AU-4, and no other byte of its pointer has it
 pub record HasPointerIndex (rate : Rate) (place : Place) (au p : ℕ) : Type 0 where
   pub au_low : 1 ≤ au
   pub au_high : au ≤ n_of rate

@@ -8,7 +8,7 @@ ghost use Rattle.sdh_frame.specs.Aus.{payload_of, with_payload, with_pointers, w
 use crate::places::byte_of;
 use crate::{FrameBuf, Rate};
 
-// The payload of an AU-4 of another frame becomes that of one of this frame, in row r.
+// Copies row r of the payload of an AU-4 of another frame to an AU-4 of this frame.
 #[inline(always)]
 fn copy_row<const N: usize>(bytes: &mut [u8], to: usize, source: &[u8], from: usize, r: usize)
     requires rate { (N ≡ 4) ⊎ (N ≡ 16) }
@@ -27,7 +27,7 @@ fn copy_row<const N: usize>(bytes: &mut [u8], to: usize, source: &[u8], from: us
     }
 }
 
-// The payload of an AU-4 becomes ones, in row r.
+// Sets row r of the payload of an AU-4 to ones.
 #[inline(always)]
 fn fill_row<const N: usize>(bytes: &mut [u8], au: usize, r: usize)
     requires rate { (N ≡ 4) ⊎ (N ≡ 16) }
@@ -43,7 +43,7 @@ fn fill_row<const N: usize>(bytes: &mut [u8], au: usize, r: usize)
     }
 }
 
-// In all rows. In the callers' code N is a constant.
+// Copies all rows of the payload of an AU-4 of another frame. In the callers' code N is a constant.
 #[inline(always)]
 fn copy_rows<const N: usize>(bytes: &mut [u8], to: usize, source: &[u8], from: usize)
     requires rate { (N ≡ 4) ⊎ (N ≡ 16) }
@@ -73,7 +73,7 @@ fn fill_rows<const N: usize>(bytes: &mut [u8], au: usize)
     }
 }
 
-// The pointer bytes of an AU-4.
+// Sets the pointer bytes of an AU-4.
 #[inline(always)]
 fn put_pointer<const N: usize>(bytes: &mut [u8], au: usize, pointers: &[u8])
     requires rate { (N ≡ 4) ⊎ (N ≡ 16) }
@@ -89,7 +89,7 @@ fn put_pointer<const N: usize>(bytes: &mut [u8], au: usize, pointers: &[u8])
     }
 }
 
-// The same at either rate.
+// Copies the payload of AU-4 `from` of `source` to AU-4 `to`, at either rate. Each rate has code of its own.
 fn copy(rate: Rate, bytes: &mut [u8], to: usize, source: &[u8], from: usize)
     requires size { length bytes.old ≡ size_of rate }
     requires source_size { length source.now ≡ size_of rate }
@@ -131,7 +131,7 @@ fn point(rate: Rate, bytes: &mut [u8], au: usize, pointers: &[u8])
 }
 
 impl FrameBuf {
-    /// The payload of AU-4 `to`, 1 to N, becomes that of AU-4 `au` of another frame of the same rate.
+    /// Copies the payload of AU-4 `au` of another frame of the same rate to AU-4 `to`, both 1 to N.
     pub fn copy_payload(&mut self, to: u16, from: &FrameBuf, au: u16)
         requires rate { self.old.rate ≡ from.now.rate }
         requires to_first { 1 ≤ to }
@@ -151,7 +151,7 @@ impl FrameBuf {
         );
     }
 
-    /// The nine pointer bytes of an AU-4 become these.
+    /// Writes the nine pointer bytes of an AU-4.
     pub fn put_pointers(&mut self, au: u16, pointers: &[u8])
         requires first { 1 ≤ au }
         requires last { au ≤ n_of self.old.rate }
@@ -161,7 +161,7 @@ impl FrameBuf {
         point(self.rate, self.bytes.as_mut_slice(), au as usize, pointers);
     }
 
-    /// All bytes of an AU-4 become ones, as AU-AIS.
+    /// Sets all bytes of an AU-4 to ones, as AU-AIS (ITU-T G.707).
     #[tactic(auto, unfolding(crate::specs::Aus::with_au))]
     pub fn fill_ones(&mut self, au: u16)
         requires first { 1 ≤ au }

@@ -1,17 +1,17 @@
-//! Where a frame goes that comes out of a fibre.
+//! Where a frame that leaves a fibre goes.
 ghost use Rattle.std.specs.Prelude.{◌≡◌, Some};
 
 use crate::FrameBuf;
 
-/// Room for a frame that arrives: a buffer that it is copied into, or one that looks at its bytes on the way.
+/// Room for an arriving frame: a buffer that it is copied into, or one that inspects its bytes on the way.
 pub trait Landing {
     ghost use Rattle.std.specs.Prelude.{ℕ, List, Option};
     ghost use Rattle.sdh_terms.specs.declared.Rate.{Rate};
 
-    /// The rate of the frames that it has room for.
+    /// The rate of the frames that fit.
     ghost rate: { Self → Rate };
 
-    /// The bytes of the frame that landed last, as they arrived, where they are still there.
+    /// The bytes of the last frame that landed, as they arrived, while they are still there.
     ghost landed: { Self → Option (List ℕ) };
 
     /// Takes a frame in place of the one before.

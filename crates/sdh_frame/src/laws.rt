@@ -14,17 +14,17 @@ pub fn pointer_places_have_one_index()
     ensures indexes { PointerIndexes }
 {}
 
-/// An AU-4 that was written is found again, and every other AU-4 and all overhead stay.
+/// A written AU-4 reads back, and every other AU-4 and all overhead stay.
 pub fn writing_an_au_keeps_the_rest()
     ensures { WritingKeeps }
 {}
 
-/// A payload or a pointer that was written is an AU-4 that was written, with its other list as it stands there.
+/// Writing a payload or a pointer is the same as writing the AU-4 with its other list unchanged.
 pub fn writing_one_list_writes_the_au()
     ensures { WritingOneList }
 {}
 
-/// All AU-4s that were written are found again, overhead stays, and nothing of what stood in them is left.
+/// AU-4s that were all written read back, overhead stays, and nothing of their former contents is left.
 pub fn writing_all_aus_keeps_overhead()
     ensures keeps { WritingAllKeeps }
     ensures covers { WritingAllCovers }

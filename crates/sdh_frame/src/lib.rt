@@ -34,7 +34,7 @@ pub struct Place {
     pub column: u16,
 }
 
-/// What stands at a place of a frame.
+/// What a place of a frame holds.
 #[derive(Clone, Copy, Debug, PartialEq, Eq)]
 pub enum Field {
     /// The first 3N bytes of the frame.
@@ -49,7 +49,7 @@ pub enum Field {
     B2(u16),
     K1,
     K2,
-    /// Section overhead without a use here: it is sent as 0, and counts in parities alone.
+    /// Section overhead without a use here: sent as 0, and part of the parities only.
     Unused,
     /// A pointer byte: the AU-4, 1 to N, and the place in its pointer, 0 to 8.
     Pointer(u16, u16),
@@ -57,7 +57,7 @@ pub enum Field {
     Payload(u16),
 }
 
-/// The bytes of one frame, row by row.
+/// The bytes of one frame, row by row: 9 rows of 270 N.
 #[derive(Drop)]
 pub struct FrameBuf {
     rate: Rate,
@@ -82,7 +82,7 @@ impl fmt::Debug for FrameBuf {
 }
 
 impl FrameBuf {
-    /// A frame of zeros.
+    /// Returns a frame of zeros. It takes all its memory here.
     pub fn try_new(alloc: Global, rate: Rate) -> Result<FrameBuf, AllocError>
         ensures rate { IfOk result (λ f. f.rate ≡ rate) }
         ensures bytes { IfOk result (λ f. f.bytes ≡ replicate (size_of rate) 0) }
@@ -91,7 +91,7 @@ impl FrameBuf {
         Ok(FrameBuf { rate, bytes })
     }
 
-    /// The frame's rate.
+    /// Returns the frame's rate.
     pub fn rate(&self) -> Rate
         ensures rate { result ≡ self.now.rate }
         ensures len { length self.now.bytes ≡ size_of self.now.rate }
@@ -99,7 +99,7 @@ impl FrameBuf {
         self.rate
     }
 
-    /// The byte at a place.
+    /// Returns the byte at a place.
     pub fn get(&self, place: Place) -> u8
         requires row { 1 ≤ place.row }
         requires rows { place.row ≤ 9 }
@@ -122,7 +122,7 @@ impl FrameBuf {
         self.bytes[at] = value;
     }
 
-    /// All bytes, row by row: 2430N of them.
+    /// Returns all bytes, row by row: 2430 N of them.
     pub fn bytes(&self) -> &[u8]
         ensures bytes { result.now ≡ self.now.bytes }
         ensures len { length self.now.bytes ≡ size_of self.now.rate }
@@ -130,7 +130,7 @@ impl FrameBuf {
         self.bytes.as_slice()
     }
 
-    /// All bytes for writing.
+    /// Returns all bytes for writing, row by row.
     pub fn bytes_mut(&mut self) -> &mut [u8]
         ensures* lends { sem 𝓛 (LendsBytes self.entry result) }
         ensures bytes { result.now ≡ self.old.bytes }
@@ -139,7 +139,7 @@ impl FrameBuf {
         self.bytes.as_mut_slice()
     }
 
-    /// All bytes become those of another frame of the same rate.
+    /// Copies all bytes of another frame of the same rate.
     pub fn copy_from(&mut self, other: &FrameBuf)
         requires { other.now.rate ≡ self.old.rate }
         ensures { self.new ≡ other.now }
@@ -149,7 +149,7 @@ impl FrameBuf {
             .copy_from_slice(other.bytes.as_slice());
     }
 
-    /// Writes one byte everywhere.
+    /// Sets every byte to one value.
     pub fn fill(&mut self, value: u8)
         ensures { self.new ≡ record self.old { bytes = replicate (size_of self.old.rate) value } }
     {

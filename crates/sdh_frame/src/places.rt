@@ -6,7 +6,7 @@ ghost use Rattle.sdh_frame.specs.Fields.{index_of, field_at, payload_place, plac
 
 use crate::{Field, Place, Rate};
 
-/// The field at a place.
+/// Returns the field at a place.
 #[tactic(auto, unfolding(crate::specs::Fields::field_at))]
 pub fn place_of(rate: Rate, place: Place) -> Field
     requires row { 1 ≤ place.row }
@@ -34,7 +34,7 @@ pub fn place_of(rate: Rate, place: Place) -> Field
     }
 }
 
-/// The place of a payload byte of an AU-4, by its index 0 to 2348.
+/// Returns the place of a payload byte of an AU-4, by its index 0 to 2348.
 pub fn au_place(rate: Rate, au: u16, index: u16) -> Place
     requires first { 1 ≤ au }
     requires last { au ≤ n_of rate }
@@ -48,7 +48,7 @@ pub fn au_place(rate: Rate, au: u16, index: u16) -> Place
     }
 }
 
-/// The place of a pointer byte of an AU-4, by its index 0 to 8: H1, Y, Y, H2, two bytes of ones, H3, H3, H3.
+/// Returns the place of a pointer byte of an AU-4, by its index 0 to 8: H1, Y, Y, H2, two bytes of ones, H3, H3, H3.
 pub fn pointer_place(rate: Rate, au: u16, index: u16) -> Place
     requires first { 1 ≤ au }
     requires last { au ≤ n_of rate }
@@ -62,7 +62,7 @@ pub fn pointer_place(rate: Rate, au: u16, index: u16) -> Place
     }
 }
 
-// The index of a place among the bytes of a frame.
+// Returns the index of a place among the bytes of a frame.
 pub(crate) fn index_in(rate: Rate, place: Place) -> usize
     requires row { 1 ≤ place.row }
     requires rows { place.row ≤ 9 }
@@ -75,7 +75,7 @@ pub(crate) fn index_in(rate: Rate, place: Place) -> usize
     (place.row as usize - 1) * width + (place.column as usize - 1)
 }
 
-// The index of a payload byte of an AU-4.
+// Returns the index of a payload byte of an AU-4.
 pub(crate) fn payload_index(rate: Rate, au: u16, index: u16) -> usize
     requires first { 1 ≤ au }
     requires last { au ≤ n_of rate }
@@ -87,7 +87,7 @@ pub(crate) fn payload_index(rate: Rate, au: u16, index: u16) -> usize
     index_in(rate, place)
 }
 
-// The index of a pointer byte.
+// Returns the index of a pointer byte of an AU-4.
 pub(crate) fn pointer_index(rate: Rate, au: u16, index: u16) -> usize
     requires first { 1 ≤ au }
     requires last { au ≤ n_of rate }
@@ -99,7 +99,7 @@ pub(crate) fn pointer_index(rate: Rate, au: u16, index: u16) -> usize
     index_in(rate, place)
 }
 
-// The first byte of a column, counted from 0 through all rows.
+// Returns the index of the first byte of a column, where columns are counted from 0 through all rows.
 #[inline(always)]
 pub(crate) fn byte_of<const N: usize>(column: usize) -> usize
     requires rate { (N ≡ 4) ⊎ (N ≡ 16) }

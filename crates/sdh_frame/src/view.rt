@@ -1,4 +1,4 @@
-//! AU-4s lent in place.
+//! Views of the AU-4s of a frame, without a copy.
 ghost use Rattle.std.specs.Prelude.{◌≡◌, ◌*◌, ◌-◌, ◌<◌, ◌≤◌, length, slice_index, slice_set, slice_range};
 ghost use Rattle.std.specs.Borrow.{sem};
 ghost use Rattle.sdh_frame.specs.Sizes.{size_of};
@@ -9,7 +9,7 @@ ghost use Rattle.sdh_frame.specs.Aus.{payload_of, pointers_of, with_payload, wit
 use crate::places::{payload_index, pointer_index};
 use crate::{FrameBuf, Rate};
 
-/// An AU-4 of a frame, to be read.
+/// A view of an AU-4 of a frame for reading.
 #[derive(Debug, Drop)]
 pub struct AuView<'a> {
     frame: &'a FrameBuf,
@@ -18,7 +18,7 @@ pub struct AuView<'a> {
     ghost last: { au ≤ n_of frame.now.rate },
 }
 
-/// An AU-4 of a frame, to be written.
+/// A view of an AU-4 of a frame for writing.
 #[derive(Debug, Drop)]
 pub struct AuViewMut<'a> {
     frame: &'a mut FrameBuf,
@@ -70,7 +70,7 @@ fn put_pointer_byte(rate: Rate, bytes: &mut [u8], au: u16, index: u16, value: u8
 }
 
 impl FrameBuf {
-    /// A pointer byte of an AU-4, by its index 0 to 8.
+    /// Returns a pointer byte of an AU-4, by its index 0 to 8.
     pub fn pointer(&self, au: u16, index: u16) -> u8
         requires first { 1 ≤ au }
         requires last { au ≤ n_of self.now.rate }
@@ -111,7 +111,7 @@ impl FrameBuf {
         put_pointer_byte(self.rate, self.bytes.as_mut_slice(), au, index, value);
     }
 
-    /// Lends an AU-4, 1 to N.
+    /// Returns a view of an AU-4, 1 to N.
     pub fn au(&self, au: u16) -> AuView<'_>
         requires first { 1 ≤ au }
         requires last { au ≤ n_of self.now.rate }
@@ -121,7 +121,7 @@ impl FrameBuf {
         AuView { frame: self, au }
     }
 
-    /// Lends an AU-4, 1 to N, for writing.
+    /// Returns a view of an AU-4, 1 to N, for writing.
     pub fn au_mut(&mut self, au: u16) -> AuViewMut<'_>
         requires first { 1 ≤ au }
         requires last { au ≤ n_of self.old.rate }
@@ -132,7 +132,7 @@ impl FrameBuf {
         AuViewMut { frame: self, au }
     }
 
-    /// The 270N bytes of row 1 to 9.
+    /// Returns the 270 N bytes of a row, 1 to 9.
     pub fn row(&self, row: u16) -> &[u8]
         requires first { 1 ≤ row }
         requires last { row ≤ 9 }
@@ -144,7 +144,7 @@ impl FrameBuf {
         &self.bytes.as_slice()[(row - 1) * width..row * width]
     }
 
-    /// The bytes of row 1 to 9, for writing.
+    /// Returns the 270 N bytes of a row, 1 to 9, for writing.
     pub fn row_mut(&mut self, row: u16) -> &mut [u8]
         requires first { 1 ≤ row }
         requires last { row ≤ 9 }
@@ -159,7 +159,7 @@ impl FrameBuf {
 }
 
 impl<'a> AuView<'a> {
-    /// A payload byte, by its index 0 to 2348.
+    /// Returns a payload byte, by its index 0 to 2348.
     pub fn payload(&self, index: u16) -> u8
         requires { index < 2349 }
         ensures { result ≡ slice_index (payload_of (n_of self.now.frame.now.rate) self.now.au self.now.frame.now.bytes) index }
@@ -167,7 +167,7 @@ impl<'a> AuView<'a> {
         self.frame.payload_at(self.au, index)
     }
 
-    /// A pointer byte, by its index 0 to 8.
+    /// Returns a pointer byte, by its index 0 to 8.
     pub fn pointer(&self, index: u16) -> u8
         requires { index < 9 }
         ensures { result ≡ slice_index (pointers_of (n_of self.now.frame.now.rate) self.now.au self.now.frame.now.bytes) index }
@@ -177,7 +177,7 @@ impl<'a> AuView<'a> {
 }
 
 impl<'a> AuViewMut<'a> {
-    /// A payload byte.
+    /// Returns a payload byte, by its index 0 to 2348.
     pub fn payload(&self, index: u16) -> u8
         requires { index < 2349 }
         ensures { result ≡ slice_index (payload_of (n_of self.now.frame.now.rate) self.now.au self.now.frame.now.bytes) index }
@@ -185,7 +185,7 @@ impl<'a> AuViewMut<'a> {
         self.frame.payload_at(self.au, index)
     }
 
-    /// A pointer byte.
+    /// Returns a pointer byte, by its index 0 to 8.
     pub fn pointer(&self, index: u16) -> u8
         requires { index < 9 }
         ensures { result ≡ slice_index (pointers_of (n_of self.now.frame.now.rate) self.now.au self.now.frame.now.bytes) index }
@@ -193,7 +193,7 @@ impl<'a> AuViewMut<'a> {
         self.frame.pointer(self.au, index)
     }
 
-    /// A payload byte becomes this.
+    /// Writes a payload byte, by its index 0 to 2348.
     pub fn set_payload(&mut self, index: u16, value: u8)
         requires { index < 2349 }
         ensures same_reference { self.new.frame.ghost_name ≡ self.old.frame.ghost_name }
@@ -206,7 +206,7 @@ impl<'a> AuViewMut<'a> {
         self.frame.set_payload_at(au, index, value);
     }
 
-    /// A pointer byte becomes this.
+    /// Writes a pointer byte, by its index 0 to 8.
     pub fn set_pointer(&mut self, index: u16, value: u8)
         requires { index < 9 }
         ensures same_reference { self.new.frame.ghost_name ≡ self.old.frame.ghost_name }
@@ -219,7 +219,7 @@ impl<'a> AuViewMut<'a> {
         self.frame.set_pointer_at(au, index, value);
     }
 
-    /// The payload becomes that of another AU-4, of a frame of the same rate.
+    /// Copies the payload of another AU-4, of a frame of the same rate.
     pub fn copy_payload(&mut self, from: &AuView<'_>)
         requires { self.old.frame.now.rate ≡ from.now.frame.now.rate }
         ensures same_reference { self.new.frame.ghost_name ≡ self.old.frame.ghost_name }
@@ -232,7 +232,7 @@ impl<'a> AuViewMut<'a> {
         self.frame.copy_payload(au, from.frame, from.au);
     }
 
-    /// All its bytes become ones, as AU-AIS.
+    /// Sets all bytes of the AU-4 to ones, as AU-AIS (ITU-T G.707).
     pub fn fill_ones(&mut self)
         ensures same_reference { self.new.frame.ghost_name ≡ self.old.frame.ghost_name }
         ensures au { self.new.au ≡ self.old.au }

@@ -232,7 +232,7 @@ pub chosen-here : (rate : Rate) (r : ℕ) (sources : List Source) (first second 
 chosen-here rate r sources first second own old new whole are picks =
     λ i inside here. picks i inside here ∙ sym (chosen-at rate sources first second own old i whole inside are)
 
--- the same of other inputs that are these
+-- what is picked from equal sources and equal inputs
 pub picked-same : (rate : Rate) (r : ℕ) (sources sources' : List Source) (from from' : Inputs) (old new : List ℕ) → sources ≡ sources'
     → from ≡ from'
     → PickedAt rate r sources from.first.now from.second.now from.own.now old new

@@ -1,4 +1,4 @@
--- Cells, each in its place, of which some are written.
+-- Cells, each in its place; some of them are written.
 use Rattle.std.proofs.Common.{◌≡◌, ℕ, true, ◌+◌, ◌-◌, ◌<◌, ◌≤◌, ◌⊎◌, inl, inr, List, [], length, get_or, set, refl, ap, sym, ◌∙◌, arith}
 use Rattle.std.proofs.lemmas.Bool.{cases_eq}
 use Rattle.std.proofs.lemmas.List.{length-set, get_or-set_same, get_or-set_other}
@@ -13,7 +13,7 @@ use Rattle.sdh_frame.proofs.Moves.{taken}
 use Rattle.sdh_interchange.specs.Tables.{cell}
 use Rattle.sdh_interchange.specs.Taking.{HaveRoom, KeepsOthers, Held, IsOf, has}
 
--- ---- one of them is written
+-- ---- one cell is written
 
 module _ (out : List (List ℕ)) (a : ℕ) (room put : List ℕ) (there : a < length out) (is : room ≡ get_or out a [])
     (len : length put ≡ length room) where

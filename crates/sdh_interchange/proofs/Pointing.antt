@@ -19,7 +19,7 @@ use Rattle.sdh_interchange.proofs.ByBytes.{aus_byte-at, rate_lane}
 
 -- ---- one AU-4 after the other
 
--- byte i, where x stood, once the first k AU-4s have their pointer bytes
+-- byte i, which was x, once the first k AU-4s have their pointer bytes
 abbrev pub pointed : ℕ → List (List ℕ) → ℕ → ℕ → ℕ → ℕ
 pointed n ps k i x = if ltb (i % n) k then pointer_byte n (i % n + 1) (get_or ps (i % n) []) i x else x
 

@@ -111,7 +111,7 @@ module _ (row : ℕ) (some : 1 ≤ row) (few : row ≤ 9) where
         (λ i inside away. pointed i inside ∙ pointer_byte-row (n_of rate) (i % n_of rate + 1) (get_or ps (i % n_of rate) []) i _
         (λ e. away (omega arith)) ∙ others i away)
 
-  -- the row that these AU-4s make of a frame is told by that frame's row
+  -- the row that these AU-4s make of a frame depends on that frame's row alone
   pub row-alike : (rate : Rate) (aus : List Au) (xs ys : List ℕ) → length xs ≡ size_of rate → length ys ≡ size_of rate
       → drop ((row - 1) * (270 * n_of rate)) xs ≡ drop ((row - 1) * (270 * n_of rate)) ys
       → slice_range (with_aus (n_of rate) 1 aus xs) ((row - 1) * (270 * n_of rate)) (row * (270 * n_of rate))
@@ -131,7 +131,7 @@ module _ (row : ℕ) (some : 1 ≤ row) (few : row ≤ 9) where
       ∙ ap (aus_byte (n_of rate) 1 aus (a + i)) (sym (get_or-drop a xs i 0) ∙ ap (λ l. get_or l i 0) same ∙ get_or-drop a ys i 0)
       ∙ sym (at_aus rate 1 aus ys (a + i) two within) ∙ sym (at rate (with_aus (n_of rate) 1 aus ys) i small)))
 
--- a frame's bytes that were lent, of which as many come back
+-- bytes of a frame that were handed out, where as many come back
 pub lent : (old new : List ℕ) → length new ≡ length old → take (length old) (new ++ drop (length new) old) ≡ new
 lent old new same =
     let none : drop (length new) old ≡ [] = drop_all (length new) old (omega arith) in

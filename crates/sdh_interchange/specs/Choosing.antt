@@ -27,7 +27,7 @@ IsSource n to (Second au) = (1 ≤ au) × (au ≤ n)
 IsSource n to (Own k) = k ≡ to
 IsSource n to Ones = Unit {0}
 
--- one for each AU-4
+-- a source for each AU-4
 pub record AreSources (n : ℕ) (sources : List Source) : Type 0 where
   pub many : length sources ≡ n
   pub each : (j : ℕ) → j < n → IsSource n (j + 1) (slice_index_or sources j Ones)
@@ -47,7 +47,7 @@ picked n (Second au) first second own i = slice_index second (i - i % n + (au - 
 picked n (Own k) first second own i = own_byte n own (i - i % n + (k - 1))
 picked n Ones first second own i = 0xFF
 
--- the same by the sources of all AU-4s
+-- a byte of a row by the sources of all AU-4s
 abbrev pub picked_at : ℕ → List Source → List ℕ → List ℕ → List (List ℕ) → ℕ → ℕ
 picked_at n sources first second own i = picked n (slice_index_or sources (i % n) Ones) first second own i
 

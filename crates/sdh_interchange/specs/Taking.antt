@@ -9,12 +9,12 @@ use Rattle.sdh_interchange.specs.Tables.{cell}
 
 -- ---- cells, by their places
 
--- so many of them from a place on have room for a payload
+-- `count` cells from place `from` on have room for a payload each
 pub record HaveRoom (from count : ℕ) (cells : List (List ℕ)) : Type 0 where
   pub many : from + count ≤ length cells
   pub each : (a : ℕ) → a < count → length (slice_index_or cells (from + a) []) ≡ 2349
 
--- only so many from a place on have changed, and none has more bytes or fewer
+-- only the `count` cells from place `from` on may have changed, and each cell has as many bytes as before
 pub record KeepsOthers (from count : ℕ) (old new : List (List ℕ)) : Type 0 where
   pub many : length new ≡ length old
   pub lengths : (a : ℕ) → length (slice_index_or new a []) ≡ length (slice_index_or old a [])

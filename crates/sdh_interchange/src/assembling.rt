@@ -10,7 +10,7 @@ use crate::own::Payloads;
 use crate::pass::Inputs;
 use sdh_frame::FrameBuf;
 
-// All AU-4s get these pointer bytes.
+// Sets the pointer bytes of all AU-4s.
 fn point_all(frame: &mut FrameBuf, pointers: &[[u8; 9]])
     requires len { length pointers.now ≡ n_of frame.old.rate }
     requires few { n_of frame.old.rate ≤ 16 }
@@ -25,7 +25,8 @@ fn point_all(frame: &mut FrameBuf, pointers: &[[u8; 9]])
     }
 }
 
-/// A row, 1 to 9, of all AU-4s gets the payloads of its sources, and row 4 these pointer bytes; overhead and all other rows stay.
+/// Sets a row, 1 to 9, of all AU-4s to the payloads of its sources, and row 4 to these pointer bytes too. Overhead and
+/// all other rows stay.
 pub fn assemble_row(
     frame: &mut FrameBuf,
     row: u16,

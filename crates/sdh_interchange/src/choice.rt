@@ -50,7 +50,7 @@ impl<'a> fmt::Debug for Choice<'a> {
     }
 }
 
-// The lanes: code of its own for each rate, in which N is a constant.
+// Returns the lanes: code of its own for each rate, in which N is a constant.
 fn lanes_at(rate: Rate, sources: &[Source]) -> Lanes
     requires { AreSources (n_of rate) sources.now }
     ensures { AreLanes (n_of rate) sources.now result }
@@ -62,7 +62,7 @@ fn lanes_at(rate: Rate, sources: &[Source]) -> Lanes
 }
 
 impl<'a> Choice<'a> {
-    /// Each AU-4 comes from its source.
+    /// Returns a choice by which each AU-4 comes from its source.
     pub fn new(rate: Rate, sources: &'a [Source]) -> Choice<'a>
         requires { AreSources (n_of rate) sources.now }
         ensures { result ≡ record { rate = rate; sources = sources.now } }
@@ -76,7 +76,7 @@ impl<'a> Choice<'a> {
         }
     }
 
-    // The pass over these inputs.
+    // Returns the pass over these inputs.
     #[inline(always)]
     fn pass<'b, const N: usize>(&'b self, inputs: &'b Inputs<'b>) -> Pass<'b, N>
         requires rate { n_of self.now.rate ≡ N }
@@ -95,8 +95,8 @@ impl<'a> Choice<'a> {
         }
     }
 
-    // A row of the AU-4s, counted from 0, becomes that of their sources; all else stays. It is code of its own for each rate, in
-    // which N is a constant.
+    // Sets a row of the AU-4s, counted from 0, to that of their sources; all else stays. Each rate has code of its own,
+    // in which N is a constant.
     pub(crate) fn choose_row(&self, bytes: &mut [u8], r: usize, inputs: &Inputs<'_>)
         requires row { r < 9 }
         requires size { length bytes.old ≡ size_of self.now.rate }

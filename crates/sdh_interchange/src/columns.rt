@@ -6,7 +6,7 @@ use crate::own::Payloads;
 use crate::table::{apart, spread, transpose, transpose4, transpose8};
 use std::simd::prelude::*;
 
-// The first byte of a column, counted from 0 through all rows.
+// Returns the first byte of a column, counted from 0 through all rows.
 #[inline(always)]
 pub(crate) fn byte_of<const N: usize>(column: usize) -> usize
     requires rate { (N ≡ 4) ⊎ (N ≡ 16) }
@@ -17,7 +17,7 @@ pub(crate) fn byte_of<const N: usize>(column: usize) -> usize
     N * column
 }
 
-// The same sixteen bytes of the first `A` payloads, one under the other.
+// Returns the same sixteen bytes of each of the first `A` payloads, one below the other.
 #[inline(always)]
 fn rows_of<const A: usize>(own: &Payloads, from: usize) -> [u8x16; A]
     requires few { A ≤ 16 }
@@ -32,7 +32,8 @@ fn rows_of<const A: usize>(own: &Payloads, from: usize) -> [u8x16; A]
     rows
 }
 
-// At STM-16: sixteen vectors of a column each, as far as payloads below `upto` are read. The other lanes mean nothing.
+// Returns sixteen vectors of one column each at STM-16, as far as payloads below `upto` are read. The other lanes mean
+// nothing.
 #[inline(always)]
 pub(crate) fn columns16(own: &Payloads, from: usize, upto: usize) -> [u8x16; 16]
     requires room { from + 16 ≤ 2349 }
@@ -47,7 +48,7 @@ pub(crate) fn columns16(own: &Payloads, from: usize, upto: usize) -> [u8x16; 16]
     }
 }
 
-// At STM-4: four vectors of four columns each.
+// Returns four vectors of four columns each at STM-4.
 #[inline(always)]
 pub(crate) fn columns4(own: &Payloads, from: usize, upto: usize) -> [u8x16; 4]
     requires room { from + 16 ≤ 2349 }

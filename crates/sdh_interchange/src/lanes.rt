@@ -1,14 +1,14 @@
-//! Lanes of vectors over whole columns. The bytes of the N AU-4s of a frame take turns, so sixteen neighbouring bytes are one
-//! column of all AU-4s (STM-16) or four (STM-4), and a lane of such a vector reads the same lane, or another one, of the vector
-//! at the same place in its source.
+//! Lanes of vectors over whole columns. The bytes of the N AU-4s of a frame take turns, so sixteen neighbouring bytes
+//! are one column of all AU-4s (STM-16) or four (STM-4). A lane of such a vector reads the same lane, or another one,
+//! of the vector at the same place in its source.
 ghost use Rattle.std.specs.Prelude.{◌≡◌, ℕ, ◌+◌, ◌*◌, ◌%◌, ◌<◌, ◌≤◌, ◌⊎◌, length, slice_index};
 ghost use Rattle.sdh_interchange.specs.Choosing.{IsSource, AreSources};
 ghost use Rattle.sdh_interchange.specs.Lanes.{IsLane, AreLanes};
 
 use crate::choose::Source;
 
-// Which lane each lane reads in either frame, 128 for none, which bits of its own lane of the payloads it keeps, and what it adds.
-// None keeps any of the payloads behind the first `upto`.
+// Which lane each lane reads in either frame, 128 for none, which bits of its own lane of the payloads it keeps, and
+// what it adds. None keeps any of the payloads after the first `upto`.
 #[derive(Drop)]
 pub(crate) struct Lanes {
     pub(crate) first: [u8; 16],
@@ -18,7 +18,7 @@ pub(crate) struct Lanes {
     pub(crate) upto: usize,
 }
 
-// One lane: where it reads, what it keeps, and what it adds.
+// Returns one lane: where it reads, what it keeps, and what it adds.
 #[inline(always)]
 fn lane_of<const N: usize>(j: usize, source: Source) -> (u8, u8, u8, u8)
     requires rate { (N ≡ 4) ⊎ (N ≡ 16) }
@@ -35,7 +35,7 @@ fn lane_of<const N: usize>(j: usize, source: Source) -> (u8, u8, u8, u8)
     }
 }
 
-// How many payloads, half or all, have those that some lane keeps.
+// Returns how many payloads, half or all, have those that some lane keeps.
 #[inline(always)]
 fn upto_of<const N: usize>(own: &[u8; 16]) -> usize
     requires rate { (N ≡ 4) ⊎ (N ≡ 16) }
@@ -51,7 +51,7 @@ fn upto_of<const N: usize>(own: &[u8; 16]) -> usize
     N / 2
 }
 
-// All lanes.
+// Returns all lanes.
 #[inline(always)]
 pub(crate) fn lanes_of<const N: usize>(sources: &[Source]) -> Lanes
     requires rate { (N ≡ 4) ⊎ (N ≡ 16) }

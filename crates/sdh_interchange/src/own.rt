@@ -39,7 +39,7 @@ fn zeros<'a>() -> &'a [u8]
 }
 
 impl<'a> Payloads<'a> {
-    /// Zeros for all.
+    /// Returns zeros for all.
     pub fn none() -> Payloads<'a>
         ensures zeros { result ≡ replicate 16 (replicate 2349 0) }
         ensures many { length result ≡ 16 }
@@ -48,7 +48,7 @@ impl<'a> Payloads<'a> {
         Payloads { pieces }
     }
 
-    /// The payload for the AU-4 of this number, 1 to 16, becomes this one.
+    /// Sets the payload for the AU-4 of this number, 1 to 16.
     pub fn put(&mut self, k: u16, payload: &'a [u8])
         requires first { 1 ≤ k }
         requires last { k ≤ 16 }
@@ -59,7 +59,7 @@ impl<'a> Payloads<'a> {
         self.pieces[k as usize - 1] = payload;
     }
 
-    // The one in this place.
+    // Returns the one in this place.
     #[inline(always)]
     fn piece(&self, a: usize) -> &[u8]
         requires { a < 16 }
@@ -69,7 +69,7 @@ impl<'a> Payloads<'a> {
         self.pieces[a]
     }
 
-    /// Sixteen bytes of the one in this place, from 0 on.
+    /// Returns sixteen bytes of the own payload in this place, from byte 0 on.
     #[inline(always)]
     pub(crate) fn sixteen(&self, a: usize, from: usize) -> u8x16
         requires place { a < 16 }
@@ -81,7 +81,7 @@ impl<'a> Payloads<'a> {
     }
 }
 
-// Sixteen bytes from a place on.
+// Returns sixteen bytes from a place on.
 #[inline(always)]
 fn sixteen_of(bytes: &[u8], from: usize) -> u8x16
     requires { from + 16 ≤ length bytes.now }

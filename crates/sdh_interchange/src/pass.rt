@@ -32,7 +32,7 @@ pub(crate) struct Pass<'a, const N: usize> {
     pub(crate) owned: bool,
 }
 
-// Sixteen bytes from `at` on: what two frames give by these lanes, and what they don't.
+// Returns sixteen bytes from `at` on: what two frames give by these lanes, and the rest as it was.
 #[inline(always)]
 fn merged(first: &[u8], second: &[u8], at: usize, lanes: &Lanes, extra: u8x16) -> u8x16
     requires first { at + 16 ≤ length first.now }
@@ -49,7 +49,7 @@ fn merged(first: &[u8], second: &[u8], at: usize, lanes: &Lanes, extra: u8x16) -
 
 // READS says whether the two frames are read: they must be where an AU-4 comes from them.
 impl<'a, const N: usize> Pass<'a, N> {
-    // Sixteen bytes from `at` on: what the frames give, and what they don't.
+    // Puts sixteen bytes from `at` on: what the frames give, and what they don't.
     #[inline(always)]
     fn store<const READS: bool>(&self, bytes: &mut [u8], at: usize, extra: u8x16)
         requires pass { IsPass N self.now }
@@ -69,8 +69,8 @@ impl<'a, const N: usize> Pass<'a, N> {
         }
     }
 
-    // What a vector of columns gets besides the bytes of the two frames, where its lanes hold the bytes of payloads. Where no
-    // frame is read, each lane that no payload goes to is ones.
+    // Returns what a vector of columns gets besides the bytes of the two frames, where its lanes hold the bytes of
+    // payloads. Where no frame is read, each lane that no payload goes to is ones.
     #[inline(always)]
     fn extra<const READS: bool>(&self, at: usize, column: u8x16) -> u8x16
         requires pass { IsPass N self.now }
@@ -88,7 +88,7 @@ impl<'a, const N: usize> Pass<'a, N> {
         column | u8x16::from_array(lanes.more)
     }
 
-    // The bytes from `from` up to `to`, where no payload is wanted.
+    // Puts the bytes from `from` up to `to`, where no payload is wanted.
     fn plain<const READS: bool>(&self, bytes: &mut [u8], from: usize, to: usize)
         requires pass { IsPass N self.now }
         requires reads { (READS ≡ true) ⊎ (self.now.passed ≡ false) }
@@ -108,7 +108,7 @@ impl<'a, const N: usize> Pass<'a, N> {
         self.store::<READS>(bytes, to - 16, more);
     }
 
-    // Sixteen columns from `at` on, of which these vectors hold the bytes of payloads.
+    // Puts sixteen columns from `at` on. These vectors hold the bytes of payloads for them.
     #[inline(always)]
     fn put<const READS: bool>(&self, bytes: &mut [u8], at: usize, columns: &[u8x16])
         requires pass { IsPass N self.now }
@@ -126,7 +126,7 @@ impl<'a, const N: usize> Pass<'a, N> {
         }
     }
 
-    // Sixteen columns of row r, from payload column c on.
+    // Puts sixteen columns of row r, from payload column c on.
     #[inline(always)]
     fn block<const READS: bool>(&self, bytes: &mut [u8], r: usize, c: usize)
         requires pass { IsPass N self.now }
@@ -147,7 +147,7 @@ impl<'a, const N: usize> Pass<'a, N> {
         }
     }
 
-    // The payloads of row r, some of which are own ones.
+    // Puts the payloads of row r. Some of them are own ones.
     fn blocks<const READS: bool>(&self, bytes: &mut [u8], r: usize)
         requires pass { IsPass N self.now }
         requires reads { (READS ≡ true) ⊎ (self.now.passed ≡ false) }
@@ -161,7 +161,7 @@ impl<'a, const N: usize> Pass<'a, N> {
         self.block::<READS>(bytes, r, 245);
     }
 
-    // The payloads of row r.
+    // Puts the payloads of row r.
     fn row<const READS: bool>(&self, bytes: &mut [u8], r: usize)
         requires pass { IsPass N self.now }
         requires reads { (READS ≡ true) ⊎ (self.now.passed ≡ false) }
@@ -178,7 +178,7 @@ impl<'a, const N: usize> Pass<'a, N> {
         }
     }
 
-    // The same, with no frame read where no AU-4 comes from one.
+    // Passes over a row, and reads no frame where no AU-4 comes from one.
     fn any_row(&self, bytes: &mut [u8], r: usize)
         requires pass { IsPass N self.now }
         requires size { length bytes.old ≡ 2430 * N }
@@ -192,7 +192,7 @@ impl<'a, const N: usize> Pass<'a, N> {
         }
     }
 
-    // The pointers, in row 3.
+    // Puts the pointers, in row 3.
     fn pointers(&self, bytes: &mut [u8])
         requires pass { IsPass N self.now }
         requires size { length bytes.old ≡ 2430 * N }
@@ -203,7 +203,7 @@ impl<'a, const N: usize> Pass<'a, N> {
         self.plain::<true>(bytes, from, to);
     }
 
-    // Row r of all AU-4s, with the pointers in row 3.
+    // Puts row r of all AU-4s, with the pointers in row 3.
     pub(crate) fn choose_row(&self, bytes: &mut [u8], r: usize)
         requires pass { IsPass N self.now }
         requires size { length bytes.old ≡ 2430 * N }

@@ -12,7 +12,7 @@ use sdh_payload::Cells;
 use sdh_terms::Rate;
 use std::simd::prelude::*;
 
-// Sixteen bytes become these.
+// Puts these sixteen bytes at a place.
 #[inline(always)]
 pub(crate) fn put(out: &mut [u8], at: usize, lanes: u8x16)
     requires long { length lanes ≡ 16 }
@@ -25,7 +25,7 @@ pub(crate) fn put(out: &mut [u8], at: usize, lanes: u8x16)
     lanes.copy_to_slice(&mut out[at..]);
 }
 
-// Sixteen bytes of one payload become these.
+// Puts these sixteen bytes at a place of one payload.
 #[inline(always)]
 fn put_in(out: &mut [Cells], a: usize, at: usize, lanes: u8x16)
     requires long { length lanes ≡ 16 }
@@ -39,7 +39,7 @@ fn put_in(out: &mut [Cells], a: usize, at: usize, lanes: u8x16)
     put(payload.as_mut_slice(), at, lanes);
 }
 
-// `V` vectors from a place on.
+// Returns `V` vectors from a place on.
 #[inline(always)]
 fn load<const V: usize>(bytes: &[u8], at: usize) -> [u8x16; V]
     requires few { V ≤ 16 }
@@ -54,7 +54,7 @@ fn load<const V: usize>(bytes: &[u8], at: usize) -> [u8x16; V]
     rows
 }
 
-// Sixteen bytes of each payload from `base` on become these.
+// Puts these sixteen bytes at a place of each payload from `base` on.
 #[inline(always)]
 fn put_all(out: &mut [Cells], base: usize, at: usize, payloads: &[u8x16])
     requires long { (a : ℕ) → a < length payloads.now → length (slice_index_or payloads.now a []) ≡ 16 }
@@ -69,7 +69,7 @@ fn put_all(out: &mut [Cells], base: usize, at: usize, payloads: &[u8x16])
     }
 }
 
-// Sixteen columns of row r, from payload column c on.
+// Takes sixteen columns of row r, from payload column c on.
 #[inline(always)]
 fn take_block<const N: usize>(bytes: &[u8], base: usize, r: usize, c: usize, out: &mut [Cells])
     requires rate { (N ≡ 4) ⊎ (N ≡ 16) }
@@ -82,7 +82,7 @@ fn take_block<const N: usize>(bytes: &[u8], base: usize, r: usize, c: usize, out
 {
     let at = byte_of::<N>(270 * r + (9 + c));
     if N == 4 {
-        // Lanes `base` and the one behind it are the last two of each four from here on.
+        // Lanes `base` and the one after it are the last two of each four from here on.
         let here = at + base - 2;
         let payloads = last_two(load::<4>(bytes, here));
         put_all(out, base, 261 * r + c, &payloads);
@@ -120,7 +120,7 @@ fn take_rows<const N: usize>(bytes: &[u8], base: usize, out: &mut [Cells])
     }
 }
 
-// The lower or the upper half: code of its own for each, in which the lanes are constants.
+// Takes the lower or the upper half. Each has code of its own, in which the lanes are constants.
 fn take_half<const N: usize>(bytes: &[u8], base: usize, out: &mut [Cells])
     requires rate { (N ≡ 4) ⊎ (N ≡ 16) }
     requires base { (base ≡ 0) ⊎ (2 * base ≡ N) }
@@ -135,7 +135,7 @@ fn take_half<const N: usize>(bytes: &[u8], base: usize, out: &mut [Cells])
     }
 }
 
-// The payloads of half of the AU-4s, those behind the first `base`, each into the cells in its place.
+// Takes the payloads of half of the AU-4s, those after the first `base`, each into the cells in its place.
 pub(crate) fn take(rate: Rate, bytes: &[u8], base: usize, out: &mut [Cells])
     requires base { (base ≡ 0) ⊎ (2 * base ≡ n_of rate) }
     requires size { length bytes.now ≡ size_of rate }

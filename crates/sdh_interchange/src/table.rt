@@ -4,7 +4,7 @@ ghost use Rattle.sdh_interchange.specs.Tables.{IsTable, cell};
 
 use std::simd::prelude::*;
 
-// Every element goes to the place that its row and lane give as one number of eight bits, rotated by one.
+// Moves every element to the place that its row and lane, as one number of eight bits, give when rotated by one.
 #[inline(always)]
 fn turn(v: [u8x16; 16]) -> [u8x16; 16]
     requires { IsTable 16 v }
@@ -20,7 +20,7 @@ fn turn(v: [u8x16; 16]) -> [u8x16; 16]
     out
 }
 
-// Rows become lanes.
+// Returns the table with rows as lanes.
 #[inline(always)]
 pub(crate) fn transpose(v: [u8x16; 16]) -> [u8x16; 16]
     requires { IsTable 16 v }
@@ -30,7 +30,8 @@ pub(crate) fn transpose(v: [u8x16; 16]) -> [u8x16; 16]
     turn(turn(turn(turn(v))))
 }
 
-// The same of eight rows, by a number of seven bits.
+// Moves every element of eight rows to the place that its row and lane, as one number of seven bits, give when rotated
+// by one.
 #[inline(always)]
 fn turn8(v: [u8x16; 8]) -> [u8x16; 8]
     requires { IsTable 8 v }
@@ -46,7 +47,7 @@ fn turn8(v: [u8x16; 8]) -> [u8x16; 8]
     out
 }
 
-// Eight rows become eight lanes: two of these columns in a vector.
+// Returns eight rows as eight lanes, two of the columns in each vector.
 #[inline(always)]
 pub(crate) fn transpose8(v: [u8x16; 8]) -> [u8x16; 8]
     requires { IsTable 8 v }
@@ -56,7 +57,7 @@ pub(crate) fn transpose8(v: [u8x16; 8]) -> [u8x16; 8]
     turn8(turn8(turn8(v)))
 }
 
-// Two columns in each vector become vectors of their own, of which the first eight lanes count.
+// Returns the two columns of each vector as vectors of their own. Only the first eight lanes of each count.
 #[inline(always)]
 pub(crate) fn apart(v: [u8x16; 8]) -> [u8x16; 16]
     requires { IsTable 8 v }
@@ -72,7 +73,7 @@ pub(crate) fn apart(v: [u8x16; 8]) -> [u8x16; 16]
     out
 }
 
-// The first eight lanes of sixteen rows: those of rows i and i + 8 take turns.
+// Returns the first eight lanes of sixteen rows: those of rows i and i + 8 take turns.
 #[inline(always)]
 fn lower(v: [u8x16; 16]) -> [u8x16; 8]
     requires { IsTable 16 v }
@@ -87,7 +88,7 @@ fn lower(v: [u8x16; 16]) -> [u8x16; 8]
     out
 }
 
-// The last eight lanes.
+// Returns the last eight lanes.
 #[inline(always)]
 fn upper(v: [u8x16; 16]) -> [u8x16; 8]
     requires { IsTable 16 v }
@@ -102,7 +103,7 @@ fn upper(v: [u8x16; 16]) -> [u8x16; 8]
     out
 }
 
-// Eight lanes of sixteen rows, from lane `base` on, become rows.
+// Returns eight lanes of sixteen rows, from lane `base` on, as rows.
 #[inline(always)]
 pub(crate) fn lanes_from(v: [u8x16; 16], base: usize) -> [u8x16; 8]
     requires rows { IsTable 16 v }
@@ -117,7 +118,8 @@ pub(crate) fn lanes_from(v: [u8x16; 16], base: usize) -> [u8x16; 8]
     }
 }
 
-// The same place of four rows, as a number of six bits.
+// Moves every element of four rows to the place that its row and lane, as one number of six bits, give when rotated by
+// one.
 #[inline(always)]
 fn turn4(v: [u8x16; 4]) -> [u8x16; 4]
     requires { IsTable 4 v }
@@ -129,7 +131,7 @@ fn turn4(v: [u8x16; 4]) -> [u8x16; 4]
     [a, b, c, d]
 }
 
-// The bytes of four rows take turns.
+// Returns the bytes of four rows interleaved.
 #[inline(always)]
 pub(crate) fn transpose4(v: [u8x16; 4]) -> [u8x16; 4]
     requires { IsTable 4 v }
@@ -139,7 +141,7 @@ pub(crate) fn transpose4(v: [u8x16; 4]) -> [u8x16; 4]
     turn4(turn4(v))
 }
 
-// Each two of the first eight lanes, twice.
+// Returns each pair of the first eight lanes twice.
 #[inline(always)]
 fn low_twice(v: u8x16) -> u8x16
     requires { length v ≡ 16 }
@@ -149,7 +151,7 @@ fn low_twice(v: u8x16) -> u8x16
     v.swizzle([0, 1, 0, 1, 2, 3, 2, 3, 4, 5, 4, 5, 6, 7, 6, 7])
 }
 
-// Each two of the last eight lanes, twice.
+// Returns each pair of the last eight lanes twice.
 #[inline(always)]
 fn high_twice(v: u8x16) -> u8x16
     requires { length v ≡ 16 }
@@ -159,7 +161,7 @@ fn high_twice(v: u8x16) -> u8x16
     v.swizzle([8, 9, 8, 9, 10, 11, 10, 11, 12, 13, 12, 13, 14, 15, 14, 15])
 }
 
-// The bytes of two rows take the first two turns of four each.
+// Returns the bytes of two rows interleaved, as the first two of each four.
 #[inline(always)]
 pub(crate) fn spread(v: [u8x16; 2]) -> [u8x16; 4]
     requires { IsTable 2 v }
@@ -175,7 +177,7 @@ pub(crate) fn spread(v: [u8x16; 2]) -> [u8x16; 4]
     ]
 }
 
-// The last two of each four lanes of two rows.
+// Returns the last two of each four lanes of two rows.
 #[inline(always)]
 fn last_pairs(a: u8x16, b: u8x16) -> u8x16
     requires a { length a ≡ 16 }
@@ -190,7 +192,7 @@ fn last_pairs(a: u8x16, b: u8x16) -> u8x16
     )
 }
 
-// The last two of each four lanes of four rows, as a row each.
+// Returns the last two of each four lanes of four rows, as a row each.
 #[inline(always)]
 pub(crate) fn last_two(v: [u8x16; 4]) -> [u8x16; 2]
     requires { IsTable 4 v }

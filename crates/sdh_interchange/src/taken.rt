@@ -40,7 +40,7 @@ impl fmt::Debug for Taken {
     }
 }
 
-// Cells for sixteen payloads.
+// Returns cells for sixteen payloads.
 fn sixteen_cells(alloc: Global) -> Result<Vec<Cells>, AllocError>
     ensures { IfOk result (λ v. v.items ≡ replicate 16 []) }
 {
@@ -51,7 +51,7 @@ fn sixteen_cells(alloc: Global) -> Result<Vec<Cells>, AllocError>
     Ok(cells)
 }
 
-// So many cells from a place on get room for a payload each.
+// Makes room for a payload in each of `count` cells from a place on.
 fn make_room(cells: &mut [Cells], from: usize, count: usize)
     requires { from + count ≤ length cells.old }
     ensures room { HaveRoom from count cells.new }
@@ -64,7 +64,7 @@ fn make_room(cells: &mut [Cells], from: usize, count: usize)
     }
 }
 
-// So many marks from a place on are set.
+// Sets `count` marks from a place on.
 fn mark(here: &mut [bool], from: usize, count: usize)
     requires { from + count ≤ length here.old }
     ensures inside { (a : ℕ) → a < count → slice_index_or here.new (from + a) false ≡ true }
@@ -77,7 +77,7 @@ fn mark(here: &mut [bool], from: usize, count: usize)
 }
 
 impl Taken {
-    /// Nothing has been taken. All its memory is taken here, and is enough for each rate.
+    /// Returns a store from which nothing was taken. All its memory is taken here, and is enough for each rate.
     pub fn try_new(alloc: Global) -> Result<Taken, AllocError>
         ensures { IfOk result (λ taken. taken ≡ none_taken) }
     {
@@ -88,7 +88,7 @@ impl Taken {
         })
     }
 
-    /// A frame comes, of which nothing has been taken.
+    /// Begins with a frame. Nothing of it has been taken.
     pub fn begin(&mut self, frame: &FrameBuf)
         ensures { IsOf frame.now self.new }
     {
@@ -96,7 +96,7 @@ impl Taken {
         self.here = [false; 16];
     }
 
-    // The payloads of half of the AU-4s, those behind the first `base`.
+    // Takes the payloads of half of the AU-4s, those after the first `base`.
     fn take(&mut self, frame: &FrameBuf, base: usize)
         requires held { IsOf frame.now self.old }
         requires base { (base ≡ 0) ⊎ (base ≡ self.old.half) }

@@ -68,6 +68,6 @@ by_truth true s f g = sym (f refl)
 by_truth false false f g = refl
 by_truth false true f g = let e : false ≡ true = g refl in absurd (cc)
 
--- what tells equal words is `same_word`
+-- `same_word` decides whether words are equal
 pub word_tells : (r : Bool) (a b : K) → (IsTrue r ↔ (a ≡ b)) → r ≡ same_word a b
 word_tells r a b h = by_truth r (same_word a b) (λ t. ap (same_word a) (sym (h.0 t)) ∙ is_same a) (λ e. h.1 (same_is a b e))

@@ -19,7 +19,8 @@ pub enum Path {
     Long,
 }
 
-/// What the source of a word tells of itself: the first of `Rdi`, `BridgedSwitched`, `Bridged` and `Idle` that applies.
+/// The state that the source of a word reports: the first of `Rdi`, `BridgedSwitched`, `Bridged` and `Idle` that
+/// applies.
 #[derive(Clone, Copy, Debug, PartialEq, Eq)]
 pub enum Mark {
     /// Neither side is switched, or both are.
@@ -44,7 +45,7 @@ pub struct K {
     pub mark: Mark,
 }
 
-// The code of four bits, if the table has it.
+// Returns the code of four bits, if the table has it.
 fn code_of(bits: u8) -> Option<Code>
     ensures { result ≡ code_at bits }
 {
@@ -98,7 +99,7 @@ impl Mark {
     }
 }
 
-/// The bytes K1 and K2 of a word.
+/// Returns the bytes K1 and K2 of a word.
 #[tactic(auto, using(crate::proofs::Tables::decoded_spelled))]
 pub fn encode(k: K) -> (u8, u8)
     requires to { k.to ≤ 15 }
@@ -112,7 +113,7 @@ pub fn encode(k: K) -> (u8, u8)
     )
 }
 
-/// The word that the bytes K1 and K2 spell; None at a code or a mark that the tables don't list.
+/// Returns the word that the bytes K1 and K2 spell; None at a code or a mark that the tables don't list.
 pub fn decode(k1: u8, k2: u8) -> Option<K>
     ensures word { result ≡ decoded k1 k2 }
     ensures encodes { IfSome result (λ k. Spells k k1 k2) }

@@ -5,7 +5,7 @@ ghost use Rattle.sdh_kbytes.specs.KBytes.{path_number};
 
 use crate::{Code, K, Path};
 
-/// Whether two codes are the same.
+/// Returns whether two codes are the same.
 pub fn same_code(left: Code, right: Code) -> bool
     ensures { result ≡ same_code left right }
 {
@@ -18,7 +18,7 @@ fn is_word(left: K, right: K) -> bool
     left == right
 }
 
-/// Whether two words are the same in all parts.
+/// Returns whether two words are the same in all parts.
 pub fn same_word(left: K, right: K) -> bool
     ensures same { result ≡ same_word left right }
     ensures tells { IsTrue result ↔ (left ≡ right) }
@@ -35,7 +35,7 @@ fn is_path(left: Path, right: Path) -> bool
     }
 }
 
-/// Whether two words agree: code, destination, source and path are the same, whatever their marks.
+/// Returns whether two words agree: code, destination, source and path are the same, whatever their marks.
 #[tactic(auto, unfolding(crate::specs::Same::agrees))]
 pub fn agrees(left: K, right: K) -> bool
     ensures { result ≡ agrees left right }
@@ -46,7 +46,7 @@ pub fn agrees(left: K, right: K) -> bool
         && is_path(left.path, right.path)
 }
 
-/// Whether the same word is heard, or none both times.
+/// Returns whether one word is heard both times, or none both times.
 pub fn same_heard(left: Option<K>, right: Option<K>) -> bool
     ensures { result ≡ same_heard left right }
 {

@@ -28,7 +28,7 @@ pub fn settled_rings_are_restored()
     sdh_settling::still_rings_are_settled();
 }
 
-/// So it is where a quiet window ends a stretch, under the requests of the histories.
+/// Where a quiet window ends a stretch, the ring is restored under the requests of the histories.
 pub fn settled_rings_restore()
     ensures { SettledRingsRestore }
 {

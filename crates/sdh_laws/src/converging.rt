@@ -37,7 +37,7 @@ pub fn windows_come_soon()
     sdh_settling::rings_settle();
 }
 
-/// So a window ends.
+/// In every whole ring in which nothing but rounds happens a quiet window ends.
 pub fn rings_converge()
     ensures { RingsConverge }
 {
@@ -63,7 +63,7 @@ pub fn healthy_rounds_are_calm()
     ensures { HealthyRoundsAreCalm }
 {}
 
-/// So its settle steps end with rounds 128, 256 and so on.
+/// The settle steps of a healthy ring end with rounds 128, 256 and so on.
 pub fn healthy_steps_settle()
     ensures { HealthyStepsSettle }
 {}
@@ -73,7 +73,7 @@ pub fn healthy_rings_apply_nothing()
     ensures { HealthyRingsApplyNothing }
 {}
 
-/// After each of them each port has delivered what it is owed where nothing is applied.
+/// After each settle step of a healthy ring each port has delivered what it is owed where nothing is applied.
 pub fn healthy_steps_deliver()
     ensures { HealthyStepsDeliver }
 {

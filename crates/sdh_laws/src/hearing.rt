@@ -19,7 +19,7 @@ pub fn new_worlds_are_whole()
     ensures { NewWorldsAreWhole }
 {}
 
-/// Rounds leave it so, and so does what may happen between them.
+/// Rounds leave a ring over its fibres in order, and what may happen between rounds does too.
 #[tactic(auto, using(crate::proofs::hearing::Changes::stay_whole))]
 pub fn stay_whole()
     ensures { StayWhole }
@@ -31,7 +31,7 @@ pub fn sides_bring()
     ensures { SidesBring }
 {}
 
-/// Behind a fibre that isn't cut a side reads each AU-4 as it was sent, and behind one that is, ones.
+/// A side reads each AU-4 as it was sent where its fibre isn't cut, and ones where it is.
 #[tactic(auto, using(crate::proofs::hearing::Rounds::sides_read))]
 pub fn sides_read()
     ensures { SidesRead }
@@ -54,7 +54,7 @@ pub fn rounds_are_signal_rounds()
     ensures { RoundsAreSignalRounds }
 {}
 
-/// So it is whichever plant ran it.
+/// A round of a whole ring goes as a round of signals, whichever plant ran it.
 pub fn whole_rounds_go_as_signals()
     ensures { WholeRoundsGoAsSignals }
 {}
@@ -86,7 +86,7 @@ pub fn windows_are_settled()
     sdh_settling::still_rings_are_settled();
 }
 
-/// A step that ends with such a window leaves the ring in order, and its nodes in the settled states.
+/// A step that ends with a quiet window leaves the ring in order, and its nodes in the settled states.
 pub fn steps_settle()
     ensures { StepsSettle }
 {
@@ -107,7 +107,8 @@ pub fn stretches_settle()
     sdh_settling::still_rings_are_settled();
 }
 
-/// Where no controller misses a turn from some round on, states and words stay from so many rounds after it on.
+/// Where no controller misses a turn from some round on, states and words stay from a fixed number of rounds after it
+/// on.
 #[tactic(auto, using(crate::proofs::hearing::Steady::free_runs_get_still))]
 pub fn free_runs_get_still()
     ensures { FreeRunsGetStill }

@@ -20,7 +20,7 @@ pub fn steps_leave_at_rest()
     sdh_settling::still_rings_are_settled();
 }
 
-/// A round leaves them so.
+/// A round of a ring at rest is calm, delivers what is owed, and leaves the ring at rest.
 pub fn rest_goes_on()
     ensures { RestGoesOn }
 {}

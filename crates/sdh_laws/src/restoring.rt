@@ -12,28 +12,29 @@ pub fn rings_are_restored_soon()
     sdh_settling::rings_settle();
 }
 
-/// Where no controller misses a turn, from number 12n + 2 on, and from 8n + 61 on where slips wait.
+/// Where no controller misses a turn, traffic is restored from the larger of round numbers 12n + 2 and 8n + 61 on.
 pub fn free_rings_are_restored_soon()
     ensures { FreeRingsAreRestoredSoon }
 {
     sdh_settling::rings_settle();
 }
 
-/// Where no slip waits either, from number 12n + 2 on.
+/// Where no controller misses a turn and no slip waits, traffic is restored from number 12n + 2 on.
 pub fn unslipped_rings_are_restored_soon()
     ensures { UnslippedRingsAreRestoredSoon }
 {
     sdh_settling::rings_settle();
 }
 
-/// Each port by its own number: by the hops of its circuit, and by the ring's size where it is owed AIS.
+/// From every whole ring on, each port delivers what it is owed from a round of its own on: by the hops of its circuit,
+/// and by the ring's size where it is owed AIS.
 pub fn ports_are_owed_soon()
     ensures { PortsAreOwedSoon }
 {
     sdh_settling::rings_settle();
 }
 
-/// The same where no controller is held and no slip waits.
+/// Where no controller is held and no slip waits, each port soon delivers what it is owed, circuit by circuit.
 pub fn unslipped_ports_are_owed_soon()
     ensures { UnslippedPortsAreOwedSoon }
 {
@@ -47,7 +48,7 @@ pub fn unsettled_rings_are_restored()
     sdh_settling::rings_settle();
 }
 
-/// After any stretches of changes and rounds, the last of which has at least 12n + 102 rounds.
+/// Traffic is restored after any stretches of changes and rounds, where the last one has at least 12n + 102 rounds.
 pub fn stretches_are_restored_soon()
     ensures { StretchesAreRestoredSoon }
 {

@@ -1,5 +1,6 @@
-//! What holds of a ring over honest fibres in every round, quiet or not, whatever is cut, mended, degraded or commanded
-//! and whenever clocks slip, as long as only controllers of nodes that don't pass traffic through miss turns.
+//! What holds of a ring over honest fibres in every round, quiet or not, as long as only controllers of nodes that
+//! don't pass traffic through miss turns. Fibres may be cut, mended and degraded, sides commanded, and clocks slip at
+//! any time.
 //!
 //! Each function here is a law: it does nothing, and its contract is the law, whose words are in `specs/`.
 
@@ -14,12 +15,12 @@ pub fn vouched_rings_stay()
     ensures { VouchedRingsStay }
 {}
 
-/// So it does over every round, in which no port meets a stranger.
+/// A ring that is vouched for stays so over every round, in which no port meets a stranger.
 pub fn rounds_keep_strangers_out()
     ensures { RoundsKeepStrangersOut }
 {}
 
-/// And over every settle step, in none of whose rounds one does.
+/// A ring that is vouched for stays so over every settle step. In no round of the step a port meets a stranger.
 pub fn steps_keep_strangers_out()
     ensures { StepsKeepStrangersOut }
 {}
@@ -30,13 +31,14 @@ pub fn no_port_ever_meets_a_stranger()
     ensures { NoPortEverMeetsAStranger }
 {}
 
-/// And so it is where controllers are held of nodes that stand aside then, idle or isolated.
+/// From a new ring on no port meets a stranger where controllers are held of nodes alone that stand aside then, idle or
+/// isolated.
 pub fn nodes_aside_may_be_held()
     ensures { NodesAsideMayBeHeld }
 {}
 
-/// Behind a quiet window the controllers of switched nodes may be held as well: of all nodes but those that pass
-/// traffic through.
+/// From a new ring on no port meets a stranger where, after a stretch that ended with a quiet window, controllers are
+/// held of all nodes but those that pass traffic through.
 pub fn nodes_that_do_not_pass_may_be_held()
     ensures { NodesThatDoNotPassMayBeHeld }
 {
@@ -50,16 +52,16 @@ pub fn settled_rings_are_vouched_for()
     sdh_settling::still_rings_are_settled();
 }
 
-/// So no port meets a stranger in any round of a step whose own changes hold no controller of a node that passes
-/// traffic through, whatever was held in the steps before.
+/// No port meets a stranger in any round of a step whose own changes hold no controller of a node that passes traffic
+/// through, whatever was held in the steps before.
 pub fn a_hold_spoils_its_own_step_alone()
     ensures { AHoldSpoilsItsOwnStepAlone }
 {
     sdh_settling::still_rings_are_settled();
 }
 
-/// Every whole ring comes to be vouched for, whatever it carries: so many rounds behind the last turn that a controller
-/// missed.
+/// Every whole ring becomes vouched for, whatever it carries: a fixed number of rounds after the last turn that a
+/// controller missed.
 pub fn rings_come_to_be_vouched_for()
     ensures { RingsComeToBeVouchedFor }
 {}

@@ -1,4 +1,4 @@
--- What is the same in the comparison of a calm round is the same, and a round that leaves it the same is calm.
+-- What the comparison of a calm round finds equal is equal, and a round that leaves all that is compared is calm.
 use Rattle.std.proofs.Common.{◌≡◌, ℕ, ◌≤◌, Bool, true, false, refl, ap, ◌∙◌}
 use Rattle.std.specs.Prelude.{◌&&◌, not, nat_le}
 use Rattle.std.proofs.lemmas.Bool.{and_parts, leb-true, le-leb}
@@ -62,7 +62,7 @@ calm_leaves now n e =
       compared_same (compared (after_crossing (crossing now n) n)) (compared n) both.1,
     )
 
--- and a later round that isn't held and leaves all of it is calm
+-- a later round that isn't held and leaves all that is compared is calm
 pub unchanged_is_calm : (now : ℕ) (n : Node) → 1 ≤ n.rounds → is_held n ≡ false → compared (node_round now n).0 ≡ compared n
     → (node_round now n).0.calm ≡ true
 unfolding node_round with_calm

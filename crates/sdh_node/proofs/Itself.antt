@@ -1,4 +1,4 @@
--- What is compared is the same as itself.
+-- All that is compared is equal to itself.
 use Rattle.std.proofs.Common.{◌≡◌, ℕ, true, List, [], ◌∷◌, Option, Some, None, refl}
 use Rattle.std.proofs.lemmas.Bool.{eq-eqb}
 use Rattle.sdh_terms.specs.declared.Code.{Code}

@@ -45,11 +45,11 @@ abbrev pub on_side : Cross → Side → Receiving
 on_side x West = x.west
 on_side x East = x.east
 
--- with a change on one side
+-- a cross-connect with a change on one side
 abbrev pub at_side : Side → (Receiving → Receiving) → Cross → Cross
 at_side side f x = record x { west = if_west side f x.west; east = if_east side f x.east }
 
--- half of the rate's N: so many slots are working slots
+-- half of the rate's N, which is the number of working slots
 abbrev pub half_of : Cross → ℕ
 half_of x = n_of x.west.section.rate / 2
 

@@ -81,7 +81,7 @@ new_node s ids circuits at = record {
   calm = false;
 }
 
--- its cross-connect
+-- the cross-connect of a new node
 abbrev pub new_cross : Settings → List ℕ → List Provisioned → Pos → Cross
 new_cross s ids circuits at = record {
   ids = ids;
@@ -100,11 +100,11 @@ new_cross s ids circuits at = record {
 abbrev pub at_receiving : Side → (Receiving → Receiving) → Node → Node
 at_receiving side f n = record n { west = if_west side f n.west; east = if_east side f n.east }
 
--- a node whose controller is to miss so many turns, in place of those that are left
+-- a node whose controller is held for `turns` turns, in place of those left
 abbrev pub held_for : ℕ → Node → Node
 held_for turns n = record n { held = turns }
 
--- a node at one of whose ports so many more slips wait
+-- a node with `count` more pending slips at one of its ports
 abbrev pub slips_at : PortId → Turn → ℕ → Node → Node
 slips_at id turn count n = record n { ports = with_slips id turn count n.ports }
 
@@ -198,7 +198,7 @@ abbrev pub sending_on : Side → Node → Sending
 sending_on West n = n.west_out
 sending_on East n = n.east_out
 
--- the last moment that was told
+-- the last moment that was set
 abbrev pub moment_of : Node → ℕ
 moment_of n = n.west.local.moment
 

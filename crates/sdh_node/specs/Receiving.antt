@@ -23,7 +23,7 @@ use Rattle.sdh_plant.specs.Fibres.{Arrival}
 use Rattle.sdh_terminal.specs.Receiving.{Inlet, Reception, reception_of, Intake, readings_by, actions_by}
 
 pub record Receiving : Type 0 where
-  -- what arrived since the last round: None where nothing was told; else the bytes of a frame, or darkness
+  -- what arrived since the last round: None where nothing was received; else the bytes of a frame, or darkness
   pub arrived : Option Arrival
   -- the parities of the frame before
   pub section : section.SectionKept

@@ -1,4 +1,4 @@
--- What is compared between a round and the round before, and when it is the same.
+-- What is compared between a round and the round before, and when it is as before.
 use Rattle.std.specs.Prelude.{ℕ, Bool, ◌&&◌, Option, List}
 use Rattle.sdh_kbytes.specs.Same.{same_code, same_word, same_heard}
 use Rattle.sdh_terms.specs.declared.Code.{Code}
@@ -10,13 +10,14 @@ use Rattle.sdh_terminal.specs.Same.{same_readings, same_generators}
 
 -- ---- what is compared
 
--- of a side that receives: the local request, the word heard, and what the interpreters keep, AU-4 by AU-4
+-- what is compared of a side that receives: the local request, the word heard, and what the interpreters keep, AU-4 by
+-- AU-4
 pub record ComparedIn : Type 0 where
   pub request : Code
   pub heard : Option K
   pub readings : List Reading
 
--- of a side that sends: the word, and the states of the generators, AU-4 by AU-4
+-- what is compared of a side that sends: the word, and the states of the generators, AU-4 by AU-4
 pub record ComparedOut : Type 0 where
   pub word : K
   pub generators : List (Option ℕ)
@@ -24,7 +25,7 @@ pub record ComparedOut : Type 0 where
 pub record Compared : Type 0 where
   pub west : ComparedIn
   pub east : ComparedIn
-  -- with the far end
+  -- the node's state, with the far end
   pub state : NodeState
   pub west_out : ComparedOut
   pub east_out : ComparedOut
@@ -35,7 +36,7 @@ same_in a b = same_code a.request b.request && same_heard a.heard b.heard && sam
 abbrev pub same_out : ComparedOut → ComparedOut → Bool
 same_out a b = same_word a.word b.word && same_generators a.generators b.generators
 
--- all of it is the same
+-- all that is compared is equal
 unfoldable pub same_compared : Compared → Compared → Bool
 same_compared a b =
     same_in a.west b.west && same_in a.east b.east && same_state a.state b.state && same_out a.west_out b.west_out

@@ -23,7 +23,7 @@ adm = record {
   outlet = λ port n. outlet_of port n.ports;
 }
 
--- it may run a round at a moment that isn't before the last one that was told
+-- a node may run a round at a moment that isn't before the last one
 pub record MayRun (now : ℕ) (n : Node) : Type 0 where
   pub early : moment_of n ≤ now
   pub within : now ≤ 1000000000

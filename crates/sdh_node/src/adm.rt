@@ -51,8 +51,8 @@ impl Model for Adm {
 }
 
 impl Adm {
-    /// The node at a position of a ring with these circuits: idle, without commands and defects. All its memory is
-    /// taken here.
+    /// Returns the node at a position of a ring with these circuits: idle, without commands and defects. All its memory
+    /// is taken here.
     #[tactic(auto, unfolding(crate::specs::Node::new_node))]
     pub fn try_new(
         alloc: Global,
@@ -88,8 +88,8 @@ impl Adm {
         self.cross.command(side, command);
     }
 
-    /// Its controller misses so many of the next turns, in place of those that are left of an earlier call: in a held turn the
-    /// node keeps its state and the words that it sends, and does all else.
+    /// Holds the controller for the next `turns` turns, in place of those left of an earlier call. In a held turn the
+    /// node keeps its state and the words that it sends, and does everything else.
     pub fn hold(&mut self, turns: u32)
         requires some { 1 ≤ turns }
         requires few { turns ≤ 100 }
@@ -99,8 +99,8 @@ impl Adm {
         self.held = turns;
     }
 
-    /// So many more slips of the clock of a port's customer wait. Each is used up in a round of its own, in which the port justifies
-    /// its pointer.
+    /// Adds `count` pending slips to the clock of a port's customer. Each is used up in a round of its own, in which
+    /// the port justifies its pointer.
     pub fn slip(&mut self, port: PortId, turn: Turn, count: u8)
         requires there { HasPort self.old.ports port }
         requires few { waiting_of port self.old.ports + count ≤ 16 }
@@ -110,7 +110,7 @@ impl Adm {
         self.ports.slip(port, turn, count);
     }
 
-    /// How many slips wait at a port.
+    /// Returns how many slips wait at a port.
     pub fn waiting(&self, port: PortId) -> u8
         requires { HasPort self.now.ports port }
         ensures waiting { result ≡ waiting_of port self.now.ports }
@@ -142,7 +142,7 @@ impl Adm {
         self.cross.receive_landed(side, arrived, inbox);
     }
 
-    /// What a port of the node delivered in the last round, and AIS before the first.
+    /// Returns what a port of the node delivered in the last round, and AIS before the first.
     pub fn delivered(&self, port: PortId) -> &Delivered
         requires { HasPort self.now.ports port }
         ensures { result.now ≡ (outlet_of port self.now.ports).delivered }
@@ -150,7 +150,7 @@ impl Adm {
         self.ports.outlet(port).delivered()
     }
 
-    /// The value of the interpreter through which a port's chunk came, and 0 where it delivers AIS.
+    /// Returns the value of the interpreter through which a port's chunk came, and 0 where it delivers AIS.
     pub fn value(&self, port: PortId) -> u16
         requires { HasPort self.now.ports port }
         ensures value { result ≡ (outlet_of port self.now.ports).value }
@@ -159,14 +159,14 @@ impl Adm {
         self.ports.outlet(port).value()
     }
 
-    /// The state.
+    /// Returns the state.
     pub fn state(&self) -> &NodeState
         ensures { result.now ≡ self.now.state }
     {
         self.cross.state()
     }
 
-    /// The word sent on a side in the last round; before the first the one that asks the neighbour for nothing.
+    /// Returns the word sent on a side in the last round; before the first the one that asks the neighbour for nothing.
     pub fn sent_k(&self, side: Side) -> K
         ensures word { result ≡ (sending_on side self.now).word }
         ensures to { result.to ≤ 15 }
@@ -178,21 +178,21 @@ impl Adm {
         }
     }
 
-    /// The local request of a side in the last round, and no request before the first.
+    /// Returns the local request of a side in the last round, and no request before the first.
     pub fn request(&self, side: Side) -> Code
         ensures { result ≡ (receiving_on side self.now).request }
     {
         self.cross.receiver(side).request()
     }
 
-    /// The identifier of the far end, where the node switches one side and has one.
+    /// Returns the identifier of the far end, where the node switches one side and has one.
     pub fn far_id(&self) -> Option<u8>
         ensures { result ≡ option_map (λ (p : Pos). get_or self.now.ids p.0 0) (far_of self.now.state) }
     {
         self.cross.far_id()
     }
 
-    /// The word that is heard on a side since the last round, if one is.
+    /// Returns the word that is heard on a side since the last round, if one is.
     pub fn heard(&self, side: Side) -> Option<K>
         ensures word { result ≡ hears (receiving_on side self.now).brought }
         ensures spellable { IfSome result IsSpellable }
@@ -200,16 +200,16 @@ impl Adm {
         self.cross.receiver(side).heard()
     }
 
-    /// Whether the last round was no held turn and changed nothing: no word sent or heard, no state, far end, local request,
-    /// interpreter or generator. The first round isn't calm.
+    /// Returns whether the last round was no held turn and changed nothing: no word sent or heard, no state, far end,
+    /// local request, interpreter or generator. The first round isn't calm.
     pub fn calm(&self) -> bool
         ensures { result ≡ self.now.calm }
     {
         self.calm
     }
 
-    /// One round at a moment: what arrived is read, the state and the words follow, the ports deliver, and a frame goes
-    /// out on each side. It takes no memory.
+    /// Runs one round at a moment: what arrived is read, the state and the words follow, the ports deliver, and a frame
+    /// goes out on each side. It takes no memory.
     #[tactic(auto, unfolding(crate::specs::Node::node_round))]
     pub fn send(&mut self, now: Moment, west: &mut FrameBuf, east: &mut FrameBuf)
         requires west { west.old.rate ≡ self.old.settings.rate }
@@ -256,7 +256,8 @@ impl Adm {
     }
 }
 
-// What tells whether a round is calm: whether it may be, and of each of its calls whether what it compares is the same.
+// What decides whether a round is calm: whether it may be, and for each of its calls whether what it compares is as
+// before.
 #[derive(Drop)]
 struct Signs {
     counts: bool,
@@ -268,7 +269,7 @@ struct Signs {
     east_made: bool,
 }
 
-// Whether the round is calm: it may be, and all that is compared is the same.
+// Returns whether the round is calm: it may be, and all that is compared is as before.
 fn is_calm(signs: &Signs) -> bool
     ensures { result ≡ (signs.now.counts && (signs.now.taken && signs.now.decided && (signs.now.west_said && signs.now.west_made)
         && (signs.now.east_said && signs.now.east_made))) }
@@ -282,7 +283,7 @@ fn is_calm(signs: &Signs) -> bool
         && signs.east_made
 }
 
-// The words of both sides.
+// Returns the words of both sides.
 fn words_of(west: &Sender, east: &Sender) -> Sent
     ensures west { result.west ≡ west.now.word }
     ensures east { result.east ≡ east.now.word }
@@ -294,21 +295,21 @@ fn words_of(west: &Sender, east: &Sender) -> Sent
     }
 }
 
-// Whether a turn is held.
+// Returns whether a turn is held.
 fn is_held(turns: u32) -> bool
     ensures { result ≡ nat_le 1 turns }
 {
     turns >= 1
 }
 
-// The held turns after this one.
+// Returns the held turns after this one.
 fn one_less(turns: u32) -> u32
     ensures { result ≡ turns - 1 }
 {
     turns.saturating_sub(1)
 }
 
-// Whether a round may be calm: one ran before it, and the turn isn't held.
+// Returns whether a round may be calm: one ran before it, and the turn isn't held.
 fn may_be_calm(rounds: u64, held: bool) -> bool
     ensures { result ≡ (nat_le 1 rounds && not held) }
 {

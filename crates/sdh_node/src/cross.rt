@@ -31,7 +31,7 @@ use sdh_terms::Rate;
 use std::alloc::{AllocError, Global};
 use std::marker::Model;
 
-/// Both sides that receive, the state, and what it takes to tell where the state leads what comes in.
+/// Both sides that receive, the state, and what decides where the state leads the AU-4s that arrive.
 #[derive(Debug, Drop)]
 pub struct CrossConnect {
     map: RingMap,
@@ -59,7 +59,7 @@ impl Model for CrossConnect {
     } };
 }
 
-// The far end of a state, where it has one.
+// Returns the far end of a state, where it has one.
 fn far_of(state: &NodeState) -> Option<Pos>
     ensures { result ≡ far_of state.now }
 {
@@ -71,7 +71,7 @@ fn far_of(state: &NodeState) -> Option<Pos>
 }
 
 impl CrossConnect {
-    /// Idle, with nothing received. All memory is taken here.
+    /// Returns an idle cross-connect that has received nothing. All memory is taken here.
     pub fn try_new(
         alloc: Global,
         settings: Settings,
@@ -135,8 +135,8 @@ impl CrossConnect {
         }
     }
 
-    /// Both sides take what arrived, and the interpreters read. Whether the requests, the words heard and what the
-    /// interpreters keep are as before.
+    /// Lets both sides take what arrived, and the interpreters read. Returns whether the requests, the words heard and
+    /// what the interpreters keep are as before.
     #[tactic(auto, unfolding(crate::specs::Crossing::after_intakes))]
     pub fn take(&mut self, threshold: u16, now: Moment) -> bool
         requires west { self.old.west.local.moment ≤ now.0 }
@@ -154,7 +154,7 @@ impl CrossConnect {
         west && east
     }
 
-    // The state of this round by the rules, and the words. Whether the state is as before.
+    // Finds the state of this round by the rules. Returns the words to be sent, and whether the state is as before.
     #[tactic(auto, unfolding(crate::specs::Crossing::after_decision, crate::specs::Crossing::scene_of))]
     fn step(&mut self) -> (Sent, bool)
         ensures cross { self.new ≡ after_decision false self.old }
@@ -183,7 +183,7 @@ impl CrossConnect {
         (sent, same)
     }
 
-    /// Takes the state of this round, and tells the words that are sent, and whether the state is as before. In a held turn
+    /// Takes the state of this round, and returns the words to send, and whether the state is as before. In a held turn
     /// the state stays, and the words are those of the round before.
     #[tactic(auto, unfolding(crate::specs::Crossing::after_decision, crate::specs::Crossing::next_word), using(sdh_nodestate::proofs::SameStates::state_itself))]
     pub fn decide(&mut self, held: bool, before: Sent) -> (Sent, bool)
@@ -199,14 +199,14 @@ impl CrossConnect {
         if held { (before, true) } else { self.step() }
     }
 
-    /// The state.
+    /// Returns the state.
     pub fn state(&self) -> &NodeState
         ensures { result.now ≡ self.now.state }
     {
         &self.state
     }
 
-    /// The identifier of the far end, where there is one.
+    /// Returns the identifier of the far end, where there is one.
     pub fn far_id(&self) -> Option<u8>
         ensures { result ≡ option_map (λ (p : Pos). get_or self.now.ids p.0 0) (far_of self.now.state) }
     {
@@ -216,7 +216,7 @@ impl CrossConnect {
         }
     }
 
-    /// The side that receives.
+    /// Returns the side that receives.
     pub fn receiver(&self, side: Side) -> &Receiver
         ensures side { result.now ≡ on_side self.now side }
         ensures rate { result.now.section.rate ≡ self.now.west.section.rate }
@@ -227,7 +227,7 @@ impl CrossConnect {
         }
     }
 
-    // What an AU-4 is fed with that comes from an origin in a slot.
+    // Returns what an AU-4 is fed with that comes from an origin in a slot.
     fn feeder_of(&self, slot: u16, origin: Origin) -> Feeder
         requires first { 1 ≤ slot }
         requires last { slot ≤ half_of self.now }
@@ -269,7 +269,7 @@ impl Matrix for CrossConnect {
         }
     }
 
-    // AU-4s up to half of N are the working slots, and those above it the protection slots.
+    // Returns where an AU-4 lies: those up to half of N are the working slots, and those above it the protection slots.
     #[tactic(auto, unfolding(crate::specs::Crossing::leads))]
     fn leaving(&self, side: Side, au: u16) -> Feeder {
         let half = u16::from(self.west_in.rate().half());

@@ -45,7 +45,7 @@ impl Model for Receiver {
 }
 
 impl Receiver {
-    /// A side that has received nothing. All its memory is taken here.
+    /// Returns a side that has received nothing. All its memory is taken here.
     pub fn try_new(alloc: Global, settings: Settings) -> Result<Receiver, AllocError>
         ensures { IfOk result (λ r. r ≡ new_receiving settings) }
     {
@@ -90,8 +90,8 @@ impl Receiver {
         self.local.command(command);
     }
 
-    // What the filter makes of the word that came, and the local request with the defect at a moment. Whether the word heard and the
-    // request are as before.
+    // Returns what the filter makes of the word that came, and the local request with the defect at a moment. Whether
+    // the word heard and the request are as before.
     fn hear(&mut self, now: Moment, defect: Defect, word: Option<K>) -> bool
         requires later { self.old.local.moment ≤ now.0 }
         requires within { now.0 ≤ 1000000000 }
@@ -135,7 +135,7 @@ impl Receiver {
         heard && read
     }
 
-    /// The local request of the last round.
+    /// Returns the local request of the last round.
     pub fn request(&self) -> Code
         ensures value { result ≡ self.now.request }
         ensures side { IsReceiving self.now }
@@ -143,7 +143,7 @@ impl Receiver {
         self.request
     }
 
-    /// The word heard in the last round.
+    /// Returns the word heard in the last round.
     pub fn heard(&self) -> Option<K>
         ensures value { result ≡ hears self.now.brought }
         ensures side { IsReceiving self.now }
@@ -151,14 +151,14 @@ impl Receiver {
         self.filter.heard()
     }
 
-    /// Whether the side failed in the last round.
+    /// Returns whether the side failed in the last round.
     pub fn fails(&self) -> bool
         ensures { result ≡ is_failed self.now.local.defect }
     {
         matches!(self.local.defect(), Defect::Sf)
     }
 
-    /// The value of the interpreter of an AU-4.
+    /// Returns the value of the interpreter of an AU-4.
     pub fn value(&self, au: u16) -> u16
         requires first { 1 ≤ au }
         requires last { au ≤ n_of self.now.section.rate }

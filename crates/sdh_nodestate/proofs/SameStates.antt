@@ -60,6 +60,6 @@ so_true : (r : Bool) → r ≡ true → IsTrue r
 so_true true e = refl
 so_true false e = absurd (cc)
 
--- what compares states tells equal ones
+-- the comparison of states finds equal ones
 pub state_tells : (r : Bool) (a b : NodeState) → r ≡ same_state a b → IsTrue r ↔ (a ≡ b)
 state_tells r a b is = (λ t. state_same a b (sym is ∙ is_true r t), λ e. so_true r (is ∙ ap (same_state a) (sym e) ∙ state_itself a))

@@ -13,7 +13,7 @@ pub record Brought : Type 0 where
 abbrev pub nothing_brought : Brought
 nothing_brought = record { last = None; second = None; third = None }
 
--- with what one more round brought
+-- a filter with what one more round brought
 abbrev pub with_brought : Option K → Brought → Brought
 with_brought word b = record { last = word; second = b.last; third = b.second }
 

@@ -1,4 +1,5 @@
--- Which word is sent on a side, told by how urgent the words are that may be sent there. This project's own, after ITU-T G.841.
+-- Which word is sent on a side, by the urgency of the words that may be sent there. This project's own, after ITU-T
+-- G.841.
 use Rattle.std.specs.Prelude.{ℕ, ◌≡◌, ◌≢◌, ◌<◌, ◌≤◌, ◌⊎◌}
 use Rattle.sdh_ringmap.specs.Places.{opposite}
 use Rattle.sdh_ringmap.specs.declared.Side.{Side}

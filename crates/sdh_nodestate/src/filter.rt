@@ -23,7 +23,7 @@ impl Model for Filter {
     ghost inverse = { λ b. record { last = b.last; second = b.second; third = b.third } };
 }
 
-// The first of three words, where they agree.
+// Returns the first of three words, where they agree.
 fn agreed(first: K, second: K, third: K) -> Option<K>
     ensures { result ≡ agreed first second third }
 {
@@ -35,7 +35,7 @@ fn agreed(first: K, second: K, third: K) -> Option<K>
 }
 
 impl Filter {
-    /// A filter to which no round has brought a word.
+    /// Returns a filter to which no round has brought a word.
     pub fn new() -> Filter
         ensures { result ≡ nothing_brought }
     {
@@ -46,8 +46,8 @@ impl Filter {
         }
     }
 
-    /// Takes what a round brought, and answers the word that is heard in it: the one just given, where it is the third in a
-    /// row and the three agree in code, destination, source and path.
+    /// Takes the word that arrived in a round, if any, and returns the word heard in it: the one just given, where it
+    /// is the third in a row and the three agree in code, destination, source and path.
     pub fn hear(&mut self, word: Option<K>) -> Option<K>
         ensures filter { self.new ≡ with_brought word self.old }
         ensures heard { result ≡ hears self.new }
@@ -58,7 +58,7 @@ impl Filter {
         self.heard()
     }
 
-    /// The word heard in the last round.
+    /// Returns the word heard in the last round.
     pub fn heard(&self) -> Option<K>
         ensures { result ≡ hears self.now }
     {

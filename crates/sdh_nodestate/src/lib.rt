@@ -140,14 +140,14 @@ pub struct Sent {
     pub east: K,
 }
 
-/// The state of a new node.
+/// Returns the state of a new node.
 pub fn start() -> NodeState
     ensures { result ≡ NodeState.Idle tt }
 {
     NodeState::Idle(Idle { made: () })
 }
 
-/// The word of a new node to its neighbour on a side: it asks for nothing.
+/// Returns the word of a new node to its neighbour on a side: it asks for nothing.
 pub fn first_word(map: &RingMap, at: Pos, side: Side) -> K
     requires { at.0 < length map.now }
     ensures word { result ≡ first_word map.now at.0 side }
@@ -162,7 +162,7 @@ pub fn first_word(map: &RingMap, at: Pos, side: Side) -> K
     }
 }
 
-/// The state and the words of a round. The old state is consumed, and has no part in the answer.
+/// Returns the state and the words of a round. The old state is consumed, and has no part in the answer.
 pub fn step(old: NodeState, map: &RingMap, at: Pos, needs: Needs, heard: Heard) -> (NodeState, Sent)
     requires { MayStep (scene map.now at.0 needs heard) }
     ensures state { result.0 ≡ state_after (scene map.now at.0 needs heard) }
@@ -189,15 +189,15 @@ pub fn step(old: NodeState, map: &RingMap, at: Pos, needs: Needs, heard: Heard) 
 }
 
 impl SwitchWest {
-    /// The far end, if there is one: the source of the long word that was heard on the east side. In a settled ring it
-    /// switches east.
+    /// Returns the far end, if there is one: the source of the long word that was heard on the east side. In a settled
+    /// ring it switches east.
     pub fn far(&self) -> Option<Pos>
         ensures { result ≡ self.now }
     {
         self.far
     }
 
-    /// The positions from this node, which is at `at`, eastwards up to the far end.
+    /// Returns the positions from this node, which is at `at`, eastwards up to the far end.
     pub fn chain(&self, map: &RingMap, at: Pos) -> Option<Chain>
         requires at { at.0 < length map.now }
         requires far { IsElsewhere (length map.now) at.0 self.now }
@@ -211,15 +211,15 @@ impl SwitchWest {
 }
 
 impl SwitchEast {
-    /// The far end, if there is one: the source of the long word that was heard on the west side. In a settled ring it
-    /// switches west.
+    /// Returns the far end, if there is one: the source of the long word that was heard on the west side. In a settled
+    /// ring it switches west.
     pub fn far(&self) -> Option<Pos>
         ensures { result ≡ self.now }
     {
         self.far
     }
 
-    /// The positions from the far end eastwards up to this node, which is at `at`.
+    /// Returns the positions from the far end eastwards up to this node, which is at `at`.
     pub fn chain(&self, map: &RingMap, at: Pos) -> Option<Chain>
         requires at { at.0 < length map.now }
         requires far { IsElsewhere (length map.now) at.0 self.now }

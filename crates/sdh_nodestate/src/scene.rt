@@ -31,7 +31,8 @@ pub(crate) enum Choice {
     Rest,
 }
 
-// The word to send, by the weights of the own short, the own long and the relayed word. A weight of 0 is no word.
+// Returns the word to send, by the weights of the own short, the own long and the relayed word. A weight of 0 is no
+// word.
 fn choose(short: u8, long: u8, relayed: u8) -> Choice
     ensures { choice_of result ≡ choose short long relayed }
 {
@@ -59,7 +60,7 @@ impl Scene<'_> {
         self.map.id(self.at)
     }
 
-    // The identifier of the neighbour on a side.
+    // Returns the identifier of the neighbour on a side.
     fn id_on(&self, side: Side) -> u8
         requires { self.now.at.0 < length self.now.map.now }
         ensures id { result ≡ id_on (view self.now) side }
@@ -97,7 +98,7 @@ impl Scene<'_> {
         }
     }
 
-    // The request heard from the neighbour on this side.
+    // Returns the request heard from the neighbour on this side.
     #[tactic(auto, unfolding(crate::specs::Rules::short))]
     fn short(&self, side: Side) -> Code
         requires { self.now.at.0 < length self.now.map.now }
@@ -113,7 +114,7 @@ impl Scene<'_> {
         }
     }
 
-    // The long word heard on this side.
+    // Returns the long word heard on this side.
     #[tactic(auto, unfolding(crate::specs::Rules::long))]
     fn long(&self, side: Side) -> Option<K>
         ensures word { result ≡ long (view self.now) side }
@@ -126,7 +127,7 @@ impl Scene<'_> {
         }
     }
 
-    // Whether a long word heard on `on` is about the span on `side`.
+    // Returns whether a long word heard on `on` is about the span on `side`.
     #[tactic(auto, unfolding(crate::specs::Rules::is_about))]
     fn is_about(&self, side: Side, on: Side, k: &K) -> bool
         requires { self.now.at.0 < length self.now.map.now }
@@ -135,7 +136,7 @@ impl Scene<'_> {
         on == side.opposite() && k.to == self.own_id() && k.from == self.id_on(side)
     }
 
-    // The request of the span on this side: the larger of the local one and the neighbour's.
+    // Returns the request of the span on this side: the larger of the local one and the neighbour's.
     #[tactic(auto, unfolding(crate::specs::Rules::stronger))]
     fn stronger(&self, side: Side) -> Code
         requires { self.now.at.0 < length self.now.map.now }
@@ -150,7 +151,7 @@ impl Scene<'_> {
         }
     }
 
-    // The word that is passed on from the opposite side.
+    // Returns the word that is passed on from the opposite side.
     #[tactic(auto, unfolding(crate::specs::Rules::relayed))]
     fn relayed(&self, side: Side) -> Option<K>
         requires { self.now.at.0 < length self.now.map.now }
@@ -164,7 +165,7 @@ impl Scene<'_> {
         }
     }
 
-    // Which word is sent on this side.
+    // Returns which word is sent on this side.
     #[tactic(auto, unfolding(crate::specs::Rules::chosen))]
     fn chosen(&self, side: Side) -> Choice
         requires { self.now.at.0 < length self.now.map.now }
@@ -181,7 +182,7 @@ impl Scene<'_> {
 }
 
 impl Scene<'_> {
-    // Whether a long word heard on `on` leaves the span on `side` its switch.
+    // Returns whether a long word heard on `on` leaves the span on `side` its switch.
     fn is_below(&self, side: Side, on: Side) -> bool
         requires { self.now.at.0 < length self.now.map.now }
         ensures { result ≡ is_below (view self.now) side on }
@@ -194,7 +195,7 @@ impl Scene<'_> {
         }
     }
 
-    // Whether the node switches this side.
+    // Returns whether the node switches this side.
     #[tactic(auto, unfolding(crate::specs::Rules::switches))]
     fn switches(&self, side: Side) -> bool
         requires { self.now.at.0 < length self.now.map.now }
@@ -210,7 +211,7 @@ impl Scene<'_> {
                 && self.is_below(side, Side::East)
     }
 
-    // The one side that is switched, if exactly one is.
+    // Returns the only switched side, where exactly one side is switched.
     fn switched(&self) -> Option<Side>
         requires { self.now.at.0 < length self.now.map.now }
         ensures { result ≡ switched (view self.now) }
@@ -222,7 +223,7 @@ impl Scene<'_> {
         }
     }
 
-    // The far end of a node that switches this side.
+    // Returns the far end of a node that switches this side.
     #[tactic(auto, unfolding(crate::specs::Rules::far), using(crate::proofs::FarEnds::found_elsewhere))]
     fn far(&self, side: Side) -> Option<Pos>
         requires { self.now.at.0 < length self.now.map.now }
@@ -235,7 +236,7 @@ impl Scene<'_> {
         }
     }
 
-    // The mark of an own word on this side.
+    // Returns the mark of an own word on this side.
     #[tactic(auto, unfolding(crate::specs::Rules::mark_on))]
     fn mark_on(&self, side: Side) -> Mark
         requires { self.now.at.0 < length self.now.map.now }
@@ -253,7 +254,7 @@ impl Scene<'_> {
         }
     }
 
-    // A word of this node's own that is sent on `side`, to the neighbour on `to`.
+    // Returns a word of this node's own that is sent on `side`, to the neighbour on `to`.
     #[tactic(auto, using(crate::proofs::FarEnds::own_member))]
     fn own_word(&self, side: Side, code: Code, to: Side, path: Path) -> K
         requires { self.now.at.0 < length self.now.map.now }
@@ -270,7 +271,7 @@ impl Scene<'_> {
         }
     }
 
-    // The word sent on this side.
+    // Returns the word sent on this side.
     #[tactic(auto, unfolding(crate::specs::Rules::word))]
     pub(crate) fn word(&self, side: Side) -> K
         requires { self.now.at.0 < length self.now.map.now }
@@ -300,7 +301,7 @@ impl Scene<'_> {
         }
     }
 
-    // The state that the node goes to.
+    // Returns the state that the node goes to.
     #[tactic(auto, unfolding(crate::specs::Rules::state_after))]
     pub(crate) fn state(&self) -> NodeState
         requires { self.now.at.0 < length self.now.map.now }

@@ -10,14 +10,14 @@ use sdh_ringmap::Pos;
 pub enum Shape {
     Idle,
     PassThrough,
-    /// With the far end, if there is one.
+    /// The west side is switched. The position is that of the far end, if there is one.
     SwitchWest(Option<Pos>),
-    /// With the far end, if there is one.
+    /// The east side is switched. The position is that of the far end, if there is one.
     SwitchEast(Option<Pos>),
     Isolated,
 }
 
-/// The shape of a state.
+/// Returns the shape of a state.
 pub fn shape_of(state: &NodeState) -> Shape
     ensures { state_of result ≡ state.now }
 {
@@ -40,7 +40,7 @@ fn same_far(left: Option<Pos>, right: Option<Pos>) -> bool
     }
 }
 
-/// Whether the states of two shapes are the same, with their far ends.
+/// Returns whether the states of two shapes are the same, with their far ends.
 #[tactic(auto, using(crate::proofs::SameStates::state_tells), unfolding(crate::specs::Shapes::same_state))]
 pub fn same_shape(left: Shape, right: Shape) -> bool
     ensures same { result ≡ same_state (state_of left) (state_of right) }

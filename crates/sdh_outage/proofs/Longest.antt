@@ -24,7 +24,7 @@ goes_on kind r b e = ap (λ c. with_run c r) e
 
 -- ---- the run with which the rounds end
 
--- whatever run they end with isn't longer than the one that goes on
+-- no run with which the rounds end is longer than the one that goes on
 none_longer_ends : (kinds run earlier : List Kind) → kinds ≡ run ++ earlier → list_all is_out run ≡ true → length run ≤ (runs kinds).going
 none_longer_ends kinds [] earlier e o = omega arith
 none_longer_ends [] (r ∷ run) earlier e o = absurd (cc)
@@ -36,7 +36,7 @@ none_longer_ends (kind ∷ kinds) (r ∷ run) earlier e o =
     let more = ap (λ (x : Runs). x.going) (goes_on kind (runs kinds) true (ap is_out head ∙ both.0)) in
     omega (arith, rest, more)
 
--- and that one is such a run
+-- the run that goes on is a run with which the rounds end
 pub record Ends (kinds : List Kind) (n : ℕ) : Type 0 where
   pub run : List Kind
   pub earlier : List Kind

@@ -36,7 +36,7 @@ short-three n h =
       one_digit (n % 10) (omega arith),
     )
 
--- of so many microseconds with so many digits before the point
+-- the text of a number of microseconds with at most `digits` digits before the point
 short-ms : (us digits : ℕ) → length (decimal (us / 1000)) ≤ digits → length (ms_text us) ≤ digits + 4
 short-ms us digits h =
     let a = decimal (us / 1000) in
@@ -84,7 +84,7 @@ pub record IsSmall (o : Outage) : Type 0 where
   pub longest : o.runs.longest < 2 ^ 32
   pub stretch : (t : Stretch) → o.stretch ≡ Some t → (t.from < 2 ^ 32) × (t.to < 2 ^ 32)
 
--- a text with such a number behind it
+-- a text with such a number after it
 short-number : (text word : List ℕ) (n most : ℕ) → length text + length word ≤ most → n < 2 ^ 32
     → length ((text ++ word) ++ decimal n) ≤ most + 10
 short-number text word n most h small =

@@ -62,13 +62,13 @@ module _ (bytes others : List ℕ) where
   part_found None nowhere = sym (no_part nowhere)
   part_found (Some k) found = sym (part_at k found.1)
 
--- a short chunk has nothing behind its front
+-- a short chunk has nothing after its front
 pub front_whole : (bytes : List ℕ) → length bytes ≤ 783 → bytes ≡ front bytes
 front_whole bytes few = sym (take_all 783 bytes few)
 
 -- ---- where some bytes stand
 
--- bytes that begin what is behind a place
+-- bytes that begin what is after a place
 pub occurs_front : (bytes others more : List ℕ) (at : ℕ) → at ≤ length others → drop at others ≡ bytes ++ more → OccursAt others bytes at
 occurs_front bytes others more at inside e =
     same_occurs bytes others at inside (sym (take-append_seam bytes more) ∙ ap (take (length bytes)) (sym e))
@@ -83,7 +83,7 @@ occurs_second first second others at o = record {
       ∙ get_or-append-add first second i 0);
 }
 
--- the last one and a chunk behind it
+-- the last one and a chunk after it
 pub stands_at : (is_chunk : Bool) (last chunk others more : List ℕ) (at : ℕ) → at ≤ length others → drop at others ≡ last ++ (chunk ++ more)
     → Stands (delivered is_chunk last) chunk others
 stands_at true last chunk others more at inside e =

@@ -8,7 +8,7 @@ use Rattle.sdh_outage.specs.declared.kind.Kind.{Kind}
 use Rattle.sdh_outage.specs.declared.change.Change.{Change}
 use Rattle.sdh_outage.specs.Changes.{is_change, last_kind, kind_changes, Traced, traced}
 
--- those that are kept tell which are kept with one more
+-- the first n of a list and more follow from the first n of that list
 pub kept_more : (n : ℕ) (xs ys : List Change) → take n (take n xs ++ ys) ≡ take n (xs ++ ys)
 kept_more n xs ys = elim (cases_lt (length xs) n) [
   | inl few ↦ ap (λ l. take n (l ++ ys)) (take_all n xs (omega arith))

@@ -87,7 +87,7 @@ feed_next feed next made n still rounds sent =
       ap (λ (f : Fed). f.port) n,
     )
 
--- one more, which isn't kept where none are
+-- one chunk more, which isn't kept where no chunks are
 pub reach_passed : (feed next : Fed) (made : ℕ) (bytes : List ℕ) → next ≡ next_feed feed → IsReach feed made made bytes
     → IsReach next (made + 1) (made + 1) bytes
 reach_passed feed next made bytes n r =
@@ -100,7 +100,7 @@ reach_passed feed next made bytes n r =
       bytes_are = r.bytes_are ∙ no_chunk feed.port (2349 * made) made ∙ sym (no_chunk next.port (2349 * (made + 1)) (made + 1));
     }
 
--- or is
+-- one chunk more, which is kept
 pub reach_pushed : (feed next : Fed) (first made : ℕ) (bytes chunk : List ℕ) → next ≡ next_feed feed
     → chunk ≡ stream_from feed.port feed.clock.sent 2349 → IsReach feed first made bytes → IsReach next first (made + 1) (bytes ++ chunk)
 reach_pushed feed next first made bytes chunk n e r =

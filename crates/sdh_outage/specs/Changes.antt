@@ -1,11 +1,11 @@
--- The rounds of a settle step from which on a port delivers something of another kind. How many of them are kept is this
--- project's own.
+-- The rounds of a settle step from which on a port delivers something of another kind. The number of changes that are
+-- kept is this project's own.
 use Rattle.std.specs.Prelude.{ℕ, ◌+◌, Bool, true, false, not, if◌then◌else◌, List, [], ◌∷◌, ◌++◌, take, length, Option, Some, None}
 use Rattle.sdh_outage.specs.declared.kind.Kind.{Kind}
 use Rattle.sdh_outage.specs.declared.kind.Kind.TheVariants as kind
 use Rattle.sdh_outage.specs.declared.change.Change.{Change}
 
--- two rounds are of one kind, whosever foreign bytes they brought
+-- two rounds are of one kind, whatever port the foreign bytes came from
 abbrev pub same_kind : Kind → Kind → Bool
 same_kind kind.Ais kind.Ais = true
 same_kind kind.Ones kind.Ones = true

@@ -30,7 +30,7 @@ pub record Reached : Type 0 where
   pub made : ℕ
   pub most : ℕ
 
--- what is true of them: the feed has come to the chunk behind them
+-- what is true of them: the feed has come to the chunk after them
 pub record IsReach (feed : Fed) (first made : ℕ) (bytes : List ℕ) : Type 0 where
   pub still : waiting feed.clock ≡ 0
   pub rounds_are : feed.clock.rounds ≡ made
@@ -44,7 +44,7 @@ pub record IsReach (feed : Fed) (first made : ℕ) (bytes : List ℕ) : Type 0 w
 abbrev pub delivered : Bool → List ℕ → Delivered
 delivered is_chunk bytes = if is_chunk then Chunk bytes else Ais
 
--- a chunk stands in these bytes of a stream, behind the last one where that was a chunk
+-- a chunk stands in these bytes of a stream, after the last one where that was a chunk
 abbrev pub Stands : Delivered → List ℕ → List ℕ → Type 0
 Stands Ais chunk others = (k : ℕ) × OccursAt others chunk k
 Stands (Chunk last) chunk others = (k : ℕ) × OccursAt others (last ++ chunk) k
@@ -58,7 +58,7 @@ pub record Heard : Type 0 where
   pub last : Delivered
   -- what was counted since the settle step began
   pub outage : Outage
-  -- and the changes since then
+  -- the changes since the settle step began
   pub trace : Traced
 
 -- by the far customer and whose bytes else came, the number of the settle step's first round, what came before that, and what came in
@@ -81,7 +81,7 @@ pub record AreRunsFew (r : Runs) (rounds : ℕ) : Type 0 where
   pub longest : r.longest ≤ rounds
   pub going : r.going ≤ rounds
 
--- there was no more than one count a round
+-- an outage has no more than one count a round
 abbrev pub AreFew : Outage → ℕ → Type 0
 AreFew o rounds = (are_few o ≤ rounds) × AreRunsFew o.runs rounds
 

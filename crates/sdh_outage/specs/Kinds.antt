@@ -9,22 +9,24 @@ use Rattle.sdh_outage.specs.declared.kind.Kind.{Kind}
 use Rattle.sdh_outage.specs.declared.kind.Kind.TheVariants as kind
 use Rattle.sdh_outage.specs.Near.{near, is_part, is_torn}
 
--- all of them are ones: nobody's bytes
+-- all of these bytes are ones: nobody's bytes
 abbrev pub are_ones : List ℕ → Bool
 are_ones bytes = list_all (λ byte. byte == 255) bytes
 
--- where these bytes of a stream are near, a chunk doesn't follow what came in the round before: that was a chunk of them too, and the
--- two don't stand there one behind the other
+-- a chunk doesn't follow what came in the round before, where these bytes of a stream are near: that was a chunk of
+-- these bytes too, and the two don't stand there one after the other
 abbrev pub jumps : List ℕ → Delivered → List ℕ → Bool
 jumps others Ais bytes = false
 jumps others (Chunk last) bytes = is_part last others && not (is_part (last ++ bytes) others)
 
--- what a round is that brings a chunk which doesn't stand in these bytes as one part; None where its pieces don't either
+-- the kind of a round that brings a chunk which doesn't stand in these bytes as one part; None where its pieces don't
+-- either
 abbrev pub kind_of_pieces : List ℕ → List ℕ → Option Kind
 kind_of_pieces bytes others = if is_torn bytes others then Some kind.Torn else None
 
--- What a round is by the far customer's bytes that are near alone, and what came in the round before it and in this one; None where
--- these aren't his. What comes first after AIS, ones or others' bytes is in order.
+-- The kind of a round by the far customer's bytes that are near alone, and what came in the round before it and in this
+-- one. It is None where no such bytes came, nor AIS or ones. What comes first after AIS, ones or others' bytes is in
+-- order.
 abbrev pub own_kind : List ℕ → Delivered → Delivered → Option Kind
 own_kind others before Ais = Some kind.Ais
 own_kind others before (Chunk bytes) =
@@ -32,12 +34,13 @@ own_kind others before (Chunk bytes) =
     if is_part bytes others then (if jumps others before bytes then Some kind.Jump else Some kind.InOrder) else
     kind_of_pieces bytes others
 
--- what it is where they aren't, if a port of another circuit sends what they hold
+-- the kind of a round that brought other bytes than the far customer's, by the port of another circuit that sends them,
+-- if there is one
 abbrev pub kind_of_others : Option PortId → Kind
 kind_of_others None = kind.Strange
 kind_of_others (Some port) = kind.Foreign port
 
--- by both
+-- the kind of a round by the far customer's bytes, and else by whose bytes they are
 abbrev pub settled_kind : Option Kind → Option PortId → Kind
 settled_kind None whose = kind_of_others whose
 settled_kind (Some kind) whose = kind

@@ -15,11 +15,11 @@ use Rattle.sdh_outage.specs.Outages.{out}
 abbrev pub three_digits : ℕ → List ℕ
 three_digits n = decimal (n / 100) ++ decimal (n / 10 % 10) ++ decimal (n % 10)
 
--- so many microseconds, in milliseconds with three decimals
+-- a number of microseconds, in milliseconds with three decimals
 abbrev pub ms_text : ℕ → List ℕ
 ms_text us = decimal (us / 1000) ++ codes "." ++ three_digits (us % 1000)
 
--- so many rounds, and how long they are
+-- a number of rounds, and how long they are
 abbrev pub rounds_text : ℕ → List ℕ
 rounds_text rounds = decimal rounds ++ codes " ms " ++ ms_text (125 * rounds)
 
@@ -32,7 +32,7 @@ stretch_text (Some s) = codes " from " ++ decimal s.from ++ codes " to " ++ deci
 abbrev pub runs_text : Runs → List ℕ
 runs_text r = codes " runs " ++ decimal r.count ++ codes " longest " ++ rounds_text r.longest
 
--- how many rounds there were of each kind that isn't in order
+-- the number of rounds of each kind that isn't in order
 abbrev pub first_counts_text : Outage → List ℕ
 first_counts_text o = codes " ais " ++ decimal o.ais ++ codes " ones " ++ decimal o.ones ++ codes " jump " ++ decimal o.jump
 
@@ -46,11 +46,11 @@ abbrev pub outage_front : List ℕ → End → Outage → List ℕ
 outage_front name end o =
     port_named name end ++ codes " out " ++ decimal (out o) ++ runs_text o.runs ++ stretch_text o.stretch ++ counts_text o
 
--- they were those of the port at that end of the circuit of that name
+-- the foreign bytes were those of the port at that end of the circuit of that name
 abbrev pub of_port : List ℕ → End → List ℕ
 of_port name end = codes " of " ++ name ++ codes " " ++ end_letter end ++ codes "\n"
 
--- or there were none
+-- there were no foreign bytes
 abbrev pub of_nobody : List ℕ
 of_nobody = codes " of - -\n"
 
@@ -66,11 +66,11 @@ kind_word kind.Torn = codes "torn"
 kind_word (kind.Foreign port) = codes "foreign"
 kind_word kind.Strange = codes "strange"
 
--- from this round on they are of this kind
+-- from this round on the rounds are of this kind
 abbrev pub change_line : Change → List ℕ
 change_line c = codes "round " ++ decimal c.round ++ codes " " ++ kind_word c.kind ++ codes "\n"
 
--- so many changes came behind those that are told
+-- `count` changes came after those that are listed
 abbrev pub more_line : ℕ → List ℕ
 more_line count = codes "more " ++ decimal count ++ codes "\n"
 

@@ -8,8 +8,8 @@ use Rattle.sdh_payload.specs.Stream.{stream_from}
 abbrev pub near_from : ℕ → ℕ
 near_from round = 2349 * (round - 71)
 
--- the far customer's bytes from 71 chunks before a round's own to 6 behind it: no port's clock is off by more than 6 chunks, and
--- nothing is longer on its way than 64 rounds
+-- the far customer's bytes from 71 chunks before a round's own to 6 after it: no port's clock is off by more than 6
+-- chunks, and nothing is longer on its way than 64 rounds
 unfoldable pub near : Customer → ℕ → List ℕ
 near port round = stream_from port (near_from round) (2349 * 78)
 
@@ -19,8 +19,9 @@ is_part bytes others = list_any (λ place. bytes_eq bytes (take (length bytes) (
 
 -- ---- pieces of a chunk
 
--- The bytes before the place where an AU-4 is justified, and those behind all that a justification puts in or leaves out there: three
--- payload bytes and the three bytes H3. Whatever an interpreter takes for a justification, these stand in a chunk as they were sent.
+-- The bytes before the place where an AU-4 is justified, and those after all that a justification puts in or leaves out
+-- there: three payload bytes and the three bytes H3. Whatever an interpreter takes for a justification, these stand in
+-- a chunk as they were sent.
 abbrev pub front : List ℕ → List ℕ
 front bytes = take 783 bytes
 

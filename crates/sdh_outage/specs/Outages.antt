@@ -21,11 +21,12 @@ is_out kind.Torn = false
 is_out (kind.Foreign port) = true
 is_out kind.Strange = true
 
--- before any round
+-- runs before any round
 abbrev pub no_runs : Runs
 no_runs = record { count = 0; longest = 0; going = 0 }
 
--- with a round more: where it is out it goes on with the run that the round before ended with, or begins one; otherwise none goes on
+-- runs after a round more: a round that is out goes on with the run that the round before ended with, or begins one;
+-- any other round ends the run
 abbrev pub with_run : Bool → Runs → Runs
 with_run false r = record r { going = 0 }
 with_run true r = record {
@@ -36,7 +37,7 @@ with_run true r = record {
 
 -- ---- rounds, counted
 
--- before any round
+-- the outage before any round
 abbrev pub no_outage : Outage
 no_outage = record {
   ais = 0;
@@ -50,17 +51,17 @@ no_outage = record {
   stretch = None;
 }
 
--- from the first round that wasn't in order to the last one, with this round behind it
+-- a stretch from the first round that wasn't in order to the last one, where this round is the last
 abbrev pub up_to : ℕ → Option Stretch → Option Stretch
 up_to round None = Some (record { from = round; to = round })
 up_to round (Some s) = Some (record s { to = round })
 
--- the first port whose bytes came, with those of this one behind it
+-- the first port whose bytes came, where those of this port came last
 abbrev pub first_port : Option PortId → PortId → Option PortId
 first_port None port = Some port
 first_port (Some first) port = Some first
 
--- with a round more of this kind counted, whatever its number
+-- an outage with a round more of this kind counted, whatever its number
 abbrev pub with_kind : Kind → Outage → Outage
 with_kind kind.InOrder o = o
 with_kind kind.Ais o = record o { ais = o.ais + 1 }
@@ -70,7 +71,7 @@ with_kind kind.Torn o = record o { torn = o.torn + 1 }
 with_kind (kind.Foreign port) o = record o { foreign = o.foreign + 1; whose = first_port o.whose port }
 with_kind kind.Strange o = record o { strange = o.strange + 1 }
 
--- and with its number, where it isn't in order
+-- a stretch after a round of this number and kind; a round in order leaves it as it was
 abbrev pub stretch_with : ℕ → Kind → Option Stretch → Option Stretch
 stretch_with round kind.InOrder s = s
 stretch_with round kind.Ais s = up_to round s
@@ -80,24 +81,24 @@ stretch_with round kind.Torn s = up_to round s
 stretch_with round (kind.Foreign port) s = up_to round s
 stretch_with round kind.Strange s = up_to round s
 
--- with a round more, of this number and kind
+-- an outage after a round more, of this number and kind
 abbrev pub with_round : ℕ → Kind → Outage → Outage
 with_round round kind o =
     record (with_kind kind o) { runs = with_run (is_out kind) o.runs; stretch = stretch_with round kind o.stretch }
 
--- of the rounds of these kinds from round `first` on, the latest first: a run that came before them is none of them, and one that
--- goes on behind them ends with the last of them
+-- the outage of the rounds of these kinds from round `first` on, the latest first: a run that came before them is none
+-- of them, and one that goes on after them ends with the last of them
 abbrev pub outage_of : ℕ → List Kind → Outage
 outage_of first [] = no_outage
 outage_of first (kind ∷ earlier) = with_round (first + length earlier) kind (outage_of first earlier)
 
--- how long the port was out: rounds that brought none of its own customer's bytes
+-- the number of rounds that brought none of the port's own customer's bytes
 abbrev pub out : Outage → ℕ
 out o = o.ais + o.ones + o.strange + o.foreign
 
 -- ---- all ports
 
--- before any port
+-- a summary that counts no port
 abbrev pub no_ports : Summary
 no_ports = record { longest = 0; over = 0; none = 0; still = 0; foreign = 0 }
 
@@ -105,12 +106,12 @@ no_ports = record { longest = 0; over = 0; none = 0; still = 0; foreign = 0 }
 abbrev pub is_back : Outage → Bool
 is_back o = o.runs.going == 0
 
--- its longest run has more than 400 rounds, 50 ms (ITU-T G.841 allows as long for a switch)
+-- the port's longest run has more than 400 rounds, 50 ms (ITU-T G.841 allows as long for a switch)
 abbrev pub is_over : Outage → Bool
 is_over o = nat_le 401 o.runs.longest
 
--- with a port more that had this outage: of those that came back, the longest run and how many had one that is over; and how many
--- were never out, are still out, and got bytes of another circuit
+-- The summary with a port more that had this outage. Of the ports that came back it has the longest run, and how many
+-- had one that is over; of all ports, how many were never out, are still out, and got bytes of another circuit.
 abbrev pub with_outage : Summary → Outage → Summary
 with_outage s o = record {
   longest = if is_back o then max s.longest o.runs.longest else s.longest;
@@ -120,6 +121,6 @@ with_outage s o = record {
   foreign = s.foreign + (if not (o.foreign == 0) then 1 else 0);
 }
 
--- of ports that had these outages
+-- the summary of ports that had these outages
 abbrev pub summary_of : List Outage → Summary
 summary_of outages = fold with_outage no_ports outages

@@ -13,7 +13,7 @@ pub struct Change {
     pub kind: Kind,
 }
 
-// Whether two rounds are of one kind, whosever foreign bytes they brought.
+// Returns whether two rounds are of one kind, whatever port the foreign bytes came from.
 fn same_kind(one: Kind, other: Kind) -> bool
     ensures { result ≡ same_kind one other }
 {
@@ -29,7 +29,7 @@ fn same_kind(one: Kind, other: Kind) -> bool
     }
 }
 
-/// Whether a round of this kind is a change, where the last one is the round before, if there is one.
+/// Returns whether a round of this kind is a change, where the last one is the round before, if there is one.
 pub(crate) fn is_change(last: Option<Kind>, kind: Kind) -> bool
     ensures { result ≡ is_change last kind }
 {

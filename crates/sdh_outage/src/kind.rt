@@ -11,19 +11,21 @@ pub enum Kind {
     Ais,
     /// A chunk all of ones: nobody's bytes.
     Ones,
-    /// A chunk of the far customer's, behind that of the round before or after none of them.
+    /// A chunk of the far customer's bytes that follows the one of the round before, or comes after a round without
+    /// one.
     InOrder,
-    /// A chunk of the far customer's that isn't behind that of the round before.
+    /// A chunk of the far customer's bytes that doesn't follow the one of the round before.
     Jump,
-    /// A chunk of the far customer's in two pieces, with other bytes amid, or without some of his.
+    /// A chunk of the far customer's bytes in two pieces, with other bytes amid, or without some of the customer's.
     Torn,
-    /// A chunk that isn't the far customer's and holds what a port of another circuit sends: the first such port.
+    /// A chunk that isn't the far customer's and has bytes that a port of another circuit sends: the first such port.
     Foreign(PortId),
     /// Any other chunk.
     Strange,
 }
 
-/// Returns what a round is that brought a chunk which isn't the far customer's, where a port of another circuit sends what it holds.
+/// Returns the kind of a round that brought a chunk which isn't the far customer's, by the port of another circuit that
+/// sends its bytes, if there is one.
 pub fn kind_of_others(whose: Option<PortId>) -> Kind
     ensures { result ≡ kind_of_others whose }
 {

@@ -38,7 +38,7 @@ impl fmt::Debug for Last {
 }
 
 impl Last {
-    /// AIS.
+    /// Returns AIS as what was delivered last, with room for two chunks.
     pub(crate) fn try_new(alloc: Global) -> Result<Last, AllocError>
         ensures { IfOk result (λ last. last ≡ Delivered.Ais) }
     {
@@ -48,7 +48,7 @@ impl Last {
         })
     }
 
-    /// Something else was delivered.
+    /// Keeps what was delivered now as what was delivered last.
     pub(crate) fn put(&mut self, now: &Delivered)
         ensures { self.new ≡ now.now }
     {
@@ -62,14 +62,15 @@ impl Last {
         }
     }
 
-    /// How many bytes a chunk has.
+    /// Returns how many bytes a chunk has.
     pub(crate) fn len(&self) -> usize
         ensures { result ≤ 2352 }
     {
         self.bytes.len()
     }
 
-    /// Whether a chunk stands among bytes of a stream, behind it at this place, or at the place itself where it is AIS.
+    /// Returns whether a chunk stands among bytes of a stream after the last one, which stands at this place; where the
+    /// last was AIS, whether the chunk stands at the place itself.
     pub(crate) fn stands_before(&self, chunk: &[u8], others: &[u8], at: usize) -> bool
         ensures { result ≡ true → Stands self.now chunk.now others.now }
     {
@@ -82,7 +83,7 @@ impl Last {
         rest.starts_with(&self.bytes) && behind.starts_with(chunk)
     }
 
-    /// Whether a chunk doesn't follow it, where these bytes of a stream are near.
+    /// Returns whether a chunk doesn't follow the last one, where these are the bytes of a stream that are near.
     pub(crate) fn jumps(&mut self, others: &[u8], chunk: &[u8]) -> bool
         requires { length chunk.now ≤ 2352 }
         ensures answer { result ≡ jumps others.now self.old chunk.now }

@@ -50,7 +50,7 @@ pub fn outage_front_is_short(outage: &Outage)
     stretch_is_small(outage.stretch);
 }
 
-/// The end of such a line has at most 23, so that the whole has room in `LINE_MAX` bytes.
+/// The end of the line of an outage has at most 23 bytes, so that the whole line has room in `LINE_MAX` bytes.
 pub fn line_end_is_short()
     ensures port { (name : List ℕ) (end : End) → length name ≤ 16 → length (of_port name end) ≤ 23 }
     ensures nobody { length of_nobody ≤ 23 }
@@ -63,14 +63,14 @@ pub fn change_line_is_short(change: &Change)
     rounds_are_few(change.round, change.round);
 }
 
-/// And that of any number of them.
+/// The line that says how many more changes there were has room in `LINE_MAX` bytes.
 pub fn more_line_is_short(count: u32)
     ensures { length (more_line count) ≤ LINE_MAX }
 {
     rounds_are_few(count, count);
 }
 
-/// And that of any summary.
+/// The line of any summary has room in `LINE_MAX` bytes.
 pub fn summary_line_is_short(summary: &Summary)
     ensures { length (summary_line summary.now) ≤ LINE_MAX }
 {

@@ -14,7 +14,7 @@ use sdh_report::Text;
 /// Room for any line of an outage, a change or a summary, in bytes.
 pub const LINE_MAX: usize = 250;
 
-// A number, with three digits always.
+// Appends a number, with three digits always.
 fn put_three(text: &mut Text, number: u64)
     requires small { number < 1000 }
     requires room { length (three_digits number) ≤ text.old.room }
@@ -25,7 +25,7 @@ fn put_three(text: &mut Text, number: u64)
     text.put_number(number % 10);
 }
 
-// How many milliseconds so many rounds are. Eight rounds are one.
+// Appends the time of `rounds` rounds in milliseconds, with three decimals. Eight rounds are 1 ms.
 fn put_ms(text: &mut Text, rounds: u64)
     requires { length (ms_text (125 * rounds)) ≤ text.old.room }
     ensures { text.new ≡ with_part text.old (ms_text (125 * rounds)) }
@@ -35,7 +35,7 @@ fn put_ms(text: &mut Text, rounds: u64)
     put_three(text, rounds % 8 * 125);
 }
 
-// So many rounds, and how long they are.
+// Appends a number of rounds, and how long they are.
 fn put_rounds(text: &mut Text, rounds: u64)
     requires { length (rounds_text rounds) ≤ text.old.room }
     ensures { text.new ≡ with_part text.old (rounds_text rounds) }
@@ -45,7 +45,7 @@ fn put_rounds(text: &mut Text, rounds: u64)
     put_ms(text, rounds);
 }
 
-// The first round that wasn't in order and the last one.
+// Appends the first round that wasn't in order and the last one.
 fn put_stretch(text: &mut Text, stretch: Option<Stretch>)
     requires { length (stretch_text stretch) ≤ text.old.room }
     ensures { text.new ≡ with_part text.old (stretch_text stretch) }
@@ -61,7 +61,7 @@ fn put_stretch(text: &mut Text, stretch: Option<Stretch>)
     }
 }
 
-// How many rounds there were of the first three kinds.
+// Appends how many rounds there were of the first three kinds.
 fn put_first_counts(text: &mut Text, outage: &Outage)
     requires { length (first_counts_text outage.now) ≤ text.old.room }
     ensures { text.new ≡ with_part text.old (first_counts_text outage.now) }
@@ -74,7 +74,7 @@ fn put_first_counts(text: &mut Text, outage: &Outage)
     text.put_number(u64::from(outage.jump));
 }
 
-// How many rounds there were of each kind.
+// Appends how many rounds there were of each kind.
 fn put_counts(text: &mut Text, outage: &Outage)
     requires { length (counts_text outage.now) ≤ text.old.room }
     ensures { text.new ≡ with_part text.old (counts_text outage.now) }
@@ -88,7 +88,7 @@ fn put_counts(text: &mut Text, outage: &Outage)
     text.put_number(u64::from(outage.foreign));
 }
 
-// How many runs of rounds there were, and the longest.
+// Appends how many runs of rounds there were, and the longest.
 fn put_runs(text: &mut Text, runs: &Runs)
     requires { length (runs_text runs.now) ≤ text.old.room }
     ensures { text.new ≡ with_part text.old (runs_text runs.now) }
@@ -132,7 +132,7 @@ pub fn of_nobody(text: &mut Text)
     text.put(b" of - -\n");
 }
 
-// The word of a kind.
+// Returns the word of a kind.
 fn kind_word(kind: Kind) -> &'static [u8]
     ensures { result.now ≡ kind_word kind }
 {
@@ -147,7 +147,7 @@ fn kind_word(kind: Kind) -> &'static [u8]
     }
 }
 
-/// The line of a change.
+/// Appends the line of a change.
 pub fn change_line(text: &mut Text, change: &Change)
     requires { length (change_line change.now) ≤ text.old.room }
     ensures { text.new ≡ with_part text.old (change_line change.now) }
@@ -159,7 +159,7 @@ pub fn change_line(text: &mut Text, change: &Change)
     text.put(b"\n");
 }
 
-/// The line of so many changes behind those that were written.
+/// Appends the line that says how many changes came after those that were written.
 pub fn more_line(text: &mut Text, count: u32)
     requires { length (more_line count) ≤ text.old.room }
     ensures { text.new ≡ with_part text.old (more_line count) }
@@ -169,7 +169,7 @@ pub fn more_line(text: &mut Text, count: u32)
     text.put(b"\n");
 }
 
-// The line of ports that got bytes of another circuit, where there are any.
+// Appends the line of ports that got bytes of another circuit, where there are any.
 fn put_foreign(text: &mut Text, ports: u32)
     requires { length (foreign_line ports) ≤ text.old.room }
     ensures { text.new ≡ with_part text.old (foreign_line ports) }
@@ -181,7 +181,7 @@ fn put_foreign(text: &mut Text, ports: u32)
     }
 }
 
-// The longest run of rounds of a port that came back, and how many had one that is over.
+// Appends the longest run of rounds of a port that came back, and how many had one that is over.
 fn put_longest(text: &mut Text, summary: &Summary)
     requires { length (longest_text summary.now) ≤ text.old.room }
     ensures { text.new ≡ with_part text.old (longest_text summary.now) }
@@ -192,8 +192,8 @@ fn put_longest(text: &mut Text, summary: &Summary)
     text.put_number(u64::from(summary.over));
 }
 
-/// The line of a settle step: the longest run of rounds of a port that came back, and how many ports there were of which kind. A second
-/// line says how many got bytes of another circuit, where any did.
+/// Appends the line of a settle step: the longest run of rounds of a port that came back, and the number of ports of
+/// each kind. A second line says how many got bytes of another circuit, where any did.
 pub fn summary_line(text: &mut Text, summary: &Summary)
     requires { length (summary_line summary.now) ≤ text.old.room }
     ensures { text.new ≡ with_part text.old (summary_line summary.now) }

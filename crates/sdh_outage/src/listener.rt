@@ -38,7 +38,7 @@ impl Model for Listener {
 }
 
 impl Listener {
-    /// Before round 0.
+    /// Returns a listener that has heard of no round.
     pub fn try_new(alloc: Global) -> Result<Listener, AllocError>
         ensures { IfOk result (λ listener. (port : Customer) (whose : Whose) → listener ≡ heard port whose 0 Delivered.Ais []) }
     {
@@ -50,7 +50,8 @@ impl Listener {
         })
     }
 
-    /// A settle step begins before the next round: nothing is counted, no run of rounds goes on, and this was delivered last.
+    /// Begins a settle step before the next round: nothing is counted, no run of rounds goes on, and this was delivered
+    /// last.
     pub fn begin(&mut self, before: &Delivered)
         ensures { (port : Customer) (whose : Whose) → self.new ≡ heard port whose self.old.round before.now [] }
     {
@@ -59,8 +60,8 @@ impl Listener {
         self.trace.begin();
     }
 
-    /// Returns what a round is that brings this, by the far customer's bytes that are near in it; None where it isn't any of these, nor
-    /// AIS or ones.
+    /// Returns the kind of a round in which this was delivered, by the far customer's bytes that are near; None where
+    /// it is neither AIS, nor ones, nor any of these bytes.
     pub fn own_kind(
         &mut self,
         far: &mut Window,
@@ -78,7 +79,7 @@ impl Listener {
         }
     }
 
-    /// One round more, in which this was delivered, and which was of this kind.
+    /// Hears of one round more, in which this was delivered, and which was of this kind.
     pub fn hear(&mut self, now: &Delivered, kind: Kind)
         requires { self.old.round + 8 ≤ 2 ^ 32 }
         ensures history { (port : Customer) (whose : Whose) (first : ℕ) (before : Delivered) (past : List Delivered)
@@ -92,14 +93,14 @@ impl Listener {
         self.round += 1;
     }
 
-    /// What was counted since the settle step began.
+    /// Returns what was counted since the settle step began.
     pub fn outage(&self) -> Outage
         ensures { result ≡ self.now.outage }
     {
         self.outage
     }
 
-    /// The changes since then.
+    /// Returns the changes since then.
     pub fn trace(&self) -> &Trace
         ensures { result.now ≡ self.now.trace }
     {

@@ -7,45 +7,45 @@ ghost use Rattle.sdh_outage.specs.Kept.{are_few, AreRunsFew};
 use crate::kind::Kind;
 use sdh_circuits::PortId;
 
-/// How many rounds a switch may take, 50 ms of frames (ITU-T G.841).
+/// The number of rounds that a switch may take, 50 ms of frames (ITU-T G.841).
 const SWITCH_MAX: u32 = 400;
 
-/// From one round to another.
+/// The rounds from one to another.
 #[derive(Clone, Copy, Debug, PartialEq, Eq)]
 pub struct Stretch {
     /// The first round that wasn't in order.
     pub from: u32,
-    /// The last one.
+    /// The last round that wasn't in order.
     pub to: u32,
 }
 
-/// The runs of rounds, one behind the other, that brought none of the far customer's bytes.
+/// The runs of rounds, one after the other, that brought none of the far customer's bytes.
 #[derive(Clone, Copy, Debug, PartialEq, Eq)]
 pub struct Runs {
-    /// How many there were.
+    /// The number of runs.
     pub count: u32,
-    /// How many rounds the longest has.
+    /// The number of rounds of the longest run.
     pub longest: u32,
-    /// How many rounds that one has with which the rounds end; 0 where they end with the customer's bytes.
+    /// The number of rounds of the run with which the rounds end; 0 where they end with the customer's bytes.
     pub going: u32,
 }
 
 /// What was counted of the rounds of a settle step that weren't in order.
 #[derive(Clone, Copy, Debug, PartialEq, Eq)]
 pub struct Outage {
-    /// How many brought AIS.
+    /// The number of rounds that brought AIS.
     pub ais: u32,
-    /// How many a chunk all of ones.
+    /// The number of rounds that brought a chunk all of ones.
     pub ones: u32,
-    /// How many the far customer's bytes, but not those behind the ones before.
+    /// The number of rounds that brought the far customer's bytes, but not those after the ones before.
     pub jump: u32,
-    /// How many the far customer's bytes with others amid.
+    /// The number of rounds that brought the far customer's bytes with others amid, or without some of them.
     pub torn: u32,
-    /// How many what a port of another circuit sends.
+    /// The number of rounds that brought bytes that a port of another circuit sends.
     pub foreign: u32,
     /// The first such port, where there is one.
     pub whose: Option<PortId>,
-    /// How many any other chunk.
+    /// The number of rounds that brought any other chunk.
     pub strange: u32,
     /// The runs of rounds without the far customer's bytes.
     pub runs: Runs,
@@ -53,7 +53,7 @@ pub struct Outage {
     pub stretch: Option<Stretch>,
 }
 
-// With one round more.
+// Returns the stretch with this round as its last one.
 fn up_to(round: u32, stretch: Option<Stretch>) -> Option<Stretch>
     ensures { result ≡ up_to round stretch }
 {
@@ -66,7 +66,7 @@ fn up_to(round: u32, stretch: Option<Stretch>) -> Option<Stretch>
     }
 }
 
-// With one round more, of this number and kind.
+// Returns the stretch after a round of this number and kind.
 fn stretch_with(round: u32, kind: Kind, stretch: Option<Stretch>) -> Option<Stretch>
     ensures { result ≡ stretch_with round kind stretch }
 {
@@ -77,7 +77,7 @@ fn stretch_with(round: u32, kind: Kind, stretch: Option<Stretch>) -> Option<Stre
     }
 }
 
-// The first port whose bytes came.
+// Returns the first port whose bytes came.
 fn first_port(first: Option<PortId>, port: PortId) -> Option<PortId>
     ensures { result ≡ first_port first port }
 {
@@ -87,7 +87,7 @@ fn first_port(first: Option<PortId>, port: PortId) -> Option<PortId>
     }
 }
 
-// Whether a round of this kind brought none of the far customer's bytes.
+// Returns whether a round of this kind brought none of the far customer's bytes.
 fn is_out(kind: Kind) -> bool
     ensures { result ≡ is_out kind }
 {
@@ -98,7 +98,7 @@ fn is_out(kind: Kind) -> bool
 }
 
 impl Runs {
-    /// Before any round.
+    /// Returns the runs before any round.
     pub(crate) fn none() -> Runs
         ensures { result ≡ no_runs }
     {
@@ -109,7 +109,7 @@ impl Runs {
         }
     }
 
-    /// With one round more.
+    /// Returns the runs after one round more, which brought none of the far customer's bytes where `lacks` holds.
     pub(crate) fn with_run(self, lacks: bool, round: u32) -> Runs
         requires few { AreRunsFew self round }
         requires room { round + 1 < 2 ^ 32 }
@@ -133,7 +133,7 @@ impl Runs {
 }
 
 impl Outage {
-    /// Before any round.
+    /// Returns the outage before any round.
     pub(crate) fn none() -> Outage
         ensures { result ≡ no_outage }
     {
@@ -150,7 +150,7 @@ impl Outage {
         }
     }
 
-    // With one round more of this kind counted.
+    // Returns the outage with one round more of this kind counted.
     fn with_kind(self, kind: Kind) -> Outage
         requires few { are_few self + 1 < 2 ^ 32 }
         ensures counts { result ≡ with_kind kind self }
@@ -172,7 +172,7 @@ impl Outage {
         now
     }
 
-    /// With one round more, of this number and kind.
+    /// Returns the outage after one round more, of this number and kind.
     pub(crate) fn with_round(self, round: u32, kind: Kind) -> Outage
         requires few { are_few self + 1 < 2 ^ 32 }
         requires runs { AreRunsFew self.runs round }
@@ -189,7 +189,7 @@ impl Outage {
         }
     }
 
-    /// How long the port was out: the rounds that brought none of its own customer's bytes.
+    /// Returns the number of rounds that brought none of the port's own customer's bytes.
     pub fn out(&self) -> u64
         ensures { result ≡ out self.now }
     {
@@ -199,14 +199,14 @@ impl Outage {
             + u64::from(self.foreign)
     }
 
-    /// Whether the last round brought its own customer's bytes, or there was none.
+    /// Returns whether the last round brought its own customer's bytes, or there was none.
     pub fn is_back(&self) -> bool
         ensures { result ≡ is_back self.now }
     {
         self.runs.going == 0
     }
 
-    /// Whether it was out for more than 400 rounds at a time.
+    /// Returns whether it was out for more than 400 rounds at a time.
     pub fn is_over(&self) -> bool
         ensures { result ≡ is_over self.now }
     {

@@ -13,8 +13,8 @@ use std::marker::Model;
 /// The bytes of a chunk where no clock slips.
 pub(crate) const CHUNK: usize = 2349;
 
-/// Chunks of a port's stream, one after the other, of which later ones are made as they are asked for. It takes the memory for them
-/// when it is made, and uses it once they are there.
+/// Chunks of a port's stream, one after the other. Later ones are made as they are asked for. The memory for the chunks
+/// is taken when this is made, and used once the chunks are there.
 #[derive(Drop)]
 pub(crate) struct Reach {
     feed: Feed,
@@ -43,7 +43,7 @@ impl fmt::Debug for Reach {
     }
 }
 
-// Copies the bytes behind a place to the front, where they are no more than those before it.
+// Copies the bytes after a place to the front, where they are no more than those before it.
 fn copy_down(bytes: &mut [u8], count: usize)
     requires inside { count ≤ length bytes.old }
     requires short { length bytes.old ≤ 2 * count }
@@ -55,7 +55,7 @@ fn copy_down(bytes: &mut [u8], count: usize)
     front[..rest].copy_from_slice(back);
 }
 
-// Puts the bytes behind a place to the front, whatever comes behind them then.
+// Puts the bytes after a place to the front, whatever comes after them then.
 fn move_down(bytes: &mut [u8], count: usize)
     requires { count ≤ length bytes.old }
     ensures front { take (length bytes.old - count) bytes.new ≡ drop count bytes.old }
@@ -80,7 +80,7 @@ fn drop_front(bytes: &mut Vec<u8>, count: usize)
     bytes.truncate(rest);
 }
 
-/// Makes the next chunk of a stream and puts it behind others, for which there is room.
+/// Makes the next chunk of a stream and puts it after others, for which there is room.
 pub(crate) fn put_chunk(feed: &mut Feed, chunk: &mut Cells, bytes: &mut Vec<u8>)
     requires plain { waiting feed.old.clock ≡ 0 }
     requires few { feed.old.clock.rounds < 2 ^ 32 }
@@ -95,7 +95,7 @@ pub(crate) fn put_chunk(feed: &mut Feed, chunk: &mut Cells, bytes: &mut Vec<u8>)
 }
 
 impl Reach {
-    /// Before chunk 0, with room for this many chunks.
+    /// Returns a reach before chunk 0, with room for `most` chunks.
     pub(crate) fn try_new(alloc: Global, port: &Port, most: u32) -> Result<Reach, AllocError>
         requires { most ≤ 78 }
         ensures { IfOk result (λ reach. reach ≡ record { port = port.now; first = 0; made = 0; most = most }) }
@@ -113,28 +113,28 @@ impl Reach {
         })
     }
 
-    /// The number of the first chunk that is kept.
+    /// Returns the number of the first chunk that is kept.
     pub(crate) fn first(&self) -> u32
         ensures { result ≡ self.now.first }
     {
         self.first
     }
 
-    /// The number of the one behind the last that is kept.
+    /// Returns the number of the one after the last that is kept.
     pub(crate) fn made(&self) -> u32
         ensures { result ≡ self.now.made }
     {
         self.made
     }
 
-    /// The chunks that are kept.
+    /// Returns the chunks that are kept.
     pub(crate) fn bytes(&self) -> &[u8]
         ensures { result.now ≡ stream_from self.now.port (2349 * self.now.first) (2349 * (self.now.made - self.now.first)) }
     {
         &self.bytes
     }
 
-    // The next chunk is made and not kept.
+    // Makes the next chunk and doesn't keep it.
     fn pass(&mut self)
         requires none { self.old.first ≡ self.old.made }
         requires few { self.old.made + 1 < 2 ^ 32 }
@@ -145,7 +145,7 @@ impl Reach {
         self.first = self.made;
     }
 
-    // The next chunk is made and kept.
+    // Makes the next chunk and keeps it.
     fn push(&mut self)
         requires room { self.old.made < self.old.first + self.old.most }
         requires few { self.old.made + 1 < 2 ^ 32 }
@@ -155,7 +155,7 @@ impl Reach {
         self.made += 1;
     }
 
-    // None are kept.
+    // Drops all chunks that are kept.
     #[tactic(auto, using(crate::proofs::Windows::reach_cleared))]
     fn clear(&mut self)
         ensures { self.new ≡ record self.old { first = self.old.made } }
@@ -164,7 +164,7 @@ impl Reach {
         self.first = self.made;
     }
 
-    // None are kept, and the next is this one.
+    // Drops all chunks that are kept, and makes those before this one, so that it is next.
     fn pass_to(&mut self, from: u32)
         requires later { self.old.made ≤ from }
         requires few { from + 1 < 2 ^ 32 }
@@ -176,7 +176,7 @@ impl Reach {
         }
     }
 
-    // Those before this one aren't kept.
+    // Drops the chunks before this one.
     fn drop_to(&mut self, from: u32)
         requires after { self.old.first ≤ from }
         requires before { from ≤ self.old.made }
@@ -186,7 +186,7 @@ impl Reach {
         self.first = from;
     }
 
-    // All up to this one are kept.
+    // Makes all chunks up to this one.
     fn fill_to(&mut self, end: u32)
         requires room { end ≤ self.old.first + self.old.most }
         requires few { end < 2 ^ 32 }
@@ -198,7 +198,8 @@ impl Reach {
         }
     }
 
-    // None before `low` are kept, and there is room for so many from this one on. As few are dropped as that needs.
+    // Makes room for `count` chunks from this one on, and drops those before `low`. No more are dropped than that
+    // needs.
     fn make_room(&mut self, low: u32, from: u32, count: u32)
         requires order { low ≤ from }
         requires later { self.old.first ≤ from }
@@ -217,7 +218,7 @@ impl Reach {
         }
     }
 
-    /// Keeps so many chunks from this one on, and none before `low`.
+    /// Keeps `count` chunks from this one on, and none before `low`.
     pub(crate) fn reach(&mut self, low: u32, from: u32, count: u32)
         requires order { low ≤ from }
         requires later { self.old.first ≤ from }

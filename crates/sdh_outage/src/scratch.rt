@@ -10,10 +10,10 @@ use std::alloc::{AllocError, Global};
 use std::fmt;
 use std::marker::Model;
 
-/// How many chunks are near.
+/// The number of chunks that are near.
 pub(crate) const CHUNKS: u32 = 78;
 
-/// How many rounds before a round's own the first of them is sent.
+/// The number of near chunks before a round's own.
 pub(crate) const BEHIND: u32 = 71;
 
 /// Room for the bytes of a customer that are near in a round, made anew for each look. Its memory is taken when it is made, and serves
@@ -40,7 +40,7 @@ impl fmt::Debug for Scratch {
     }
 }
 
-// The feed of a port before this chunk of its stream.
+// Returns the feed of a port before this chunk of its stream.
 fn feed_before(port: &Port, chunk: &mut Cells, first: u32) -> Feed
     requires { first < 2 ^ 32 }
     ensures at { IsReach result first first [] }
@@ -69,7 +69,7 @@ fn put_near(feed: &mut Feed, chunk: &mut Cells, bytes: &mut Vec<u8>)
 }
 
 impl Scratch {
-    /// With room for the bytes of any customer.
+    /// Returns an empty scratch with room for the bytes of any customer that are near.
     pub fn try_new(alloc: Global) -> Result<Scratch, AllocError>
         ensures { IfOk result (λ scratch. scratch ≡ []) }
     {
@@ -78,7 +78,7 @@ impl Scratch {
         Ok(Scratch { chunk, bytes })
     }
 
-    /// The bytes of a port that are near in a round.
+    /// Returns the bytes of a port that are near in a round.
     pub(crate) fn near(&mut self, port: &Port, round: u32) -> &[u8]
         requires { round + 88 ≤ 2 ^ 32 }
         ensures { result.now ≡ near port.now round }

@@ -9,19 +9,19 @@ use crate::outage::Outage;
 /// What is said of the outages of all ports of a settle step.
 #[derive(Clone, Copy, Debug, PartialEq, Eq)]
 pub struct Summary {
-    /// How many rounds the longest run has of the ports that came back.
+    /// The number of rounds of the longest run of the ports that came back.
     pub longest: u32,
-    /// How many of these were out for more than 400 rounds at a time.
+    /// The number of these ports that were out for more than 400 rounds at a time.
     pub over: u32,
-    /// How many ports were never out.
+    /// The number of ports that were never out.
     pub none: u32,
-    /// How many are out still.
+    /// The number of ports that are out still.
     pub still: u32,
-    /// How many got what a port of another circuit sends.
+    /// The number of ports that got what a port of another circuit sends.
     pub foreign: u32,
 }
 
-// One more where this holds.
+// Returns the count, and one more where this holds.
 fn counted(count: u32, holds: bool) -> u32
     requires { count + 1 < 2 ^ 32 }
     ensures { result ≡ count + (if holds then 1 else 0) }
@@ -30,7 +30,7 @@ fn counted(count: u32, holds: bool) -> u32
 }
 
 impl Summary {
-    /// Before any port.
+    /// Returns a summary that counts no port.
     pub fn new() -> Summary
         ensures { result ≡ summary_of [] }
     {
@@ -43,7 +43,7 @@ impl Summary {
         }
     }
 
-    /// A port had this outage.
+    /// Adds a port that had this outage.
     pub fn add(&mut self, outage: &Outage)
         requires room { ports_in self.old + 4 < 2 ^ 32 }
         ensures ports { (others : List Outage) → self.old ≡ summary_of others → self.new ≡ summary_of (others ++ outage.now ∷ []) }

@@ -8,7 +8,7 @@ use crate::kind::Kind;
 use std::alloc::{AllocError, Global};
 use std::marker::Model;
 
-/// How many changes of a settle step are kept.
+/// The number of changes of a settle step that are kept.
 const KEPT: u32 = 64;
 
 /// The changes of a port in the rounds of a settle step: the first of them, and how many there were.
@@ -31,7 +31,7 @@ impl Model for Trace {
 }
 
 impl Trace {
-    /// Before any round.
+    /// Returns the trace before any round.
     pub(crate) fn try_new(alloc: Global) -> Result<Trace, AllocError>
         ensures { IfOk result (λ trace. trace ≡ traced 0 []) }
     {
@@ -42,7 +42,7 @@ impl Trace {
         })
     }
 
-    /// A settle step begins: there was no round.
+    /// Begins a settle step: there was no round.
     pub(crate) fn begin(&mut self)
         ensures { self.new ≡ traced 0 [] }
     {
@@ -51,7 +51,7 @@ impl Trace {
         self.last = None;
     }
 
-    // A change more.
+    // Counts one change more, and keeps it where fewer than 64 are kept.
     fn put(&mut self, change: Change)
         requires { self.old.count + 1 < 2 ^ 32 }
         ensures { self.new ≡ record self.old { changes = take 64 (self.old.changes ++ change ∷ []); count = self.old.count + 1 } }
@@ -62,7 +62,7 @@ impl Trace {
         self.count += 1;
     }
 
-    /// One round more, of this number and kind.
+    /// Adds one round more, of this number and kind.
     pub(crate) fn add(&mut self, round: u32, kind: Kind)
         requires { self.old.count + 1 < 2 ^ 32 }
         ensures history { (first : ℕ) (past : List Kind) → round ≡ first + length past → self.old ≡ traced first past
@@ -75,7 +75,7 @@ impl Trace {
         self.last = Some(kind);
     }
 
-    /// The first changes since the settle step began, at most 64.
+    /// Returns the first changes since the settle step began, at most 64.
     pub fn changes(&self) -> &[Change]
         ensures changes { result.now ≡ self.now.changes }
         ensures few { length result.now ≤ 64 }
@@ -83,7 +83,7 @@ impl Trace {
         &self.changes
     }
 
-    /// How many there were behind these.
+    /// Returns how many changes there were after the first 64.
     pub fn more(&self) -> u32
         ensures { result ≡ self.now.count - 64 }
     {

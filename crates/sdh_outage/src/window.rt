@@ -15,10 +15,11 @@ use std::alloc::{AllocError, Global};
 use std::fmt;
 use std::marker::Model;
 
-/// How many chunks hold the last one and that behind it, wherever they begin.
+/// The number of chunks that hold the last one and the one after it, wherever they begin.
 const AHEAD: u32 = 3;
 
-/// How many chunks there is room for where the next ones are looked for, so that the bytes aren't moved in each round.
+/// The number of chunks that there is room for where the next ones are looked for, so that the bytes aren't moved in
+/// each round.
 const ROOM: u32 = 6;
 
 /// The bytes of a port's stream that are near in a round. They are made where they are looked at: mostly only those that come next, and
@@ -51,7 +52,7 @@ impl fmt::Debug for Window {
 }
 
 impl Window {
-    /// Those of a port in round 0.
+    /// Returns the bytes that are near in round 0, of a port's stream.
     pub fn try_new(alloc: Global, port: &Port) -> Result<Window, AllocError>
         ensures { IfOk result (λ window. window ≡ record { port = port.now; round = 0 }) }
     {
@@ -64,7 +65,7 @@ impl Window {
         })
     }
 
-    // The last chunk that came begins `index` bytes behind the start of this chunk of the stream.
+    // Keeps the place of the last chunk that came: `index` bytes after the start of this chunk of the stream.
     fn put_place(&mut self, from: u32, index: usize)
         requires { index ≤ 200000 }
         ensures { self.new ≡ self.old }
@@ -73,7 +74,7 @@ impl Window {
         self.at = index % CHUNK;
     }
 
-    // Whether a chunk stands where it is looked for first: behind the last one, where that was a chunk.
+    // Returns whether a chunk stands where it is looked for first: after the last one, where that was a chunk.
     fn comes_next(&mut self, last: &Last, chunk: &[u8]) -> bool
         requires { self.old.round + 88 ≤ 2 ^ 32 }
         ensures answer { result ≡ true → (is_part chunk.now (near self.old.port self.old.round) ≡ true)
@@ -99,7 +100,7 @@ impl Window {
         stands
     }
 
-    // What a round is that brings this chunk, by all bytes that are near.
+    // Returns what a round is that brings this chunk, by all bytes that are near.
     fn looked_up(&mut self, scratch: &mut Scratch, last: &mut Last, chunk: &[u8]) -> Option<Kind>
         requires few { self.old.round + 88 ≤ 2 ^ 32 }
         requires length { length chunk.now ≤ 2352 }
@@ -143,7 +144,7 @@ impl Window {
         self.looked_up(scratch, last, chunk)
     }
 
-    /// Whether a chunk holds some of them.
+    /// Returns whether a chunk holds some of them.
     pub fn holds(&self, scratch: &mut Scratch, chunk: &[u8]) -> bool
         requires { self.now.round + 88 ≤ 2 ^ 32 }
         ensures { result ≡ holds chunk.now (near self.now.port self.now.round) }
@@ -151,7 +152,7 @@ impl Window {
         holds(chunk, scratch.near(&self.port, self.round))
     }
 
-    /// Those of the next round.
+    /// Moves to the bytes that are near in the next round.
     pub fn step(&mut self)
         requires { self.old.round + 8 ≤ 2 ^ 32 }
         ensures { self.new ≡ record self.old { round = self.old.round + 1 } }

@@ -1,4 +1,4 @@
--- What is told of outages is told by the rounds of a settle step alone.
+-- What is reported of outages depends only on the rounds of a settle step.
 use Rattle.std.proofs.Common.{◌≡◌, ℕ, zero, suc, ◌+◌, ◌-◌, ◌≤◌, List, [], ◌∷◌, refl, ap, ◌∙◌, arith}
 use Rattle.std.specs.Prelude.{slice_get, option_map}
 use Rattle.sdh_circuits.specs.declared.PortId.{PortId}
@@ -17,7 +17,7 @@ use Rattle.sdh_outage_cli.specs.Streams.{holder_of}
 use Rattle.sdh_outage_cli.specs.Outages.{delivered_at, kinds_in, outage_in, whose_in, ports_out, trace_at, trace_in, outaged_in}
 use Rattle.sdh_outage_cli.specs.Scripts.{outage_walk}
 
--- courses that are the same so far
+-- courses that agree up to a round give equal kinds
 kinds_same : (far : Customer) (whose other : Whose) → whose ≡ other → (port : PortId) (k : ℕ) (at bt : ℕ → World)
     → ((j : ℕ) → j ≤ k → at j ≡ bt j) → kinds_in far whose port k at ≡ kinds_in far other port k bt
 kinds_same far whose other is port zero at bt same = refl

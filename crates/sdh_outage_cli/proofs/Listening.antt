@@ -181,7 +181,7 @@ few_near at k items streams small x i pair here =
 
 -- ---- a step ended
 
--- they have heard of all rounds
+-- the listeners have heard of all rounds
 pub ready_then : (at : ℕ → World) (k : ℕ) (items : List ListenerPair) (streams : List StreamPair) → AreListening at k items streams
     → (at k).ring.rounds ≡ (at 0).ring.rounds + k → AreReady (at k).ring.circuits.circuits (at k).ring.rounds items streams
 ready_then at k items streams x rounds = record {
@@ -196,7 +196,7 @@ ready_then at k items streams x rounds = record {
       (subst (λ (p : Provisioning). AreNear p.circuits ((at 0).ring.rounds + k) streams) (sym x.circuits) x.near);
 }
 
--- lists that are as long have elements at the same places
+-- lists of equal length have elements at equal places
 both_there : {X Y : Type 0} (xs : List X) (ys : List Y) (i : ℕ) → length xs ≡ length ys
     → is_some (slice_get xs i) ≡ is_some (slice_get ys i)
 both_there [] [] i long = refl

@@ -3,7 +3,7 @@ use Rattle.std.proofs.Common.{◌≡◌, ℕ, zero, suc, List, [], ◌∷◌, �
 use Rattle.std.specs.Prelude.{slice_get}
 use Rattle.std.proofs.lemmas.Option.{same_Some}
 
--- what holds of all elements, of which there are i, and of a new one behind them
+-- what holds of all i elements of a list, and of a new one after them, holds of all
 pub all_pushed : {X : Type 0} (P : ℕ → X → Type 0) (xs : List X) (i : ℕ) (y : X) → length xs ≡ i → P i y
     → ((j : ℕ) (x : X) → slice_get xs j ≡ Some x → P j x)
     → (j : ℕ) (x : X) → slice_get (xs ++ y ∷ []) j ≡ Some x → P j x

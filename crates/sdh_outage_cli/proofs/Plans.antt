@@ -1,4 +1,4 @@
--- What comes of a plan whose outages are told.
+-- What comes of a plan whose outages are listed.
 use Rattle.std.proofs.Common.{◌≡◌, true, ℕ, List, refl}
 use Rattle.sdh_plant.specs.Fibres.{Fibres, IsHonest}
 use Rattle.sdh_plan.specs.Planned.{Planned, IsPlanned, provisioning_of}
@@ -17,9 +17,9 @@ use Rattle.sdh_outage_cli.specs.Plans.{outage_account, Owes, Tells}
 use Rattle.sdh_outage_cli.specs.declared.listing.OutageListing.{OutageListing}
 use Rattle.sdh_outage_cli.proofs.Known.{keeps_rounds}
 
--- ---- all that is told
+-- ---- all that is reported
 
--- it settles as a script does that reports the ring
+-- the run settles as a script does that reports the ring
 pub tells : ScriptsSettle → (plan : Planned) (listing : OutageListing) (f left : Fibres) (text : List ℕ) (end : Status) → IsPlanned plan
     → (f.honest ≡ true → IsHonest f)
     → Came outage_walk plan.limit (listed listing) plan.steps (world_of plan f) f text end left → Tells plan listing f text end left

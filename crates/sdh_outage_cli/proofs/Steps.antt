@@ -48,14 +48,14 @@ module _ (w left : World) (limit : ℕ) (items : List ListenerPair) (streams : L
       ap (λ (r : HeldRing). r.rounds) (held_run adm (take j x.settles.rounds) w)
       ∙ ap (λ n. w.ring.rounds + n) (length-take-le j x.settles.rounds low)
 
-  -- it left the last world of its course
+  -- the settle step left the last world of its course
   left_at : left ≡ at ran
   left_at = x.settles.left_is ∙ course_whole adm x.settles.rounds w
 
   pub many_then : length items ≡ length left.ring.circuits.circuits
   many_then = x.kept.many ∙ ap (λ (v : World). length v.ring.circuits.circuits) (sym left_at)
 
-  -- what is told of it
+  -- what is reported of the settle step
   pub told_is : (number : ℕ) → (let told : Outaged = record {
     number = number;
     round = left.ring.rounds - 1;
@@ -80,7 +80,7 @@ module _ (w left : World) (limit : ℕ) (items : List ListenerPair) (streams : L
         trace = trace_in ran at (at ran).ring.circuits.circuits;
       }) (shown_is at ran items streams numbered x.kept)
 
-  -- and what is written of that
+  -- what is written of the settle step
   pub listed_is : (listing : OutageListing) (number : ℕ) → shown_text listing number (left.ring.rounds - 1) left.ring.circuits.circuits items
       ≡ listed listing (outaged_in number at ran)
   listed_is listing.Ports number = ap (listed listing.Ports) (told_is number)
@@ -89,7 +89,7 @@ module _ (w left : World) (limit : ℕ) (items : List ListenerPair) (streams : L
       ++ port_text v.ring.circuits.circuits (slice_get v.ring.circuits.circuits port.circuit) (slice_get items port.circuit) port.end) left_at
       ∙ ap (λ l. settle_line number ((at ran).ring.rounds - 1) ++ l) (trace_is at ran items streams numbered x.kept port)
 
-  -- and the script goes on
+  -- the script goes on after the settle step
   pub heard_next : (before : ℕ) (now : List ListenerPair) (then : List StreamPair) → limit ≤ 65536 → BeginsAtAMultiple left.ring
       → ((port : PortId) → waiting_at left.ring port ≡ 0) → IsPrepared w.ring.settings.rate (length w.ring.ids) left.fibres
       → (later : List Step) → MayRun before (step.Settle ∷ later) w.ring now then w.fibres

@@ -1,4 +1,4 @@
--- What the program tells of a plan, and how it ends.
+-- What the program lists of a plan, and how it ends.
 use Rattle.std.specs.Prelude.{ℕ, ◌≡◌, List, codes, None}
 use Rattle.sdh_plant.specs.Fibres.{Fibres}
 use Rattle.sdh_plant.specs.Arrivals.{Knows}
@@ -13,8 +13,8 @@ use Rattle.sdh_outage_cli.specs.Lines.{text_of}
 use Rattle.sdh_outage_cli.specs.Plans.{IsRunOf, ran_of, MaySettle}
 use Rattle.sdh_outage_cli.specs.Words.{Ask, asked, listing_of}
 
--- it runs a plan, and tells of each settle step for how many rounds each port was without its own customer's bytes, or from which
--- round on one port got what
+-- the program runs a plan, and lists of each settle step for how many rounds each port was without its own customer's
+-- bytes, or from which round on one port got what
 abbrev pub listening : Program Ask OutageListing Outaged Status
 listening = record {
   usage = codes "usage: sdhoutage run, trace NAME END";
@@ -27,7 +27,7 @@ listening = record {
   MaySettle = MaySettle;
 }
 
--- it ends as the script does where the arrivals are known: unsettled at exactly the step in which no quiet window comes
--- within the limit; or a plant's call failed
+-- the program ends as the script does where the arrivals are known: unsettled at exactly the step in which no quiet
+-- window comes within the limit; or a plant's call failed
 abbrev pub EndsAsItRuns : List ℕ → Fibres → Status → Type 0
 EndsAsItRuns bytes f how = EndsAs (λ plan. Knows (world_of plan f).fibres) (λ plan. (ran_of plan f).ending) bytes how

@@ -1,4 +1,4 @@
--- What listeners keep is told by the rounds that went by alone.
+-- What listeners keep depends only on the rounds that have run.
 use Rattle.std.specs.Prelude.{◌≡◌, ℕ, zero, suc, ◌+◌, ◌^◌, ◌≤◌, List, ◌∷◌, length, slice_get}
 use mathlib.Core.Path.{refl, ap, ap₂, sym, subst, ◌∙◌}
 use native.Mathlib.Nat.{le_refl, le_step}
@@ -29,7 +29,7 @@ heard_same far index port k at bt same =
     let past = delivered_same port k at bt same in
     λ i. heard far (holder_of (first i).ring.circuits.circuits index) (first i).ring.rounds (delivered_at (first i).ring port) (past i)
 
--- courses that are the same so far
+-- listeners that have come to what one course gives have come to what an equal course gives
 pub listening_same : (at bt : ℕ → World) (k : ℕ) (items : List ListenerPair) (streams : List StreamPair) → ((j : ℕ) → j ≤ k → at j ≡ bt j)
     → AreListening at k items streams → AreListening bt k items streams
 listening_same at bt k items streams same x =

@@ -1,4 +1,4 @@
--- What is told of a settle step with the outages of its ports.
+-- What is reported of a settle step with the outages of its ports.
 use Rattle.std.specs.Prelude.{ℕ, zero, suc, ◌-◌, List, [], ◌∷◌, slice_get, Option, option_map}
 use Rattle.sdh_circuits.specs.declared.End.{End}
 use Rattle.sdh_circuits.specs.declared.PortId.{PortId}
@@ -23,16 +23,16 @@ use Rattle.sdh_outage_cli.specs.Streams.{holder_of}
 abbrev pub delivered_at : HeldRing → PortId → Delivered
 delivered_at r port = (outlet_at r port).delivered
 
--- What the first rounds of a course were to a port, the latest first, where a course gives the world after each number of rounds: by
--- the customer at its far end, whosever bytes else came, the number of each round, and what the port delivered in the round before and
--- in it.
+-- What the first rounds of a course were to a port, the latest first, where a course gives the world after each number
+-- of rounds: by the customer at its far end, whose other bytes came, the number of each round, and what the port
+-- delivered in the round before and in it.
 abbrev pub kinds_in : Customer → Whose → PortId → ℕ → (ℕ → World) → List Kind
 kinds_in far whose port zero at = []
 kinds_in far whose port (suc k) at =
     kind_of far whose ((at (suc k)).ring.rounds - 1) (delivered_at (at k).ring port) (delivered_at (at (suc k)).ring port)
     ∷ kinds_in far whose port k at
 
--- its outage in these rounds, of which the first has the number of the rounds before it
+-- the outage of a port in these rounds; the first of them has the number of the rounds before it
 abbrev pub outage_in : Customer → Whose → PortId → ℕ → (ℕ → World) → Outage
 outage_in far whose port k at = outage_of (at 0).ring.rounds (kinds_in far whose port k at)
 
@@ -56,7 +56,7 @@ port_out k at index c e = record {
   outage = outage_in (customer_at c (other_end e)) (whose_in at index) (port_id index e) k at;
 }
 
--- those of these circuits, which are counted from `index`
+-- the outages of the ports of these circuits, which are counted from `index`
 abbrev pub ports_out : ℕ → (ℕ → World) → ℕ → List Provisioned → List PortOutage
 ports_out k at = of_ports (port_out k at)
 
@@ -67,14 +67,14 @@ pub record PortTrace : Type 0 where
   pub changes : List Change
   pub out : PortOutage
 
--- that of the port at an end of the circuit of this number
+-- the trace of the port at an end of the circuit of this number
 abbrev pub trace_at : ℕ → (ℕ → World) → ℕ → Provisioned → End → PortTrace
 trace_at k at index c e = record {
   changes = kind_changes (at 0).ring.rounds (kinds_in (customer_at c (other_end e)) (whose_in at index) (port_id index e) k at);
   out = port_out k at index c e;
 }
 
--- and of a port, where its circuit is one of these
+-- the trace of a port, where its circuit is one of these
 abbrev pub trace_in : ℕ → (ℕ → World) → List Provisioned → PortId → Option PortTrace
 trace_in k at cs port = option_map (λ c. trace_at k at port.circuit c port.end) (slice_get cs port.circuit)
 
@@ -88,7 +88,7 @@ pub record Outaged : Type 0 where
   pub ports : List PortOutage
   pub trace : PortId → Option PortTrace
 
--- of settle step `number`, which ended with the k-th round of a course
+-- what is reported of settle step `number`, which ended with the k-th round of a course
 abbrev pub outaged_in : ℕ → (ℕ → World) → ℕ → Outaged
 outaged_in number at k = record {
   number = number;

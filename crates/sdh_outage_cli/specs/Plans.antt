@@ -1,4 +1,4 @@
--- What comes of a plan whose outages are told, over fibres that aren't there yet.
+-- What comes of a plan whose outages are listed, where its fibres aren't made yet.
 use Rattle.std.specs.Prelude.{ℕ, List}
 use Rattle.sdh_plant.specs.Fibres.{Fibres}
 use Rattle.sdh_node.specs.Node.{Node}
@@ -15,7 +15,7 @@ use Rattle.sdh_outage_cli.specs.declared.listing.OutageListing.{OutageListing}
 abbrev pub outage_account : Account Node Outaged
 outage_account = record { walk = outage_walk; new_ring = new_ring_of }
 
--- nothing is owed: over honest fibres too it tells what the rounds were
+-- nothing is owed: over honest fibres too the reports show what the rounds were
 abbrev pub Owes : ReportsOwe Outaged
 Owes plan f reports end left = Unit {0}
 
@@ -28,7 +28,7 @@ ran_of = plans.ran_of outage_account
 abbrev pub MaySettle : Planned → Fibres → Type 0
 MaySettle = plans.MaySettle outage_account
 
--- one list, told in each way
+-- what is so of one list of settle steps: over every plant, where the arrivals are known, and over honest fibres
 abbrev pub IsRunOf : Planned → Fibres → List Outaged → Status → Fibres → Type 0
 IsRunOf = plans.IsRunOf outage_account Owes
 

@@ -22,7 +22,7 @@ use Rattle.sdh_outage_cli.specs.declared.streams.StreamPair.{StreamPair}
 
 -- ---- between settle steps
 
--- the listeners of all circuits have heard of so many rounds
+-- the listeners of all circuits have heard of `rounds` rounds
 abbrev pub AreAt : ℕ → List ListenerPair → Type 0
 AreAt rounds items = (i : ℕ) (both : ListenerPair) → slice_get items i ≡ Some both → (both.a.round ≡ rounds) × (both.b.round ≡ rounds)
 
@@ -43,12 +43,12 @@ delivered_in port (suc k) at = delivered_at (at (suc k)).ring port ∷ delivered
 abbrev pub heard_in : Customer → Whose → PortId → ℕ → (ℕ → World) → Heard
 heard_in far whose port k at = heard far whose (at 0).ring.rounds (delivered_at (at 0).ring port) (delivered_in port k at)
 
--- so have the listeners on both ports of a circuit
+-- the listeners on both ports of a circuit have come to this in these rounds
 pub record IsListening (k : ℕ) (at : ℕ → World) (c : Provisioned) (index : ℕ) (both : ListenerPair) : Type 0 where
   pub at_a : both.a ≡ heard_in c.b (whose_in at index) (port_id index A) k at
   pub at_b : both.b ≡ heard_in c.a (whose_in at index) (port_id index B) k at
 
--- and those of all circuits
+-- the listeners of all circuits have come to this in these rounds
 pub record AreListening (at : ℕ → World) (k : ℕ) (items : List ListenerPair) (streams : List StreamPair) : Type 0 where
   pub few : (at 0).ring.rounds ≤ 2 ^ 31
   pub many : length items ≡ length (at k).ring.circuits.circuits
@@ -59,11 +59,11 @@ pub record AreListening (at : ℕ → World) (k : ℕ) (items : List ListenerPai
 
 -- ---- what listeners do
 
--- each of these listeners has heard at most so many rounds
+-- each of these listeners has heard at most `rounds` rounds
 abbrev pub AreFew : ℕ → List ListenerPair → Type 0
 AreFew rounds items = (i : ℕ) (both : ListenerPair) → slice_get items i ≡ Some both → (both.a.round ≤ rounds) × (both.b.round ≤ rounds)
 
--- the listeners of the circuit of this number began anew behind the last round of a ring
+-- the listeners of the circuit of this number began anew after the last round of a ring
 pub record HaveBegun (r : HeldRing) (index : ℕ) (before after : ListenerPair) : Type 0 where
   pub a : (far : Customer) (whose : Whose) → after.a ≡ heard far whose before.a.round (delivered_at r (port_id index A)) []
   pub b : (far : Customer) (whose : Whose) → after.b ≡ heard far whose before.b.round (delivered_at r (port_id index B)) []
@@ -80,7 +80,7 @@ Listens r port streams before after =
     (circuits : List Provisioned) (c : Provisioned) → AreNear circuits before.round streams → slice_get circuits port.circuit ≡ Some c
     → HearsOne (customer_at c (other_end port.end)) (holder_of circuits port.circuit) (delivered_at r port) before after
 
--- so did those of the circuit of this number
+-- the listeners of the circuit of this number heard what their ports delivered, where these bytes were near
 pub record Looked (r : HeldRing) (streams : List StreamPair) (index : ℕ) (before after : ListenerPair) : Type 0 where
   pub a : Listens r (port_id index A) streams before.a after.a
   pub b : Listens r (port_id index B) streams before.b after.b
@@ -92,7 +92,7 @@ abbrev pub both_shown : Provisioned → ListenerPair → List PortOutage
 both_shown c both = record { name = c.name; end = A; outage = both.a.outage } ∷ record { name = c.name; end = B; outage = both.b.outage }
     ∷ []
 
--- those of all circuits
+-- the outages that the listeners of all circuits counted
 abbrev pub shown : List Provisioned → List ListenerPair → List PortOutage
 shown [] items = []
 shown (c ∷ cs) [] = []
@@ -111,7 +111,7 @@ abbrev pub heard_text : List Provisioned → List ℕ → End → Heard → List
 heard_text circuits name end h =
     changes_text h.trace.changes (h.trace.count - 64) ++ told_line circuits (record { name = name; end = end; outage = h.outage })
 
--- those of a port, where there are its circuit, which is one of these, and its listeners
+-- the lines of a port, where its circuit is one of these and its listeners are there
 abbrev pub port_text : List Provisioned → Option Provisioned → Option ListenerPair → End → List ℕ
 port_text circuits (Some c) (Some both) end = heard_text circuits c.name end (listener_at both end)
 port_text circuits c both end = []

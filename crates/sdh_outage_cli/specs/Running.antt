@@ -1,4 +1,4 @@
--- When a script may be run of which the outages are told.
+-- When a script may be run whose outages are listed.
 use Rattle.std.specs.Prelude.{ℕ, ◌+◌, ◌*◌, ◌<◌, List}
 use Rattle.sdh_plant.specs.Fibres.{Fibres}
 use Rattle.sdh_world.specs.Held.{HeldRing}
@@ -10,19 +10,20 @@ use Rattle.sdh_outage_cli.specs.declared.listing.OutageListing.TheVariants as li
 use Rattle.sdh_outage_cli.specs.declared.ports.ListenerPair.{ListenerPair}
 use Rattle.sdh_outage_cli.specs.declared.streams.StreamPair.{StreamPair}
 
--- the port that is listed is one of so many circuits
+-- the port that is listed is one of `circuits` circuits
 abbrev pub MayList : ℕ → OutageListing → Type 0
 MayList circuits listing.Ports = Unit {0}
 MayList circuits (listing.Trace port) = port.circuit < circuits
 
--- room enough for the lines of a settle step with so many circuits: 96 bytes for its own, and 250 for each other: one of each port and
--- of what is said of all ports; or those of 64 changes, of how many more there were, and of the port
+-- Room enough for the lines of a settle step with `circuits` circuits. The step's own line has 96 bytes and each other
+-- 250. The others are one for each port and one for all ports; or, for one port, those of 64 changes, of how many more
+-- there were, and of the port.
 abbrev pub lines_room : OutageListing → ℕ → ℕ
 lines_room listing.Ports circuits = 346 + 500 * circuits
 lines_room (listing.Trace port) circuits = 16596
 
--- These steps may be run over a ring and fibres after `before` settle steps that have ended: no settle step had more than 65,536
--- rounds, and there are listeners on all ports, who have heard of all rounds.
+-- These steps may be run over a ring and fibres after `before` settle steps that have ended: no settle step had more
+-- than 65,536 rounds, and the listeners on all ports have heard of all rounds.
 pub record MayRun (before : ℕ) (steps : List Step) (r : HeldRing) (items : List ListenerPair) (streams : List StreamPair) (f : Fibres) : Type 0 where
   pub ring_may : ring.MayRun 65536 before steps r f
   pub ready : AreReady r.circuits.circuits r.rounds items streams

@@ -1,4 +1,4 @@
--- What comes of a script of which the outages are told. No round is run behind a settle step.
+-- What comes of a script whose outages are listed. No round is run after a settle step.
 use Rattle.sdh_node.specs.Node.{Node}
 use Rattle.sdh_node.specs.Stations.{adm}
 use Rattle.sdh_scripts.specs.Walks.{Walk}

@@ -1,4 +1,4 @@
--- Whose bytes a port delivered that aren't its own customer's.
+-- Whose bytes a port delivered that weren't its own customer's.
 use Rattle.std.specs.Prelude.{ℕ, ◌≡◌, ◌+◌, ◌^◌, ◌≤◌, ◌==◌, if◌then◌else◌, List, [], ◌∷◌, length, slice_get, Option, Some, None}
 use Rattle.sdh_circuits.specs.declared.End.{End}
 use Rattle.sdh_circuits.specs.declared.End.TheVariants.{A, B}
@@ -40,12 +40,12 @@ pub record IsNear (c : Provisioned) (round : ℕ) (pair : StreamPair) : Type 0 w
   pub a : (let n : Nearby = record { port = c.a; round = round } in pair.a ≡ n)
   pub b : (let n : Nearby = record { port = c.b; round = round } in pair.b ≡ n)
 
--- those of all circuits
+-- the bytes of the customers of all circuits that are near in a round
 pub record AreNear (circuits : List Provisioned) (round : ℕ) (streams : List StreamPair) : Type 0 where
   pub many : length streams ≡ length circuits
   pub each : (i : ℕ) (c : Provisioned) (pair : StreamPair) → slice_get circuits i ≡ Some c → slice_get streams i ≡ Some pair → IsNear c round pair
 
--- those that come to the port at an end
+-- the bytes that come to the port at an end
 abbrev pub far_bytes : StreamPair → End → Nearby
 far_bytes pair A = pair.b
 far_bytes pair B = pair.a

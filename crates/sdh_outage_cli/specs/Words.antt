@@ -10,8 +10,8 @@ use Rattle.sdh_outage_cli.specs.declared.listing.OutageListing.TheVariants as li
 use Rattle.sdh_outage_cli.specs.declared.words.Command.{Command}
 use Rattle.sdh_outage_cli.specs.declared.words.Command.TheVariants as command
 
--- what the program is asked for: to run the plan and tell the outages of all ports; or to run it and tell the changes of the port at
--- that end of the circuit of this name
+-- what the program is asked for: to run the plan and list the outages of all ports; or to run it and list the changes
+-- of the port at that end of the circuit of this name
 pub data Ask : Type 0 where
   Run : Ask
   Trace : List ℕ → End → Ask

@@ -19,7 +19,7 @@ use sdh_report::Text;
 use sdh_ring::Ring;
 use sdh_scripts::put_settle;
 
-// The end of a port's line: whose foreign bytes came.
+// Appends the end of a port's line: whose foreign bytes came.
 fn put_whose(text: &mut Text, circuits: &CircuitMap, whose: Option<PortId>)
     requires room { 23 ≤ text.old.room }
     ensures bytes { text.new.bytes ≡ text.old.bytes ++ whose_text circuits.now.circuits whose }
@@ -37,7 +37,7 @@ fn put_whose(text: &mut Text, circuits: &CircuitMap, whose: Option<PortId>)
     }
 }
 
-// The line of a port that had this outage.
+// Appends the line of a port that had this outage.
 fn put_outage(text: &mut Text, circuits: &CircuitMap, named: &Circuit, end: End, outage: &Outage)
     requires room { 250 ≤ text.old.room }
     ensures bytes { text.new.bytes ≡ text.old.bytes
@@ -49,7 +49,7 @@ fn put_outage(text: &mut Text, circuits: &CircuitMap, named: &Circuit, end: End,
     put_whose(text, circuits, outage.whose);
 }
 
-// The lines of both ports of a circuit.
+// Appends the lines of both ports of a circuit.
 fn put_both(text: &mut Text, circuits: &CircuitMap, named: &Circuit, both: &ListenerPair)
     requires room { 500 ≤ text.old.room }
     ensures bytes { text.new.bytes ≡ text.old.bytes ++ flat_map (told_line circuits.now.circuits) (both_shown named.now both.now) }
@@ -59,7 +59,7 @@ fn put_both(text: &mut Text, circuits: &CircuitMap, named: &Circuit, both: &List
     put_outage(text, circuits, named, End::B, &both.b.outage());
 }
 
-// Both ports of a circuit are counted.
+// Counts both ports of a circuit in the summary.
 fn add_both(summary: &mut Summary, both: &ListenerPair)
     requires { ports_in summary.old + 8 < 2 ^ 32 }
     ensures summary { summary.new ≡ with_outage (with_outage summary.old both.now.a.outage) both.now.b.outage }
@@ -69,7 +69,7 @@ fn add_both(summary: &mut Summary, both: &ListenerPair)
     summary.add(&both.b.outage());
 }
 
-// What is said of all ports.
+// Appends what is said of all ports.
 fn put_summary(text: &mut Text, summary: &Summary)
     requires { 250 ≤ text.old.room }
     ensures bytes { text.new.bytes ≡ text.old.bytes ++ summary_line summary.now }
@@ -79,7 +79,7 @@ fn put_summary(text: &mut Text, summary: &Summary)
     summary_line(text, summary);
 }
 
-// The lines of all ports, and what is said of all of them.
+// Appends the lines of all ports, and what is said of all of them.
 fn put_ports(text: &mut Text, circuits: &CircuitMap, items: &Vec<ListenerPair>)
     requires many { length items.now.items ≡ length circuits.now.circuits }
     requires room { 250 + 500 * length circuits.now.circuits ≤ text.old.room }
@@ -95,7 +95,7 @@ fn put_ports(text: &mut Text, circuits: &CircuitMap, items: &Vec<ListenerPair>)
     put_summary(text, &summary);
 }
 
-// The line of a change.
+// Appends the line of a change.
 fn put_change(text: &mut Text, change: &Change)
     requires room { 250 ≤ text.old.room }
     ensures bytes { text.new.bytes ≡ text.old.bytes ++ change_line change.now }
@@ -105,7 +105,7 @@ fn put_change(text: &mut Text, change: &Change)
     change_line(text, change);
 }
 
-// How many changes came behind those that were told, where there are any.
+// Appends the line that says how many changes came after those that were listed, where there are any.
 fn put_more(text: &mut Text, more: u32)
     requires room { 250 ≤ text.old.room }
     ensures bytes { text.new.bytes ≡ text.old.bytes ++ (if more == 0 then [] else more_line more) }
@@ -117,7 +117,7 @@ fn put_more(text: &mut Text, more: u32)
     }
 }
 
-// The lines of changes.
+// Appends the lines of changes.
 fn put_changes(text: &mut Text, changes: &[Change])
     requires few { length changes.now ≤ 64 }
     requires room { 16000 ≤ text.old.room }
@@ -129,7 +129,7 @@ fn put_changes(text: &mut Text, changes: &[Change])
     }
 }
 
-// The lines of the changes of a port.
+// Appends the lines of the changes of a port.
 fn put_trace(text: &mut Text, trace: &Trace)
     requires room { 16250 ≤ text.old.room }
     ensures bytes { text.new.bytes ≡ text.old.bytes ++ changes_text trace.now.changes (trace.now.count - 64) }
@@ -139,7 +139,7 @@ fn put_trace(text: &mut Text, trace: &Trace)
     put_more(text, trace.more());
 }
 
-// The lines of one port.
+// Appends the lines of one port.
 fn put_heard(text: &mut Text, circuits: &CircuitMap, named: &Circuit, end: End, listener: &Listener)
     requires room { 16500 ≤ text.old.room }
     ensures bytes { text.new.bytes ≡ text.old.bytes ++ heard_text circuits.now.circuits named.now.name end listener.now }
@@ -149,7 +149,7 @@ fn put_heard(text: &mut Text, circuits: &CircuitMap, named: &Circuit, end: End, 
     put_outage(text, circuits, named, end, &listener.outage());
 }
 
-// The lines of the port that is listed.
+// Appends the lines of the port that is listed.
 fn put_listed(text: &mut Text, circuits: &CircuitMap, items: &Vec<ListenerPair>, port: PortId)
     requires many { length items.now.items ≡ length circuits.now.circuits }
     requires port { port.circuit < length circuits.now.circuits }
@@ -163,7 +163,7 @@ fn put_listed(text: &mut Text, circuits: &CircuitMap, items: &Vec<ListenerPair>,
     put_heard(text, circuits, named, port.end, both.at(port.end));
 }
 
-/// What is listed of the settle step of this number, which left a ring.
+/// Appends what is listed of the settle step of this number, which left a ring.
 pub fn put_step(
     text: &mut Text,
     ring: &Ring,

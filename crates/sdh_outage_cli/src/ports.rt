@@ -25,7 +25,7 @@ pub struct ListenerPair {
 }
 
 impl ListenerPair {
-    /// The one at an end.
+    /// Returns the listener on the port at an end.
     pub fn at(&self, end: End) -> &Listener
         ensures { result.now ≡ listener_at self.now end }
     {
@@ -36,7 +36,7 @@ impl ListenerPair {
     }
 }
 
-// Listeners on both ports of a circuit, before any round.
+// Returns listeners on both ports of a circuit, before any round.
 fn new_both(alloc: Global) -> Result<ListenerPair, AllocError>
     ensures { IfOk result (λ both. (both.a.round ≡ 0) × (both.b.round ≡ 0)) }
 {
@@ -46,7 +46,7 @@ fn new_both(alloc: Global) -> Result<ListenerPair, AllocError>
     })
 }
 
-/// Listeners on all ports, before any round. All memory is taken here.
+/// Returns listeners on all ports, before any round. All memory is taken here.
 pub fn new_listeners(alloc: Global, circuits: &CircuitMap) -> Result<Vec<ListenerPair>, AllocError>
     ensures many { IfOk result (λ items. length items.items ≡ length circuits.now.circuits) }
     ensures rounds { IfOk result (λ items. AreAt 0 items.items) }
@@ -59,7 +59,7 @@ pub fn new_listeners(alloc: Global, circuits: &CircuitMap) -> Result<Vec<Listene
     Ok(items)
 }
 
-// The listener on a port begins anew behind the last round.
+// Lets the listener on a port begin anew after the last round.
 fn begin(listener: &mut Listener, ring: &Ring, port: PortId)
     requires { port.circuit < length ring.now.circuits.circuits }
     ensures { (far : Customer) (whose : Whose) → listener.new ≡ heard far whose listener.old.round (delivered_at ring.now port) [] }
@@ -67,7 +67,7 @@ fn begin(listener: &mut Listener, ring: &Ring, port: PortId)
     listener.begin(ring.port(port));
 }
 
-// So do those on both ports of a circuit.
+// Lets the listeners on both ports of a circuit begin anew after the last round.
 fn begin_both(both: &mut ListenerPair, ring: &Ring, circuit: u8)
     requires { circuit < length ring.now.circuits.circuits }
     ensures { HaveBegun ring.now circuit both.old both.new }
@@ -90,7 +90,7 @@ fn begin_both(both: &mut ListenerPair, ring: &Ring, circuit: u8)
     );
 }
 
-/// All listeners begin anew behind the last round.
+/// Lets all listeners begin anew after the last round.
 pub fn begin_all(ring: &Ring, items: &mut Vec<ListenerPair>)
     requires { length items.old.items ≡ length ring.now.circuits.circuits }
     ensures many { length items.new.items ≡ length items.old.items }
@@ -102,7 +102,7 @@ pub fn begin_all(ring: &Ring, items: &mut Vec<ListenerPair>)
     }
 }
 
-// What the last round was to a port.
+// Returns what the last round was to a port.
 fn kind_at(
     listener: &mut Listener,
     ring: &Ring,
@@ -131,7 +131,7 @@ fn kind_at(
     }
 }
 
-// The listener on a port hears what the port delivered in the last round.
+// Lets the listener on a port hear what the port delivered in the last round.
 fn look(listener: &mut Listener, ring: &Ring, streams: &mut Streams, port: PortId)
     requires port { port.circuit < length ring.now.circuits.circuits }
     requires many { length streams.old.pairs.items ≡ length ring.now.circuits.circuits }
@@ -145,7 +145,7 @@ fn look(listener: &mut Listener, ring: &Ring, streams: &mut Streams, port: PortI
     listener.hear(now, kind);
 }
 
-// So do those on both ports of a circuit.
+// Lets the listeners on both ports of a circuit hear what the ports delivered in the last round.
 fn look_both(both: &mut ListenerPair, ring: &Ring, streams: &mut Streams, circuit: u8)
     requires port { circuit < length ring.now.circuits.circuits }
     requires many { length streams.old.pairs.items ≡ length ring.now.circuits.circuits }
@@ -174,7 +174,7 @@ fn look_both(both: &mut ListenerPair, ring: &Ring, streams: &mut Streams, circui
     );
 }
 
-/// All listeners hear what the ports delivered in the last round, where these bytes of all customers were near.
+/// Lets all listeners hear what the ports delivered in the last round, where these bytes of all customers were near.
 pub fn look_all(ring: &Ring, items: &mut Vec<ListenerPair>, streams: &mut Streams)
     requires many { length items.old.items ≡ length ring.now.circuits.circuits }
     requires streams { length streams.old.pairs.items ≡ length ring.now.circuits.circuits }

@@ -20,7 +20,7 @@ use sdh_scripts::RunsPlans;
 use sdh_shell::{EndedText, ended, ended_line};
 use std::alloc::{AllocError, Global};
 
-// A plan that is run.
+// Returns a plan that is run.
 fn ended_run<P: Plant>(
     alloc: Global,
     plan: Plan,

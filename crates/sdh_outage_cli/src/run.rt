@@ -20,8 +20,8 @@ use sdh_ring::Ring;
 use sdh_scripts::{NewRun, Run, Runner, start, text_for};
 use std::alloc::{AllocError, Global};
 
-// Room for what is listed of a settle step, in bytes. Of one port that is 64 changes, how many more there were, and the
-// line of its outage.
+// Returns the number of bytes that is room enough for what is listed of a settle step. Of one port that is 64 changes,
+// how many more there were, and the line of its outage.
 fn lines_room(listing: OutageListing, circuits: &CircuitMap) -> usize
     ensures room { result ≡ lines_room listing (length circuits.now.circuits) }
     ensures few { result ≤ 65536 }
@@ -32,7 +32,7 @@ fn lines_room(listing: OutageListing, circuits: &CircuitMap) -> usize
     }
 }
 
-// The run of a plan, before its fibres are there.
+// Returns the run of a plan, before its fibres are there.
 fn new_run(
     alloc: Global,
     plan: Plan,
@@ -66,8 +66,8 @@ fn new_run(
     })
 }
 
-/// Runs the script of a plan over new fibres, and lists the outages of its ports, or the changes of one. All memory is
-/// taken before the first round.
+/// Runs the script of a plan over new fibres, and lists the outages of its ports, or the changes of one. Returns the
+/// text and how the run ended. All memory is taken before the first round.
 pub fn run_plan<P: Plant>(
     alloc: Global,
     plan: Plan,
@@ -77,8 +77,8 @@ pub fn run_plan<P: Plant>(
     requires fresh { HasNoFibres (P.fibres plant.old) }
     requires listing { MayList (length plan.circuits) listing }
 
-    // The text is what is listed of one list, which is told over every plant, where the arrivals are known, and over
-    // honest fibres.
+    // The text is what is listed of one list of settle steps. What is so of these is said over every plant, where the
+    // arrivals are known, and over honest fibres.
     ensures came { IfOk result (λ run. Tells plan listing (P.fibres plant.old) run.text.bytes run.status (P.fibres plant.new)) }
 
     // A fault has a cause, and without one a script that settles is done.

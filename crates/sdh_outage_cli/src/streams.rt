@@ -20,7 +20,8 @@ pub struct StreamPair {
 }
 
 impl StreamPair {
-    /// Returns what a round is to the port at an end by its own customer's bytes, where it is anything by these, AIS or ones.
+    /// Returns the kind of a round to the port at an end by its own customer's bytes; None where it is neither AIS, nor
+    /// ones, nor any of these bytes.
     pub fn own_kind(
         &mut self,
         scratch: &mut Scratch,
@@ -39,7 +40,7 @@ impl StreamPair {
         }
     }
 
-    // The end whose port sends what a chunk holds.
+    // Returns the end whose port sends what a chunk holds, if there is one.
     fn end_held(&self, scratch: &mut Scratch, chunk: &[u8]) -> Option<End>
         requires { (self.now.a.round ≤ 2 ^ 31 + 65536) × (self.now.b.round ≤ 2 ^ 31 + 65536) }
         ensures { (c : Provisioned) (round : ℕ) → IsNear c round self.now → result ≡ end_held c round chunk.now }
@@ -53,7 +54,7 @@ impl StreamPair {
         None
     }
 
-    // Those of the next round.
+    // Moves to the bytes that are near in the next round.
     fn step(&mut self)
         requires { (self.old.a.round + 8 ≤ 2 ^ 32) × (self.old.b.round + 8 ≤ 2 ^ 32) }
         ensures { HaveStepped self.old self.new }
@@ -70,7 +71,7 @@ pub struct Streams {
     pub scratch: Scratch,
 }
 
-// Those of a circuit in round 0.
+// Returns the bytes of both customers of a circuit that are near in round 0.
 fn pair_for(alloc: Global, circuit: &Circuit) -> Result<StreamPair, AllocError>
     ensures { IfOk result (λ pair. IsNear circuit.now 0 pair) }
 {
@@ -80,7 +81,7 @@ fn pair_for(alloc: Global, circuit: &Circuit) -> Result<StreamPair, AllocError>
     })
 }
 
-/// Those of all circuits in round 0. All memory is taken here.
+/// Returns the bytes of the customers of all circuits that are near in round 0. All memory is taken here.
 pub fn new_streams(alloc: Global, circuits: &CircuitMap) -> Result<Streams, AllocError>
     ensures { IfOk result (λ streams. AreNear circuits.now.circuits 0 streams.pairs.items) }
 {
@@ -93,7 +94,7 @@ pub fn new_streams(alloc: Global, circuits: &CircuitMap) -> Result<Streams, Allo
     Ok(Streams { pairs, scratch })
 }
 
-/// Those of the next round.
+/// Moves to the bytes of all customers that are near in the next round.
 pub fn step_all(streams: &mut Streams)
     requires { AreEarly streams.old.pairs.items }
     ensures many { length streams.new.pairs.items ≡ length streams.old.pairs.items }
@@ -105,7 +106,7 @@ pub fn step_all(streams: &mut Streams)
     }
 }
 
-// The end of a circuit whose port sends what a chunk holds, where the circuit isn't this one.
+// Returns the end of a circuit whose port sends what a chunk holds, if there is one and the circuit isn't this one.
 fn end_of_other(streams: &mut Streams, i: usize, own: u8, chunk: &[u8]) -> Option<End>
     requires index { i < length streams.old.pairs.items }
     requires early { AreEarly streams.old.pairs.items }
@@ -119,7 +120,7 @@ fn end_of_other(streams: &mut Streams, i: usize, own: u8, chunk: &[u8]) -> Optio
     streams.pairs[i].end_held(&mut streams.scratch, chunk)
 }
 
-// The first port of another circuit than this one that sends what a chunk holds.
+// Returns the first port of another circuit than this one that sends what a chunk holds.
 fn chunk_holder(ring: &Ring, streams: &mut Streams, own: u8, chunk: &[u8]) -> Option<PortId>
     requires many { length streams.old.pairs.items ≡ length ring.now.circuits.circuits }
     requires early { AreEarly streams.old.pairs.items }

@@ -19,10 +19,10 @@ use sdh_report::Status;
 use sdh_scripts::call;
 use std::alloc::Global;
 
-/// Does all that the program does. With the word `run` it reads a plan from the source and runs its ring over the
-/// plant; of each settle step that ends it writes, for each port, in how many of the step's rounds the port was without
-/// its own customer's bytes, and how; with `trace`, a name and `a` or `b`, from which round on this port got what. The
-/// last line says how it ended. All is written once, at the end.
+/// Does all that the program does, and returns how it ended. With the word `run` it reads a plan from the source and
+/// runs its ring over the plant; of each settle step that ends it writes, for each port, in how many of the step's
+/// rounds the port was without its own customer's bytes, and how; with `trace`, a name and `a` or `b`, from which round
+/// on this port got what. The last line says how it ended. All is written once, at the end.
 pub fn sdhoutage<R: Source, W: Sink, P: Plant>(
     alloc: Global,
     words: &[String],
@@ -32,8 +32,8 @@ pub fn sdhoutage<R: Source, W: Sink, P: Plant>(
 ) -> Status
     requires fresh { HasNoFibres (P.fibres plant.old) }
 
-    // The status and the text that is written, for a source that tells its bytes, where it is read, and a sink that
-    // tells what was written.
+    // The status and the text that is written, for a source whose bytes are known, where it is read, and a sink that
+    // shows what was written.
     ensures outcome { let ask = asked (words_of words.now) in
         let reads : Counts = record { before = R.faults source.old; after = R.faults source.new } in
         let calls : Counts = record { before = P.faults plant.old; after = P.faults plant.new } in
@@ -59,8 +59,9 @@ pub fn sdhoutage<R: Source, W: Sink, P: Plant>(
     ensures plant_fault { result ≡ Status.PlantFault → Rose (P.faults plant.old) (P.faults plant.new) }
     ensures write_fault { result ≡ Status.WriteFault → Rose (W.faults sink.old) (W.faults sink.new) }
 
-    // Where an object's count is exact, each of its calls that failed is told by its fault, and none is tried again; a
-    // write fault may stand in place of what was to be told. With TooLong one byte more than a plan may have was taken.
+    // Where an object's count is exact, each of its calls that failed is reported by its fault, and none is tried
+    // again; a write fault may stand in place of what was to be reported. With TooLong one byte more than a plan may
+    // have was taken.
     ensures came { let reads : Counts = record { before = R.faults source.old; after = R.faults source.new } in
         let calls : Counts = record { before = P.faults plant.old; after = P.faults plant.new } in
         (how : Status) × ((result ≡ how) ⊎ (result ≡ Status.WriteFault))

@@ -12,13 +12,13 @@ use sdh_shell::end_lettered;
 /// What the program is asked for.
 #[derive(Clone, Copy, Debug)]
 pub enum Command<'a> {
-    /// Run the plan and tell the outages of all ports.
+    /// Run the plan and list the outages of all ports.
     Run,
-    /// Run the plan and tell the changes of one port.
+    /// Run the plan and list the changes of one port.
     Trace(&'a str, End),
 }
 
-// What one word asks for.
+// Returns what one word asks for.
 fn asked_alone<'a>(word: &str) -> Option<Command<'a>>
     ensures { option_map ask_of result ≡ asked_alone word.now }
 {
@@ -29,7 +29,7 @@ fn asked_alone<'a>(word: &str) -> Option<Command<'a>>
     }
 }
 
-// What a word, a name and a letter ask for.
+// Returns what a word, a name and a letter ask for.
 fn asked_with_port<'a>(word: &str, name: &'a str, letter: &str) -> Option<Command<'a>>
     ensures { option_map ask_of result ≡ asked_with_port word.now name.now letter.now }
 {
@@ -40,7 +40,7 @@ fn asked_with_port<'a>(word: &str, name: &'a str, letter: &str) -> Option<Comman
     Some(Command::Trace(name, end))
 }
 
-/// What the words ask for, or `None` where they have none of the forms that there are.
+/// Returns what the words ask for, or `None` where they have none of the forms that there are.
 pub fn command_of(words: &[String]) -> Option<Command<'_>>
     ensures { option_map ask_of result ≡ asked (words_of words.now) }
 {
@@ -51,7 +51,7 @@ pub fn command_of(words: &[String]) -> Option<Command<'_>>
     }
 }
 
-/// What is listed of each settle step of a plan, or `None` where the plan has no such port.
+/// Returns what is listed of each settle step of a plan, or `None` where the plan has no such port.
 pub fn listing_of(command: Command<'_>, plan: &Plan) -> Option<OutageListing>
     ensures listing { result ≡ listing_of (ask_of command.entry) plan.now }
     ensures may { IfSome result (λ listing. MayList (length plan.now.circuits) listing) }

@@ -19,7 +19,7 @@ drop-put_mid at k n buf part within fits =
     ap (take n) (drop_at (take at buf) (part ++ post_of at k buf) at (length-take-le at buf within))
     ∙ take-append-le n part (post_of at k buf) fits
 
--- a further piece in the buffer, behind those before it
+-- a further piece in the buffer, after those before it
 pub Consumes-more : (a b c : Option (List ℕ)) (buf part : List ℕ) (at k n : ℕ) → at ≤ length buf → n ≤ length part
     → Consumes a b (take at buf) → Consumes b c (take n part) → Consumes a c (take (at + n) (put_mid at k buf part))
 Consumes-more a b c buf part at k n within fits first second =

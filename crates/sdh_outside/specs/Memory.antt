@@ -1,28 +1,28 @@
--- What the source and the sink in memory hold.
+-- The state of the source and of the sink in memory.
 use Rattle.std.specs.Prelude.{ℕ, List}
 
 pub record HeldSource : Type 0 where
-  -- the bytes that are left
+  -- the bytes left
   pub left : List ℕ
-  -- a read gives at most so many
+  -- the most bytes that a read gives
   pub piece : ℕ
   -- the numbers of the calls that fail, counted from 1
   pub failing : List ℕ
-  -- how many calls there were
+  -- the number of calls so far
   pub calls : ℕ
-  -- how many of them failed
+  -- the number of calls that failed
   pub faults : ℕ
 
 pub record HeldSink : Type 0 where
-  -- the bytes that were written
+  -- the bytes written
   pub bytes : List ℕ
-  -- how many more it takes
+  -- the number of bytes that it still takes
   pub room : ℕ
-  -- a write takes at most so many
+  -- the most bytes that a write takes
   pub piece : ℕ
   -- the numbers of the calls that fail, counted from 1
   pub failing : List ℕ
-  -- how many calls there were
+  -- the number of calls so far
   pub calls : ℕ
-  -- how many of them failed
+  -- the number of calls that failed
   pub faults : ℕ

@@ -1,16 +1,16 @@
--- What reading a source to its end did to the bytes that it tells.
+-- What reading a source to its end did to the bytes that the source shows.
 use Rattle.std.specs.Prelude.{◌≡◌, ◌<◌, ◌≤◌, ℕ, List, length, Option, Some, None}
 use Rattle.std.specs.Io.KnownBytes.{Consumes}
 
--- n bytes were taken
+-- exactly n bytes were taken
 abbrev pub TakesCount : Option (List ℕ) → Option (List ℕ) → ℕ → Type 0
 TakesCount old new n = (bytes : List ℕ) × (length bytes ≡ n) × Consumes old new bytes
 
--- some bytes were taken, fewer than n
+-- fewer than n bytes were taken
 abbrev pub TakesFewer : Option (List ℕ) → Option (List ℕ) → ℕ → Type 0
 TakesFewer old new n = (bytes : List ℕ) × (length bytes < n) × Consumes old new bytes
 
--- the source tells what it has left, and that is at most n bytes
+-- the source shows the bytes that it has left, and they are at most n
 abbrev pub TellsAtMost : Option (List ℕ) → ℕ → Type 0
 TellsAtMost (Some bytes) n = length bytes ≤ n
 TellsAtMost None n = ⊥

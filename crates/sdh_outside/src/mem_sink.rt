@@ -1,4 +1,4 @@
-//! A sink in memory, whose calls fail by a list.
+//! A sink in memory with a list of the calls that fail.
 ghost use Rattle.std.specs.Prelude.{◌≡◌, true, ◌⊎◌, ◌-◌, ◌<◌, ◌↔◌, ◌++◌, min, [], Some, IfOk, IsErr, OnErr, Contains, length, take};
 ghost use Rattle.std.specs.Io.{WritesAtMost};
 ghost use Rattle.std.specs.Io.KnownBytes.{WriteAppends};
@@ -11,8 +11,8 @@ use std::alloc::{AllocError, Global};
 use std::fmt;
 use std::marker::Model;
 
-/// Room in memory, which is filled in pieces of a fixed greatest length. The calls of a list fail, and
-/// so does a write of something to a sink whose room is used up, and no other.
+/// A buffer of fixed room that takes at most `piece` bytes a call. It fails the calls that its list names, and a write
+/// of a non-empty piece once its room is used up, and no other.
 #[derive(Drop)]
 pub struct MemSink {
     bytes: Vec<u8>,
@@ -46,8 +46,8 @@ impl fmt::Debug for MemSink {
 }
 
 impl MemSink {
-    /// A sink with nothing written and room for so many bytes. `failing` has the numbers of the calls
-    /// that fail, counted from 1.
+    /// Returns an empty sink with room for `room` bytes. `failing` holds the numbers of the calls that fail, counted
+    /// from 1.
     pub fn new(
         alloc: Global,
         room: usize,
@@ -68,7 +68,7 @@ impl MemSink {
         })
     }
 
-    /// What was written.
+    /// Returns the bytes that were written.
     pub fn bytes(&self) -> &[u8]
         ensures { result.now ≡ self.now.bytes }
     {

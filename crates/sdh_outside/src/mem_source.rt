@@ -1,4 +1,4 @@
-//! A source in memory, whose calls fail by a list.
+//! A source in memory with a list of the calls that fail.
 ghost use Rattle.std.specs.Prelude.{◌≡◌, true, ◌<◌, ◌↔◌, min, Some, IfOk, IsErr, OnErr, Contains, length, take, drop};
 ghost use Rattle.std.specs.Io.{ReadsAtMost};
 ghost use Rattle.std.specs.Io.KnownBytes.{ReadConsumes};
@@ -10,7 +10,7 @@ use std::alloc::{AllocError, Global};
 use std::fmt;
 use std::marker::Model;
 
-/// Bytes in memory, given in pieces of a fixed greatest length. The calls of a list fail, and no other.
+/// Bytes in memory that are given out at most `piece` a call. It fails the calls that its list names, and no other.
 #[derive(Drop)]
 pub struct MemSource {
     bytes: Vec<u8>,
@@ -39,8 +39,8 @@ impl fmt::Debug for MemSource {
 }
 
 impl MemSource {
-    /// A source of these bytes, none of which is given yet. `failing` has the numbers of the calls that
-    /// fail, counted from 1.
+    /// Returns a source of these bytes, with none given out yet. `failing` holds the numbers of the calls that fail,
+    /// counted from 1.
     pub fn new(
         alloc: Global,
         bytes: &[u8],
@@ -62,7 +62,7 @@ impl MemSource {
     }
 }
 
-// Copies a piece, or what there is or fits where that is less.
+// Copies at most `piece` bytes, as far as both slices reach, and returns their number.
 fn copy_front(from: &[u8], to: &mut [u8], piece: usize) -> usize
     ensures count { result ≡ min (min piece (length to.old)) (length from.now) }
     ensures copied { take result to.new ≡ take result from.now }

@@ -8,31 +8,31 @@ use crate::source::{Failed, Source};
 use std::alloc::{AllocError, Global};
 use thiserror::Error;
 
-/// How many bytes `read_all` hands out at most.
+/// The most bytes that `read_all` returns: 1 MiB.
 pub const READ_MAX: usize = 1_048_576;
 
-/// Why there are no bytes. Those that were taken are gone.
+/// Why `read_all` returned no bytes. The bytes that it took from the source are lost.
 #[derive(Clone, Copy, Debug, PartialEq, Eq, Error)]
 pub enum ReadAllError {
-    /// There was no memory, and nothing was taken.
+    /// Memory ran out before the first read, so nothing was taken.
     #[error("no memory")]
     Memory,
     /// A read failed.
     #[error("a read failed")]
     ReadFault,
-    /// `READ_MAX` bytes and one more were taken.
+    /// The source had more than `READ_MAX` bytes; `READ_MAX` and one more were taken.
     #[error("more than 1,048,576 bytes")]
     TooLong,
 }
 
-// So many bytes, each of them 0.
+// Returns `count` bytes, each 0.
 fn zeros(alloc: Global, count: usize) -> Result<Vec<u8>, AllocError>
     ensures { IfOk result (λ bytes. vec_len bytes ≡ count) }
 {
     vec![in alloc; 0u8; count]
 }
 
-// Reads until the buffer is full, the source ends or a call fails.
+// Reads until the buffer is full, the source ends or a call fails, and returns the number of bytes read.
 fn fill<R: Source>(source: &mut R, buf: &mut [u8]) -> Result<usize, Failed>
     ensures within { IfOk result (λ count. count ≤ length buf.new) }
     ensures took { IfOk result (λ count. Consumes (R.left source.old) (R.left source.new) (take count buf.new)) }
@@ -51,8 +51,8 @@ fn fill<R: Source>(source: &mut R, buf: &mut [u8]) -> Result<usize, Failed>
     Ok(taken)
 }
 
-/// All that the source has left, read to its end. It makes room for `READ_MAX` bytes and one more
-/// before the first read, takes at least one byte each turn, and stops once the room is full.
+/// Returns all bytes that the source has left. It reserves room for `READ_MAX` + 1 bytes before the first read, takes
+/// at least one byte each turn, and stops when the room is full.
 pub fn read_all<R: Source>(alloc: Global, source: &mut R) -> Result<Vec<u8>, ReadAllError>
     ensures all { IfOk result (λ bytes. Consumes (R.left source.old) (R.left source.new) bytes.items) }
     ensures end { OnOk result (IsAtEnd (R.left source.new)) }
@@ -63,12 +63,12 @@ pub fn read_all<R: Source>(alloc: Global, source: &mut R) -> Result<Vec<u8>, Rea
     ensures too_long { IsErrOf result ReadAllError.TooLong → TakesCount (R.left source.old) (R.left source.new) (READ_MAX + 1) }
     ensures memory { IsErrOf result ReadAllError.Memory → source.new ≡ source.old }
 
-    // At most `READ_MAX` bytes left and no fault: Ok, or no memory.
+    // With at most `READ_MAX` bytes left and no fault the answer is Ok, or memory ran out.
     ensures complete { TellsAtMost (R.left source.old) READ_MAX → ¬ (Rose (R.faults source.old) (R.faults source.new))
         → IsOk result ⊎ IsErrOf result ReadAllError.Memory }
     ensures later { R.faults source.old ≤ R.faults source.new }
 
-    // Where the count is exact: one read failed with a fault, and none with any other answer.
+    // Where the count is exact, one read failed if the answer is a fault, and none otherwise.
     ensures counted { IsCounted R.exact (IsErrOf result ReadAllError.ReadFault) (R.faults source.old) (R.faults source.new) }
 {
     let Ok(mut bytes) = zeros(alloc, READ_MAX + 1) else {

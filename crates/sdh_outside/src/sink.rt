@@ -9,19 +9,18 @@ use std::io;
 use std::io::Write;
 use std::marker::Model;
 
-/// What takes bytes.
+/// Something that takes bytes, such as standard output.
 pub trait Sink {
-    /// The bytes that were written, where the sink tells them.
+    /// The bytes written so far, where the sink shows them.
     ghost written: { Self → Option (List ℕ) };
 
-    /// How often a call has failed. It never falls, and stands still at its type's end.
+    /// The number of calls that failed. It never falls, and it stays at the last value of its type.
     ghost faults: { Self → ℕ };
 
-    /// The count rises by one with each call that fails, and with nothing else.
+    /// Whether the count rises by one with each failed call and with nothing else.
     ghost exact: { Bool };
 
-    /// Takes some bytes from the front of the piece, and answers how many: at least one of a piece that
-    /// isn't empty.
+    /// Takes some bytes from the front of `buf` and returns their number: at least one where `buf` is not empty.
     fn write(&mut self, buf: &[u8]) -> Result<usize, Failed>
         ensures bound { WritesAtMost result buf.now }
         ensures some { IfOk result (λ n. 0 < length buf.now → 0 < n) }
@@ -29,8 +28,7 @@ pub trait Sink {
         ensures cause { HasCause exact (faults self.old) (faults self.new) result };
 }
 
-// What a writer's answer to a piece is to a sink: its error is a fault, and so is that it took nothing of a piece that isn't
-// empty.
+// Returns what a writer's answer means to a sink. An error is a fault, and so is an answer of 0 for a non-empty piece.
 fn write_answer(answer: io::Result<usize>, piece: &[u8]) -> Result<usize, Failed>
     ensures ok { IfOk answer (λ count. (0 < count) ⊎ (piece.now ≡ []) → result ≡ Ok count) }
     ensures none { IfOk answer (λ count. count ≡ 0 → piece.now ≢ [] → IsErr result) }
@@ -42,8 +40,8 @@ fn write_answer(answer: io::Result<usize>, piece: &[u8]) -> Result<usize, Failed
     }
 }
 
-/// A writer of std as a sink, as standard output. It tells no bytes, and counts as a fault each error of
-/// the writer, and each write that took nothing of a piece that isn't empty.
+/// A sink over a writer of std, such as standard output. It does not show its bytes. Each error of the writer counts as
+/// a fault, and so does each write that took nothing of a non-empty piece.
 #[derive(Debug, Drop)]
 pub struct StdSink<T: Write + Drop> {
     writer: T,
@@ -59,7 +57,7 @@ impl<T: Write + Drop> Model for StdSink<T> {
 }
 
 impl<T: Write + Drop> StdSink<T> {
-    /// A sink without faults. It takes no memory.
+    /// Returns a sink without faults. It takes no memory.
     pub fn new(writer: T) -> StdSink<T>
         ensures { result ≡ record { known = T.contents writer; faults = 0 } }
     {

@@ -9,31 +9,31 @@ use std::io::Read;
 use std::marker::Model;
 use thiserror::Error;
 
-/// A call of a source or a sink failed, and its object counted a fault. It moved no bytes.
+/// A call of a source or a sink failed: the object counted one fault and moved no bytes.
 #[derive(Clone, Copy, Debug, PartialEq, Eq, Error)]
 #[error("a call of a source or a sink failed")]
 pub struct Failed;
 
-/// What gives bytes.
+/// Something that gives bytes, such as standard input.
 pub trait Source {
-    /// The bytes that are left, where the source tells them.
+    /// The bytes left, where the source shows them.
     ghost left: { Self → Option (List ℕ) };
 
-    /// How often a call has failed. It never falls, and stands still at its type's end.
+    /// The number of calls that failed. It never falls, and it stays at the last value of its type.
     ghost faults: { Self → ℕ };
 
-    /// The count rises by one with each call that fails, and with nothing else.
+    /// Whether the count rises by one with each failed call and with nothing else.
     ghost exact: { Bool };
 
-    /// Gives some of the bytes that are left, at the front of `buf`, and answers how many. 0 for a
-    /// buffer that isn't empty means the end.
+    /// Puts some of the bytes left at the front of `buf` and returns their number. 0 for a non-empty buffer means the
+    /// end.
     fn read(&mut self, buf: &mut [u8]) -> Result<usize, Failed>
         ensures bound { ReadsAtMost result buf.new }
         ensures bytes { ReadConsumes (left self.old) (left self.new) result buf.new }
         ensures cause { HasCause exact (faults self.old) (faults self.new) result };
 }
 
-// What a reader's answer is to a source: its error is a fault, and nothing else.
+// Returns what a reader's answer means to a source: an error is a fault, and nothing else is.
 fn read_answer(answer: io::Result<usize>) -> Result<usize, Failed>
     ensures ok { IfOk answer (λ count. result ≡ Ok count) }
     ensures err { OnErr answer (IsErr result) }
@@ -41,8 +41,8 @@ fn read_answer(answer: io::Result<usize>) -> Result<usize, Failed>
     answer.map_err(|_| Failed)
 }
 
-/// A reader of std as a source, as standard input. It tells no bytes, and counts each error of the
-/// reader as a fault.
+/// A source over a reader of std, such as standard input. It does not show its bytes. Each error of the reader counts
+/// as a fault.
 #[derive(Debug, Drop)]
 pub struct StdSource<T: Read + Drop> {
     reader: T,
@@ -58,7 +58,7 @@ impl<T: Read + Drop> Model for StdSource<T> {
 }
 
 impl<T: Read + Drop> StdSource<T> {
-    /// A source without faults. It takes no memory.
+    /// Returns a source without faults. It takes no memory.
     pub fn new(reader: T) -> StdSource<T>
         ensures { result ≡ record { known = T.remaining reader; faults = 0 } }
     {

@@ -1,4 +1,4 @@
-//! Writing a text whole.
+//! Writing a whole text to a sink.
 ghost use Rattle.std.specs.Prelude.{◌≡◌, ◌≤◌, [], OnOk, OnErr, IsOk, IsErr};
 ghost use Rattle.std.specs.Io.KnownBytes.{Appends};
 ghost use Rattle.sdh_basics.specs.Causes.{Rose, IsCounted};
@@ -8,7 +8,7 @@ use crate::sink::Sink;
 use crate::source::Failed;
 use thiserror::Error;
 
-/// A write failed, and a part of the text at most was appended.
+/// A write failed: the sink holds at most a part of the text.
 #[derive(Clone, Copy, Debug, PartialEq, Eq, Error)]
 #[error("a write failed")]
 pub struct WriteFault;
@@ -21,7 +21,7 @@ pub fn write_text<W: Sink>(sink: &mut W, text: &[u8]) -> Result<(), WriteFault>
     ensures empty { text.now ≡ [] → IsOk result × (sink.new ≡ sink.old) }
     ensures later { W.faults sink.old ≤ W.faults sink.new }
 
-    // Where the count is exact: one write failed with a fault, and none with Ok.
+    // Where the count is exact, one write failed if the answer is a fault, and none with Ok.
     ensures counted { IsCounted W.exact (IsErr result) (W.faults sink.old) (W.faults sink.new) }
 {
     let mut sent = 0;

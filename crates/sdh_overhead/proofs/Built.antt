@@ -1,5 +1,5 @@
--- A frame that is put together and written row by row: before a row is written its bytes are put into the buffer, and the rows
--- behind it still hold what they held.
+-- A frame that is put together and written row by row: before a row is written its bytes are put into the buffer, and
+-- the rows after it still hold what they held.
 use Rattle.std.proofs.Common.{◌≡◌, ℕ, ◌+◌, ◌*◌, ◌-◌, ◌<◌, ◌≤◌, List, ◌++◌, length, take, drop, Some, None, refl, ap, sym, subst, ◌∙◌, arith}
 use Rattle.std.proofs.Common.{append_assoc}
 use Rattle.std.specs.Prelude.{slice_range}

@@ -314,7 +314,7 @@ module _ (first section after : SectionKept) (row a k : ℕ) (old now part : Lis
       (subst (λ (l : Option Parities). AreRead (n_of first.rate) l (take ((row - 1) * (270 * n_of first.rate)) old) section.under_way)
       (sym so.last) so.read)
 
-  -- the rows up to its end tell as much of the framing as the frame
+  -- whether the frame is framed is seen from the rows up to its end
   framing : is_framed (n_of first.rate) (take ((row - 1) * (270 * n_of first.rate)) old ++ take k (drop a now))
       ≡ is_framed (n_of first.rate) old
   framing =

@@ -77,7 +77,7 @@ given-is frame here kept bytes view e =
     (λ i. record { rate = frame.rate; bytes = back i }) ∙ ap (λ (r : Rate). record { rate = r; bytes = scrambled (9 * n_of r) bytes })
     (ap (λ (l : LandedFrame). l.rate) view)
 
--- a buffer that was lent whole
+-- a buffer that was handed out whole
 abbrev pub lent : List ℕ → List ℕ → List ℕ
 lent old to = take (length old) (to ++ drop (length to) old)
 
@@ -132,7 +132,7 @@ module _ (m k n : ℕ) (here : Bool) (b1 : ℕ) (b2 clear seen bytes : List ℕ)
 pub two-parts : (m : ℕ) (from front rest : List ℕ) → front ≡ take m from → rest ≡ drop m from → from ≡ front ++ rest
 two-parts m from front rest one two = sym (take-append-drop m from) ∙ (λ i. sym one i ++ sym two i)
 
--- where the scrambler stands behind the head of a row, which was copied
+-- where the scrambler stands after the head of a row, which was copied
 pub placed-behind : (n at : ℕ) (old new : Position) (head copy : List ℕ) → old ≡ record { clear = 9 * n; at = at } → copy ≡ head
     → new ≡ record old { at = old.at + length copy } → new ≡ record { clear = 9 * n; at = at + length head }
 placed-behind n at old new head copy place same goes =
@@ -228,7 +228,7 @@ all-opened n from to place line clear size so =
     sym (take_all ((10 - 1) * (270 * n)) to (omega (arith, end, so.long))) ∙ so.done ∙ ap (scrambled (9 * n)) whole in
     (is, so.b1 ∙ ap bip8 whole, so.b2 ∙ ap (λ l. after_bytes n (section_bytes n l)) (ap (scrambled (9 * n)) whole ∙ sym is))
 
--- rows 4 to 9 behind the first three
+-- rows 4 to 9 after the first three
 module _ (n : ℕ) (from to part : List ℕ) (place place' : Position) (line line' : ℕ) (clear clear' : Running) (size : length from ≡ 2430 * n)
     (so : OpenedTo n from 4 place line clear to)
     (len : length part ≡ length (take (9 * (270 * n) - 3 * (270 * n)) (drop (3 * (270 * n)) to)))

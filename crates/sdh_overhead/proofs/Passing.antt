@@ -178,7 +178,7 @@ section-more n row m clear bytes some (inl one) at long = let single : m * (270 
     ap (λ k. k * (270 * n)) one in section-one n row clear bytes some at (omega (arith, long, single))
 section-more n row m clear bytes some (inr late) at long = section-late n row clear bytes late at
 
--- ---- what is kept of the rows that have gone by
+-- ---- what is kept of the rows that have passed
 
 pub some-under-way : (u : UnderWay) → 1 ≤ u.rows → under_way_of u ≡ Some u
 some-under-way u h = let some : (u.rows == 0) ≡ false = ne_eqb _ _ (λ (e : u.rows ≡ 0). omega arith) in rw some refl
@@ -186,7 +186,7 @@ some-under-way u h = let some : (u.rows == 0) ≡ false = ne_eqb _ _ (λ (e : u.
 pub none-under-way : (u : UnderWay) → u.rows ≡ 0 → under_way_of u ≡ None
 none-under-way u e = let none : (u.rows == 0) ≡ true = eq-eqb _ _ e in rw none refl
 
--- what they were is told of them, also before the first
+-- what the rows were is known, also before the first
 pub may-write : (u : UnderWay) → u.written ≡ true → MayWrite (under_way_of u)
 may-write u e =
     elim (cases_eq u.rows 0) [
@@ -207,7 +207,7 @@ section-none n =
     four _ _ _ _ [] [] [] [] (range-past (9 * n) (270 * n) [] (omega arith)) (range-past (279 * n) (540 * n) [] (omega arith))
     (range-past (549 * n) (810 * n) [] (omega arith)) (drop-past (810 * n) [] (omega arith))
 
--- the rows that have gone by, also before the first
+-- the rows that have passed, also before the first
 pub as-passed : (n : ℕ) (place : Position) (clear line : List ℕ) (u : UnderWay) → IsPlaced n u.rows place u.line u.clear
     → ArePassed n clear line (under_way_of u) → HavePassed n clear line u
 as-passed n place clear line u placed are =
@@ -324,7 +324,7 @@ module _ (first old mid : SectionKept) (row : ℕ) (clear line more new : List �
         ∙ ap (λ (r : Rate). record { rate = r; last = Some (parities_of (n_of r) (clear ++ more) (line ++ new)); under_way = None }) here;
   }
 
--- ---- rows that are cut behind the head of the first
+-- ---- rows that are cut after the head of the first
 
 pub cut-row : (n at a : ℕ) (old head rest head' rest' : List ℕ) → old ≡ head ++ rest → a ≡ at + length head
     → head' ≡ scrambled_from (9 * n) at head → rest' ≡ scrambled_from (9 * n) a rest → head' ++ rest' ≡ scrambled_from (9 * n) at old

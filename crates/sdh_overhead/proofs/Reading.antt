@@ -66,7 +66,7 @@ pub by-b2 : (n : ℕ) (known : Bool) (b1 : ℕ) (b2 clear : List ℕ)
 by-b2 n true b1 b2 clear = refl
 by-b2 n false b1 b2 clear = refl
 
--- a byte at a place by its index, in rows that have gone by and in the next row
+-- a byte at a place by its index, in rows that have passed and in the next row
 kept-byte : (n i : ℕ) (clear new : List ℕ) (row column : ℕ) → (row - 1) * (270 * n) + (column - 1) ≡ i → i < length clear
     → byte_in n (clear ++ new) row column ≡ byte_in n clear row column
 kept-byte n i clear new row column at h = get_or_append_left clear new 0 ((row - 1) * (270 * n) + (column - 1)) (omega arith)

@@ -11,7 +11,7 @@ pub record LandedFrame : Type 0 where
   pub landed : Option (List ℕ)
   pub buffer : List ℕ
 
--- the bytes that arrived, of which the buffer has the descrambled ones: none where no frame is there
+-- the bytes that arrived, where the buffer has them descrambled; none where no frame is there
 abbrev pub landed_of : ℕ → Bool → List ℕ → Option (List ℕ)
 landed_of n true clear = Some (scrambled (9 * n) clear)
 landed_of n false clear = None

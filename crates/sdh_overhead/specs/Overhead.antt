@@ -13,7 +13,7 @@ pub record Added : Type 0 where
   pub b1 : ℕ
   pub b2 : List ℕ
 
--- the byte of a field, where x stood before: pointers and payload stay
+-- the byte of a field that was x before: pointers and payload stay
 abbrev pub written : Added → field.Field → ℕ → ℕ
 written a A1 x = 0xF6
 written a A2 x = 0x28
@@ -27,7 +27,7 @@ written a Unused x = 0
 written a (Pointer au i) x = x
 written a (Payload au) x = x
 
--- byte i of the frame, where x stood before
+-- byte i of the frame, which was x before
 abbrev pub byte_at : ℕ → Added → ℕ → ℕ → ℕ
 byte_at n a i x = written a (field_at n (i / (270 * n) + 1) (i % (270 * n) + 1)) x
 

@@ -21,7 +21,7 @@ line_row n last k1 k2 i bytes = scrambled_from (9 * n) i (clear_row n last k1 k2
 abbrev pub skipped : ℕ → ℕ → ℕ
 skipped n row = if nat_le row 3 then 9 * n else 0
 
--- rows with these bytes, without scrambling and on the line, have gone by
+-- rows with these bytes, without scrambling and on the line, have passed
 pub record HavePassed (n : ℕ) (clear line : List ℕ) (u : UnderWay) : Type 0 where
   pub rows : length line ≡ u.rows * (270 * n)
   pub whole : length clear ≡ length line
@@ -46,7 +46,8 @@ pub record IsPlaced (n passed : ℕ) (scrambler : Position) (line : ℕ) (clear 
   pub rate : clear.n ≡ n
   pub fresh : passed ≡ 0 → (line ≡ bip8 []) × (clear ≡ after_bytes n [])
 
--- what the rows of a framed frame say, as far as they have gone by: without scrambling and on the line they have these bytes
+-- what the rows of a framed frame say, as far as they have passed: without scrambling and on the line they have these
+-- bytes
 pub record HasFound (n : ℕ) (last : Option Parities) (clear line : List ℕ) (u : UnderWay) : Type 0 where
   pub passed : HavePassed n clear line u
   pub b1 : 2 ≤ u.rows → u.b1 ≡ b1_violations n last clear
@@ -64,6 +65,6 @@ abbrev pub AreRead : ℕ → Option Parities → List ℕ → Option UnderWay �
 AreRead n last line None = line ≡ []
 AreRead n last line (Some u) = HaveRead n last line u
 
--- a row as it is left, behind rows with these bytes: descrambled where the frame is framed
+-- a row as it is left, after rows with these bytes: descrambled where the frame is framed
 abbrev pub opened_row : ℕ → List ℕ → List ℕ → List ℕ
 opened_row n line bytes = if is_framed n (line ++ bytes) then scrambled_from (9 * n) (length line) bytes else bytes

@@ -22,7 +22,7 @@ pub record Parities : Type 0 where
 unfoldable pub parities_of : ℕ → List ℕ → List ℕ → Parities
 parities_of n clear line = record { b1 = bip8 line; b2 = section_parity n clear }
 
--- what is kept of the rows that have gone by, of a frame that is written or read row by row
+-- what is kept of the rows that have passed, of a frame that is written or read row by row
 pub record UnderWay : Type 0 where
   pub rows : ℕ
   -- BIP-8 of their bytes on the line, and BIP-24N of those without scrambling that B2 is over
@@ -30,7 +30,7 @@ pub record UnderWay : Type 0 where
   pub clear : Running
   -- whether they are of a frame that is written, and not of one that is read
   pub written : Bool
-  -- of a frame that is read: whether it is framed, its K bytes, and the bits in which B1 and B2 differ
+  -- of a received frame: whether it is framed, its K bytes, and the bits in which B1 and B2 differ
   pub framed : Bool
   pub k1 : ℕ
   pub k2 : ℕ
@@ -106,7 +106,7 @@ abbrev pub last_of : ℕ → Bool → ℕ → List ℕ → Option Parities
 last_of n true b1 b2 = Some (record { b1 = b1; b2 = take (3 * n) b2 })
 last_of n false b1 b2 = None
 
--- where there are none the fields are zeros, as they are sent in a first frame
+-- where a section has no parities the fields are zeros, as they are sent in a first frame
 abbrev pub IsBlank : Bool → ℕ → List ℕ → Type 0
 IsBlank true b1 b2 = Unit {0}
 IsBlank false b1 b2 = (b1 ≡ 0) × (b2 ≡ replicate 48 0)
@@ -115,7 +115,8 @@ IsBlank false b1 b2 = (b1 ≡ 0) × (b2 ≡ replicate 48 0)
 abbrev pub under_way_of : UnderWay → Option UnderWay
 under_way_of u = if u.rows == 0 then None else Some u
 
--- a row may be written where no row has gone by, or rows that were written, and read where none has or rows that were read
+-- A row may be written where no row has passed, or rows that were written. It may be read where no row has passed, or
+-- rows that were read.
 abbrev pub MayWrite : Option UnderWay → Type 0
 MayWrite None = Unit {0}
 MayWrite (Some u) = u.written ≡ true

@@ -43,7 +43,7 @@ impl Model for Landed {
     } };
 }
 
-// Descrambles the nine rows of a frame on their way to another place, and sums them.
+// Descrambles the nine rows of a frame from one slice to another, and returns what they say with their parities.
 fn open_frame(n: usize, from: &[u8], to: &mut [u8]) -> Rows
     requires rate { (n ≡ 4) ⊎ (n ≡ 16) }
     requires from { length from.now ≡ 2430 * n }
@@ -65,7 +65,7 @@ fn open_frame(n: usize, from: &[u8], to: &mut [u8]) -> Rows
 }
 
 impl Landed {
-    /// Nothing has landed. Takes all memory that frames need.
+    /// Returns room for a frame, in which nothing has landed. It takes all the memory that frames need.
     pub fn try_new(alloc: Global, rate: Rate) -> Result<Landed, AllocError>
         ensures { IfOk result (λ l. l ≡ emptied rate (replicate (size_of rate) 0)) }
     {

@@ -17,7 +17,7 @@ fn fill_part(bytes: &mut [u8], from: usize, to: usize, value: u8)
     }
 }
 
-// Row 1: A1, A2, J0 and the other unscrambled bytes.
+// Writes the first 9N bytes of row 1: A1, A2, J0 and the other unscrambled bytes.
 #[inline(always)]
 fn write_framing(n: usize, head: &mut [u8])
     requires few { n ≤ 16 }
@@ -34,7 +34,7 @@ fn write_framing(n: usize, head: &mut [u8])
     head[6 * n] = 1;
 }
 
-// Row 5: B2, K1 and K2.
+// Writes the first 9N bytes of row 5: B2, K1 and K2.
 #[inline(always)]
 fn write_multiplex(n: usize, k1: u8, k2: u8, b2: &[u8], head: &mut [u8])
     requires few { n ≤ 16 }

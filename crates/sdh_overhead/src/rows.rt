@@ -10,7 +10,7 @@ use sdh_parity::{
     Bip8, BipSection, Rate9, Scrambler, open_piece, receive_piece, send_piece, violations,
 };
 
-// How many bytes at the head of a row B2 is not over.
+// Returns the number of bytes at the head of a row that B2 does not cover.
 fn head_len(n: usize, row: u16) -> usize
     requires { n ≤ 16 }
     ensures { result ≡ skipped n row }
@@ -18,14 +18,14 @@ fn head_len(n: usize, row: u16) -> usize
     if row <= 3 { 9 * n } else { 0 }
 }
 
-/// What is kept of the rows that have gone by.
+/// What is kept of the rows of a frame so far.
 #[derive(Debug, Drop)]
 pub struct Rows {
     pub passed: u16,
     pub scrambler: Scrambler,
     pub line: Bip8,
     pub clear: BipSection,
-    /// They are of a frame that is written, and not of one that is read.
+    /// Whether the frame is written, and not read.
     pub written: bool,
     pub framed: bool,
     pub k1: u8,
@@ -35,7 +35,7 @@ pub struct Rows {
 }
 
 impl Rows {
-    /// No row has gone by.
+    /// Returns the state before the first row.
     pub fn new(n: usize) -> Rows
         requires { (n ≡ 4) ⊎ (n ≡ 16) }
         ensures passed { result.passed ≡ 0 }
@@ -58,7 +58,7 @@ impl Rows {
         }
     }
 
-    /// The next row of a sent frame: it is summed for B2, scrambled, and summed for B1.
+    /// Takes the next row of a sent frame: adds it to B2, scrambles it, and adds it to B1.
     pub fn send(&mut self, n: usize, row: u16, bytes: &mut [u8])
         requires few { n ≤ 16 }
         requires rate { self.old.clear.n ≡ n }
@@ -83,7 +83,7 @@ impl Rows {
         self.written = true;
     }
 
-    /// The next row of a framed frame that is received: it is summed for B1, descrambled, and summed for B2.
+    /// Takes the next row of a framed frame that is received: adds it to B1, descrambles it, and adds it to B2.
     pub fn receive(&mut self, n: usize, row: u16, bytes: &mut [u8])
         requires few { n ≤ 16 }
         requires rate { self.old.clear.n ≡ n }
@@ -112,8 +112,8 @@ impl Rows {
         self.written = false;
     }
 
-    /// The next rows of a frame that needs not be framed, one or several behind row 3, from one place to another: they are
-    /// summed for B1, descrambled, and summed for B2.
+    /// Takes one or several rows after row 3 of a received frame, framed or not, from one slice to another: adds them
+    /// to B1, descrambles them, and adds them to B2.
     pub fn open(&mut self, n: usize, row: u16, rows: u16, from: &[u8], to: &mut [u8])
         requires few { n ≤ 16 }
         requires rate { self.old.clear.n ≡ n }
@@ -148,7 +148,7 @@ impl Rows {
         self.passed = row + rows - 1;
     }
 
-    /// The next row of an unframed frame, which is left as it came.
+    /// Takes the next row of an unframed frame, which stays as it came.
     pub fn pass_over(&mut self, n: usize, row: u16)
         requires few { n ≤ 16 }
         requires first { 1 ≤ row }
@@ -167,7 +167,7 @@ impl Rows {
     }
 }
 
-/// BIP-24N of the rows that have gone by, in the first 3N bytes.
+/// Returns BIP-24N of the rows so far, in the first 3N bytes.
 pub fn parity_of_rows(n: usize, clear: &BipSection) -> [u8; 48]
     requires few { n ≤ 16 }
     requires rate { clear.now.n ≡ n }
@@ -178,14 +178,14 @@ pub fn parity_of_rows(n: usize, clear: &BipSection) -> [u8; 48]
     parity
 }
 
-/// A K byte of the rows that have gone by: row 5 has it.
+/// Returns a K byte after a row: row 5 has it, and the others leave it.
 pub fn k_after(row: u16, before: u8, byte: u8) -> u8
     ensures { result ≡ (if row == 5 then byte else before) }
 {
     if row == 5 { byte } else { before }
 }
 
-/// The bits in which B1 differs, of the rows that have gone by: row 2 has it.
+/// Returns the number of bits in which B1 differs, after a row: row 2 has it.
 pub fn b1_after(row: u16, before: u32, known: bool, b1: u8, byte: u8) -> u32
     ensures { result ≡ (if row == 2 then (if known then differing_bits b1 byte else 0) else before) }
 {
@@ -195,7 +195,7 @@ pub fn b1_after(row: u16, before: u32, known: bool, b1: u8, byte: u8) -> u32
     if known { violations(&[b1], &[byte]) } else { 0 }
 }
 
-/// The bits in which B2 differs: row 5 has it.
+/// Returns the number of bits in which B2 differs, after a row: row 5 has it.
 pub fn b2_after(row: u16, before: u32, known: bool, b2: &[u8], bytes: &[u8]) -> u32
     requires same_length { length b2.now ≡ length bytes.now }
     requires few { length b2.now ≤ 48 }

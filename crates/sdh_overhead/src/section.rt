@@ -17,7 +17,8 @@ use sdh_frame::FrameBuf;
 use sdh_terms::Rate;
 use std::marker::Model;
 
-/// The parities of the last frame in one direction of a section, or none, and what is kept of a frame that is under way.
+/// The parities of the last frame in one direction of a section, or none, and the state of a frame with some rows
+/// written or read.
 #[derive(Debug, Drop)]
 pub struct Section {
     rate: Rate,
@@ -54,7 +55,7 @@ fn are_all(bytes: &[u8], value: u8) -> bool
     bytes.iter().all(|byte| *byte == value)
 }
 
-// Whether all bytes A1 and A2 have their values.
+// Returns whether all bytes A1 and A2 have their values.
 #[tactic(auto, unfolding(crate::specs::Sections::is_framed))]
 pub(crate) fn is_framed(n: usize, bytes: &[u8]) -> bool
     requires few { n ≤ 16 }
@@ -65,7 +66,7 @@ pub(crate) fn is_framed(n: usize, bytes: &[u8]) -> bool
 }
 
 impl Section {
-    /// A section without parities.
+    /// Returns a section without parities.
     pub fn try_new(rate: Rate) -> Section
         ensures { result ≡ holding rate None }
     {
@@ -78,7 +79,7 @@ impl Section {
         }
     }
 
-    /// The section has no parities then, and no frame is under way.
+    /// Forgets the parities. No frame is under way then.
     pub fn forget(&mut self)
         ensures { self.new ≡ holding self.old.rate None }
     {
@@ -88,14 +89,14 @@ impl Section {
         self.rows = Rows::new(self.rate.n());
     }
 
-    // No frame is under way then.
+    // Begins a frame: none is under way.
     fn begin(&mut self)
         ensures { self.new ≡ record self.old { under_way = None } }
     {
         self.rows = Rows::new(self.rate.n());
     }
 
-    /// The number of the row that comes next: 1 before a frame, and 10 where all rows of a received frame have gone by.
+    /// Returns the number of the next row: 1 before a frame, and 10 after all rows of a received frame.
     pub fn next_row(&self) -> u16
         ensures next { result ≡ next_of self.now.under_way }
         ensures few { result ≤ 10 }
@@ -125,7 +126,8 @@ impl Section {
         write_head(n, row as usize, k1, k2, self.b1, b2, &mut bytes[..9 * n]);
     }
 
-    // The same: code of its own for each rate, in which N is a constant.
+    // Writes the overhead of a row with the parities of the frame before. Each rate has code of its own, in which N is
+    // a constant.
     fn place(&self, row: u16, k1: u8, k2: u8, bytes: &mut [u8])
         requires first { 1 ≤ row }
         requires last { row ≤ 9 }
@@ -138,7 +140,7 @@ impl Section {
         }
     }
 
-    // Sums and scrambles the next row of a sent frame.
+    // Adds the next row of a sent frame to both parities and scrambles it.
     fn send(&mut self, row: u16, bytes: &mut [u8])
         requires next { row ≡ next_of self.old.under_way }
         requires last { row ≤ 9 }
@@ -154,7 +156,7 @@ impl Section {
         self.rows.send(self.rate.n(), row, bytes);
     }
 
-    // Whether the frame is framed to which the next row belongs: row 1 tells.
+    // Returns whether the frame to which the next row belongs is framed: row 1 shows it.
     fn is_framed(&self, row: u16, bytes: &[u8]) -> bool
         requires next { row ≡ next_of self.now.under_way }
         requires bytes { 270 * n_of self.now.rate ≤ length bytes.now }
@@ -167,7 +169,7 @@ impl Section {
         self.rows.framed
     }
 
-    // Goes past the next row of an unframed frame.
+    // Passes over the next row of an unframed frame.
     fn pass_over(&mut self, row: u16)
         requires next { row ≡ next_of self.old.under_way }
         requires last { row ≤ 9 }
@@ -182,7 +184,7 @@ impl Section {
         self.rows.pass_over(self.rate.n(), row);
     }
 
-    // Descrambles and sums the next row of a framed frame, and keeps what it says.
+    // Descrambles the next row of a framed frame, adds it to both parities, and keeps what it says.
     fn receive(&mut self, row: u16, bytes: &mut [u8])
         requires next { row ≡ next_of self.old.under_way }
         requires last { row ≤ 9 }
@@ -211,7 +213,7 @@ impl Section {
         self.rows.framed = true;
     }
 
-    // What the rows of a framed frame said.
+    // Returns what the rows of a framed frame said.
     fn found(&self) -> Received
         requires { next_of self.now.under_way ≡ 10 }
         ensures { (line : List ℕ) → AreRead (n_of self.now.rate) self.now.last line self.now.under_way
@@ -226,7 +228,7 @@ impl Section {
         }
     }
 
-    // What a whole framed frame says, which is descrambled.
+    // Returns what a whole framed and descrambled frame says.
     pub(crate) fn find(&self, bytes: &[u8]) -> Received
         requires { length bytes.now ≡ size_of self.now.rate }
         ensures { result ≡ found_in (n_of self.now.rate) self.now.last bytes.now }
@@ -252,7 +254,7 @@ impl Section {
         self.rows = Rows::new(self.rate.n());
     }
 
-    // Keeps the parities of the rows that have gone by, as those of a frame.
+    // Keeps the parities of the rows so far as those of a frame.
     fn end(&mut self)
         ensures rate { self.new.rate ≡ self.old.rate }
         ensures under_way { self.new.under_way ≡ None }
@@ -266,8 +268,8 @@ impl Section {
         self.rows = Rows::new(n);
     }
 
-    /// After the ninth row of a received frame: what the frame says, against the parities of the frame read before. The
-    /// section then keeps the parities of this one; an unframed frame makes it forget.
+    /// Returns what a received frame says after its ninth row, against the parities of the frame read before. The
+    /// section then keeps the parities of this frame; an unframed frame makes it forget.
     pub fn finish_read(&mut self) -> Received
         requires { next_of self.old.under_way ≡ 10 }
         ensures read { (line : List ℕ) → AreRead (n_of self.old.rate) self.old.last line self.old.under_way
@@ -287,8 +289,8 @@ impl Section {
 }
 
 /// Sets the section overhead of a row of a frame, with the parities of the frame written before, and scrambles it in
-/// place. Pointers and payload stay. After the ninth row the section keeps the parities of the frame. Rows behind rows that
-/// were read are not written.
+/// place. Pointers and payload stay. After the ninth row the section keeps the parities of the frame. No row is written
+/// after rows that were read.
 pub fn write_row(section: &mut Section, row: u16, k1: u8, k2: u8, bytes: &mut [u8])
     requires next { row ≡ next_of section.old.under_way }
     requires way { MayWrite section.old.under_way }
@@ -341,8 +343,8 @@ pub fn write_section(section: &mut Section, k1: u8, k2: u8, frame: &mut FrameBuf
     write_rows(section, k1, k2, frame.bytes_mut());
 }
 
-/// Reads the next row of a received frame, and descrambles it in place. The rows of an unframed frame are left as they
-/// came. After the ninth row comes `finish_read`. Rows behind rows that were written are not read.
+/// Reads the next row of a received frame, and descrambles it in place. The rows of an unframed frame stay as they
+/// came. After the ninth row comes `finish_read`. No row is read after rows that were written.
 pub fn read_row(section: &mut Section, row: u16, bytes: &mut [u8])
     requires next { row ≡ next_of section.old.under_way }
     requires way { MayRead section.old.under_way }
@@ -381,8 +383,9 @@ fn read_rows(section: &mut Section, bytes: &mut [u8])
     }
 }
 
-/// Reads the overhead of a received frame against the parities of the frame read before, and descrambles it in place. An
-/// unframed frame is left as it came, and the section forgets. Rows of a frame that is under way are forgotten.
+/// Reads the overhead of a received frame against the parities of the frame read before, descrambles it in place, and
+/// returns what it says. An unframed frame stays as it came, and the section forgets. Rows of an unfinished frame are
+/// forgotten.
 pub fn read_section(section: &mut Section, frame: &mut FrameBuf) -> Received
     requires { frame.old.rate ≡ section.old.rate }
     ensures result { result ≡ received_in (n_of section.old.rate) section.old.last frame.old.bytes }

@@ -23,7 +23,7 @@ use Rattle.sdh_owed.specs.Counting.{ran_by, CoursesCountFrames}
 use Rattle.sdh_owed.proofs.Course.{alike_all}
 use Rattle.sdh_owed.proofs.Known.{length-placed}
 
--- so many frames were sent in all, and the plant tells them
+-- `k` frames were sent in all, and the plant reports them
 Told : ℕ → World → Type 0
 Told k w = (frames : List (List ℕ)) × (w.fibres.sent ≡ Some frames) × (length frames ≡ k)
 

@@ -44,7 +44,7 @@ use Rattle.sdh_owed.proofs.Standing.{Stands, whole, stretch_to, changed_then, se
 use Rattle.sdh_owed.specs.Course.{stretch, HaveCondition, IsLeftOff, WentThrough, AreSentAlike, HasSent, NoneEverMeetsAStranger}
 use Rattle.sdh_owed.specs.Course.{AllIsOwedSoon, HasCourse, CoursesAreTold}
 
--- ---- stretches one behind the other
+-- ---- stretches one after the other
 
 happens_then : (ss later : List Stretch) (w : World) → MayHappen w ss → MayHappen (after_stretches ss w) later → MayHappen w (ss ++ later)
 happens_then [] later w may then = then
@@ -56,7 +56,7 @@ happens_cut : (ss : List Stretch) (last : Stretch) (later : List Stretch) (k : �
 happens_cut [] last later k w may = (may.0, tt)
 happens_cut (s ∷ ss) last later k w may = (may.0, happens_cut ss last later k (after_stretch s w) may.1)
 
--- the first of some ends with a window, and so do those behind it
+-- the first of some ends with a window, and so do those after it
 ends_quietly : (s : Stretch) (w : World) (ss : List Stretch) → EndsWindow (course (all_changed s.changes w)) s.rounds
     → EndQuietly (after_stretch s w) ss → EndQuietly w (s ∷ ss)
 ends_quietly s w [] window behind = tt
@@ -134,7 +134,7 @@ none_through n limit ran changes (step.Slip port turn count ∷ later) end is h 
 none_through n limit ran changes (step.Moment m ∷ later) end is h =
     none_through n limit ran (changes ++ changes_of (step.Moment m)) later end is (more_so changes (changes_of (step.Moment m)) ran h)
 
--- and where it refused one
+-- nothing ran of a settle step for which the plant refused a condition
 refused_through : (n limit ran : ℕ) (changes : List Change) (s : Step) (later : List Step) (w : World) (reports : List Report)
     (end : Status) (left : World) → Refuses s w reports end left → end ≡ status.PlantFault
     → WentThrough n limit ran (scenes changes (s ∷ later)) [] end []
@@ -152,7 +152,7 @@ module _ (s : Settings) (ids : List ℕ) (circuits : Provisioning) (f : Fibres) 
   abbrev Now : Past → List Stretch → List Change → World → Type 0
   Now past earlier changes w = Stands s ids circuits f may past earlier changes w
 
-  -- what happened behind some stretches
+  -- what happened after some stretches
   record GoesOn (limit : ℕ) (earlier : List Stretch) (later : List (List Change)) (reports : List Report) (end : Status)
       (left : Fibres) : Type 0 where
     pub stretches : List Stretch
@@ -184,7 +184,7 @@ module _ (s : Settings) (ids : List ℕ) (circuits : Provisioning) (f : Fibres) 
     knows : Knows w.fibres
     knows = inl (whole s ids circuits f may past earlier changes w h).paired.honest.honest
 
-    -- so many rounds from there on
+    -- `k` rounds from there on
     after_rounds : (k : ℕ) → run k w ≡ after_stretches (earlier ++ stretch changes k ∷ []) from
     after_rounds k = ap (run k) h.is ∙ sym (after_last earlier (stretch changes k) from)
 
@@ -204,7 +204,7 @@ module _ (s : Settings) (ids : List ℕ) (circuits : Provisioning) (f : Fibres) 
           (ap (λ (v : World). v.fibres) ((known_unsettles adm w limit left knows x).1 ∙ after_rounds limit)));
     }
 
-    -- and one that a fault broke off
+    -- what happened in a settle step that a fault broke off
     broken_off : (later : List (List Change)) (end : Status) (left : Fibres) → end ≡ status.PlantFault → BreaksOff w limit left
         → GoesOn limit earlier (changes ∷ later) [] end left
     broken_off later end left is b =
@@ -219,7 +219,7 @@ module _ (s : Settings) (ids : List ℕ) (circuits : Provisioning) (f : Fibres) 
           sent = inr (is, inl (subst (λ v. IsBrokenOff v left) same b.off));
         }
 
-    -- one that ended, and what happened behind it
+    -- what happened in a settle step that ended, and after it
     settled : (later : List (List Change)) (mid : World) (number : ℕ) (reports : List Report) (end : Status) (left : Fibres)
         → (let last = stretch_to s ids circuits f may past earlier changes w h mid in
         IsLast (length ids) limit (rounds_in earlier) (mid.ring.rounds - 1)
@@ -330,7 +330,7 @@ none_last : (earlier : List Stretch) (last : Stretch) (later : List Stretch) (A 
 none_last [] last later A is = absurd (grind arith)
 none_last (s ∷ earlier) last later A is = absurd (grind arith)
 
--- where a fault ended the script and no fibres had been made no round is told of
+-- where a fault ended the script and no fibres had been made the course has no round
 pub none_ran : (w : World) (ring : Ring) (limit : ℕ) (steps : List Step) (reports : List Report) (end : Status) (left : Fibres)
     → reports ≡ [] → end ≡ status.PlantFault → HasNoFibres left → left.sent ≡ w.fibres.sent
     → HasCourse w ring limit steps reports end left

@@ -59,7 +59,7 @@ module _ (settle : HealthyStepsSettle) (deliver : HealthyStepsDeliver) (s : Sett
   knows : (m : ℕ) → Knows (run m from).fibres
   knows m = knows_after adm m from (inl (stay_honest.prepared s.rate (length ids) f may.honest).honest)
 
-  -- after so many rounds so many settle steps have ended
+  -- `before` settle steps have ended after m rounds
   abbrev Reached : ℕ → ℕ → Type 0
   Reached before m = ((before ≡ 0) × (m ≡ 0)) ⊎ ((1 ≤ before) × (m ≡ 128 * before + 1) × (129 ≤ limit))
 
@@ -96,7 +96,7 @@ module _ (settle : HealthyStepsSettle) (deliver : HealthyStepsDeliver) (s : Sett
       ap (λ w. settles_in w limit) (sym (steps_are.left before h.0)) ∙ steps_are.later limit before (omega (arith, h.2)) h.0 in
       absurd (grind arith)
 
-  -- the report after so many steps
+  -- the report of the settle step after the first `before`
   shows : (before : ℕ) (rest : List Report) (w : World) → w ≡ run (128 * (before + 1) + 1) from
       → AreHealthy (length ids) circuits.circuits (before + 1) rest
       → AreHealthy (length ids) circuits.circuits before (report_of (before + 1) w.ring ∷ rest)

@@ -1,4 +1,4 @@
--- Controllers that are held: for how many turns, and of which nodes.
+-- Controllers that are held: for how many turns, and at which nodes.
 use Rattle.std.proofs.Common.{◌≡◌, ℕ, zero, suc, ◌+◌, ◌-◌, ◌<◌, ◌≤◌, List, [], ◌∷◌, ◌++◌, length, ap, sym, ◌∙◌, subst, arith, inl, inr}
 use Rattle.std.proofs.Math.Nat.{le-max_left, le-max_right}
 use Rattle.std.proofs.lemmas.Bool.{cases_lt}
@@ -72,7 +72,7 @@ held_by_all most [] w long few = few
 held_by_all most (c ∷ cs) w long few =
     held_by_all most cs (changed c w) (longest_later most c cs long) (held_by_one most c cs w long few)
 
--- and each round takes one turn away
+-- each round takes one held turn away
 pub held_run : (most : ℕ) (w : World) → IsWhole w → AreHeldFor most w → (k : ℕ) → AreHeldFor (most - k) (run k w)
 unfolding any_run.run
 held_run most w whole few zero = subst (λ j. AreHeldFor j w) (let e : most ≡ most - zero = omega arith in e) few
@@ -80,7 +80,7 @@ held_run most w whole few (suc k) =
     subst (λ j. AreHeldFor j (run (suc k) w)) (let e : most - k - 1 ≡ most - suc k = omega arith in e)
     (held_after (run k w) (whole_run w k whole) (most - k) (held_run most w whole few k))
 
--- ---- of which nodes
+-- ---- at which nodes
 
 no_pass_aside : (x : NodeState) → IsAside x → IsNoPass x
 no_pass_aside (state.Idle i) a = tt
@@ -93,7 +93,7 @@ no_pass_aside (state.SwitchEast f) a = tt
 abbrev Follow : List ℕ → World → Type 0
 Follow rs w = AtEach (λ p n. n.state ≡ settled rs p) w.ring.nodes
 
--- and stays in it over a change
+-- the nodes stay in the states of these requests over a change
 follow_on : (rs : List ℕ) (c : Change) (w : World) → Follow rs w → Follow rs (changed c w)
 unfolding changed
 follow_on rs (change.Fibre p d condition) w all = all
@@ -132,7 +132,7 @@ not_none : (before : List Stretch) (prev : Stretch) → before ++ prev ∷ [] �
 not_none [] prev z = cc
 not_none (s ∷ before) prev z = cc
 
--- behind a stretch that ended with a quiet window
+-- after a stretch that ended with a quiet window
 module _ (law : StillRingsAreSettled) (s : Settings) (ids : List ℕ) (circuits : Provisioning) (f : Fibres) (may : MayStart s ids f)
     (before : List Stretch) (prev : Stretch) (happens : MayHappen (new_world s ids circuits f) (before ++ prev ∷ []))
     (ends : EndsWindow (course (all_changed prev.changes (after_stretches before (new_world s ids circuits f)))) prev.rounds) where

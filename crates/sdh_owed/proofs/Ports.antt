@@ -33,7 +33,7 @@ use Rattle.sdh_owed.specs.Reports.{port_told, ports_from, report_of}
 
 -- ---- clocks and what happened
 
--- what a clock sends that goes by its history is what the history sends
+-- a clock that goes by its history sends what the history says
 sends_told : (customer : Customer) (history : List Happening) → customer.offset ≤ 782
     → plainly customer (clock_by customer.offset history) ≡ sends_by customer history
 sends_told customer history small =

@@ -1,4 +1,4 @@
--- How soon each port has what it is owed, behind stretches that ended with quiet windows.
+-- How soon each port has what it is owed, after stretches that ended with quiet windows.
 use Rattle.std.proofs.Common.{◌≡◌, ◌⊎◌, ℕ, ◌+◌, ◌-◌, ◌*◌, ◌≤◌, false, List, [], ◌∷◌, ◌++◌, length, refl, ap, sym, ◌∙◌, subst, arith, inl, inr}
 use Rattle.std.specs.Prelude.{nat_le, ◌%◌}
 use Rattle.sdh_ringmap.specs.Places.{position_of}
@@ -86,7 +86,7 @@ pub free_all : (cs : List Change) (w : World) → HoldNone cs → NoneHeld w →
 free_all [] w none free = free
 free_all (c ∷ cs) w none free = free_all cs (changed c w) none.1 (free_changed c w none.0 free)
 
--- and changes that give no slips
+-- no slip waits after changes that give none
 none_more : (turn : Turn) (count : ℕ) (c : Clock) → count ≡ 0 → waiting c ≡ 0 → waiting (with_waiting turn count c) ≡ 0
 none_more turn count c none rests = omega (arith, waiting_waits turn count c, none, rests)
 
@@ -109,12 +109,12 @@ unslipped_all (c ∷ cs) w none all = unslipped_all cs (changed c w) none.1 (uns
 
 -- ---- stretches that ended with quiet windows
 
--- each has so many rounds that no held turn is left, and no slip
+-- each has enough rounds that no held turn is left, and no slip
 abbrev AllLong : List Stretch → Type 0
 AllLong [] = Unit {0}
 AllLong (s ∷ ss) = (100 ≤ s.rounds) × AllLong ss
 
--- one that begins and ends at a multiple of 128
+-- a stretch that begins and ends at a multiple of 128 has at least 100 rounds
 long_between : (a b : ℕ) → (a ≡ 0) ⊎ ((a - 1) % 128 ≡ 0) → 6 ≤ b → (a + b - 1) % 128 ≡ 0 → 100 ≤ b
 long_between a b (inl none) some ends = omega (arith, none, some, ends)
 long_between a b (inr begins) some ends = omega (arith, begins, some, ends)
@@ -138,7 +138,7 @@ long_front (s ∷ r ∷ earlier) last more w two begins quiet = (
   long_front (r ∷ earlier) last more (after_stretch s w) (omega (arith, size s w two begins quiet.0, two)) (inr quiet.0.place) quiet.1,
 )
 
--- behind them no controller is held and no slip waits
+-- after them no controller is held and no slip waits
 ready_after : (ss : List Stretch) (w : World) → IsWhole w → MayHappen w ss → AllLong ss → IsReady w → IsReady (after_stretches ss w)
 ready_after [] w whole may long ready = ready
 ready_after (s ∷ ss) w whole may long ready =
@@ -164,7 +164,7 @@ module _ (s : Settings) (ids : List ℕ) (circuits : Provisioning) (f : Fibres) 
       (happens_front earlier (last ∷ more) from happens)
       (long_front earlier last more from may.ids_ok.enough (inl refl) quiet) (ready_new s ids circuits f)
 
-  -- ---- k rounds behind the changes of a stretch
+  -- ---- k rounds after the changes of a stretch
 
   module _ (form : HasCircuits (layout_in (new_ring s ids circuits))) (earlier : List Stretch) (last : Stretch) (k : ℕ)
       (happens : MayHappen from (earlier ++ stretch last.changes k ∷ [])) (ready : IsReady (after_stretches earlier from)) where
@@ -217,7 +217,7 @@ module _ (s : Settings) (ids : List ℕ) (circuits : Provisioning) (f : Fibres) 
     whole_begun : 1 ≤ k → IsWhole begun
     whole_begun some = whole_v s ids circuits f earlier (stretch last.changes k) t may happens form (many some)
 
-    -- what the ring comes to by itself is told by the history
+    -- what the ring comes to by itself follows from the history
     by_history : 1 ≤ k → 3 * length ids ≤ k → IsRestored (clocks_from begun) (run k begun) (requests_of (run k begun)) → Restored
     by_history some long restored =
         restored_by_history s ids circuits f earlier (stretch last.changes k) t may happens form (many some)

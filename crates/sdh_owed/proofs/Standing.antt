@@ -93,11 +93,11 @@ waiting_waits Down count c = omega arith
 true_false : true ≡ false → ⊥
 true_false e = cc
 
--- at each port at most so many wait
+-- at each port at most as many slips wait as `slips` gives
 abbrev pub WaitAtMost : World → (PortId → ℕ) → Type 0
 WaitAtMost w slips = (port : PortId) → waiting_at w.ring port ≤ slips port
 
--- slips that wait at a clock and the count of those that a port was given, behind slips of some port
+-- slips that wait at a clock, and the count of those that a port was given, after `count` more at some port
 slips_grow : (port other : PortId) (turn : Turn) (count : ℕ) (slips : PortId → ℕ) (c : Clock) → waiting c ≤ slips port
     → waiting (if same_port port other then with_waiting turn count c else c) ≤ more_slips other count slips port
 slips_grow port other turn count slips c few = by (same_port port other)
@@ -151,7 +151,7 @@ module _ (s : Settings) (ids : List ℕ) (circuits : Provisioning) (f : Fibres) 
     pub happened : MayHappen from earlier
     pub since : AreChangesOf (after_stretches earlier from) changes
     pub begins : Begins w.ring
-    -- at each port at most so many slips wait as it was given since the last settle step
+    -- at each port at most as many slips wait as it was given since the last settle step
     pub few : WaitAtMost w past.slips
 
   module _ (past : Past) (earlier : List Stretch) (changes : List Change) (w : World) (h : Stands past earlier changes w) where
@@ -200,7 +200,7 @@ module _ (s : Settings) (ids : List ℕ) (circuits : Provisioning) (f : Fibres) 
     abbrev pub stretch_to : World → Stretch
     stretch_to mid = record { changes = changes; rounds = mid.ring.rounds - 1 + 1 - rounds_in earlier }
 
-    -- it ended, and so the script's history went on
+    -- the settle step ended, and the script's history went on
     pub record Ended (limit : ℕ) (mid : World) : Type 0 where
       pub last : IsLast (length ids) limit (rounds_in earlier) (mid.ring.rounds - 1)
       pub happens : MayHappen from (earlier ++ stretch_to mid ∷ [])

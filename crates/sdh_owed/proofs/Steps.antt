@@ -64,7 +64,7 @@ less_room (step.Slip port turn count) a b less h = omega (arith, less.slips port
 less_room (step.Moment m) a b less h = h
 less_room step.Settle a b less h = h
 
--- there the same steps can be done
+-- steps that may be done after a past may be done after one that is less
 steps_less : (rate : Rate) (n circuits : ℕ) (steps : List Step) (a b : Past) → IsLess a b → AreSteps rate n circuits b steps
     → AreSteps rate n circuits a steps
 steps_less rate n circuits [] a b less each = tt
@@ -79,14 +79,14 @@ steps_less rate n circuits (s ∷ later) a b less each =
       steps_less rate n circuits later (after a s) (after b s) behind each.1,
     )
 
--- those of a plan can be done in a new ring
+-- the steps of a plan can be done in a new ring
 fits_new : (s : Settings) (ids : List ℕ) (circuits : Provisioning) (rate : Rate) (n k : ℕ) (steps : List Step)
     → AreSteps rate n k new_past steps → AreSteps rate n k (past_of 0 (new_ring s ids circuits)) steps
 fits_new s ids circuits rate n k steps fit =
     steps_less rate n k steps (past_of 0 (new_ring s ids circuits)) new_past
     (record { moment = refl; settles = le_refl 0; slips = λ port. omega (arith, waits_new s ids circuits port) }) fit
 
--- they may be run over the ring that is made of it, and fibres that were just prepared for it
+-- the steps of a plan may be run over the ring that is made of it, and fibres that were just prepared for it
 pub may_new : (each : ℕ) (plan : Planned) (r : HeldRing) (rate : Rate) (n : ℕ) (steps : List Step) (f : Fibres) → IsPlanned plan
     → r ≡ new_ring_of plan → rate ≡ plan.settings.rate → n ≡ length plan.nodes → steps ≡ plan.steps
     → MayRun each 0 steps r (prepared rate n f)
@@ -114,7 +114,7 @@ settled_held w left limit s =
 pub settled_whole : (w left : World) (limit : ℕ) → Settles w limit left → w.ring.broken ≡ false → left.ring.broken ≡ false
 settled_whole w left limit s whole = ap (λ (r : HeldRing). r.broken) (settled_held w left limit s) ∙ whole
 
--- a ring that a settle step and the rounds behind it left, so many together, over fibres that are prepared for it
+-- a ring that a settle step and the rounds after it left, k rounds together, over fibres that are prepared for it
 pub next_by : (each before k : ℕ) (w left : World) → left.ring ≡ record w.ring { nodes = left.ring.nodes; rounds = w.ring.rounds + k }
     → k ≤ each → BeginsAtAMultiple left.ring → ((port : PortId) → waiting_at left.ring port ≡ 0)
     → IsPrepared w.ring.settings.rate (length w.ring.ids) left.fibres → (later : List Step)
@@ -147,7 +147,7 @@ next_by each before k w left held most begins none prepared later h =
 
 -- ---- any other step
 
--- it can be done by itself, as in a script's beginning
+-- a step can be done by itself, as in a script's beginning
 pub alone : (each before : ℕ) (s : Step) (later : List Step) (r : HeldRing) (f : Fibres) → MayRun each before (s ∷ later) r f
     → AreSteps r.settings.rate (length r.ids) (length r.circuits.circuits) (past_of 0 r) (s ∷ [])
 alone each before s later r f may =
@@ -242,7 +242,7 @@ pub changed_next : (each before : ℕ) (s : Step) (w left : World) → (s ≡ st
 changed_next each before s w left other is later h =
     subst (λ (v : World). MayRun each before later v.ring v.fibres) (sym is) (changed_may each before s later w other h)
 
--- it leaves the nodes' identifiers and the circuits as they were
+-- a step leaves the nodes' identifiers and the circuits as they were
 circuits_step : (s : Step) (w : World) → (after_step s w).ring.circuits ≡ w.ring.circuits
 unfolding changed
 circuits_step (step.Fibre e) w = refl

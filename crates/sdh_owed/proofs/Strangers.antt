@@ -49,9 +49,9 @@ use Rattle.sdh_owed.specs.Strangers as since
 use Rattle.sdh_owed.proofs.Soon.{IsReady}
 use Rattle.sdh_owed.proofs.Holding.{AreHeldFor, held_for_none, held_by_all, held_run, held_beside_passing}
 
--- ---- clocks of which nothing is known before a round
+-- ---- clocks that aren't known before a round
 
--- those from this round on, and before it the one that it begins with
+-- the clocks from this round on, and before it the clock with which it begins
 clocks_since : ℕ → (PortId → ℕ → Clock) → PortId → ℕ → Clock
 clocks_since first clocks port r = if nat_lt r first then clocks port first else clocks port r
 
@@ -69,13 +69,13 @@ clock_from first clocks port r high =
     let b : nat_lt r first ≡ false = grind (arith, nat_tests) in
     ap (λ (x : Bool). if x then clocks port first else clocks port r) b
 
--- they are a ring's from then on
+-- these clocks are a ring's from then on
 tells_since : (first : ℕ) (clocks : PortId → ℕ → Clock) (r : HeldRing) → first ≤ r.rounds → AreClocksOf clocks r
     → AreClocksOf (clocks_since first clocks) r
 tells_since first clocks r late told i c get e =
     told i c get e ∙ sym (clock_from first clocks (port_id i e) r.rounds late)
 
--- so what has a clock of theirs was put in since
+-- what was put in by one of these clocks was put in since then
 module _ (circuits : List Provisioned) (clocks : PortId → ℕ → Clock) (first t : ℕ) (late : (first ≡ 0) ⊎ (first < t)) where
   put_at : (port : PortId) (a : Au) (c : Provisioned) (r : ℕ) → slice_get circuits port.circuit ≡ Some c → r < t → (first ≡ 0) ⊎ (first < t)
       → HasBytesOf (put_by (customer_at c port.end) (clocks_since first clocks port r)) a → HoldsSince circuits clocks first t port a
@@ -222,7 +222,7 @@ module _ (s : Settings) (ids : List ℕ) (circuits : Provisioning) (f : Fibres) 
     abbrev begun_now : World
     begun_now = all_changed last.changes (after_stretches earlier from)
 
-    -- the world so many rounds before
+    -- the world `many` rounds before
     abbrev past : World
     past = run (t - many) begun_now
 
@@ -282,7 +282,7 @@ module _ (s : Settings) (ids : List ℕ) (circuits : Provisioning) (f : Fibres) 
         (none_since oldest (clocks_by circuits.circuits all_now) (round (run t begun_now)).ring after
         (none_meets known_now (run t begun_now) here (ready_aside known_now (run t begun_now) here vouched_now)))
 
-  -- ---- a stretch behind a quiet window
+  -- ---- a stretch after a quiet window
 
   module _ (law : StillRingsAreSettled) (before : List Stretch) (prev next : Stretch)
       (happens : MayHappen from ((before ++ prev ∷ []) ++ next ∷ [])) (quiet : EndQuietly from ((before ++ prev ∷ []) ++ next ∷ []))
@@ -362,7 +362,7 @@ module _ (s : Settings) (ids : List ℕ) (circuits : Provisioning) (f : Fibres) 
     shields_next =
         subst (AllShielded known_next) until_now (window_shields known_next law opened form_then whole_then (3 * n) window_then told_then)
 
-    -- the rounds behind it
+    -- the rounds after it
     abbrev start : World
     start = all_changed next.changes closed
 

@@ -1,4 +1,4 @@
--- What a course says of the frames that were sent, over a plant that tells them.
+-- What a course says of the frames that were sent, over a plant that reports them.
 use Rattle.std.specs.Prelude.{ℕ, ◌≡◌, ◌+◌, ◌*◌, Some, List, [], ◌∷◌, length}
 use Rattle.sdh_circuits.specs.Provisioning.{Provisioning}
 use Rattle.sdh_plant.specs.Fibres.{Fibres}
@@ -10,13 +10,13 @@ use Rattle.sdh_report.specs.Reports.{Report}
 use Rattle.sdh_promise.specs.Owed.{Ring}
 use Rattle.sdh_owed.specs.Course.{HasCourse}
 
--- how many rounds had run with the last of these reports, where so many had before them
+-- the number of rounds that had run with the last of these reports, where `ran` had run before them
 abbrev pub ran_by : ℕ → List Report → ℕ
 ran_by ran [] = ran
 ran_by ran (r ∷ reports) = ran_by (r.round + 1) reports
 
--- A course pins what ran by what the reports tell: where the script came to its end 2n frames were sent in each round up to the last
--- report's, and no more. So whoever runs fewer rounds than it reports, or more, has no course.
+-- The reports pin the rounds of a course: where the script came to its end 2n frames were sent in each round up to the
+-- last report's, and no more. So whoever runs fewer rounds than it reports, or more, has no course.
 abbrev pub CoursesCountFrames : Type 0
 CoursesCountFrames =
     (s : Settings) (ids : List ℕ) (circuits : Provisioning) (f : Fibres) (ring : Ring) (limit : ℕ) (steps : List Step)

@@ -30,7 +30,7 @@ use Rattle.sdh_owed.specs.Strangers.{NoneEverMeetsOldBytes}
 
 -- ---- what happened
 
--- these changes, and so many rounds
+-- a stretch with these changes and `rounds` rounds
 abbrev pub stretch : List Change → ℕ → Stretch
 stretch changes rounds = record { changes = changes; rounds = rounds }
 
@@ -40,17 +40,19 @@ HaveCondition [] = ⊥
 HaveCondition (Fibre p d condition ∷ later) = Unit {0}
 HaveCondition (c ∷ later) = HaveCondition later
 
--- What ran of a settle step that has no report, after these changes, where so many rounds had run before. Where it is unsettled all the
--- rounds of the limit; where a fault ended the script fewer; and nothing where the plant made no fibres, or may have refused a condition.
+-- What ran of a settle step that has no report, after these changes, where `ran` rounds had run before. An unsettled
+-- step ran all the rounds of the limit. A step in which a fault ended the script ran fewer. Nothing ran where the plant
+-- made no fibres, or may have refused a condition.
 abbrev pub IsLeftOff : ℕ → ℕ → List Change → Status → List Stretch → Type 0
 IsLeftOff limit ran changes (status.Unsettled k) ss = ss ≡ stretch changes limit ∷ []
 IsLeftOff limit ran changes status.PlantFault ss =
     ((ss ≡ []) × ((ran ≡ 0) ⊎ HaveCondition changes)) ⊎ ((rounds : ℕ) × (rounds < limit) × (ss ≡ stretch changes rounds ∷ []))
 IsLeftOff limit ran changes end ss = ⊥
 
--- These stretches are what happened in a script over a ring of n that gave these reports and ended so, where so many rounds had run before and
--- these are the changes before each settle step: with each report its changes, and the rounds from there to its own, which may be
--- the last one of a step; behind them what ran of the step that has none. There is no report but of these steps.
+-- These stretches are what happened in a script over a ring of n that gave these reports and ended so, where `ran`
+-- rounds had run before and these are the changes before each settle step. With each report come its changes, and the
+-- rounds from there to its own, which may be the last one of a step. After them comes what ran of the step that has
+-- none. There is no report but of these steps.
 abbrev pub WentThrough : ℕ → ℕ → ℕ → List (List Change) → List Report → Status → List Stretch → Type 0
 WentThrough n limit ran [] reports end ss = (reports ≡ []) × (ss ≡ [])
 WentThrough n limit ran (changes ∷ later) [] end ss = IsLeftOff limit ran changes end ss
@@ -58,13 +60,13 @@ WentThrough n limit ran (changes ∷ later) (r ∷ reports) end ss =
     (rest : List Stretch) × IsLast n limit ran r.round × (ss ≡ stretch changes (r.round + 1 - ran) ∷ rest)
     × WentThrough n limit (r.round + 1) later reports end rest
 
--- the same frames are under way on both fibres, and the same were sent in all
+-- both fibres carry equal frames, and equal frames were sent on both in all
 pub record AreSentAlike (f g : Fibres) : Type 0 where
   pub carried : f.carried ≡ g.carried
   pub sent : f.sent ≡ g.sent
 
--- All that was sent, and all that is under way, is what the rounds of these stretches sent; or a fault broke the round behind them off, or
--- the plant made no fibres, so that none ran.
+-- All that was sent, and all that is under way, is what the rounds of these stretches sent; or a fault broke the round
+-- after them off, or the plant made no fibres, so that none ran.
 abbrev pub HasSent : World → List Stretch → Status → Fibres → Type 0
 HasSent w ss end left =
     AreSentAlike left (after_stretches ss w).fibres ⊎ ((end ≡ status.PlantFault)
@@ -72,9 +74,10 @@ HasSent w ss end left =
 
 -- ---- whose bytes come
 
--- In no round of a settle step a port meets a stranger, unless the changes of that very step hold a controller of a node that passes traffic
--- through: it delivers AIS, or ones, or what its circuit's other port put into its AU-4 in one round before. What was held before earlier
--- steps doesn't count. Which nodes pass traffic through is told by the requests of the round before, and in a new ring none does.
+-- In no round of a settle step a port meets a stranger, unless the changes of that very step hold a controller of a
+-- node that passes traffic through: it delivers AIS, or ones, or what its circuit's other port put into its AU-4 in one
+-- round before. What was held before earlier steps doesn't count. Which nodes pass traffic through follows from the
+-- requests of the round before, and in a new ring none does.
 abbrev pub NoneEverMeetsAStranger : World → Ring → List Stretch → Type 0
 NoneEverMeetsAStranger w ring ss =
     (earlier later : List Stretch) (last : Stretch) → ss ≡ earlier ++ last ∷ later
@@ -101,8 +104,8 @@ abbrev pub SlipNone : List Change → Type 0
 SlipNone [] = Unit {0}
 SlipNone (c ∷ cs) = SlipsNone c × SlipNone cs
 
--- So many rounds behind these changes are enough in a ring of n: 12n + 2 where they hold no controller and give no port slips; where they
--- give some, 12n + 2 and 8n + 61; and whatever they are 12n + 102.
+-- `k` rounds after these changes are enough in a ring of n: 12n + 2 where they hold no controller and give no port
+-- slips; the larger of 12n + 2 and 8n + 61 where they hold none and give some; and whatever they are 12n + 102.
 abbrev pub IsLate : ℕ → List Change → ℕ → Type 0
 IsLate n changes k = (HoldNone changes × (12 * n + 2 ≤ k) × (SlipNone changes ⊎ (8 * n + 61 ≤ k))) ⊎ (12 * n + 102 ≤ k)
 
@@ -111,8 +114,8 @@ abbrev pub ChangeNothing : List Stretch → Type 0
 ChangeNothing [] = Unit {0}
 ChangeNothing (s ∷ ss) = (s.changes ≡ []) × ChangeNothing ss
 
--- From so many rounds behind the last changes on each port has what it is owed, in each round of the settle step and of those behind it that
--- change nothing, and whether they are settled or not.
+-- From round `k` after the last changes on each port has what it is owed: in each round of the settle step, and of
+-- those after it that change nothing, whether they are settled or not.
 abbrev pub AllIsOwedSoon : World → Ring → List Stretch → Type 0
 AllIsOwedSoon w ring ss =
     (earlier same later : List Stretch) (last : Stretch) → ss ≡ earlier ++ last ∷ (same ++ later) → ChangeNothing same → (k : ℕ)
@@ -121,8 +124,8 @@ AllIsOwedSoon w ring ss =
 
 -- ---- the course
 
--- what is told of each round of a script from a new ring over new honest fibres, which gave these reports, ended so, and left these
--- fibres
+-- what is so of each round of a script from a new ring over new honest fibres, which gave these reports, ended so, and
+-- left these fibres
 pub record HasCourse (w : World) (ring : Ring) (limit : ℕ) (steps : List Step) (reports : List Report) (end : Status)
     (left : Fibres) : Type 0 where
   pub stretches : List Stretch

@@ -34,7 +34,7 @@ ReportsAreOwed = (s : Settings) (ids : List ℕ) (circuits : Provisioning) (f : 
     → (reports : List Report) (end : Status) (left : World) → Runs limit 0 steps (new_world s ids circuits f) reports end left
     → AreOwed (ring_by s (length ids) circuits.circuits) limit [] 0 (scenes [] steps) (map ports_of reports) end)
 
--- from there no settle step with so large a limit is unsettled
+-- from a new ring over new honest fibres no settle step with a limit that is always enough is unsettled
 abbrev pub ScriptsSettle : Type 0
 ScriptsSettle = (s : Settings) (ids : List ℕ) (circuits : Provisioning) (f : Fibres) → (let l = layout_in (new_ring s ids circuits) in
     MayStart s ids f → HasCircuits l → (limit : ℕ) (past : Past) (steps : List Step)
@@ -42,7 +42,7 @@ ScriptsSettle = (s : Settings) (ids : List ℕ) (circuits : Provisioning) (f : F
     → (reports : List Report) (end : Status) (left : World) → Runs limit 0 steps (new_world s ids circuits f) reports end left
     → IsSettled end)
 
--- and a script of settle steps alone shows a healthy ring
+-- a script of settle steps alone, from a new ring over new honest fibres, shows a healthy ring
 abbrev pub HealthyScripts : Type 0
 HealthyScripts = (s : Settings) (ids : List ℕ) (circuits : Provisioning) (f : Fibres) → (let l = layout_in (new_ring s ids circuits) in
     MayStart s ids f → HasCircuits l → (limit : ℕ) (steps : List Step) → AllSettle steps → 1 ≤ length steps

@@ -1,4 +1,4 @@
--- A ring of three of which the promise of every round is worked out: after slips, a cut span and a held controller.
+-- A ring of three for which the promise of every round is worked out: after slips, a cut span and a held controller.
 use Rattle.std.specs.Prelude.{ℕ, ◌+◌, ◌-◌, ◌<◌, ◌≤◌, List, [], ◌∷◌, ◌++◌, length}
 use Rattle.sdh_ringmap.specs.declared.Side.TheVariants.{West, East}
 use Rattle.sdh_terms.specs.declared.Condition.TheVariants.{Clear, Cut}
@@ -35,13 +35,14 @@ ring_of_three = ring_by settings (length three) one_circuit.circuits
 abbrev pub three_over : Fibres → World
 three_over f = new_world settings three one_circuit f
 
--- these may happen to it before its first round, so many rounds are enough behind them, and then each port shows what it is owed
+-- these changes may happen to the ring before its first round, `k` rounds are enough after them, and then each port
+-- shows what it is owed
 pub record IsOwedBehind (f : Fibres) (changes : List Change) (k : ℕ) : Type 0 where
   pub happens : MayHappen (three_over f) (stretch changes k ∷ [])
   pub late : IsLate (length three) changes k
   pub shows : ShowsWhatIsOwed (three_over f) ring_of_three (stretch changes k ∷ [])
 
--- 8n + 61 rounds behind the slips, 12n + 2 behind the cut, and 12n + 102 behind the hold
+-- 8n + 61 rounds after the slips, 12n + 2 after the cut, and 12n + 102 after the hold
 pub record ThreeAreOwed (f : Fibres) : Type 0 where
   pub slips : IsOwedBehind f slipping 85
   pub cut : IsOwedBehind f cutting 38
@@ -60,8 +61,9 @@ cutting_held = Slip (record { circuit = 0; end = A }) Up 3 ∷ Fibre 0 East Cut 
 abbrev pub mending_held : List Change
 mending_held = Hold 0 20 ∷ Fibre 0 East Clear ∷ Fibre 1 West Clear ∷ []
 
--- These stretches may happen to it, each but the last ends with a quiet window, the last one's changes hold no node that passes traffic
--- through, and by these no bytes of its round t are older than `age`. So in this round no port meets a stranger, nor older bytes.
+-- These stretches may happen to the ring, and each but the last ends with a quiet window. The last one's changes hold
+-- no node that passes traffic through, and by these no bytes of its round t are older than `age`. So in this round no
+-- port meets a stranger, nor older bytes.
 pub record GetsItsOwn (f : Fibres) (earlier : List Stretch) (last : Stretch) (t age : ℕ) : Type 0 where
   pub happens : MayHappen (three_over f) (earlier ++ last ∷ [])
   pub quiet : EndQuietly (three_over f) (earlier ++ last ∷ [])
@@ -73,8 +75,8 @@ pub record GetsItsOwn (f : Fibres) (earlier : List Stretch) (last : Stretch) (t 
       NoneMeetsAStrangerSince (rounds_in earlier + t - age) (clocks_by ring_of_three.circuits now)
       (round (world_in now (three_over f) (rounds_in earlier + t))).ring)
 
--- In 64 rounds after the span is cut in a new ring, and in as many after it is mended behind a quiet window: 41 rounds are n (n + 1), 3n and
--- the hold, and from round 32 on 12 are enough.
+-- In 64 rounds after the span is cut in a new ring, and in 64 after it is mended after a quiet window: 41 rounds are n
+-- (n + 1), 3n and the hold, and from round 32 on 12 are enough.
 pub record ThreeGetTheirOwn (f : Fibres) : Type 0 where
   pub cut : (t : ℕ) → t < 64 → GetsItsOwn f [] (stretch cutting_held 64) t 41
   pub cut_later : (t : ℕ) → 32 ≤ t → t < 64 → GetsItsOwn f [] (stretch cutting_held 64) t 12

@@ -1,4 +1,4 @@
--- The ring of a plan, over fibres that aren't there yet.
+-- The ring of a plan whose fibres aren't made yet.
 use Rattle.sdh_plant.specs.Fibres.{Fibres}
 use Rattle.sdh_world.specs.Held.{HeldRing, new_ring}
 use Rattle.sdh_world.specs.Rounds.{World}

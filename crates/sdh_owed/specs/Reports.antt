@@ -1,4 +1,4 @@
--- What the report of a settle step tells of the ring that it left.
+-- What the report of a settle step shows of the ring that it left.
 use Rattle.std.specs.Prelude.{ℕ, ◌-◌, List, length, get_or}
 use Rattle.sdh_basics.specs.Cells.{cells}
 use Rattle.sdh_circuits.specs.declared.End.{End}
@@ -32,7 +32,7 @@ bytes_told k = record { first = first_byte k; second = second_byte k }
 abbrev pub node_told : ℕ → Node → NodeLine
 node_told id n = record { id = id; state = state_word n.state; west = bytes_told n.west_out.word; east = bytes_told n.east_out.word }
 
--- of the node at a position
+-- the line of the node at a position
 abbrev pub told_at : HeldRing → ℕ → NodeLine
 told_at r p = node_told (get_or r.ids p 0) (node_at r.nodes p)
 

@@ -10,8 +10,9 @@ use Rattle.sdh_plan.specs.Scripts.{AreSteps}
 abbrev pub BeginsAtAMultiple : HeldRing → Type 0
 BeginsAtAMultiple r = (r.rounds ≡ 0) ⊎ ((r.rounds - 1) % 128 ≡ 0)
 
--- These steps may be run over a ring and fibres after `before` settle steps that have ended: the ring isn't broken, the fibres are
--- prepared for it, the steps are those of a plan, and no settle step had more than `each` rounds with those behind it.
+-- These steps may be run over a ring and fibres after `before` settle steps that have ended: the ring isn't broken, the
+-- fibres are prepared for it, the steps are those of a plan, and no settle step had more than `each` rounds with those
+-- after it.
 pub record MayRun (each before : ℕ) (steps : List Step) (r : HeldRing) (f : Fibres) : Type 0 where
   pub whole : r.broken ≡ false
   pub prepared : IsPrepared r.settings.rate (length r.ids) f

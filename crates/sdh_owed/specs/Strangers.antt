@@ -1,4 +1,4 @@
--- Whose bytes a port delivers, and of which rounds.
+-- Whose bytes a port delivers, and from which rounds.
 use Rattle.std.specs.Prelude.{ℕ, ◌≡◌, ◌⊎◌, ◌+◌, ◌-◌, ◌*◌, ◌<◌, ◌≤◌, max, Some, List, [], ◌∷◌, ◌++◌, slice_get}
 use Rattle.sdh_frame.specs.Aus.{Au, ones}
 use Rattle.sdh_circuits.specs.Provisioned.{Provisioned, customer_at}
@@ -26,15 +26,15 @@ pub data HoldsSince (circuits : List Provisioned) (clocks : PortId → ℕ → C
   customers : (c : Provisioned) (r : ℕ) → slice_get circuits port.circuit ≡ Some c → first ≤ r → r < t
       → HasBytesOf (put_by (customer_at c port.end) (clocks port r)) a → HoldsSince circuits clocks first t port a
 
--- In round t a port delivers AIS, or a chunk, with whatever pointer value, taken from an AU-4 that holds ones or what its circuit's
--- other port put into its AU-4 in one of the rounds from `first` on.
+-- In round t a port delivers AIS, or a chunk with any pointer value. The chunk is taken from an AU-4 that holds ones,
+-- or what the other port of the circuit put into its AU-4 in one of the rounds from `first` on.
 pub data MeetsNoStrangerSince (circuits : List Provisioned) (clocks : PortId → ℕ → Clock) (first t : ℕ) (port : PortId)
     (o : Outlet) : Type 0 where
   ais_comes : o ≡ silent → MeetsNoStrangerSince circuits clocks first t port o
   bytes_come : (value : ℕ) (form : ChunkForm) (a : Au) → o ≡ delivering value (taken form a.payload (h3_of a.pointers))
       → HoldsSince circuits clocks first t (other_port port) a → MeetsNoStrangerSince circuits clocks first t port o
 
--- so does each port of a ring in the last round
+-- no port of a ring met a stranger in the last round, by what was sent from round `first` on
 abbrev pub NoneMeetsAStrangerSince : ℕ → (PortId → ℕ → Clock) → HeldRing → Type 0
 NoneMeetsAStrangerSince first clocks r = (index : ℕ) (c : Provisioned) → slice_get r.circuits.circuits index ≡ Some c → (e : End)
     → MeetsNoStrangerSince r.circuits.circuits clocks first (r.rounds - 1) (port_id index e) (outlet_at r (port_id index e))

@@ -1,8 +1,8 @@
-//! A script over a ring and its fibres, over definitions alone: `specs/Reports.antt` says what a report tells of a ring,
-//! `specs/Scripts.antt` what comes of a script, `specs/Healthy.antt` what a script of settle steps alone comes to,
-//! `specs/Course.antt` through which stretches of rounds it went and what holds in them, `specs/Counting.antt` what that
-//! says of the frames sent, `specs/Occurring.antt` has a ring of which it is worked out, and `specs/Laws.antt` the laws
-//! of reports. Each function here has a law as its contract and no work to do.
+//! A script over a ring and its fibres, over definitions alone. `specs/Reports.antt` says what a report shows of a
+//! ring. `specs/Scripts.antt` says what comes of a script, and `specs/Healthy.antt` what comes of one of settle steps
+//! alone. `specs/Course.antt` says through which stretches of rounds a script went and what holds in them, and
+//! `specs/Counting.antt` what that says of the frames sent. `specs/Occurring.antt` works it out for one ring, and
+//! `specs/Laws.antt` has the laws of reports. Each function here has a law as its contract and no work to do.
 #![tactic(auto)]
 
 ghost use Rattle.sdh_owed.specs.Laws.{ReportsAreOwed, ScriptsSettle, HealthyScripts};
@@ -45,7 +45,7 @@ pub fn courses_are_told()
     sdh_laws::restoring::unslipped_rings_are_restored_soon();
 }
 
-/// Over a plant that tells its frames a script's reports tell how many were sent.
+/// Over a plant that reports its frames, a script's reports say how many were sent.
 pub fn courses_count_frames()
     ensures { CoursesCountFrames }
 {}

@@ -1,4 +1,4 @@
--- The bytes of a piece behind its whole rows of 48.
+-- The bytes of a piece after its whole rows of 48.
 use Rattle.std.proofs.Common.{◌≡◌, ℕ, ◌+◌, ◌*◌, ◌-◌, ◌/◌, ◌%◌, ◌^◌, ◌<◌, ◌≤◌, Bool, true, false, List, [], ◌∷◌, ◌++◌, length, get_or, refl}
 use Rattle.std.proofs.Common.{ap, sym, ◌∙◌, arith, bit_xor, inl, inr}
 use Rattle.std.specs.Prelude.{if◌then◌else◌}
@@ -35,7 +35,7 @@ in-thirds all a b c whole rows first second third ia ib ic j h =
 single : (x : ℕ) → x < 2 ^ 8 → bip8 (x ∷ []) ≡ x
 single x h = bip8-push [] x h ∙ ap (λ z. bit_xor z x) bip8-nil ∙ xor_zero_l x
 
--- the lanes of whole rows and of what is behind them
+-- the lanes of whole rows and of the bytes after them
 lanes-behind : (s whole rest mid out : List ℕ) (rows : ℕ) → s ≡ whole ++ rest → length whole ≡ 48 * rows → length rest ≤ 48
     → ((k : ℕ) → get_or rest k 0 < 2 ^ 8)
     → ((j : ℕ) → j < 48 → get_or mid j 0 ≡ bip8 (every j 48 rows whole))
@@ -56,7 +56,7 @@ lanes-behind s whole rest mid out rows cut long few small rows_are front back j 
           ∙ xor_zero_r (bip8 (every j 48 rows whole)))
     ]
 
--- the sequence over whole rows and over what is behind them
+-- the sequence over whole rows and over the bytes after them
 pub key-behind : (old front back whole rest : List ℕ) (at rows : ℕ) → old ≡ front ++ back → length front ≡ 48 * rows
     → length whole ≡ length front
     → ((i : ℕ) → i < 48 * rows → get_or whole i 0 ≡ bit_xor (get_or front i 0) (scrambling_byte (at + i)))

@@ -89,7 +89,7 @@ two-parts p first old head rest which room len each later k h =
           ∙ ap (bit_xor (get_or old k 0)) (sym (byte-repeats (p / 1016 + 1) j) ∙ ap scrambling_byte e))
     ]
 
--- a piece behind the clear bytes to which the sequence was added
+-- a piece after the clear bytes to which the sequence was added
 pub passed-piece : (clear off : ℕ) (old new : List ℕ) → clear ≤ off → length new ≡ length old
     → ((i : ℕ) → i < length old → get_or new i 0 ≡ bit_xor (get_or old i 0) (scrambling_byte (off - clear + i)))
     → new ≡ scrambled_from clear off old

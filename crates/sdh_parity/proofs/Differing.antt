@@ -100,7 +100,7 @@ pub violations_of-same : (xs : List ℕ) → violations_of xs xs ≡ 0
 violations_of-same [] = refl
 violations_of-same (x ∷ xs) = ap (λ d. d + violations_of xs xs) (differing_bits-same x) ∙ ap (λ v. 0 + v) (violations_of-same xs)
 
--- one byte at the end
+-- violations with one byte more at the end
 pub violations_of-push : (xs ys : List ℕ) (x y : ℕ) → length xs ≡ length ys
     → violations_of (xs ++ x ∷ []) (ys ++ y ∷ []) ≡ violations_of xs ys + differing_bits x y
 violations_of-push [] [] x y e = omega arith
@@ -108,7 +108,7 @@ violations_of-push [] (b ∷ ys) x y e = absurd (omega arith)
 violations_of-push (a ∷ xs) [] x y e = absurd (omega arith)
 violations_of-push (a ∷ xs) (b ∷ ys) x y e = let ih = violations_of-push xs ys x y (omega arith) in omega arith
 
--- one byte more
+-- violations with the next byte more
 pub violations_of-more : (xs ys : List ℕ) (i : ℕ) → length xs ≡ length ys → i < length xs
     → violations_of (take (i + 1) xs) (take (i + 1) ys) ≡ violations_of (take i xs) (take i ys) + differing_bits (get_or xs i 0)
     (get_or ys i 0)

@@ -45,7 +45,7 @@ one-added f g x i (suc c) h here other sf sg =
     ]
     ∙ ap (bit_xor x) (sym (one-more g c (sg c)))
 
--- lanes modulo w = m c, of which each lane modulo m has c
+-- lanes modulo w = m c: each lane modulo m consists of c of them
 module _ (m c w : ℕ) (divides : (k : ℕ) → k % w % m ≡ k % m) (few : (k : ℕ) → k % w / m < c)
     (whole : (k : ℕ) → k % w ≡ k % m + m * (k % w / m)) (apart : (a b : ℕ) → m * a ≡ m * b → a ≡ b)
     (behind : (j i : ℕ) → j < m → (j + m * i) % m ≡ j) where

@@ -177,7 +177,7 @@ module _ (old bytes b1 b2 b3 : List ℕ) (at r k : ℕ) (key : k ≡ (at + 48 * 
       → v ≡ bip8 (every m 48 (r + 1) b3)
   sum-after = opened-sum old bytes b1 b2 b3 at r k key done below1 from1 below2 from2 below3 from3 small
 
-  -- the same of the clear bytes
+  -- a clear byte of the second vector of a row
   pub clear1 : (after : Bool) (j : ℕ) → j < 16 → get_or (if after then b1 else bytes) (48 * r + j) 0
       ≡ get_or (if after then b3 else old) (j + r * 48) 0
   clear1 true j h = sym (is1 j h) ∙ ap (λ i. get_or b3 i 0) (omega arith)

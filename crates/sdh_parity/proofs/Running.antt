@@ -14,7 +14,7 @@ use Rattle.sdh_parity.specs.Pieces.{Running, after_bytes, HasLanes}
 use Rattle.sdh_parity.proofs.Lanes.{lane_from-append, lane-append, lane-rows}
 use Rattle.sdh_parity.proofs.Folding.{four-lanes}
 
--- a lane with one more byte, where it is in the lane and where it isn't
+-- a lane with one more byte, in the lane or outside it
 pushed : (m j : ℕ) (before : List ℕ) (x : ℕ) → length before % m ≡ j → lane m j (before ++ x ∷ []) ≡ lane m j before ++ x ∷ []
 pushed m j before x at =
     let hit : ((length before % m) == j) ≡ true = eq-eqb _ _ at in
@@ -45,7 +45,7 @@ pub next-lane-is : (m next : ℕ) (before : List ℕ) (x : ℕ) → next ≡ len
 next-lane-is m next before x at =
     ap (λ k. (k + 1) % m) at ∙ mod-add-mod (length before) m 1 ∙ ap (λ k. k % m) (sym (length-append before (x ∷ [])))
 
--- whole rows behind a whole number of rows
+-- whole rows after a whole number of rows
 pub whole-rows : (m rows : ℕ) (before bytes old new : List ℕ) → 0 ≡ length before % m → length bytes ≡ m * rows → HasLanes m before old
     → ((j : ℕ) → j < m → get_or new j 0 ≡ bit_xor (get_or old j 0) (bip8 (every j m rows bytes))) → HasLanes m (before ++ bytes) new
 whole-rows m rows before bytes old new at long has each j h =

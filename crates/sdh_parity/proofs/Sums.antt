@@ -41,7 +41,7 @@ parity-of-sums f g h (suc n) each sf sg sh =
 as-cells : (xs : List ℕ) → cells (λ i. get_or xs i 0) (length xs) ≡ xs
 as-cells xs = cells-from (λ i. get_or xs i 0) (length xs) 0 xs refl (λ k h. refl)
 
--- the same of two lists, of which the sequence makes one the other
+-- the parity of two lists that differ by the sequence
 pub parity-of-added : (old new : List ℕ) (at : ℕ) → length new ≡ length old
     → ((i : ℕ) → i < length old → get_or new i 0 ≡ bit_xor (get_or old i 0) (scrambling_byte (at + i)))
     → ((i : ℕ) → get_or old i 0 < 2 ^ 8) → ((i : ℕ) → get_or new i 0 < 2 ^ 8)

@@ -9,7 +9,7 @@ use Rattle.sdh_parity.specs.Parity.{lane, bip_lanes}
 unfoldable pub scrambled_from : ℕ → ℕ → List ℕ → List ℕ
 scrambled_from clear i bytes = map_from (scrambled_byte clear) i bytes
 
--- how many bytes of a frame stay clear, and how many bytes of it have gone by
+-- how many bytes of a frame stay clear, and how many bytes of it have passed
 pub record Position : Type 0 where
   pub clear : ℕ
   pub at : ℕ
@@ -20,7 +20,7 @@ pub record InPieces : Type 0 where
   pub cut : (clear i : ℕ) (xs ys : List ℕ) → scrambled_from clear i (xs ++ ys)
       ≡ scrambled_from clear i xs ++ scrambled_from clear (i + length xs) ys
 
--- BIP-24N of the bytes that have gone by: its 3 N bytes, and the number of the one that the next byte belongs to
+-- BIP-24N of the bytes so far: its 3 N bytes, and the number of the one to which the next byte belongs
 pub record Running : Type 0 where
   pub n : ℕ
   pub next : ℕ
@@ -29,6 +29,6 @@ pub record Running : Type 0 where
 unfoldable pub after_bytes : ℕ → List ℕ → Running
 after_bytes n bytes = record { n = n; next = length bytes % (3 * n); sums = bip_lanes (3 * n) bytes }
 
--- the first m bytes of a list are the BIP of m bytes of the bytes that have gone by
+-- the first m bytes of the list are the BIP-8m of the bytes
 abbrev pub HasLanes : ℕ → List ℕ → List ℕ → Type 0
 HasLanes m bytes sums = (j : ℕ) → j < m → slice_index sums j ≡ bip8 (lane m j bytes)

@@ -18,7 +18,7 @@ scrambling_bit (suc (suc (suc (suc (suc (suc (suc i))))))) = (scrambling_bit (su
 unfoldable pub scrambling_byte : ℕ → ℕ
 scrambling_byte k = from_bits (λ j. scrambling_bit (8 * k + (7 - j))) 8
 
--- byte i of a frame, where x stood: the first ones are not scrambled
+-- byte i of a frame once scrambled, where it was x before: the first `clear` bytes stay
 unfoldable pub scrambled_byte : ℕ → ℕ → ℕ → ℕ
 scrambled_byte clear i x = if nat_lt i clear then x else bit_xor x (scrambling_byte (i - clear))
 

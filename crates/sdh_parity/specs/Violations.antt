@@ -7,7 +7,7 @@ use Rattle.std.specs.Int.{bit_at}
 unfoldable pub differing_bits : ℕ → ℕ → ℕ
 differing_bits x y = count_by (λ j. not (bit_at x j == bit_at y j)) (range_with_len 0 8)
 
--- the same over two lists, byte by byte
+-- the bits in which two lists differ, byte by byte
 abbrev pub violations_of : List ℕ → List ℕ → ℕ
 violations_of [] right = 0
 violations_of (x ∷ left) [] = 0

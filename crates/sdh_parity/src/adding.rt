@@ -7,7 +7,7 @@ ghost use Rattle.sdh_parity.specs.Pieces.{HasLanes};
 use crate::through::add_to;
 use std::simd::prelude::*;
 
-// The parities of sixteen neighbouring columns of a table of rows of 12 bytes, from the byte `at` on.
+// Returns the parities of sixteen neighbouring columns of a table with rows of 12 bytes, from byte `at` on.
 fn columns12(bytes: &[u8], at: usize, rows: usize) -> u8x16
     requires { at + 12 * rows + 4 ≤ length bytes.now }
     ensures len { length result ≡ 16 }
@@ -20,7 +20,7 @@ fn columns12(bytes: &[u8], at: usize, rows: usize) -> u8x16
     all
 }
 
-// The same of rows of 48 bytes, of which the sixteen columns are a third.
+// Returns the parities of sixteen neighbouring columns, a third of all, of a table with rows of 48 bytes.
 fn columns48(bytes: &[u8], at: usize, rows: usize) -> u8x16
     requires { at + 48 * rows ≤ length bytes.now + 32 }
     ensures len { length result ≡ 16 }
@@ -56,7 +56,7 @@ fn add_rows48(sums: &mut [u8], bytes: &[u8], rows: usize)
     add_vector(sums, 32, columns48(bytes, 32, rows));
 }
 
-// Adds whole rows of 12 bytes. No vector begins in the last one, whose bytes are added one by one.
+// Adds whole rows of 12 bytes. The bytes of the last row are added singly, since no vector begins there.
 fn add_rows12(sums: &mut [u8], bytes: &[u8], rows: usize)
     requires sums { length sums.old ≡ 48 }
     requires rows { length bytes.now ≡ 12 * (rows + 1) }
@@ -69,7 +69,7 @@ fn add_rows12(sums: &mut [u8], bytes: &[u8], rows: usize)
     }
 }
 
-// The lane after this one.
+// Returns the lane after this one.
 fn after(lane: usize, width: usize) -> usize
     requires { lane < width }
     ensures next { result ≡ (lane + 1) % width }
@@ -78,7 +78,7 @@ fn after(lane: usize, width: usize) -> usize
     if lane + 1 == width { 0 } else { lane + 1 }
 }
 
-// Adds bytes one by one, the first in the lane `next`. The lane of the byte after them.
+// Adds bytes singly, the first to the lane `next`, and returns the lane of the byte after them.
 fn add_bytes(width: usize, next: usize, sums: &mut [u8], bytes: &[u8]) -> usize
     requires width { width ≤ 48 }
     requires next { next < width }
@@ -109,7 +109,7 @@ fn add_rows(n: usize, sums: &mut [u8], bytes: &[u8], rows: usize)
     }
 }
 
-// Adds a piece of any length: by whole rows where it begins with one.
+// Adds a piece of any length, by whole rows where it begins with one, and returns the lane of the byte after it.
 pub fn add_piece(n: usize, next: usize, sums: &mut [u8], bytes: &[u8]) -> usize
     requires rate { (n ≡ 4) ⊎ (n ≡ 16) }
     requires next { next < 3 * n }
@@ -156,7 +156,7 @@ pub fn add_lanes(n: usize, sums: &mut [u8], lanes: &[u8])
     }
 }
 
-/// The lane of the byte behind a piece of so many bytes that begins with the first one.
+/// Returns the lane of the byte after a piece of `len` bytes that begins in the first lane.
 pub fn lane_behind(n: usize, len: usize) -> usize
     requires rate { (n ≡ 4) ⊎ (n ≡ 16) }
     ensures lane { result ≡ len % (3 * n) }

@@ -2,7 +2,7 @@
 ghost use Rattle.std.specs.Prelude.{◌≡◌, ◌≤◌, length};
 ghost use Rattle.sdh_parity.specs.Violations.{differing_bits, violations_of};
 
-/// In how many of their eight bits two bytes differ.
+/// Returns the number of bits in which two bytes differ.
 #[tactic(auto, using(crate::proofs::Differing::ones_of_xor))]
 pub fn differing_bits(left: u8, right: u8) -> u32
     ensures bits { result ≡ differing_bits left right }
@@ -11,7 +11,7 @@ pub fn differing_bits(left: u8, right: u8) -> u32
     (left ^ right).count_ones()
 }
 
-/// The number of bits in which two lists of one length, at most 38,880 bytes, differ.
+/// Returns the number of bits in which two lists of the same length, at most 38,880 bytes, differ.
 pub fn violations(left: &[u8], right: &[u8]) -> u32
     requires same_length { length left.now ≡ length right.now }
     requires few { length left.now ≤ 38880 }

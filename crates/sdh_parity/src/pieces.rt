@@ -1,4 +1,4 @@
-//! The scrambler and the parities over the pieces of a frame: the same results however it is cut.
+//! The scrambler and the parities over the pieces of a frame. However the frame is cut, the results are equal.
 ghost use Rattle.std.specs.Prelude.{◌≡◌, ℕ, ◌+◌, ◌-◌, ◌*◌, ◌%◌, ◌^◌, ◌<◌, ◌≤◌, ◌⊎◌, ◌==◌, nat_le, if◌then◌else◌, List, [], ◌++◌, length};
 ghost use Rattle.std.specs.Prelude.{slice_index, bit_xor};
 ghost use Rattle.sdh_basics.specs.Parity.{bip8 as parity_of};
@@ -22,7 +22,7 @@ fn add_within(part: &mut [u8], s: usize)
     }
 }
 
-// How many of so many bytes go before the next whole 1016 bytes of the sequence.
+// Returns the number of bytes, at most `len`, before the next whole block of 1016 bytes of the sequence.
 #[inline(always)]
 fn first_block(s: usize, len: usize) -> usize
     requires { s < 1016 }
@@ -72,7 +72,7 @@ impl Model for Scrambler {
 }
 
 impl Scrambler {
-    /// At the start of a frame.
+    /// Returns the scrambler at the start of a frame.
     pub fn new(rate: Rate9) -> Scrambler
         ensures clear { result.clear ≡ rate.0 }
         ensures at { result.at ≡ 0 }
@@ -93,15 +93,15 @@ impl Scrambler {
         self.at += bytes.len();
     }
 
-    // Whether the bytes that come next are scrambled.
+    // Returns whether the next bytes are scrambled ones.
     fn is_behind(&self) -> bool
         ensures { result ≡ nat_le self.now.clear self.now.at }
     {
         self.clear <= self.at
     }
 
-    // Scrambles the next piece, or descrambles it, which makes it clear, and sums it on the way. It is behind the first bytes,
-    // which stay as they are.
+    // Scrambles the next piece, or descrambles it to clear bytes, and adds it to the parities on the way. It lies after
+    // the first bytes, which are never scrambled.
     #[inline(always)]
     fn pass(&mut self, bytes: &mut [u8], clear_after: bool) -> Passed
         requires behind { self.old.clear ≤ self.old.at }
@@ -118,7 +118,8 @@ impl Scrambler {
         passed
     }
 
-    // Descrambles the next piece from one place to another, and sums it on the way. It is behind the first bytes.
+    // Descrambles the next piece from one slice to another, and adds it to the parities on the way. It lies after the
+    // first bytes, which are never scrambled.
     #[inline(always)]
     fn open(&mut self, from: &[u8], to: &mut [u8]) -> Passed
         requires behind { self.old.clear ≤ self.old.at }
@@ -135,7 +136,7 @@ impl Scrambler {
         passed
     }
 
-    /// Goes past so many bytes that stay as they are.
+    /// Passes over `count` bytes that are not scrambled.
     pub fn skip(&mut self, count: usize)
         requires { self.old.at + count ≤ 38880 }
         ensures { self.new ≡ record self.old { at = self.old.at + count } }
@@ -159,7 +160,7 @@ impl Model for Bip8 {
 }
 
 impl Bip8 {
-    /// Of no bytes.
+    /// Returns the parity of no bytes.
     pub fn new() -> Bip8
         ensures { result ≡ parity_of [] }
     {
@@ -181,7 +182,7 @@ impl Bip8 {
         self.value ^= parity;
     }
 
-    /// The parity of all pieces.
+    /// Returns the parity of all pieces so far.
     pub fn value(&self) -> u8
         ensures { result ≡ self.now }
     {
@@ -209,7 +210,7 @@ impl Model for BipSection {
 }
 
 impl BipSection {
-    /// Of no bytes, for the rate N, 4 or 16.
+    /// Returns the parities of no bytes, for the rate N, 4 or 16.
     pub fn new(n: usize) -> BipSection
         requires { (n ≡ 4) ⊎ (n ≡ 16) }
         ensures none { result ≡ after_bytes n [] }
@@ -231,7 +232,7 @@ impl BipSection {
         self.next = add_piece(self.n, self.next, &mut self.sums, bytes);
     }
 
-    // Whether the bytes so far are whole rows of 3N.
+    // Returns whether the bytes so far are whole rows of 3 N.
     fn is_whole(&self) -> bool
         ensures { result ≡ (self.now.next == 0) }
     {
@@ -313,8 +314,7 @@ pub fn receive_piece(
     clear.add_lanes(bytes.len(), &passed.lanes);
 }
 
-/// Receives the next piece from one place to another: the same as `receive_piece`, but the bytes stay as they were where
-/// they came from.
+/// Receives the next piece from one slice to another: as `receive_piece`, but the source keeps its bytes.
 pub fn open_piece(
     line: &mut Bip8,
     scrambler: &mut Scrambler,

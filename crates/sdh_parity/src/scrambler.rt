@@ -168,7 +168,7 @@ fn table() -> &'static [u8; 1064]
     &SEQUENCE
 }
 
-// BIP-8 of the first bytes of the sequence.
+// Returns BIP-8 of the first i bytes of the sequence.
 #[inline(always)]
 fn parity_before(i: usize) -> u8
     requires { i < 1016 }
@@ -177,7 +177,7 @@ fn parity_before(i: usize) -> u8
     PARITIES[i]
 }
 
-// BIP-8 of so many bytes of the sequence, from its byte `at` on.
+// Returns BIP-8 of `len` bytes of the sequence, from its byte `at` on.
 pub(crate) fn sequence_parity(at: usize, len: usize) -> u8
     requires { at + len ≤ 38880 }
     ensures { result ≡ parity_of (cells (λ k. scrambling_byte (at + k)) len) }
@@ -185,7 +185,7 @@ pub(crate) fn sequence_parity(at: usize, len: usize) -> u8
     parity_before(at % 1016) ^ parity_before((at + len) % 1016)
 }
 
-// Sixteen bytes of the sequence.
+// Returns sixteen bytes of the sequence, from its byte i on.
 #[inline(always)]
 pub(crate) fn key(i: usize) -> u8x16
     requires { i + 16 ≤ 1064 }

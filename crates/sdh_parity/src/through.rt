@@ -11,7 +11,7 @@ use crate::parity::bip8;
 use crate::scrambler::{key, sequence, sequence_parity};
 use std::simd::prelude::*;
 
-// Sixteen bytes get the sequence from k on.
+// Returns sixteen bytes with the sequence added from its byte k on.
 #[inline(always)]
 fn keyed(old: u8x16, k: usize) -> u8x16
     requires long { length old ≡ 16 }
@@ -22,7 +22,7 @@ fn keyed(old: u8x16, k: usize) -> u8x16
     old ^ key(k)
 }
 
-// Sixteen bytes from i on get the sequence from k on. The clear ones are added to the sum.
+// Adds the sequence from its byte k on to sixteen bytes from i on, and returns the sum with the clear ones added.
 #[inline(always)]
 fn step(bytes: &mut [u8], i: usize, k: usize, sum: u8x16, clear_after: bool) -> u8x16
     requires room { i + 16 ≤ length bytes.old }
@@ -41,7 +41,8 @@ fn step(bytes: &mut [u8], i: usize, k: usize, sum: u8x16, clear_after: bool) -> 
     sum ^ (if clear_after { new } else { old })
 }
 
-// The same from one place to another, where the bytes that go over are the clear ones.
+// Copies sixteen bytes from i on with the sequence added from its byte k on, and returns the sum with the copied, clear
+// ones added.
 #[inline(always)]
 fn open_step(from: &[u8], to: &mut [u8], i: usize, k: usize, sum: u8x16) -> u8x16
     requires room { i + 16 ≤ length from.now }
@@ -58,7 +59,7 @@ fn open_step(from: &[u8], to: &mut [u8], i: usize, k: usize, sum: u8x16) -> u8x1
     sum ^ new
 }
 
-// The place in the sequence 48 bytes on, modulo 1016.
+// Returns the place in the sequence 48 bytes on, modulo 1016.
 #[inline(always)]
 fn after_row(k: usize) -> usize
     requires { k < 1016 }
@@ -79,7 +80,7 @@ struct Sums {
     c: u8x16,
 }
 
-// Whole rows of 48 bytes get the sequence from its byte `at` on. The sums are those of the clear bytes.
+// Adds the sequence from its byte `at` on to whole rows of 48 bytes, and returns the sums of the clear bytes.
 #[inline(always)]
 fn mix(bytes: &mut [u8], at: usize, rows: usize, clear_after: bool) -> Sums
     requires rows { length bytes.old ≡ 48 * rows }
@@ -104,8 +105,8 @@ fn mix(bytes: &mut [u8], at: usize, rows: usize, clear_after: bool) -> Sums
     Sums { a, b, c }
 }
 
-// Whole rows of 48 bytes go from one place to another with the sequence from its byte `at` on. The sums are those of the
-// bytes that went over.
+// Copies whole rows of 48 bytes with the sequence added from its byte `at` on, and returns the sums of the copied
+// bytes.
 #[inline(always)]
 fn open_rows(from: &[u8], to: &mut [u8], at: usize, rows: usize) -> Sums
     requires rows { length from.now ≡ 48 * rows }
@@ -169,7 +170,8 @@ fn add_key(bytes: &mut [u8], len: usize, k: usize)
     }
 }
 
-// Part of a row of 48 bytes.
+// Adds the sequence to part of a row of 48 bytes, and the part's bytes to the lanes: those after it where `clear_after`
+// holds, and else those before.
 #[inline(always)]
 fn pass_part(bytes: &mut [u8], len: usize, k: usize, lanes: &mut [u8], clear_after: bool)
     requires bytes { length bytes.old ≡ len }
@@ -190,8 +192,8 @@ fn pass_part(bytes: &mut [u8], len: usize, k: usize, lanes: &mut [u8], clear_aft
     }
 }
 
-// The same. An STM-4 row has 24 bytes behind its whole rows of 48, and one without its overhead 36: code of its own for
-// each of these lengths, in which it is a constant and the loops over so few bytes are unrolled.
+// Adds the sequence to the bytes after the last whole row of 48. An STM-4 row has 24 of them, and without its overhead
+// 36: each of these lengths has code of its own, in which it is a constant and the short loops are unrolled.
 fn pass_rest(bytes: &mut [u8], k: usize, lanes: &mut [u8], clear_after: bool)
     requires few { length bytes.old ≤ 48 }
     requires key { k + length bytes.old ≤ 1064 }
@@ -215,7 +217,7 @@ pub struct Passed {
     pub line: u8,
 }
 
-/// A piece gets the sequence from its byte `at` on, and is summed on the way.
+/// Adds the sequence from its byte `at` on to a piece, and returns the parities of its bytes.
 #[inline(always)]
 pub fn pass(bytes: &mut [u8], at: usize, clear_after: bool) -> Passed
     requires { at + length bytes.old ≤ 38880 }
@@ -236,8 +238,7 @@ pub fn pass(bytes: &mut [u8], at: usize, clear_after: bool) -> Passed
     Passed { lanes, line }
 }
 
-/// A piece goes from one place to another with the sequence from its byte `at` on, and is summed on the way. The bytes that
-/// went over are the clear ones.
+/// Copies a piece with the sequence added from its byte `at` on, and returns the parities of the copied, clear bytes.
 #[inline(always)]
 pub fn open(from: &[u8], to: &mut [u8], at: usize) -> Passed
     requires few { at + length from.now ≤ 38880 }

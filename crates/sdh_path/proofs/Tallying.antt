@@ -1,4 +1,4 @@
--- What is kept of a run of bytes, as pieces come behind it.
+-- What is kept of a run of bytes, as pieces come after it.
 use Rattle.std.proofs.Common.{◌≡◌, ℕ, zero, suc, ◌+◌, ◌-◌, ◌*◌, ◌<◌, ◌≤◌, List, [], ◌++◌, length, get_or, take, drop, refl, sym, ap, ap₂}
 use Rattle.std.proofs.Common.{◌∙◌, arith, bit_xor}
 use Rattle.std.specs.Prelude.{◌==◌, if◌then◌else◌}
@@ -53,7 +53,7 @@ unfolding label_violations
 labels_from x s zero = refl
 labels_from x s (suc i) = ap₂ (λ a (v : List ℕ). a + (if get_or v 522 0 == 1 then 0 else 1)) (labels_from x s i) (vc4_from x s i)
 
--- ---- of no bytes
+-- ---- a tally of no bytes
 
 pub counts_none : IsTallyOf [] (record { vcs = 0; b3 = 0; label = 0; due = 0; index = 0; parity = 0; b3_byte = 0; label_byte = 0 })
 unfolding b3_violations label_violations

@@ -30,7 +30,7 @@ some_given (Chunk bytes last ∷ past) value e = (counted (goes_on last past), e
 phase_inside : (v : ℕ) → phase_of v < 2349
 phase_inside v = omega arith
 
--- of nothing
+-- what is kept before any chunk
 pub came_new : (trace : List ℕ) (k : Kept) → k.trace ≡ padded trace → k.value ≡ 0 → k.chunks ≡ 0 → IsTallyOf [] k.tally → CameBy trace [] k
 came_new trace k trace_is value chunks counts = record {
   trace_is = trace_is;
@@ -45,7 +45,7 @@ came_new trace k trace_is value chunks counts = record {
     none zero = refl
     none (suc s) = refl
 
--- of one chunk more
+-- what is kept after one chunk more
 pub record Takes (bytes : List ℕ) (value : ℕ) (g : Bool) (k new : Kept) : Type 0 where
   pub trace : new.trace ≡ k.trace
   pub value_is : new.value ≡ value

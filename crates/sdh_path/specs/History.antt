@@ -25,7 +25,7 @@ count_of [] = 0
 count_of (Ais ∷ earlier) = 0
 count_of (Chunk bytes value ∷ earlier) = if goes_on value earlier then count_of earlier + 1 else 1
 
--- their value, and 0 where there are none
+-- the pointer value of the chunks given last, and 0 where there are none
 abbrev pub given_value : List Given → ℕ
 given_value [] = 0
 given_value (Ais ∷ earlier) = 0

@@ -8,8 +8,8 @@ use Rattle.sdh_path.specs.PathReports.{b3, c2, vc4_in, b3_violations, label_viol
 
 -- ---- a run of bytes that begins with a VC-4
 
--- What is kept of it: the sums over its whole VC-4s, the parity of the last of them, and of the bytes behind that one how many they
--- are, their parity, and B3 and C2 where they are among them.
+-- What is kept of it: the sums over its whole VC-4s, the parity of the last of them, and of the bytes after that one
+-- how many they are, their parity, and B3 and C2 where they are among them.
 pub record IsTallyOf (run : List ℕ) (t : Tally) : Type 0 where
   pub long : length run ≡ 2349 * t.vcs + t.index
   pub within : t.index ≤ 2349
@@ -20,7 +20,7 @@ pub record IsTallyOf (run : List ℕ) (t : Tally) : Type 0 where
   pub b3_byte_is : t.b3_byte ≡ b3 (drop (2349 * t.vcs) run)
   pub label_byte_is : t.label_byte ≡ c2 (drop (2349 * t.vcs) run)
 
--- the sums are no larger than so many VC-4s can make them
+-- the sums are no larger than the number of VC-4s allows
 pub record IsSmall (t : Tally) : Type 0 where
   pub b3_few : t.b3 ≤ 8 * t.vcs
   pub label_few : t.label ≤ t.vcs

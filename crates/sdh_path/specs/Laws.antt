@@ -9,7 +9,7 @@ use Rattle.sdh_path.specs.declared.watch.TraceWord.TheVariants.{Ok, Short}
 use Rattle.sdh_path.specs.History.{Given, Chunk}
 use Rattle.sdh_path.specs.PathReports.{report_on, path_report_of}
 
--- what is reported of so many chunks that are as they were sent
+-- the report of n chunks that arrived as they were sent
 abbrev pub clean_report : ℕ → ℕ → PathReport
 clean_report n value = record {
   vcs = if value == 522 then n else n - 1;
@@ -18,22 +18,22 @@ clean_report n value = record {
   trace = if nat_lt n 64 then Short else Ok;
 }
 
--- from byte p of a port's stream on, VC-4s begin where this pointer value tells
+-- from byte p of a port's stream on, VC-4s begin where this pointer value says
 abbrev pub BeginsAt : ℕ → ℕ → ℕ → Type 0
 BeginsAt offset p value = (p + start_of offset + phase_of value) % 2349 ≡ 0
 
--- so many chunks of a port's stream, one after the other, show no fault to a watch that expects the port's trace
+-- n chunks of a port's stream, one after the other, show no fault to a watch that expects the port's trace
 abbrev pub FeedsAreClean : Type 0
 FeedsAreClean =
     (port : Customer) (p n value : ℕ) → 1 ≤ n → value ≤ 782 → BeginsAt port.offset p value
     → report_on port.trace (stream_from port p (2349 * n)) value ≡ clean_report n value
 
--- so many chunks of a stream from byte p on, each with this pointer value, the latest first
+-- a number of chunks of a stream from byte p on, each with this pointer value, the latest first
 abbrev pub chunks_from : Customer → ℕ → ℕ → ℕ → List Given
 chunks_from port p value zero = []
 chunks_from port p value (suc k) = Chunk (stream_from port (p + 2349 * k) 2349) value ∷ chunks_from port p value k
 
--- so do watches that were given nothing but these since they began anew
+-- watches that were given nothing but clean chunks since they began anew report no fault
 abbrev pub ChunksAreClean : Type 0
 ChunksAreClean =
     (port : Customer) (p n value : ℕ) → 1 ≤ n → value ≤ 782 → BeginsAt port.offset p value

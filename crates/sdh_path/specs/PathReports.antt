@@ -42,7 +42,7 @@ unfoldable pub b3_violations : List ℕ → ℕ → ℕ → ℕ
 b3_violations bytes first zero = 0
 b3_violations bytes first (suc i) = b3_violations bytes first i + b3_violations_at bytes first i
 
--- of the first k of them, those whose signal label isn't 01, equipped
+-- the number of VC-4s, of the first k, whose signal label is not 01, equipped
 unfoldable pub label_violations : List ℕ → ℕ → ℕ → ℕ
 label_violations bytes first zero = 0
 label_violations bytes first (suc i) = label_violations bytes first i + (if c2 (vc4_in bytes first i) == 1 then 0 else 1)
@@ -69,7 +69,8 @@ trace_word trace all =
 
 -- ---- the report
 
--- of some bytes that came with this pointer value: the first VC-4 begins at the place that the value tells (ITU-T G.707 clause 8.1)
+-- the report on some bytes that came with this pointer value: the first VC-4 begins at the place that the value gives
+-- (ITU-T G.707 clause 8.1)
 abbrev pub report_on : List ℕ → List ℕ → ℕ → PathReport
 report_on trace bytes value =
     let first = phase_of value in
@@ -81,6 +82,6 @@ report_on trace bytes value =
       trace = trace_word (padded trace) (j1_bytes bytes first);
     }
 
--- of what a watch was given
+-- the report on what a watch was given
 abbrev pub path_report_of : List ℕ → List Given → PathReport
 path_report_of trace past = report_on trace (bytes_of past) (given_value past)

@@ -20,15 +20,15 @@ const EQUIPPED: u8 = 1;
 /// What is kept of a run of bytes that begins with a VC-4.
 #[derive(Clone, Copy, Debug)]
 pub struct Tally {
-    /// How many VC-4s are whole.
+    /// The number of whole VC-4s.
     pub vcs: u32,
-    /// In how many bits their B3 differ from the parities of the VC-4s before them.
+    /// The number of bits in which their B3 differ from the parities of the VC-4s before them.
     pub b3: u32,
-    /// How many of them aren't labelled as equipped.
+    /// The number of VC-4s that aren't labelled as equipped.
     pub label: u32,
     /// The parity of the last of them.
     pub due: u8,
-    /// How many bytes stand behind it, and their parity.
+    /// The number of bytes after the last whole VC-4, and their parity.
     pub index: usize,
     pub parity: u8,
     /// B3 and C2 among these, and 0 where they haven't come.
@@ -36,7 +36,7 @@ pub struct Tally {
     pub label_byte: u8,
 }
 
-// The byte at a place of a VC-4, where `kept` is that of its first `index` bytes and a piece comes behind these.
+// Returns the byte at a place of a VC-4, where `kept` is that of its first `index` bytes and a piece comes after these.
 fn byte_with(kept: u8, index: usize, piece: &[u8], place: usize) -> u8
     ensures { (part : List ℕ) → length part ≡ index → kept ≡ slice_index part place → result ≡ slice_index (part ++ piece.now) place }
 {
@@ -47,7 +47,7 @@ fn byte_with(kept: u8, index: usize, piece: &[u8], place: usize) -> u8
     }
 }
 
-// Whether a signal label isn't that of an equipped path, as a number.
+// Returns whether a signal label isn't that of an equipped path, as a number.
 fn label_violations(label: u8) -> u32
     ensures value { result ≡ (if label == 1 then 0 else 1) }
     ensures few { result ≤ 1 }
@@ -56,7 +56,7 @@ fn label_violations(label: u8) -> u32
 }
 
 impl Tally {
-    /// Of no bytes.
+    /// Returns the counts of no bytes.
     pub fn new() -> Tally
         ensures counts { IsTallyOf [] result }
         ensures small { IsSmall result }
@@ -75,7 +75,7 @@ impl Tally {
         }
     }
 
-    // With a piece of the VC-4 that is under way.
+    // Returns the counts with one more piece of the unfinished VC-4.
     fn with_piece(self, piece: &[u8]) -> Tally
         requires fits { self.index + length piece.now ≤ 2349 }
         ensures counts { (run : List ℕ) → IsTallyOf run self → IsTallyOf (run ++ piece.now) result }
@@ -93,7 +93,7 @@ impl Tally {
         }
     }
 
-    // In how many bits B3 of the VC-4 that is whole now differs from the parity of the one before it.
+    // Returns in how many bits B3 of the VC-4 that is whole now differs from the parity of the one before it.
     fn b3_violations(self) -> u32
         ensures first { self.vcs ≡ 0 → result ≡ 0 }
         ensures later { 0 < self.vcs → result ≡ differing_bits self.b3_byte self.due }
@@ -106,7 +106,7 @@ impl Tally {
         }
     }
 
-    // Once the VC-4 that was under way is whole, it is counted.
+    // Returns the counts once the unfinished VC-4 is whole: it is counted then.
     fn closed(self) -> Tally
         requires b3 { self.b3 ≤ 8 * self.vcs }
         requires label { self.label ≤ self.vcs }
@@ -132,7 +132,7 @@ impl Tally {
         }
     }
 
-    /// With a piece that doesn't go past the end of the VC-4 that is under way.
+    /// Returns the counts with one more piece, which does not go past the end of the unfinished VC-4.
     pub fn with(self, piece: &[u8]) -> Tally
         requires small { IsSmall self }
         requires fits { self.index + length piece.now ≤ 2349 }

@@ -21,9 +21,9 @@ pub struct BadTrace;
 /// What is said of the last 64 bytes J1.
 #[derive(Clone, Copy, Debug, PartialEq, Eq)]
 pub enum TraceWord {
-    /// They are a rotation of the expected trace.
+    /// The 64 bytes of J1 are a rotation of the expected trace.
     Ok,
-    /// They aren't.
+    /// The 64 bytes of J1 are no rotation of the expected trace.
     Mismatch,
     /// There are fewer than 64.
     Short,
@@ -32,11 +32,11 @@ pub enum TraceWord {
 /// What a watch reports of the chunks since it began anew.
 #[derive(Clone, Copy, Debug, PartialEq, Eq)]
 pub struct PathReport {
-    /// How many VC-4s there are in them, whole.
+    /// The number of whole VC-4s in these chunks.
     pub vcs: u32,
-    /// In how many bits B3 differs from the parity of the VC-4 before.
+    /// The number of bits in which B3 differs from the parity of the VC-4 before.
     pub b3: u32,
-    /// How many VC-4s aren't labelled as equipped.
+    /// The number of VC-4s that aren't labelled as equipped.
     pub label: u32,
     /// What is said of their path trace.
     pub trace: TraceWord,
@@ -62,7 +62,7 @@ impl Model for Watch {
     ghost invariant = { λ w. IsKept (record { trace = w.trace; value = w.value; chunks = w.chunks; tally = w.tally; last = w.last }) };
 }
 
-// The byte of a chunk with which a VC-4 begins.
+// Returns the byte of a chunk with which a VC-4 begins.
 fn first_index(value: u16) -> usize
     requires { value ≤ 782 }
     ensures index { result ≡ phase_of value }
@@ -71,8 +71,8 @@ fn first_index(value: u16) -> usize
     (783 + 3 * usize::from(value)) % VC4_LEN
 }
 
-// What is kept after a chunk in which a VC-4 begins at `start`. Where it doesn't go on with the chunks before it, the bytes before that
-// are of no VC-4.
+// Returns what is kept after a chunk in which a VC-4 begins at `start`. Where it doesn't go on with the chunks before
+// it, the bytes before that are of no VC-4.
 fn tally_with(tally: Tally, goes_on: bool, start: usize, bytes: &[u8]) -> Tally
     requires small { IsSmall tally }
     requires start { start < 2349 }
@@ -95,7 +95,7 @@ fn tally_with(tally: Tally, goes_on: bool, start: usize, bytes: &[u8]) -> Tally
 }
 
 impl Watch {
-    /// A watch that expects this trace and was given nothing.
+    /// Returns a watch that expects this trace and was given nothing.
     #[tactic(auto, using(sdh_payload::proofs::Texts::text_few, crate::proofs::Watching::came_new))]
     pub fn new(trace: &[u8]) -> Result<Watch, BadTrace>
         ensures bad { IsErr result ↔ (is_text trace.now ≡ false) }
@@ -114,7 +114,7 @@ impl Watch {
         })
     }
 
-    // Whether a chunk with this value goes on with the last one.
+    // Returns whether a chunk with this value goes on with the last one.
     fn goes_on(&self, value: u16) -> bool
         ensures history { (trace : List ℕ) (past : List Given) → CameBy trace past self.now → result ≡ goes_on value past }
         ensures some { result ≡ true → 0 < self.now.chunks }
@@ -123,8 +123,8 @@ impl Watch {
         self.chunks > 0 && self.value == value
     }
 
-    /// The 2349 bytes that the port delivered in a round, with the pointer value with which they came. A value other than that of the
-    /// last chunk begins anew with this one.
+    /// Looks at the 2349 bytes that the port delivered in a round, with the pointer value with which they came. A value
+    /// other than that of the last chunk begins anew with this one.
     pub fn chunk(&mut self, bytes: &[u8], value: u16)
         requires bytes { length bytes.now ≡ 2349 }
         requires value { value ≤ 782 }
@@ -142,7 +142,7 @@ impl Watch {
         self.chunks = before + 1;
     }
 
-    /// AIS, with which the watch begins anew.
+    /// Looks at AIS, with which the watch begins anew.
     pub fn ais(&mut self)
         ensures history { (trace : List ℕ) (past : List Given) → CameBy trace past self.old → CameBy trace (Ais ∷ past) self.new }
         ensures none { self.new.chunks ≡ 0 }
@@ -152,7 +152,7 @@ impl Watch {
         self.tally = Tally::new();
     }
 
-    // What is said of the last 64 bytes J1.
+    // Returns what is said of the last 64 bytes J1.
     fn trace_word(&self) -> TraceWord
         ensures history { (trace : List ℕ) (past : List Given) → CameBy trace past self.now → result ≡ (path_report_of trace past).trace }
     {
@@ -167,7 +167,7 @@ impl Watch {
         }
     }
 
-    /// What the watch reports of the chunks since it began anew.
+    /// Returns what the watch reports of the chunks since it began anew.
     pub fn report(&self) -> PathReport
         ensures history { (trace : List ℕ) (past : List Given) → CameBy trace past self.now → result ≡ path_report_of trace past }
     {

@@ -45,7 +45,7 @@ pub ticked_sent : (c : Clock) → (ticked c).sent ≡ c.sent + taken_len (next_f
 unfolding ticked
 ticked_sent c = sent_grows (next_form c) c
 
--- how many bytes so many rounds send
+-- the number of bytes that n rounds send
 sent_all : (port : Customer) (c : Clock) (n : ℕ) → (ticks n c).sent ≡ c.sent + length (sent_in_rounds port c n)
 unfolding ticks sent_in_rounds
 sent_all port c zero = omega arith
@@ -71,7 +71,7 @@ chunks_are_the_stream port c (suc n) =
 
 -- ---- what is laid out in an AU-4
 
--- the front of a list, and what is behind it
+-- the front of a list, and what is after it
 parted : (front behind : List ℕ) (n : ℕ) → length front ≡ n → (take n (front ++ behind) ≡ front) × (drop n (front ++ behind) ≡ behind)
 parted front behind n len = (
   ap (λ k. take k (front ++ behind)) (sym len) ∙ take-append_seam front behind,
@@ -124,7 +124,7 @@ length-around front middle back xs fits =
     ∙ ap (λ k. k + length (middle ++ drop back xs)) (length-take-le front xs fits)
     ∙ ap (λ k. front + k) (length-append middle (drop back xs) ∙ ap (λ k. length middle + k) (length-drop back xs))
 
--- it fills a payload
+-- a chunk that is laid out fills a payload
 pub length-laid_payload : (form : ChunkForm) (bytes : List ℕ) → length bytes ≡ taken_len form → length (laid_payload form bytes) ≡ 2349
 length-laid_payload Plain bytes len = len
 length-laid_payload Short bytes len = length-around 783 (0 ∷ 0 ∷ 0 ∷ []) 783 bytes (omega (arith, len)) ∙ omega (arith, len)

@@ -50,7 +50,7 @@ form_ticked c = form_after (next_form c) c
 
 -- ---- slips run out
 
--- the rounds that slips take, one of rest at least and three behind each
+-- the rounds that slips take, one of rest at least and three after each
 abbrev left_in : Clock → ℕ
 left_in c = c.rest + 4 * waiting c
 

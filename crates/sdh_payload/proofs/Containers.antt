@@ -96,7 +96,7 @@ containers_from-append port q n m =
     (cells-same (λ k. container_byte port (q + (n + k))) (λ k. container_byte port (q + n + k)) m 0
     (λ k h. ap (container_byte port) (omega arith)))
 
--- the parity of the bytes behind, with some more
+-- the parity of the bytes so far, with some more
 pub parity_more : (port : Customer) (b3 v i n parity : ℕ) → parity ≡ bip8 (vc4_front port b3 v i)
     → bit_xor parity (bip8 (cells (λ k. vc4_byte port b3 v (i + k)) n)) ≡ bip8 (vc4_front port b3 v (i + n))
 parity_more port b3 v i n parity was =
@@ -104,7 +104,7 @@ parity_more port b3 v i n parity was =
     ∙ sym (bip8-append (vc4_front port b3 v i) (cells (λ k. vc4_byte port b3 v (i + k)) n))
     ∙ ap bip8 (sym (cells-append (vc4_byte port b3 v) i n))
 
--- the parity of the bytes behind, with one more
+-- the parity of the bytes so far, with one more
 pub parity_push : (f : ℕ → ℕ) (i parity byte : ℕ) → parity ≡ bip8 (cells f i) → byte ≡ f i → byte < 2 ^ 8
     → bit_xor parity byte ≡ bip8 (cells f (i + 1))
 parity_push f i parity byte was is small =

@@ -31,7 +31,7 @@ rest_few (Plain ∷ before) = omega (arith, rest_few before)
 rest_few (Short ∷ before) = omega arith
 rest_few (Long ∷ before) = omega arith
 
--- fewer behind a round
+-- fewer after a round
 rest_fewer : (f : ChunkForm) (before : List ChunkForm) → rest_after (f ∷ before) ≤ 3
 rest_fewer Plain before = omega (arith, rest_few before)
 rest_fewer Short before = omega arith
@@ -40,7 +40,7 @@ rest_fewer Long before = omega arith
 no_more : (t : Bool) → true ≡ not (t && false)
 no_more t = ap not (sym (and_right t false refl))
 
--- it rests in just those rounds that may not justify
+-- a clock rests in just those rounds that may not justify
 rests : (before : List ChunkForm) → nat_le 1 (rest_after before) ≡ not (may_justify before)
 rests [] = refl
 rests (Short ∷ before) = no_more _
@@ -76,7 +76,8 @@ counts_few (f ∷ before) =
 
 -- ---- what a clock keeps
 
--- of a port with this offset that was told of so many ups and downs, after rounds in which this was sent
+-- what the clock of a port with this offset keeps, where this number of slips up and down were ordered, after rounds in
+-- which this was sent
 record Keeps (offset ups downs : ℕ) (before : List ChunkForm) (c : Clock) : Type 0 where
   rounds_are : c.rounds ≡ length before
   ups_left : c.ups + count_by justifies_up before ≡ ups
@@ -151,7 +152,7 @@ same_form : (rest may : Bool) (ups ups' downs downs' : ℕ) → rest ≡ may →
     ≡ (if may then Plain else if nat_le 1 ups' then Short else if nat_le 1 downs' then Long else Plain)
 same_form rest may ups ups' downs downs' r u d = cc
 
--- so it sends what the rule says
+-- a clock sends what the rule says
 form_is : (offset ups downs : ℕ) (before : List ChunkForm) (c : Clock) → Keeps offset ups downs before c
     → next_form c ≡ form_then before ups downs
 form_is offset ups downs before c k =

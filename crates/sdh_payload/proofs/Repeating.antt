@@ -75,7 +75,7 @@ piece_parity bytes sums len place count r are here few =
 pub text_len : (bytes : List ℕ) (len : ℕ) → Repeats len bytes → length (take len bytes) ≡ len
 text_len bytes len r = length-take-le len bytes (omega (arith, r.few, r.enough))
 
--- the place behind a row
+-- the place after a row
 behind_row : (place len step : ℕ) → 0 < len → step ≡ 260 % len → (place + step) % len ≡ (place + 260) % len
 behind_row place len step some is = let swap : place + step ≡ 260 % len + place =
     omega (arith, is) in let back : 260 + place ≡ place + 260 =

@@ -27,7 +27,7 @@ laid_payload Plain bytes = bytes
 laid_payload Short bytes = around 783 (0 ∷ 0 ∷ 0 ∷ []) 783 bytes
 laid_payload Long bytes = around 783 [] 786 bytes
 
--- and its H3 bytes, which carry those at a negative justification
+-- the H3 bytes of a laid chunk, which carry payload at a negative justification
 abbrev pub laid_h3 : ChunkForm → List ℕ → List ℕ
 laid_h3 Plain bytes = 0 ∷ 0 ∷ 0 ∷ []
 laid_h3 Short bytes = 0 ∷ 0 ∷ 0 ∷ []

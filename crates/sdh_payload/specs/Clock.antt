@@ -1,6 +1,7 @@
--- A customer's clock, which may run fast or slow against the ring's: its port then justifies the AU-4 pointer (ITU-T G.707
--- clause 8.1). That it slips when it is told to, and when, is this project's own. What a clock is here is a few numbers and a round of
--- them; `History` tells the rule by what happened alone, and that every clock goes by it is the law `clocks_go_by_history`.
+-- A customer's clock, which may run fast or slow against the ring's: its port then justifies the AU-4 pointer (ITU-T
+-- G.707 clause 8.1). That it slips when it is ordered to, and when, is this project's own. A clock here is a few
+-- numbers and a round of them; `History` states the rule by what happened alone, and that every clock goes by it is the
+-- law `clocks_go_by_history`.
 use Rattle.std.specs.Prelude.{◌≡◌, ℕ, zero, suc, ◌+◌, ◌-◌, ◌*◌, ◌%◌, ◌≤◌, nat_le, if◌then◌else◌}
 use Rattle.sdh_payload.specs.declared.chunk.ChunkForm.{ChunkForm}
 use Rattle.sdh_payload.specs.declared.chunk.ChunkForm.TheVariants.{Plain, Short, Long}
@@ -14,7 +15,7 @@ pub record Clock : Type 0 where
   -- how many slips wait: positive justifications, each with three bytes less in its round, and negative ones, with three more
   pub ups : ℕ
   pub downs : ℕ
-  -- how many rounds come before one that may justify: the first four of all, and three behind each justification
+  -- how many rounds come before one that may justify: the first four of all, and three after each justification
   pub rest : ℕ
   -- how many bytes of the stream it has sent
   pub sent : ℕ
@@ -23,11 +24,11 @@ pub record Clock : Type 0 where
   -- what it sent in the last round, and `Plain` before the first
   pub form : ChunkForm
 
--- of a port with this offset, before round 0
+-- the clock of a port with this offset, before round 0
 abbrev pub new_clock : ℕ → Clock
 new_clock offset = record { rounds = 0; ups = 0; downs = 0; rest = 4; sent = 0; value = offset; form = Plain }
 
--- what is true of every clock of a port with this offset, after so many rounds
+-- what is true of every clock of a port with this offset, after this number of rounds
 pub record IsClock (offset rounds : ℕ) (c : Clock) : Type 0 where
   pub rounds_are : c.rounds ≡ rounds
   pub rest_few : c.rest ≤ 4
@@ -39,7 +40,7 @@ pub record IsClock (offset rounds : ℕ) (c : Clock) : Type 0 where
 abbrev pub waiting : Clock → ℕ
 waiting c = c.ups + c.downs
 
--- with so many more
+-- a clock with `count` more pending slips
 abbrev pub with_waiting : Turn → ℕ → Clock → Clock
 with_waiting Up count c = record c { ups = c.ups + count }
 with_waiting Down count c = record c { downs = c.downs + count }
@@ -65,7 +66,7 @@ after_form Long c =
 unfoldable pub ticked : Clock → Clock
 ticked c = after_form (next_form c) c
 
--- after so many
+-- a clock after k rounds
 unfoldable pub ticks : ℕ → Clock → Clock
 ticks zero c = c
 ticks (suc k) c = ticked (ticks k c)

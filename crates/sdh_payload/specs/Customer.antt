@@ -2,8 +2,8 @@
 use Rattle.std.specs.Prelude.{◌≡◌, ℕ, ◌≤◌, Bool, true, ◌&&◌, nat_le, List, length}
 use Rattle.std.specs.List.{list_all}
 
--- what is sent at one end of a circuit: the text over and over, the path trace without padding, and the
--- offset at which its VC-4s begin, as the AU-4 pointer tells it (ITU-T G.707 clause 8.1)
+-- what is sent at one end of a circuit: the text over and over, the path trace without padding, and the offset at which
+-- its VC-4s begin, as the AU-4 pointer gives it (ITU-T G.707 clause 8.1)
 pub record Customer : Type 0 where
   pub text : List ℕ
   pub trace : List ℕ

@@ -1,7 +1,7 @@
--- A customer's clock, told by history alone: what a port was told, and the rounds that went by, decide what it sends. A `Clock` keeps of
--- a history just what it needs; that every clock goes by its history is the law `clocks_go_by_history`. That a clock slips when it is
--- told to, and in which round its port makes that good by a justification of the AU-4 pointer (ITU-T G.707 clause 8.1), is this
--- project's own.
+-- A customer's clock by its history alone: the slips that were ordered at the port and the rounds that ran decide what
+-- it sends. A `Clock` keeps of a history just what it needs; that every clock goes by its history is the law
+-- `clocks_go_by_history`. That a clock slips when it is ordered to, and in which round its port makes that good by a
+-- justification of the AU-4 pointer (ITU-T G.707 clause 8.1), is this project's own.
 use Rattle.std.specs.Prelude.{ℕ, ◌+◌, ◌-◌, ◌*◌, ℤ, pos, ◌+ℤ◌, ◌-ℤ◌, Bool, true, false, not, ◌&&◌, nat_le, if◌then◌else◌, List, [], ◌∷◌}
 use Rattle.std.specs.Prelude.{length, take, count_by}
 use Rattle.std.specs.List.{list_all}
@@ -11,7 +11,7 @@ use Rattle.sdh_payload.specs.declared.chunk.ChunkForm.TheVariants.{Plain, Short,
 use Rattle.sdh_payload.specs.declared.clock.Turn.{Turn}
 use Rattle.sdh_payload.specs.declared.clock.Turn.TheVariants.{Up, Down}
 
--- what happens at a port: it is told of so many slips, or a round goes by
+-- what happens at a port: a number of slips are ordered, or a round runs
 pub data Happening : Type 0 where
   told : Turn → ℕ → Happening
   went : Happening
@@ -26,13 +26,13 @@ justifies_up Plain = false
 justifies_up Short = true
 justifies_up Long = false
 
--- one that justifies downwards sends three bytes more
+-- a chunk that justifies downwards has three bytes more
 abbrev pub justifies_down : ChunkForm → Bool
 justifies_down Plain = false
 justifies_down Short = false
 justifies_down Long = true
 
--- it does neither
+-- a chunk that justifies neither way
 abbrev pub is_plain : ChunkForm → Bool
 is_plain Plain = true
 is_plain Short = false
@@ -42,14 +42,15 @@ is_plain Long = false
 abbrev pub may_justify : List ChunkForm → Bool
 may_justify before = nat_le 4 (length before) && list_all is_plain (take 3 before)
 
--- of so many ups or downs that it was told of, those that wait: each justification used up one
+-- the pending slips up, or down, of those that were ordered: each justification used up one
 abbrev pub ups_left : ℕ → List ChunkForm → ℕ
 ups_left all before = all - count_by justifies_up before
 
 abbrev pub downs_left : ℕ → List ChunkForm → ℕ
 downs_left all before = all - count_by justifies_down before
 
--- what it sends, where it was told of so many ups and downs: it justifies where it may and one waits, and ups come before downs
+-- the form that it sends, where this number of slips up and down were ordered: it justifies where it may and a slip is
+-- pending, and ups come before downs
 abbrev pub form_then : List ChunkForm → ℕ → ℕ → ChunkForm
 form_then before ups downs =
     if not (may_justify before) then Plain else
@@ -58,7 +59,7 @@ form_then before ups downs =
 
 -- ---- what happened so far
 
--- how many ups it was told of, and how many downs
+-- the number of slips up that were ordered, and of slips down
 abbrev pub ups_told : List Happening → ℕ
 ups_told [] = 0
 ups_told (told Up count ∷ earlier) = ups_told earlier + count

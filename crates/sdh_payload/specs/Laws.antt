@@ -27,7 +27,7 @@ WhatIsLaidIsTaken =
 abbrev pub begun_in : Customer → ℕ → ℕ
 begun_in port j = if phase_of port.offset == 0 then j else j + 1
 
--- a VC-4 begins, with J1, at the payload index that the offset tells (ITU-T G.707 clause 8.1)
+-- a VC-4 begins, with J1, at the payload index that the offset gives (ITU-T G.707 clause 8.1)
 abbrev pub BeginsAtTheOffset : Type 0
 BeginsAtTheOffset =
     (port : Customer) (j : ℕ) → slice_index (chunk_of port j) (phase_of port.offset)
@@ -42,8 +42,8 @@ clock_by offset [] = new_clock offset
 clock_by offset (told turn count ∷ earlier) = with_waiting turn count (clock_by offset earlier)
 clock_by offset (went ∷ earlier) = ticked (clock_by offset earlier)
 
--- a clock tells what its history does: how many rounds went by, the slips that wait, what was sent in the last round and is sent in
--- the next, with which byte of the stream that begins, and the pointer value
+-- a clock shows what its history says: how many rounds went by, the slips that wait, what was sent in the last round
+-- and is sent in the next, with which byte of the stream that begins, and the pointer value
 pub record GoesBy (offset : ℕ) (history : List Happening) (c : Clock) : Type 0 where
   pub rounds_are : c.rounds ≡ rounds history
   pub ups_wait : c.ups ≡ ups_waiting history

@@ -6,7 +6,7 @@ use Rattle.sdh_basics.specs.Parity.{bip8}
 use Rattle.sdh_basics.specs.Cells.{cells}
 use Rattle.sdh_payload.specs.Customer.{Customer}
 
--- a trace of 64 bytes, with spaces behind
+-- a trace padded with spaces to 64 bytes
 unfoldable pub padded : List ℕ → List ℕ
 padded trace = trace ++ replicate (64 - length trace) 0x20
 

@@ -5,7 +5,7 @@ use Rattle.sdh_basics.specs.Cells.{cells}
 use Rattle.sdh_payload.specs.Customer.{Customer}
 use Rattle.sdh_payload.specs.Stream.{vc4_front, b3_of, container_byte}
 
--- whose VC-4s they are, and how many of their bytes are behind
+-- the port whose VC-4s they are, and the number of their bytes so far
 pub record Walked : Type 0 where
   pub port : Customer
   pub at : ℕ
@@ -14,8 +14,8 @@ pub record Walked : Type 0 where
 abbrev pub text_before : ℕ → ℕ → ℕ
 text_before v i = 2340 * v + 260 * (i / 261) + (i % 261 - 1)
 
--- the counters are those of the place: byte index of VC-4 number v, with its B3, the parity of its bytes behind, and the place in
--- the text of the next text byte
+-- the counters are those of the place: byte index of VC-4 number v, with its B3, the parity of its bytes so far, and
+-- the place in the text of the next text byte
 pub record IsAt (port : Customer) (number index b3 parity place : ℕ) : Type 0 where
   pub some : 0 < length port.text
   pub index_within : index < 2349
@@ -31,7 +31,7 @@ containers_from port q n = cells (λ k. container_byte port (q + k)) n
 unfoldable pub repeated_from : List ℕ → ℕ → ℕ → List ℕ
 repeated_from text place n = cells (λ k. slice_index text ((place + k) % length text)) n
 
--- the bytes are the first len of them over and over, for a place in the longest text and a row behind it
+-- the bytes are the first len of them over and over, for a place in the longest text and a row after it
 pub record Repeats (len : ℕ) (bytes : List ℕ) : Type 0 where
   pub some : 0 < len
   pub few : len ≤ 64

@@ -34,7 +34,7 @@ impl fmt::Debug for Cells {
 }
 
 impl Cells {
-    /// No bytes, with room for 2352.
+    /// Returns no bytes, with room for 2352.
     pub fn try_new(alloc: Global) -> Result<Cells, AllocError>
         ensures { IfOk result (λ cells. cells ≡ []) }
     {
@@ -43,7 +43,7 @@ impl Cells {
         })
     }
 
-    /// The bytes, at most 2352.
+    /// Returns the bytes, at most 2352.
     pub fn as_slice(&self) -> &[u8]
         ensures bytes { result.now ≡ self.now }
         ensures few { length self.now ≤ 2352 }
@@ -74,7 +74,7 @@ impl Cells {
         self.bytes.extend_from_slice(bytes).unwrap();
     }
 
-    /// So many bytes: the first of those that there are, and zeros behind them, to be written over. It takes no memory.
+    /// Makes `count` bytes to be written over: the first bytes as they were, and zeros after them. It takes no memory.
     pub fn make_room(&mut self, count: usize)
         requires { count ≤ 2352 }
         ensures bytes { self.new ≡ take count self.old ++ replicate (count - length self.old) 0 }
@@ -83,7 +83,7 @@ impl Cells {
         self.bytes.resize(count, 0).unwrap();
     }
 
-    /// Lends room for the 2349 bytes of a payload, made as `make_room` makes it. It takes no memory.
+    /// Returns room for the 2349 bytes of a payload, made as `make_room` makes it. It takes no memory.
     pub fn lend_payload(&mut self) -> &mut [u8]
         ensures* lends { sem 𝓛 (LendsRoom self.entry result) }
         ensures bytes { result.now ≡ take 2349 self.old ++ replicate (2349 - length self.old) 0 }
@@ -93,7 +93,7 @@ impl Cells {
         self.bytes.as_mut_slice()
     }
 
-    /// Lends the bytes, to be written in place.
+    /// Returns the bytes, to be written in place.
     pub fn as_mut_slice(&mut self) -> &mut [u8]
         ensures* lends { sem 𝓛 (LendsRoom self.entry result) }
         ensures bytes { result.now ≡ self.old }

@@ -4,20 +4,20 @@ ghost use Rattle.sdh_payload.specs.Chunk.{taken, taken_len, laid_payload, laid_h
 
 use crate::cells::Cells;
 
-/// How many bytes an AU-4 delivers in a frame: fewer or more in a frame with a pointer justification
-/// (ITU-T G.707 clause 8.1).
+/// The number of bytes that an AU-4 delivers in a frame: fewer or more in a frame with a pointer justification (ITU-T
+/// G.707 clause 8.1).
 #[derive(Clone, Copy, Debug, PartialEq, Eq)]
 pub enum ChunkForm {
     /// The 2349 bytes of the payload.
     Plain,
     /// Without the three stuffed bytes of a positive justification, 2346 bytes.
     Short,
-    /// With the three H3 bytes of a negative justification, 2352 bytes.
+    /// A chunk with the three H3 bytes of a negative justification, 2352 bytes.
     Long,
 }
 
-/// What a port delivers of an AU-4: the 2349 bytes of its payload and its three H3 bytes give the bytes that take the
-/// place of those in `out`. It takes no memory.
+/// Puts what a port delivers of an AU-4 in the place of the bytes in `out`. The bytes come from the 2349 bytes of the
+/// payload and the three H3 bytes. Takes no memory.
 #[tactic(auto, using(crate::proofs::Splicing::written_whole))]
 pub fn take_chunk(payload: &[u8], h3: &[u8], form: ChunkForm, out: &mut Cells)
     requires payload { length payload.now ≡ 2349 }
@@ -29,7 +29,7 @@ pub fn take_chunk(payload: &[u8], h3: &[u8], form: ChunkForm, out: &mut Cells)
     take_chunk_in_place(h3, form, out);
 }
 
-/// The same where the payload already stands in `out`, as where it was read into `Cells::lend_payload`.
+/// Takes a chunk as `take_chunk` does, where the payload is in `out` already: it was read into `Cells::lend_payload`.
 pub fn take_chunk_in_place(h3: &[u8], form: ChunkForm, out: &mut Cells)
     requires payload { length out.old ≡ 2349 }
     requires h3 { length h3.now ≡ 3 }
@@ -43,8 +43,9 @@ pub fn take_chunk_in_place(h3: &[u8], form: ChunkForm, out: &mut Cells)
     }
 }
 
-/// How a port fills an AU-4 with the bytes of a round: the payload takes their place, and the three H3 bytes are answered. The bytes
-/// at the stuffing place of a positive justification are zeros, and so is H3 but at a negative one. It takes no memory.
+/// Lays the bytes that a port sends in a round out in an AU-4: the payload takes their place in `out`, and the three H3
+/// bytes are returned. The bytes at the stuffing place of a positive justification are zeros, and so are the H3 bytes
+/// except at a negative one. It takes no memory.
 pub fn lay_chunk_in_place(form: ChunkForm, out: &mut Cells) -> [u8; 3]
     requires { length out.old ≡ taken_len form }
     ensures payload { out.new ≡ laid_payload form out.old }

@@ -5,7 +5,7 @@ ghost use Rattle.sdh_payload.specs.Clock.{new_clock, waiting, with_waiting, next
 use crate::chunk::ChunkForm;
 use std::marker::Model;
 
-/// How many values an AU-4 pointer has.
+/// The number of values of an AU-4 pointer.
 const VALUES: u16 = 783;
 
 /// A slip of a customer's clock against the ring's, which its port makes good by a justification of the AU-4 pointer
@@ -24,7 +24,7 @@ pub struct Clock {
     rounds: u64,
     ups: u8,
     downs: u8,
-    // How many rounds come before one that may slip.
+    // The number of rounds still to come before one that may slip.
     rest: u8,
     sent: u64,
     value: u16,
@@ -43,7 +43,7 @@ impl Model for Clock {
 }
 
 impl Clock {
-    /// Before round 0, with this offset.
+    /// Returns the clock of a port with this offset before round 0.
     pub fn new(offset: u16) -> Clock
         requires { offset ≤ 782 }
         ensures { result ≡ new_clock offset }
@@ -59,7 +59,7 @@ impl Clock {
         }
     }
 
-    // What is sent in the next round.
+    // Returns what is sent in the next round.
     fn next_form(&self) -> ChunkForm
         ensures { result ≡ next_form self.now }
     {
@@ -74,7 +74,7 @@ impl Clock {
         }
     }
 
-    /// A round goes by. What is sent in it.
+    /// Runs the clock for one round, and returns the form of the chunk sent in it.
     #[tactic(auto, unfolding(crate::specs::Clock::ticked))]
     pub fn tick(&mut self) -> ChunkForm
         requires { self.old.rounds < 2 ^ 32 }
@@ -106,7 +106,7 @@ impl Clock {
         form
     }
 
-    /// So many more slips wait.
+    /// Adds `count` pending slips.
     pub fn wait(&mut self, turn: Turn, count: u8)
         requires { waiting self.old + count ≤ 16 }
         ensures { self.new ≡ with_waiting turn count self.old }
@@ -117,7 +117,7 @@ impl Clock {
         }
     }
 
-    /// The pointer value before the next round.
+    /// Returns the pointer value before the next round.
     pub fn value(&self) -> u16
         ensures value { result ≡ self.now.value }
         ensures small { result ≤ 782 }
@@ -125,14 +125,14 @@ impl Clock {
         self.value
     }
 
-    /// What was sent in the last round, and `Plain` before the first.
+    /// Returns what was sent in the last round, and `Plain` before the first.
     pub fn form(&self) -> ChunkForm
         ensures { result ≡ self.now.form }
     {
         self.form
     }
 
-    /// How many slips wait.
+    /// Returns the number of pending slips.
     pub fn waiting(&self) -> u8
         ensures waiting { result ≡ waiting self.now }
         ensures few { result ≤ 16 }

@@ -12,8 +12,8 @@ use crate::port::Port;
 use crate::walk::Walk;
 use std::marker::Model;
 
-/// The stream of a port, of which each round sends 2349 bytes, or three fewer or more where the port's clock slips. It keeps a
-/// copy of the port and takes no memory.
+/// The stream of a port. Each round sends 2349 bytes of it, or three fewer or more where the port's clock slips. It
+/// keeps a copy of the port and takes no memory.
 #[derive(Debug, Drop)]
 pub struct Feed {
     walk: Walk,
@@ -31,7 +31,7 @@ impl Model for Feed {
 }
 
 impl Feed {
-    /// At the start of the port's stream, before round 0.
+    /// Returns the start of the port's stream, before round 0.
     pub fn new(port: &Port) -> Feed
         ensures { result ≡ new_feed port.now }
     {
@@ -41,9 +41,10 @@ impl Feed {
         }
     }
 
-    /// The bytes that the port sends in the next round, in place of what `out` held: 2346 where it justifies upwards, 2352 where
-    /// downwards, and otherwise 2349. One slip is used up where one waits and the clock may slip: in none of the first four rounds,
-    /// and in none of three behind a slip; ups before downs.
+    /// Puts the bytes that the port sends in the next round into `out`, in place of what it held, and returns their
+    /// form: 2346 bytes where the port justifies upwards, 2352 where downwards, and otherwise 2349. A justification
+    /// uses up one pending slip. The clock may slip in none of the first four rounds and in none of the three after a
+    /// slip; ups come before downs.
     pub fn next_form(&mut self, out: &mut Cells) -> ChunkForm
         requires { self.old.clock.rounds < 2 ^ 32 }
         ensures form { result ≡ next_form self.old.clock }
@@ -56,7 +57,8 @@ impl Feed {
         form
     }
 
-    /// The 2349 bytes that the port sends in the next round, where no slip waits. What `out` held before is dropped.
+    /// Puts the 2349 bytes that the port sends in the next round into `out`, where no slip waits. What `out` held
+    /// before is dropped.
     pub fn next(&mut self, out: &mut Cells)
         requires few { self.old.clock.rounds < 2 ^ 32 }
         requires plain { waiting self.old.clock ≡ 0 }
@@ -67,7 +69,7 @@ impl Feed {
         self.next_form(out);
     }
 
-    /// So many more slips wait.
+    /// Adds `count` pending slips.
     pub fn wait(&mut self, turn: Turn, count: u8)
         requires { waiting self.old.clock + count ≤ 16 }
         ensures { self.new ≡ record self.old { clock = with_waiting turn count self.old.clock } }
@@ -75,7 +77,7 @@ impl Feed {
         self.clock.wait(turn, count);
     }
 
-    /// The pointer value before the next round.
+    /// Returns the pointer value before the next round.
     pub fn value(&self) -> u16
         ensures value { result ≡ self.now.clock.value }
         ensures small { result ≤ 782 }
@@ -83,14 +85,14 @@ impl Feed {
         self.clock.value()
     }
 
-    /// What was sent in the last round, and `Plain` before the first.
+    /// Returns what was sent in the last round, and `Plain` before the first.
     pub fn form(&self) -> ChunkForm
         ensures { result ≡ self.now.clock.form }
     {
         self.clock.form()
     }
 
-    /// How many slips wait.
+    /// Returns the number of pending slips.
     pub fn waiting(&self) -> u8
         ensures waiting { result ≡ waiting self.now.clock }
         ensures few { result ≤ 16 }
@@ -99,7 +101,7 @@ impl Feed {
     }
 }
 
-// How many bytes are sent in this form.
+// Returns the number of bytes sent in this form.
 fn taken_len(form: ChunkForm) -> usize
     ensures len { result ≡ taken_len form }
     ensures small { result ≤ 2352 }

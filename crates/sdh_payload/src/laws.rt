@@ -12,13 +12,13 @@ pub fn what_is_laid_is_taken()
     ensures { WhatIsLaidIsTaken }
 {}
 
-/// In each chunk a VC-4 begins, with J1, at the payload index that the port's offset tells.
+/// In each chunk a VC-4 begins, with J1, at the payload index given by the port's offset.
 pub fn begins_at_the_offset()
     ensures { BeginsAtTheOffset }
 {}
 
-/// Every clock goes by its history: what it sends in the next round, with which byte of the stream that begins, its pointer value and
-/// the slips that wait are those that the slips told so far and the rounds that went by decide.
+/// Every clock goes by its history. The slips that were ordered and the number of rounds decide the bytes that the next
+/// round sends, the place in the stream with which they begin, the pointer value and the pending slips.
 pub fn clocks_go_by_history()
     ensures { ClocksGoByHistory }
 {}

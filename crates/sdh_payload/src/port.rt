@@ -11,16 +11,16 @@ use thiserror::Error;
 /// The largest offset: an AU-4 pointer counts 0 to 782 steps of three bytes (ITU-T G.707 clause 8.1).
 const MOST_OFFSET: u16 = 782;
 
-/// Why a port can't be made, in the order in which it is checked.
+/// Why a port cannot be made, in the order of the checks.
 #[derive(Clone, Copy, Debug, PartialEq, Eq, Error)]
 pub enum PortError {
     /// The offset is above 782.
     #[error("the offset is above 782")]
     Offset,
-    /// The text hasn't 1 to 64 bytes, each from 0x20 to 0x7E.
+    /// The text does not have 1 to 64 bytes from 0x20 to 0x7E.
     #[error("the text isn't 1 to 64 bytes, each from 0x20 to 0x7E")]
     Text,
-    /// The trace hasn't 1 to 64 bytes, each from 0x20 to 0x7E.
+    /// The trace does not have 1 to 64 bytes from 0x20 to 0x7E.
     #[error("the trace isn't 1 to 64 bytes, each from 0x20 to 0x7E")]
     Trace,
 }
@@ -44,14 +44,14 @@ impl Model for Port {
     ghost invariant = { λ p. IsCustomer (record { text = p.text; trace = p.trace; offset = p.offset }) };
 }
 
-// Whether each byte is a printable character of ASCII or a space.
+// Returns whether each byte is printable ASCII or a space.
 fn are_printable(bytes: &[u8]) -> bool
     ensures { result ≡ list_all is_printable bytes.now }
 {
     bytes.iter().all(|byte| *byte >= 0x20 && *byte <= 0x7E)
 }
 
-/// Whether these are 1 to 64 bytes, each from 0x20 to 0x7E.
+/// Returns whether these are 1 to 64 bytes from 0x20 to 0x7E.
 #[tactic(auto, unfolding(crate::specs::Customer::is_text))]
 pub fn is_text(bytes: &[u8]) -> bool
     ensures { result ≡ is_text bytes.now }
@@ -60,7 +60,7 @@ pub fn is_text(bytes: &[u8]) -> bool
 }
 
 impl Port {
-    /// A port with this text, trace and offset. It takes no memory.
+    /// Returns a port with this text, trace and offset. It takes no memory.
     #[tactic(auto, using(crate::proofs::Texts::text_few))]
     pub fn new(text: &[u8], trace: &[u8], offset: u16) -> Result<Port, PortError>
         ensures answer { result ≡ checked_port text.now trace.now offset }
@@ -84,7 +84,7 @@ impl Port {
         })
     }
 
-    /// An equal port. It takes no memory.
+    /// Returns an equal port. It takes no memory.
     pub fn copy(&self) -> Port
         ensures { result ≡ self.now }
     {
@@ -95,7 +95,7 @@ impl Port {
         }
     }
 
-    /// The text, 1 to 64 bytes.
+    /// Returns the text, 1 to 64 bytes.
     #[tactic(auto, using(crate::proofs::Texts::text_few, crate::proofs::Texts::text_some))]
     pub fn text(&self) -> &[u8]
         ensures text { result.now ≡ self.now.text }
@@ -106,7 +106,7 @@ impl Port {
         self.text.as_slice()
     }
 
-    /// The trace without its padding, 1 to 64 bytes.
+    /// Returns the trace without its padding, 1 to 64 bytes.
     #[tactic(auto, using(crate::proofs::Texts::text_few, crate::proofs::Texts::text_some))]
     pub fn trace(&self) -> &[u8]
         ensures trace { result.now ≡ self.now.trace }
@@ -117,7 +117,7 @@ impl Port {
         self.trace.as_slice()
     }
 
-    /// The offset, 0 to 782.
+    /// Returns the offset, 0 to 782.
     pub fn offset(&self) -> u16
         ensures offset { result ≡ self.now.offset }
         ensures small { result ≤ 782 }

@@ -9,7 +9,7 @@ use std::marker::Model;
 /// The text bytes in a row of a VC-4.
 pub const ROW: usize = 260;
 
-/// A place in the longest text, and a row behind it.
+/// A place in the longest text, and a row after it.
 const ROOM: usize = 64 + ROW;
 
 /// A text of 1 to 64 bytes. From each place in it a row's text bytes stand in one piece, whose parity is known.
@@ -19,7 +19,7 @@ pub struct Repeated {
     // The parities of the first bytes: of none, of one and so on.
     parities: [u8; ROOM + 1],
     len: usize,
-    // The place behind a row from place 0 on.
+    // The place after a row from place 0 on.
     after_row: usize,
 }
 
@@ -44,7 +44,7 @@ impl fmt::Debug for Repeated {
     }
 }
 
-// The parities of the first bytes.
+// Returns the parities of the first bytes.
 fn front_parities(bytes: &[u8; ROOM]) -> [u8; ROOM + 1]
     requires { length bytes.now ≡ 324 }
     ensures { AreFrontParities bytes.now result }
@@ -84,7 +84,7 @@ impl Repeated {
         self.len
     }
 
-    /// The bytes from a place on, at most a row of them.
+    /// Returns the bytes from a place on, at most a row of them.
     pub fn from(&self, place: usize, count: usize) -> &[u8]
         requires place { place < length self.now }
         requires count { count ≤ 260 }
@@ -95,7 +95,7 @@ impl Repeated {
         &rest[..count]
     }
 
-    /// The parity of these bytes.
+    /// Returns the parity of these bytes.
     pub fn parity(&self, place: usize, count: usize) -> u8
         requires place { place < length self.now }
         requires count { count ≤ 260 }
@@ -104,7 +104,7 @@ impl Repeated {
         self.parities[place] ^ self.parities[place + count]
     }
 
-    /// The place behind these bytes.
+    /// Returns the place after these bytes.
     pub fn behind(&self, place: usize, count: usize) -> usize
         requires place { place < length self.now }
         requires count { count ≤ 260 }

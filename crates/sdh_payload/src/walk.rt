@@ -12,7 +12,7 @@ use std::marker::Model;
 /// The bytes of a VC-4.
 const VC4_LEN: usize = 2349;
 
-/// The columns of a VC-4, the first of which is the path overhead.
+/// The number of columns of a VC-4. The first is the path overhead.
 const COLUMNS: usize = 261;
 
 /// A space, which pads a trace.
@@ -21,8 +21,8 @@ const SPACE: u8 = 0x20;
 /// The signal label C2, equipped and non-specific (ITU-T G.707 clause 9.3).
 const EQUIPPED: u8 = 1;
 
-/// The place of the next byte, with what is kept of the bytes behind it: the VC-4's B3, the parity
-/// of its bytes so far, and the place of the next text byte in the text.
+/// The place of the next byte, with what is kept of the bytes after it: the VC-4's B3, the parity of its bytes so far,
+/// and the place of the next text byte in the text.
 #[derive(Debug, Drop)]
 pub struct Walk {
     port: Port,
@@ -45,7 +45,7 @@ impl Model for Walk {
     ghost invariant = { λ w. IsAt w.port w.number w.index w.b3 w.parity w.place × (w.text ≡ w.port.text) };
 }
 
-/// J1 of VC-4 number `number`, of a port with this trace.
+/// Returns J1 of VC-4 number `number`, of a port with this trace.
 pub fn trace_byte(trace: &[u8], number: u64) -> u8
     ensures { result ≡ slice_index (padded trace.now) (number % 64) }
 {
@@ -57,7 +57,7 @@ pub fn trace_byte(trace: &[u8], number: u64) -> u8
     }
 }
 
-// The path overhead byte in a row of VC-4 number `number`.
+// Returns the path overhead byte in a row of VC-4 number `number`.
 fn overhead_byte(trace: &[u8], b3: u8, number: u64, row: usize) -> u8
     ensures { result ≡ slice_index (path_overhead trace.now b3 number) row }
 {
@@ -69,7 +69,7 @@ fn overhead_byte(trace: &[u8], b3: u8, number: u64, row: usize) -> u8
     }
 }
 
-// The byte at a place of VC-4 number 0.
+// Returns the byte at a place of VC-4 number 0.
 fn first_byte(port: &Port, index: usize) -> u8
     ensures { result ≡ vc4_byte port.now 0 0 index }
 {
@@ -82,7 +82,7 @@ fn first_byte(port: &Port, index: usize) -> u8
     text[(ROW * row + column - 1) % text.len()]
 }
 
-// The parity of the first bytes of VC-4 number 0.
+// Returns the parity of the first bytes of VC-4 number 0.
 fn first_parity(port: &Port, count: usize) -> u8
     ensures { result ≡ bip8 (vc4_front port.now 0 0 count) }
 {
@@ -93,7 +93,7 @@ fn first_parity(port: &Port, count: usize) -> u8
     parity
 }
 
-// The byte of VC-4 number 0 with which a stream begins.
+// Returns the byte of VC-4 number 0 with which a stream begins.
 fn start_index(offset: u16) -> usize
     requires { offset ≤ 782 }
     ensures start { result ≡ start_of offset }
@@ -103,7 +103,7 @@ fn start_index(offset: u16) -> usize
     (VC4_LEN - phase) % VC4_LEN
 }
 
-// The place in a text of the next text byte from a byte of VC-4 number 0 on.
+// Returns the place in a text of the next text byte from a byte of VC-4 number 0 on.
 fn first_place(index: usize, len: usize) -> usize
     requires some { 0 < len }
     requires within { index < 2349 }
@@ -114,7 +114,7 @@ fn first_place(index: usize, len: usize) -> usize
 }
 
 impl Walk {
-    /// At the first byte of a port's stream. It takes no memory.
+    /// Returns the first byte's place in a port's stream. It takes no memory.
     pub fn new(port: &Port) -> Walk
         ensures { result ≡ record { port = port.now; at = start_of port.now.offset } }
     {
@@ -174,8 +174,8 @@ impl Walk {
         }
     }
 
-    /// Puts the next bytes of one row behind the first `done`, at least one and at most as many as there is room for, and says how
-    /// many.
+    /// Puts the next bytes of one row after the first `done` of `out`, at least one and at most as many as fit, and
+    /// returns their number.
     pub fn put_some(&mut self, out: &mut [u8], done: usize) -> usize
         requires some { done < length out.old }
         requires few { self.old.at < 2 ^ 60 }

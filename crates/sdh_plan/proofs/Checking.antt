@@ -58,7 +58,7 @@ both_pass faults more x y f made e h =
     fault_behind faults (more x) parts.0 ∙ ap (λ v. first_fault (more v)) (sym parts.1) ∙ later.0 in
     ap Ok parts.1 ∙ sym (ap (λ r. unless r x) none)
 
--- the checks of one place, and those behind them
+-- the checks of one place, and those after them
 pub place_passes : (place : ℕ) (faults : List Fault) (more : List Check) → first_fault faults ≡ None
     → answer (checks_at_place place faults ++ more) ≡ answer more
 place_passes place [] more e = refl

@@ -18,7 +18,7 @@ use Rattle.sdh_plan.specs.Plans.{rate_in, n_in, nodes_in, circuits_in, threshold
 use Rattle.sdh_plan.specs.Plans.{provision_checks, script_checks, checks, plan_of}
 use Rattle.sdh_plan.proofs.Checking.{answer_behind, refused_before, refused_behind}
 
--- what the first part told: the rate and the nodes
+-- what the first part gave: the rate and the nodes
 pub record Told (ms : Members) (rate : Rate) (nodes : List ℕ) : Type 0 where
   pub rate_is : rate ≡ rate_in ms
   pub nodes_are : nodes ≡ nodes_in ms
@@ -54,7 +54,7 @@ keeps_ring p slots k nodes circuits e h =
     e ∙ ap (λ j. provisioned j nodes circuits) h ∙ ap (provisioned k nodes) (sym (ap (λ q. q.circuits) e))
 
 module _ (ms : Members) (rate : Rate) (nodes : List ℕ) (told : Told ms rate nodes) where
-  -- the checks behind those of the ring
+  -- the checks after those of the ring
   abbrev later : List Check
   later =
       settings_checks (n_of rate) ms ++ (provision_checks (n_of rate) nodes ms ++ script_checks (n_of rate) nodes (circuits_in nodes ms) ms)

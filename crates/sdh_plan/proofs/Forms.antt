@@ -1,4 +1,4 @@
--- Six words are enough to tell a step.
+-- Six words are enough to name a step.
 use Rattle.std.proofs.Common.{◌≡◌, ℕ, zero, suc, ◌-◌, ◌<◌, ◌≤◌, List, [], ◌∷◌, length, map, take, drop, get_or, Bool, true, false, ◌==◌}
 use Rattle.std.proofs.Common.{◌||◌, cond, Option, Some, None, is_none, Result, Err, ap, sym, ◌∙◌, arith, refl}
 use Rattle.std.specs.List.{list_any}
@@ -50,7 +50,7 @@ long : (n : ℕ) (nodes : List ℕ) (circuits : List Provisioned) (o : Option Ve
 long n nodes circuits None others h = refl
 long n nodes circuits (Some v) others h = mismatch nodes (parts_of n circuits v) others (omega (arith, few_parts n circuits v))
 
--- what is told of words
+-- what is true of words
 abbrev pub told : ℕ → List ℕ → List Provisioned → List (List ℕ) → Result Step Reason
 told n nodes circuits ws = unless (first_fault (form_faults n nodes circuits ws)) (form_step n nodes circuits ws)
 
@@ -76,7 +76,7 @@ told_six n nodes circuits (a ∷ (b ∷ (c ∷ (d ∷ (e ∷ (f ∷ ws)))))) h =
     ∙ sym (told_long n nodes circuits a (b ∷ (c ∷ (d ∷ (e ∷ (f ∷ []))))) (any_take 6 (a ∷ (b ∷ (c ∷ (d ∷ (e ∷ (f ∷ ws)))))) h)
     (omega arith))
 
--- where no word is empty, the first six tell the step
+-- where no word is empty, the first six give the step
 pub kept_whole : (ws ks : List (List ℕ)) → ks ≡ take 6 ws → list_any is_empty ws ≡ false → list_any is_empty ks ≡ false
 kept_whole ws ks e h = ap (λ l. list_any is_empty l) e ∙ any_take 6 ws h
 
@@ -101,7 +101,7 @@ told_first n nodes circuits first others h =
     ap (λ b. unless (cond b (Some reason.StepForm) (first_fault (verb_faults n nodes circuits (verb_of first) others)))
     (told_step n nodes circuits (verb_of first) others)) h
 
--- where no word is empty, the first word and those behind it tell the step
+-- where no word is empty, the first word and those after it give the step
 pub told_whole : {X : Type 0} (f : X → List ℕ) (n : ℕ) (nodes : List ℕ) (circuits : List Provisioned) (xs : List X) (d : X)
     (r : Result Step Reason) → 1 ≤ length xs
     → r ≡ unless (first_fault (verb_faults n nodes circuits (verb_of (f (get_or xs 0 d))) (map f (take (length xs - 1) (drop 1 xs)))))

@@ -16,7 +16,7 @@ use Rattle.sdh_plan.specs.Steps.{Past, step_of, step_faults, steps_checks, new_p
 use Rattle.sdh_plan.specs.Plans.{texts_checks, last_check}
 use Rattle.sdh_plan.proofs.Checking.{answer_behind, passes, refuses, place_passes, place_fails}
 
--- what was told of a step, by what comes of it once its reason has a place
+-- what was answered of a step, by what comes of it once its reason has a place
 pub placed_step : (told : Result Step Reason) (s : Step) (Q : Reason → Type 0)
     → MatchResult told (λ t. ◌≡◌ {A = Result Step PlanError} (Ok s) (Ok t)) Q → ((why : Reason) → Q why → ⊥) → told ≡ Ok s
 placed_step (Ok t) s Q h never = let e : ◌≡◌ {A = Result Step PlanError} (Ok s) (Ok t) = h in let same : t ≡ s = cc in ap Ok same
@@ -48,7 +48,7 @@ module _ (n : ℕ) (nodes : List ℕ) (circuits : List Provisioned) (values : Li
       ap (λ l. answer (steps_checks n nodes circuits past (i + 1) (map view l))) (drop_more values i v h)
       ∙ ap (λ w. answer (steps_checks n nodes circuits past (i + 1) (view w ∷ map view (drop (i + 1) values)))) (sym e)
 
-  -- what is told of the text
+  -- what is answered of the text
   abbrev pub Tells : Past → List ℕ → Result Step Reason → Type 0
   Tells past text told = told ≡ unless (first_fault (step_faults n nodes circuits past text)) (step_of n nodes circuits text)
 

@@ -91,7 +91,7 @@ same_end_is B B h = refl
 same_end_is A B h = cc
 same_end_is B A h = cc
 
--- the count of a port, with so many more
+-- the count of a port, with `more` more
 one_more : (xs : List ℕ) (c k more : ℕ) → c < length xs → get_or (set xs c (get_or xs c 0 + more)) k 0
     ≡ cond (k == c) (get_or xs k 0 + more) (get_or xs k 0)
 one_more xs c k more h = by (k == c) refl
@@ -122,7 +122,7 @@ slips_more s t port more few here others = fun_ext (λ other. by other (same_end
         ∙ ap (λ b. cond b (slips_in s other + more) (slips_in s other))
         (sym (ap (λ b. (other.circuit == port.circuit) && b) e ∙ both_false (other.circuit == port.circuit)))
 
--- the same of the port at an end
+-- the counts at an end with more slips of the port there
 pub slips_more_at : (s t : Slips) (port : PortId) (more : ℕ) (end : End) → port.end ≡ end → port.circuit < length (counts_at s end)
     → counts_at t end ≡ set (counts_at s end) port.circuit (slips_in s port + more)
     → ((d : End) → same_end d end ≡ false → counts_at t d ≡ counts_at s d) → slips_in t ≡ more_slips port more (slips_in s)

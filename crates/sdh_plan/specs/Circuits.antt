@@ -77,7 +77,7 @@ wish_of_table ms = unwrap_or (wish_in ms) no_wish
 abbrev pub circuit_of_table : List ℕ → Members → Provisioned
 circuit_of_table nodes ms = circuit_of nodes (wish_of_table ms)
 
--- the checks of what is asked for, behind circuits that were asked for before
+-- the checks of what is asked for, after circuits that were asked for before
 unfoldable pub wish_faults : ℕ → List ℕ → List Provisioned → Wish → List Fault
 wish_faults slots nodes before wish =
     (reason.Slot, not (has_slot slots wish))

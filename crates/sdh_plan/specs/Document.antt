@@ -66,7 +66,7 @@ elements_in key ms = unwrap_or (elements_at key ms) []
 abbrev pub is_array_of : (Data → Bool) → List ℕ → Members → Bool
 is_array_of test key ms = option_map_or (list_all test) (elements_at key ms) false
 
--- it is an integer, a string, a table
+-- the value is an integer, a string, a table
 abbrev pub is_integer : Data → Bool
 is_integer d = is_some (as_integer d)
 

@@ -13,7 +13,7 @@ use Rattle.sdh_plan.specs.Scripts.{AreSteps}
 pub record Planned : Type 0 where
   -- what an operator sets for all nodes: the rate, the threshold and the waiting time
   pub settings : Settings
-  -- a settle step has at most so many rounds
+  -- the most rounds that a settle step may have
   pub limit : ℕ
   -- the identifiers of the nodes, by position
   pub nodes : List ℕ

@@ -1,4 +1,4 @@
--- The numbers by which the reasons of `Reason` are told. They are this project's own.
+-- The numbers of the reasons of `Reason` in texts. They are this project's own.
 use Rattle.std.specs.Prelude.{ℕ}
 use Rattle.sdh_plan.specs.declared.reason.Reason.{Reason}
 use Rattle.sdh_plan.specs.declared.reason.Reason.TheVariants as reason

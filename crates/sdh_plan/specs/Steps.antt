@@ -84,12 +84,12 @@ no_number (verb.circuit circuits) word = false
 no_number verb.end word = false
 no_number verb.turn word = false
 
--- one of the words isn't what it is to be
+-- one of the words is not what it should be
 abbrev pub any_amiss : (Part → List ℕ → Bool) → List Part → List (List ℕ) → Bool
 any_amiss amiss (part ∷ parts) (word ∷ others) = amiss part word || any_amiss amiss parts others
 any_amiss amiss _ _ = false
 
--- the checks of the words behind the first
+-- the checks of the words after the first
 unfoldable pub part_faults : List ℕ → List Part → List (List ℕ) → List Fault
 part_faults nodes parts others =
     (reason.StepForm, not (length others == length parts))
@@ -99,12 +99,12 @@ part_faults nodes parts others =
     ∷ (reason.StepNumber, any_amiss no_number parts others)
     ∷ []
 
--- the checks behind the first word, which is to be listed
+-- the checks after the first word, which is to be listed
 abbrev pub verb_faults : ℕ → List ℕ → List Provisioned → Option Verb → List (List ℕ) → List Fault
 verb_faults n nodes circuits None others = (reason.StepWord, true) ∷ []
 verb_faults n nodes circuits (Some v) others = (reason.StepWord, false) ∷ part_faults nodes (parts_of n circuits v) others
 
--- the word at a place behind the first, counted from 0; no bytes where there is none
+-- the word at a place after the first, counted from 0; no bytes where there is none
 abbrev pub word_at : List (List ℕ) → ℕ → List ℕ
 word_at others i = slice_index_or others i []
 
@@ -135,7 +135,7 @@ fibre_step nodes others c = step.Fibre (record { at = position_in_words nodes ot
 abbrev pub order_step : List ℕ → List (List ℕ) → Command → Step
 order_step nodes others c = step.Order (position_in_words nodes others) (side_in_words others) c
 
--- the step that the words behind the first give
+-- the step that the words after the first give
 abbrev pub verb_step : ℕ → List ℕ → List Provisioned → Verb → List (List ℕ) → Step
 verb_step n nodes circuits verb.Cut others = fibre_step nodes others condition.Cut
 verb_step n nodes circuits verb.Mend others = fibre_step nodes others condition.Clear
@@ -155,7 +155,7 @@ form_faults n nodes circuits [] = (reason.StepForm, true) ∷ []
 form_faults n nodes circuits (first ∷ others) =
     (reason.StepForm, list_any is_empty (first ∷ others)) ∷ verb_faults n nodes circuits (verb_of first) others
 
--- the step that a first word gives with those behind it; any step where it isn't listed
+-- the step that a first word gives with those after it; any step where it isn't listed
 abbrev pub told_step : ℕ → List ℕ → List Provisioned → Option Verb → List (List ℕ) → Step
 told_step n nodes circuits first others = option_map_or (λ v. verb_step n nodes circuits v others) first step.Settle
 
@@ -179,11 +179,11 @@ pub record Past : Type 0 where
 abbrev pub new_past : Past
 new_past = record { moment = 0; settles = 0; slips = λ port. 0 }
 
--- with so many more slips of a port
+-- the counts with more slips of a port
 abbrev pub more_slips : PortId → ℕ → (PortId → ℕ) → PortId → ℕ
 more_slips port count slips other = if same_port other port then slips other + count else slips other
 
--- what the script has led to behind the step
+-- what the script has led to after the step
 abbrev pub after : Past → Step → Past
 after past (step.Fibre event) = past
 after past (step.Order at on c) = past
@@ -192,7 +192,7 @@ after past (step.Slip port turn count) = record past { slips = more_slips port c
 after past (step.Moment m) = record past { moment = m.0 }
 after past step.Settle = record past { settles = past.settles + 1; slips = λ port. 0 }
 
--- the step tells a moment below that one
+-- the step sets a moment below that one
 abbrev pub is_back : ℕ → Step → Bool
 is_back moment (step.Fibre event) = false
 is_back moment (step.Order at on c) = false

@@ -13,7 +13,7 @@ pub data Verb : Type 0 where
   Forced : Verb
   Manual : Verb
   Clear : Verb
-  -- the present moment is told
+  -- the present moment is set
   Moment : Verb
   -- rounds run until a quiet window ends
   Settle : Verb
@@ -37,8 +37,8 @@ verb_of word =
     else if bytes_eq word (codes "slip") then Some Slip
     else None
 
--- what a word behind the first is to be: the identifier of a node in the ring, a side, a number in a range, the name of one of these
--- circuits, an end of a circuit, a turn of a clock
+-- what a word after the first is to be: the identifier of a node in the ring, a side, a number in a range, the name of
+-- one of these circuits, an end of a circuit, a turn of a clock
 pub data Part : Type 0 where
   node : Part
   side : Part

@@ -21,11 +21,11 @@ is_led [] = false
 is_led (d ∷ []) = true
 is_led (d ∷ (e ∷ ds)) = not (d == 48)
 
--- the word is `0`, or decimal digits of which the first isn't `0`
+-- the word is `0`, or decimal digits that don't begin with `0`
 abbrev pub is_number : List ℕ → Bool
 is_number word = is_led word && list_all is_digit word
 
--- the number that digits give behind the digits of n
+-- the number that digits give after the digits of n
 abbrev pub decimal_from : ℕ → List ℕ → ℕ
 decimal_from n [] = n
 decimal_from n (d ∷ ds) = decimal_from (10 * n + (d - 48)) ds

@@ -23,7 +23,7 @@ use std::alloc::Global;
 use toml::value::Array;
 use toml::{Table, Value};
 
-// Whether a circuit may have the key.
+// Returns whether a circuit may have the key.
 #[tactic(auto, unfolding(crate::specs::Document::is_among))]
 fn is_circuit_key(key: &str) -> bool
     ensures { result ≡ is_among circuit_keys key.now }
@@ -34,14 +34,14 @@ fn is_circuit_key(key: &str) -> bool
     known || is_text(key, "offset_a") || is_text(key, "offset_b")
 }
 
-// Whether a circuit may have all the keys.
+// Returns whether a circuit may have all the keys.
 fn has_circuit_keys(table: &Table) -> bool
     ensures { result ≡ list_all (λ key. is_among circuit_keys (string_bytes key)) (keys table.now) }
 {
     table.keys().all(|key| is_circuit_key(key.as_str()))
 }
 
-// The text at a key, and another where the key is missing.
+// Returns the text at a key, and another where the key is missing.
 fn text_or<'a>(table: &'a Table, key: &str, other: &'a str) -> Option<&'a str>
     ensures { option_map (λ text. text.now) result ≡ text_or other.now key.now (table_view table.now) }
 {
@@ -51,7 +51,7 @@ fn text_or<'a>(table: &'a Table, key: &str, other: &'a str) -> Option<&'a str>
     }
 }
 
-// The integer at a key, and 0 where the key is missing.
+// Returns the integer at a key, and 0 where the key is missing.
 fn integer_or_0(table: &Table, key: &str) -> Option<i64>
     ensures { result ≡ integer_or_0 key.now (table_view table.now) }
 {
@@ -61,7 +61,7 @@ fn integer_or_0(table: &Table, key: &str) -> Option<i64>
     }
 }
 
-// What the table asks for, where the needed keys are there and each value has its kind.
+// Returns what the table asks for, where the needed keys are there and each value has its kind.
 #[tactic(auto, unfolding(crate::specs::Circuits::wish_in))]
 fn asked_under<'a>(table: &'a Table) -> Option<Asked<'a>>
     ensures { option_map wish_of result ≡ wish_in (table_view table.now) }
@@ -90,7 +90,7 @@ fn asked_under<'a>(table: &'a Table) -> Option<Asked<'a>>
     })
 }
 
-// Why a circuit that is asked for isn't added, at its place.
+// Returns why the circuit at a place is refused.
 fn refused_at(place: u32, why: AddError) -> PlanError
     ensures { IsRefused (refusal_at place (reason_of why)) result }
 {
@@ -166,14 +166,14 @@ fn add_circuit(
     }
 }
 
-// No circuits yet, at a rate. Half of N are working slots.
+// Returns an empty map of circuits for a rate. Half of N are working slots.
 fn no_circuits(alloc: Global, rate: Rate) -> CircuitMap
     ensures { result ≡ record { slots = n_of rate / 2; ring = None; circuits = [] } }
 {
     CircuitMap::new(alloc, (rate.n() / 2) as u8)
 }
 
-/// The circuits that the values ask for, in a ring at a rate, or the first check that fails.
+/// Returns the circuits that the values ask for, in a ring at a rate, or the first check that fails.
 pub fn circuits_of(
     alloc: Global,
     ring: &RingMap,
@@ -193,14 +193,14 @@ pub fn circuits_of(
     Ok(circuits)
 }
 
-// Whether all values are tables.
+// Returns whether all values are tables.
 fn all_tables(values: &[Value]) -> bool
     ensures { result ≡ list_all (λ value. is_table (view value)) values.now }
 {
     values.iter().all(|value| value.as_table().is_some())
 }
 
-// The array that the value is.
+// Returns the array that the value is.
 #[tactic(auto, using(crate::proofs::Elements::elements_view))]
 fn array_of(value: &Value) -> Option<&Array>
     ensures { option_map (λ array. map view array.now.items) result ≡ option_map elements (as_array (view value.now)) }
@@ -208,7 +208,7 @@ fn array_of(value: &Value) -> Option<&Array>
     value.as_array()
 }
 
-/// The circuits of a document, or the first check that fails.
+/// Returns the circuits of a document, or the first check that fails.
 #[tactic(auto, using(crate::proofs::Elements::all_tables_view), unfolding(crate::specs::Plans::provision_checks))]
 pub fn circuits_under(
     alloc: Global,

@@ -19,7 +19,7 @@ pub enum DocumentError {
     NotToml,
 }
 
-/// The document that the bytes are.
+/// Returns the document that the bytes are.
 pub fn document_of(alloc: Global, bytes: &[u8]) -> Result<Table, DocumentError>
     ensures ok { IfOk result (λ table. IsDocument bytes.now (table_view table)) }
     ensures not_toml { IsErrOf result DocumentError.NotToml → IsNoDocument bytes.now }
@@ -31,21 +31,21 @@ pub fn document_of(alloc: Global, bytes: &[u8]) -> Result<Table, DocumentError>
     }
 }
 
-/// Whether the key is this text.
+/// Returns whether the key is this text.
 pub fn is_text(key: &str, text: &str) -> bool
     ensures { result ≡ bytes_eq key.now text.now }
 {
     key == text
 }
 
-/// The value at a key.
+/// Returns the value at a key.
 pub fn value_under<'a>(table: &'a Table, key: &str) -> Option<&'a Value>
     ensures { option_map (λ value. view value.now) result ≡ get_member key.now (table_view table.now) }
 {
     table.get(key)
 }
 
-/// The integer at a key.
+/// Returns the integer at a key.
 pub fn integer_under(table: &Table, key: &str) -> Option<i64>
     ensures { result ≡ integer_at key.now (table_view table.now) }
 {
@@ -55,7 +55,7 @@ pub fn integer_under(table: &Table, key: &str) -> Option<i64>
     }
 }
 
-// The number, where it is from `low` to `high`.
+// Returns the number, where it is from `low` to `high`.
 fn number_of(value: i64, low: u32, high: u32) -> Option<u32>
     ensures number { result ≡ number_in low high value }
     ensures range { IfSome result (λ number. (low ≤ number) × (number ≤ high)) }
@@ -66,7 +66,7 @@ fn number_of(value: i64, low: u32, high: u32) -> Option<u32>
     }
 }
 
-/// The integer at a key, where it is from `low` to `high`.
+/// Returns the integer at a key, where it is from `low` to `high`.
 pub fn number_under(table: &Table, key: &str, low: u32, high: u32) -> Option<u32>
     ensures number { result ≡ number_at key.now low high (table_view table.now) }
     ensures range { IfSome result (λ number. (low ≤ number) × (number ≤ high)) }
@@ -77,7 +77,7 @@ pub fn number_under(table: &Table, key: &str, low: u32, high: u32) -> Option<u32
     }
 }
 
-/// The text at a key.
+/// Returns the text at a key.
 pub fn text_under<'a>(table: &'a Table, key: &str) -> Option<&'a str>
     ensures { option_copied result ≡ text_at key.now (table_view table.now) }
 {
@@ -87,7 +87,7 @@ pub fn text_under<'a>(table: &'a Table, key: &str) -> Option<&'a str>
     }
 }
 
-/// The array at a key.
+/// Returns the array at a key.
 #[tactic(auto, using(crate::proofs::Elements::elements_view))]
 pub fn array_under<'a>(table: &'a Table, key: &str) -> Option<&'a Array>
     ensures { option_map (λ array. map view array.now.items) result ≡ elements_at key.now (table_view table.now) }
@@ -98,7 +98,7 @@ pub fn array_under<'a>(table: &'a Table, key: &str) -> Option<&'a Array>
     }
 }
 
-/// The text that the value is; an empty one where it is none.
+/// Returns the text that the value is; an empty one where it is none.
 pub fn text_of(value: &Value) -> &str
     ensures { result.now ≡ string_of (view value.now) }
 {

@@ -29,7 +29,7 @@ impl<T: Drop> From<AllocFailed<T>> for PlanError {
     }
 }
 
-/// A check of the whole document fails.
+/// Returns the error of a check of the whole document.
 pub fn of_document(reason: Reason) -> PlanError
     ensures { result ≡ PlanError.BadPlan reason 0 }
 {

@@ -18,7 +18,7 @@ use sdh_request::{Command, Moment};
 use sdh_ringmap::{Pos, RingMap, Side};
 use sdh_terms::{Condition, FibreEvent, Rate};
 
-// The position of the node whose identifier the word is.
+// Returns the position of the node whose identifier the word is.
 #[tactic(auto, unfolding(crate::specs::Steps::node_identified))]
 fn node_at(ring: &RingMap, word: &[u8]) -> Option<Pos>
     ensures { result ≡ node_identified ring.now word.now }
@@ -29,7 +29,7 @@ fn node_at(ring: &RingMap, word: &[u8]) -> Option<Pos>
     }
 }
 
-// The side that the word names.
+// Returns the side that the word names.
 fn side_at(word: &[u8]) -> Option<Side>
     ensures { result ≡ side_at word.now }
 {
@@ -42,7 +42,7 @@ fn side_at(word: &[u8]) -> Option<Side>
     }
 }
 
-// The circuit whose name the word is, counted from 0.
+// Returns the circuit whose name the word is, counted from 0.
 #[tactic(auto, unfolding(crate::specs::Steps::circuit_named))]
 fn circuit_named(circuits: &CircuitMap, word: &[u8]) -> Option<u8>
     ensures { result ≡ circuit_named circuits.now.circuits word.now }
@@ -55,7 +55,7 @@ fn circuit_named(circuits: &CircuitMap, word: &[u8]) -> Option<u8>
     None
 }
 
-// The end of a circuit that the word names.
+// Returns the end of a circuit that the word names.
 fn end_at(word: &[u8]) -> Option<End>
     ensures { result ≡ end_at word.now }
 {
@@ -68,7 +68,7 @@ fn end_at(word: &[u8]) -> Option<End>
     }
 }
 
-// The turn of a clock that the word names.
+// Returns the turn of a clock that the word names.
 fn turn_at(word: &[u8]) -> Option<Turn>
     ensures { result ≡ turn_at word.now }
 {
@@ -81,7 +81,7 @@ fn turn_at(word: &[u8]) -> Option<Turn>
     }
 }
 
-// The position of the node and the side that the words name, or the reason of the first check that fails.
+// Returns the position of the node and the side that the words name, or the reason of the first check that fails.
 fn node_and_side(ring: &RingMap, node: &[u8], side: &[u8]) -> Result<(Pos, Side), Reason>
     ensures both { IfOk result (λ both. (node_identified ring.now node.now ≡ Some both.0) × (side_at side.now ≡ Some both.1)) }
     ensures reason { IfErr result (λ reason. first_fault ((Reason.StepNode, is_none (node_identified ring.now node.now))
@@ -96,7 +96,7 @@ fn node_and_side(ring: &RingMap, node: &[u8], side: &[u8]) -> Result<(Pos, Side)
     Ok((at, side))
 }
 
-// The fibre that the words name comes into the condition.
+// Returns the step that gives the fibre named by the words a condition.
 #[tactic(auto, unfolding(crate::specs::Steps::part_faults))]
 fn fibre(ring: &RingMap, others: &[&[u8]], condition: Condition) -> Result<Step, Reason>
     ensures { result ≡ unless (first_fault (part_faults ring.now (node ∷ side ∷ []) (map (λ word. word.now) others.now)))
@@ -113,7 +113,7 @@ fn fibre(ring: &RingMap, others: &[&[u8]], condition: Condition) -> Result<Step,
     }))
 }
 
-// The fibre that the words name is degraded, at most by 3N.
+// Returns the step that degrades the fibre named by the words, by at most 3N columns.
 #[tactic(auto, unfolding(crate::specs::Steps::part_faults))]
 fn degrade(ring: &RingMap, rate: Rate, others: &[&[u8]]) -> Result<Step, Reason>
     ensures { result ≡ unless
@@ -135,7 +135,7 @@ fn degrade(ring: &RingMap, rate: Rate, others: &[&[u8]]) -> Result<Step, Reason>
     }))
 }
 
-// The side that the words name gets the command.
+// Returns the step that gives the side named by the words a command.
 #[tactic(auto, unfolding(crate::specs::Steps::part_faults))]
 fn order(ring: &RingMap, others: &[&[u8]], command: Command) -> Result<Step, Reason>
     ensures { result ≡ unless (first_fault (part_faults ring.now (node ∷ side ∷ []) (map (λ word. word.now) others.now)))
@@ -148,7 +148,7 @@ fn order(ring: &RingMap, others: &[&[u8]], command: Command) -> Result<Step, Rea
     Ok(Step::Order(at, side, command))
 }
 
-// The present moment is the one that the word tells.
+// Returns the step that sets the present moment to the word's.
 #[tactic(auto, unfolding(crate::specs::Steps::part_faults))]
 fn moment(ring: &RingMap, others: &[&[u8]]) -> Result<Step, Reason>
     ensures { result ≡ unless (first_fault (part_faults ring.now (number 0 1000000000 ∷ []) (map (λ word. word.now) others.now)))
@@ -163,7 +163,7 @@ fn moment(ring: &RingMap, others: &[&[u8]]) -> Result<Step, Reason>
     Ok(Step::Moment(Moment(u64::from(number))))
 }
 
-// The controller of the node misses so many of the next rounds.
+// Returns the step by which the node's controller misses `count` rounds.
 #[tactic(auto, unfolding(crate::specs::Steps::part_faults))]
 fn hold(ring: &RingMap, others: &[&[u8]]) -> Result<Step, Reason>
     ensures { result ≡ unless (first_fault (part_faults ring.now (node ∷ number 1 100 ∷ []) (map (λ word. word.now) others.now)))
@@ -182,7 +182,7 @@ fn hold(ring: &RingMap, others: &[&[u8]]) -> Result<Step, Reason>
     Ok(Step::Hold(at, turns))
 }
 
-// The clock of the port that the words name slips so many times more.
+// Returns the step that adds `count` slips to the clock of the port named by the words.
 #[tactic(auto, unfolding(crate::specs::Steps::part_faults))]
 fn slip(ring: &RingMap, circuits: &CircuitMap, others: &[&[u8]]) -> Result<Step, Reason>
     ensures { result ≡ unless (first_fault (part_faults ring.now (circuit circuits.now.circuits ∷ end ∷ turn ∷ number 1 16 ∷ [])
@@ -207,7 +207,7 @@ fn slip(ring: &RingMap, circuits: &CircuitMap, others: &[&[u8]]) -> Result<Step,
     Ok(Step::Slip(PortId { circuit, end }, turn, count as u8))
 }
 
-// Rounds run until a quiet window ends.
+// Returns the step that runs rounds until a quiet window ends.
 #[tactic(auto, unfolding(crate::specs::Steps::part_faults))]
 fn settle(ring: &RingMap, others: &[&[u8]]) -> Result<Step, Reason>
     ensures { result ≡ unless (first_fault (part_faults ring.now [] (map (λ word. word.now) others.now))) Step.Settle }
@@ -219,7 +219,7 @@ fn settle(ring: &RingMap, others: &[&[u8]]) -> Result<Step, Reason>
     }
 }
 
-// The step that a first word and those behind it give at a rate.
+// Returns the step that a first word and those after it give at a rate.
 fn told(
     ring: &RingMap,
     circuits: &CircuitMap,
@@ -256,7 +256,7 @@ fn told(
     }
 }
 
-// The step that words give, of which none is empty.
+// Returns the step that words give. None of the words is empty.
 #[tactic(auto, unfolding(crate::specs::Steps::form_faults, crate::specs::Steps::form_step))]
 fn step_in(
     ring: &RingMap,
@@ -274,7 +274,8 @@ fn step_in(
     told(ring, circuits, rate, first, others)
 }
 
-/// The step that a text gives, in a ring of these circuits at a rate, or the reason of the first check that fails.
+/// Returns the step that a text gives, in a ring of these circuits at a rate, or the reason of the first check that
+/// fails.
 pub fn step_of(
     ring: &RingMap,
     circuits: &CircuitMap,

@@ -17,7 +17,7 @@ pub struct Past {
 }
 
 impl Past {
-    /// Nothing has happened yet.
+    /// Returns the past before the first step.
     pub fn start() -> Past
         ensures { past_in result ≡ new_past }
     {
@@ -28,7 +28,7 @@ impl Past {
         }
     }
 
-    /// Goes on behind the step, or answers the reason why the step can't stand there.
+    /// Goes on after the step, or returns the reason why the step can't stand there.
     #[tactic(auto, unfolding(crate::specs::Steps::past_faults))]
     pub fn follow(&mut self, step: Step) -> Result<(), Reason>
         ensures reason { result ≡ unless (first_fault (past_faults (past_in self.old) step)) tt }

@@ -32,9 +32,9 @@ impl Model for Plan {
 }
 
 impl Plan {
-    /// A plan of these parts, which are those of a plan: the settings of its nodes, how many rounds a settle step has at
-    /// most, the ring with its circuits, and the steps of its script. What a document has to be for that is checked where
-    /// it is read.
+    /// Returns a plan of these parts, which are those of a plan: the settings of its nodes, how many rounds a settle
+    /// step has at most, the ring with its circuits, and the steps of its script. What a document has to be for that is
+    /// checked where it is read.
     pub fn from_parts(
         settings: Settings,
         limit: u32,
@@ -55,7 +55,7 @@ impl Plan {
         }
     }
 
-    /// The rate, the threshold and the waiting time.
+    /// Returns the rate, the threshold and the waiting time.
     pub fn settings(&self) -> Settings
         ensures settings { result ≡ self.now.settings }
         ensures from_1 { 1 ≤ result.threshold }
@@ -65,7 +65,7 @@ impl Plan {
         self.settings
     }
 
-    /// How many rounds a settle step has at most, 1 to 65,536.
+    /// Returns how many rounds a settle step has at most, 1 to 65,536.
     pub fn limit(&self) -> u32
         ensures limit { result ≡ self.now.limit }
         ensures from_1 { 1 ≤ result }
@@ -74,21 +74,21 @@ impl Plan {
         self.limit
     }
 
-    /// The nodes of the ring, 2 to 16.
+    /// Returns the nodes of the ring, 2 to 16.
     pub fn map(&self) -> &RingMap
         ensures { result.now ≡ self.now.nodes }
     {
         &self.ring
     }
 
-    /// The circuits. Half of N are working slots, and the ring that is kept is the plan's.
+    /// Returns the circuits. Half of N are working slots, and the ring that is kept is the plan's.
     pub fn circuits(&self) -> &CircuitMap
         ensures { result.now ≡ provisioning_of self.now }
     {
         &self.circuits
     }
 
-    /// The steps of the script, 1 to 1,000.
+    /// Returns the steps of the script, 1 to 1,000.
     pub fn steps(&self) -> &[Step]
         ensures steps { result.now ≡ self.now.steps }
         ensures form { IsPlanned self.now }
@@ -96,7 +96,7 @@ impl Plan {
         &self.steps
     }
 
-    /// The ring, the circuits and the steps.
+    /// Returns the ring, the circuits and the steps.
     pub fn into_parts(self) -> (RingMap, CircuitMap, Vec<Step>)
         ensures ring { result.0 ≡ self.nodes }
         ensures circuits { result.1 ≡ provisioning_of self }

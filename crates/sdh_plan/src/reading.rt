@@ -15,7 +15,7 @@ use crate::script::script_under;
 use std::alloc::Global;
 use toml::Table;
 
-// The plan of a document, or the first check that fails.
+// Returns the plan of a document, or the first check that fails.
 fn plan_under(alloc: Global, table: &Table) -> Result<Plan, PlanError>
     ensures plan { IfOk result (λ plan. plan ≡ plan_of (table_view table.now)) }
     ensures passed { OnOk result (answer (checks (table_view table.now)) ≡ None) }
@@ -34,7 +34,8 @@ fn plan_under(alloc: Global, table: &Table) -> Result<Plan, PlanError>
     })
 }
 
-/// The plan of a TOML document in UTF-8, or why there is none: its bytes are no document, or the first check that fails.
+/// Returns the plan of a TOML document in UTF-8, or the reason for its refusal: its bytes are no document, or the first
+/// check that fails.
 pub fn read_plan(alloc: Global, bytes: &[u8]) -> Result<Plan, PlanError>
     ensures ok { IfOk result (IsPlanOf bytes.now) }
     ensures refused { IfErr result (IsWhy bytes.now) }

@@ -15,7 +15,7 @@ pub enum Reason {
     Slot = 4,
     /// An end isn't in the ring.
     End = 5,
-    /// Both ends are the same node.
+    /// Both ends are one node.
     SameEnds = 6,
     /// An offset isn't 0 to 782.
     Offset = 7,
@@ -59,7 +59,7 @@ pub enum Reason {
     StepNumber = 26,
     /// The moment is below the one before.
     MomentBack = 27,
-    /// It is the 65th settle step.
+    /// The step is the 65th settle step.
     Settles = 28,
     /// The last step runs no rounds.
     LastStep = 29,
@@ -70,7 +70,7 @@ pub enum Reason {
 }
 
 impl Reason {
-    /// The number by which the reason is told, 1 to 31.
+    /// Returns the number of the reason in texts, 1 to 31.
     pub fn number(self) -> u8
         ensures { result ≡ reason_number self }
     {

@@ -20,7 +20,7 @@ use sdh_ringmap::{MapError, RingMap};
 use sdh_terms::Rate;
 use toml::{Table, Value};
 
-// Whether a document may have the key.
+// Returns whether a document may have the key.
 #[tactic(auto, unfolding(crate::specs::Document::is_among))]
 fn is_document_key(key: &str) -> bool
     ensures { result ≡ is_among document_keys key.now }
@@ -30,14 +30,14 @@ fn is_document_key(key: &str) -> bool
     known || is_text(key, "script") || is_text(key, "circuit")
 }
 
-// Whether a document may have all the keys.
+// Returns whether a document may have all the keys.
 fn has_document_keys(table: &Table) -> bool
     ensures { result ≡ list_all (λ key. is_among document_keys (string_bytes key)) (keys table.now) }
 {
     table.keys().all(|key| is_document_key(key.as_str()))
 }
 
-// The rate: STM-4 or STM-16.
+// Returns the rate: STM-4 or STM-16.
 #[tactic(auto, unfolding(crate::specs::Plans::rate_at))]
 fn rate_under(table: &Table) -> Option<Rate>
     ensures { result ≡ rate_at (table_view table.now) }
@@ -49,14 +49,14 @@ fn rate_under(table: &Table) -> Option<Rate>
     }
 }
 
-// Whether all values are integers.
+// Returns whether all values are integers.
 fn all_integers(values: &[Value]) -> bool
     ensures { result ≡ list_all (λ value. is_integer (view value)) values.now }
 {
     values.iter().all(|value| value.as_integer().is_some())
 }
 
-// The integer that the value is; 0 where it is none.
+// Returns the integer that the value is; 0 where it is none.
 fn integer_of(value: &Value) -> i64
     ensures { result ≡ integer_of (view value.now) }
 {
@@ -66,7 +66,7 @@ fn integer_of(value: &Value) -> i64
     }
 }
 
-// The integers that the values are.
+// Returns the integers that the values are.
 fn integers_of(values: &[Value]) -> ArrayVec<i64, 16>
     requires { length values.now ≤ 16 }
     ensures { result.items ≡ map integer_of (map view values.now) }
@@ -78,7 +78,7 @@ fn integers_of(values: &[Value]) -> ArrayVec<i64, 16>
     numbers
 }
 
-// The ring whose nodes have these identifiers, or the first check that fails.
+// Returns the ring whose nodes have these identifiers, or the first check that fails.
 #[tactic(auto, using(crate::proofs::Nodes::count_fails, crate::proofs::Nodes::node_fails, crate::proofs::Nodes::repeat_fails, crate::proofs::Nodes::nodes_pass, crate::proofs::Nodes::nodes_made, crate::proofs::Nodes::too_many))]
 fn ring_of(values: &[Value]) -> Result<RingMap, PlanError>
     ensures ring { IfOk result (λ ring. ring ≡ map magnitude (map integer_of (map view values.now))) }
@@ -108,7 +108,7 @@ fn ring_of(values: &[Value]) -> Result<RingMap, PlanError>
     }
 }
 
-/// The rate and the ring of a document, or the first check that fails.
+/// Returns the rate and the ring of a document, or the first check that fails.
 #[tactic(auto, using(crate::proofs::Elements::all_keys_view, crate::proofs::Elements::all_integers_view), unfolding(crate::specs::Plans::ring_checks, crate::specs::Document::has_only))]
 pub fn ring_under(table: &Table) -> Result<(Rate, RingMap), PlanError>
     ensures rate { IfOk result (λ both. both.0 ≡ rate_in (table_view table.now)) }
@@ -132,7 +132,7 @@ pub fn ring_under(table: &Table) -> Result<(Rate, RingMap), PlanError>
     Ok((rate, ring))
 }
 
-/// The settings and the limit of a document, or the first check that fails.
+/// Returns the settings and the limit of a document, or the first check that fails.
 #[tactic(auto, unfolding(crate::specs::Plans::settings_checks))]
 pub fn settings_under(table: &Table, rate: Rate) -> Result<(Settings, u32), PlanError>
     ensures threshold { IfOk result (λ both. threshold_at (n_of rate) (table_view table.now) ≡ Some both.0.threshold) }

@@ -22,7 +22,8 @@ use sdh_terms::Rate;
 use std::alloc::Global;
 use toml::{Table, Value};
 
-// The step that a text gives, or the reason of the first check that fails. The script has then led to what is behind the step.
+// Returns the step that a text gives, or the reason of the first check that fails. The script has then led to what is
+// after the step.
 fn next_step(
     ring: &RingMap,
     circuits: &CircuitMap,
@@ -39,7 +40,7 @@ fn next_step(
     Ok(step)
 }
 
-/// The steps that texts give, or the first check that fails.
+/// Returns the steps that texts give, or the first check that fails.
 pub fn steps_of(
     alloc: Global,
     ring: &RingMap,
@@ -67,14 +68,14 @@ pub fn steps_of(
     Ok(steps)
 }
 
-// Whether each value is a text.
+// Returns whether each value is a text.
 fn each_text(values: &[Value]) -> bool
     ensures { result ≡ list_all (λ value. is_string (view value)) values.now }
 {
     values.iter().all(|value| value.as_str().is_some())
 }
 
-// Whether all elements of an array are texts.
+// Returns whether all elements of an array are texts.
 #[tactic(auto, using(crate::proofs::Elements::all_texts_view))]
 fn all_texts(values: &[Value]) -> bool
     ensures { result ≡ list_all is_string (map view values.now) }
@@ -82,7 +83,7 @@ fn all_texts(values: &[Value]) -> bool
     each_text(values)
 }
 
-// Whether the last step runs rounds.
+// Returns whether the last step runs rounds.
 fn ends_settled(steps: &[Step]) -> bool
     ensures { result ≡ ends_settled steps.now }
 {
@@ -92,7 +93,7 @@ fn ends_settled(steps: &[Step]) -> bool
     }
 }
 
-// The steps that texts give, the last of which runs rounds, or the first check that fails.
+// Returns the steps that texts give, or the first check that fails. The last step runs rounds.
 #[tactic(auto, using(crate::proofs::Checking::refused_before, crate::proofs::Checking::refused_behind, crate::proofs::Scripts::counted, crate::proofs::Scripts::last_fails, crate::proofs::Scripts::last_passes))]
 fn settled_steps(
     alloc: Global,
@@ -118,7 +119,7 @@ fn settled_steps(
     Ok(steps)
 }
 
-/// The steps of a document's script, or the first check that fails.
+/// Returns the steps of a document's script, or the first check that fails.
 #[tactic(auto, unfolding(crate::specs::Plans::script_checks))]
 pub fn script_under(
     alloc: Global,

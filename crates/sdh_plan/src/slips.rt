@@ -5,7 +5,7 @@ ghost use Rattle.sdh_plan.specs.Counted.{slips_in};
 
 use sdh_circuits::{End, PortId};
 
-/// How many slips each port was given.
+/// The number of slips that each port was given.
 #[derive(Debug, Drop)]
 pub struct Slips {
     at_a: [u8; 256],
@@ -13,7 +13,7 @@ pub struct Slips {
 }
 
 impl Slips {
-    /// No port was given one.
+    /// Returns counts of 0 for all ports.
     pub fn new() -> Slips
         ensures { slips_in result ≡ (λ port. 0) }
     {
@@ -23,7 +23,7 @@ impl Slips {
         }
     }
 
-    /// How many the port was given.
+    /// Returns how many the port was given.
     #[tactic(auto, unfolding(crate::specs::Counted::slips_in))]
     pub fn count(&self, port: PortId) -> u8
         ensures { result ≡ slips_in self.now port }
@@ -34,7 +34,7 @@ impl Slips {
         }
     }
 
-    /// Gives the port so many more.
+    /// Adds `more` slips to the port's count.
     pub fn add(&mut self, port: PortId, more: u8)
         requires { slips_in self.old port + more ≤ 255 }
         ensures { slips_in self.new ≡ more_slips port more (slips_in self.old) }

@@ -14,9 +14,9 @@ pub enum Step {
     Order(Pos, Side, Command),
     /// The present moment is this one.
     Moment(Moment),
-    /// The controller of a node misses so many of the next rounds.
+    /// The controller of a node misses this number of the next rounds.
     Hold(Pos, u32),
-    /// The clock of a port is to slip so many times more, at most 16 times between two settle steps.
+    /// The clock of a port is to slip this number of times, at most 16 times between two settle steps.
     Slip(PortId, Turn, u8),
     /// Rounds run until a quiet window ends.
     Settle,

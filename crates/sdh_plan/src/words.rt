@@ -8,14 +8,14 @@ ghost use Rattle.sdh_plan.specs.Words.{words, is_empty, is_digit, is_led, decima
 
 use arrayvec::ArrayVec;
 
-/// Whether the word is this text.
+/// Returns whether the word is this text.
 pub fn is_word(word: &[u8], text: &str) -> bool
     ensures { result ≡ bytes_eq word.now text.now }
 {
     word == text.as_bytes()
 }
 
-// The place of the first space.
+// Returns the place of the first space.
 fn first_space(text: &[u8]) -> Option<usize>
     ensures place { result ≡ position (λ byte. byte == 32) text.now }
     ensures within { IfSome result (λ at. at < length text.now) }
@@ -23,7 +23,7 @@ fn first_space(text: &[u8]) -> Option<usize>
     text.iter().position(|byte| *byte == b' ')
 }
 
-// The text up to its first space, and what is behind that, if there is one.
+// Returns the text up to its first space, and the text after that space, if there is one.
 fn cut(text: &[u8]) -> (&[u8], Option<&[u8]>)
     ensures cut { words text.now ≡ result.0.now ∷ option_map_or (λ rest. words rest.now) result.1 [] }
     ensures shorter { IfSome result.1 (λ rest. length rest.now < length text.now) }
@@ -34,7 +34,7 @@ fn cut(text: &[u8]) -> (&[u8], Option<&[u8]>)
     }
 }
 
-/// The first six words of a text, or `None` where one of its words is empty.
+/// Returns the first six words of a text, or `None` where one of its words is empty.
 pub fn words_of(text: &[u8]) -> Option<ArrayVec<&[u8], 6>>
     ensures words { IfSome result (λ kept. map (λ word. word.now) kept.items ≡ take 6 (words text.now)) }
     ensures whole { IfSome result (λ _. list_any is_empty (words text.now) ≡ false) }
@@ -55,7 +55,7 @@ pub fn words_of(text: &[u8]) -> Option<ArrayVec<&[u8], 6>>
     Some(words)
 }
 
-// The number that digits are, where each byte is one and it is below 2 ^ 32. A larger one may be given too.
+// Returns the number that digits are, where each byte is one and it is below 2 ^ 32. A larger one may be given too.
 fn decimal(digits: &[u8]) -> Option<u64>
     ensures number { IfSome result (λ number. (list_all is_digit digits.now ≡ true) × (number ≡ decimal_from 0 digits.now)) }
     ensures none { IfNone result ((list_all is_digit digits.now ≡ false) ⊎ (2 ^ 32 ≤ decimal_from 0 digits.now)) }
@@ -73,7 +73,7 @@ fn decimal(digits: &[u8]) -> Option<u64>
     Some(number)
 }
 
-// Whether the word begins as a number does: with no `0` before other bytes.
+// Returns whether the word begins as a number does: with no `0` before other bytes.
 fn is_led(word: &[u8]) -> bool
     ensures { result ≡ is_led word.now }
 {
@@ -84,8 +84,8 @@ fn is_led(word: &[u8]) -> bool
     }
 }
 
-/// The number that the word is, where it is one from `low` to `high`: decimal digits, the first of which isn't `0`
-/// unless it is the only one.
+/// Returns the number that the word is, where it is one from `low` to `high`: decimal digits that don't begin with `0`,
+/// or `0` alone.
 #[tactic(auto, unfolding(crate::specs::Words::numeral_in))]
 pub fn numeral_in(word: &[u8], low: u32, high: u32) -> Option<u32>
     ensures number { result ≡ numeral_in low high word.now }

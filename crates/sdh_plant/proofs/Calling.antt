@@ -50,7 +50,7 @@ fibre-lt : (n p : ℕ) (d : Side) → p < n → fibre p d < 2 * n
 fibre-lt n p West lt = omega arith
 fibre-lt n p East lt = omega arith
 
--- where no arrivals are told
+-- where there are no told arrivals
 untold : (f : Fibres) (p : ℕ) (d : Side) → f.told ≡ None → arrival f p d ≡ honest_arrival f p d
 untold f p d none = ap (λ t. option_map_or next_told t (honest_arrival f p d)) none
 

@@ -1,4 +1,4 @@
--- A frame behind a degraded fibre, byte by byte.
+-- A frame after a degraded fibre, byte by byte.
 use Rattle.std.proofs.Common.{◌≡◌, ℕ, ◌+◌, ◌*◌, ◌/◌, ◌%◌, ◌<◌, ◌≤◌, Bool, true, false, List, [], ◌∷◌, length, get_or, refl, ap, sym, ◌∙◌}
 use Rattle.std.proofs.Common.{arith, inl, inr}
 use Rattle.std.specs.Prelude.{slice_index, bit_xor, if◌then◌else◌}
@@ -29,7 +29,7 @@ unfolding degraded_byte
 byte_behind Four k i x few low = grind (arith, nat_tests)
 byte_behind Sixteen k i x few low = grind (arith, nat_tests)
 
--- a place is before the part, in it or behind it
+-- a place is before the part, in it or after it
 pub degraded-from : (rate : Rate) (k : ℕ) (old new : List ℕ) → k ≤ 3 * n_of rate → length new ≡ length old
     → ((i : ℕ) → i < 1350 * n_of rate → slice_index new i ≡ slice_index old i)
     → ((i : ℕ) → 1350 * n_of rate ≤ i → i < 1350 * n_of rate + k → slice_index new i ≡ bit_xor (slice_index old i) 0x80)

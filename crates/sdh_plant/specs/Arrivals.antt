@@ -17,11 +17,11 @@ use Rattle.sdh_terms.specs.Fibres.{fibre_to}
 abbrev pub is_inverted : ℕ → ℕ → ℕ → Bool
 is_inverted k row column = (row == 6) && nat_le column k
 
--- byte i of a frame behind such a fibre, where x was sent; a row has 270 N bytes
+-- byte i of a frame after such a fibre, where x was sent; a row has 270 N bytes
 unfoldable pub degraded_byte : ℕ → ℕ → ℕ → ℕ → ℕ
 degraded_byte n k i x = if is_inverted k (i / (270 * n) + 1) (i % (270 * n) + 1) then bit_xor x 0x80 else x
 
--- a frame behind such a fibre
+-- a frame after such a fibre
 unfoldable pub degraded : ℕ → ℕ → List ℕ → List ℕ
 degraded n k bytes = map_from (degraded_byte n k) 0 bytes
 

@@ -34,7 +34,7 @@ prepared rate n f =
 abbrev pub after_apply : Fibres → ℕ → Side → Condition → Fibres
 after_apply f p d condition = record f { conditions = slice_set f.conditions (fibre p d) condition }
 
--- it carries this frame
+-- the fibre that leaves position p on that side carries this frame
 abbrev pub after_send : Fibres → ℕ → Side → List ℕ → Fibres
 after_send f p d bytes =
     record f { carried = slice_set f.carried (fibre p d) (Some bytes); sent = option_map (λ sent. sent ++ bytes ∷ []) f.sent }
@@ -47,6 +47,6 @@ carried_or_zeros carried frame = record frame { bytes = option_map_or (λ bytes.
 abbrev pub IsExchanged : Arrival → Frame → Frame → Type 0
 IsExchanged carried old new = (new ≡ old) ⊎ (new ≡ carried_or_zeros carried old)
 
--- one of the told arrivals was given
+-- the fibres once one of the told arrivals was given
 abbrev pub after_receive : Fibres → Fibres
 after_receive f = record f { told = option_map (drop 1) f.told }

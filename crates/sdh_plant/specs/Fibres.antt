@@ -1,4 +1,4 @@
--- What a plant means: the fibres of a ring, and what it tells of the frames to come and of those that were sent. This
+-- What a plant means: the fibres of a ring, and what it shows of the frames to come and of those that were sent. This
 -- project's own; each span has two fibres, one each way, as in a two-fibre ring of ITU-T G.841.
 use Rattle.std.specs.Prelude.{ℕ, ◌≡◌, ◌*◌, ◌≤◌, true, Bool, Option, None, List, length, All}
 use Rattle.sdh_terms.specs.declared.Rate.{Rate}
@@ -19,9 +19,9 @@ pub record Fibres : Type 0 where
   pub conditions : List Condition
   -- the last frame sent on each fibre, or nothing where none was sent
   pub carried : List Arrival
-  -- where the plant tells them, all arrivals that it will give, the next one first
+  -- where the plant shows them, all arrivals that it will give, the next one first
   pub told : Option (List Arrival)
-  -- where the plant tells them, all frames that were sent, the first one first
+  -- where the plant shows them, all frames that were sent, the first one first
   pub sent : Option (List (List ℕ))
   -- what comes out of a fibre is what was sent into it, as its condition lets it through
   pub honest : Bool
@@ -40,7 +40,7 @@ pub record IsPrepared (at : Rate) (n : ℕ) (f : Fibres) : Type 0 where
   pub enough : 2 ≤ n
   pub few : n ≤ 16
 
--- what comes out of the fibres is what was sent into them, and no other arrivals are told
+-- what comes out of the fibres is what was sent into them, and there are no told arrivals
 pub record IsHonest (f : Fibres) : Type 0 where
   pub honest : f.honest ≡ true
   pub tells_none : f.told ≡ None

@@ -9,7 +9,7 @@ use Rattle.sdh_plant.specs.declared.failing_plant.PlantCall.{PlantCall}
 use Rattle.sdh_plant.specs.declared.failing_plant.PlantCall.TheVariants.{Prepare, Apply, Send, Receive}
 use Rattle.sdh_plant.specs.Fibres.{Arrival, Fibres}
 
--- honest fibres that tell nothing
+-- honest fibres that show nothing
 pub record HeldFibres : Type 0 where
   pub nodes : ℕ
   pub rate : Rate
@@ -31,7 +31,7 @@ fibres_of h = record {
 abbrev pub clear_fibres : Rate → ℕ → HeldFibres
 clear_fibres rate n = record { nodes = n; rate = rate; conditions = replicate (2 * n) Clear; carried = replicate (2 * n) None }
 
--- fibres with the list of frames that were sent, and room for so many in all
+-- fibres with the list of frames that were sent, and room for this number in all
 pub record HeldRecording : Type 0 where
   pub fibres : HeldFibres
   pub sent : List Frame
@@ -71,7 +71,7 @@ with_one_more Apply c = record c { applies = one_more c.applies }
 with_one_more Send c = record c { sends = one_more c.sends }
 with_one_more Receive c = record c { receives = one_more c.receives }
 
--- fibres of which some calls fail
+-- fibres with some calls that fail
 pub record HeldFailing : Type 0 where
   pub fibres : HeldFibres
   -- the calls that fail, by their kind and by their number among those of the kind, counted from 1
@@ -88,6 +88,6 @@ IsFailing call h = Contains h.failing (call, one_more (made call h.calls))
 abbrev pub called : PlantCall → HeldFailing → HeldFailing
 called call h = record h { calls = with_one_more call h.calls }
 
--- it failed
+-- the call failed
 abbrev pub refused : PlantCall → HeldFailing → HeldFailing
 refused call h = record (called call h) { faults = one_more h.faults }

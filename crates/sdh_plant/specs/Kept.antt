@@ -42,8 +42,8 @@ pub record AreFibres (n : ℕ) (rate : Rate) (xs : List Fibre) : Type 0 where
   pub few : n ≤ 16
   pub each : All (IsFibre rate) xs
 
--- the frames of a recording, of which the first `count` were sent: none before there are fibres, and then as many as there
--- is room for
+-- The frames of a recording; the first `count` of them were sent. There are none before there are fibres, and then as
+-- many as there is room for.
 pub record AreFrames (fibres : HeldFibres) (room count : ℕ) (frames : List Frame) : Type 0 where
   pub none : fibres.nodes ≡ 0 → frames ≡ []
   pub all : 0 < fibres.nodes → length frames ≡ room
@@ -59,7 +59,7 @@ abbrev pub IsToldAt : Rate → Told → Type 0
 IsToldAt rate told.Dark = Unit {0}
 IsToldAt rate (told.Frame frame) = frame.rate ≡ rate
 
--- the arrivals of which the first `next` were given: once there are fibres, the others are at their rate
+-- The arrivals; the first `next` of them were given. Once there are fibres, the others are at their rate.
 pub record AreTold (fibres : HeldFibres) (next : ℕ) (arrivals : List Told) : Type 0 where
   pub within : next ≤ length arrivals
   pub rates : 0 < fibres.nodes → list_all (is_at fibres.rate) (map arrival_of (drop next arrivals)) ≡ true

@@ -10,13 +10,13 @@ use Rattle.sdh_terms.specs.Fibres.{IsConditionAt, fibre}
 use Rattle.sdh_plant.specs.Arrivals.{Knows, arrival, honest_arrival, through, condition_of}
 use Rattle.sdh_plant.specs.Calls.{prepared, after_apply, after_send, after_receive}
 
--- where no arrivals are told, a frame that is sent on a side comes to the neighbour there, on its other side, as the
--- condition of the fibre lets it through
+-- where there are no told arrivals, a frame that is sent on a side comes to the neighbour there, on its other side, as
+-- the condition of the fibre lets it through
 abbrev pub SentComes : Type 0
 SentComes = (rate : Rate) (n : ℕ) (f : Fibres) (p : ℕ) (d : Side) (bytes : List ℕ) → IsPrepared rate n f → f.told ≡ None → p < n
     → arrival (after_send f p d bytes) (neighbour n p d) (opposite d) ≡ through (n_of rate) (condition_of f (fibre p d)) (Some bytes)
 
--- right after prepare nothing comes out of any fibre where none is told
+-- right after prepare nothing comes out of any fibre where there are no told arrivals
 abbrev pub NewIsDark : Type 0
 NewIsDark = (rate : Rate) (n : ℕ) (f : Fibres) (p : ℕ) (d : Side) → f.told ≡ None → arrival (prepared rate n f) p d ≡ None
 

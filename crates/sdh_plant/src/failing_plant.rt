@@ -1,4 +1,4 @@
-//! Honest fibres in memory of which some calls fail.
+//! Honest fibres in memory, with some calls that fail.
 ghost use Rattle.std.specs.Prelude.{◌≡◌, ◌≢◌, true, ◌<◌, ◌≤◌, ◌↔◌, None, Ok, Err, IfOk, IsErr, OnOk, OnErr, IsErrOf, IsTrue, Contains};
 ghost use Rattle.std.specs.Prelude.{refl};
 ghost use Rattle.sdh_basics.specs.Causes.{Rose, IsCounted, HasCause, one_more};
@@ -27,7 +27,7 @@ pub enum PlantCall {
     Receive,
 }
 
-/// Fibres as those of a `FibrePlant`, of which the calls of a list fail, and no others.
+/// Fibres as those of a `FibrePlant`. The calls of a list fail, and no others.
 #[derive(Debug, Drop)]
 pub struct FailingPlant {
     plant: FibrePlant,
@@ -47,7 +47,7 @@ impl Model for FailingPlant {
     ghost view = { λ a. record { fibres = a.plant; failing = a.failing.items; calls = record { prepares = a.prepares; applies = a.applies; sends = a.sends; receives = a.receives }; faults = a.faults } };
 }
 
-// Whether a call of this kind and number is one of those that fail.
+// Returns whether a call of this kind and number is one of those that fail.
 fn is_among(failing: &[(PlantCall, u32)], call: PlantCall, number: u64) -> bool
     ensures { IsTrue result ↔ Contains failing.now (call, number) }
 {
@@ -57,7 +57,7 @@ fn is_among(failing: &[(PlantCall, u32)], call: PlantCall, number: u64) -> bool
 }
 
 impl FailingPlant {
-    /// A plant without fibres, of which these calls fail, each kind counted from 1.
+    /// Returns a plant without fibres. These of its calls fail, each kind counted from 1.
     pub fn new(alloc: Global, calls: &[(PlantCall, u32)]) -> Result<FailingPlant, AllocError>
         ensures { IfOk result (λ plant. plant ≡ record {
           fibres = clear_fibres plant.fibres.rate 0;
@@ -77,7 +77,7 @@ impl FailingPlant {
         })
     }
 
-    /// How many calls of this kind there were.
+    /// Returns how many calls of this kind there were.
     pub fn calls(&self, call: PlantCall) -> u64
         ensures { result ≡ made call self.now.calls }
     {
@@ -89,7 +89,7 @@ impl FailingPlant {
         }
     }
 
-    // Counts a call, and answers its number among those of its kind.
+    // Counts a call, and returns its number among those of its kind.
     fn count(&mut self, call: PlantCall) -> u64
         ensures number { result ≡ one_more (made call self.old.calls) }
         ensures counted { self.new ≡ called call self.old }

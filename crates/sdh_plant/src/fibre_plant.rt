@@ -47,7 +47,7 @@ impl Model for FibrePlant {
     ghost invariant = { λ a. AreFibres a.nodes a.rate (items_of a.fibres) };
 }
 
-// So many fibres, each clear and without a frame.
+// Returns `count` fibres, each clear and without a frame.
 fn new_fibres(alloc: Global, rate: Rate, count: usize) -> Result<Vec<Fibre>, AllocError>
     ensures conditions { IfOk result (λ v. conditions v.items ≡ replicate count Clear) }
     ensures carried { IfOk result (λ v. carried v.items ≡ replicate count None) }
@@ -65,7 +65,7 @@ fn new_fibres(alloc: Global, rate: Rate, count: usize) -> Result<Vec<Fibre>, All
     Ok(fibres)
 }
 
-// The number of the fibre that leaves a position on a side.
+// Returns the number of the fibre that leaves a position on a side.
 fn fibre_at(at: Pos, side: Side) -> usize
     ensures fibre { result ≡ fibre at.0 side }
     ensures within { result ≤ 2 * at.0 + 1 }
@@ -76,7 +76,7 @@ fn fibre_at(at: Pos, side: Side) -> usize
     }
 }
 
-// The number of the fibre that ends at a position on a side: it leaves the neighbour there on the other side.
+// Returns the number of the fibre that ends at a position on a side: it leaves the neighbour there on the other side.
 fn fibre_into(nodes: usize, at: Pos, side: Side) -> usize
     requires at { at.0 < nodes }
     requires few { nodes ≤ 16 }
@@ -156,14 +156,14 @@ fn land_carried_at<L: Landing>(fibres: &mut [Fibre], at: usize, into: &mut L) ->
 }
 
 impl FibrePlant {
-    /// A plant without fibres. It takes no memory.
+    /// Returns a plant without fibres. It takes no memory.
     pub fn new() -> FibrePlant
         ensures { result ≡ clear_fibres result.rate 0 }
     {
         FibrePlant::without_fibres(Rate::Four)
     }
 
-    // A plant without fibres.
+    // Returns a plant without fibres.
     pub(crate) fn without_fibres(rate: Rate) -> FibrePlant
         ensures { result ≡ clear_fibres rate 0 }
     {
@@ -224,7 +224,7 @@ impl FibrePlant {
         store_in_exchange(fibres, fibre_at(at, side), frame);
     }
 
-    // Gives what comes out of a fibre.
+    // Lands the frame that leaves a fibre.
     pub(crate) fn give<L: Landing>(&mut self, at: Pos, side: Side, into: &mut L) -> Arrived
         requires at { at.0 < self.old.nodes }
         requires rate { L.rate into.old ≡ self.old.rate }

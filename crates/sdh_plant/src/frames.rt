@@ -19,7 +19,7 @@ fn invert_row_6(rate: Rate, columns: usize, bytes: &mut [u8])
     }
 }
 
-// Makes a frame what it is behind a fibre that is degraded by so many columns.
+// Degrades a frame as a fibre does that is degraded by this number of columns.
 fn degrade(frame: &mut FrameBuf, columns: u16)
     requires { columns ≤ 3 * n_of frame.old.rate }
     ensures { frame.new ≡ record frame.old { bytes = degraded (n_of frame.old.rate) columns frame.old.bytes } }
@@ -28,8 +28,8 @@ fn degrade(frame: &mut FrameBuf, columns: u16)
 }
 
 #[tactic(auto, using(crate::proofs::Degrading::degraded_twice))]
-/// A frame lands as it is behind a fibre that is degraded by so many columns. It is degraded in place, and then again, which
-/// gives back what it was.
+/// Lands a frame as it leaves a fibre that is degraded by this number of columns. The frame is degraded in place, and
+/// then once more, which restores it.
 pub fn land_degraded<L: Landing>(frame: &mut FrameBuf, columns: u16, into: &mut L)
     requires columns { columns ≤ 3 * n_of frame.old.rate }
     requires rate { frame.old.rate ≡ L.rate into.old }

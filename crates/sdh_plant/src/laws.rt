@@ -10,7 +10,7 @@ pub fn what_is_sent_comes_to_the_neighbour()
     ensures { SentComes }
 {}
 
-/// Where no arrivals are told, nothing comes right after `prepare`.
+/// Where no arrivals are given in advance, nothing comes right after `prepare`.
 pub fn a_new_plant_is_dark()
     ensures { NewIsDark }
 {}
@@ -26,7 +26,7 @@ pub fn calls_keep_a_plant_honest()
     ensures { StayHonest }
 {}
 
-/// A plant that is honest tells no arrivals.
+/// An honest plant has no told arrivals.
 pub fn an_honest_plant_tells_none<P: Plant>(plant: &P)
     ensures { (P.fibres plant.now).honest ≡ true → IsHonest (P.fibres plant.now) }
 {}

@@ -47,10 +47,10 @@ impl From<AllocError> for PrepareError {
 
 /// The fibres of a ring. A plant without fibres has no positions, so each other call comes after `prepare` answered Ok.
 pub trait Plant {
-    /// The fibres, and what the plant tells of arrivals to come and of frames that were sent.
+    /// The fibres, with the arrivals to come and the frames sent, as far as the plant shows them.
     ghost fibres: { Self → Fibres };
 
-    /// How often a call has failed. It never falls, and stands still at its type's end.
+    /// The number of calls that have failed. It never falls, and stands still at its type's end.
     ghost faults: { Self → ℕ };
 
     /// The count rises by one with each call that fails, and with nothing else.
@@ -112,6 +112,6 @@ pub trait Plant {
         ensures err { OnErr result (fibres self.new ≡ fibres self.old) }
         ensures cause { HasCause exact (faults self.old) (faults self.new) result };
 
-    /// An honest plant tells no arrivals: what comes is what was sent.
+    /// An honest plant has no told arrivals: what arrives is what was sent.
     ghost honest_tells_none: { (p : Self) → (fibres p).honest ≡ true → (fibres p).told ≡ None };
 }

@@ -1,4 +1,4 @@
-//! Honest fibres in memory that also tell what was sent.
+//! Honest fibres in memory that record what was sent.
 ghost use Rattle.std.specs.Prelude.{◌≡◌, ◌≢◌, true, ◌+◌, ◌-◌, ◌<◌, ◌≤◌, ◌↔◌, [], ◌∷◌, ◌++◌, None, Ok, IfOk, IsOk, IsErr, OnOk};
 ghost use Rattle.std.specs.Prelude.{OnErr, IsOkUnless, IsErrOf, All, length, slice_set, refl};
 ghost use Rattle.sdh_basics.specs.Causes.{Rose, IsCounted, HasCause, one_more};
@@ -39,7 +39,7 @@ impl Model for RecordingPlant {
     ghost invariant = { λ a. AreFrames a.plant a.room a.count (items_of a.frames) };
 }
 
-// So many frames.
+// Returns `count` frames.
 fn new_frames(alloc: Global, rate: Rate, count: usize) -> Result<Vec<FrameBuf>, AllocError>
     ensures len { IfOk result (λ v. length v.items ≡ count) }
     ensures rates { IfOk result (λ v. All (λ f. f.rate ≡ rate) v.items) }
@@ -61,7 +61,7 @@ fn keep(frames: &mut [FrameBuf], at: usize, frame: &FrameBuf)
 }
 
 impl RecordingPlant {
-    /// A plant without fibres that will have room for so many frames sent. It takes no memory.
+    /// Returns a plant without fibres with room for `room` sent frames once it is prepared. It takes no memory.
     pub fn new(room: usize) -> RecordingPlant
         ensures { result ≡ record { fibres = clear_fibres result.fibres.rate 0; sent = []; room = room; faults = 0 } }
     {
@@ -74,7 +74,7 @@ impl RecordingPlant {
         }
     }
 
-    /// The frames that were sent, the first one first.
+    /// Returns the frames that were sent, the first one first.
     pub fn sent(&self) -> &[FrameBuf]
         ensures { result.now ≡ self.now.sent }
     {

@@ -19,7 +19,7 @@ use sdh_terms::{FibreEvent, Rate};
 use std::alloc::Global;
 use std::marker::Model;
 
-/// An arrival that is told beforehand.
+/// An arrival that is given in advance.
 #[derive(Debug, Drop)]
 pub enum Told {
     Dark,
@@ -32,7 +32,7 @@ pub enum Told {
 pub struct ToldPlant {
     plant: FibrePlant,
     arrivals: Vec<Told>,
-    // How many of them were given.
+    // The number of arrivals that were given.
     next: usize,
 }
 
@@ -48,7 +48,7 @@ impl Model for ToldPlant {
     ghost invariant = { λ a. AreTold a.plant a.next a.arrivals.items };
 }
 
-// Whether an arrival is no frame of another rate.
+// Returns whether an arrival is no frame of another rate.
 fn is_told_at(told: &Told, rate: Rate) -> bool
     ensures { result ≡ is_at rate (arrival_of told.now) }
 {
@@ -58,14 +58,14 @@ fn is_told_at(told: &Told, rate: Rate) -> bool
     }
 }
 
-// Whether none of the arrivals is a frame of another rate.
+// Returns whether none of the arrivals is a frame of another rate.
 fn are_told_at(arrivals: &[Told], rate: Rate) -> bool
     ensures { result ≡ list_all (λ told. is_at rate (arrival_of told)) arrivals.now }
 {
     arrivals.iter().all(|told| is_told_at(told, rate))
 }
 
-// Gives a told arrival.
+// Lands a given arrival.
 #[tactic(auto, using(crate::proofs::Telling::rate_of_size))]
 fn tell<L: Landing>(told: &Told, into: &mut L) -> Arrived
     requires { is_at (L.rate into.old) (arrival_of told.now) ≡ true }
@@ -85,7 +85,8 @@ fn tell<L: Landing>(told: &Told, into: &mut L) -> Arrived
 }
 
 impl ToldPlant {
-    /// A plant without fibres that will give these arrivals, where it is prepared for the rate of their frames. It takes no memory.
+    /// Returns a plant without fibres that will give these arrivals, where it is prepared for the rate of their frames.
+    /// It takes no memory.
     pub fn new(rate: Rate, arrivals: Vec<Told>) -> ToldPlant
         requires { All (IsToldAt rate) arrivals.items }
         ensures { result ≡ record { fibres = clear_fibres rate 0; told = map arrival_of arrivals.items } }
@@ -97,7 +98,7 @@ impl ToldPlant {
         }
     }
 
-    // Gives the next told arrival, if there is one.
+    // Returns the next given arrival, if there is one.
     fn give_next<L: Landing>(&mut self, into: &mut L) -> Arrived
         requires fibres { 0 < self.old.fibres.nodes }
         requires rate { L.rate into.old ≡ self.old.fibres.rate }

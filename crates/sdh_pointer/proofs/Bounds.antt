@@ -1,4 +1,4 @@
--- What a single step keeps: bounds, and that the answer tells the mode.
+-- What a single step keeps: bounds, and that the answer shows the mode.
 use Rattle.std.proofs.Common.{◌≡◌, ℕ, ◌+◌, ◌<◌, ◌≤◌, true, eqb, leb, refl, arith, inl, inr}
 use Rattle.std.specs.Prelude.{◌&&◌, ◌||◌, not}
 use Rattle.std.proofs.lemmas.Bool.{cases_Bool, cases_lt, le-leb, lt-leb, leb-true}
@@ -150,7 +150,7 @@ pub bounds_are_kept : IsBounded start × ((r : Reading) (w : ℕ) → IsBounded 
 unfolding after_word after_event
 bounds_are_kept = (bounded_settled mode.Ais 0 0 (omega arith) (omega arith), λ r w h. bounded_in r.mode (event_of r w) r (fits r w) h)
 
--- ---- the answer tells the mode
+-- ---- the answer shows the mode
 
 tells_in : (m : Mode) (e : Event) (r : Reading) → r.mode ≡ m → can_come m e ≡ true
     → is_ais_action (action_in m e r) ≡ not (is_norm (after_in m e r).mode)

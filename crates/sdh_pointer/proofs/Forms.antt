@@ -117,7 +117,7 @@ d_all : (v : ℕ) → differing d_bits (bit_xor v 341) v ≡ 5
 unfolding differing
 d_all v = omega (arith, inverted v 341 0 refl, inverted v 341 2 refl, inverted v 341 4 refl, inverted v 341 6 refl, inverted v 341 8 refl)
 
--- so neither is the value
+-- the value as it is inverts no bits either
 self_none : (v j : ℕ) → (bit_at v j + bit_at v j) % 2 ≡ 0
 self_none v j = omega arith
 
@@ -148,7 +148,7 @@ pub new_outside : (r : Reading) (v : ℕ) → is_norm r.mode ≡ false → v ≤
 unfolding normal_event
 new_outside r v out h = let e : leb v 782 ≡ true = le-leb _ _ h in rw (out, e) refl
 
--- so it is before `since` is 3
+-- in mode Norm another value is new where `since` is below 3
 pub new_early : (r : Reading) (v : ℕ) → r.mode ≡ mode.Norm → r.value ≢ v → r.since < 3 → v ≤ 782 → normal_event r v ≡ event.New v
 unfolding normal_event
 new_early r v norm other early h =
@@ -157,7 +157,7 @@ new_early r v norm other early h =
     let before : leb 3 r.since ≡ false = lt-leb _ _ early in
     rw (norm, ne, before, e) refl
 
--- and where it justifies nothing
+-- in mode Norm another value is new where it justifies nothing
 pub new_neither : (r : Reading) (v : ℕ) → r.mode ≡ mode.Norm → r.value ≢ v → goes_up v r.value ≡ false → goes_down v r.value ≡ false
     → v ≤ 782 → normal_event r v ≡ event.New v
 unfolding normal_event

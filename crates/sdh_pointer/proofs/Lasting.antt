@@ -40,7 +40,7 @@ sound_out last w kept out =
     (answer_tells_mode last w ∙ ap (λ (r : Reading). not (is_norm r.mode)) kept ∙ ap not out) e)
 
 module _ (w : ℕ) (r : Reading) where
-  -- after one round more it is the same, so that the word keeps it
+  -- after one round more the reading is as it was, so that the word keeps it
   kept_by : (last : Reading) → ((k : ℕ) → 7 ≤ k → after_rounds k w r ≡ last) → after_word last w ≡ last
   kept_by last ends =
       ap (λ x. after_word x w) (sym (ends 7 (omega arith))) ∙ sym (in_parts 7 1 w r) ∙ ap (λ k. after_rounds k w r) {x = 7 + 1} {y = 8} refl

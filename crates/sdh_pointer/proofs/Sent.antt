@@ -78,7 +78,7 @@ next_by_action (Some g) action.Down v = elim (cases_eq v (one_down g)) [
 
 -- ---- one input for ever
 
--- in the state that an input leads to, the same input
+-- what is sent in the state that an input leads to, where that input comes again
 pub second_sent : (a : Action) (v : ℕ) → v ≤ 782 → IsSent (lasting_state a v) a v (lasting_form a) v (lasting_state a v)
 second_sent action.Ais v h = ais_sent None v
 second_sent action.New v h = new_sent (Some v) v
@@ -86,7 +86,7 @@ second_sent action.Normal v h = normal_sent v v refl
 second_sent action.Up v h = not_up_sent v v (λ e. omega arith)
 second_sent action.Down v h = not_down_sent v v (λ e. omega arith)
 
--- a state is the same as itself
+-- a state is equal to itself
 pub state_itself : (s : Option ℕ) → same_sending s s ≡ true
 state_itself None = refl
 state_itself (Some g) = eq-eqb g g refl

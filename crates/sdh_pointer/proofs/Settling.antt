@@ -65,7 +65,7 @@ module _ (w v : ℕ) (normal : is_normal w ≡ true) (carries : value_in w ≡ v
   stays = same (settled mode.Norm v 3) refl refl
 
   module _ (small : v ≤ 782) where
-    -- within so many rounds all is settled at v
+    -- within k rounds all is settled at v
     abbrev Within : ℕ → Reading → Type 0
     Within k r = after_rounds k w r ≡ settled mode.Norm v 3
 
@@ -147,7 +147,7 @@ module _ (w v : ℕ) (normal : is_normal w ≡ true) (carries : value_in w ≡ v
       abbrev counted : ℕ → ℕ → Reading
       counted n s = record { mode = mode.Norm; value = u; ais = 0; bad = 0; candidate = v; news = n; since = s }
 
-      -- another value, of which nothing is known but that it was just taken
+      -- another value that was just taken; nothing else is known of it
       fresh : Within 3 (settled mode.Norm u 0)
       fresh =
           step 2 (settled mode.Norm u 0) (counted 1 1) (in_counted (settled mode.Norm u 0) refl

@@ -18,7 +18,7 @@ use Rattle.sdh_pointer.proofs.Rows.{ais_ais_action, ais_ndf_action}
 use Rattle.sdh_pointer.proofs.Sent.{ais_sent, first_sent, normal_sent}
 use Rattle.sdh_pointer.proofs.Settling.{same, same_action, action_by_event, enabled_word_settles, ais_stays}
 
--- ---- what is told, by cases: before round h, in it, and after it
+-- ---- actions and readings, by cases: before round h, in it, and after it
 
 action_before : (v h t : ℕ) → t < h → action_over (Some v) h t ≡ action.Ais
 action_before v h t lt = let e = lt-ltb t h lt in rw e refl
@@ -101,7 +101,7 @@ module _ (v h t u : ℕ) (value : h ≤ t → u ≡ v) where
     ]
   ]
 
--- ---- the interpreter behind it
+-- ---- the interpreter after it
 
 start_ais : after_word start 65535 ≡ start
 start_ais = ais_stays 0
@@ -177,7 +177,7 @@ values_spread (Some v) h t small = record {
   action = action_is v small h t;
 }
 
--- ---- what is told before the first round and in the end
+-- ---- readings before the first round and in the end
 
 pub reading_start : (o : Option ℕ) (h t : ℕ) → t ≤ h → reading_over o h t ≡ start
 reading_start None h t le = refl

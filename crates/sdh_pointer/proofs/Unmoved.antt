@@ -17,7 +17,7 @@ use Rattle.sdh_pointer.proofs.Rows.{ais_ais_action}
 use Rattle.sdh_pointer.proofs.Sent.{state_itself}
 use Rattle.sdh_pointer.proofs.Settling.{action_by_event, stays_for, same, same_action, stays, normal_word_settles, ais_settles}
 
--- ---- two readings are the same where the test says so
+-- ---- two readings are equal where the test says so
 
 same_modes : (a b : Mode) → same_mode a b ≡ true → a ≡ b
 same_modes mode.Norm mode.Norm h = refl
@@ -72,7 +72,7 @@ reading_itself r =
       eq-eqb r.since r.since refl,
     ) refl
 
--- ---- so a step that moved nothing kept all
+-- ---- a step that moved nothing kept all
 
 pub unmoved : (i : Interpreter) (w : ℕ) → (after_step i w).moved ≡ false → after_word i.reading w ≡ i.reading
 unfolding after_step
@@ -89,7 +89,7 @@ step_reading i w = refl
 pub interpreter_moves : (i : Interpreter) (w : ℕ) → ((after_step i w).moved ≡ false) ↔ ((after_step i w).reading ≡ i.reading)
 interpreter_moves i w = (λ h. step_reading i w ∙ unmoved i w h, λ h. kept_is_unmoved i w (sym (step_reading i w) ∙ h))
 
--- ---- the same of a generator
+-- ---- the states of two generators are equal where the test says so
 
 pub same_states : (s n : Option ℕ) → same_sending s n ≡ true → s ≡ n
 same_states None None h = refl
@@ -105,7 +105,7 @@ generator_moves g a v = (
   λ h. ap (λ s. not (same_sending s g.sending)) h ∙ ap not (state_itself g.sending),
 )
 
--- ---- and was where its word leads
+-- ---- an interpreter that wasn't moved was where its word leads
 
 pub unmoved_is_normal : (i : Interpreter) (w : ℕ) → is_normal w ≡ true → value_in w ≤ 782 → (after_step i w).moved ≡ false → IsPassed i w
 unmoved_is_normal i w normal small h =

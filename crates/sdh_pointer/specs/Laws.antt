@@ -126,7 +126,7 @@ pub record ComesToRest (w : ℕ) (r : Reading) : Type 0 where
   pub kept : after_word last w ≡ last
   pub sound : IsSound (action_on last w) last.value
 
--- so does each word that a generator repeats, whatever the interpreter kept
+-- each word that a generator repeats brings an interpreter to rest, whatever the interpreter kept
 abbrev pub RepeatedWordsRest : Type 0
 RepeatedWordsRest = (a : Action) (v : ℕ) → IsSound a v → (r : Reading) → ComesToRest (word_of (lasting_form a) v) r
 
@@ -158,14 +158,14 @@ abbrev pub SteadyIsNormal : Type 0
 SteadyIsNormal =
     (i : Interpreter) (w : ℕ) → is_normal w ≡ true → i.reading.mode ≡ mode.Norm → i.reading.value ≡ value_in w → IsSteady i w
 
--- ---- from a generator to the interpreter behind it
+-- ---- from a generator to the interpreter after it
 
--- the interpreter behind a generator is in step with it: in Norm at the value that is sent, or in Ais
+-- the interpreter after a generator is in step with it: in Norm at the value that is sent, or in Ais
 abbrev pub IsInStep : Option ℕ → Reading → Type 0
 IsInStep None r = r.mode ≡ mode.Ais
 IsInStep (Some g) r = (r.mode ≡ mode.Norm) × (r.value ≡ g) × (g ≤ 782)
 
--- an action and the value after it go on from what the generator sends, and the interpreter behind it reads
+-- an action and the value after it go on from what the generator sends, and the interpreter after it reads
 -- justifications
 abbrev pub GoesOn : Option ℕ → Action → ℕ → Reading → Type 0
 GoesOn s action.New v r = Unit {0}
@@ -178,7 +178,7 @@ GoesOn None action.Normal v r = ⊥
 GoesOn None action.Up v r = ⊥
 GoesOn None action.Down v r = ⊥
 
--- then that interpreter reads the same action with the same value, and stays in step
+-- an interpreter in step reads the action that was sent with its value, and stays in step
 pub record IsReadAsSent (s : Option ℕ) (a : Action) (v : ℕ) (r : Reading) : Type 0 where
   pub answer : action_on r (word_sent s a v) ≡ a
   pub value : a ≢ action.Ais → (after_word r (word_sent s a v)).value ≡ v
@@ -190,9 +190,9 @@ ReadsWhatIsSent =
 
 -- ---- from span to span
 
--- h spans on, in round t: a generator in the state that is told, and given the action and any value that it may have, sends
--- the word that is told and goes into the state of the next round; one round later the interpreter behind it reads that word,
--- and answers and keeps what is told
+-- h spans on, in round t: a generator in the given state, and given the action and any value that it may have, sends
+-- the given word and goes into the state of the next round; one round later the interpreter after it reads that word,
+-- and answers and keeps what is given
 pub record SpreadsOver (o : Option ℕ) (h t : ℕ) : Type 0 where
   pub sending : (u : ℕ) → IsValueOver o h t u → next_sending (sending_over o h t) (action_over o h t) u ≡ sending_over o h (t + 1)
   pub word : (u : ℕ) → IsValueOver o h t u → word_sent (sending_over o h t) (action_over o h t) u ≡ word_over o h t

@@ -23,7 +23,7 @@ is_norm mode.Lop = false
 unfoldable pub goes_up : ℕ → ℕ → Bool
 goes_up v kept = nat_le 3 (differing i_bits v kept) && nat_le (differing d_bits v kept) 2
 
--- the same with I and D exchanged
+-- at least three D bits and at most two I bits of a value differ from the kept one
 unfoldable pub goes_down : ℕ → ℕ → Bool
 goes_down v kept = nat_le 3 (differing d_bits v kept) && nat_le (differing i_bits v kept) 2
 
@@ -116,7 +116,7 @@ action_while mode.Lop = action.Ais
 
 -- ---- the table
 
--- A row: in this mode, so many events of this kind in a row lead to the next mode with this value and this `since`,
+-- A row: in this mode, `needed` events of this kind in a row lead to the next mode with this value and this `since`,
 -- and have this action. Fewer are counted.
 pub record ReadingRow : Type 0 where
   pub mode : Mode
@@ -240,7 +240,7 @@ after_event r e = after_in r.mode e r
 unfoldable pub action_on_event : Reading → Event → Action
 action_on_event r e = action_in r.mode e r
 
--- the same of a word
+-- what a reading is after a word, and the action that the word gives
 unfoldable pub after_word : Reading → ℕ → Reading
 after_word r w = after_event r (event_of r w)
 

@@ -5,12 +5,12 @@ use Rattle.sdh_pointer.specs.declared.reading.Action.{Action}
 use Rattle.sdh_pointer.specs.Reading.{after_word}
 use Rattle.sdh_pointer.specs.Sending.{Generator, after_action}
 
--- what is kept after so many rounds with the same word
+-- what is kept after k rounds with the same word
 abbrev pub after_rounds : ℕ → ℕ → Reading → Reading
 after_rounds zero w r = r
 after_rounds (suc k) w r = after_rounds k w (after_word r w)
 
--- a generator after so many rounds with the same action and value
+-- a generator after k rounds with the same action and value
 abbrev pub after_inputs : ℕ → Action → ℕ → Generator → Generator
 after_inputs zero a v g = g
 after_inputs (suc k) a v g = after_inputs k a v (after_action g a v)

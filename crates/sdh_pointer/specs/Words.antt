@@ -1,5 +1,5 @@
 -- The AU pointer bytes H1 and H2 as one word NNNNSSIDIDIDIDID (ITU-T G.707 clause 8.1). Its last ten bits are the
--- value, 0 to 782: so many steps of three bytes lie between the last byte H3 and the start of the VC-4.
+-- value, 0 to 782: the number of steps of three bytes between the last byte H3 and the start of the VC-4.
 use Rattle.std.specs.Prelude.{ℕ, ◌+◌, ◌*◌, ◌/◌, ◌%◌, Bool, nat_le, List, [], ◌∷◌, slice_index, bit_xor}
 use Rattle.std.specs.Int.{bit_at}
 use Rattle.std.specs.List.{sum_by}

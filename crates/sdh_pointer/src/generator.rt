@@ -28,8 +28,8 @@ impl Model for Gen {
     ghost invariant = { λ a. option_map_or (λ g. g) a.sending 0 ≤ 782 };
 }
 
-// The form of the word that is sent in a state for an input, and the value that it carries: that of the state where it
-// is justified.
+// Returns the form of the word that is sent in a state for an input, and the value that it carries: that of the state
+// where it is justified.
 #[tactic(auto, unfolding(crate::specs::Sending::form_sent, crate::specs::Sending::value_sent, crate::specs::Sending::sending_row_of, crate::specs::Sending::sending_table))]
 fn parts_sent(sending: Option<u16>, action: Action, value: u16) -> (Form, u16)
     requires kept { option_map_or (λ g. g) sending 0 ≤ 782 }
@@ -47,7 +47,7 @@ fn parts_sent(sending: Option<u16>, action: Action, value: u16) -> (Form, u16)
     }
 }
 
-// The next state, whatever the state was.
+// Returns the next state, whatever the state was.
 #[tactic(auto, using(crate::proofs::Sent::next_by_action))]
 fn next_sending(action: Action, value: u16) -> Option<u16>
     requires { value ≤ 782 }
@@ -60,7 +60,7 @@ fn next_sending(action: Action, value: u16) -> Option<u16>
     }
 }
 
-// Whether two states are the same.
+// Returns whether two states are the same.
 fn same_sending(left: Option<u16>, right: Option<u16>) -> bool
     ensures { result ≡ same_sending left right }
 {
@@ -72,7 +72,7 @@ fn same_sending(left: Option<u16>, right: Option<u16>) -> bool
 }
 
 impl Gen {
-    /// A generator in state Ais.
+    /// Returns a generator in state Ais.
     pub fn new() -> Gen
         ensures { result ≡ record { sending = None; word = 0xFFFF; moved = false } }
     {
@@ -100,21 +100,21 @@ impl Gen {
         form
     }
 
-    /// The word of the last step, and all ones before the first.
+    /// Returns the word of the last step, and all ones before the first.
     pub fn word(&self) -> Word
         ensures { result.0 ≡ self.now.word }
     {
         Word(self.word)
     }
 
-    /// The value that is sent; none in state Ais.
+    /// Returns the value that is sent; none in state Ais.
     pub fn sending(&self) -> Option<u16>
         ensures { result ≡ self.now.sending }
     {
         self.sending
     }
 
-    /// Whether the last step changed the state. Before the first step it is false.
+    /// Returns whether the last step changed the state. Before the first step it is false.
     pub fn moved(&self) -> bool
         ensures { result ≡ self.now.moved }
     {

@@ -25,7 +25,7 @@ impl Model for Interp {
 }
 
 impl Interp {
-    /// An interpreter that has read nothing.
+    /// Returns an interpreter that has read nothing.
     pub fn new() -> Interp
         ensures { result ≡ record { reading = start; moved = false } }
     {
@@ -57,7 +57,7 @@ impl Interp {
         action
     }
 
-    /// The value, which is not used where the last action was `Ais`.
+    /// Returns the value, which is not used where the last action was `Ais`.
     pub fn value(&self) -> u16
         ensures value { result ≡ self.now.reading.value }
         ensures small { result ≤ 782 }
@@ -65,8 +65,8 @@ impl Interp {
         self.reading.value
     }
 
-    /// Whether the last step changed the mode, the value, a count, a candidate that is counted or
-    /// `since`. Before the first step it is false.
+    /// Returns whether the last step changed the mode, the value, a count, a candidate that is counted or `since`.
+    /// Before the first step it is false.
     pub fn moved(&self) -> bool
         ensures { result ≡ self.now.moved }
     {

@@ -30,8 +30,8 @@ pub enum Event {
     New(u16),
 }
 
-/// What a step of an interpreter asks of the generator behind it: the value goes on, is taken anew,
-/// moves by one step up or down, or there is none.
+/// What a step of an interpreter asks of the generator after it: the value goes on, is taken anew, moves by one step up
+/// or down, or there is none.
 #[derive(Clone, Copy, Debug, PartialEq, Eq)]
 pub enum Action {
     Normal,
@@ -59,20 +59,20 @@ pub struct Reading {
 // The largest pointer value.
 const LAST: u16 = 782;
 
-// One more than the last ten bits can hold.
+// The number of values that the last ten bits of a word can hold.
 const VALUE_END: u16 = 1024;
 
-// How many AIS words, equal new values and invalid words in a row are needed.
+// The numbers of AIS words, of equal new values and of invalid words in a row that are needed.
 const AIS_NEEDED: u8 = 3;
 
 const NEWS_NEEDED: u8 = 3;
 
 const BAD_NEEDED: u8 = 8;
 
-// How many steps must lie between a new data flag or a justification and the next justification.
+// The number of steps that must lie between a new data flag or a justification and the next justification.
 const STEADY: u8 = 3;
 
-// A state in which nothing is counted.
+// Returns a state in which nothing is counted.
 fn settled(mode: Mode, value: u16, since: u8) -> Reading
     ensures { result ≡ settled mode value since }
 {
@@ -87,7 +87,7 @@ fn settled(mode: Mode, value: u16, since: u8) -> Reading
     }
 }
 
-// One AIS word more.
+// Returns the count with one more AIS word.
 fn with_ais(reading: Reading, since: u8) -> Reading
     requires { IsBounded reading }
     ensures { result ≡ with_ais reading since }
@@ -98,7 +98,7 @@ fn with_ais(reading: Reading, since: u8) -> Reading
     }
 }
 
-// One invalid word more.
+// Returns the count with one more invalid word.
 fn with_bad(reading: Reading, since: u8) -> Reading
     requires { IsBounded reading }
     ensures { result ≡ with_bad reading since }
@@ -109,7 +109,7 @@ fn with_bad(reading: Reading, since: u8) -> Reading
     }
 }
 
-// How many equal new values stand in a row with this one.
+// Returns how many equal new values stand in a row with this one.
 fn news_with(reading: &Reading, value: u16) -> u8
     requires { IsBounded reading.now }
     ensures { result ≡ news_with reading.now value }
@@ -121,7 +121,7 @@ fn news_with(reading: &Reading, value: u16) -> u8
     }
 }
 
-// A new value that is counted: so many equal ones stand in a row with it.
+// Returns the state with a new value that came `news` times in a row.
 fn with_new(reading: Reading, value: u16, news: u8, since: u8) -> Reading
     requires { news ≡ news_with reading value }
     ensures { result ≡ with_new reading value since }
@@ -133,7 +133,7 @@ fn with_new(reading: Reading, value: u16, news: u8, since: u8) -> Reading
     }
 }
 
-// `since` one step later.
+// Returns `since` one step later.
 fn later(since: u8) -> u8
     requires { since ≤ 3 }
     ensures { result ≡ later since }
@@ -141,7 +141,7 @@ fn later(since: u8) -> u8
     if since < STEADY { since + 1 } else { STEADY }
 }
 
-/// The value one step on.
+/// Returns the value one step on.
 pub fn one_up(value: u16) -> u16
     requires { value ≤ 782 }
     ensures { result ≡ one_up value }
@@ -149,7 +149,7 @@ pub fn one_up(value: u16) -> u16
     if value < LAST { value + 1 } else { 0 }
 }
 
-/// The value one step back.
+/// Returns the value one step back.
 pub fn one_down(value: u16) -> u16
     requires { value ≤ 782 }
     ensures { result ≡ one_down value }
@@ -171,7 +171,7 @@ fn goes_down(value: u16, kept: u16) -> bool
     d_changes(value, kept) >= 3 && i_changes(value, kept) <= 2
 }
 
-// The event of a normal word with a value.
+// Returns the event of a normal word with a value.
 #[tactic(auto, unfolding(crate::specs::Reading::normal_event))]
 fn normal_event(reading: &Reading, value: u16) -> Event
     ensures event { result ≡ normal_event reading.now value }
@@ -194,7 +194,7 @@ fn normal_event(reading: &Reading, value: u16) -> Event
     }
 }
 
-// The event of a word.
+// Returns the event of a word.
 #[tactic(auto, unfolding(crate::specs::Reading::event_of))]
 pub fn event_of(reading: &Reading, word: Word) -> Event
     ensures event { result ≡ event_of reading.now word.0 }
@@ -216,7 +216,7 @@ pub fn event_of(reading: &Reading, word: Word) -> Event
     }
 }
 
-// The rows of mode Norm.
+// Returns the rows of mode Norm.
 #[tactic(auto, unfolding(crate::specs::Reading::after_in, crate::specs::Reading::action_in, crate::specs::Reading::reading_row_of, crate::specs::Reading::reading_table))]
 fn step_in_norm(reading: Reading, event: Event) -> (Reading, Action)
     requires bounded { IsBounded reading }
@@ -247,7 +247,7 @@ fn step_in_norm(reading: Reading, event: Event) -> (Reading, Action)
     }
 }
 
-// A new value out of mode Norm: the third equal one is taken.
+// Returns a new value out of mode Norm: the third equal one is taken.
 #[tactic(auto, unfolding(crate::specs::Reading::after_in, crate::specs::Reading::action_in, crate::specs::Reading::reading_row_of, crate::specs::Reading::reading_table))]
 fn step_at_new(reading: Reading, value: u16) -> (Reading, Action)
     requires bounded { IsBounded reading }
@@ -266,7 +266,7 @@ fn step_at_new(reading: Reading, value: u16) -> (Reading, Action)
     }
 }
 
-// The rows of mode Ais.
+// Returns the rows of mode Ais.
 #[tactic(auto, unfolding(crate::specs::Reading::after_in, crate::specs::Reading::action_in, crate::specs::Reading::reading_row_of, crate::specs::Reading::reading_table))]
 fn step_in_ais(reading: Reading, event: Event) -> (Reading, Action)
     requires bounded { IsBounded reading }
@@ -286,7 +286,7 @@ fn step_in_ais(reading: Reading, event: Event) -> (Reading, Action)
     }
 }
 
-// The rows of mode Lop.
+// Returns the rows of mode Lop.
 #[tactic(auto, unfolding(crate::specs::Reading::after_in, crate::specs::Reading::action_in, crate::specs::Reading::reading_row_of, crate::specs::Reading::reading_table))]
 fn step_in_lop(reading: Reading, event: Event) -> (Reading, Action)
     requires bounded { IsBounded reading }
@@ -305,7 +305,7 @@ fn step_in_lop(reading: Reading, event: Event) -> (Reading, Action)
     }
 }
 
-// What is kept after an event, and the action.
+// Returns what is kept after an event, and the action.
 #[tactic(auto, unfolding(crate::specs::Reading::after_event, crate::specs::Reading::action_on_event))]
 pub fn step_at(reading: Reading, event: Event) -> (Reading, Action)
     requires bounded { IsBounded reading }
@@ -321,7 +321,7 @@ pub fn step_at(reading: Reading, event: Event) -> (Reading, Action)
     }
 }
 
-// Whether two modes are the same.
+// Returns whether two modes are the same.
 fn same_mode(left: Mode, right: Mode) -> bool
     ensures { result ≡ same_mode left right }
 {
@@ -331,7 +331,7 @@ fn same_mode(left: Mode, right: Mode) -> bool
     }
 }
 
-// Whether two interpreters keep the same.
+// Returns whether two interpreters keep equal readings.
 #[tactic(auto, unfolding(crate::specs::Reading::same_reading))]
 pub fn same_reading(left: &Reading, right: &Reading) -> bool
     ensures { result ≡ same_reading left.now right.now }

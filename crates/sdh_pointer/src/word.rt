@@ -31,14 +31,14 @@ const I_MASK: u16 = 0x2AA;
 
 const D_MASK: u16 = 0x155;
 
-// In how many bits of a mask two numbers differ.
+// Returns in how many bits of a mask two numbers differ.
 fn differences(left: u16, right: u16, mask: u16) -> u32
     ensures { result ≡ count_ones (bit_and (bit_xor left right) mask) }
 {
     ((left ^ right) & mask).count_ones()
 }
 
-// In how many I bits two values differ.
+// Returns in how many I bits two values differ.
 #[tactic(auto, using(crate::proofs::Masks::i_mask))]
 pub fn i_changes(left: u16, right: u16) -> u32
     ensures { result ≡ differing i_bits left right }
@@ -46,7 +46,7 @@ pub fn i_changes(left: u16, right: u16) -> u32
     differences(left, right, I_MASK)
 }
 
-// In how many D bits two values differ.
+// Returns in how many D bits two values differ.
 #[tactic(auto, using(crate::proofs::Masks::d_mask))]
 pub fn d_changes(left: u16, right: u16) -> u32
     ensures { result ≡ differing d_bits left right }
@@ -54,7 +54,7 @@ pub fn d_changes(left: u16, right: u16) -> u32
     differences(left, right, D_MASK)
 }
 
-// In how many N bits a word differs from these.
+// Returns in how many N bits a word differs from these.
 #[tactic(auto, using(crate::proofs::Masks::n_mask))]
 fn n_changes(word: u16, bits: u16) -> u32
     ensures { result ≡ differing n_bits (word / 4096) bits }
@@ -62,7 +62,7 @@ fn n_changes(word: u16, bits: u16) -> u32
     differences(word / 4096, bits, N_MASK)
 }
 
-// Whether the N bits are 0110 but for at most one.
+// Returns whether the N bits are 0110 but for at most one.
 #[tactic(auto, unfolding(crate::specs::Words::is_normal))]
 pub fn is_normal(word: Word) -> bool
     ensures { result ≡ is_normal word.0 }
@@ -70,7 +70,7 @@ pub fn is_normal(word: Word) -> bool
     n_changes(word.0, NORMAL) <= 1
 }
 
-// Whether the N bits are 1001 but for at most one.
+// Returns whether the N bits are 1001 but for at most one.
 #[tactic(auto, unfolding(crate::specs::Words::is_enabled))]
 pub fn is_enabled(word: Word) -> bool
     ensures { result ≡ is_enabled word.0 }
@@ -78,7 +78,7 @@ pub fn is_enabled(word: Word) -> bool
     n_changes(word.0, ENABLED) <= 1
 }
 
-/// The word of a form with a value. SS is sent as 10. A word `Ais` carries no value.
+/// Returns the word of a form with a value. SS is sent as 10. A word `Ais` carries no value.
 #[tactic(auto, unfolding(crate::specs::Words::word_of))]
 pub fn word_of(form: Form, value: u16) -> Word
     requires { value ≤ 782 }
@@ -93,7 +93,7 @@ pub fn word_of(form: Form, value: u16) -> Word
     }
 }
 
-/// The word in the bytes H1 and H2.
+/// Returns the word in the bytes H1 and H2.
 pub fn read_word(bytes: &[u8]) -> Word
     requires { length bytes.now ≡ 2 }
     ensures word { result.0 ≡ word_in bytes.now }

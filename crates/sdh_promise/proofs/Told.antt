@@ -1,4 +1,4 @@
--- What sides and ports are told of.
+-- What happens at sides and at ports.
 use Rattle.std.proofs.Common.{◌≡◌, Bool, true, ◌∷◌, refl, ap, arith}
 use Rattle.std.specs.Prelude.{◌==◌, if◌then◌else◌}
 use Rattle.std.proofs.lemmas.Bool.Decides.{nat_tests}

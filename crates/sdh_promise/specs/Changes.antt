@@ -8,8 +8,8 @@ use Rattle.sdh_circuits.specs.declared.PortId.{PortId}
 use Rattle.sdh_plan.specs.declared.step.Step.{Step}
 use Rattle.sdh_plan.specs.declared.step.Step.TheVariants as step
 
--- the fibre that leaves a position on a side comes into a condition; a side of a node is given a command; the controller of a node is
--- to miss so many turns; so many more slips wait at a port; the moment is told
+-- a change of a ring: the fibre that leaves a position on a side gets a condition; a side of a node gets a command; the
+-- controller of a node is held for a number of turns; slips are ordered at a port; the moment is set
 pub data Change : Type 0 where
   Fibre : ℕ → Side → Condition → Change
   Order : ℕ → Side → Command → Change
@@ -17,7 +17,7 @@ pub data Change : Type 0 where
   Slip : PortId → Turn → ℕ → Change
   Now : ℕ → Change
 
--- changes, and so many rounds after them
+-- changes, and the number of rounds after them
 pub record Stretch : Type 0 where
   pub changes : List Change
   pub rounds : ℕ

@@ -1,13 +1,14 @@
--- What happened at a ring's ports, from the stretches of a run: the slips that they were told of, and the rounds. No frame occurs in it.
+-- What happened at a ring's ports, from the stretches of a run: the slips that were ordered there, and the rounds. No
+-- frame occurs in it.
 use Rattle.std.specs.Prelude.{ℕ, zero, suc, ◌-◌, nat_lt, if◌then◌else◌, List, [], ◌∷◌}
 use Rattle.sdh_payload.specs.History.{Happening, told, went}
 use Rattle.sdh_circuits.specs.declared.PortId.{PortId}
 use Rattle.sdh_circuits.specs.Provisioned.{same_port}
 use Rattle.sdh_promise.specs.Changes.{Change, Slip, Stretch}
 
--- All of it is told as lists of what happened, the latest first.
+-- All of it is lists of what happened, the latest first.
 
--- by a change a port may be told of slips
+-- what a change makes happen at a port: slips may be ordered there
 abbrev pub told_by : PortId → Change → List Happening → List Happening
 told_by port (Slip other turn count) history = if same_port port other then told turn count ∷ history else history
 told_by port change history = history
@@ -16,12 +17,12 @@ abbrev pub told_by_all : PortId → List Change → List Happening → List Happ
 told_by_all port [] history = history
 told_by_all port (x ∷ xs) history = told_by_all port xs (told_by port x history)
 
--- by so many rounds
+-- a history with k more rounds
 abbrev pub went_by : ℕ → List Happening → List Happening
 went_by zero history = history
 went_by (suc k) history = went ∷ went_by k history
 
--- before round t of the stretches, or of rounds alone behind them
+-- before round t of the stretches, or of rounds alone after them
 abbrev pub happened_in : PortId → List Stretch → List Happening → ℕ → List Happening
 happened_in port [] history t = went_by t history
 happened_in port (s ∷ ss) history t =

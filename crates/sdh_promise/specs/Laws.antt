@@ -16,14 +16,14 @@ use Rattle.sdh_promise.specs.Sides.{Holding, holding_after}
 use Rattle.sdh_promise.specs.Happened.{told_by, happened}
 use Rattle.sdh_promise.specs.Owed.{Ring, PortReport, requests_by, owed_port, IsOwed, AreOwed}
 
--- the rounds of these reports, before the first of which so many rounds had run, go on: each is behind those of the report before it,
--- within the limit, at a multiple of 128 and not in round 0
+-- the rounds of these reports go on after `ran` rounds: each lies after the round of the report before it, within the
+-- limit, at a multiple of 128 and not in round 0
 abbrev pub GoOn : ℕ → ℕ → List PortReport → Type 0
 GoOn limit ran [] = Unit {0}
 GoOn limit ran (r ∷ reports) =
     (ran ≤ r.round) × (1 ≤ r.round) × (r.round + 1 ≤ ran + limit) × (r.round % 128 ≡ 0) × GoOn limit (r.round + 1) reports
 
--- and so do those of reports that are owed, in a ring of two nodes or more
+-- the rounds of reports that are owed go on after those of earlier stretches, in a ring of two nodes or more
 abbrev pub ReportsGoOn : Type 0
 ReportsGoOn =
     (ring : Ring) (limit : ℕ) (earlier : List Stretch) (before : ℕ) (later : List (List Change)) (reports : List PortReport) (end : Status)
@@ -39,13 +39,13 @@ ReportsRemember =
     IsOwed ring.nodes (requests_by ring (first ∷ []) r.round) (happened (first ∷ [])) ring.circuits r
     × IsOwed ring.nodes (requests_by ring (first ∷ second ∷ []) s.round) (happened (first ∷ second ∷ [])) ring.circuits s)
 
--- a side is told of the fibre that ends at it
+-- a side sees the fibre that ends at it
 abbrev pub SidesAreTold : Type 0
 SidesAreTold =
     (n p q : ℕ) (d e : Side) (c : Condition) (h : Holding) → fibre q e ≡ fibre_to n p d
     → (holding_after n p d (Fibre q e c) h).condition ≡ c
 
--- a port is told of its own slips alone
+-- a port gets its own slips alone
 abbrev pub PortsAreTold : Type 0
 PortsAreTold =
     (port other : PortId) (turn : Turn) (count : ℕ) (history : List Happening) → same_port port other ≡ false

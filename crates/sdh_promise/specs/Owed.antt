@@ -59,16 +59,17 @@ owed_ports n applied before t index (c ∷ cs) =
 abbrev pub IsOwed : ℕ → List ℕ → (PortId → ℕ → List Happening) → List Provisioned → PortReport → Type 0
 IsOwed n requests before circuits r = r.ports ≡ owed_ports n (is_applied requests) before r.round 0 circuits
 
--- The last round of a settle step that ended, in a ring of n, before which so many rounds had run: a quiet window has 3 n rounds, the
--- step has at most the limit, and the number of its last one is a multiple of 128
+-- The last round of a settle step that ended, in a ring of n, before which `ran` rounds had run: a quiet window has 3 n
+-- rounds, the step has at most the limit, and the number of its last one is a multiple of 128
 pub record IsLast (n limit ran t : ℕ) : Type 0 where
   pub window : ran + 3 * n ≤ t + 1
   pub within : t + 1 ≤ ran + limit
   pub multiple : t % 128 ≡ 0
 
--- Each report shows what is owed under the requests of the history and by what happened at the ports, where `earlier` had happened, so many settle
--- steps had ended, and these are the changes before each step to come. Report by report the number grows by 1, and the round tells
--- how many rounds the step ran. A settle step without a report is where the script ended, unsettled or by a fault.
+-- Each report shows what is owed under the requests of the history and by what happened at the ports. `earlier` had
+-- happened, `before` settle steps had ended, and these are the changes before each step to come. Report by report the
+-- number grows by 1, and the round shows how many rounds the step ran. A settle step without a report is where the
+-- script ended, unsettled or by a fault.
 abbrev pub AreOwed : Ring → ℕ → List Stretch → ℕ → List (List Change) → List PortReport → Status → Type 0
 AreOwed ring limit earlier before [] reports end = (reports ≡ []) × ((end ≡ status.Ok) ⊎ (end ≡ status.PlantFault))
 AreOwed ring limit earlier before (changes ∷ later) [] end = (end ≡ status.Unsettled (before + 1)) ⊎ (end ≡ status.PlantFault)

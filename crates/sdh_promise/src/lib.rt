@@ -15,7 +15,8 @@ pub fn reports_remember()
     ensures { ReportsRemember }
 {}
 
-/// A side is told of the fibre that ends at it, a port of its own slips alone, and it is owed by what happened at the other end.
+/// A side sees the fibre that ends at it, a port its own slips alone, and what it is owed follows from what happened at
+/// the other end.
 pub fn all_are_told()
     ensures sides { SidesAreTold }
     ensures ports { PortsAreTold }

@@ -7,7 +7,7 @@ use Rattle.sdh_circuits.specs.declared.End.{End}
 use Rattle.sdh_report.specs.Lines.{port_named, chunk_line}
 use Rattle.sdh_report.specs.Written.{Written}
 
--- texts with the same bytes and room are the same
+-- texts with equal bytes and equal room are equal
 pub same_text : (w : Written) (bytes : List ℕ) (room : ℕ) → w.bytes ≡ bytes → w.room ≡ room → w ≡ record { bytes = bytes; room = room }
 same_text w bytes room e f =
     ap (λ (l : List ℕ). let x : Written = record { bytes = l; room = w.room } in x) e

@@ -29,7 +29,7 @@ settle_line number round = step_ended number round ++ codes "\n"
 
 -- ---- a node
 
--- its state
+-- the word of a state
 abbrev pub state_text : StateWord → List ℕ
 state_text word.Idle = codes "idle"
 state_text word.Pass = codes "pass"
@@ -41,7 +41,7 @@ state_text word.Isolated = codes "isolated"
 abbrev pub word_text : WordBytes → List ℕ
 word_text w = hex_of (w.first ∷ []) ++ codes " " ++ hex_of (w.second ∷ [])
 
--- its identifier, its state, and the words that it sent last
+-- the line of a node: its identifier, its state, and the words that it sent last
 abbrev pub node_line : NodeLine → List ℕ
 node_line l =
     codes "node " ++ decimal l.id ++ codes " " ++ state_text l.state ++ codes " west " ++ word_text l.west ++ codes " east "
@@ -71,8 +71,8 @@ abbrev pub port_line : List ℕ → End → Delivered → ℕ → List ℕ
 port_line name end Ais value = ais_line name end
 port_line name end (Chunk chunk) value = chunk_line name end value chunk
 
--- all that it delivers: the bytes of row i of a chunk, counted from 0. A chunk of 2349 bytes has nine rows of 261, as a VC-4
--- has (ITU-T G.707); of a chunk of another length there are at most so many
+-- all that it delivers: the bytes of row i of a chunk, counted from 0. A chunk of 2349 bytes has nine rows of 261, as a
+-- VC-4 has (ITU-T G.707); a chunk of another length has at most nine
 abbrev pub row : List ℕ → ℕ → List ℕ
 row chunk i = take 261 (drop (261 * i) chunk)
 
@@ -102,12 +102,12 @@ table_place id side slot = codes "node " ++ decimal id ++ codes " " ++ side_text
 abbrev pub table_ends : ℕ → ℕ → List ℕ
 table_ends from to = codes " " ++ decimal from ++ codes " " ++ decimal to ++ codes "\n"
 
--- there is the circuit of this name, between these two nodes
+-- the line of the circuit of this name, which is at this place, between these two nodes
 abbrev pub table_line : ℕ → Side → Slot → List ℕ → ℕ → ℕ → List ℕ
 table_line id side slot name from to = table_place id side slot ++ codes " " ++ name ++ table_ends from to
 
 -- ---- counts
 
--- settle step `number` has ended with round `round`, in which so many ports delivered a chunk, and so many AIS
+-- settle step `number` has ended with round `round`, in which `norm` ports delivered a chunk and `ais` ports AIS
 abbrev pub count_line : ℕ → ℕ → ℕ → ℕ → List ℕ
 count_line number round norm ais = step_ended number round ++ codes " norm " ++ decimal norm ++ codes " ais " ++ decimal ais ++ codes "\n"

@@ -6,6 +6,6 @@ pub record Written : Type 0 where
   pub bytes : List ℕ
   pub room : ℕ
 
--- the text with a part behind it, which takes its room
+-- the text with a part after it, which takes its room
 abbrev pub with_part : Written → List ℕ → Written
 with_part w part = record { bytes = w.bytes ++ part; room = w.room - length part }

@@ -13,28 +13,28 @@ use sdh_circuits::{End, Name, Slot};
 use sdh_payload::Delivered;
 use sdh_ringmap::Side;
 
-// The first 16 bytes, or all where there are fewer.
+// Returns the first 16 bytes, or all where there are fewer.
 fn first_bytes(chunk: &[u8]) -> &[u8]
     ensures { result.now ≡ take 16 chunk.now }
 {
     &chunk[..chunk.len().min(16)]
 }
 
-// The bytes from a place on, none where it is past the end.
+// Returns the bytes from a place on, none where it is past the end.
 fn bytes_from(chunk: &[u8], at: usize) -> &[u8]
     ensures { result.now ≡ drop at chunk.now }
 {
     &chunk[chunk.len().min(at)..]
 }
 
-// The first 261 bytes, or all where there are fewer.
+// Returns the first 261 bytes, or all where there are fewer.
 fn one_row(bytes: &[u8]) -> &[u8]
     ensures { result.now ≡ take 261 bytes.now }
 {
     &bytes[..bytes.len().min(261)]
 }
 
-// The bytes of a chunk in one of its nine rows.
+// Returns the bytes of a chunk in one of its nine rows.
 fn row_of(chunk: &[u8], at: usize) -> &[u8]
     requires { at < 9 }
     ensures { result.now ≡ row chunk.now at }
@@ -44,7 +44,7 @@ fn row_of(chunk: &[u8], at: usize) -> &[u8]
 
 // Lines of a run.
 impl Text {
-    /// A line of the caller's own, and a newline byte.
+    /// Appends a line of the caller's own, and a newline byte.
     pub fn own_line(&mut self, line: &[u8])
         requires { length line.now + 1 ≤ self.old.room }
         ensures { self.new ≡ with_part self.old (own_line line.now) }
@@ -53,7 +53,7 @@ impl Text {
         self.put(b"\n");
     }
 
-    // The end of a settle step.
+    // Appends the end of a settle step: its number and its last round.
     fn put_step(&mut self, number: u32, round: u64)
         requires { length (step_ended number round) ≤ self.old.room }
         ensures { self.new ≡ with_part self.old (step_ended number round) }
@@ -64,7 +64,7 @@ impl Text {
         self.put_number(round);
     }
 
-    /// The line that tells the end of a settle step, counted from 1, and its last round.
+    /// Appends the line of the end of a settle step: its number, counted from 1, and its last round.
     pub fn settle_line(&mut self, number: u32, round: u64)
         requires { length (settle_line number round) ≤ self.old.room }
         ensures { self.new ≡ with_part self.old (settle_line number round) }
@@ -73,7 +73,7 @@ impl Text {
         self.put(b"\n");
     }
 
-    /// The bytes K1 and K2 of a word.
+    /// Appends the bytes K1 and K2 of a word.
     pub fn put_word(&mut self, word: WordBytes)
         requires { 5 ≤ self.old.room }
         ensures { self.new ≡ with_part self.old (word_text word) }
@@ -83,7 +83,7 @@ impl Text {
         self.put_hex(&[word.second]);
     }
 
-    /// The line of a node.
+    /// Appends the line of a node.
     pub fn node_line(&mut self, line: &NodeLine)
         requires room { length (node_line line.now) ≤ self.old.room }
         ensures { self.new ≡ with_part self.old (node_line line.now) }
@@ -99,7 +99,7 @@ impl Text {
         self.put(b"\n");
     }
 
-    /// The letter of a port: `a` where its circuit's arc starts, `b` where it ends.
+    /// Appends the letter of a port: `a` where its circuit's arc starts, `b` where it ends.
     pub fn put_end(&mut self, end: End)
         requires { 1 ≤ self.old.room }
         ensures { self.new ≡ with_part self.old (end_letter end) }
@@ -110,8 +110,8 @@ impl Text {
         }
     }
 
-    /// How each line of a port begins: the word `port`, the circuit's name and the port's letter, with no space behind
-    /// them.
+    /// Appends how each line of a port begins: the word `port`, the circuit's name and the port's letter, with no space
+    /// after them.
     pub fn put_port(&mut self, name: &Name, end: End)
         requires { length (port_named name.now end) ≤ self.old.room }
         ensures { self.new ≡ with_part self.old (port_named name.now end) }
@@ -122,7 +122,7 @@ impl Text {
         self.put_end(end);
     }
 
-    // The line of a port that delivers a chunk.
+    // Appends the line of a port that delivers a chunk.
     fn chunk_line(&mut self, name: &Name, end: End, value: u16, chunk: &[u8])
         requires { length (chunk_line name.now end value chunk.now) ≤ self.old.room }
         ensures { self.new ≡ with_part self.old (chunk_line name.now end value chunk.now) }
@@ -135,8 +135,8 @@ impl Text {
         self.put(b"\n");
     }
 
-    /// The line of a port: of a chunk the pointer value that it came with, and its first 16 bytes (or all, where there are
-    /// fewer). With AIS the value isn't looked at.
+    /// Appends the line of a port: of a chunk the pointer value that it came with, and its first 16 bytes (or all,
+    /// where there are fewer). With AIS the value isn't looked at.
     pub fn port_line(&mut self, name: &Name, end: End, delivered: &Delivered, offset: u16)
         requires { length (port_line name.now end delivered.now offset) ≤ self.old.room }
         ensures { self.new ≡ with_part self.old (port_line name.now end delivered.now offset) }
@@ -153,7 +153,7 @@ impl Text {
 
 // Lines of one port, of a squelch table, of counts, and the last one.
 impl Text {
-    // The line of a row, which has none where the row is empty.
+    // Appends the line of a row, which has none where the row is empty.
     fn put_row(&mut self, bytes: &[u8])
         requires { length (row_line bytes.now) ≤ self.old.room }
         ensures { self.new ≡ with_part self.old (row_line bytes.now) }
@@ -165,7 +165,7 @@ impl Text {
         self.put(b"\n");
     }
 
-    // The lines of a chunk.
+    // Appends the lines of a chunk.
     fn put_rows(&mut self, chunk: &[u8])
         requires { length (drop_lines (Delivered.Chunk chunk.now)) ≤ self.old.room }
         ensures { self.new ≡ with_part self.old (drop_lines (Delivered.Chunk chunk.now)) }
@@ -175,8 +175,8 @@ impl Text {
         }
     }
 
-    /// All that a port delivers: the nine rows of a chunk of 2349 bytes, a line each. Of a chunk of another length its
-    /// first 2349 bytes, or all where there are fewer; the last line may then be shorter.
+    /// Appends all that a port delivers: the nine rows of a chunk of 2349 bytes, a line each. Of a chunk of another
+    /// length its first 2349 bytes, or all where there are fewer; the last line may then be shorter.
     pub fn drop_lines(&mut self, delivered: &Delivered)
         requires { length (drop_lines delivered.now) ≤ self.old.room }
         ensures { self.new ≡ with_part self.old (drop_lines delivered.now) }
@@ -187,7 +187,7 @@ impl Text {
         }
     }
 
-    // The word of a side.
+    // Appends the word of a side.
     fn put_side(&mut self, side: Side)
         requires { 4 ≤ self.old.room }
         ensures { self.new ≡ with_part self.old (side_text side) }
@@ -198,7 +198,7 @@ impl Text {
         }
     }
 
-    // The place of a line of a squelch table.
+    // Appends the place of a line of a squelch table.
     fn put_place(&mut self, id: u8, side: Side, slot: Slot)
         requires { length (table_place id side slot) ≤ self.old.room }
         ensures { self.new ≡ with_part self.old (table_place id side slot) }
@@ -211,7 +211,7 @@ impl Text {
         self.put_number(u64::from(slot.0));
     }
 
-    // The ends of the circuit in it.
+    // Appends the ends of the circuit in a line of a squelch table.
     fn put_ends(&mut self, from: u8, to: u8)
         requires { length (table_ends from to) ≤ self.old.room }
         ensures { self.new ≡ with_part self.old (table_ends from to) }
@@ -223,7 +223,8 @@ impl Text {
         self.put(b"\n");
     }
 
-    /// The line of a circuit in a squelch table: the node, its side and slot, and the identifiers of the circuit's ends.
+    /// Appends the line of a circuit in a squelch table: the node, its side and slot, and the identifiers of the
+    /// circuit's ends.
     pub fn table_line(&mut self, id: u8, side: Side, slot: Slot, name: &Name, from: u8, to: u8)
         requires { length (table_line id side slot name.now from to) ≤ self.old.room }
         ensures { self.new ≡ with_part self.old (table_line id side slot name.now from to) }
@@ -234,7 +235,8 @@ impl Text {
         self.put_ends(from, to);
     }
 
-    /// The line that tells the end of a settle step, and how many ports delivered a chunk and how many AIS.
+    /// Appends the line of the end of a settle step, with the number of ports that delivered a chunk and of those that
+    /// delivered AIS.
     pub fn count_line(&mut self, number: u32, round: u64, norm: u32, ais: u32)
         requires { length (count_line number round norm ais) ≤ self.old.room }
         ensures { self.new ≡ with_part self.old (count_line number round norm ais) }
@@ -247,7 +249,7 @@ impl Text {
         self.put(b"\n");
     }
 
-    // The last line of a plan that fails a check.
+    // Appends the last line of a plan that fails a check.
     fn bad_plan_line(&mut self, reason: u8, place: u32)
         requires { length (last_line (Status.BadPlan reason place)) ≤ self.old.room }
         ensures { self.new ≡ with_part self.old (last_line (Status.BadPlan reason place)) }
@@ -259,7 +261,7 @@ impl Text {
         self.put(b"\n");
     }
 
-    // The last line of a settle step without a quiet window.
+    // Appends the last line of a settle step without a quiet window.
     fn unsettled_line(&mut self, number: u32)
         requires { length (last_line (Status.Unsettled number)) ≤ self.old.room }
         ensures { self.new ≡ with_part self.old (last_line (Status.Unsettled number)) }
@@ -269,8 +271,8 @@ impl Text {
         self.put(b"\n");
     }
 
-    /// The last line of a text, by how the program ends. A write fault and want of memory have none, and of wrong words each
-    /// program has a line of its own.
+    /// Appends the last line of a text, by how the program ends. There is none after a write fault or a lack of memory,
+    /// and for wrong words each program has a line of its own.
     pub fn last_line(&mut self, status: &Status)
         requires { length (last_line status.now) ≤ self.old.room }
         ensures { self.new ≡ with_part self.old (last_line status.now) }

@@ -9,6 +9,6 @@ pub enum Listing {
     Reports,
     /// All bytes that one port delivered.
     Port(PortId),
-    /// How many ports delivered a chunk, and how many AIS.
+    /// The number of ports that delivered a chunk, and of those that delivered AIS.
     Counts,
 }

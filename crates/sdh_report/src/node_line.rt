@@ -1,4 +1,4 @@
-//! What is told of a node.
+//! The line of a node.
 ghost use Rattle.std.specs.Prelude.{◌≡◌, codes};
 ghost use Rattle.sdh_report.specs.Lines.{state_text};
 
@@ -19,7 +19,7 @@ pub struct WordBytes {
     pub second: u8,
 }
 
-/// What is told of a node: its identifier, its state, and the bytes of the words that it sent last on each side.
+/// The line of a node: its identifier, its state, and the bytes of the words that it sent last on each side.
 #[derive(Clone, Copy, Debug, PartialEq, Eq)]
 pub struct NodeLine {
     pub id: u8,
@@ -29,7 +29,7 @@ pub struct NodeLine {
 }
 
 impl StateWord {
-    /// Its letters.
+    /// Returns the letters of a state.
     pub fn letters(self) -> &'static [u8]
         ensures { result.now ≡ state_text self }
     {

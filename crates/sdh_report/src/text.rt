@@ -44,7 +44,7 @@ impl fmt::Debug for Text {
     }
 }
 
-// The hexadecimal digit of a number below 16, in lower case.
+// Returns the hexadecimal digit of a number below 16, in lower case.
 fn digit(value: u8) -> u8
     requires { value < 16 }
     ensures { result ≡ digit_glyph false value }
@@ -57,7 +57,7 @@ fn digit(value: u8) -> u8
 }
 
 impl Text {
-    /// An empty text with so much room, in bytes.
+    /// Returns an empty text with so much room, in bytes.
     pub fn try_new(alloc: Global, room: usize) -> Result<Text, AllocError>
         ensures { IfOk result (λ text. text ≡ record { bytes = []; room = room }) }
     {
@@ -67,14 +67,14 @@ impl Text {
         })
     }
 
-    /// How many more bytes have room.
+    /// Returns how many more bytes have room.
     pub fn room(&self) -> usize
         ensures { result ≡ self.now.room }
     {
         self.room
     }
 
-    /// The text so far.
+    /// Returns the text so far.
     pub fn bytes(&self) -> &[u8]
         ensures { result.now ≡ self.now.bytes }
     {

@@ -7,7 +7,7 @@ use Rattle.sdh_request.specs.declared.Command.{Command}
 use Rattle.sdh_request.specs.declared.Command.TheVariants as command
 use Rattle.sdh_request.specs.Requests.{is_defect_free, waits, highest_code}
 
--- what happens on a side: a look at it sees a defect or none, a command is given, the moment is told
+-- what happens on a side: a round finds a defect or none there, a command is given, or the moment is set
 pub data LocalHappening : Type 0 where
   seen : Defect → LocalHappening
   commanded : Command → LocalHappening
@@ -29,7 +29,7 @@ present_command (seen d ∷ earlier) = present_command earlier
 present_command (commanded c ∷ earlier) = c
 present_command (reached t ∷ earlier) = present_command earlier
 
--- the last moment that was told; moment 0 before the first
+-- the last moment that was set; moment 0 before the first
 abbrev pub present_moment : List LocalHappening → ℕ
 present_moment [] = 0
 present_moment (seen d ∷ earlier) = present_moment earlier

@@ -1,5 +1,5 @@
 //! The local request of one side of a node: what it asks for because of a command, a defect, or a defect that ended a
-//! short time ago. Time is told in moments, and waiting is by them alone. After ITU-T G.841; the codes, and that a
+//! short time ago. Time is counted in moments, and waiting goes by them alone. After ITU-T G.841; the codes, and that a
 //! defect asks at once, are this project's own.
 #![tactic(auto)]
 
@@ -70,7 +70,8 @@ impl Local {
     ghost use Rattle.sdh_request.specs.Kept.{kept_of, after_happening, Adds, kept_request};
     ghost use Rattle.sdh_request.specs.Requests.{waits};
 
-    /// A side without a command and a defect, at moment 0. `wait` is how long it waits to restore after a defect.
+    /// Returns a side without a command and a defect, at moment 0. `wait` is how long it waits to restore after a
+    /// defect.
     pub fn new(wait: u32) -> Local
         ensures { result ≡ kept_of wait [] }
     {
@@ -92,7 +93,7 @@ impl Local {
         self.command = command;
     }
 
-    /// Tells the present moment. It never goes back.
+    /// Sets the present moment, which never goes back.
     #[tactic(auto, using(crate::proofs::Keeping::after_history))]
     pub fn at_moment(&mut self, now: Moment)
         requires later { self.old.moment ≤ now.0 }
@@ -116,7 +117,7 @@ impl Local {
         self.defect = defect;
     }
 
-    /// What the last look saw.
+    /// Returns what the last look saw.
     pub fn defect(&self) -> Defect
         ensures { result ≡ self.now.defect }
     {
@@ -132,7 +133,7 @@ impl Local {
         }
     }
 
-    /// The highest code that applies, never RR.
+    /// Returns the highest code that applies, never RR.
     #[tactic(auto, using(crate::proofs::Keeping::request_after, crate::proofs::Highest::never_rr, crate::proofs::Highest::at_least_sf))]
     pub fn request(&self) -> Code
         ensures kept { result ≡ kept_request self.now }

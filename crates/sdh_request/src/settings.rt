@@ -6,8 +6,8 @@ use sdh_terms::Rate;
 pub struct Settings {
     /// The rate of all frames.
     pub rate: Rate,
-    /// How many violations of B2 in a frame degrade a side, 1 to 3N in a plan.
+    /// The least number of violations of B2 in a frame that degrades a side, 1 to 3N in a plan.
     pub threshold: u16,
-    /// How many moments a side waits to restore once its last defect ended; 0: it doesn't wait.
+    /// The number of moments that a side waits to restore once its last defect ended. With 0 it doesn't wait.
     pub wait: u32,
 }

@@ -1,5 +1,5 @@
--- The local request of one side of a node, from the whole history of the fibre that comes in there. Defects are told
--- by fibres alone, and no frame occurs. After ITU-T G.841; waiting by moments is this project's own.
+-- The local request of one side of a node, from the whole history of the fibre that comes in there. Defects follow from
+-- fibres alone, and no frame occurs. After ITU-T G.841; waiting by moments is this project's own.
 use Rattle.std.specs.Prelude.{ℕ, zero, suc, ◌-◌, Bool, false, ◌&&◌, not, nat_le, if◌then◌else◌, Option, Some, None, option_map}
 use Rattle.sdh_terms.specs.declared.Code.{Code}
 use Rattle.sdh_ringmap.specs.declared.Side.{Side}
@@ -39,7 +39,7 @@ last_end threshold h zero = None
 last_end threshold h (suc t) = if ends_at threshold h (suc t) then Some (suc t) else last_end threshold h t
 
 -- the local request of the side in round t: the highest code that applies, where a side waits to restore as long as
--- fewer than `wait` moments have gone by since the round in which its last defect ended
+-- fewer than `wait` moments have passed since the round in which its last defect ended
 unfoldable pub local_request : ℕ → ℕ → SideHistory → ℕ → Code
 local_request threshold wait h t =
     highest_code (h.command t) (defect_at threshold h t)

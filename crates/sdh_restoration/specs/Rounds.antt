@@ -8,7 +8,7 @@ use Rattle.sdh_restoration.specs.History.{SideHistory}
 abbrev pub still_round : SideRound
 still_round = record { is_cut = false; degraded = 0; command = command.Clear; moment = record { 0 = 0 } }
 
--- the history that the list tells; after its end nothing happens
+-- the history that the list gives; after its end nothing happens
 abbrev pub history_of : List SideRound → SideHistory
 history_of rounds = record {
   is_cut = λ t. (slice_index_or rounds t still_round).is_cut;

@@ -1,5 +1,5 @@
--- Where the two ends of an arc are joined, and the way that leads from one to the other. A ring has n nodes,
--- and `applied s` tells whether span s is applied.
+-- Where the two ends of an arc are joined, and the way that leads from one to the other. A ring has n nodes, and
+-- `applied s` says whether span s is applied.
 use Rattle.std.specs.Prelude.{ℕ, zero, suc, ◌+◌, ◌-◌, ◌*◌, Bool, if◌then◌else◌, List, [], ◌∷◌, ◌++◌, reverse}
 use Rattle.sdh_ringmap.specs.Arcs.{Arc, arc_span, is_clear}
 

@@ -14,7 +14,7 @@ pub struct LocalRequests {
     pub east: Code,
 }
 
-// The larger of two requests.
+// Returns the larger of two requests.
 fn larger(one: Code, other: Code) -> Code
     ensures { code_number result ≡ max (code_number one) (code_number other) }
 {
@@ -25,7 +25,7 @@ fn larger(one: Code, other: Code) -> Code
     }
 }
 
-/// The request of a span: the larger local request of its two ends, by the local requests at each position.
+/// Returns the request of a span: the larger local request of its two ends, by the local requests at each position.
 #[tactic(auto, using(crate::proofs::Spans::request_of_span))]
 pub fn span_request(local: &[LocalRequests], span: Span) -> Code
     requires { span.0 < length local.now }
@@ -48,7 +48,7 @@ fn highest(requests: &[Code]) -> u8
     most
 }
 
-// How many spans have this request.
+// Returns how many spans have this request.
 fn count_of(requests: &[Code], number: u8) -> usize
     ensures { result ≡ count_by (λ r. code_number r == number) requests.now }
 {
@@ -58,7 +58,7 @@ fn count_of(requests: &[Code], number: u8) -> usize
         .count()
 }
 
-/// Whether a span is in the applied set, from the requests of all spans of the ring.
+/// Returns whether a span is in the applied set, from the requests of all spans of the ring.
 #[tactic(auto, unfolding(crate::specs::Applied::applies))]
 pub fn is_applied(requests: &[Code], span: Span) -> bool
     requires { span.0 < length requests.now }

@@ -11,13 +11,14 @@ use sdh_terms::Code;
 #[derive(Clone, Copy, Debug, PartialEq, Eq)]
 pub struct SideRound {
     pub is_cut: bool,
-    /// How many bits of a frame are inverted, each of which shows as a violation of B2; 0 on a fibre that isn't degraded.
+    /// The number of bits of a frame that are inverted. Each shows as a violation of B2. 0 on a fibre that isn't
+    /// degraded.
     pub degraded: u16,
     pub command: Command,
     pub moment: Moment,
 }
 
-// The defect in a round.
+// Returns the defect in a round.
 #[tactic(auto, unfolding(crate::specs::History::defect_at))]
 fn defect_in(threshold: u16, rounds: &[SideRound], t: usize) -> Defect
     requires { t < length rounds.now }
@@ -37,7 +38,7 @@ fn defect_in(threshold: u16, rounds: &[SideRound], t: usize) -> Defect
     }
 }
 
-// Whether the defect in a round is none.
+// Returns whether the defect in a round is none.
 fn is_clear(defect: Defect) -> bool
     ensures { result ≡ is_defect_free defect }
 {
@@ -47,7 +48,7 @@ fn is_clear(defect: Defect) -> bool
     }
 }
 
-// Whether a defect of the round before is there no longer in the next.
+// Returns whether a defect of the round before is there no longer in the next.
 #[tactic(auto, unfolding(crate::specs::History::ends_at))]
 fn ends_after(threshold: u16, rounds: &[SideRound], t: usize) -> bool
     requires { t + 1 < length rounds.now }
@@ -56,7 +57,7 @@ fn ends_after(threshold: u16, rounds: &[SideRound], t: usize) -> bool
     !is_clear(defect_in(threshold, rounds, t)) && is_clear(defect_in(threshold, rounds, t + 1))
 }
 
-// The last round up to this one in which a defect ended.
+// Returns the last round up to this one in which a defect ended.
 fn last_end(threshold: u16, rounds: &[SideRound], t: usize) -> Option<usize>
     requires { t < length rounds.now }
     ensures end { result ≡ last_end threshold (history_of rounds.now) t }
@@ -70,7 +71,7 @@ fn last_end(threshold: u16, rounds: &[SideRound], t: usize) -> Option<usize>
     None
 }
 
-// Whether the side waits to restore in a round.
+// Returns whether the side waits to restore in a round.
 fn waits(threshold: u16, wait: u32, rounds: &[SideRound], t: usize) -> bool
     requires { t < length rounds.now }
     ensures { result ≡ waits wait (defect_at threshold (history_of rounds.now) t) (slice_index_or rounds.now t still_round).moment.0
@@ -87,7 +88,7 @@ fn waits(threshold: u16, wait: u32, rounds: &[SideRound], t: usize) -> bool
     }
 }
 
-/// The local request of a side in a round, from all its rounds up to that one. `threshold` is the number of
+/// Returns the local request of a side in a round, from all its rounds up to that one. `threshold` is the number of
 /// inverted bits in a frame that is a signal degradation, and `wait` how many moments a side waits to restore.
 #[tactic(auto, unfolding(crate::specs::History::local_request))]
 pub fn local_request(threshold: u16, wait: u32, rounds: &[SideRound], t: usize) -> Code

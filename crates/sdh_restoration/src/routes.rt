@@ -13,7 +13,7 @@ pub struct Ends {
     pub to: Pos,
 }
 
-// The span at a place of an arc.
+// Returns the span at a place of an arc.
 fn span_at_place(map: &RingMap, ends: Ends, place: u8) -> Span
     requires from { ends.from.0 < length map.now }
     requires place { place < length map.now }
@@ -23,7 +23,7 @@ fn span_at_place(map: &RingMap, ends: Ends, place: u8) -> Span
     Span((ends.from.0 + place) % n)
 }
 
-// Whether the span at a place of an arc is applied.
+// Returns whether the span at a place of an arc is applied.
 fn is_applied_at(map: &RingMap, ends: Ends, place: u8, applied: &[Span]) -> bool
     requires from { ends.from.0 < length map.now }
     requires place { place < length map.now }
@@ -33,7 +33,7 @@ fn is_applied_at(map: &RingMap, ends: Ends, place: u8, applied: &[Span]) -> bool
     applied.iter().any(|other| other.0 == span.0)
 }
 
-// Whether none of so many spans of a ring is applied, from a place of the arc on.
+// Returns whether none of `count` spans of a ring is applied, from a place of the arc on.
 fn is_free(map: &RingMap, ends: Ends, first: u8, count: u8, applied: &[Span]) -> bool
     requires from { ends.from.0 < length map.now }
     requires places { first + count ≤ length map.now }
@@ -49,7 +49,7 @@ fn is_free(map: &RingMap, ends: Ends, first: u8, count: u8, applied: &[Span]) ->
     true
 }
 
-// The place of the first applied span of an arc, or its number of spans.
+// Returns the place of the first applied span of an arc, or its number of spans.
 fn first_place(map: &RingMap, ends: Ends, applied: &[Span]) -> u8
     requires from { ends.from.0 < length map.now }
     requires to { ends.to.0 < length map.now }
@@ -65,7 +65,7 @@ fn first_place(map: &RingMap, ends: Ends, applied: &[Span]) -> u8
     spans
 }
 
-// The place of the last applied span of an arc, or 0.
+// Returns the place of the last applied span of an arc, or 0.
 fn last_place(map: &RingMap, ends: Ends, applied: &[Span]) -> u8
     requires from { ends.from.0 < length map.now }
     requires to { ends.to.0 < length map.now }
@@ -81,7 +81,7 @@ fn last_place(map: &RingMap, ends: Ends, applied: &[Span]) -> u8
     0
 }
 
-/// The number of spans of the route between the two ends, where they are joined: 1 to n - 1 along the arc, or
+/// Returns the number of spans of the route between the two ends, where they are joined: 1 to n - 1 along the arc, or
 /// at most 2n - 3 around applied spans.
 #[tactic(auto, unfolding(crate::specs::Routes::hops, sdh_ringmap::specs::Arcs::is_clear))]
 pub fn hops(map: &RingMap, ends: Ends, applied: &[Span]) -> u8

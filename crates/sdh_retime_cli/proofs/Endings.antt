@@ -51,7 +51,7 @@ whole words bytes reads (status.Drift t) text old new is written = (text, is, wr
 whole words bytes reads status.WriteFault text old new is written = absurd is.0
 whole words bytes reads status.Memory text old new is written = absurd is.0
 
--- of other words the source has nothing to tell
+-- with other words nothing is read from the source
 pub usage_is : (words : List (List ℕ)) (s : Status) (text : List ℕ) → (¬ AreDigits words) → s ≡ status.Usage
     → text ≡ own_line (codes "usage: sdhretime DIGITS") → IsOutcome words [] s text
 usage_is words s text other is line = subst (λ (how : Status). IsOutcome words [] how text) (sym is) (other, line)

@@ -51,7 +51,7 @@ all_shown_given (chunk ∷ earlier) =
     ∙ ap (λ (l : List ℕ). given_in_all earlier ++ l)
     (shown_given (last_action past) (drop (count_given earlier) (taken_in past)))
 
--- the chunks, and the bytes behind them
+-- the chunks, and the bytes after them
 taken_and_left : (digits bytes : List ℕ) (k : ℕ) → taken_in (chunks digits bytes k) ++ drop (offset_at digits k) bytes ≡ bytes
 unfolding chunks offset_at
 taken_and_left digits bytes zero = refl

@@ -1,4 +1,4 @@
--- What the numbers of statuses tell.
+-- What the numbers of statuses show.
 use Rattle.std.proofs.Common.{◌≡◌, ◌⊎◌, ℕ, refl, inl, inr, arith}
 use Rattle.sdh_retime_cli.specs.declared.status.Status.{Status}
 use Rattle.sdh_retime_cli.specs.declared.status.Status.TheVariants as status

@@ -13,12 +13,12 @@ pub first_reading : (i : Interpreter) (s : Store) (first : ℕ) → i.reading �
 unfolding reading_in
 first_reading i s first is new = is ∙ ap reading_of (sym new)
 
--- it reads what the turn did
+-- the interpreter reads what the turn did
 pub read_action : (i : Interpreter) (s new : Store) (w : ℕ) (b a : Action) → i.reading ≡ reading_of s → w ≡ new.word
     → b ≡ action_on i.reading w → action_on (reading_of s) new.word ≡ a → b ≡ a
 read_action i s new w b a at word is told = is ∙ ap (λ r. action_on r w) at ∙ ap (action_on (reading_of s)) word ∙ told
 
--- and goes on with the store
+-- the interpreter goes on with the store
 pub next_reading : (i j : Interpreter) (s new : Store) (w : ℕ) → i.reading ≡ reading_of s → w ≡ new.word → j ≡ after_step i w
     → after_word (reading_of s) new.word ≡ reading_of new → j.reading ≡ reading_of new
 unfolding after_step

@@ -18,7 +18,7 @@ sizes : List ℕ → ℕ → List ℕ
 sizes digits zero = []
 sizes digits (suc k) = size_at digits k ∷ sizes digits k
 
--- a digit tells the length of a chunk
+-- a digit gives the length of a chunk
 pub size_is_chunk : (digits : List ℕ) (k : ℕ) → IsDigits digits → IsChunk (size_at digits k)
 size_is_chunk digits k d =
     let less : k % length digits < length digits = omega (arith, d.some) in

@@ -25,7 +25,7 @@ unfoldable pub offset_at : List ℕ → ℕ → ℕ
 offset_at digits zero = 0
 offset_at digits (suc k) = offset_at digits k + size_at digits k
 
--- its bytes
+-- the bytes of chunk k
 abbrev pub chunk_at : List ℕ → List ℕ → ℕ → List ℕ
 chunk_at digits bytes k = take (size_at digits k) (drop (offset_at digits k) bytes)
 

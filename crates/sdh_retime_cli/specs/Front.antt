@@ -1,11 +1,12 @@
--- What a run gives, as its lines tell it: the bytes given in all turns, one after the other, are the front of the bytes taken in.
+-- What a run gives, as its lines show it: the bytes given in all turns, one after the other, are the front of the bytes
+-- taken in.
 use Rattle.std.specs.Prelude.{◌≡◌, ◌⊎◌, ℕ, suc, List, [], ◌∷◌, ◌++◌, length, Option}
 use Rattle.std.specs.Io.KnownBytes.{Appends}
 use Rattle.sdh_pointer.specs.declared.reading.Action.{Action}
 use Rattle.sdh_pointer.specs.declared.reading.Action.TheVariants.{Normal, New, Up, Down, Ais}
 use Rattle.sdh_retime_cli.specs.Lines.{turn_line, given_line, left_line, drift_line}
 
--- what the lines of a turn tell: what it did, how many bytes were held then, and the bytes given
+-- what the lines of a turn show: what it did, how many bytes were held then, and the bytes given
 pub record TurnTold : Type 0 where
   pub action : Action
   pub fill : ℕ
@@ -25,7 +26,7 @@ shown_with Normal bytes = bytes
 shown_with Up bytes = bytes
 shown_with Down bytes = bytes
 
--- those of all turns, in their order
+-- what is shown of all turns, in their order
 abbrev pub all_shown : List TurnTold → List ℕ
 all_shown [] = []
 all_shown (t ∷ earlier) = all_shown earlier ++ shown_with t.action t.given
@@ -43,6 +44,6 @@ pub record TellsFront (bytes text : List ℕ) : Type 0 where
   pub rest : List ℕ
   pub front : all_shown turns ++ rest ≡ bytes
 
--- so is what was written
+-- a text that shows a front of the bytes taken in was appended
 abbrev pub WritesFront : List ℕ → Option (List ℕ) → Option (List ℕ) → Type 0
 WritesFront bytes old new = (text : List ℕ) × TellsFront bytes text × Appends old new text

@@ -13,7 +13,7 @@ action_word Normal = codes "plain"
 action_word Up = codes "up"
 action_word Down = codes "down"
 
--- turn `number` did this and left so many bytes held
+-- the line of turn `number`, its action and the number of bytes held after it
 abbrev pub turn_line : ℕ → Action → ℕ → List ℕ
 turn_line number action fill = decimal number ++ codes " " ++ action_word action ++ codes " " ++ decimal fill ++ codes "\n"
 
@@ -34,7 +34,7 @@ abbrev pub lines_of : List (List ℕ) → List ℕ
 lines_of [] = []
 lines_of (chunk ∷ earlier) = lines_of earlier ++ last_lines (chunk ∷ earlier)
 
--- the last line: so many bytes were too few for a chunk, or this turn is a drift
+-- the last line: n bytes were left, too few for a chunk, or this turn is a drift
 abbrev pub left_line : ℕ → List ℕ
 left_line n = codes "left " ++ decimal n ++ codes "\n"
 

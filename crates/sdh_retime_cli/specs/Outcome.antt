@@ -51,7 +51,7 @@ pub record IsRead (words : List (List ℕ)) (bytes digits : List ℕ) : Type 0 w
   pub form : IsDigits digits
   pub short : length bytes ≤ 1048576
 
--- the words and the bytes of the source come to this status, with this text. Nothing comes to a write fault or to want of
+-- the words and the bytes of the source come to this status, with this text. No outcome has a write fault or a lack of
 -- memory: they may stand in place of an outcome
 abbrev pub IsOutcome : List (List ℕ) → List ℕ → Status → List ℕ → Type 0
 IsOutcome words bytes status.Usage text = (¬ AreDigits words) × (text ≡ own_line (codes "usage: sdhretime DIGITS"))
@@ -88,7 +88,7 @@ pub record Answers (words : List (List ℕ)) (bytes : List ℕ) (reads : Counts)
   pub numbered : number ≡ number_of status
   pub writes : Writes words bytes reads status old new
 
--- what had come of the source when there was this to tell
+-- what the source had come to when this was to be reported
 abbrev pub CameTo : Bool → ℕ → ℕ → Option (List ℕ) → Option (List ℕ) → Status → Type 0
 CameTo exact before after left now how =
     CameOfSource exact (record { before = before; after = after }) left now (how ≡ status.ReadFault) (how ≡ status.TooLong)
@@ -107,17 +107,17 @@ pub record UnsteadyBy (digits : List ℕ) (turn : ℕ) : Type 0 where
   pub is : sum ≡ size_at digits first + size_at digits (first + 1) + size_at digits (first + 2) + size_at digits (first + 3)
   pub far : (sum < 9393) ⊎ (9399 < sum)
 
--- and this turn is the one that the last line of a text names
+-- the text's last line names this turn, and up to it four chunks in a row are unsteady
 pub record TellsUnsteady (digits : List ℕ) (turn : ℕ) (text : List ℕ) : Type 0 where
   pub unsteady : UnsteadyBy digits turn
   pub lines : List ℕ
   pub text_is : text ≡ lines ++ drift_line turn
 
--- this is so of the words' digits
+-- the words are one word of digits, and the text names an unsteady turn of them
 abbrev pub AreUnsteady : List (List ℕ) → ℕ → List ℕ → Type 0
 AreUnsteady words turn text = (digits : List ℕ) × (words ≡ digits ∷ []) × TellsUnsteady digits turn text
 
--- and of what was written
+-- a text that names an unsteady turn was appended
 abbrev pub WritesUnsteady : List (List ℕ) → ℕ → Option (List ℕ) → Option (List ℕ) → Type 0
 WritesUnsteady words turn old new = (text : List ℕ) × AreUnsteady words turn text × Appends old new text
 

@@ -1,4 +1,4 @@
-//! The program's word: digits that tell the lengths of chunks.
+//! The program's word: digits that give the lengths of chunks.
 ghost use Rattle.std.specs.Prelude.{◌≡◌, ◌↔◌, [], ◌∷◌, IsTrue, MatchOption};
 ghost use Rattle.sdh_elastic.specs.Turns.{IsChunk};
 ghost use Rattle.sdh_shell.specs.Calls.{words_of};
@@ -10,7 +10,7 @@ const DIGITS_MAX: usize = 64;
 /// The fewest bytes of a chunk.
 pub const CHUNK_MIN: usize = 2346;
 
-// Whether a word is 1 to 64 digits from 0 to 6.
+// Returns whether a word is 1 to 64 digits from 0 to 6.
 fn is_digits(word: &[u8]) -> bool
     ensures { IsTrue result ↔ IsDigits word.now }
 {
@@ -20,7 +20,7 @@ fn is_digits(word: &[u8]) -> bool
     word.iter().all(|digit| b'0' <= *digit && *digit <= b'6')
 }
 
-/// The digits, where the words are one word of them.
+/// Returns the digits, where the words are one word of them.
 pub fn digits_of(words: &[String]) -> Option<&[u8]>
     ensures { MatchOption result (¬ AreDigits (words_of words.now))
         (λ digits. (words_of words.now ≡ digits.now ∷ []) × IsDigits digits.now) }
@@ -31,7 +31,7 @@ pub fn digits_of(words: &[String]) -> Option<&[u8]>
     }
 }
 
-/// How many bytes a chunk has, by its number, counted from 0.
+/// Returns how many bytes a chunk has, by its number, counted from 0.
 pub fn size_at(digits: &[u8], number: usize) -> usize
     requires { IsDigits digits.now }
     ensures size { result ≡ size_at digits.now number }

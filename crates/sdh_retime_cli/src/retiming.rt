@@ -37,7 +37,7 @@ struct Retiming {
     out: Cells,
 }
 
-// The word of an action.
+// Appends the word of an action.
 fn put_action(text: &mut Text, action: Action)
     requires { length (action_word action) ≤ text.old.room }
     ensures { text.new ≡ with_part text.old (action_word action) }
@@ -51,7 +51,7 @@ fn put_action(text: &mut Text, action: Action)
     }
 }
 
-// The line of what a turn did and left.
+// Appends the line of what a turn did and left.
 fn put_turn_line(text: &mut Text, number: usize, action: Action, fill: usize)
     requires { length (turn_line number action fill) ≤ text.old.room }
     ensures { text.new ≡ with_part text.old (turn_line number action fill) }
@@ -64,7 +64,7 @@ fn put_turn_line(text: &mut Text, number: usize, action: Action, fill: usize)
     text.put(b"\n");
 }
 
-// The line of the bytes that a turn gave.
+// Appends the line of the bytes that a turn gave.
 fn put_given(text: &mut Text, action: Action, given: &[u8])
     requires { length (given_line action given.now) ≤ text.old.room }
     ensures { text.new ≡ with_part text.old (given_line action given.now) }
@@ -78,7 +78,7 @@ fn put_given(text: &mut Text, action: Action, given: &[u8])
     }
 }
 
-// The last line of a run that took all whole chunks in.
+// Appends the last line of a run that took all whole chunks in.
 fn put_left(text: &mut Text, count: usize)
     requires { length (left_line count) ≤ text.old.room }
     ensures { text.new ≡ with_part text.old (left_line count) }
@@ -88,7 +88,7 @@ fn put_left(text: &mut Text, count: usize)
     text.put(b"\n");
 }
 
-// The last line of a run that ends with a drift.
+// Appends the last line of a run that ends with a drift.
 fn put_drift(text: &mut Text, number: usize)
     requires { length (drift_line number) ≤ text.old.room }
     ensures { text.new ≡ with_part text.old (drift_line number) }
@@ -99,7 +99,7 @@ fn put_drift(text: &mut Text, number: usize)
 }
 
 impl Retiming {
-    // An empty store with pointer value 0.
+    // Returns an empty store with pointer value 0.
     fn try_new(alloc: Global) -> Result<Retiming, AllocError>
         ensures came { IfOk result (λ retiming. CameBy 0 [] retiming.store) }
         ensures reads { IfOk result (λ retiming. retiming.interp.reading ≡ reading_of retiming.store) }

@@ -22,7 +22,7 @@ pub enum Status {
 }
 
 impl Status {
-    /// The number with which the program ends.
+    /// Returns the number with which the program ends.
     pub fn number(&self) -> u8
         ensures { result ≡ number_of self.now }
     {

@@ -18,7 +18,7 @@ use sdh_outside::{ReadAllError, Sink, Source, read_all, write_text};
 use sdh_report::{LINE_MAX, Text};
 use std::alloc::{AllocError, Global};
 
-// An outcome with one line.
+// Returns an outcome with one line.
 fn with_line(mut text: Text, status: Status, line: &[u8]) -> Outcome
     requires short { length line.now < 96 }
     requires room { 96 ≤ text.room }
@@ -29,7 +29,7 @@ fn with_line(mut text: Text, status: Status, line: &[u8]) -> Outcome
     Outcome { status, text }
 }
 
-// What the words and the source come to.
+// Returns what the words and the source come to.
 fn outcome_of<R: Source>(
     alloc: Global,
     words: &[String],
@@ -56,7 +56,7 @@ fn outcome_of<R: Source>(
     ensures too_long { IfOk result (λ told. told.status ≡ Status.TooLong → TakesCount (R.left source.old) (R.left source.new) 1048577) }
     ensures later { R.faults source.old ≤ R.faults source.new }
 {
-    // Room for the line is taken first, so that a read that fails is always told.
+    // Room for the line is taken first, so that a failed read is always reported.
     let text = Text::try_new(alloc, LINE_MAX)?;
     let Some(digits) = digits_of(words) else {
         return Ok(with_line(text, Status::Usage, b"usage: sdhretime DIGITS"));
@@ -72,7 +72,7 @@ fn outcome_of<R: Source>(
     run(alloc, digits, &bytes)
 }
 
-// Does all, and answers how it ended.
+// Does all that the program does, and returns how it ended.
 fn answer<R: Source, W: Sink>(
     alloc: Global,
     words: &[String],
@@ -112,18 +112,18 @@ fn answer<R: Source, W: Sink>(
     }
 }
 
-/// Does all that the program does, and answers the number with which it ends. With one word of 1 to 64 digits from 0 to 6 it
-/// reads all bytes of the source and takes them into a store chunk by chunk, where digit g means a chunk of 2346 + g bytes and
-/// the digits repeat. It writes the lines of every turn, and what is left or the turn that is a drift. The text is written
-/// once, at the end.
+/// Does all that the program does, and returns the number with which it ends. With one word of 1 to 64 digits from 0 to
+/// 6 it reads all bytes of the source and takes them into a store chunk by chunk. Digit g means a chunk of 2346 + g
+/// bytes, and the digits repeat. It writes the lines of every turn, and what is left or the turn that is a drift. The
+/// text is written once, at the end.
 pub fn retime<R: Source, W: Sink>(
     alloc: Global,
     words: &[String],
     source: &mut R,
     sink: &mut W,
 ) -> u8
-    // The number and the text that is written, for a source that tells its bytes and a sink that tells what was written; with other
-    // words over every source, which is left alone.
+    // The number and the text that is written, for a source that shows its bytes and a sink that shows what was
+    // written; with other words over every source, which is left alone.
     ensures outcome { let reads : Counts = record { before = R.faults source.old; after = R.faults source.new } in
         IfSome (R.left source.old)
         (λ bytes. Answers (words_of words.now) bytes reads result (W.written sink.old) (W.written sink.new)) }
@@ -146,8 +146,8 @@ pub fn retime<R: Source, W: Sink>(
     ensures write_fault { result ≡ 4 → Rose (W.faults sink.old) (W.faults sink.new) }
     ensures memory { result ≡ 70 → sink.new ≡ sink.old }
 
-    // Where an object's count is exact, each of its calls that failed is told by its fault, and none is tried again; a write fault
-    // may stand in place of what was to be told. With 9 one byte more than the program reads was taken.
+    // Where an object's count is exact, each failed call is reported as its fault, and none is tried again; a write
+    // fault may stand in place of what was to be reported. With 9 one byte more than the program reads was taken.
     ensures came { (how : Status) × ((result ≡ number_of how) ⊎ (result ≡ 4))
         × CameTo R.exact (R.faults source.old) (R.faults source.new) (R.left source.old) (R.left source.new) how }
     ensures writes { IsCounted W.exact (result ≡ 4) (W.faults sink.old) (W.faults sink.new) }

@@ -42,7 +42,7 @@ told_ports East a n = refl
 
 -- ---- a port, node by node
 
--- of the node at p
+-- the port of this name at the node at p, if there is one
 abbrev port_at : PortId → List Node → ℕ → Option Tributary
 port_at id ns p = option_and_then (λ (n : Node). port_of id n.ports) (slice_get ns p)
 
@@ -135,7 +135,7 @@ went_by rounds w left port is there =
     ap (λ (x : World). clock_at x.ring port) is ∙ (goes_rounds port rounds w there).1
     ∙ ap (λ n. ticks n (clock_at w.ring port)) (let e : length rounds ≡ left.ring.rounds - w.ring.rounds = omega arith in e)
 
--- and after one more that a fault broke off
+-- a settle step in which a fault broke a round off after these
 breaks_after : (rounds : List (List Arrival)) (w left : World) (limit : ℕ) → ArriveIn rounds w → length rounds < limit
     → NeverSettles (course_with rounds w) (length rounds) → BreaksRound (run_with rounds w) left → BreaksStep w limit left
 breaks_after rounds w left limit arrive within never broke = record {

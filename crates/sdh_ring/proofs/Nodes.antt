@@ -1,4 +1,4 @@
--- The nodes of a ring, one by one.
+-- The nodes of a ring, one at a time.
 use Rattle.std.proofs.Common.{◌≡◌, ℕ, zero, suc, ◌<◌, List, [], ◌∷◌, length, get_or, map, sym, ap, ◌∙◌, arith}
 use Rattle.std.proofs.lemmas.List.{length-map}
 use Rattle.sdh_node.specs.Node.{Node}

@@ -1,11 +1,12 @@
--- What is kept of the rounds of a settle step by one who looks at a ring of add-drop multiplexers after each of them.
+-- What an observer keeps of the rounds of a settle step. It looks at a ring of add-drop multiplexers after each of
+-- them.
 use Rattle.std.specs.Prelude.{ℕ, Bool}
 use Rattle.sdh_node.specs.Stations.{adm}
 use Rattle.sdh_rounds.specs.Observed as observed
 use Rattle.sdh_world.specs.Held.{HeldRing}
 use Rattle.sdh_world.specs.Rounds.{World}
 
--- behind k rounds of a course one more was run and left this ring
+-- after k rounds of a course one more was run and left this ring
 abbrev pub RanOne : (ℕ → World) → ℕ → HeldRing → Type 0
 RanOne = observed.RanOne adm
 

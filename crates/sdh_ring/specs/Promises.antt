@@ -25,7 +25,7 @@ pub record KeepsPromises (w : World) (limit : ℕ) (result : Result (Unit {0}) S
   pub rests : OnOk result (LeavesAtRest w left)
   -- where it is vouched for it stays so, and no port meets a stranger in any round of the step
   pub strangers : result ≢ Err PlantFault → KeepsStrangersOutInAll w left
-  -- and with so large a limit a window does end, whatever happened before, where no fault breaks the step off
+  -- with a limit that is always enough a window does end, whatever happened before, where no fault breaks the step off
   pub answers : IsWhole w → enough_for (length w.ring.ids) ≤ limit → result ≢ Err Unsettled
   -- each port's clock has gone on by the rounds that ran
   pub clocks : result ≢ Err PlantFault → (port : PortId) → HasPortIn w.ring port

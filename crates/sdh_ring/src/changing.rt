@@ -12,8 +12,8 @@ use sdh_plan::Step;
 use sdh_plant::Plant;
 use sdh_rounds::PlantFault;
 
-/// What a step that runs no round does to a ring of add-drop multiplexers, whichever steps went before. A fault leaves all as it
-/// was.
+/// Does a step that runs no round to a ring of add-drop multiplexers, whichever steps went before. A fault leaves all
+/// as it was.
 #[tactic(auto, unfolding(sdh_world::specs::Changes::changed))]
 pub fn change<P: Plant>(ring: &mut Ring, plant: &mut P, step: Step) -> Result<(), PlantFault>
     requires prepared { IsPrepared ring.old.settings.rate (length ring.old.ids) (P.fibres plant.old) }

@@ -82,7 +82,7 @@ fn slip_at(ring: &mut StationRing<Adm>, at: usize, port: PortId, turn: Turn, cou
 }
 
 impl Ring {
-    /// A ring of new nodes, in which no round has run, at moment 0. All its memory is taken here.
+    /// Returns a ring of new nodes, in which no round has run, at moment 0. All its memory is taken here.
     #[tactic(auto, unfolding(sdh_world::specs::Held::new_nodes))]
     pub fn try_new(
         alloc: Global,
@@ -97,7 +97,7 @@ impl Ring {
         // Over fibres that were just prepared for it, what is carried is what was sent.
         ensures whole { IfOk result (λ ring. (f : Fibres) → IsHonest f → IsWhole (world ring (prepared settings.rate (length map) f))) }
 
-        // And it is vouched for, whatever the clocks of its ports will be.
+        // A new ring is vouched for, whatever the clocks of its ports will be.
         ensures vouched { IfOk result (λ ring. (f : Fibres) (clocks : PortId → ℕ → Clock) → IsHonest f
             → IsVouched clocks (world ring (prepared settings.rate (length map) f))) }
     {
@@ -123,9 +123,9 @@ impl Ring {
         command_at(&mut self.ring, at.0 as usize, side, command);
     }
 
-    /// The controller of a node misses so many of the next rounds, in place of those that are left of an earlier call. The ring stays
-    /// vouched for where the node is idle or isolated; not else: one that passes traffic through goes on doing so, whatever the words
-    /// beside it say.
+    /// Holds the controller of a node for the next `turns` rounds, in place of those left of an earlier call. The ring
+    /// stays vouched for where the node is idle or isolated. A node that passes traffic through goes on doing so,
+    /// whatever its neighbours' words say, so the ring may not stay vouched for then.
     pub fn hold(&mut self, at: Pos, turns: u32)
         requires at { at.0 < length self.old.ids }
         requires some { 1 ≤ turns }
@@ -140,7 +140,7 @@ impl Ring {
         hold_at(&mut self.ring, at.0 as usize, turns);
     }
 
-    // The position of the node where a port of a circuit is.
+    // Returns the position of the node where a port of a circuit is.
     fn place_of(&self, port: PortId) -> usize
         requires { port.circuit < length self.now.circuits.circuits }
         ensures place { result ≡ place_of_port self.now port }
@@ -151,7 +151,7 @@ impl Ring {
         self.ring.place_of(port)
     }
 
-    /// The clock of a port slips so many times more in the next rounds, each time by three bytes, of which it sends fewer or more.
+    /// Adds `count` pending slips to the clock of a port's customer. In each the port sends three bytes fewer or more.
     pub fn slip(&mut self, port: PortId, turn: Turn, count: u8)
         requires port { port.circuit < length self.old.circuits.circuits }
         requires few { waiting_at self.old port + count ≤ 16 }
@@ -168,7 +168,7 @@ impl Ring {
         slip_at(&mut self.ring, at, port, turn, count);
     }
 
-    /// How many slips wait at a port of a circuit.
+    /// Returns how many slips wait at a port of a circuit.
     pub fn waiting(&self, port: PortId) -> u8
         requires { port.circuit < length self.now.circuits.circuits }
         ensures waiting { result ≡ waiting_at self.now port }
@@ -177,7 +177,7 @@ impl Ring {
         self.node_of(port).waiting(port)
     }
 
-    /// Tells the present moment, at which the next rounds run.
+    /// Sets the present moment, at which the next rounds run.
     pub fn moment(&mut self, now: Moment)
         requires later { self.old.moment ≤ now.0 }
         requires within { now.0 ≤ 1000000000 }
@@ -191,8 +191,8 @@ impl Ring {
         self.ring.moment(now);
     }
 
-    /// One round: all nodes receive, except in round 0, and then all send. It takes no memory. After a fault of the plant
-    /// the ring is broken.
+    /// Runs one round: all nodes receive, except in round 0, and then all send. It takes no memory. After a fault of
+    /// the plant the ring is broken.
     pub fn round<P: Plant>(&mut self, plant: &mut P) -> Result<(), PlantFault>
         requires prepared { IsPrepared self.old.settings.rate (length self.old.ids) (P.fibres plant.old) }
         requires whole { self.old.broken ≡ false }
@@ -200,8 +200,8 @@ impl Ring {
         ensures ok { OnOk result (IsRound (world self.old (P.fibres plant.old)) (world self.new (P.fibres plant.new))) }
         ensures prepared { OnOk result (IsPrepared self.old.settings.rate (length self.old.ids) (P.fibres plant.new)) }
 
-        // Where what comes is what was sent, states, words and filters are those of a ring of signals with the same needs and held
-        // nodes.
+        // Where what comes is what was sent, states, words and filters are those of a ring of signals with its needs
+        // and held nodes.
         ensures signals { OnOk result (IsWhole (world self.old (P.fibres plant.old))
             → GoesAsSignals (world self.old (P.fibres plant.old)) (world self.new (P.fibres plant.new))) }
 
@@ -243,7 +243,7 @@ impl Ring {
         let _ = &self.ring;
     }
 
-    // At most 16 slips wait at each port: the same.
+    // At most 16 slips wait at each port: the function does nothing, and its contract is the law.
     fn few_slips_wait(&self)
         requires { self.now.broken ≡ false }
         ensures { (port : PortId) → HasPortIn self.now port → IsRested (clock_at self.now port) }
@@ -268,7 +268,7 @@ impl Ring {
         self.settle_with(plant, limit, &mut Nobody)
     }
 
-    /// The same, with one who looks at the ring after each round.
+    /// Runs rounds as `settle` does, and lets an observer look at the ring after each round.
     pub fn settle_with<P: Plant, O: Observer<Ring>>(
         &mut self,
         plant: &mut P,
@@ -300,7 +300,8 @@ impl Ring {
         sdh_rounds::settle(self, plant, limit, observer)
     }
 
-    /// The same, with one who records each round, and may stop the step after it.
+    /// Runs rounds as `settle` does, with a recorder that looks at the ring after each round and may stop the step
+    /// then. Returns how the step ended, and an error only where the recorder stopped it.
     pub fn settle_recording<P: Plant, L, O: Recorder<Ring, L>>(
         &mut self,
         plant: &mut P,
@@ -354,9 +355,9 @@ impl RunsRounds for Ring {
     }
 }
 
-// What the ring lends.
+// What can be read of the ring's ports and nodes.
 impl Ring {
-    // The node where a port of a circuit is.
+    // Returns the node where a port of a circuit is.
     fn node_of(&self, port: PortId) -> &Adm
         requires { port.circuit < length self.now.circuits.circuits }
         ensures port { HasPort result.now.ports port }
@@ -366,7 +367,7 @@ impl Ring {
         self.ring.node_of(port)
     }
 
-    /// What a port of a circuit delivered in the last round, and AIS before the first.
+    /// Returns what a port of a circuit delivered in the last round, and AIS before the first.
     pub fn port(&self, port: PortId) -> &Delivered
         requires { port.circuit < length self.now.circuits.circuits }
         ensures { result.now ≡ (outlet_at self.now port).delivered }
@@ -374,7 +375,7 @@ impl Ring {
         self.node_of(port).delivered(port)
     }
 
-    /// The value of the interpreter through which a port's chunk came, and 0 where it delivers AIS.
+    /// Returns the value of the interpreter through which a port's chunk came, and 0 where it delivers AIS.
     pub fn value(&self, port: PortId) -> u16
         requires { port.circuit < length self.now.circuits.circuits }
         ensures value { result ≡ (outlet_at self.now port).value }
@@ -383,28 +384,28 @@ impl Ring {
         self.node_of(port).value(port)
     }
 
-    /// How many rounds have run, so that the last one has the number before it.
+    /// Returns how many rounds have run, so that the last one has the number before it.
     pub fn rounds(&self) -> u64
         ensures { result ≡ self.now.rounds }
     {
         self.ring.rounds()
     }
 
-    /// The nodes' identifiers.
+    /// Returns the nodes' identifiers.
     pub fn map(&self) -> &RingMap
         ensures { result.now ≡ self.now.ids }
     {
         self.ring.map()
     }
 
-    /// The circuits.
+    /// Returns the circuits.
     pub fn circuits(&self) -> &CircuitMap
         ensures { result.now ≡ self.now.circuits }
     {
         self.ring.circuits()
     }
 
-    /// The node at a position.
+    /// Returns the node at a position.
     pub fn node(&self, at: Pos) -> &Adm
         requires { at.0 < length self.now.ids }
         ensures { slice_get self.now.nodes at.0 ≡ Some result.now }
@@ -412,7 +413,7 @@ impl Ring {
         self.ring.node(at)
     }
 
-    /// Whether a fault of the plant broke a round off.
+    /// Returns whether a fault of the plant broke a round off.
     pub fn is_broken(&self) -> bool
         ensures { result ≡ self.now.broken }
     {

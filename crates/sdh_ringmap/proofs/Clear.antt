@@ -26,7 +26,7 @@ none_of-met p i (suc k) j low high e = elim (cases_eq j i) [
   | inr other ↦ and_right (not (p i)) (none_of p (suc i) k) (none_of-met p (suc i) k j (omega arith) (omega arith) e)
 ]
 
--- so where p holds nowhere there, it doesn't hold at one of these places
+-- where p holds at none of these places, it doesn't hold at one of them
 pub none_of-at : (p : ℕ → Bool) (i k : ℕ) → none_of p i k ≡ true → (j : ℕ) → i ≤ j → j < i + k → p j ≡ false
 none_of-at p i k none j low high = false_from_ne_true (p j) (λ e. both_ways (none_of p i k) (none_of-met p i k j low high e) none)
 

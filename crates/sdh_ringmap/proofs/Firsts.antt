@@ -46,7 +46,7 @@ same_of (pos m) (pos n) hy hz e = ap pos e
 same_of (pos m) (negsuc n) hy hz e = cc
 same_of (negsuc m) z hy hz e = cc
 
--- no earlier number is the same
+-- no earlier number is equal to a later one
 pub apart : (ids : List ℤ) (i j : ℕ) (d : ℤ) → first_repeat ids ≡ None → i < j → j < length ids → get_or ids i d ≢ get_or ids j d
 apart ids i j d e lt h same =
     let none : stood_before ids j ≡ false = ap (stood_before ids) (omega arith) ∙ unmarked (stood_before ids) 0 (length ids) j e h in

@@ -58,7 +58,7 @@ module _ (n : ℕ) (some : 0 < n) where
   pub going-back : (d : Side) (p i : ℕ) → neighbour n (going n d p (suc i)) (opposite d) ≡ going n d p i
   going-back d p i = ap (λ q. neighbour n q (opposite d)) (sym (going-next d p i)) ∙ neighbour_back n (going n d p i) d (going-inside d p i)
 
-  -- the span behind a position is the one over which it was reached
+  -- the span after a position is the one over which it was reached
   pub way-behind : (d : Side) (p i : ℕ) → span_at n (going n d p (suc i)) (opposite d) ≡ way n d p i
   way-behind East p i = going-back East p i
   way-behind West p i = sym (going-next West p i)
@@ -83,7 +83,7 @@ module _ (n : ℕ) (some : 0 < n) where
       sym (going-next d (going n d p i) j) ∙ ap (λ q. neighbour n q d) (going-add d p i j) ∙ going-next d p (i + j)
       ∙ ap (going n d p) (omega arith)
 
-  -- the same positions, from the last one back
+  -- the positions on a way, from the last one back
   pub mirror : (d : Side) (p i j m : ℕ) → i + j ≡ m → going n (opposite d) (going n d p m) i ≡ going n d p j
   mirror d p zero j m e = going-none (opposite d) (going n d p m) (going-inside d p m) ∙ ap (going n d p) (omega arith)
   mirror d p (suc i) j m e =

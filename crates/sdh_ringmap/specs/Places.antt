@@ -21,11 +21,12 @@ abbrev pub span_at : ℕ → ℕ → Side → ℕ
 span_at n p East = p
 span_at n p West = (p + (n - 1)) % n
 
--- how many spans lead eastwards from one position to another, 0 to n - 1
+-- the number of spans that lead eastwards from one position to another, 0 to n - 1
 abbrev pub eastwards : ℕ → ℕ → ℕ → ℕ
 eastwards n from to = (to + (n - from)) % n
 
--- position p is in the chain: it is fewer spans east of the first than the chain has positions
+-- position p is in the chain: the number of spans from the first position eastwards to p is less than the chain's
+-- number of positions
 abbrev pub in_chain : ℕ → Chain → ℕ → Bool
 in_chain n chain p = nat_lt (eastwards n chain.first.0 p) chain.count
 
@@ -33,6 +34,6 @@ in_chain n chain p = nat_lt (eastwards n chain.first.0 p) chain.count
 abbrev pub found_at : List ℕ → ℕ → Option Pos
 found_at ids id = option_map (λ p. record { 0 = p }) (position (λ x. x == id) ids)
 
--- the position of this number
+-- the position of this index
 abbrev pub position_of : ℕ → Pos
 position_of p = record { 0 = p }

@@ -33,28 +33,28 @@ pub enum Side {
 #[derive(Clone, Copy, Debug, PartialEq, Eq)]
 pub struct Span(pub u8);
 
-/// So many positions, eastwards from the first.
+/// A run of consecutive positions: the first, and their number, counted eastwards.
 #[derive(Clone, Copy, Debug, PartialEq, Eq)]
 pub struct Chain {
     pub first: Pos,
     pub count: u8,
 }
 
-/// Why numbers aren't the identifiers of a ring. Nodes count from 1.
+/// Why a list of numbers is no list of a ring's identifiers. Nodes are counted from 1.
 #[derive(Clone, Copy, Debug, PartialEq, Eq, Error)]
 pub enum MapError {
-    /// There aren't 2 to 16 nodes.
+    /// The list does not have 2 to 16 numbers.
     #[error("not 2 to 16 nodes")]
     NodeCount,
-    /// The number of this node isn't 0 to 15.
+    /// The number of this node is not 0 to 15.
     #[error("the number of node {0} isn't 0 to 15")]
     NodeId(u32),
-    /// A node before this one has its number.
+    /// An earlier node has the same number as this one.
     #[error("a node before node {0} has its number")]
     Repeat(u32),
 }
 
-/// The nodes of a ring: their identifiers, by position.
+/// The nodes of a ring: 2 to 16 identifiers, by position.
 #[derive(Debug, Drop)]
 pub struct RingMap {
     ids: ArrayVec<u8, 16>,
@@ -72,7 +72,7 @@ impl Model for RingMap {
 }
 
 impl Side {
-    /// The other side of the node.
+    /// Returns the other side of the node.
     pub fn opposite(self) -> Side
         ensures { result ≡ opposite self }
     {
@@ -83,7 +83,7 @@ impl Side {
     }
 }
 
-/// The position on a side, in a ring of so many nodes.
+/// Returns the position next to `at` on that side, in a ring of `nodes` nodes.
 pub fn neighbour(nodes: usize, at: Pos, side: Side) -> Pos
     requires at { at.0 < nodes }
     requires few { nodes ≤ 16 }
@@ -98,8 +98,8 @@ pub fn neighbour(nodes: usize, at: Pos, side: Side) -> Pos
 }
 
 impl RingMap {
-    /// The ring whose nodes have these identifiers, by position. Of several things that are wrong it
-    /// answers the number of nodes before a number that is no identifier, and that before a repeat.
+    /// Returns the ring whose nodes have these identifiers, by position. Of several faults it reports a wrong number of
+    /// nodes first, then the first number that is no identifier, then the first repeat.
     #[tactic(auto, unfolding(crate::specs::Numbering::ring_of))]
     pub fn new(ids: &[i64]) -> Result<RingMap, MapError>
         ensures ring { result ≡ ring_of ids.now }
@@ -117,7 +117,7 @@ impl RingMap {
         Ok(RingMap { ids: as_bytes(ids) })
     }
 
-    /// How many nodes there are.
+    /// Returns the number of nodes, 2 to 16.
     pub fn len(&self) -> usize
         ensures len { result ≡ length self.now }
         ensures few { length self.now ≤ 16 }
@@ -127,7 +127,7 @@ impl RingMap {
         self.ids.len()
     }
 
-    /// The identifier at a position.
+    /// Returns the identifier of the node at a position, 0 to 15.
     pub fn id(&self, at: Pos) -> u8
         requires { at.0 < length self.now }
         ensures id { result ≡ slice_index self.now at.0 }
@@ -136,7 +136,7 @@ impl RingMap {
         self.ids[at.0 as usize]
     }
 
-    /// The position of the node with this identifier, or `None` where no node has it.
+    /// Returns the position of the node with this identifier, or `None` where no node has it.
     pub fn find(&self, id: u8) -> Option<Pos>
         ensures { result ≡ found_at self.now id }
     {
@@ -146,7 +146,7 @@ impl RingMap {
         }
     }
 
-    /// The position on a side.
+    /// Returns the position next to `at` on that side.
     pub fn step(&self, at: Pos, side: Side) -> Pos
         requires { at.0 < length self.now }
         ensures place { result.0 ≡ neighbour (length self.now) at.0 side }
@@ -155,7 +155,7 @@ impl RingMap {
         neighbour(self.len(), at, side)
     }
 
-    /// The span on a side.
+    /// Returns the span on that side of a position.
     pub fn span(&self, at: Pos, side: Side) -> Span
         requires { at.0 < length self.now }
         ensures place { result.0 ≡ span_at (length self.now) at.0 side }
@@ -167,7 +167,7 @@ impl RingMap {
         })
     }
 
-    /// How many spans lead eastwards from one position to another.
+    /// Returns the number of spans that lead eastwards from one position to another, 0 to n - 1.
     pub fn distance(&self, from: Pos, to: Pos) -> u8
         requires from { from.0 < length self.now }
         requires to { to.0 < length self.now }
@@ -179,7 +179,7 @@ impl RingMap {
         (to.0 + (n - from.0)) % n
     }
 
-    /// The positions eastwards from one up to another, both among them.
+    /// Returns the positions eastwards from `from` to `to`, both included.
     pub fn chain(&self, from: Pos, to: Pos) -> Chain
         requires from { from.0 < length self.now }
         requires to { to.0 < length self.now }
@@ -192,7 +192,7 @@ impl RingMap {
         }
     }
 
-    /// Whether a position is in a chain.
+    /// Returns whether a chain includes a position.
     pub fn has(&self, chain: Chain, at: Pos) -> bool
         requires chain { chain.first.0 < length self.now }
         requires at { at.0 < length self.now }
@@ -201,7 +201,7 @@ impl RingMap {
         self.distance(chain.first, at) < chain.count
     }
 
-    /// Whether a span is held by the arc that leads eastwards from one position to another.
+    /// Returns whether the arc that leads eastwards from `from` to `to` holds a span.
     #[tactic(auto, unfolding(crate::specs::Arcs::holds_span))]
     pub fn holds(&self, from: Pos, to: Pos, span: Span) -> bool
         requires from { from.0 < length self.now }
@@ -211,7 +211,7 @@ impl RingMap {
         (span.0 as usize) < self.len() && self.distance(from, Pos(span.0)) < self.distance(from, to)
     }
 
-    // Whether the arc that leads eastwards from one position to another holds none of the spans, one by one.
+    // Returns whether the arc that leads eastwards from `from` to `to` holds none of the spans, by a look at each.
     fn holds_none(&self, from: Pos, to: Pos, spans: &[Span]) -> bool
         requires from { from.0 < length self.now }
         requires to { to.0 < length self.now }
@@ -225,7 +225,7 @@ impl RingMap {
         true
     }
 
-    // Whether that arc is clear of the spans.
+    // Returns whether the arc that leads eastwards from `from` to `to` is clear of the spans.
     fn is_clear(&self, from: Pos, to: Pos, spans: &[Span]) -> bool
         requires from { from.0 < length self.now }
         requires to { to.0 < length self.now }
@@ -234,8 +234,8 @@ impl RingMap {
         self.holds_none(from, to, spans)
     }
 
-    /// Whether two positions are joined under applied spans: one of the two arcs between them holds none
-    /// of the spans. A span whose number isn't in the ring is held by no arc.
+    /// Returns whether two positions are joined under applied spans: at least one of the two arcs between them holds
+    /// none of the spans. No arc holds a span whose number is not in the ring.
     #[tactic(auto, using(crate::proofs::Around::opposite_between), unfolding(crate::specs::Arcs::is_joined))]
     pub fn joined(&self, from: Pos, to: Pos, applied: &[Span]) -> bool
         requires from { from.0 < length self.now }
@@ -246,7 +246,7 @@ impl RingMap {
         self.is_clear(from, to, applied) || self.is_clear(to, from, applied)
     }
 
-    /// An equal ring map. It takes no memory.
+    /// Returns an equal ring map. It takes no memory.
     pub fn copy(&self) -> RingMap
         ensures { result ≡ self.now }
     {

@@ -4,7 +4,7 @@ ghost use Rattle.sdh_ringmap.specs.Numbering.{is_id, magnitude, stood_before, fi
 
 use arrayvec::ArrayVec;
 
-// The place of an identifier.
+// Returns the place of an identifier.
 pub(crate) fn index_of(ids: &[u8], id: u8) -> Option<usize>
     ensures index { result ≡ position (λ x. x == id) ids.now }
     ensures within { IfSome result (λ i. i < length ids.now) }
@@ -12,14 +12,14 @@ pub(crate) fn index_of(ids: &[u8], id: u8) -> Option<usize>
     ids.iter().position(|x| *x == id)
 }
 
-// Whether the number is an identifier.
+// Returns whether the number is an identifier, 0 to 15.
 fn is_id(number: i64) -> bool
     ensures { result ≡ is_id number }
 {
     0 <= number && number <= 15
 }
 
-// The first place whose number is no identifier.
+// Returns the first place whose number is no identifier.
 pub(crate) fn first_unfit(ids: &[i64]) -> Option<usize>
     ensures index { result ≡ first_unfit ids.now }
     ensures within { IfSome result (λ i. i < length ids.now) }
@@ -27,7 +27,7 @@ pub(crate) fn first_unfit(ids: &[i64]) -> Option<usize>
     ids.iter().position(|id| !is_id(*id))
 }
 
-// Whether the number at a place stood before.
+// Returns whether the number at a place stands at an earlier place too.
 fn stood_before(ids: &[i64], i: usize) -> bool
     requires { i < length ids.now }
     ensures { result ≡ stood_before ids.now i }
@@ -35,7 +35,7 @@ fn stood_before(ids: &[i64], i: usize) -> bool
     ids[..i].contains(&ids[i])
 }
 
-// The first place whose number stood before.
+// Returns the first place whose number stands at an earlier place too.
 pub(crate) fn first_repeat(ids: &[i64]) -> Option<usize>
     ensures index { result ≡ first_repeat ids.now }
     ensures within { IfSome result (λ i. i < length ids.now) }
@@ -43,7 +43,7 @@ pub(crate) fn first_repeat(ids: &[i64]) -> Option<usize>
     (0..ids.len()).find(|i| stood_before(ids, *i))
 }
 
-// Identifiers as bytes.
+// Returns the identifiers as bytes.
 pub(crate) fn as_bytes(ids: &[i64]) -> ArrayVec<u8, 16>
     requires few { length ids.now ≤ 16 }
     requires fit { All (λ z. is_id z ≡ true) ids.now }

@@ -25,14 +25,14 @@ from_more f p (suc k) =
     (from_more f (p + 1) k ∙ ap (λ q. arrivals_from f (p + 1) k ++ arrival_at f q West ∷ arrival_at f q East ∷ [])
     (let e : p + 1 + k ≡ p + suc k = omega arith in e))
 
--- one position more
+-- the arrivals with one position more
 pub arrivals_more : (f : Fibres) (k : ℕ) → arrivals_from f 0 (k + 1) ≡ arrivals_from f 0 k ++ arrival_at f k West ∷ arrival_at f k East ∷ []
 arrivals_more f k =
     ap (arrivals_from f 0) (add-one k) ∙ from_more f 0 k ∙ ap (λ q. arrivals_from f 0 k ++ arrival_at f q West ∷ arrival_at f q East ∷ [])
     (let e : 0 + k ≡ k = omega arith in e)
 
 module _ {N : Type 0} (st : Station N) where
-  -- one node more
+  -- nodes that have received, with one node more
   pub heard_more : (xs : List Arrival) (ns : List N) (west east : Arrival) (n : N) → length xs ≡ 2 * length ns
       → all_with_arrivals st (xs ++ west ∷ east ∷ []) (ns ++ n ∷ []) ≡ all_with_arrivals st xs ns ++ with_arrivals st west east n ∷ []
   heard_more [] [] west east n h = refl

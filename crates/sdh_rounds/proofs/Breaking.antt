@@ -20,7 +20,7 @@ use Rattle.sdh_rounds.proofs.Runs.{known_arrive}
 use Rattle.sdh_rounds.proofs.Rings as rings
 use Rattle.sdh_rounds.proofs.Rings.{heard_keep, some_keep, all_keep, first_keep, off_hearing, off_sending}
 
--- a ring of which all has changed but its size
+-- a ring that changed in all but its size
 pub fits_with : {N : Type 0} (r : HeldRing N) (ns : List N) (m rounds : ℕ) (broken : Bool) → HasItsNodes r → length ns ≡ length r.nodes
     → HasItsNodes (record r { nodes = ns; moment = m; rounds = rounds; broken = broken })
 fits_with r ns m rounds broken h same = record {
@@ -101,7 +101,7 @@ module _ {N : Type 0} (st : Station N) where
             (some.nodes ∙ first_none r.moment (told_some st some.arrivals r.nodes));
       }
 
-  -- and while they sent
+  -- what a fault leaves that came while the nodes sent
   pub breaks_sending : (r : HeldRing N) (f g h : Fibres) (ns new : List N) → length r.nodes ≡ length r.ids
       → FirstReceive st (receivers_in r.rounds (length r.nodes)) f g r.nodes ns → SendsSome st r.moment ns new g h
       → BreaksRound st (world r f) (world (record r { nodes = new; broken = true }) h)

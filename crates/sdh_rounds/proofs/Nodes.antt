@@ -1,4 +1,4 @@
--- Nodes of a list one by one, and what is left on a refusal.
+-- Nodes of a list, one at a time, and what is left on a refusal.
 use Rattle.std.proofs.Common.{◌≡◌, ℕ, zero, suc, ◌<◌, List, [], ◌∷◌, length, set, get_or, refl, ap, ◌∙◌, arith}
 use Rattle.std.specs.Prelude.{Result, Ok, Err, OnErr}
 use Rattle.sdh_rounds.specs.Held.{at_place}

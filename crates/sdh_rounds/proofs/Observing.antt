@@ -1,4 +1,5 @@
--- A settle step, round by round, with one who looks at the ring after each of them. The steps are those of `Settling`.
+-- A settle step, round by round, with an observer that looks at the ring after each of them. The steps are those of
+-- `Settling`.
 use Rattle.std.proofs.Common.{◌≡◌, ℕ, suc, ◌+◌, ◌*◌, ◌-◌, ◌%◌, ◌<◌, ◌≤◌, length, refl, ap, sym, subst, ◌∙◌, arith}
 use Rattle.std.specs.Prelude.{if◌then◌else◌}
 use Rattle.sdh_rounds.specs.Stations.{Station}
@@ -9,7 +10,7 @@ use Rattle.sdh_rounds.specs.Observed.{RanOne, Hears, RanSome}
 use Rattle.sdh_rounds.proofs.Settling.{Went, GoesOn, goes_none, went_more, along, at_end, settles, goes_on}
 
 module _ {N : Type 0} (st : Station N) where
-  -- a step from w is at `now` after k rounds, of which none ended a window, and this is kept of them
+  -- a step from w is at `now` after k rounds that ended no window, and this is kept of them
   pub record Observes (heard : (ℕ → World N) → ℕ → Type 0) (w now : World N) (k calm : ℕ) : Type 0 where
     pub on : GoesOn st w now k calm
     pub kept : heard (course_with st on.went.rounds w) k
@@ -46,7 +47,7 @@ module _ {N : Type 0} (st : Station N) where
       ring_is = ap (λ (x : World N). x.ring) at_after;
     }
 
-    -- one who looks at the ring then keeps what is to be kept
+    -- an observer of the ring then keeps what is to be kept
     looked_with : (before later : (ℕ → World N) → ℕ → Type 0) → k < 65536
         → ((at bt : ℕ → World N) → ((j : ℕ) → j ≤ k → at j ≡ bt j) → before at k → before bt k)
         → ((at : ℕ → World N) → RanOne st at k after.ring → before at k → later at (suc k)) → before (course_with st on.went.rounds w) k
@@ -83,7 +84,7 @@ module _ {N : Type 0} (st : Station N) where
       → Observes heard w w 0 0
   observes_none heard w some ready = let on = goes_none st w some in record { on = on; kept = ready (course_with st on.went.rounds w) refl }
 
-  -- it ended a window
+  -- a step that ended, as its last round ended a window
   pub hears : (heard : (ℕ → World N) → ℕ → Type 0) (w now : World N) (k calm : ℕ) → HasLooked heard w now k calm
       → (limit : ℕ) → k ≤ limit → (3 * length now.ring.ids ≤ calm) × ((now.ring.rounds - 1) % 128 ≡ 0) → Hears st heard w limit now
   unfolding settles
@@ -92,7 +93,7 @@ module _ {N : Type 0} (st : Station N) where
     kept = subst (heard (course_with st x.went.rounds w)) (sym x.went.count) x.kept;
   }
 
-  -- it didn't
+  -- a step that goes on, as its last round ended no window
   pub observes_on : (heard : (ℕ → World N) → ℕ → Type 0) (w now : World N) (k calm : ℕ) → HasLooked heard w now (k + 1) calm
       → ((3 * length now.ring.ids ≤ calm) × ((now.ring.rounds - 1) % 128 ≡ 0) → ⊥) → Observes heard w now (k + 1) calm
   unfolding goes_on
@@ -100,7 +101,7 @@ module _ {N : Type 0} (st : Station N) where
 
   -- ---- so far
 
-  -- after rounds of which none ended a window
+  -- after rounds that ended no window
   pub ran_some : (heard : (ℕ → World N) → ℕ → Type 0) (w now : World N) (k calm : ℕ) → Observes heard w now k calm → (limit : ℕ) → k ≤ limit
       → RanSome st heard w limit now
   ran_some heard w now k calm x limit low =
@@ -114,7 +115,7 @@ module _ {N : Type 0} (st : Station N) where
         kept = subst (heard (course_with st x.on.went.rounds w)) (sym c) x.kept;
       }
 
-  -- and one more, which may have ended one
+  -- after rounds that ended no window, and one more that may have ended one
   pub ran_last : (kept_of : (ℕ → World N) → ℕ → Type 0) (w now : World N) (k calm : ℕ) → HasLooked kept_of w now k calm → (limit : ℕ)
       → k ≤ limit → RanSome st kept_of w limit now
   ran_last kept_of w now k calm x limit low =

@@ -29,7 +29,7 @@ told_one : (o : Option (List Arrival)) (k : ℕ) → option_map (drop 1) (option
 told_one None k = refl
 told_one (Some told) k = ap Some (drop-drop 1 k told)
 
--- one more was given
+-- one arrival more was given
 pub taken_one : (f : Fibres) (k : ℕ) → after_receive (after_given k f) ≡ after_given (k + 1) f
 unfolding after_given
 taken_one f k = ap (λ told. record f { told = told }) (told_one f.told k)
@@ -143,7 +143,7 @@ module _ {N : Type 0} (st : Station N) where
             after ∙ ap (λ z. after_receive (after_receive z)) done.fibres ∙ taken_more f (length xs) ∙ ap (λ k. after_given k f) (sym size);
       }
 
-  -- the nodes behind those that received both, and one that received on the west alone
+  -- the nodes after those that received both, and one that received on the west alone
   none_more : (xs : List Arrival) (ns ms : List N) → length xs ≡ 2 * length ns
       → told_some st xs (ns ++ ms) ≡ all_with_arrivals st xs ns ++ ms
   none_more [] [] ms h = refl
@@ -162,7 +162,7 @@ module _ {N : Type 0} (st : Station N) where
   west_more (a ∷ b ∷ xs) [] ms west n h = absurd (omega arith)
   west_more (a ∷ b ∷ xs) (m ∷ ns) ms west n h = ap (λ zs. with_arrivals st a b m ∷ zs) (west_more xs ns ms west n (omega arith))
 
-  -- the list with y at i, behind whose first places nothing changed
+  -- the list with y at i, after whose first places nothing changed
   split_at : (i : ℕ) (old now : List N) (x y : N) → i < length now → drop i now ≡ drop i old
       → set now i y ≡ take i now ++ y ∷ drop (i + 1) old
   split_at i old now x y hn rest =

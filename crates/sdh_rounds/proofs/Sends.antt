@@ -104,7 +104,7 @@ module _ {N : Type 0} (st : Station N) where
       ap (frames_of st now) (take_more ns i x h ∙ ap (λ z. take i ns ++ z ∷ []) (sym read))
       ∙ sym (flat_map_more (both_frames st now) [] (take i ns) x)
 
-  -- and on the east
+  -- one node more has sent on both sides
   pub both_more : (now : ℕ) (ns : List N) (f : Fibres) (i : ℕ) (x : N) → i < length ns → x ≡ get_or ns i x → 2 * i + 1 < length f.carried
       → sent_now st now i x (sent_some (frames_of st now (take i ns)) f) ≡ sent_some (frames_of st now (take (i + 1) ns)) f
   both_more now ns f i x h read room =
@@ -142,7 +142,7 @@ module _ {N : Type 0} (st : Station N) where
       ∙ ap (λ zs. zs ++ drop (i + 1) (set xs i y)) (step_map (st.after now) xs ns i x y hx hn rest read is done)
       ∙ ap (λ zs. map (st.after now) (take (i + 1) ns) ++ zs) (rest_more xs ns i y rest)
 
-  -- and a send of it failed
+  -- the node at i has had its round, and a send of it failed
   pub sends_some : (now : ℕ) (ns new : List N) (f g h : Fibres) (i : ℕ) (x : N) → i < length ns → x ≡ get_or ns i x
       → 2 * i + 1 < length f.carried → new ≡ first_after st now (i + 1) ns → g ≡ sent_some (frames_of st now (take i ns)) f
       → (h ≡ g) ⊎ (h ≡ sent_west st now i x g) → SendsSome st now ns new f h

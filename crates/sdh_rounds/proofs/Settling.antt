@@ -25,7 +25,7 @@ pub held_none : {N : Type 0} (r : HeldRing N) → r ≡ record r { nodes = r.nod
 held_none r = ap (λ n. record r { rounds = n }) (omega arith)
 
 module _ {N : Type 0} (st : Station N) where
-  -- a step from w that is at `now` after k rounds, the last of them so many calm ones
+  -- a step from w that is at `now` after k rounds, the last `calm` of them calm
   pub record Went (w now : World N) (k calm : ℕ) : Type 0 where
     pub rounds : List (List Arrival)
     pub arrive : ArriveIn st rounds w
@@ -34,7 +34,7 @@ module _ {N : Type 0} (st : Station N) where
     pub calm_is : calm ≡ streak st (course_with st rounds w) k
     pub before : (j : ℕ) → j < k → EndsWindow st (course_with st rounds w) j → ⊥
 
-  -- and none ended a window
+  -- a step that is at `now` after k rounds that ended no window
   pub record GoesOn (w now : World N) (k calm : ℕ) : Type 0 where
     pub went : Went w now k calm
     pub never : NeverSettles st (course_with st went.rounds w) k

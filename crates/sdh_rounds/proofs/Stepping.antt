@@ -21,7 +21,7 @@ pub err_by : {A E : Type 0} (r : Result A E) (P : Type 0) → P → OnErr r P
 err_by (Ok a) P p = tt
 err_by (Err e) P p = p
 
--- the test of the code, of the same ring
+-- the test of the code, for an equal ring
 pub over_of : {N : Type 0} {r s : HeldRing N} {calm : ℕ} → r ≡ s → (3 * length r.ids ≤ calm) × ((r.rounds - 1) % 128 ≡ 0)
     → (3 * length s.ids ≤ calm) × ((s.rounds - 1) % 128 ≡ 0)
 over_of {N} {r} {s} {calm} same test = subst (λ (x : HeldRing N). (3 * length x.ids ≤ calm) × ((x.rounds - 1) % 128 ≡ 0)) same test

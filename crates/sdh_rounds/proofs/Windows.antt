@@ -58,7 +58,7 @@ module _ {N : Type 0} (st : Station N) where
     ]
   ]
 
-  -- the count and the number of the round tell of a window
+  -- the count of calm rounds and the number of the round show a window
   pub window_if : (at : ℕ → World N) (k : ℕ) → 3 * length (at k).ring.ids ≤ streak st at k → ((at k).ring.rounds - 1) % 128 ≡ 0
       → EndsWindow st at k
   window_if at k long place = let c =
@@ -83,7 +83,7 @@ module _ {N : Type 0} (st : Station N) where
   streak_more at k =
       ap (λ n. streak st at n) (add-one k) ∙ ap (λ n. if is_calm st (at n).ring.nodes then streak st at k + 1 else 0) (sym (add-one k))
 
-  -- ---- courses that are the same up to a round
+  -- ---- courses that agree up to a round
 
   pub streak_same : (at bt : ℕ → World N) (k : ℕ) → ((j : ℕ) → j ≤ k → at j ≡ bt j) → streak st at k ≡ streak st bt k
   unfolding streak

@@ -32,7 +32,7 @@ pub record FirstReceive {N : Type 0} (s : Station N) (k : ℕ) (f g : Fibres) (o
   pub nodes : new ≡ all_with_arrivals s arrivals old
   pub fibres : g ≡ after_given (length arrivals) f
 
--- the nodes that were told these arrivals by position, west before east, the last of them perhaps on the west alone
+-- the nodes that received these arrivals by position, west before east, the last of them perhaps on the west alone
 abbrev pub told_some : {N : Type 0} → Station N → List Arrival → List N → List N
 told_some s [] ns = ns
 told_some s (west ∷ []) [] = []
@@ -60,7 +60,7 @@ sent_now s now p n f = after_send (sent_west s now p n f) p East (s.sends now Ea
 abbrev pub first_after : {N : Type 0} → Station N → ℕ → ℕ → List N → List N
 first_after s now k ns = map (s.after now) (take k ns) ++ drop k ns
 
--- the first frames of these nodes were sent, but not all; the node of which a send failed had its round before
+-- the first frames of these nodes were sent, but not all; the node whose send failed had its round before
 pub record SendsSome {N : Type 0} (s : Station N) (now : ℕ) (old new : List N) (f g : Fibres) : Type 0 where
   pub out : ℕ
   pub not_all : out < length (frames_of s now old)

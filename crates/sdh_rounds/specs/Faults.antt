@@ -7,8 +7,8 @@ use Rattle.sdh_rounds.specs.Runs.{ArriveIn, run_with, course_with, IsBrokenOff}
 use Rattle.sdh_rounds.specs.Quiet.{NeverSettles}
 use Rattle.sdh_rounds.specs.Calls.{told_some, first_after}
 
--- how many nodes had their round in one that was broken off: none where a receive failed, so that not all arrivals were taken; and
--- else those whose frames were sent on both sides, and the one of which a send failed
+-- the number of nodes that had their round in one that was broken off: none where a receive failed, as not all arrivals
+-- were taken then; else those whose frames were sent on both sides, and the one whose send failed
 abbrev pub had_round : {N : Type 0} {s : Station N} {w : World N} {f : Fibres} → IsBrokenOff s w f → ℕ
 had_round off = if nat_lt off.given (length off.arrivals) then 0 else off.out / 2 + 1
 
@@ -19,7 +19,7 @@ pub record BreaksRound {N : Type 0} (s : Station N) (w left : World N) : Type 0 
   pub told : List Arrival
   pub nodes : left.ring.nodes ≡ first_after s w.ring.moment (had_round off) (told_some s told w.ring.nodes)
 
--- a settle step in which that happened after some whole rounds, none of which ended a window
+-- a settle step in which a fault broke a round off, after some whole rounds that ended no window
 pub record BreaksStep {N : Type 0} (s : Station N) (w : World N) (limit : ℕ) (left : World N) : Type 0 where
   pub rounds : List (List Arrival)
   pub arrive : ArriveIn s rounds w

@@ -1,4 +1,4 @@
--- What a ring holds, whatever kind its nodes are of.
+-- What a ring of nodes of any kind holds.
 use Rattle.std.specs.Prelude.{ℕ, zero, suc, ◌≡◌, ◌/◌, ◌<◌, Bool, false, Some, List, [], ◌∷◌, length, slice_get, slice_index_or}
 use Rattle.std.specs.Option.{option_map_or}
 use Rattle.sdh_basics.specs.Cells.{cells}
@@ -77,14 +77,14 @@ outlet_at s r port =
     option_map_or (λ c. option_map_or (s.outlet port) (slice_get r.nodes (end_of c port.end).0) silent)
     (slice_get r.circuits.circuits port.circuit) silent
 
--- it is at position p of the ring
+-- the port is at position p of the ring
 pub record IsPlaceOf {N : Type 0} (r : HeldRing N) (port : PortId) (p : ℕ) : Type 0 where
   pub circuit : Provisioned
   pub circuit_is : slice_get r.circuits.circuits port.circuit ≡ Some circuit
   pub place : p ≡ (end_of circuit port.end).0
   pub inside : p < length r.nodes
 
--- it is at node n
+-- the port is at node n
 pub record IsNodeOf {N : Type 0} (r : HeldRing N) (port : PortId) (n : N) : Type 0 where
   pub at : ℕ
   pub place : IsPlaceOf r port at
@@ -102,7 +102,7 @@ AtEach none P ns = (p : ℕ) → p < length ns → P p (slice_index_or ns p none
 
 -- ---- what is true of every ring
 
--- its circuits are circuits of a ring of its size and rate, and it has a node at each position
+-- the circuits of a ring are circuits of a ring of its size and rate, and the ring has a node at each position
 pub record HasItsNodes {N : Type 0} (r : HeldRing N) : Type 0 where
   pub ids : AreIds r.ids
   pub circuits : IsProvisioning r.circuits

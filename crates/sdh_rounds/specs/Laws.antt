@@ -1,4 +1,4 @@
--- Laws of rounds and steps over any fibres, whatever kind the nodes are of.
+-- Laws of rounds and steps over any fibres, for nodes of any kind.
 use Rattle.std.specs.Prelude.{◌≡◌, ℕ, ◌+◌, ◌-◌, ◌%◌, ◌<◌, ◌≤◌, ◌↔◌, Some, None, List, [], ◌∷◌, ◌++◌, length, take, option_map}
 use Rattle.sdh_terms.specs.declared.Rate.{Rate}
 use Rattle.sdh_plant.specs.Fibres.{Arrival, Fibres, IsPrepared, IsHonest}
@@ -24,7 +24,7 @@ pub record Keeps {N : Type 0} (w after : World N) (rounds : ℕ) : Type 0 where
   pub honest : after.fibres.honest ≡ w.fibres.honest
   pub prepared : (rate : Rate) → IsPrepared rate (length w.ring.nodes) w.fibres → IsPrepared rate (length w.ring.nodes) after.fibres
 
--- where the plant tells what was sent, these frames were appended
+-- where the plant reports what was sent, these frames were appended
 abbrev pub Appends : Fibres → List (List ℕ) → Fibres → Type 0
 Appends f frames g = g.sent ≡ option_map (λ sent. sent ++ frames) f.sent
 
@@ -79,7 +79,7 @@ pub record KnownSteps {N : Type 0} (s : Station N) : Type 0 where
   pub unsettled : (w left : World N) (limit : ℕ) → Knows w.fibres → Unsettles s w limit left
       → NeverSettles s (course s w) limit × (left ≡ run s limit w)
 
--- and its number of rounds can be computed
+-- where a step ends with its k-th round, or doesn't end, can be computed
 pub record StepsAreComputed {N : Type 0} (s : Station N) : Type 0 where
   pub settled : (w : World N) (limit k : ℕ) → (settles_in s w limit ≡ Some k) ↔ SettlesAt s (course s w) limit k
   pub unsettled : (w : World N) (limit : ℕ) → (settles_in s w limit ≡ None) ↔ NeverSettles s (course s w) limit

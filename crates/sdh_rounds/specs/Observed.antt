@@ -1,4 +1,4 @@
--- What is kept of the rounds of a settle step by one who looks at the ring after each of them.
+-- What an observer keeps of the rounds of a settle step. It looks at the ring after each of them.
 use Rattle.std.specs.Prelude.{ℕ, suc, ◌≡◌, ◌⊎◌, ◌<◌, ◌≤◌, Bool, true, List, length}
 use Rattle.sdh_plant.specs.Fibres.{Arrival, IsPrepared}
 use Rattle.sdh_rounds.specs.Stations.{Station}
@@ -6,14 +6,14 @@ use Rattle.sdh_rounds.specs.Held.{HeldRing, World}
 use Rattle.sdh_rounds.specs.Runs.{IsRound, IsBrokenOff, run_with, ArriveIn, course_with}
 use Rattle.sdh_rounds.specs.Quiet.{EndsWindow, Settles}
 
--- behind k rounds of a course, which gives the world after each number of rounds, one more was run and left this ring
+-- after k rounds of a course, which gives the world after each number of rounds, one more was run and left this ring
 pub record RanOne {N : Type 0} (s : Station N) (at : ℕ → World N) (k : ℕ) (ring : HeldRing N) : Type 0 where
   pub few : k < 65536
   pub round : IsRound s (at k) (at (suc k))
   pub ring_is : ring ≡ (at (suc k)).ring
 
--- a settle step that ended, and what is kept of its rounds, where `heard` says of what is kept whether it is that of so many rounds of
--- a course
+-- a settle step that ended, and what is kept of its rounds; `heard` says whether that is what is to be kept of a number
+-- of rounds of a course
 pub record Hears {N : Type 0} (s : Station N) (heard : (ℕ → World N) → ℕ → Type 0) (w : World N) (limit : ℕ) (left : World N) : Type 0 where
   pub settles : Settles s w limit left
   pub kept : heard (course_with s settles.rounds w) (length settles.rounds)
@@ -30,7 +30,8 @@ pub record RanSome {N : Type 0} (s : Station N) (kept_of : (ℕ → World N) →
   pub mid_is : mid ≡ run_with s rounds w
   pub kept : kept_of (course_with s rounds w) (length rounds)
 
--- what is kept of a settle step that didn't end: after the rounds of which it is kept no more ran, or a fault broke the next one off
+-- what is kept of a settle step that didn't end: after the rounds that are kept no more ran, or a fault broke the next
+-- one off
 pub record HearsSome {N : Type 0} (s : Station N) (heard : (ℕ → World N) → ℕ → Type 0) (w : World N) (limit : ℕ)
     (left : World N) : Type 0 where
   pub mid : World N

@@ -31,7 +31,8 @@ Outcome s w limit (Ok u) left = Settles s w limit left
 Outcome s w limit (Err Unsettled) left = Unsettles s w limit left
 Outcome s w limit (Err PlantFault) left = BreaksOff s w limit left.fibres
 
--- a settle step of at most so many rounds over such a plant
+-- a settle step of at most `limit` rounds over a plant, whose count of faults was `before` and is `after`; it counts
+-- exactly where `exact` says so
 pub record IsStep {N : Type 0} (s : Station N) (exact : Bool) (w : World N) (limit : ℕ) (result : Result (Unit {0}) SettleError)
     (left : World N) (before after : ℕ) : Type 0 where
   pub outcome : Outcome s w limit result left

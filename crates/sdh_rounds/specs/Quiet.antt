@@ -28,11 +28,11 @@ pub record SettlesAt {N : Type 0} (s : Station N) (at : ℕ → World N) (limit 
   pub window : EndsWindow s at k
   pub first : (j : ℕ) → j < k → EndsWindow s at j → ⊥
 
--- no window ends in so many rounds
+-- no window ends in `limit` rounds
 abbrev pub NeverSettles : {N : Type 0} → Station N → (ℕ → World N) → ℕ → Type 0
 NeverSettles s at limit = (j : ℕ) → j ≤ limit → EndsWindow s at j → ⊥
 
--- ---- the same, as an answer
+-- ---- ends of windows and steps, computed
 
 -- whether a quiet window ends with the k-th round
 unfoldable pub ends_window : {N : Type 0} → Station N → (ℕ → World N) → ℕ → Bool
@@ -46,7 +46,7 @@ settles_in s w limit = find (ends_window s (course s w)) (range_with_len 0 (limi
 
 -- ---- what a step leaves, whatever arrives
 
--- it ended with a window
+-- a settle step ended with a window
 pub record Settles {N : Type 0} (s : Station N) (w : World N) (limit : ℕ) (left : World N) : Type 0 where
   pub rounds : List (List Arrival)
   pub arrive : ArriveIn s rounds w
@@ -69,6 +69,7 @@ pub record BreaksOff {N : Type 0} (s : Station N) (w : World N) (limit : ℕ) (l
   pub never : NeverSettles s (course_with s rounds w) (length rounds)
   pub off : IsBrokenOff s (run_with s rounds w) left
 
--- so many rounds are always enough for a quiet window in a ring of n over honest fibres, as the laws of each kind of ring say
+-- a number of rounds that is always enough for a quiet window in a ring of n over honest fibres, as the laws of each
+-- kind of ring say
 abbrev pub enough_for : ℕ → ℕ
 enough_for n = 64 * n + 512

@@ -48,7 +48,7 @@ abbrev pub run_with : {N : Type 0} → Station N → List (List Arrival) → Wor
 run_with s [] w = w
 run_with s (arrivals ∷ later) w = run_with s later (round_with s arrivals w)
 
--- they may arrive in so many rounds
+-- these may arrive in the next rounds: a list of arrivals for each round
 abbrev pub ArriveIn : {N : Type 0} → Station N → List (List Arrival) → World N → Type 0
 ArriveIn s [] w = Unit {0}
 ArriveIn s (arrivals ∷ later) w = Arrive w arrivals × ArriveIn s later (round_with s arrivals w)

@@ -1,5 +1,6 @@
-//! Rounds of a ring over its fibres, whatever kind its nodes are of: what a round asks of a node is the trait `Station`, a round is
-//! in `specs/Rounds.antt`, a run whatever arrives in `specs/Runs.antt`, and where a settle step ends in `specs/Quiet.antt`. What has no work to do here is a law.
+//! Rounds of a ring over its fibres, for nodes of any kind: what a round asks of a node is the trait `Station`, a round
+//! is in `specs/Rounds.antt`, a run with any arrivals in `specs/Runs.antt`, and where a settle step ends in
+//! `specs/Quiet.antt`. What has no work to do here is a law.
 #![tactic(auto)]
 
 ghost use Rattle.sdh_rounds.specs.Laws.{KnownRounds, RoundsKeep, FaultsKeep, HonestRounds, RunsKeep, SettledNumbers, BrokenStepsSend};
@@ -22,12 +23,13 @@ pub fn known_rounds_are<S: Station>()
     ensures { KnownRounds S.kind }
 {}
 
-/// What a round keeps, and the frames that it appends.
+/// A round changes nothing of the ring but its nodes and its number of rounds, keeps the conditions of the fibres, and
+/// appends its frames.
 pub fn rounds_keep<S: Station>()
     ensures { RoundsKeep S.kind }
 {}
 
-/// What a round keeps that a fault broke off, and the frames that it appends.
+/// A round that a fault broke off keeps the conditions of the fibres, and appends the first of its frames.
 #[tactic(auto, using(crate::proofs::Laws::faults_keep))]
 pub fn faults_keep<S: Station>()
     ensures { FaultsKeep S.kind }
@@ -39,7 +41,8 @@ pub fn honest_fibres_stay_honest<S: Station>()
     ensures { HonestRounds S.kind }
 {}
 
-/// What rounds one after the other keep, and the frames that they append.
+/// Rounds one after the other change nothing of the ring but its nodes and its number of rounds, keep the conditions of
+/// the fibres, and append their frames.
 pub fn runs_keep<S: Station>()
     ensures { RunsKeep S.kind }
 {}
@@ -60,7 +63,7 @@ pub fn known_steps<S: Station>()
     ensures { KnownSteps S.kind }
 {}
 
-/// And its number of rounds can be computed.
+/// Where arrivals are known the number of rounds of a step can be computed.
 #[tactic(auto, using(crate::proofs::Laws::steps_are_computed))]
 pub fn steps_are_computed<S: Station>()
     ensures { StepsAreComputed S.kind }

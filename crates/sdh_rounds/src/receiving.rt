@@ -13,7 +13,7 @@ use sdh_overhead::Landed;
 use sdh_plant::Plant;
 use sdh_ringmap::{Pos, Side};
 
-// One receive of a node.
+// Receives what arrived on a side of a node, and keeps it for the node's next round.
 fn receive_one<S: Station, P: Plant>(
     node: &mut S,
     at: Pos,
@@ -37,7 +37,7 @@ fn receive_one<S: Station, P: Plant>(
     Ok(())
 }
 
-// Both receives of a node, west before east.
+// Receives on both sides of a node, west before east.
 fn receive_both<S: Station, P: Plant>(
     node: &mut S,
     at: Pos,
@@ -59,7 +59,7 @@ fn receive_both<S: Station, P: Plant>(
     receive_one(node, at, Side::East, inbox, plant)
 }
 
-// All receives, by position.
+// Receives on both sides of all nodes, by position, west before east.
 fn receive_all<S: Station, P: Plant>(
     nodes: &mut Vec<S>,
     inbox: &mut Landed,
@@ -81,7 +81,8 @@ fn receive_all<S: Station, P: Plant>(
     Ok(())
 }
 
-/// The receives of a round by position, west before east; in round 0 there are none.
+/// Receives what arrived for a round on both sides of all nodes, by position, west before east. In round 0 nothing is
+/// received.
 #[tactic(auto, unfolding(crate::specs::Rounds::receivers_in))]
 pub fn hear<S: Station, P: Plant>(
     rounds: u64,

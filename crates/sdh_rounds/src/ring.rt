@@ -22,7 +22,7 @@ use sdh_ringmap::{Pos, RingMap};
 use std::alloc::{AllocError, Global};
 use std::marker::Model;
 
-/// The nodes of a ring, whatever kind they are of, and what a round of them needs. They may be changed between rounds.
+/// The nodes of a ring, of any kind, and what a round of them needs. The nodes may be changed between rounds.
 #[derive(Debug, Drop)]
 pub struct StationRing<N: Station> {
     settings: Settings,
@@ -55,7 +55,7 @@ impl<N: Station> Model for StationRing<N> {
     } };
 }
 
-// A new node at each position.
+// Returns a new node at each position.
 fn new_nodes<N: Station>(
     alloc: Global,
     settings: Settings,
@@ -74,7 +74,7 @@ fn new_nodes<N: Station>(
     Ok(nodes)
 }
 
-// The position of a circuit's port.
+// Returns the position of a circuit's port.
 fn end_of(circuit: &Circuit, end: End) -> Pos
     ensures { result ≡ end_of circuit.now end }
 {
@@ -85,7 +85,7 @@ fn end_of(circuit: &Circuit, end: End) -> Pos
 }
 
 impl<N: Station> StationRing<N> {
-    /// A ring of new nodes, in which no round has run, at moment 0. All its memory is taken here.
+    /// Returns a ring of new nodes, in which no round has run, at moment 0. All its memory is taken here.
     pub fn try_new(
         alloc: Global,
         settings: Settings,
@@ -103,7 +103,7 @@ impl<N: Station> StationRing<N> {
         Ok(StationRing::of_nodes(settings, map, circuits, nodes, arrived, west, east))
     }
 
-    // The ring of these new nodes, with the frames that they are to receive and send.
+    // Returns the ring of these new nodes, with the frames that they are to receive and send.
     fn of_nodes(
         settings: Settings,
         map: RingMap,
@@ -137,15 +137,15 @@ impl<N: Station> StationRing<N> {
         }
     }
 
-    /// Tells the present moment, at which the next rounds run.
+    /// Sets the present moment, at which the next rounds run.
     pub fn moment(&mut self, now: Moment)
         ensures { self.new ≡ record self.old { moment = now.0 } }
     {
         self.present = now;
     }
 
-    /// One round: all nodes receive, except in round 0, and then all send. It takes no memory. After a fault of the plant
-    /// the ring is broken.
+    /// Runs a round: all nodes receive, except in round 0, and then all send. A round takes no memory. After a fault of
+    /// the plant the ring is broken.
     pub fn round<P: Plant>(&mut self, plant: &mut P) -> Result<(), PlantFault>
         requires prepared { IsPrepared self.old.settings.rate (length self.old.ids) (P.fibres plant.old) }
         requires whole { self.old.broken ≡ false }
@@ -169,14 +169,14 @@ impl<N: Station> StationRing<N> {
         Ok(())
     }
 
-    /// Whether the last round was calm at each node.
+    /// Returns whether the last round was calm at each node.
     pub fn is_calm(&self) -> bool
         ensures { result ≡ is_calm N.kind self.now.nodes }
     {
         all_calm(self.nodes.as_slice())
     }
 
-    /// Whether a quiet window ends now, where the last round ends so many calm ones.
+    /// Returns whether a quiet window ends with the last round, which ends `calm` calm rounds in a row.
     pub fn is_over(&self, calm: u32) -> bool
         requires { 0 < self.now.rounds }
         ensures { IsTrue result ↔ ((3 * length self.now.ids ≤ calm) × ((self.now.rounds - 1) % 128 ≡ 0)) }
@@ -185,9 +185,9 @@ impl<N: Station> StationRing<N> {
     }
 }
 
-// What the ring lends.
+// What can be read of the ring, and its nodes by position.
 impl<N: Station> StationRing<N> {
-    /// The position of the node where a port of a circuit is.
+    /// Returns the position of the node where a port of a circuit is.
     pub fn place_of(&self, port: PortId) -> usize
         requires { port.circuit < length self.now.circuits.circuits }
         ensures { IsPlaceOf self.now port result }
@@ -196,7 +196,7 @@ impl<N: Station> StationRing<N> {
         at.0 as usize
     }
 
-    /// The node where a port of a circuit is.
+    /// Returns the node where a port of a circuit is.
     pub fn node_of(&self, port: PortId) -> &N
         requires { port.circuit < length self.now.circuits.circuits }
         ensures { IsNodeOf self.now port result.now }
@@ -205,7 +205,7 @@ impl<N: Station> StationRing<N> {
         &self.nodes[at]
     }
 
-    /// The node at a position.
+    /// Returns the node at a position.
     pub fn node(&self, at: Pos) -> &N
         requires { at.0 < length self.now.ids }
         ensures { slice_get self.now.nodes at.0 ≡ Some result.now }
@@ -213,28 +213,28 @@ impl<N: Station> StationRing<N> {
         &self.nodes[at.0 as usize]
     }
 
-    /// How many rounds have run, so that the last one has the number before it.
+    /// Returns how many rounds have run, so that the last one has the number before it.
     pub fn rounds(&self) -> u64
         ensures { result ≡ self.now.rounds }
     {
         self.rounds
     }
 
-    /// The nodes' identifiers.
+    /// Returns the nodes' identifiers.
     pub fn map(&self) -> &RingMap
         ensures { result.now ≡ self.now.ids }
     {
         &self.map
     }
 
-    /// The circuits.
+    /// Returns the circuits.
     pub fn circuits(&self) -> &CircuitMap
         ensures { result.now ≡ self.now.circuits }
     {
         &self.circuits
     }
 
-    /// Whether a fault of the plant broke a round off.
+    /// Returns whether a fault of the plant broke a round off.
     pub fn is_broken(&self) -> bool
         ensures { result ≡ self.now.broken }
     {

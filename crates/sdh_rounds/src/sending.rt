@@ -12,7 +12,7 @@ use sdh_plant::Plant;
 use sdh_request::Moment;
 use sdh_ringmap::{Pos, Side};
 
-// The round of a node, and both its sends, west before east.
+// Runs the round of a node and sends its frames, west before east.
 fn send_both<S: Station, P: Plant>(
     node: &mut S,
     at: Pos,
@@ -40,7 +40,7 @@ fn send_both<S: Station, P: Plant>(
     Ok(())
 }
 
-/// The rounds of all nodes at a moment, and their sends, by position, west before east.
+/// Runs the round of each node at a moment and sends its frames, by position, west before east.
 pub fn send_all<S: Station, P: Plant>(
     nodes: &mut Vec<S>,
     now: Moment,

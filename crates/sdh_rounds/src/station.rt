@@ -20,16 +20,16 @@ use std::alloc::{AllocError, Global};
 
 /// A node that runs in rounds: it takes in what arrived on both its sides, and then sends a frame on each.
 pub trait Station: Drop {
-    /// What it does, as definitions tell it.
+    /// What the node does, by definitions.
     ghost kind: { Kind Self };
 
     /// The rate of its frames.
     ghost rate: { Self → Rate };
 
-    /// It may run a round at a moment.
+    /// A node may run a round at a moment.
     ghost MayRun: { ℕ → Self → Type 0 };
 
-    /// A new node at a position of a ring with these circuits. All its memory is taken here.
+    /// Returns a new node at a position of a ring with these circuits. All its memory is taken here.
     fn try_new(
         alloc: Global,
         settings: Settings,
@@ -42,8 +42,8 @@ pub trait Station: Drop {
         requires kept { KeepsRing circuits.now map.now }
         ensures { IfOk result (λ node. node ≡ kind.new settings map.now circuits.now.circuits at) };
 
-    /// Keeps what arrived on a side for its next round, in place of what arrived there since the last one. What landed is taken in
-    /// exchange for another buffer of the same rate, in which nothing has landed.
+    /// Keeps what arrived on a side for its next round, in place of what arrived there since the last one. A frame that
+    /// landed is taken in exchange for another buffer of its rate, in which nothing has landed.
     fn receive_landed(&mut self, side: Side, arrived: Arrived, inbox: &mut Landed)
         requires rate { inbox.old.rate ≡ rate self.old }
         requires here { arrived ≡ Arrived.Frame → inbox.old.landed ≢ None }
@@ -63,7 +63,7 @@ pub trait Station: Drop {
         ensures east { east.new.bytes ≡ kind.sends now.0 East self.old }
         ensures rates { (west.new.rate ≡ west.old.rate) × (east.new.rate ≡ east.old.rate) };
 
-    /// Whether its last round was calm: nothing that is compared changed.
+    /// Returns whether its last round was calm: nothing that is compared changed.
     fn calm(&self) -> bool
         ensures { result ≡ kind.calm self.now };
 
@@ -73,7 +73,7 @@ pub trait Station: Drop {
     ghost told_may: { (now : ℕ) (side : Side) (a : Arrival) (n : Self) → MayRun now n → MayRun now (kind.told side a n) };
 }
 
-/// Whether the last round was calm at each of these nodes.
+/// Returns whether the last round was calm at each of these nodes.
 pub fn all_calm<S: Station>(nodes: &[S]) -> bool
     ensures { result ≡ is_calm S.kind nodes.now }
 {

@@ -10,7 +10,7 @@ use crate::ring::StationRing;
 use crate::station::Station;
 use sdh_plant::Plant;
 
-/// A ring that runs in rounds, and of which more may be true than of every ring.
+/// A ring that runs in rounds. More may be true of it than of every ring.
 pub trait RunsRounds {
     /// What its nodes are.
     type Node: Station;
@@ -18,11 +18,11 @@ pub trait RunsRounds {
     /// What it holds.
     ghost held: { Self → HeldRing Self.Node };
 
-    /// The nodes, and what a round of them needs.
+    /// Returns the nodes, and what a round of them needs.
     fn stations(&self) -> &StationRing<Self::Node>
         ensures { result.now ≡ held self.now };
 
-    /// One round. After a fault of the plant the ring is broken.
+    /// Runs a round. After a fault of the plant the ring is broken.
     fn round<P: Plant>(&mut self, plant: &mut P) -> Result<(), PlantFault>
         requires prepared { IsPrepared (held self.old).settings.rate (length (held self.old).ids) (P.fibres plant.old) }
         requires whole { (held self.old).broken ≡ false }
@@ -33,7 +33,8 @@ pub trait RunsRounds {
 
 /// What looks at a ring after each round of a settle step, and keeps something of what it saw.
 pub trait Observer<R: RunsRounds> {
-    /// It keeps what it is to keep after so many rounds of a course, which gives the world after each number of rounds.
+    /// The observer keeps what it is to keep after a number of rounds of a course. A course gives the world after each
+    /// number of rounds.
     ghost Heard: { (ℕ → World R.Node) → ℕ → Self → Type 0 };
 
     /// Looks at the ring that one round more has left. Whatever course led there, it keeps what is to be kept of it then.
@@ -42,7 +43,7 @@ pub trait Observer<R: RunsRounds> {
         ensures { (at : ℕ → World R.Node) (k : ℕ) → RanOne R.Node.kind at k (R.held ring.now) → Heard at k self.old
             → Heard at (suc k) self.new };
 
-    /// What it is to keep is told by the rounds that went by alone.
+    /// What an observer is to keep depends only on the rounds that have run.
     ghost same: { (at bt : ℕ → World R.Node) (k : ℕ) (o : Self) → ((j : ℕ) → j ≤ k → at j ≡ bt j) → Heard at k o → Heard bt k o };
 }
 
@@ -60,15 +61,15 @@ impl<R: RunsRounds> Observer<R> for Nobody {
 
 /// What looks at a ring after each round of a settle step, writes what it saw to a log that is passed along, and may stop the step.
 pub trait Recorder<R: RunsRounds, L> {
-    /// What it and the log are after so many rounds of a course, which gives the world after each number of rounds, where they were
-    /// these before the step.
+    /// The recorder and the log are what they are to be after a number of rounds of a course, by what they were before
+    /// the step. A course gives the world after each number of rounds.
     ghost Records: { Self → L → (ℕ → World R.Node) → ℕ → Self → L → Type 0 };
 
-    /// What they are where it stopped the step after so many rounds.
+    /// The recorder and the log are what they are to be where the recorder stopped the step after a number of rounds.
     ghost Stops: { Self → L → (ℕ → World R.Node) → ℕ → Self → L → Type 0 };
 
-    /// Looks at the ring that one round more has left, and writes of it. Whatever course led there, it and the log are then what they
-    /// are to be after that round.
+    /// Looks at the ring after one more round, and writes to the log. Whatever course led there, recorder and log are
+    /// then what they are to be after that round. An error stops the step.
     fn note(&mut self, ring: &R, log: &mut L) -> Result<(), Stopped>
         requires { (first : Self) × (begun : L) × (at : ℕ → World R.Node) × (k : ℕ) × RanOne R.Node.kind at k (R.held ring.now)
             × Records first begun at k self.old log.old }
@@ -77,7 +78,7 @@ pub trait Recorder<R: RunsRounds, L> {
         ensures stops { OnErr result ((first : Self) (begun : L) (at : ℕ → World R.Node) (k : ℕ) → RanOne R.Node.kind at k (R.held ring.now)
             → Records first begun at k self.old log.old → Stops first begun at (suc k) self.new log.new) };
 
-    /// What it records is told by the rounds that went by alone.
+    /// What is recorded depends only on the rounds that have run.
     ghost same: { (first : Self) (begun : L) (at bt : ℕ → World R.Node) (k : ℕ) (o : Self) (l : L) → ((j : ℕ) → j ≤ k → at j ≡ bt j)
         → Records first begun at k o l → Records first begun bt k o l };
 }
@@ -100,7 +101,7 @@ impl<R: RunsRounds, O: Observer<R>> Recorder<R, Nowhere> for O {
     ghost same = { λ first begun at bt k o l same heard. O.same at bt k o same heard };
 }
 
-// The calm rounds that the last round ends, where it was after so many.
+// Returns the number of calm rounds that the last round ends, where there were `calm` before it.
 fn calm_rounds(was_calm: bool, calm: u32) -> u32
     requires { calm + 1 < 2 ^ 32 }
     ensures { result ≡ (if was_calm then calm + 1 else 0) }
@@ -108,9 +109,9 @@ fn calm_rounds(was_calm: bool, calm: u32) -> u32
     if was_calm { calm + 1 } else { 0 }
 }
 
-/// Runs rounds until one ends a quiet window, which is `3 * n` calm rounds of this step whose last number is a multiple
-/// of 128, at most `limit` of them, with one who records each, and may stop the step after it. It takes no memory. An error is
-/// answered only where the recorder stopped the step.
+/// Runs at most `limit` rounds, until one ends a quiet window: `3 * n` calm rounds of this step, and the number of the
+/// last is a multiple of 128. The recorder looks at the ring after each round, and may stop the step then. Takes no
+/// memory. Returns how the step ended, and an error only where the recorder stopped it.
 pub fn settle_recording<R: RunsRounds, P: Plant, L, O: Recorder<R, L>>(
     ring: &mut R,
     plant: &mut P,
@@ -133,7 +134,7 @@ pub fn settle_recording<R: RunsRounds, P: Plant, L, O: Recorder<R, L>>(
         (Hears R.Node.kind (λ at k. O.Records recorder.old log.old at k recorder.new log.new)
         (world (R.held ring.old) (P.fibres plant.old)) limit (world (R.held ring.new) (P.fibres plant.new)))) }
 
-    // Of one that didn't end it is what is to be recorded of its whole rounds.
+    // What is recorded of a step that didn't end is what is to be recorded of its whole rounds.
     ensures begun { IfOk result (λ ended. OnErr ended
         (HearsSome R.Node.kind (λ at k. O.Records recorder.old log.old at k recorder.new log.new)
         (world (R.held ring.old) (P.fibres plant.old)) limit (world (R.held ring.new) (P.fibres plant.new)))) }
@@ -155,8 +156,9 @@ pub fn settle_recording<R: RunsRounds, P: Plant, L, O: Recorder<R, L>>(
     Ok(Err(SettleError::Unsettled))
 }
 
-/// Runs rounds until one ends a quiet window, which is `3 * n` calm rounds of this step whose last number is a multiple
-/// of 128, at most `limit` of them, with one who looks at the ring after each. It takes no memory.
+/// Runs at most `limit` rounds, until one ends a quiet window: `3 * n` calm rounds of this step, and the number of the
+/// last is a multiple of 128. The observer looks at the ring after each round. Takes no memory. Returns `Unsettled`
+/// where no window ended, or `PlantFault`.
 pub fn settle<R: RunsRounds, P: Plant, O: Observer<R>>(
     ring: &mut R,
     plant: &mut P,

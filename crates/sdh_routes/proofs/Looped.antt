@@ -20,7 +20,7 @@ use Rattle.sdh_squelch.specs.Table.{circuit_from}
 
 module _ (n : ℕ) (cs : List Provisioned) (some : 0 < n) (d : Side) (p : ℕ) (index : ℕ) (c : Provisioned) (near distant : End)
     (seen : Seen n cs index c d p near distant) where
-  -- the node is at step x of the arc; f is the other end of its chain, k steps behind it
+  -- the node is at step x of the arc; f is the other end of its chain, k steps after it
   module _ (x f k : ℕ) (inside : x < arc_length n c) (f_inside : f < n) (k_few : k < n) (chain : going n d f k ≡ going n d p x)
       (both : (is_in_chain n d (going n d p x) f (port_at c A) && is_in_chain n d (going n d p x) f (port_at c B)) ≡ true)
       (p_inside : p < n) where
@@ -49,7 +49,7 @@ module _ (n : ℕ) (cs : List Provisioned) (some : 0 < n) (d : Side) (p : ℕ) (
         (and_parts (passes n d f (going n d p x) (going n d p 0))
         (passes n d f (going n d p x) (going n d p (arc_length n c))) both_passed).1
 
-    -- the chain's other end is on the arc, so many steps along it, beyond the node
+    -- the chain's other end is on the arc, `step` steps along it, beyond the node
     pub record IsBeyond : Type 0 where
       pub step : ℕ
       pub there : going n d p step ≡ f
@@ -88,7 +88,7 @@ module _ (n : ℕ) (cs : List Provisioned) (some : 0 < n) (d : Side) (p : ℕ) (
     pub beyond : IsBeyond
     beyond = by_round (cases_lt (j + k) n)
 
-    -- so it comes back at the chain's other end
+    -- the circuit comes back at the chain's other end
     pub comes-back : circuit_from n (span_at n f (opposite d)) c.slot.0 0 cs ≡ Some (entry index c)
     comes-back =
         let b = beyond in let a = b.after in let w = b.within in

@@ -25,8 +25,8 @@ base_inside : (n : ℕ) → 0 < n → (c : Provisioned) (d : Side) → c.from.0 
 base_inside n some c East h = h
 base_inside n some c West h = going-inside n some East c.from.0 (arc_length n c)
 
--- The circuit on the span of side d of the node at q, in slot m, which may be carried: the node is so many steps along its arc on
--- that side, and the chain's other end f is farther along it.
+-- The circuit on the span of side d of the node at q, in slot m, which may be carried: the node lies some steps along
+-- its arc on that side, and the chain's other end f is farther along it.
 pub record IsFarther (n : ℕ) (cs : List Provisioned) (d : Side) (q m f : ℕ) : Type 0 where
   pub index : ℕ
   pub circuit : Provisioned
@@ -84,11 +84,11 @@ module _ (n : ℕ) (cs : List Provisioned) (ring : AreOnRing n cs) (some : 0 < n
         ap (λ k. circuit_from n (span_at n f.0 (opposite d)) k 0 cs) (sym slot) ∙ returned ∙ ap Some (sym row),
       )
 
-  -- at the far end's outward span the same circuit is met
+  -- at the far end's outward span one and the same circuit is met
   pub meets-own : carries_in n cs q d m (Some f) ≡ true → circuit_from n (span_at n f.0 (opposite d)) m 0 cs
       ≡ circuit_from n (span_at n q d) m 0 cs
   meets-own t = (by_entry (circuit_from n (span_at n q d) m 0 cs) refl (sym (carries-by n cs q d m f.0) ∙ t)).1
 
-  -- and the far end is farther along its arc
+  -- the far end is farther along the circuit's arc
   pub meets-farther : carries_in n cs q d m (Some f) ≡ true → IsFarther n cs d q m f.0
   meets-farther t = (by_entry (circuit_from n (span_at n q d) m 0 cs) refl (sym (carries-by n cs q d m f.0) ∙ t)).0

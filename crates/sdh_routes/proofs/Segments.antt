@@ -29,7 +29,7 @@ pub chain_passes : (n : ℕ) (d : Side) (p f q : ℕ) → is_in_chain n d p f q 
 chain_passes n East p f q = lt_next (eastwards n f q) (eastwards n f p)
 chain_passes n West p f q = lt_next (eastwards n p q) (eastwards n p f)
 
--- and that of a node that switches the other side, from the node, on side d, up to its far end
+-- the chain of a node that switches the other side: from the node, on side d, up to its far end
 pub chain_ahead : (n : ℕ) (d : Side) (p f q : ℕ) → is_in_chain n (opposite d) p f q ≡ passes n d p f q
 chain_ahead n East p f q = lt_next (eastwards n p q) (eastwards n p f)
 chain_ahead n West p f q = lt_next (eastwards n f q) (eastwards n f p)
@@ -106,7 +106,7 @@ module _ (n : ℕ) (r : Resting n) (cs : List Provisioned) where
         ap (stand q) (open-stands n cs q (r.state q) (opposite d) m
         (settled-open n r (opposite d) q (ap r.applied (way-behind n some d p i) ∙ free)))
 
-    -- and it was sent by the node behind
+    -- what arrives there was sent by the node behind
     pub sent-behind : (m i : ℕ) → back_from n r.state cs m (going n d p (suc i)) (Working (opposite d)) ≡ sending m (going n d p i)
     sent-behind m i =
         ap (λ x. stand x (working_in n cs x (r.state x) (opposite (opposite d)) m)) (going-back n some d p i)

@@ -19,7 +19,8 @@ use Rattle.sdh_routes.specs.Walks.{crossed, Stand, stand, port, port_at, Leads, 
 abbrev pub IsSilent : ℕ → (ℕ → NodeState) → List Provisioned → ℕ → Stand → Type 0
 IsSilent n state cs m x = (k : ℕ) × (q : ℕ) × (k < n) × Leads n state cs m k x (stand q Ais)
 
--- a port of a joined circuit gets what the circuit's other port sends, over so many spans; every other port gets AIS
+-- a port of a joined circuit gets what the circuit's other port sends, over the spans of its route; every other port
+-- gets AIS
 pub record IsRouted (n : ℕ) (applied : ℕ → Bool) (state : ℕ → NodeState) (cs : List Provisioned) (index : ℕ) (c : Provisioned)
     (e : End) : Type 0 where
   pub joined : is_joined n applied (arc_of n c) ≡ true
@@ -35,7 +36,7 @@ pub record IsAlongRoute (n : ℕ) (applied : ℕ → Bool) (state : ℕ → Node
   pub from_b : is_joined n applied (arc_of n c) ≡ true
       → crossed n state cs c.slot.0 (hops n applied (arc_of n c)) (delivery n state cs c B) ≡ reverse (route n applied (arc_of n c))
 
--- a walk ends, over at most so many spans
+-- a walk ends, over at most `bound` spans
 pub record Ends (n : ℕ) (state : ℕ → NodeState) (cs : List Provisioned) (m : ℕ) (bound : ℕ) (x : Stand) : Type 0 where
   pub spans : ℕ
   pub last : Stand

@@ -25,7 +25,7 @@ listing_runs (Some other) listing e = grind arith
 
 -- ---- a run
 
--- A run whose reports are told by an account of plans, with its last line.
+-- A run whose reports come from an account of plans, with its last line.
 pub run_outcome : {A L T E N : Type 0} {Owes : ReportsOwe T} (program : Program A L T E) (account : Account N T) (listing : L) (plan : Planned)
     (f left : Fibres) (text_of : T → List ℕ) → ((told : List T) → flat_map text_of told ≡ program.text_of listing told)
     → ((told : List T) (end : Status) → IsRunOf account Owes plan f told end left → program.IsRunOf plan f told end left)

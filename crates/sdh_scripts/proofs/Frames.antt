@@ -90,7 +90,7 @@ module _ {N : Type 0} (st : Station N) where
       let one : 2 * n * suc k ≡ 2 * n + 2 * n * k = omega arith in
       omega (arith, length-append (frames_with st xs w) (frames_in st (arrivals_in st k v) v), length-one xs w, rest, one)
 
-  -- those of the first j rounds, of the next one, and of the others
+  -- the frames of the first j rounds, of the next one, and of the others
   frames_parted : (j m : ℕ) (w : World N) → (rest : List (List ℕ))
       × (frames_in st (arrivals_in st (j + suc m) w) w ≡ frames_in st (arrivals_in st j w) w
       ++ (frames_with st (arrivals_of (run st j w)) (run st j w) ++ rest))
@@ -112,7 +112,7 @@ module _ {N : Type 0} (st : Station N) where
             ∙ ap (λ (u : World N). (one ++ frames_in st (arrivals_in st j v) v) ++ (frames_with st (arrivals_of u) u ++ h.0)) same,
       )
 
-  -- the first frames of a run, up to some of the round behind the first j
+  -- the first frames of a run, up to some of the round after the first j
   pub front : (j k out : ℕ) (w : World N) (more : List (List ℕ)) → j < k
       → out ≤ length (frames_with st (arrivals_of (run st j w)) (run st j w))
       → take (length (frames_in st (arrivals_in st j w) w) + out) (frames_in st (arrivals_in st k w) w ++ more)
@@ -128,7 +128,7 @@ module _ {N : Type 0} (st : Station N) where
       ap (λ l. take (length first + out) l) all ∙ take_past first (next ++ (parted.0 ++ more)) out
       ∙ ap (λ l. first ++ l) (take-append-le out next (parted.0 ++ more) small)
 
-  -- ---- rounds behind others
+  -- ---- rounds after others
 
   pub run_on : (xs ys : List (List Arrival)) (w : World N) → run_with st (xs ++ ys) w ≡ run_with st ys (run_with st xs w)
   run_on [] ys w = refl
@@ -139,7 +139,7 @@ module _ {N : Type 0} (st : Station N) where
   arrive_on [] ys w first more = more
   arrive_on (x ∷ xs) ys w first more = (first.0, arrive_on xs ys (round_with st x w) first.1 more)
 
-  -- ---- a round that is broken off behind others
+  -- ---- a round that is broken off after others
 
   -- the frames of the first j rounds were sent, and some of the next one but not all
   pub record IsSentTo (w : World N) (left : Fibres) (j out : ℕ) : Type 0 where

@@ -38,7 +38,7 @@ module _ {N T : Type 0} (walk : Walk N T) (law : KeepsRounds walk) where
 
   -- ---- which reports were sent
 
-  -- the number of rounds up to the last behind the settle step of a report
+  -- the number of rounds up to the last after the settle step of a report
   abbrev end_of : T → ℕ
   end_of r = walk.last r + 1 + walk.behind
 
@@ -58,22 +58,22 @@ module _ {N T : Type 0} (walk : Walk N T) (law : KeepsRounds walk) where
 
   -- ---- a settle step where arrivals are known
 
-  -- what is told of the settle step of this number that ends with its k-th round
+  -- what is reported of the settle step of this number that ends with its k-th round
   abbrev of_step : ℕ → ℕ → World N → T
   of_step number k w = walk.tells number (course st w) k
 
-  -- so many rounds run then
+  -- the number of rounds that run then
   abbrev whole : ℕ → ℕ
   whole k = k + walk.behind
 
-  -- one that ended
+  -- a settle step that ended
   record IsKnown (w : World N) (limit number : ℕ) (told : T) (left : World N) : Type 0 where
     rounds : ℕ
     settles : SettlesAt st (course st w) limit rounds
     left_is : left ≡ run st (whole rounds) w
     told_is : told ≡ of_step number rounds w
 
-  -- its rounds, and those behind it
+  -- its rounds, and those after it
   module _ (w : World N) (limit : ℕ) (mid : World N) (knows : Knows w.fibres) (s : Settles st w limit mid) (behind : List (List Arrival))
       (arrive : ArriveIn st behind mid) where
     all : List (List Arrival)
@@ -91,7 +91,7 @@ module _ {N T : Type 0} (walk : Walk N T) (law : KeepsRounds walk) where
         ∙ ap (course_with st (s.rounds ++ behind) w) (length-append s.rounds behind)
         ∙ same_all (length s.rounds + length behind) (omega arith)
 
-    -- it ends with as many rounds as are known
+    -- a settle step ends with as many rounds as are known
     count_all : (k : ℕ) → mid ≡ run st k w → k ≡ length s.rounds
     count_all k there =
         let held = ap (λ (r : HeldRing N). r.rounds) (held_run st s.rounds w) in
@@ -121,7 +121,7 @@ module _ {N T : Type 0} (walk : Walk N T) (law : KeepsRounds walk) where
             ∙ ap (λ j. of_step number j w) (sym count);
       }
 
-  -- one that a fault broke off, or a round behind it
+  -- a settle step that a fault broke off, or a round after it
   record IsBroken (w : World N) (limit : ℕ) (left : Fibres) : Type 0 where
     ran : ℕ
     out : ℕ
@@ -179,7 +179,7 @@ module _ {N T : Type 0} (walk : Walk N T) (law : KeepsRounds walk) where
         },
       )
 
-  -- the last of the rounds behind a settle step that ended with its k-th
+  -- the last of the rounds after a settle step that ended with its k-th
   last_round : (w : World N) (limit k number : ℕ) → 1 ≤ length w.ring.ids → SettlesAt st (course st w) limit k
       → end_of (of_step number k w) ≡ w.ring.rounds + whole k
   last_round w limit k number some s =
@@ -195,7 +195,7 @@ module _ {N T : Type 0} (walk : Walk N T) (law : KeepsRounds walk) where
       let same : length (run st k w).ring.ids ≡ length w.ring.ids = ap (λ (x : List ℕ). length x) (left_run st k w).ids in
       omega (arith, long, same, some)
 
-  -- so few frames are none of a round behind a step that runs no round, where they are none of one behind it
+  -- frames that are too few for the next round are too few for it after a step that runs no round
   none_after : (n frames : ℕ) (this : Step) (w : World N) (A : Type 0) → 1 ≤ length w.ring.ids → frames < 2 * n * (w.ring.rounds + 1)
       → (1 ≤ length (walk.does this w).ring.ids → frames < 2 * n * ((walk.does this w).ring.rounds + 1) → A) → A
   none_after n frames this w A some low goes =
@@ -234,7 +234,7 @@ module _ {N T : Type 0} (walk : Walk N T) (law : KeepsRounds walk) where
   none_sent limit before n frames (this ∷ later) w some low =
       none_after n frames this w _ some low (none_sent limit before n frames later (walk.does this w))
 
-  -- a settle step ended, and the rounds behind it were run
+  -- a settle step ended, and the rounds after it were run
   settled_came : (limit before k : ℕ) (w : World N) (later : Ran N T) (reports rest : List T) (end : Status) (left : World N)
       → 1 ≤ length w.ring.ids → length w.ring.nodes ≡ length w.ring.ids → SettlesAt st (course st w) limit k
       → reports ≡ of_step (before + 1) k w ∷ rest → Came walk later (length (run st (whole k) w).ring.ids)
@@ -277,7 +277,7 @@ module _ {N T : Type 0} (walk : Walk N T) (law : KeepsRounds walk) where
 
   -- ---- after a fault
 
-  -- the frames that were sent are the first of those of the script, and of no settle step all are among them
+  -- the frames that were sent are the first of those of the script, and no settle step has all of its frames among them
   cut_short : (limit before : ℕ) (later : List Step) (w left : World N) (o : Option ℕ) → settles_in st w limit ≡ o → (j out : ℕ)
       → 1 ≤ length w.ring.ids → length w.ring.nodes ≡ length w.ring.ids
       → IsSentTo st w left.fibres j out → j < option_map_or whole o limit
@@ -343,7 +343,7 @@ module _ {N T : Type 0} (walk : Walk N T) (law : KeepsRounds walk) where
 
   -- ---- a script
 
-  -- behind a step that runs no round
+  -- after a step that runs no round
   known_on : (limit before : ℕ) (this : Step) (later : List Step) (w : World N) (reports : List T) (end : Status) (left : World N)
       → Knows w.fibres → 1 ≤ length w.ring.ids → length w.ring.nodes ≡ length w.ring.ids
       → ((reports : List T) (end : Status) (left : World N) → Knows (walk.does this w).fibres → 1 ≤ length (walk.does this w).ring.ids

@@ -15,7 +15,7 @@ set_upto P (z ∷ xs) (suc i) y lt here before zero x lj get = before zero x (om
 set_upto P (z ∷ xs) (suc i) y lt here before (suc j) x lj get =
     set_upto (λ k. P (suc k)) xs i y (omega arith) here (λ k v lk there. before (suc k) v (omega arith) there) j x (omega arith) get
 
--- those behind it stay
+-- the elements after the one that is set stay
 pub set_behind : {X : Type 0} (xs : List X) (i : ℕ) (y : X) (j : ℕ) → i < j → slice_get (set xs i y) j ≡ slice_get xs j
 set_behind [] i y j lt = refl
 set_behind (z ∷ xs) zero y zero lt = absurd (omega arith)

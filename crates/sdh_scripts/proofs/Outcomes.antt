@@ -1,4 +1,4 @@
--- What comes of a script over fibres that aren't there yet.
+-- What comes of a script whose fibres aren't made yet.
 use Rattle.std.proofs.Common.{◌≡◌, ◌⊎◌, ℕ, ◌+◌, ◌*◌, ◌≤◌, List, [], ◌∷◌, ◌++◌, length, take, ap, sym, ◌∙◌, arith, inl, inr}
 use Rattle.std.specs.Prelude.{option_map}
 use Rattle.sdh_plant.specs.Fibres.{Fibres}
@@ -54,7 +54,7 @@ module _ {N T : Type 0} (walk : Walk N T) where
   comes_ends limit steps w f left reports end (inl x) = inr (inr x.0)
   comes_ends limit steps w f left reports end (inr x) = ends_in limit 0 steps w reports end x.0 x.2
 
-  -- one that settles, and that no fault broke off, is done
+  -- a script that settles, and that no fault broke off, is done
   pub settled_done : (limit : ℕ) (steps : List Step) (w : World N) (f left : Fibres) (reports : List T) (end : Status)
       → ComesOfSteps walk limit steps w f reports end left → IsSettled end → (end ≡ status.PlantFault → ⊥) → end ≡ status.Ok
   settled_done limit steps w f left reports end x settled fine = elim (comes_ends limit steps w f left reports end x) [
@@ -68,8 +68,8 @@ module _ {N T : Type 0} (walk : Walk N T) where
   known_done r n f left reports end (inl x) done fine = x.end_is ∙ done
   known_done r n f left reports end (inr x) done fine = absurd (fine x.0)
 
-  -- where the arrivals are known, from a world in which no round has run and over fibres that tell what was sent as those did that
-  -- weren't prepared
+  -- where the arrivals are known, from a world in which no round has run and over fibres that report their sent frames
+  -- as those did that weren't prepared
   module _ (law : KeepsRounds walk) (limit : ℕ) (steps : List Step) (w : World N) (f : Fibres) (new : w.ring.rounds ≡ 0)
       (sent : w.fibres.sent ≡ f.sent) (some : 1 ≤ length w.ring.ids) (size : length w.ring.nodes ≡ length w.ring.ids) where
     came : (left : Fibres) (reports : List T) (end : Status) (last : World N) → last.fibres ≡ left

@@ -1,4 +1,4 @@
--- What is told of a plan, by the laws of its ring.
+-- What is reported of a plan, by the laws of its ring.
 use Rattle.std.proofs.Common.{◌≡◌, true, ℕ, ◌≤◌, List, [], ◌++◌, length, refl, ap, sym, ◌∙◌, subst, arith, inl, inr, Some}
 use Rattle.std.proofs.Common.{append-nil}
 use Rattle.std.specs.List.{flat_map}
@@ -67,7 +67,7 @@ as_planned {N} Holds plan new r rate n steps f ring rates size same x =
     subst (λ (t : List Step × HeldRing N × Rate × ℕ). Holds t.0 t.1 (prepared t.2 t.3 f)) (sym (λ i. (same i, ring i, rates i, size i))) x
 
 module _ {N T R : Type 0} (ring : R → HeldRing N) (t : Account N T) (plan : Planned) (run : NewRun R) (is : IsOf ring t plan run) where
-  -- it may begin
+  -- the run of a plan may begin
   pub may_begin : (room : R → ℕ) (MayRun : ℕ → List Step → R → Fibres → Type 0) → IsPlanned plan → IsNew t.new_ring
       → run.rate ≡ plan.settings.rate → run.nodes ≡ length plan.nodes
       → ((f : Fibres) → MayRun 0 run.steps.items run.runner (prepared run.rate run.nodes f)) → HasRoom (room run.runner) 0 run.text.room
@@ -98,7 +98,7 @@ module _ {N T R : Type 0} (ring : R → HeldRing N) (t : Account N T) (plan : Pl
       (subst (λ (k : ℕ). Came t.walk k text_of plan.steps (with_fibres (ring run.runner) f) f text end left) is.limit_is
       (subst (λ (l : List Step). Came t.walk run.limit text_of l (with_fibres (ring run.runner) f) f text end left) is.steps_are x))
 
--- ---- all that is told
+-- ---- all that is reported
 
 module _ {N T : Type 0} (t : Account N T) (plan : Planned) (f left : Fibres) (end : Status) where
   pub known_then : KeepsRounds t.walk → IsNew t.new_ring → IsPlanned plan → (reports : List T) → Comes t plan f reports end left
@@ -137,7 +137,7 @@ module _ {N T : Type 0} (t : Account N T) (plan : Planned) (f left : Fibres) (en
   pub ends_of : {Owes : ReportsOwe T} (reports : List T) → IsRunOf t Owes plan f reports end left → EndsIn end
   ends_of reports x = comes_ends t.walk plan.limit plan.steps (world_of t plan f) f left reports end x.ran
 
-  -- one that settles, and that no fault broke off, is done
+  -- a script that settles, and that no fault broke off, is done
   pub done_of : {Owes : ReportsOwe T} (reports : List T) → IsRunOf t Owes plan f reports end left → MaySettle t plan f → (end ≡ status.PlantFault → ⊥)
       → end ≡ status.Ok
   done_of reports x (inl may) fine = known_done t.walk (ran_of t plan f) (length plan.nodes) f left reports end (x.known may.0) may.1 fine

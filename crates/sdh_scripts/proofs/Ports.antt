@@ -1,4 +1,4 @@
--- The ports of one circuit more, and ports that deliver the same.
+-- The ports of one circuit more, and ports with equal deliveries.
 use Rattle.std.proofs.Common.{◌≡◌, ℕ, suc, ◌+◌, ◌*◌, ◌<◌, List, [], ◌∷◌, ◌++◌, length, take, Some, refl, ap, sym, ◌∙◌, arith, append-nil}
 use Rattle.std.specs.Prelude.{slice_get}
 use Rattle.std.specs.List.{flat_map}
@@ -42,7 +42,7 @@ module _ {L : Type 0} (tells : ℕ → Provisioned → End → L) where
       ∙ flat_map-append line (of_ports tells 0 (take i cs)) (tells i c A ∷ tells i c B ∷ [])
       ∙ ap (λ l. flat_map line (of_ports tells 0 (take i cs)) ++ (a ++ l)) (append-nil b)
 
--- where every port of these circuits, which are counted from i, delivers the same
+-- the lines of these circuits' ports, which are counted from i, are equal where every port has equal deliveries
 pub lines_same : (gives owes : ℕ → Provisioned → End → Outlet) (i : ℕ) (cs : List Provisioned)
     → ((k : ℕ) (c : Provisioned) → slice_get cs k ≡ Some c → (e : End) → gives (i + k) c e ≡ owes (i + k) c e)
     → lines_from gives i cs ≡ lines_from owes i cs

@@ -20,11 +20,12 @@ use Rattle.sdh_scripts.specs.Programs.{Deed, Refuses, Writes, Runs, Program}
 use Rattle.sdh_scripts.specs.Outcome.{IsRunOutcome, OfDeed, OfPlan, OfOwnPlan, MayEnd, told}
 use Rattle.sdh_scripts.specs.Headline.{is_plan_for, IsPlanFor, Shows}
 
--- what is so of a run by its plan and how it ended, whatever it tells: with a large limit each step was settled
+-- what is so of a run by its plan and its ending, whatever it reports: with a limit that is always enough each step was
+-- settled
 abbrev pub SettlesLarge : (T : Type 0) → Planned → List T → Status → Type 0
 SettlesLarge T plan told how = enough_for (length plan.nodes) ≤ plan.limit → IsSettled how
 
--- where so much is known of the plan it ended as told, or by a fault
+-- where `Known` holds of the plan, the run ended as is said of the plan, or by a fault
 abbrev pub EndsKnown : (T : Type 0) → (Planned → Type 0) → (Planned → Status) → Planned → List T → Status → Type 0
 EndsKnown T Known ending plan told how = Known plan → (how ≡ ending plan) ⊎ (how ≡ status.PlantFault)
 
@@ -48,7 +49,7 @@ module _ {A L T E : Type 0} (program : Program A L T E) (ask : A) (f left : Fibr
       subst (λ p. OfPlan program ask p f how text left) (one_plan bytes x.0 plan x.1 tells) x.2
   of_own (Some own) bytes how text plan s is h same x = subst (λ p. OfPlan program ask p f how text left) (sym same) x
 
-  -- it wasn't refused
+  -- a plan whose run came to its end wasn't refused
   ran_deed : (deed : Deed L E) (how : E) (text : List ℕ) (plan : Planned) (s : Status) → how ≡ program.endings.of s → HasRun s
       → NeverWrites program ask → program.Does ask plan deed → OfDeed program deed plan f how text left
       → (listing : L) × program.Does ask plan (Runs listing)
@@ -77,7 +78,7 @@ module _ {A L T E : Type 0} (program : Program A L T E) (ask : A) (f left : Fibr
         let same : r.status ≡ s = one_status program.endings r.status s (sym r.how_is ∙ is) in
         (r.told, subst (Appends old new) r.text_is w.2, so plan r.told s (subst (λ t. program.IsRunOf plan f r.told t left) same r.came))
 
-    -- and so it is of the run of a plan, where none is only written of
+    -- what is so of runs is so of the run of a plan, where the program never writes a text of one alone
     so_of : (P : Planned → List T → Status → Type 0) → RunsAlone program ask → NeverWrites program ask
         → ((plan : Planned) (told : List T) (end : Status) → program.IsRunOf plan f told end left → P plan told end)
         → (plan : Planned) (s : Status) → IsPlanFor program ask bytes plan → how ≡ program.endings.of s → HasRun s
@@ -89,7 +90,7 @@ module _ {A L T E : Type 0} (program : Program A L T E) (ask : A) (f left : Fibr
         (x.0, x.2)
 
     module _ (alone : RunsAlone program ask) (never : NeverWrites program ask) where
-      -- so no call tells of an unsettled step
+      -- no call reports an unsettled step
       pub settles : ((plan : Planned) (told : List T) (end : Status) → program.IsRunOf plan f told end left → SettlesLarge T plan told end)
           → (plan : Planned) → IsPlanFor program ask bytes plan → enough_for (length plan.nodes) ≤ plan.limit → (k : ℕ)
           → how ≢ program.endings.of (status.Unsettled k)
@@ -102,7 +103,7 @@ module _ {A L T E : Type 0} (program : Program A L T E) (ask : A) (f left : Fibr
           → (s ≡ ending plan) ⊎ (s ≡ status.PlantFault)
       ends_as Known ending so plan s tells is h known = (so_of (EndsKnown T Known ending) alone never so plan s tells is h).1 known
 
-  -- what is promised of the bytes that a source tells, where this is asked
+  -- what is promised of the bytes that a source has, where this is asked
   pub promised : (a : Option A) (reads calls : Counts) (source : Option (List ℕ)) (how : E) (old new : Option (List ℕ))
       (R : List ℕ → Type 0) → a ≡ Some ask
       → ((bytes : List ℕ) → WritesWith program.endings (λ how text. MayEnd program (Some ask) bytes f reads calls how text left) how old new

@@ -1,4 +1,4 @@
--- Walks that run no round behind a settle step.
+-- Walks that run no round after a settle step.
 use Rattle.std.proofs.Common.{◌≡◌, ℕ, ◌+◌, ◌-◌, List, [], ◌∷◌, ◌++◌, length, refl, ap, sym, ◌∙◌, subst, arith, inl, inr, append-nil}
 use Rattle.sdh_plant.specs.Fibres.{Arrival, Fibres}
 use Rattle.sdh_rounds.specs.Stations.{Station}
@@ -18,10 +18,10 @@ no_rounds : (xs : List (List Arrival)) → length xs ≡ 0 → xs ≡ []
 no_rounds [] h = refl
 no_rounds (x ∷ xs) h = absurd (omega arith)
 
--- ---- whatever is told
+-- ---- any report
 
 module _ {N T : Type 0} (walk : Walk N T) (none : walk.behind ≡ 0) where
-  -- a settle step that ended, of whose rounds this is told
+  -- a settle step that ended, with the report of its rounds
   pub ended_with : (limit number : ℕ) (w left : World N) → (s : Settles walk.station w limit left)
       → Ended walk limit number w (walk.tells number (course_with walk.station s.rounds w) (length s.rounds)) left
   ended_with limit number w left s = record {
@@ -34,7 +34,7 @@ module _ {N T : Type 0} (walk : Walk N T) (none : walk.behind ≡ 0) where
     told_is = ap (λ rs. walk.tells number (course_with walk.station rs w) (length s.rounds)) (sym (append-nil s.rounds));
   }
 
-  -- one that ended left this world
+  -- a settle step that ended left this world
   pub settles_with : (limit number : ℕ) (w : World N) (told : T) (left : World N) → Ended walk limit number w told left
       → Settles walk.station w limit left
   settles_with limit number w told left e =
@@ -60,7 +60,7 @@ module _ {N : Type 0} (station : Station N) (does : Step → World N → World N
       subst (λ (v : World N). Ended (reporting station does report) limit number w (report number v.ring) left)
       (sym (last_of w limit left s)) (ended_with (reporting station does report) refl limit number w left s)
 
-  -- a settle step that ended left this world, and its report tells of the ring
+  -- a settle step that ended left this world, and its report shows the ring
   pub settles_by : (w : World N) (limit number : ℕ) (told : Report) (left : World N)
       → Ended (reporting station does report) limit number w told left → Settles station w limit left
   settles_by w limit number told left e = settles_with (reporting station does report) refl limit number w told left e
@@ -91,7 +91,7 @@ module _ {N : Type 0} (station : Station N) (does : Step → World N → World N
     looks = λ number k at bt same. ap (λ (v : World N). report number v.ring) (same k (omega arith));
   }
 
--- ---- a script that runs, whatever is told, also runs with reports
+-- ---- a script that runs with any report also runs with reports of the ring
 
 refuses_of : {N T : Type 0} (S : Type 0) (s : Step) (w : World N) (told : List T) (end : Status) (left : World N)
     → Refuses s w told end left → Refuses {T = S} s w [] end left

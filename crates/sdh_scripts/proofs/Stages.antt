@@ -82,7 +82,7 @@ module _ {A L T E : Type 0} (program : Program A L T E) (ask : A) where
         by (Some bytes) t y =
             subst (λ p. MayGo program ask p f) (one_plan bytes y.0 plan (subst (λ o. is_plan_for o bytes y.0) none y.1) t) y.2
 
-    -- the source tells a plan
+    -- the source has a plan
     pub read_has_plan : (source : Option (List ℕ)) (f : Fibres) → MayBeDone program ask (told program (Some ask) source) f
         → HasPlan source
     read_has_plan source f x =

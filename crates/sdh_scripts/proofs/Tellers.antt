@@ -1,4 +1,4 @@
--- A settle step of which nothing is written until it has ended.
+-- A settle step that writes nothing until it has ended.
 use Rattle.std.proofs.Common.{ℕ, [], ◌++◌, length, refl, arith, inl, inr}
 use Rattle.sdh_rounds.specs.Held.{World}
 use Rattle.sdh_rounds.specs.Runs.{run_with, course_with}

@@ -20,7 +20,7 @@ use Rattle.sdh_scripts.specs.Runners.{Refused, WroteStep}
 use Rattle.sdh_scripts.specs.Tellers.{WasToWrite, WroteBegun}
 use Rattle.sdh_scripts.specs.declared.teller.StepError.TheVariants as why
 
--- the step at a place, and those behind it
+-- the step at a place, and those after it
 pub here : (steps : List Step) (i : ℕ) (d : Step) → i < length steps → drop i steps ≡ get_or steps i d ∷ drop (i + 1) steps
 here steps i d lt = drop-cons steps i d lt ∙ ap (λ k. get_or steps i d ∷ drop k steps) (sym (add-one i))
 
@@ -34,7 +34,7 @@ room_now each before room few h = one each (64 - before) (omega arith) h
     one c zero some h = absurd (omega arith)
     one c (suc k) some h = omega arith
 
--- and for a line behind it
+-- there is room for what is written of one more settle step and for a line after it
 pub room_more : (each before : ℕ) → before + 1 ≤ 64 → each + 96 ≤ room_for each before
 room_more each before few = one each (64 - before) (omega arith)
   where
@@ -42,7 +42,7 @@ room_more each before few = one each (64 - before) (omega arith)
     one c zero some = absurd (omega arith)
     one c (suc k) some = omega arith
 
--- and behind it for what is written of those that come then
+-- the room is that for what is written of one more settle step and of those after it
 pub room_next : (each before : ℕ) → before + 1 ≤ 64 → each + room_for each (before + 1) ≡ room_for each before
 room_next each before few =
     let left : suc (64 - (before + 1)) ≡ 64 - before = omega (arith, few) in
@@ -131,7 +131,7 @@ module _ {N T : Type 0} (walk : Walk N T) (limit : ℕ) (text_of begun_of : T �
     text = x.2;
   }
 
-  -- one that a fault broke off
+  -- a settle step that a fault broke off
   pub broken_stops : (before : ℕ) (w left : World N) (old new : Option (List ℕ)) → Breaks walk limit w left.fibres
       → WroteBegun walk limit (before + 1) text_of begun_of w why.PlantFault left old new
       → StopsAt walk limit begun_of before step.Settle w old new status.PlantFault left

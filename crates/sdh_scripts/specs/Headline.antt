@@ -19,24 +19,24 @@ is_plan_for (Some own) bytes plan = plan ≡ own
 abbrev pub IsPlanFor : {A L T E : Type 0} → Program A L T E → A → List ℕ → Planned → Type 0
 IsPlanFor program ask bytes plan = is_plan_for (program.own_plan ask) bytes plan
 
--- Where a plan is run and the run came to its end, what was written is what is listed of what is told of settle steps, and the last
--- line; and what is told, and how it ended, is what `P` says of the plan.
+-- Where a plan is run and the run came to its end: what was written is what is listed of the settle steps' reports, and
+-- the last line; and `P` holds of the plan, the reports and how the run ended.
 abbrev pub Shows : {A L T E : Type 0} → Program A L T E → A → (Planned → List T → Status → Type 0) → List ℕ → E → Option (List ℕ)
     → Option (List ℕ) → Type 0
 Shows {L = L} {T = T} program ask P bytes how old new = (plan : Planned) (listing : L) (end : Status) → IsPlanFor program ask bytes plan
     → program.Does ask plan (Runs listing) → how ≡ program.endings.of end → HasRun end
     → (told : List T) × Appends old new (program.text_of listing told ++ program.endings.line how) × P plan told end
 
--- where so much is known of the plan it ended as told, or a plant's call failed
+-- where `Known` holds of the plan, the run ended as `ending` says of the plan, or a plant's call failed
 abbrev pub EndsAs : (Planned → Type 0) → (Planned → Status) → List ℕ → Status → Type 0
 EndsAs Known ending bytes how =
     (plan : Planned) → TellsPlan bytes plan → HasRun how → Known plan → (how ≡ ending plan) ⊎ (how ≡ status.PlantFault)
 
--- with so large a limit no settle step is unsettled
+-- with a limit that is always enough no settle step is unsettled
 abbrev pub AlwaysSettles : List ℕ → Status → Type 0
 AlwaysSettles bytes how = (plan : Planned) → TellsPlan bytes plan → enough_for (length plan.nodes) ≤ plan.limit → IsSettled how
 
--- all is given for this, where so much of a plan is enough to come to its end: a plan of which a text is written, or one that is run
+-- all is given for this: a text is written of the plan; or the plan is run, and `MaySettle` gives what a run needs to come to its end
 abbrev pub may_do_by : {L E : Type 0} → (Planned → Fibres → Type 0) → Deed L E → Planned → Fibres → Type 0
 may_do_by MaySettle (Refuses why) plan f = ⊥
 may_do_by MaySettle (Writes told) plan f = Unit {0}
@@ -52,7 +52,7 @@ may_go_by {L = L} {E = E} Does MaySettle ask plan f = (deed : Deed L E) × Does 
 abbrev pub MayGo : {A L T E : Type 0} → Program A L T E → A → Planned → Fibres → Type 0
 MayGo program = may_go_by program.Does program.MaySettle
 
--- the source tells the bytes of a plan with which all is given, where what is asked has a plan of its own or none
+-- the source's bytes are known, and all is given with the plan of what is asked: its own, or that of the bytes
 abbrev pub may_be_done_by : {A : Type 0} → (A → Option Planned) → (A → Planned → Fibres → Type 0) → A → Option (List ℕ) → Fibres → Type 0
 may_be_done_by own_plan May ask None f = ⊥
 may_be_done_by own_plan May ask (Some bytes) f = (plan : Planned) × is_plan_for (own_plan ask) bytes plan × May ask plan f

@@ -1,4 +1,4 @@
--- The law of scripts over rings of any kind, whatever is told of their settle steps.
+-- The law of scripts over rings of any kind, with any report of a settle step.
 use Rattle.std.specs.Prelude.{ℕ, ◌≡◌, ◌+◌, ◌-◌, ◌≤◌, List, length}
 use Rattle.sdh_plant.specs.Arrivals.{Knows}
 use Rattle.sdh_rounds.specs.Held.{World}
@@ -15,7 +15,7 @@ pub record DoesNoRound {N : Type 0} (does : Step → World N → World N) : Type
   pub sent : (s : Step) (w : World N) → (does s w).fibres.sent ≡ w.fibres.sent
   pub knows : (s : Step) (w : World N) → Knows w.fibres → Knows (does s w).fibres
 
--- what is told of a settle step tells its last round, and is told by its rounds and those behind it alone
+-- the report of a settle step shows its last round, and depends only on its rounds and those after it
 pub record KeepsRounds {N T : Type 0} (walk : Walk N T) : Type 0 where
   pub other : DoesNoRound walk.does
   pub last : (number : ℕ) (at : ℕ → World N) (k : ℕ) → walk.last (walk.tells number at k) ≡ (at k).ring.rounds - 1

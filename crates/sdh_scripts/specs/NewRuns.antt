@@ -23,7 +23,7 @@ pub record MayBegin {N R : Type 0} (ring : R → HeldRing N) (room : R → ℕ) 
   pub has_room : HasRoom (room run.runner) 0 run.text.room
   pub empty : run.text.bytes ≡ []
 
--- it runs the script of a plan over the plan's ring
+-- the run is of the script of a plan over the plan's ring
 pub record IsOf {N T R : Type 0} (ring : R → HeldRing N) (t : Account N T) (plan : Planned) (run : NewRun R) : Type 0 where
   pub ring_is : ring run.runner ≡ t.new_ring plan
   pub limit_is : run.limit ≡ plan.limit

@@ -15,8 +15,8 @@ use Rattle.sdh_scripts.specs.Programs.{Deed, Refuses, Writes, Runs, Program}
 
 -- ---- with a plan
 
--- A plan was run over new fibres and the run came to its end: the text is what is listed of what is told of its settle steps, and the
--- last line.
+-- A plan was run over new fibres and the run came to its end: the text is what is listed of its settle steps' reports,
+-- and the last line.
 pub record IsRunOutcome {A L T E : Type 0} (program : Program A L T E) (listing : L) (plan : Planned) (f : Fibres) (how : E)
     (text : List ℕ) (left : Fibres) : Type 0 where
   pub status : Status
@@ -42,7 +42,7 @@ OfPlan {L = L} {E = E} program ask plan f how text left =
 
 -- ---- with the bytes of a source
 
--- there is no plan in them, the last line is all of the text, and the fibres are left alone
+-- there is no plan in the bytes, the last line is all of the text, and the fibres are left alone
 pub record HasRefused {A L T E : Type 0} (program : Program A L T E) (bytes : List ℕ) (f : Fibres) (how : E) (text : List ℕ)
     (left : Fibres) : Type 0 where
   pub status : Status
@@ -50,7 +50,7 @@ pub record HasRefused {A L T E : Type 0} (program : Program A L T E) (bytes : Li
   pub none : HasNoPlan bytes status
   pub says : Says (program.endings.line how) text f left
 
--- or what is asked comes to this with the plan
+-- the bytes are refused, or what is asked comes to this with their plan
 abbrev pub OfBytes : {A L T E : Type 0} → Program A L T E → A → List ℕ → Fibres → E → List ℕ → Fibres → Type 0
 OfBytes program ask bytes f how text left =
     HasRefused program bytes f how text left ⊎ ((plan : Planned) × TellsPlan bytes plan × OfPlan program ask plan f how text left)
@@ -62,8 +62,8 @@ abbrev pub OfOwnPlan : {A L T E : Type 0} → Program A L T E → A → Option P
 OfOwnPlan program ask None bytes f how text left = OfBytes program ask bytes f how text left
 OfOwnPlan program ask (Some plan) bytes f how text left = OfPlan program ask plan f how text left
 
--- what is asked, if anything, comes to this ending, with this text, where the source had these bytes left. No outcome is a write fault
--- or want of memory: they may stand in place of one
+-- what is asked, if anything, comes to this ending, with this text, where the source had these bytes left. No outcome
+-- is a write fault or a lack of memory: each may stand in place of an outcome
 abbrev pub IsOutcome : {A L T E : Type 0} → Program A L T E → Option A → List ℕ → Fibres → E → List ℕ → Fibres → Type 0
 IsOutcome program None bytes f how text left = (how ≡ program.endings.of status.Usage) × Says (own_line program.usage) text f left
 IsOutcome program (Some ask) bytes f how text left = OfOwnPlan program ask (program.own_plan ask) bytes f how text left
@@ -87,7 +87,7 @@ abbrev pub reads_without : Option Planned → Bool
 reads_without None = true
 reads_without (Some plan) = false
 
--- it is read for what is asked, where these are the plans that a program has of its own
+-- the source is read for what is asked, where these are the plans that a program has of its own
 abbrev pub reads_by : {A : Type 0} → (A → Option Planned) → Option A → Bool
 reads_by own_plan None = false
 reads_by own_plan (Some ask) = reads_without (own_plan ask)

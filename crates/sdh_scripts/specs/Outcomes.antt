@@ -1,4 +1,4 @@
--- What comes of a script over fibres that aren't there yet.
+-- What comes of a script whose fibres aren't made yet.
 use Rattle.std.specs.Prelude.{ℕ, ◌≡◌, ◌≢◌, ◌⊎◌, List, [], length, take}
 use Rattle.std.specs.List.{flat_map}
 use Rattle.sdh_plant.specs.Fibres.{Fibres}
@@ -35,8 +35,8 @@ pub record IsDone {N T : Type 0} (r : Ran N T) (reports : List T) (end : Status)
   pub end_is : end ≡ r.ending
   pub left_is : left ≡ r.left.fibres
 
--- A fault broke it off when the first so many of its frames were sent: the reports are those of exactly the settle steps of which all
--- frames were sent, and all of the rounds behind them, in a ring of n.
+-- A fault broke it off when the first `count` of its frames were sent. The reports, in a ring of n, are those of
+-- exactly the settle steps with all frames sent, of their rounds and of all rounds after them.
 pub record IsCut {N T : Type 0} (walk : Walk N T) (r : Ran N T) (n : ℕ) (f : Fibres) (reports : List T) (left : Fibres) : Type 0 where
   pub count : ℕ
   pub frames : Appends f (take count r.frames) left

@@ -1,4 +1,4 @@
--- What is told of a plan, over fibres that aren't there yet, whatever kind its ring is of.
+-- What is reported of a plan whose fibres aren't made yet, for a ring of any kind.
 use Rattle.std.specs.Prelude.{ℕ, ◌≡◌, ◌⊎◌, ◌≤◌, true, List, length}
 use Rattle.std.specs.List.{flat_map}
 use Rattle.sdh_plant.specs.Fibres.{Fibres}
@@ -12,9 +12,9 @@ use Rattle.sdh_scripts.specs.Walks.{Walk}
 use Rattle.sdh_scripts.specs.Scripts.{Ran, script}
 use Rattle.sdh_scripts.specs.Outcomes.{with_fibres, IsSettled, ComesOfSteps, ComesOfKnownRun}
 
--- how a plan is told of that is run over a ring of some kind
+-- how a plan is reported of that is run over a ring of some kind
 pub record Account (N T : Type 0) : Type 1 where
-  -- what a script does with such a ring, and what is told of a settle step
+  -- what a script does with such a ring, and what is reported of a settle step
   pub walk : Walk N T
   -- the ring of a plan, in which no round has run
   pub new_ring : Planned → HeldRing N
@@ -31,11 +31,11 @@ world_of t plan f = with_fibres (t.new_ring plan) f
 abbrev pub ran_of : {N T : Type 0} → Account N T → Planned → Fibres → Ran N T
 ran_of t plan f = script t.walk plan.limit 0 plan.steps (world_of t plan f)
 
--- over any plant
+-- what comes of the script of a plan over any plant
 abbrev pub Comes : {N T : Type 0} → Account N T → Planned → Fibres → List T → Status → Fibres → Type 0
 Comes t plan f reports end left = ComesOfSteps t.walk plan.limit plan.steps (world_of t plan f) f reports end left
 
--- where the arrivals are known
+-- what comes of the script of a plan where the arrivals are known
 abbrev pub ComesKnown : {N T : Type 0} → Account N T → Planned → Fibres → List T → Status → Fibres → Type 0
 ComesKnown t plan f reports end left = ComesOfKnownRun t.walk (ran_of t plan f) (length plan.nodes) f reports end left
 
@@ -46,8 +46,8 @@ MaySettle t plan f =
     (Knows (world_of t plan f).fibres × ((ran_of t plan f).ending ≡ status.Ok))
     ⊎ ((f.honest ≡ true) × (enough_for (length plan.nodes) ≤ plan.limit))
 
--- One list of reports, told in each way: what ran over every plant, what it comes to where the arrivals are known, and over honest
--- fibres what is owed, and that no settle step with so large a limit is unsettled.
+-- One list of reports, described in each way: what ran over every plant; what it comes to where the arrivals are known;
+-- over honest fibres what is owed, and that with a limit that is always enough no settle step is unsettled.
 pub record IsRunOf {N T : Type 0} (t : Account N T) (Owes : ReportsOwe T) (plan : Planned) (f : Fibres) (reports : List T) (end : Status)
     (left : Fibres) : Type 0 where
   pub ran : Comes t plan f reports end left

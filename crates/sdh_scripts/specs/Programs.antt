@@ -1,4 +1,4 @@
--- What a program that runs plans is asked for, and what it tells then.
+-- What a program that runs plans is asked for, and what it reports then.
 use Rattle.std.specs.Prelude.{ℕ, List, Option, Some, None}
 use Rattle.sdh_plant.specs.Fibres.{Fibres}
 use Rattle.sdh_plan.specs.Planned.{Planned}
@@ -13,12 +13,13 @@ pub data Deed (L E : Type 0) : Type 0 where
   Writes : List ℕ → Deed L E
   Runs : L → Deed L E
 
--- it is run where there is something to list; else it has no such port
+-- a plan is run where there is something to list; else it has no such port
 abbrev pub deed_listing : {L : Type 0} → Option L → Deed L Status
 deed_listing None = Refuses status.NoSuchPort
 deed_listing (Some listing) = Runs listing
 
--- What it can be asked for; what can be listed of a plan; what is told of a settle step, whatever is listed of that; and how it ends.
+-- What it can be asked for; what can be listed of a plan; what is reported of a settle step, whatever is listed of
+-- that; and how it ends.
 pub record Program (Ask Listing Told E : Type 0) : Type 1 where
   -- how it is called
   pub usage : List ℕ
@@ -30,9 +31,10 @@ pub record Program (Ask Listing Told E : Type 0) : Type 1 where
   pub own_plan : Ask → Option Planned
   -- what is done with a plan
   pub Does : Ask → Planned → Deed Listing E → Type 0
-  -- the text of what is listed of what is told of settle steps
+  -- the text of what is listed of the settle steps' reports
   pub text_of : Listing → List Told → List ℕ
-  -- what is told of the settle steps of a plan that is run over new fibres, how the run ends, and the fibres that it leaves
+  -- what is reported of the settle steps of a plan that is run over new fibres, how the run ends, and the fibres that
+  -- it leaves
   pub IsRunOf : Planned → Fibres → List Told → Status → Fibres → Type 0
   -- with which plan and fibres it is done
   pub MaySettle : Planned → Fibres → Type 0

@@ -23,7 +23,7 @@ pub record WroteStep {N T : Type 0} (walk : Walk N T) (limit number : ℕ) (text
   pub ended : Ended walk limit number w told left
   pub text : Appends old new (text_of told)
 
--- why a settle step, with the rounds behind it, didn't end
+-- why a settle step, with the rounds after it, didn't end
 abbrev pub EndsBy : {N T : Type 0} → Walk N T → ℕ → World N → SettleError → World N → Type 0
 EndsBy walk limit w Unsettled left = Unsettles walk.station w limit left
 EndsBy walk limit w PlantFault left = Breaks walk limit w left.fibres

@@ -1,5 +1,5 @@
--- What comes of a script, whatever kind the ring is of and whatever is told of a settle step. It is run step by step; of each
--- settle step that ends there is a report, which is what is told of it.
+-- What comes of a script over a ring of any kind, with any report of a settle step. The script is run step by step, and
+-- each settle step that ends has a report.
 use Rattle.std.specs.Prelude.{ℕ, ◌≡◌, ◌⊎◌, ◌+◌, ◌*◌, ◌<◌, List, [], ◌∷◌, ◌++◌, length, take, nat_le, if◌then◌else◌}
 use Rattle.std.specs.Option.{option_map_or}
 use Rattle.sdh_plant.specs.Fibres.{Arrival, Fibres}
@@ -15,7 +15,7 @@ use Rattle.sdh_scripts.specs.Walks.{Walk}
 
 -- ---- a settle step, over any fibres
 
--- it ended with a quiet window, the rounds behind it were run and left this world, and this is told
+-- a settle step ended with a quiet window, the rounds after it were run and left this world, and this is its report
 pub record Ended {N T : Type 0} (walk : Walk N T) (limit number : ℕ) (w : World N) (told : T) (left : World N) : Type 0 where
   pub mid : World N
   pub settles : Settles walk.station w limit mid
@@ -25,7 +25,7 @@ pub record Ended {N T : Type 0} (walk : Walk N T) (limit number : ℕ) (w : Worl
   pub left_is : left ≡ run_with walk.station behind mid
   pub told_is : told ≡ walk.tells number (course_with walk.station (settles.rounds ++ behind) w) (length settles.rounds)
 
--- it ended, and a fault broke one of the rounds off that are run behind it
+-- a settle step ended, and a fault broke off one of the rounds after it
 pub record BreaksBehind {N T : Type 0} (walk : Walk N T) (limit : ℕ) (w : World N) (left : Fibres) : Type 0 where
   pub mid : World N
   pub settles : Settles walk.station w limit mid
@@ -34,7 +34,7 @@ pub record BreaksBehind {N T : Type 0} (walk : Walk N T) (limit : ℕ) (w : Worl
   pub few : length rounds < walk.behind
   pub off : IsBrokenOff walk.station (run_with walk.station rounds mid) left
 
--- a fault broke one of its rounds off, or of those behind it
+-- a fault broke one of its rounds off, or of those after it
 abbrev pub Breaks : {N T : Type 0} → Walk N T → ℕ → World N → Fibres → Type 0
 Breaks walk limit w left = BreaksOff walk.station w limit left ⊎ BreaksBehind walk limit w left
 
@@ -49,9 +49,10 @@ abbrev pub Refuses : {N T : Type 0} → Step → World N → List T → Status �
 Refuses (step.Fibre e) w reports end left = (left.fibres ≡ w.fibres) × Stops status.PlantFault reports end
 Refuses s w reports end left = ⊥
 
--- The steps from a world, after `before` settle steps that have ended, with this limit of rounds a settle step: they give these
--- reports, end so, and leave that world. A settle step ends with a quiet window and has a report; or it is unsettled; or a
--- fault breaks one of its rounds off, or of those behind it. Any other step does what it does, or is refused.
+-- The steps from a world, after `before` settle steps that have ended, with this limit of rounds a settle step: they
+-- give these reports, end so, and leave that world. A settle step ends with a quiet window and has a report; or it is
+-- unsettled; or a fault breaks one of its rounds off, or of those after it. Any other step does what it does, or is
+-- refused.
 abbrev pub Runs : {N T : Type 0} → Walk N T → ℕ → ℕ → List Step → World N → List T → Status → World N → Type 0
 Runs walk limit before [] w reports end left = (left ≡ w) × Stops status.Ok reports end
 Runs {N} {T} walk limit before (step.Settle ∷ later) w reports end left =
@@ -84,7 +85,7 @@ ran_unsettled walk limit number w =
       frames = frames_in walk.station (arrivals_in walk.station limit w) w;
     }
 
--- it ends in k rounds, those behind it are run, and the script goes on
+-- a settle step ends in k rounds, those after it are run, and the script goes on
 abbrev pub ran_settled : {N T : Type 0} → Walk N T → ℕ → ℕ → World N → Ran N T → Ran N T
 ran_settled walk k number w later = record later {
   reports = walk.tells number (course walk.station w) k ∷ later.reports;
@@ -99,29 +100,29 @@ script walk limit before (step.Settle ∷ later) w =
     (settles_in walk.station w limit) (ran_unsettled walk limit (before + 1) w)
 script walk limit before (s ∷ later) w = script walk limit before later (walk.does s w)
 
--- so it ended
+-- the script ended so
 pub record IsRan {N T : Type 0} (r : Ran N T) (reports : List T) (end : Status) (left : World N) : Type 0 where
   pub reports_are : reports ≡ r.reports
   pub end_is : end ≡ r.ending
   pub left_is : left ≡ r.left
 
--- of reports, those of settle steps whose last round, or the last of those behind it, is among the first that send so many frames:
--- a ring of n sends 2 n in a round
+-- of reports, those of settle steps whose last round, or the last of those after it, is among the first that send
+-- `frames` frames: a ring of n sends 2 n in a round
 abbrev pub reports_within : {N T : Type 0} → Walk N T → ℕ → ℕ → List T → List T
 reports_within walk n frames [] = []
 reports_within walk n frames (r ∷ reports) =
     if nat_le (2 * n * (walk.last r + 1 + walk.behind)) frames
     then r ∷ reports_within walk n frames reports else reports_within walk n frames reports
 
--- A fault broke it off when so many of its frames were sent, after `before` that had been sent in rounds before: its reports are
--- those of the settle steps of which all frames were sent, and all of the rounds behind them.
+-- A fault broke the script off when `count` of its frames were sent, after `before` that had been sent in rounds
+-- before. Its reports are those of the settle steps with all frames sent, of their rounds and of all rounds after them.
 pub record IsCutShort {N T : Type 0} (walk : Walk N T) (r : Ran N T) (n before : ℕ) (w : World N) (reports : List T)
     (left : World N) : Type 0 where
   pub count : ℕ
   pub frames : Appends w.fibres (take count r.frames) left.fibres
   pub reports_are : reports ≡ reports_within walk n (before + count) r.reports
 
--- it ended so, or a fault broke it off
+-- the script ended as it does where arrivals are known, or a fault broke it off
 abbrev pub ComesTo : {N T : Type 0} → Walk N T → ℕ → ℕ → List Step → World N → List T → Status → World N → Type 0
 ComesTo walk limit before steps w reports end left =
     IsRan (script walk limit before steps w) reports end left

@@ -1,4 +1,4 @@
--- What a settle step comes to of which all that is told is written as it comes.
+-- What a settle step comes to whose reports are written as they come.
 use Rattle.std.specs.Prelude.{ℕ, ◌≡◌, ◌⊎◌, ◌<◌, ◌≤◌, List, ◌++◌, length, Option}
 use Rattle.std.specs.Io.KnownBytes.{Appends}
 use Rattle.sdh_outside.specs.Writing.{AppendsFewer}
@@ -13,7 +13,7 @@ use Rattle.sdh_scripts.specs.declared.teller.StepError.TheVariants.{Unsettled, P
 
 -- ---- its rounds so far
 
--- rounds of a settle step ran, none of them behind a quiet window, and this is told of them
+-- rounds of a settle step ran, none of them after a quiet window, and this is reported of them
 pub record InStep {N T : Type 0} (walk : Walk N T) (limit number : ℕ) (w : World N) (told : T) (mid : World N) : Type 0 where
   pub rounds : List (List Arrival)
   pub arrive : ArriveIn walk.station rounds w
@@ -22,7 +22,7 @@ pub record InStep {N T : Type 0} (walk : Walk N T) (limit number : ℕ) (w : Wor
   pub mid_is : mid ≡ run_with walk.station rounds w
   pub told_is : told ≡ walk.tells number (course_with walk.station rounds w) (length rounds)
 
--- it ended, rounds ran of those behind it, and this is told of them all
+-- a settle step ended, some of the rounds after it ran, and this is reported of them all
 pub record BehindStep {N T : Type 0} (walk : Walk N T) (limit number : ℕ) (w : World N) (told : T) (mid : World N) : Type 0 where
   pub settled : World N
   pub settles : Settles walk.station w limit settled
@@ -35,7 +35,7 @@ pub record BehindStep {N T : Type 0} (walk : Walk N T) (limit number : ℕ) (w :
 abbrev pub SoFar : {N T : Type 0} → Walk N T → ℕ → ℕ → World N → T → World N → Type 0
 SoFar walk limit number w told mid = InStep walk limit number w told mid ⊎ BehindStep walk limit number w told mid
 
--- this text is of the rounds of a settle step that ran so far; then none ran any more, or the next one was broken off
+-- this text is of the rounds of a settle step that ran so far; then no more ran, or the next one was broken off
 pub record Begun {N T : Type 0} (walk : Walk N T) (limit number : ℕ) (begun_of : T → List ℕ) (w : World N) (text : List ℕ)
     (left : World N) : Type 0 where
   pub mid : World N
@@ -46,7 +46,7 @@ pub record Begun {N T : Type 0} (walk : Walk N T) (limit number : ℕ) (begun_of
 
 -- ---- how it didn't end
 
--- why it didn't, with the rounds behind it
+-- why it didn't, with the rounds after it
 abbrev pub StopsBy : {N T : Type 0} → Walk N T → ℕ → World N → StepError → World N → Type 0
 StopsBy walk limit w Unsettled left = Unsettles walk.station w limit left
 StopsBy walk limit w PlantFault left = Breaks walk limit w left.fibres

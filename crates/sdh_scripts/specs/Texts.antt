@@ -12,7 +12,8 @@ use Rattle.sdh_scripts.specs.Walks.{Walk}
 use Rattle.sdh_scripts.specs.Scripts.{Refuses, Runs}
 use Rattle.sdh_scripts.specs.Tellers.{Begun, WasToWrite}
 
--- room enough for what is written behind `before` settle steps of at most 64, with so much for each of them, and for a last line
+-- room enough for what is written after `before` settle steps of at most 64, with `each` bytes for each of them, and
+-- for a last line
 abbrev pub room_for : ℕ → ℕ → ℕ
 room_for each before = each * (64 - before) + 96
 
@@ -21,8 +22,8 @@ HasRoom each before room = room_for each before ≤ room
 
 -- ---- steps, one after the other
 
--- These steps went, behind `before` settle steps: what `text_of` writes of each of some reports was written, one report for each settle
--- step of them; and whatever comes of further steps comes behind these.
+-- These steps went, after `before` settle steps: what `text_of` writes of each of some reports was written, one report
+-- for each settle step of them; and whatever comes of further steps comes after these.
 pub record Went {N T : Type 0} (walk : Walk N T) (limit : ℕ) (text_of : T → List ℕ) (before : ℕ) (gone : List Step) (w : World N)
     (old new : Option (List ℕ)) (now : ℕ) (left : World N) : Type 0 where
   pub reports : List T
@@ -31,8 +32,8 @@ pub record Went {N T : Type 0} (walk : Walk N T) (limit : ℕ) (text_of : T → 
   pub goes : (later : List Step) (rest : List T) (end : Status) (last : World N) → Runs walk limit now later left rest end last
       → Runs walk limit before (gone ++ later) w (reports ++ rest) end last
 
--- This is to be written of the step with which a script ended, behind so many settle steps: of a settle step what is written of the rounds
--- that ran of it, and of one that was refused nothing.
+-- This is to be written of the step with which a script ended, after `before` settle steps: of a settle step what is
+-- written of its rounds that ran, and nothing of a step that was refused.
 abbrev pub WritesLast : {N T : Type 0} → Walk N T → ℕ → (T → List ℕ) → ℕ → Step → World N → List ℕ → Status → World N → Type 0
 WritesLast {T = T} walk limit begun_of before step.Settle w text end left =
     Runs {T = T} walk limit before (step.Settle ∷ []) w [] end left × Begun walk limit (before + 1) begun_of w text left
@@ -56,7 +57,7 @@ pub record FailsAt {N T : Type 0} (walk : Walk N T) (limit : ℕ) (text_of begun
 
 -- ---- a script
 
--- it ended with the step that comes behind these, and this is to be written of that
+-- the script ended with the step that comes after these, and this is to be written of that step
 pub record Stopped {N T : Type 0} (walk : Walk N T) (limit : ℕ) (begun_of : T → List ℕ) (steps : List Step) (w : World N)
     (reports : List T) (tail : List ℕ) (end : Status) (left : World N) : Type 0 where
   pub gone : List Step
@@ -76,8 +77,8 @@ pub record Lists {N T : Type 0} (walk : Walk N T) (limit : ℕ) (text_of begun_o
   pub tail_is : ((end ≡ status.Ok) × (tail ≡ [])) ⊎ Stopped walk limit begun_of steps w reports tail end left
   pub text : Appends old new (flat_map text_of reports ++ tail)
 
--- A write failed in the settle step that comes behind these steps, and nothing more was run: a front was written of what was to be written
--- of the reports so far and of that step.
+-- A write failed in the settle step that comes after these steps, and nothing more was run: a front was written of what
+-- was to be written of the reports so far and of that step.
 pub record WriteFailed {N T : Type 0} (walk : Walk N T) (limit : ℕ) (text_of begun_of : T → List ℕ) (steps : List Step) (w : World N)
     (old new : Option (List ℕ)) (left : World N) : Type 0 where
   pub gone : List Step

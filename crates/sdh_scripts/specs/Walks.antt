@@ -1,25 +1,25 @@
--- What a script does with a ring, whatever kind its nodes are of, and what it tells of it.
+-- What a script does with a ring of any kind, and what it reports of it.
 use Rattle.std.specs.Prelude.{ℕ}
 use Rattle.sdh_rounds.specs.Stations.{Station}
 use Rattle.sdh_rounds.specs.Held.{HeldRing, World}
 use Rattle.sdh_plan.specs.declared.step.Step.{Step}
 use Rattle.sdh_report.specs.Reports.{Report}
 
--- `T` is what is told of a settle step
+-- `T` is what is reported of a settle step
 pub record Walk (N T : Type 0) : Type 0 where
   -- its nodes, which run in rounds
   pub station : Station N
   -- what a step that runs no round does to the ring and its fibres
   pub does : Step → World N → World N
-  -- how many rounds are run behind a settle step that ended, and looked at
+  -- the number of rounds that are run after a settle step that ended, and looked at
   pub behind : ℕ
-  -- what is told of the settle step of this number that ended with the k-th round of a course, which gives the world after each
-  -- number of rounds of the step and of those behind it
+  -- what is reported of the settle step of this number that ended with the k-th round of a course, which gives the
+  -- world after each number of rounds of the step and of those after it
   pub tells : ℕ → (ℕ → World N) → ℕ → T
-  -- the last round of the settle step of which this is told
+  -- the last round of the settle step with this report
   pub last : T → ℕ
 
--- one that runs no round behind a settle step, and reports the ring that the step left
+-- a walk that runs no round after a settle step, and reports the ring that the step left
 abbrev pub reporting : {N : Type 0} → Station N → (Step → World N → World N) → (ℕ → HeldRing N → Report) → Walk N Report
 reporting station does report = record {
   station = station;

@@ -25,7 +25,7 @@ pub fn ending_of<'a, M: RunsPlans<'a>>(status: Status) -> M::Ending
     M::Ending::of(status)
 }
 
-// The line that tells how the program is called.
+// Returns the line that says how the program is called.
 fn ended_usage<'a, M: RunsPlans<'a>>(alloc: Global) -> Result<EndedText<M::Ending>, AllocError>
     ensures { IfOk result
         (λ report. (report.ending ≡ M.program.endings.of Status.Usage) × (report.text.bytes ≡ own_line M.program.usage)) }
@@ -38,7 +38,7 @@ fn ended_usage<'a, M: RunsPlans<'a>>(alloc: Global) -> Result<EndedText<M::Endin
     })
 }
 
-// The last line of a status.
+// Returns the last line of a status.
 fn ended_status<'a, M: RunsPlans<'a>>(status: Status, text: Text) -> EndedText<M::Ending>
     requires room { 96 ≤ text.room }
     requires empty { text.bytes ≡ [] }
@@ -48,7 +48,7 @@ fn ended_status<'a, M: RunsPlans<'a>>(status: Status, text: Text) -> EndedText<M
     ended(ending_of::<M>(status), text)
 }
 
-// What is asked, with a plan of its own or the one that a source has.
+// Returns what is asked, with a plan of its own or the one that a source has.
 fn ended_asked<'a, M: RunsPlans<'a>, R: Source, P: Plant>(
     alloc: Global,
     asked: M,
@@ -86,7 +86,7 @@ fn ended_asked<'a, M: RunsPlans<'a>, R: Source, P: Plant>(
         return asked.run(alloc, plan, plant);
     }
 
-    // Room for the line is taken first, so that a read that fails is always told.
+    // Room for the line is taken first, so that a read that fails is always reported.
     let line = Text::try_new(alloc, LINE_MAX)?;
     match plan_in(alloc, source) {
         Ok(plan) => asked.run(alloc, plan, plant),
@@ -95,7 +95,7 @@ fn ended_asked<'a, M: RunsPlans<'a>, R: Source, P: Plant>(
     }
 }
 
-/// What the words, the source and the plant come to.
+/// Returns what the words, the source and the plant come to.
 pub fn ended_call<'a, M: RunsPlans<'a>, R: Source, P: Plant>(
     alloc: Global,
     words: &'a [String],

@@ -8,7 +8,7 @@ use sdh_plant::Plant;
 use sdh_rounds::{PlantFault, SettleError};
 use sdh_shell::Kept;
 
-// Whatever tells of a settle step once it has ended keeps it in memory, and writes nothing of one that didn't end.
+// A `Runner` writes to memory alone, and writes nothing of a settle step that didn't end.
 impl<R: Runner> crate::teller::Teller<Kept> for R {
     ghost Node = { R.Node };
 

@@ -16,9 +16,9 @@ use sdh_plant::Plant;
 use sdh_report::Status;
 use std::alloc::Global;
 
-/// Does all that a program does. Where its words ask for something, it reads a plan from the source, unless what is asked
-/// names one, and runs it over the plant, or writes a text of it. The last line says how it ended. All is written once, at
-/// the end.
+/// Does all that a program does, and returns how it ended. Where its words ask for something, it reads a plan from the
+/// source, unless what is asked names one, and runs it over the plant, or writes a text of it. The last line says how
+/// it ended. All is written once, at the end.
 pub fn call<'a, M: RunsPlans<'a>, R: Source, W: Sink, P: Plant>(
     alloc: Global,
     words: &'a [String],
@@ -28,8 +28,8 @@ pub fn call<'a, M: RunsPlans<'a>, R: Source, W: Sink, P: Plant>(
 ) -> M::Ending
     requires fresh { HasNoFibres (P.fibres plant.old) }
 
-    // The ending and the text that is written, for a source that tells its bytes, where it is read, and a sink that
-    // tells what was written.
+    // The ending and the text that is written, for a source whose bytes are known, where it is read, and a sink that
+    // shows what was written.
     ensures outcome { let ask = M.program.asked (words_of words.now) in
         let reads : Counts = record { before = R.faults source.old; after = R.faults source.new } in
         let calls : Counts = record { before = P.faults plant.old; after = P.faults plant.new } in
@@ -48,8 +48,9 @@ pub fn call<'a, M: RunsPlans<'a>, R: Source, W: Sink, P: Plant>(
     ensures plant_fault { result ≡ M.program.endings.of Status.PlantFault → Rose (P.faults plant.old) (P.faults plant.new) }
     ensures write_fault { result ≡ M.program.endings.of Status.WriteFault → Rose (W.faults sink.old) (W.faults sink.new) }
 
-    // Where an object's count is exact, each of its calls that failed is told by its fault, and none is tried again; a
-    // write fault may stand in place of what was to be told. With TooLong one byte more than a plan may have was taken.
+    // Where an object's count is exact, each of its calls that failed is reported by its fault, and none is tried
+    // again; a write fault may stand in place of what was to be reported. With TooLong one byte more than a plan may
+    // have was taken.
     ensures came { let reads : Counts = record { before = R.faults source.old; after = R.faults source.new } in
         let calls : Counts = record { before = P.faults plant.old; after = P.faults plant.new } in
         (how : M.Ending) × ((result ≡ how) ⊎ (result ≡ M.program.endings.of Status.WriteFault))

@@ -1,11 +1,11 @@
-//! Scripts over rings of any kind, and the call of a program that runs them. `specs/Walks.antt` says what a kind of ring
-//! brings to a script, `specs/Scripts.antt` what comes of one, and `specs/Laws.antt` has the law. What runs a script and
-//! writes what it tells as it comes is the trait `Teller`, and `run_script` runs it over any output; `specs/Texts.antt`
-//! says what was written, wherever it stopped. What tells of a settle step once it has ended is the trait `Runner`.
-//! `start` runs one over new fibres, with its text in memory; what is told of a plan then is `Tells` in
+//! Scripts over rings of any kind, and the call of a program that runs them. `specs/Walks.antt` says what a kind of
+//! ring brings to a script, `specs/Scripts.antt` what comes of one, and `specs/Laws.antt` has the law. The trait
+//! `Teller` runs a script and writes its reports as they come; `run_script` runs it over any output, and
+//! `specs/Texts.antt` says what was written, wherever it stopped. The trait `Runner` reports a settle step once it has
+//! ended. `start` runs one over new fibres, with its text in memory; what is reported of a plan then is `Tells` in
 //! `specs/Plans.antt`.
 //!
-//! What the words of a program ask for, and what it tells of a plan, is a `RunsPlans`; what its call comes to is
+//! What the words of a program ask for, and what it reports of a plan, is a `RunsPlans`. What its call comes to is
 //! `IsOutcome` in `specs/Outcome.antt`, and what it promises then is in `specs/Headline.antt`.
 #![tactic(auto)]
 

@@ -6,7 +6,7 @@ ghost use Rattle.sdh_scripts.specs.Ports.{lines_room};
 use sdh_circuits::CircuitMap;
 use sdh_report::{LINE_MAX, Text};
 
-/// Room for the line of a settle step and for one of each port, in bytes.
+/// Returns the number of bytes that is room enough for the line of a settle step and one of each port.
 pub fn lines_room(circuits: &CircuitMap) -> usize
     ensures room { result ≡ lines_room (length circuits.now.circuits) }
     ensures few { result ≤ 65536 }
@@ -14,7 +14,7 @@ pub fn lines_room(circuits: &CircuitMap) -> usize
     LINE_MAX + 2 * LINE_MAX * circuits.len()
 }
 
-/// The line of settle step `number`, which left a ring in which so many rounds have run.
+/// Appends the line of settle step `number`, which left a ring in which `rounds` rounds have run.
 pub fn put_settle(text: &mut Text, number: u32, rounds: u64)
     requires ran { 1 ≤ rounds }
     requires room { 96 ≤ text.old.room }

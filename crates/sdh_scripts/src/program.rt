@@ -19,37 +19,37 @@ pub trait RunsPlans<'a>: Copy {
     /// How it ends.
     type Ending: Ends;
 
-    /// What that can be, as definitions tell it.
+    /// What can be asked for, by definitions.
     ghost Ask: { Type 0 };
 
     /// What can be listed of a plan.
     ghost Listing: { Type 0 };
 
-    /// What is told of a settle step.
+    /// What is reported of a settle step.
     ghost Told: { Type 0 };
 
-    /// How the program is called, and what it tells of plans.
+    /// How the program is called, and what it reports of plans.
     ghost program: { Program Ask Listing Told Self.Ending };
 
     /// What is asked for.
     ghost ask_of: { Self → Ask };
 
-    /// The line that tells how the program is called, of at most 95 bytes, without its newline byte.
+    /// Returns the line that says how the program is called, of at most 95 bytes, without its newline byte.
     fn usage() -> &'static [u8]
         ensures line { result.now ≡ program.usage }
         ensures short { length result.now ≤ 95 };
 
-    /// What the words ask for, or `None` where they have none of the forms that there are.
+    /// Returns what the words ask for, or `None` where they have none of the forms that there are.
     fn asked(words: &'a [String]) -> Option<Self>
         ensures { option_map ask_of result ≡ program.asked (words_of words.now) };
 
-    /// The plan that what is asked for names, or `None` where the plan is read from a source.
+    /// Returns the plan that what is asked for names, or `None` where the plan is read from a source.
     fn own_plan(self, alloc: Global) -> Result<Option<Plan>, AllocError>
         ensures { IfOk result (λ own. own ≡ program.own_plan (ask_of self)) };
 
-    /// Does what is asked for with a plan, and runs it over new fibres where it is to be run: the text of what is listed of
-    /// its settle steps, and the last line; or the text that is written of it, and the last line; or that line alone, where
-    /// the plan is refused.
+    /// Does what is asked for with a plan, and runs it over new fibres where it is to be run. Returns the text of what
+    /// is listed of its settle steps, or the text that is written of the plan, with the last line after it; or the last
+    /// line alone, where the plan is refused.
     fn run<P: Plant>(
         self,
         alloc: Global,

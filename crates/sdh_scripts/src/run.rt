@@ -16,7 +16,7 @@ use sdh_shell::Kept;
 use sdh_terms::Rate;
 use std::alloc::{AllocError, Global};
 
-/// A script has at most so many settle steps.
+/// The number of settle steps that a script has at most.
 const SETTLES_MAX: usize = 64;
 
 /// A run before its fibres are there: a ring in which no round has run, the rate and the number of its nodes, the steps, how many
@@ -38,7 +38,8 @@ pub struct Run {
     pub text: Text,
 }
 
-/// An empty text with room for what is written of all settle steps of a script, so many bytes of each, and for a last line.
+/// Returns an empty text with room for what is written of all settle steps of a script, `each` bytes of each, and for a
+/// last line.
 pub fn text_for(alloc: Global, each: usize) -> Result<Text, AllocError>
     requires { each ≤ 2 ^ 32 }
     ensures empty { IfOk result (λ text. text.bytes ≡ []) }
@@ -48,7 +49,7 @@ pub fn text_for(alloc: Global, each: usize) -> Result<Text, AllocError>
     Ok(text)
 }
 
-// The script over a ring and its fibres.
+// Returns the script over a ring and its fibres.
 fn run_from<R: Runner + Drop, P: Plant>(new_run: NewRun<R>, plant: &mut P) -> Run
     requires may { R.MayRun 0 new_run.steps.items new_run.runner (P.fibres plant.old) }
     requires room { HasRoom (R.room new_run.runner) 0 new_run.text.room }
@@ -76,7 +77,8 @@ fn run_from<R: Runner + Drop, P: Plant>(new_run: NewRun<R>, plant: &mut P) -> Ru
     Run { status, text }
 }
 
-/// Makes the fibres of a run, and runs its script over them. The plant's memory is taken before the first round.
+/// Makes the fibres of a run, and runs its script over them. Returns what it wrote and how it ended. The plant's memory
+/// is taken before the first round.
 pub fn start<R: Runner + Drop, P: Plant>(
     alloc: Global,
     plant: &mut P,

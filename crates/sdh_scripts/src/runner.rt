@@ -1,4 +1,4 @@
-//! What runs a script and tells of a settle step once it has ended.
+//! What runs a script and reports a settle step once it has ended.
 ghost use Rattle.std.specs.Prelude.{◌≡◌, ℕ, ◌+◌, ◌≤◌, List, ◌∷◌, OnOk, OnErr, IfErr, Err, Some};
 ghost use Rattle.sdh_basics.specs.Causes.{HasCause, Rose, IsCounted};
 ghost use Rattle.sdh_plant.specs.Fibres.{Fibres};
@@ -12,30 +12,30 @@ use sdh_plant::Plant;
 use sdh_report::Text;
 use sdh_rounds::{PlantFault, SettleError};
 
-/// A ring that steps of a script are run over, of which a settle step that ended is told from what it left.
+/// A ring that steps of a script are run over. A settle step that ended is reported from what it left.
 pub trait Runner {
     /// What its nodes are.
     ghost Node: { Type 0 };
 
-    /// What is told of a settle step.
+    /// What is reported of a settle step.
     ghost Told: { Type 0 };
 
-    /// What a script does with it, as definitions tell it.
+    /// What a script does with the ring, by definitions.
     ghost walk: { Walk Node Told };
 
     /// The ring.
     ghost ring: { Self → HeldRing Node };
 
-    /// What is written of what is told of a settle step.
+    /// What is written of the report of a settle step.
     ghost text_of: { Self → Told → List ℕ };
 
     /// Room enough for what is written of a settle step, in bytes.
     ghost room: { Self → ℕ };
 
-    /// These steps may be run over fibres after so many settle steps that have ended.
+    /// These steps may be run over fibres after a number of settle steps that have ended.
     ghost MayRun: { ℕ → List Step → Self → Fibres → Type 0 };
 
-    /// What a step does that runs no round. A fault leaves the fibres as they were.
+    /// Does a step that runs no round. A fault leaves the fibres as they were.
     fn change<P: Plant>(&mut self, plant: &mut P, step: Step) -> Result<(), PlantFault>
         requires may { (number : ℕ) × (later : List Step) × MayRun number (step ∷ later) self.old (P.fibres plant.old) }
         requires other { step ≡ Step.Settle → ⊥ }
@@ -48,7 +48,8 @@ pub trait Runner {
         ensures same_room { OnOk result (room self.new ≡ room self.old) }
         ensures cause { HasCause P.exact (P.faults plant.old) (P.faults plant.new) result };
 
-    /// A settle step after so many that have ended, the rounds behind it, and what is written of it.
+    /// Runs a settle step and the rounds after it, where `number` settle steps have ended before, and writes its report
+    /// once it has ended.
     fn settle<P: Plant>(
         &mut self,
         plant: &mut P,

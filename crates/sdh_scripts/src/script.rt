@@ -12,7 +12,8 @@ use sdh_plant::Plant;
 use sdh_report::Status;
 use sdh_shell::Output;
 
-// One step, after so many settle steps that have ended. It answers how many have ended then, or how the script ended.
+// Runs one step, after `number` settle steps that have ended. Returns how many have ended then, or how the script
+// ended.
 fn run_step<O: Output, R: Teller<O>, P: Plant>(
     runner: &mut R,
     plant: &mut P,
@@ -61,8 +62,9 @@ fn run_step<O: Output, R: Teller<O>, P: Plant>(
     }
 }
 
-/// Runs a script over a ring and its fibres, and writes what is told of each settle step as it comes. It answers how the script
-/// ended: `Ok`, `Unsettled` or `PlantFault`; or `WriteFault`, where a write failed, and nothing more was run.
+/// Runs a script over a ring and its fibres, and writes what is reported of each settle step as it comes. Returns how
+/// the script ended: `Ok`, `Unsettled` or `PlantFault`; or `WriteFault`, where a write failed, and nothing more was
+/// run.
 pub fn run_script<O: Output, R: Teller<O>, P: Plant>(
     runner: &mut R,
     plant: &mut P,

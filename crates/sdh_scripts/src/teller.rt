@@ -1,4 +1,4 @@
-//! What runs a script and writes what it tells as it comes.
+//! What runs a script and writes its reports as they come.
 ghost use Rattle.std.specs.Prelude.{◌≡◌, ℕ, ◌+◌, ◌≤◌, List, ◌∷◌, OnOk, OnErr, IfErr, Err};
 ghost use Rattle.sdh_basics.specs.Causes.{HasCause, Rose, IsCounted};
 ghost use Rattle.sdh_plant.specs.Fibres.{Fibres};
@@ -12,7 +12,7 @@ use sdh_plant::Plant;
 use sdh_rounds::PlantFault;
 use sdh_shell::Output;
 
-/// Why a settle step, with the rounds behind it, didn't end.
+/// Why a settle step, with the rounds after it, didn't end.
 #[derive(Clone, Copy, Debug, PartialEq, Eq)]
 pub enum StepError {
     /// No quiet window came within the limit.
@@ -23,35 +23,35 @@ pub enum StepError {
     WriteFault,
 }
 
-/// A ring that steps of a script are run over, of which all that is told is written to an output as it comes.
+/// A ring that steps of a script are run over. All that is reported of it is written to an output as it comes.
 pub trait Teller<O: Output> {
     ghost use Rattle.sdh_scripts.specs.Tellers.{StopsBy, WroteBegun};
 
     /// What its nodes are.
     ghost Node: { Type 0 };
 
-    /// What is told of a settle step.
+    /// What is reported of a settle step.
     ghost Told: { Type 0 };
 
-    /// What a script does with it, as definitions tell it.
+    /// What a script does with the ring, by definitions.
     ghost walk: { Walk Node Told };
 
     /// The ring.
     ghost ring: { Self → HeldRing Node };
 
-    /// What is written of a settle step that ended, of which this is told.
+    /// What is written of the report of a settle step that ended.
     ghost text_of: { Self → Told → List ℕ };
 
-    /// What is written of one that didn't end, of whose rounds this is told.
+    /// What is written of the report of the rounds of a settle step that didn't end.
     ghost begun_of: { Self → Told → List ℕ };
 
     /// Room enough for what is written of a settle step, in bytes.
     ghost room: { Self → ℕ };
 
-    /// These steps may be run over fibres after so many settle steps that have ended.
+    /// These steps may be run over fibres after a number of settle steps that have ended.
     ghost MayRun: { ℕ → List Step → Self → Fibres → Type 0 };
 
-    /// What a step does that runs no round. A fault leaves the fibres as they were.
+    /// Does a step that runs no round. A fault leaves the fibres as they were.
     fn change<P: Plant>(&mut self, plant: &mut P, step: Step) -> Result<(), PlantFault>
         requires may { (number : ℕ) × (later : List Step) × MayRun number (step ∷ later) self.old (P.fibres plant.old) }
         requires other { step ≡ Step.Settle → ⊥ }
@@ -65,8 +65,8 @@ pub trait Teller<O: Output> {
         ensures same_room { OnOk result (room self.new ≡ room self.old) }
         ensures cause { HasCause P.exact (P.faults plant.old) (P.faults plant.new) result };
 
-    /// A settle step after so many that have ended, and the rounds behind it. What is told of it is written as it comes, and
-    /// with a write that fails nothing more is run.
+    /// Runs a settle step and the rounds after it, where `number` settle steps have ended before. What is reported of
+    /// it is written as it comes, and after a write that fails nothing more is run.
     fn settle<P: Plant>(
         &mut self,
         plant: &mut P,

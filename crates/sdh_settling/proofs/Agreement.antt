@@ -1,6 +1,6 @@
 -- The two ends of a span at the level agree on it: the end with the larger local request says so on the span in each
 -- round, and the other end hears it, three rounds later at the latest. So from round n + 4 on both know the span's
--- request, answer on it with a constant short word and tell the other way round of it with a constant long word.
+-- request, answer on it with a constant short word and announce it the other way round with a constant long word.
 use Rattle.std.proofs.Common.{◌≡◌, ℕ, ◌+◌, ◌-◌, ◌<◌, ◌≤◌, suc, Bool, true, false, Some, None, length, refl, ap, sym, subst, ◌∙◌, arith, inl}
 use Rattle.std.proofs.Common.{inr}
 use Rattle.std.specs.Prelude.{nat_le, nat_lt, not, ◌&&◌, if◌then◌else◌, slice_index}

@@ -1,5 +1,5 @@
--- The rules look at no mark of a word that is heard; only a relayed word carries its mark on. So a node that hears the same
--- but for marks is in the same state, and sends the same words, or relays.
+-- The rules look at no mark of a word that is heard; only a relayed word carries its mark on. So a node that hears
+-- words that differ in their marks alone is in one state, and sends equal words, or relays.
 use Rattle.std.proofs.Common.{◌≡◌, ℕ, Bool, true, false, Option, Some, None, List, refl, ap, sym, subst, ◌∙◌, inl, inr, ◌⊎◌}
 use Rattle.std.specs.Prelude.{◌==◌, ◌||◌, not, ◌&&◌, nat_le, nat_lt, option_map, if◌then◌else◌}
 use Rattle.std.specs.Option.{option_map_or}
@@ -185,7 +185,7 @@ module _ (s s' : Scene) (d : Side) (e : bare_scene s ≡ bare_scene s') where
   by_choice relay = by_relay (relayed s d) (relayed s' d) refl refl (sym (bare_relayed s d) ∙ ap (λ x. relayed x d) e ∙ bare_relayed s' d)
   by_choice rest = inl (sym (rest_same s d) ∙ ap (λ x. rest_word x d) e ∙ rest_same s' d)
 
-  -- two scenes that differ in the marks of what is heard send the same, or relay
+  -- two scenes that differ in the marks of what is heard send equal words, or relay
   pub same_words : IsSameOrRelayed s s' d (word s d) (word s' d)
   unfolding word
   same_words =

@@ -29,7 +29,7 @@ module _ {X : Type 0} (p : X → Bool) where
   count_some [] d h = absurd (h refl)
   count_some (x ∷ xs) d h = count_some_by x xs d (p x) refl h (λ g. count_some xs d g)
 
-  -- where one passes, two that pass are the same
+  -- where one element passes, two places of elements that pass are one
   pub count_one : (xs : List X) (i j : ℕ) (d : X) → count_by p xs ≡ 1 → i < length xs → j < length xs → p (get_or xs i d) ≡ true
       → p (get_or xs j d) ≡ true → i ≡ j
   count_one [] i j d c h g e f = absurd (omega arith)

@@ -1,7 +1,7 @@
 -- Levels: the requests that decide. A level c is 11, the request of a signal failure, or the highest request of all
 -- spans where that is lower. From round n + 1 on no word that counts weighs more than the level, so a node sends a
--- short word on a side whose weight is at the level, tells of it with a long word the other way, and relays words at the
--- level if neither of its sides is.
+-- short word on a side whose weight is at the level, announces it with a long word the other way, and relays words at
+-- the level if neither of its sides is.
 use Rattle.std.proofs.Common.{◌≡◌, ◌≢◌, ℕ, ◌<◌, ◌≤◌, Bool, Some, length, ap, arith, inl, inr, ◌⊎◌}
 use Rattle.std.specs.Prelude.{nat_lt, not, ◌&&◌, if◌then◌else◌, slice_index}
 use Rattle.std.proofs.lemmas.Bool.{cases_lt}

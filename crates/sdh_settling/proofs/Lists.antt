@@ -1,4 +1,4 @@
--- Lists: two functions that agree place by place make the same list.
+-- Lists: two functions that agree place by place make equal lists.
 use Rattle.std.proofs.Common.{◌≡◌, ℕ, ◌<◌, List, length, get_or, refl, ap, ◌∙◌, arith}
 use Rattle.std.proofs.Common.{suc, zero, [], ◌∷◌, ◌+◌}
 use Rattle.sdh_basics.specs.Indexed.{map_from}
@@ -13,7 +13,7 @@ same_from f g i (x ∷ xs) d h =
     ∙ ap (λ j. g j (get_or xs k d)) (omega arith)) in
     ap (λ y. y ∷ map_from f (i + 1) xs) e ∙ ap (λ ys. g i x ∷ ys) t
 
--- two functions that agree at each place and element make the same list
+-- two functions that agree at each place and element make equal lists
 pub map_from-same : {X Y : Type 0} (f g : ℕ → X → Y) (xs : List X) (d : X)
     → ((k : ℕ) → k < length xs → f k (get_or xs k d) ≡ g k (get_or xs k d)) → map_from f 0 xs ≡ map_from g 0 xs
 map_from-same f g xs d h =

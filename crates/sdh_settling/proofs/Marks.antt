@@ -16,7 +16,7 @@ use Rattle.sdh_nodestate.specs.Conditions.{MayNeed}
 use Rattle.sdh_settling.proofs.Sources.{relayed_heard}
 use Rattle.sdh_settling.proofs.OneNode.{weight_is, choose_short_top, word_short}
 
--- the word is that node's own, and tells of a side that fails
+-- the word is that node's own, and announces a side that fails
 pub record TellsFailure (id : ℕ) (k : K) : Type 0 where
   pub own : k.from ≡ id
   pub failing : k.mark ≡ mark.Rdi
@@ -73,7 +73,7 @@ told_by r s d false true may_r may_s id w e f =
     absurd (clear_untold r d e (subst (λ k. TellsFailure (own_id r) k) (sym w)
     (subst (λ i. TellsFailure i (word s d)) (sym id) (failing_told s d may_s f))))
 
--- so a node that sends the same word on a side in two rounds fails there in both or in none
+-- a node that sends one word on a side in two rounds fails there in both or in none
 pub same_failing : (r s : Scene) (d : Side) → MayNeed r.needs → MayNeed s.needs → own_id r ≡ own_id s → word r d ≡ word s d
     → fails r d ≡ fails s d
 same_failing r s d may_r may_s id w = told_by r s d (fails r d) (fails s d) may_r may_s id w refl refl

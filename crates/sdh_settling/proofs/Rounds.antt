@@ -55,7 +55,7 @@ heard_on : (ids : List ℕ) (p : ℕ) (x : Needs) (f : Filters) (d : Side)
 heard_on ids p x f West = refl
 heard_on ids p x f East = refl
 
--- words that are the same but for their marks agree
+-- words that differ in their marks alone agree
 same_agree : (a b : K) → bare a ≡ bare b → agrees a b ≡ true
 unfolding agrees
 same_agree a b e =
@@ -66,7 +66,7 @@ same_agree a b e =
       eq-eqb (path_number a.path) (path_number b.path) (ap (λ (w : K). path_number w.path) e),
     )
 
--- and three of them are heard
+-- three words in a row that differ in their marks alone are heard
 heard_bare : (a b c k : K) → bare a ≡ k → bare b ≡ k → bare c ≡ k → option_map bare (heard_of (Some a) (Some b) (Some c)) ≡ Some k
 heard_bare a b c k ea eb ec =
     ap (λ t. option_map bare (if t && agrees a c then Some a else None)) (same_agree a b (ea ∙ sym eb))
@@ -134,7 +134,7 @@ round_sourced needs held s size said sourced = λ k d h.
     subst (IsSourced s.ids) (sym (get_or-placed f needs k no_needs d (omega arith)))
     (by_hold s sourced (is_held held k) k (get_or needs k no_needs) said (omega arith))
 
--- and each node has its words after it
+-- each node has its words after a round
 pub round_said : (needs : List Needs) (held : List Bool) (s : Signals) → length (round needs held s).words ≡ length needs
 unfolding round
 round_said needs held s = length-map_from (λ p x. if is_held held p then words_in s p else sent_after (scene_at s p x)) 0 needs
@@ -208,7 +208,7 @@ module _ (needs : List Needs) (s : Signals) (may : MayGo needs s) where
   abbrev coming : ℕ → ℕ → Side → Option K
   coming t p d = incoming (on_their_way (ring t)) (length (ring t).ids) p (need p) d
 
-  -- that is what the neighbour sent in the round before
+  -- what comes in is what the neighbour sent in the round before
   comes : (t p : ℕ) (d : Side) → coming (suc t) p d ≡ (if fails_on (need p) d then None else Some (sent_here run_of t p d))
   unfolding round
   comes t p d =

@@ -21,7 +21,7 @@ relayed_heard s d k e =
     let l = long_from s (opposite d) k r.is_long in
     record { heard = l.heard; foreign = r.foreign }
 
--- so what is relayed away from side e was heard on e
+-- what is relayed away from side e was heard on e
 pub relayed_across : (s : Scene) (e : Side) (k : K) → relayed s (opposite e) ≡ Some k → (word_on s e ≡ Some k) × (k.from ≢ own_id s)
 relayed_across s e k f = let h = relayed_heard s (opposite e) k f in (ap (word_on s) (sym (opposite_twice e)) ∙ h.heard, h.foreign)
 

@@ -28,7 +28,7 @@ need_in needs p = get_or needs p no_needs
 abbrev came : List Needs → Signals → ℕ → Side → Option K
 came needs s p d = incoming (on_their_way s) (length s.ids) p (get_or needs p no_needs) d
 
--- a ring goes on with the same needs
+-- a ring may go on with the needs of the round before
 pub may_go_on : (needs : List Needs) (held : List Bool) (s : Signals) → MayGo needs s → MayGo needs (round needs held s)
 unfolding round
 may_go_on needs held s may = record {
@@ -71,7 +71,7 @@ needs_is : (s : Signals) (p : ℕ) (x : Needs) → (scene_at s p x).needs ≡ x
 unfolding scene_at
 needs_is s p x = refl
 
--- two such rounds with the same words
+-- two rounds that change no word, of rings with equal words
 module _ (a b : List Needs) (r s : Signals) (ca : ChangesNoWord a r) (cb : ChangesNoWord b s) (ids : r.ids ≡ s.ids)
     (words : r.words ≡ s.words) where
   same_fails : (p : ℕ) (d : Side) → p < length r.ids → fails_on (need_in a p) d ≡ fails_on (need_in b p) d
@@ -155,7 +155,7 @@ module _ (first second third : List Needs) (s : Signals)
       ∙ ap (λ x. record { last = o; second = x; third = came first s p d }) (same_second p d h)
       ∙ ap (λ x. record { last = o; second = o; third = x }) (same_first p d h)
 
-  -- and stay so
+  -- what the filters have brought stays
   filled_on : (p : ℕ) (d : Side) → p < length s2.ids → brought_on (filters_after s3 p (need_in third p)) d
       ≡ brought_on (filters_after s2 p (need_in third p)) d
   filled_on p d h =

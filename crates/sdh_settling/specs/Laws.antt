@@ -18,7 +18,7 @@ RunsSettle =
     (run : Run) → IsRun run → (t p : ℕ) → 4 * length run.ids + 7 ≤ t → p < length run.ids
     → state_after (at_round run t p) ≡ settled (run_requests run) p
 
--- And from round 5n + 7 on no node of a run sends another word than in the round before.
+-- From round 5n + 7 on no node of a run sends another word than in the round before.
 abbrev pub WordsStay : Type 0
 WordsStay =
     (run : Run) → IsRun run → (t p : ℕ) (d : Side) → 5 * length run.ids + 7 ≤ t → p < length run.ids
@@ -38,12 +38,13 @@ StillRingsAreSettled =
     → ChangesNoWord third (free_round second (free_round first s))
     → (free_round third (free_round second (free_round first s))).states ≡ settled_states (requests_in third)
 
--- a round that holds no node is the same however that is told
+-- a round that holds no node is one round, by both definitions of it
 abbrev pub FreeRounds : Type 0
 FreeRounds = (needs : List Needs) (held : List Bool) (s : Signals) → All (λ b. b ≡ false) held → round needs held s ≡ free_round needs s
 
--- Convergence: whatever its words were, as long as each had a source in the ring, and whatever its filters kept, a ring of signals whose
--- needs stay the same and in which no node is held is in the settled states after 4n + 8 rounds, and changes no word and no state after 5n + 8 rounds.
+-- Convergence. A ring of signals whose needs stay and in which no node is held is in the settled states after 4n + 8
+-- rounds, and changes no word and no state after 5n + 8 rounds. That is so whatever its filters kept and whatever its
+-- words were, as long as each word had a source in the ring.
 pub record Settles (needs : List Needs) (s : Signals) : Type 0 where
   pub settled : (t : ℕ) → 4 * length s.ids + 8 ≤ t → (rounds needs t s).states ≡ settled_states (requests_in needs)
   pub words : (t : ℕ) → 5 * length s.ids + 8 ≤ t → (rounds needs (suc t) s).words ≡ (rounds needs t s).words
@@ -85,6 +86,6 @@ pub record HasOneNotPassing (run : Run) (t : ℕ) : Type 0 where
   pub inside : at < length run.ids
   pub differs : state_after (at_round run t at) ≢ state.PassThrough tt
 
--- So in a still ring not all nodes pass through.
+-- In a still ring not all nodes pass through.
 abbrev pub NotAllPassThrough : Type 0
 NotAllPassThrough = (run : Run) → IsRun run → (t : ℕ) → IsStillAfter run t → HasOneNotPassing run (suc t)

@@ -29,7 +29,7 @@ abbrev pub request_on : Needs → Side → Code
 request_on x West = x.west
 request_on x East = x.east
 
--- that side fails
+-- a side fails
 abbrev pub fails_on : Needs → Side → Bool
 fails_on x West = x.west_fails
 fails_on x East = x.east_fails
@@ -109,7 +109,7 @@ round needs held s = record {
 abbrev pub free_round : List Needs → Signals → Signals
 free_round needs s = round needs [] s
 
--- t such rounds with the same needs
+-- t rounds in which no node is held, all with these needs
 abbrev pub rounds : List Needs → ℕ → Signals → Signals
 rounds needs zero s = s
 rounds needs (suc t) s = free_round needs (rounds needs t s)

@@ -6,13 +6,13 @@
 ghost use Rattle.sdh_settling.specs.Laws.{RunsSettle, WordsStay, StillRingsAreSettled, FreeRounds, RingsSettle, RelayedWordsLeadBack};
 ghost use Rattle.sdh_settling.specs.Laws.{NotAllPassThrough};
 
-/// A ring that goes on with the same needs gets into the settled states.
+/// A ring whose needs stay from round to round gets into the settled states.
 #[tactic(auto, using(crate::proofs::Fixpoint::runs_settle))]
 pub fn runs_settle()
     ensures { RunsSettle }
 {}
 
-/// And its nodes send the same words from then on.
+/// The words of a ring whose needs stay from round to round stay from some round on.
 #[tactic(auto, using(crate::proofs::Fixpoint::words_stay))]
 pub fn words_stay()
     ensures { WordsStay }
@@ -24,7 +24,7 @@ pub fn still_rings_are_settled()
     ensures { StillRingsAreSettled }
 {}
 
-/// A round that holds no node is the same however that is told.
+/// A round that holds no node is one round, by both definitions of it.
 #[tactic(auto, using(crate::proofs::Fixpoint::free_rounds))]
 pub fn free_rounds()
     ensures { FreeRounds }

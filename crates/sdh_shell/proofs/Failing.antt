@@ -28,7 +28,7 @@ counted_as exact before now to from x = record { one = λ e b. x.one e (to b); n
 abbrev pub HasNotFailed : Bool → Counts → Type 0
 HasNotFailed exact counts = exact ≡ true → counts.after ≡ counts.before
 
--- no read failed, and what is told is none of these faults
+-- no read failed, and what is reported is none of these faults
 pub came_of_none : (exact : Bool) (reads : Counts) (left now : Option (List ℕ)) {ReadFault TooLong : Type 0} → HasNotFailed exact reads
     → (ReadFault → ⊥) → (TooLong → ⊥) → CameOfSource exact reads left now ReadFault TooLong
 came_of_none exact reads left now same no_read no_long = record {

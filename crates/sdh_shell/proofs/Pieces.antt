@@ -15,7 +15,7 @@ no_err E x d = grind (arith, d)
 rose : (x y z : ℕ) → x ≤ y → Rose y z → Rose x z
 rose x y z later h = omega (arith, later, h)
 
--- a front behind what was appended
+-- a front after what was appended
 pub fewer_behind : (a b c : Option (List ℕ)) (s t : List ℕ) → Appends a b s → AppendsFewer b c t → AppendsFewer a c (s ++ t)
 fewer_behind a b c s t whole front =
     let n = front.0 in
@@ -76,7 +76,7 @@ module _ {T E : Type 0} (exact : Bool) where
         counted = f.counted;
       }
 
--- the same text
+-- what was written of a text was written of an equal one
 pub as_text : {T E : Type 0} (exact : Bool) (a b : Option (List ℕ)) (x y : ℕ) (s t : List ℕ) (r : Result T E) → s ≡ t
     → Wrote {T = T} {E = E} exact a b x y s r → Wrote {T = T} {E = E} exact a b x y t r
 as_text {T = T} {E = E} exact a b x y s t r same w = subst (λ l. Wrote {T = T} {E = E} exact a b x y l r) same w

@@ -18,7 +18,7 @@ one_plan bytes p q x y =
     let same : x.1.0 ≡ y.1.0 = some_same x.1.0 y.1.0 (sym x.1.1.1 ∙ y.1.1.1) in
     x.1.3 ∙ ap plan_of same ∙ sym y.1.3
 
--- they are refused only where a read failed
+-- the bytes of a plan are refused only where a read failed
 pub plan_or_not : (bytes : List ℕ) (plan : Planned) (how : Status) → TellsPlan bytes plan → HasNoPlan bytes how → how ≡ status.ReadFault
 plan_or_not bytes plan status.ReadFault x y = refl
 plan_or_not bytes plan status.TooLong x y = absurd (omega (arith, x.0, y))

@@ -1,4 +1,4 @@
--- What is so of the bytes that a source tells.
+-- What is true of the bytes that a source shows.
 use Rattle.std.proofs.Common.{ℕ, None, Some, List}
 use Rattle.std.specs.Prelude.{Option, IfSome}
 

@@ -1,4 +1,4 @@
--- What is written, where the source tells its bytes.
+-- What is written, where the source shows its bytes.
 use Rattle.std.proofs.Common.{◌≡◌, ℕ, List, ap, sym, subst}
 use Rattle.std.specs.Prelude.{Option, IfSome}
 use Rattle.std.specs.Io.KnownBytes.{Appends}

@@ -11,7 +11,7 @@ use Rattle.sdh_report.specs.declared.status.Status.TheVariants as status
 abbrev pub words_of : List (String Global) → List (List ℕ)
 words_of words = map string_bytes words
 
--- they are the one word `run`
+-- the words are the one word `run`
 abbrev pub is_run : List (List ℕ) → Bool
 is_run (word ∷ []) = bytes_eq word (codes "run")
 is_run words = false

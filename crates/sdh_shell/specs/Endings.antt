@@ -11,9 +11,9 @@ pub record Endings (E : Type 0) : Type 0 where
   -- the shared status that an ending is; one of the program's own is none
   pub shared : E → Option Status
   pub shared_of : (s : Status) → shared (of s) ≡ Some s
-  -- its number
+  -- the number of an ending
   pub number : E → ℕ
-  -- its last line
+  -- the last line of an ending
   pub line : E → List ℕ
 
 -- the shared statuses alone

@@ -1,4 +1,4 @@
--- Calls of a source and a plant that failed, and what they are told by.
+-- Calls of a source and a plant that failed, and how they are reported.
 use Rattle.std.specs.Prelude.{◌≡◌, ℕ, Bool, List, Option, Some, None}
 use Rattle.sdh_basics.specs.Causes.{Rose, IsCounted}
 use Rattle.sdh_outside.specs.Reading.{TakesCount}
@@ -11,7 +11,7 @@ pub record Counts : Type 0 where
   pub before : ℕ
   pub after : ℕ
 
--- one of them failed now, or the count stands at its last value
+-- a call failed now, or the count stands at its last value
 abbrev pub HaveFailed : Counts → Type 0
 HaveFailed counts = Rose counts.before counts.after
 
@@ -25,23 +25,24 @@ abbrev pub cause_of : Counts → Counts → Option Status → Type 0
 cause_of reads calls None = Unit {0}
 cause_of reads calls (Some how) = HasCause reads calls how
 
--- so they have in any program; an ending of its own needs none
+-- the shared endings have their cause in any program; an ending of a program's own needs none
 abbrev pub EndsWithCause : {E : Type 0} → Endings E → Counts → Counts → E → Type 0
 EndsWithCause endings reads calls how = cause_of reads calls (endings.shared how)
 
--- What had come of a source when there was something to tell: a read fault, too many bytes or neither. Where its count is exact, one
--- read failed with a read fault, and none without it. With too many bytes, one more than are read was taken.
+-- What a source had come to when something was to be reported: a read fault, too many bytes or neither. Where its count
+-- is exact, one read failed with a read fault, and none without it. With too many bytes, one more than are read was
+-- taken.
 pub record CameOfSource (exact : Bool) (reads : Counts) (left now : Option (List ℕ)) (ReadFault TooLong : Type 0) : Type 0 where
   pub counted : IsCounted exact ReadFault reads.before reads.after
   pub too_long : TooLong → TakesCount left now 1048577
 
--- And of a plant: where its count is exact, one call of it failed with a plant fault, and none without it.
+-- What a plant had come to: where its count is exact, one call of it failed with a plant fault, and none without it.
 pub record CameToFaults (source_exact plant_exact : Bool) (reads calls : Counts) (left now : Option (List ℕ))
     (ReadFault PlantFault TooLong : Type 0) : Type 0 where
   pub source : CameOfSource source_exact reads left now ReadFault TooLong
   pub plant : IsCounted plant_exact PlantFault calls.before calls.after
 
--- what had come of source and plant when there was this ending to tell
+-- what source and plant had come to when this ending was to be reported
 abbrev pub CameToEnding : {E : Type 0} → Endings E → Bool → Bool → Counts → Counts → Option (List ℕ) → Option (List ℕ) → E → Type 0
 CameToEnding endings source_exact plant_exact reads calls left now how =
     CameToFaults source_exact plant_exact reads calls left now (how ≡ endings.of status.ReadFault) (how ≡ endings.of status.PlantFault)

@@ -35,17 +35,17 @@ HasNoPlan bytes status.Memory = ⊥
 abbrev pub TellsPlan : List ℕ → Planned → Type 0
 TellsPlan bytes plan = IsShort bytes × IsPlanOf bytes plan
 
--- the source tells the bytes of a plan
+-- the source shows the bytes of a plan
 abbrev pub HasPlan : Option (List ℕ) → Type 0
 HasPlan None = ⊥
 HasPlan (Some bytes) = (plan : Planned) × TellsPlan bytes plan
 
--- such an answer has its reason in the bytes; want of memory needs none
+-- an answer without a plan has its reason in the bytes; a lack of memory needs none
 abbrev pub IsWhyNone : List ℕ → NoPlan → Type 0
 IsWhyNone bytes none.Memory = Unit {0}
 IsWhyNone bytes (none.Refused how) = HasNoPlan bytes how
 
--- it ends with one of these statuses
+-- a refusal of a plan ends with one of these statuses
 abbrev pub Refuses : Status → Type 0
 Refuses status.ReadFault = Unit {0}
 Refuses status.TooLong = Unit {0}

@@ -9,8 +9,8 @@ use Rattle.sdh_shell.specs.Endings.{Endings}
 
 -- ---- a text, in pieces
 
--- The whole text was appended; or a write failed, which the count of faults tells, and the front of it was. Where the count is exact, one
--- write failed with a fault, and none without.
+-- The whole text was appended; or a write failed, which the count of faults shows, and the front of it was. Where the
+-- count is exact, one write failed with a fault, and none without.
 pub record Wrote {T E : Type 0} (exact : Bool) (old new : Option (List ℕ)) (before after : ℕ) (text : List ℕ)
     (result : Result T E) : Type 0 where
   pub ok : OnOk result (Appends old new text)
@@ -25,14 +25,15 @@ pub record Wrote {T E : Type 0} (exact : Bool) (old new : Option (List ℕ)) (be
 abbrev pub Says : {F : Type 0} → List ℕ → List ℕ → F → F → Type 0
 Says line text f left = (text ≡ line) × (left ≡ f)
 
--- with an ending goes the whole text of an outcome; a front of one, where a write failed; or nothing, for want of memory
+-- with an ending goes the whole text of an outcome; a front of one, where a write failed; or nothing, where memory ran
+-- out
 pub data Telling : Type 0 where
   Whole : Telling
   Front : Telling
   Nothing : Telling
 
--- What was written when a call ended so, where `may` tells which endings go with which texts: the outcome's whole text; with a write
--- fault fewer bytes, from the front of an outcome's text; with want of memory nothing.
+-- What was written when a call ended so, where `may` says which endings go with which texts: the outcome's whole text;
+-- with a write fault fewer bytes, from the front of an outcome's text; where memory ran out, nothing.
 abbrev pub WritesAs : {S : Type 0} → Telling → (S → List ℕ → Type 0) → S → Option (List ℕ) → Option (List ℕ) → Type 0
 WritesAs {S} Front may how old new = (told : S) × (text : List ℕ) × may told text × AppendsFewer old new text
 WritesAs Nothing may how old new = Keeps old new

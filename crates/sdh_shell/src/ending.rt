@@ -7,7 +7,7 @@ use sdh_report::{Status, Text};
 
 /// How a program ends: with a status that all programs share, or with an ending of its own.
 pub trait Ends: Copy {
-    /// The endings that there are, as definitions tell them.
+    /// The endings of a program, as its definitions give them.
     ghost endings: { Endings Self };
 
     /// Returns the ending that a shared status is.

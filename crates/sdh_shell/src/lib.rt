@@ -1,11 +1,11 @@
 //! What the programs' calls share: whether the words are the word `run`, the end that a letter names, a plan that is
-//! read or refused, the endings of a program, calls that failed and are counted, and what texts are written to: a sink as
-//! they come, or memory.
+//! read or refused, the endings of a program, and calls that failed and are counted. Texts are written to a sink as
+//! they come, or to memory.
 //!
-//! How a plan is refused is `HasNoPlan` in `specs/Reading.antt`, how a script that was run may end is `HasRun` in
-//! `specs/Calls.antt`, what the endings of a program are is `Endings` in `specs/Endings.antt`, which failures an ending
-//! tells is `CameToEnding` in `specs/Failing.antt`, and what is written is in `specs/Writing.antt`: with which ending it is
-//! `WritesAs`, and of a text that is written in pieces it is `Wrote`.
+//! How a plan is refused is `HasNoPlan` in `specs/Reading.antt`. How a script that was run may end is `HasRun` in
+//! `specs/Calls.antt`. What the endings of a program are is `Endings` in `specs/Endings.antt`, and which failures an
+//! ending shows is `CameToEnding` in `specs/Failing.antt`. What is written is in `specs/Writing.antt`: with which
+//! ending it is `WritesAs`, and of a text that is written in pieces it is `Wrote`.
 #![tactic(auto)]
 
 mod ended_text;

@@ -9,16 +9,16 @@ use std::alloc::{AllocError, Global};
 
 /// What a text is written to, piece by piece: a sink, to which it goes as it comes, or a text that is kept in memory.
 pub trait Output {
-    /// The bytes that were written, where it tells them.
+    /// The bytes that were written, where the output shows them.
     ghost written: { Self → Option (List ℕ) };
 
-    /// How often writing a piece has failed.
+    /// The number of times that writing a piece has failed.
     ghost faults: { Self → ℕ };
 
     /// The count rises by one with each piece that wasn't written whole, and with nothing else.
     ghost exact: { Bool };
 
-    /// It takes so many bytes more.
+    /// The output takes at least this number of bytes more.
     ghost Takes: { ℕ → Self → Type 0 };
 
     /// Appends a piece whole; or, where writing fails, a front of it.

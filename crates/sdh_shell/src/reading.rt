@@ -15,11 +15,11 @@ use std::alloc::Global;
 pub enum NoPlan {
     /// There was no memory.
     Memory,
-    /// It ends with this status: `ReadFault`, `TooLong`, `NotToml` or `BadPlan`.
+    /// The plan was refused with this status: `ReadFault`, `TooLong`, `NotToml` or `BadPlan`.
     Refused(Status),
 }
 
-/// The plan that a source has, which is read to its end.
+/// Returns the plan that a source has, which is read to its end.
 pub fn plan_in<R: Source>(alloc: Global, source: &mut R) -> Result<Plan, NoPlan>
     ensures plan { IfOk result (λ plan. IfSome (R.left source.old) (λ bytes. TellsPlan bytes plan)) }
     ensures end { OnOk result (IsAtEnd (R.left source.new)) }

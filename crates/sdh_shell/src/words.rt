@@ -4,7 +4,7 @@ ghost use Rattle.sdh_shell.specs.Calls.{words_of, is_run, end_lettered};
 
 use sdh_circuits::End;
 
-/// Whether the words are the one word `run`.
+/// Returns whether the words are the one word `run`.
 pub fn is_run(words: &[String]) -> bool
     ensures { result ≡ is_run (words_of words.now) }
 {
@@ -14,7 +14,7 @@ pub fn is_run(words: &[String]) -> bool
     }
 }
 
-/// The end that a letter names.
+/// Returns the end that a letter names.
 pub fn end_lettered(letter: &str) -> Option<End>
     ensures { result ≡ end_lettered letter.now }
 {

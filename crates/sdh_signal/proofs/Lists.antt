@@ -5,7 +5,7 @@ use Rattle.std.specs.Prelude.{◌&&◌}
 use Rattle.std.proofs.lemmas.List.{take_more, take_more_set, length-take-le, get_or_default}
 use Rattle.sdh_basics.proofs.Indexing.{still_at}
 
--- lists of one length with one element more are the same where both parts are
+-- where two lists of one length with one element more are equal, both parts are
 pub snoc_same : {X : Type 0} (xs ys : List X) (x y : X) → length xs ≡ length ys → xs ++ x ∷ [] ≡ ys ++ y ∷ [] → (xs ≡ ys) × (x ≡ y)
 snoc_same [] [] x y l e = (refl, cc)
 snoc_same [] (b ∷ ys) x y l e = absurd (omega arith)
@@ -24,8 +24,8 @@ pub and_parts : (a b : Bool) → IsTrue (a && b) → IsTrue a × IsTrue b
 and_parts true b e = (refl, e)
 and_parts false b e = cc
 
--- A loop puts y in place i of a list, where x stood. It knows whether y is x (b), and whether all places before are as they
--- were (a): then it knows it of all places up to i.
+-- A loop puts y in place i of a list, instead of x. It knows whether y is x (b), and whether all places before are as
+-- they were (a): then it knows it of all places up to i.
 pub same_more : {X : Type 0} (now old : List X) (i : ℕ) (x y : X) (a b : Bool) → i < length now → i < length old → drop i now ≡ drop i old
     → x ≡ get_or now i x
     → (IsTrue a ↔ (take i now ≡ take i old)) → (IsTrue b ↔ (y ≡ x)) → IsTrue (a && b) ↔ (take (i + 1) (set now i y) ≡ take (i + 1) old)

@@ -87,7 +87,7 @@ module _ {ids : List ℕ} {needs : List Needs} {held : List Bool} {states : List
       (λ k h. ap (λ f. if is_held held k then words_in old k else sent_after (scene_through ids k (get_or needs k no_needs) f))
       (filters_at k h))
 
-  -- it is a round
+  -- what was made of the lists is a round
   pub is_round : now ≡ round needs held old
   unfolding round
   is_round =
@@ -114,7 +114,7 @@ module _ {ids : List ℕ} {needs : List Needs} {held : List Bool} {states : List
         running = b;
       }) (ran rounds later made.count)
 
-  -- and one that leaves the words as they were, where no node is held and they are the same
+  -- a round leaves the words as they were, where no node is held and its words are equal to those before
   pub words_left : (0 < rounds) × NoneHeld held × (now_words ≡ words) → LeavesWords held old (round needs held old)
   words_left (some, free, same) = record {
     later = lt-ltb 0 rounds some;

@@ -18,7 +18,7 @@ pub record Signalling : Type 0 where
   pub unchanged : ℕ
   pub steady : Bool
 
--- a ring by its parts, where so many rounds have run
+-- a ring by its parts, after a number of rounds
 abbrev pub ring_of : List ℕ → List NodeState → List Sent → List Filters → ℕ → Signals
 ring_of ids states words filters rounds = record { ids = ids; states = states; words = words; filters = filters; running = nat_lt 0 rounds }
 
@@ -48,14 +48,14 @@ pub record IsStill (s : Signalling) : Type 0 where
   pub words : s.unchanged ≡ 3
   pub states : IsTrue s.steady
 
--- each of the last rounds, so many, came after another one, held no node and changed no word
+-- each of the last k rounds came after another one, held no node and changed no word
 abbrev pub WereUnchanged : ℕ → Signals → Type 0
 WereUnchanged zero now = ⊤
 WereUnchanged (suc k) now =
     (before : Signals) × (needs : List Needs) × ChangesNoWord needs before × (now ≡ free_round needs before) × WereUnchanged k before
 
--- What a ring keeps: the identifiers are those of a ring, each position has a state, words and filters, and each word that was sent has
--- its source in the ring. So many rounds, less than all, left the words as they were.
+-- What a ring keeps: the identifiers are those of a ring, each position has a state, words and filters, and each word
+-- that was sent has its source in the ring. The last `unchanged` rounds, fewer than all, left the words as they were.
 pub record IsRing (ring : Signals) (rounds unchanged : ℕ) : Type 0 where
   pub ids_ok : AreIds ring.ids
   pub states_len : length ring.states ≡ length ring.ids

@@ -42,7 +42,7 @@ impl Model for SignalRing {
     ghost invariant = { λ a. IsRing (ring_of a.map a.states.items a.sent.items a.filters.items a.rounds) a.rounds a.unchanged };
 }
 
-/// So many idle nodes.
+/// Returns `count` idle nodes.
 fn idle_states(alloc: Global, count: usize) -> Result<Vec<NodeState>, AllocError>
     ensures { IfOk result (λ v. v.items ≡ cells (λ p. NodeState.Idle tt) count) }
 {
@@ -53,7 +53,7 @@ fn idle_states(alloc: Global, count: usize) -> Result<Vec<NodeState>, AllocError
     Ok(states)
 }
 
-/// The words of new nodes.
+/// Returns the words of new nodes.
 fn first_words(alloc: Global, map: &RingMap) -> Result<Vec<Sent>, AllocError>
     ensures { IfOk result (λ v. v.items ≡ cells (first_words map.now) (length map.now)) }
 {
@@ -69,7 +69,7 @@ fn first_words(alloc: Global, map: &RingMap) -> Result<Vec<Sent>, AllocError>
     Ok(words)
 }
 
-/// The filters of so many nodes to which nothing was brought.
+/// Returns the filters of `count` nodes to which no word was brought.
 fn empty_filters(alloc: Global, count: usize) -> Result<Vec<Hearing>, AllocError>
     ensures { IfOk result (λ v. v.items ≡ cells (λ p. no_filters) count) }
 {
@@ -80,21 +80,21 @@ fn empty_filters(alloc: Global, count: usize) -> Result<Vec<Hearing>, AllocError
     Ok(filters)
 }
 
-/// The words that are on their way: before the first round none was sent.
+/// Returns the words that are on their way: before the first round none was sent.
 fn on_their_way(rounds: u64, sent: &[Sent]) -> &[Sent]
     ensures { result.now ≡ (if nat_lt 0 rounds then sent.now else []) }
 {
     if rounds > 0 { sent } else { &[] }
 }
 
-/// Whether a round after so many others held no node, and words stayed the same.
+/// Returns whether a round after `rounds` others held no node, and words stayed the same.
 fn leaves_words(rounds: u64, held: &[bool], words: bool) -> bool
     ensures { IsTrue result ↔ ((0 < rounds) × NoneHeld held.now × IsTrue words) }
 {
     rounds > 0 && is_free(held) && words
 }
 
-/// One more, up to 3, where that goes on.
+/// Returns one more, up to 3, where the sequence goes on, and else 0.
 fn counted(count: u8, goes_on: bool) -> u8
     requires { count ≤ 3 }
     ensures { result ≡ (if goes_on then min (count + 1) 3 else 0) }
@@ -103,7 +103,7 @@ fn counted(count: u8, goes_on: bool) -> u8
 }
 
 impl SignalRing {
-    /// A ring in which no round has run: all nodes are new, and nothing was sent.
+    /// Returns a ring in which no round has run: all nodes are new, and nothing was sent.
     pub fn try_new(alloc: Global, map: RingMap) -> Result<SignalRing, AllocError>
         ensures { IfOk result (λ ring. ring ≡ new_ring map) }
     {
@@ -119,9 +119,9 @@ impl SignalRing {
         })
     }
 
-    /// One round: each node takes what its neighbours sent in the round before, or nothing on a failing side and in the first
-    /// round. Then each node that isn't held steps, by what it hears through its filters. `needs` and `held` have an entry for
-    /// each position. It takes no memory.
+    /// Runs one round: each node takes what its neighbours sent in the round before, or nothing on a failing side and
+    /// in the first round. Then each node that isn't held steps, by what it hears through its filters. `needs` and
+    /// `held` have an entry for each position. It takes no memory.
     pub fn round(&mut self, needs: &[Needs], held: &[bool])
         requires needs { length needs.now ≡ length self.old.ring.ids }
         requires held { length held.now ≡ length self.old.ring.ids }
@@ -153,15 +153,15 @@ impl SignalRing {
         self.rounds = self.rounds.saturating_add(1);
     }
 
-    /// Whether at least four rounds have run, none of the last three held a node or changed a word, and the last one changed no
-    /// state.
+    /// Returns whether at least four rounds have run, none of the last three held a node or changed a word, and the
+    /// last one changed no state.
     pub fn is_still(&self) -> bool
         ensures { IsTrue result ↔ IsStill self.now }
     {
         self.unchanged == 3 && self.steady
     }
 
-    /// The state at a position.
+    /// Returns the state at a position.
     pub fn state(&self, at: Pos) -> &NodeState
         requires { at.0 < length self.now.ring.ids }
         ensures { slice_get self.now.ring.states at.0 ≡ Some result.now }
@@ -169,7 +169,7 @@ impl SignalRing {
         &self.states[at.0 as usize]
     }
 
-    /// The words that the node at a position sent in the last round.
+    /// Returns the words that the node at a position sent in the last round.
     pub fn sent(&self, at: Pos) -> &Sent
         requires at { at.0 < length self.now.ring.ids }
         requires ran { 1 ≤ self.now.rounds }

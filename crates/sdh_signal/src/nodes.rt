@@ -34,14 +34,15 @@ pub struct Stays {
     pub words: bool,
 }
 
-/// Whether two nodes sent the same words.
+/// Returns whether two nodes sent the same words.
 fn is_sent(a: &Sent, b: &Sent) -> bool
     ensures { IsTrue result ↔ (a.now ≡ b.now) }
 {
     same_word(a.west, b.west) && same_word(a.east, b.east)
 }
 
-/// What comes in on one side of a position: the word that the neighbour sent this way, if the side doesn't fail.
+/// Returns what comes in on one side of a position: the word that the neighbour sent this way, if the side doesn't
+/// fail.
 fn incoming(map: &RingMap, words: &[Sent], at: Pos, needs: &Needs, side: Side) -> Option<K>
     requires at { at.0 < length map.now }
     ensures { result ≡ incoming words.now (length map.now) at.0 needs.now side }
@@ -55,7 +56,7 @@ fn incoming(map: &RingMap, words: &[Sent], at: Pos, needs: &Needs, side: Side) -
 }
 
 impl Hearing {
-    /// Nothing was brought.
+    /// Returns filters to which no word was brought.
     pub fn new() -> Hearing
         ensures { result ≡ no_filters }
     {
@@ -74,7 +75,7 @@ impl Hearing {
         self.east.hear(incoming(map, words, at, needs, Side::East));
     }
 
-    /// What is heard.
+    /// Returns what is heard.
     fn heard(&self) -> Heard
         ensures { result ≡ heard_through self.now }
     {
@@ -85,7 +86,7 @@ impl Hearing {
     }
 }
 
-/// All nodes take what comes in.
+/// Lets all nodes take what comes in.
 pub fn hear_all(map: &RingMap, words: &[Sent], needs: &[Needs], filters: &mut Vec<Hearing>)
     requires few { length map.now ≤ 16 }
     requires needs { length needs.now ≡ length map.now }
@@ -99,7 +100,7 @@ pub fn hear_all(map: &RingMap, words: &[Sent], needs: &[Needs], filters: &mut Ve
     }
 }
 
-/// A node steps. Whether its state and its words stay the same.
+/// Runs one node for a step, and returns whether its state and its words stay the same.
 fn step_at(
     map: &RingMap,
     at: Pos,
@@ -126,7 +127,7 @@ fn step_at(
     stays
 }
 
-/// One node's part of a round, once all have taken what comes in.
+/// Does one node's part of a round, once all have taken what comes in.
 fn turn_at(
     map: &RingMap,
     at: Pos,
@@ -151,7 +152,7 @@ fn turn_at(
     step_at(map, at, needs, hearing, state, sent)
 }
 
-/// All nodes that aren't held step. Whether all states and words stay the same.
+/// Runs all nodes that are not held for a step, and returns whether all states and words stay the same.
 pub fn step_all(
     map: &RingMap,
     needs: &[Needs],
@@ -196,7 +197,7 @@ pub fn step_all(
     all
 }
 
-/// Whether no node is held.
+/// Returns whether no node is held.
 pub fn is_free(held: &[bool]) -> bool
     ensures { IsTrue result ↔ NoneHeld held.now }
 {

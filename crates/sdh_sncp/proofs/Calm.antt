@@ -14,7 +14,7 @@ use Rattle.sdh_sncp.specs.Laws.{IsWhole}
 use Rattle.sdh_sncp.proofs.Nodes.{informed, nodes_after, length-after}
 use Rattle.sdh_terminal.proofs.Same.{readings_same, generators_same, generators_itself}
 
--- interpreters and generators of both sides are the same
+-- interpreters and generators of both sides are equal
 pub record AreSame (a b : PathNode) : Type 0 where
   pub readings : (d : Side) → (inlet_on d a).readings ≡ (inlet_on d b).readings
   pub generators : (d : Side) → (sending_on d a).generators ≡ (sending_on d b).generators

@@ -85,7 +85,7 @@ module _ (w : World) (whole : IsWhole w) where
   generator_goes p d i inside few j =
       generator_step (run j w) (whole_run w j whole) p d (omega (arith, nodes_there j)) i (omega (arith, rate_there j))
 
-  -- an interpreter goes on by the word that was sent behind the span one round before
+  -- an interpreter goes on by the word that was sent after the span one round before
   interpreter_goes : (p : ℕ) (d : Side) (i : ℕ) → p < length w.ring.nodes → i < n
       → TakesBehind (cut_in w p d) (went w (neighbour size p d) (opposite d) (i + 1)) (sending_in w (neighbour size p d) (opposite d) i)
       (reading_in w p d i) (came w p d (i + 1))
@@ -100,7 +100,7 @@ module _ (w : World) (whole : IsWhole w) where
       subst (λ b. Takes b (neighbour size p d)) (cut_there (suc j) p d)
       (subst (λ ids. Takes (cut_in (run (suc j) w) p d) (neighbour (length ids) p d)) (left_run j w).ids took)
 
-  -- what comes to rest behind a span
+  -- what comes to rest after a span
   pub span_rests : (p : ℕ) (d : Side) (i k : ℕ) → p < length w.ring.nodes → i < n
       → IsConstant (went w (neighbour size p d) (opposite d) (i + 1)) k → RestsBehind (reading_in w p d i) (came w p d (i + 1)) k
   span_rests p d i k inside few c =

@@ -118,7 +118,7 @@ some_before : {X Y : Type 0} (f : X → Y) (o : Option X) → IsSome (option_map
 some_before f None h = h
 some_before f (Some x) h = refl
 
--- ports of which the same is fixed have the same names
+-- ports with equal fixed parts have equal names
 pub has_fixed : (id : PortId) (m n : PathNode) → fixed m ≡ fixed n → HasPort n.ports id → HasPort m.ports id
 unfolding fixed
 has_fixed id m n same h =

@@ -1,4 +1,4 @@
--- The nodes of a path ring, one by one, and what stays of them whatever arrives.
+-- The nodes of a path ring, one at a time, and what stays of them whatever arrives.
 use Rattle.std.proofs.Common.{◌≡◌, ℕ, zero, suc, ◌+◌, ◌<◌, Bool, true, false, List, [], ◌∷◌, length, map, Option, Some, None, refl, ap, sym}
 use Rattle.std.proofs.Common.{subst, ◌∙◌, arith}
 use Rattle.std.specs.Prelude.{All, ◌==◌, if◌then◌else◌}
@@ -220,7 +220,7 @@ module _ (w : World) where
             (each_heard (λ p n. HasRun t n) (run_met t) xs ns (λ p h. (placed.between p h).run));
       }
 
--- ---- what is told to a node
+-- ---- what arrives at a node
 
 -- to a side before the round that begins with this world: in round 0 nothing
 abbrev pub told_to : World → ℕ → Side → Option Arrival
@@ -229,7 +229,7 @@ told_to w p d = if w.ring.rounds == 0 then None else Some (arrival_at w.fibres p
 abbrev told_both : Option Arrival → Option Arrival → PathNode → PathNode
 told_both a b n = record n { west = record n.west { arrived = a }; east = record n.east { arrived = b } }
 
--- the node at position p with what is told to it
+-- the node at position p with what arrives there
 abbrev pub informed : World → ℕ → PathNode
 informed w p = told_both (told_to w p West) (told_to w p East) (node_at w.ring.nodes p)
 

@@ -83,7 +83,7 @@ module _ (w : World) (whole : IsWhole w) where
 
   -- ---- a side
 
-  -- with what is told to it
+  -- with what arrives there
   abbrev pub inlet_at : ℕ → Side → Inlet
   inlet_at p d = record (old_on p d) { arrived = told_to w p d }
 

@@ -121,7 +121,7 @@ module _ (w : World) (whole : IsWhole w) (p : ℕ) (d : Side) (lt : p < length w
   left = ap (λ (i : Inlet). i.readings) (side_is v next p d pn)
 
   module _ (k : ℕ) (high : k + 1 ≤ n_of w.ring.settings.rate) where
-    -- the interpreter behind a span takes the word that the generator before it sent in the round before
+    -- the interpreter after a span takes the word that the generator before it sent in the round before
     pub interpreter_step : TakesWord (get_or (inlet_on d (node_at v.ring.nodes p)).readings k start)
         (get_or (inlet_on d (node_at (round v).ring.nodes p)).readings k start) (came_at v p d (k + 1))
         (word_behind (cut_in v p d) (word_sent (state_at w q e k) (sent_at w q e (k + 1)).action (sent_at w q e (k + 1)).value))
@@ -158,7 +158,7 @@ module _ (w : World) (whole : IsWhole w) (p : ℕ) (d : Side) (lt : p < length w
           spans_bring rate c (puts (informed w q) e) sender old threshold (lines_of (crossing_at v p)) d k is_span
           (line_is v next p d) high clear still kept b small is
 
--- and behind a cut one AIS comes
+-- after a span that is cut AIS comes
 module _ (v : World) (whole : IsWhole v) (ran : 0 < v.ring.rounds) (p : ℕ) (d : Side) (h : p < length v.ring.nodes) (k : ℕ)
     (high : k + 1 ≤ n_of v.ring.settings.rate) where
   pub span_silent : is_calm (round v).ring.nodes ≡ true → cut_in v p d ≡ true → Brings (came_at v p d (k + 1)) silent

@@ -66,7 +66,7 @@ module _ (threshold rounds : ℕ) (x0 : PathCross) (ports : List Tributary) (wo 
 
     module _ (wa ea : Sending) (west_send : wa ≡ after_sending (all_fed_by (lines_of x) (added_last fs) (leads x West)) wo)
         (east_send : ea ≡ after_sending (all_fed_by (lines_of x) (added_last fs) (leads x East)) eo) where
-      -- what the calls tell is what is compared over the whole round
+      -- what the calls return is what is compared over the whole round
       pub calm_is : (ran taken west_made east_made : Bool) → ran ≡ nat_le 1 rounds
           → taken ≡ (same_readings x.west.readings x0.west.readings && same_readings x.east.readings x0.east.readings)
           → west_made ≡ same_generators wa.generators wo.generators → east_made ≡ same_generators ea.generators eo.generators

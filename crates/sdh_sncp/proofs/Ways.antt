@@ -176,7 +176,7 @@ module _ (w : World) (whole : IsWhole w) (alone : AreAlone w.ring.circuits.circu
   abbrev pub Calm : ℕ → ℕ → Type 0
   Calm s i = (j : ℕ) → suc i ≤ j + s → j ≤ suc i → is_calm (run j w).ring.nodes ≡ true
 
-  -- behind a cut fibre AIS comes
+  -- after a cut fibre AIS comes
   behind_cut : (i p : ℕ) → 0 < i → p < size → is_calm (run (suc i) w).ring.nodes ≡ true → cut p d ≡ true
       → Brings (came_at (run i w) p d m) silent
   unfolding any_run.run

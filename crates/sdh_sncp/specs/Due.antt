@@ -10,8 +10,8 @@ use Rattle.sdh_circuits.specs.Provisioned.{Provisioned, customer_at, end_of}
 use Rattle.sdh_circuits.specs.declared.End.{End}
 use Rattle.sdh_circuits.specs.Ends.{other_end, inward}
 
--- Of the way that comes in at position p on side d over the last k spans, in a ring of n, no fibre is cut, where `cut q d` tells
--- whether the fibre is that ends at position q on side d.
+-- No fibre is cut on the way that comes in at position p on side d over the last k spans, in a ring of n. `cut q d`
+-- says whether the fibre is cut that ends at position q on side d.
 abbrev pub way_clear : ℕ → (ℕ → Side → Bool) → ℕ → Side → ℕ → Bool
 way_clear n cut p d zero = true
 way_clear n cut p d (suc k) = if cut p d then false else way_clear n cut (neighbour n p d) d k

@@ -90,7 +90,7 @@ DeliversWhatIsDue w = (index : ℕ) (c : Provisioned) → slice_get w.ring.circu
 abbrev pub QuietRingsDeliver : Type 0
 QuietRingsDeliver = (w : World) (k : ℕ) → IsWhole w → HasCircuits w.ring → EndsWindow (course w) k → DeliversWhatIsDue (run k w)
 
--- so it is where a settle step answered
+-- where a settle step answered, all ports deliver what they are owed
 abbrev pub StepsDeliver : Type 0
 StepsDeliver = (w left : World) (limit : ℕ) → HasCircuits w.ring → Settles w limit left → IsWhole w → DeliversWhatIsDue left
 
@@ -101,7 +101,7 @@ abbrev pub RoundsGetCalm : Type 0
 RoundsGetCalm =
     (w : World) → IsWhole w → HasCircuits w.ring → (j : ℕ) → 9 * length w.ring.ids + 20 ≤ j → is_calm (run j w).ring.nodes ≡ true
 
--- so with so large a limit no step is unsettled
+-- with a limit that is enough no settle step is unsettled
 abbrev pub StepsAnswer : Type 0
 StepsAnswer =
     (w left : World) (limit : ℕ) → HasCircuits w.ring → IsWhole w → enough_for (length w.ring.ids) ≤ limit → Unsettles w limit left → ⊥
@@ -115,7 +115,7 @@ pub record KeepsPromises (w : World) (limit : ℕ) (result : Result (Unit {0}) S
 
 -- ---- what a port takes
 
--- where a side was told of an arrival, an AU-4 comes with a pointer exactly where its interpreter's mode is Norm then
+-- where something arrived on a side, an AU-4 comes with a pointer exactly where its interpreter's mode is Norm then
 abbrev pub ComesIsNorm : Type 0
 ComesIsNorm = (threshold : ℕ) (i : Inlet) (m : ℕ) → IsInlet i → is_some i.arrived ≡ true → 1 ≤ m → m ≤ n_of i.section.rate
     → not (is_ais_action (slice_index_or (taken_in threshold i).actions (m - 1) action.Ais))

@@ -61,7 +61,7 @@ new_cross rate circuits at = record {
   east_in = new_intake rate;
 }
 
--- it says on both sides what a node says that asks for nothing
+-- a new node, which says on both sides what a node says that asks for nothing
 unfoldable pub new_node : Settings → List ℕ → List Provisioned → Pos → PathNode
 new_node s ids circuits at = record {
   threshold = s.threshold;

@@ -21,19 +21,19 @@ pub record HasPlace (r : HeldPath) (p : ℕ) (n : PathNode) : Type 0 where
   pub senders : (d : Side) → IsSenderAt r.settings.rate (sending_on d n)
   pub words : (d : Side) → (sending_on d n).word ≡ first_word r.ids p d
 
--- a port's clock after so many rounds, which never slips
+-- a port's clock after this number of rounds, which never slips
 pub record IsUnslipped (rounds : ℕ) (feed : Fed) : Type 0 where
   pub ups : feed.clock.ups ≡ 0
   pub downs : feed.clock.downs ≡ 0
   pub sent : feed.clock.sent ≡ 2349 * rounds
   pub value : feed.clock.value ≡ feed.port.offset
 
--- a node has run so many rounds, and the clocks of its ports too
+-- a node and the clocks of its ports have run this number of rounds
 pub record HasRun (rounds : ℕ) (n : PathNode) : Type 0 where
   pub ran : n.rounds ≡ rounds
   pub clocks : All (λ (t : Tributary). IsUnslipped rounds t.feed) n.ports
 
--- between rounds nothing was told on a side since the last one
+-- between rounds nothing has arrived on a side since the last one
 pub record IsBetween (rounds : ℕ) (n : PathNode) : Type 0 where
   pub run : HasRun rounds n
   pub fresh : (d : Side) → (inlet_on d n).arrived ≡ None

@@ -115,6 +115,6 @@ EndsWindow = quiet.EndsWindow path_node
 abbrev pub Settles : World → ℕ → World → Type 0
 Settles = quiet.Settles path_node
 
--- it ran as many rounds as it might, and none ended a window
+-- a settle step ran as many rounds as it might, and none ended a window
 abbrev pub Unsettles : World → ℕ → World → Type 0
 Unsettles = quiet.Unsettles path_node

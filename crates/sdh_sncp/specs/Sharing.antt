@@ -12,15 +12,15 @@ pub record Share (circuits : List Provisioned) (i j : ℕ) : Type 0 where
   pub second_is : slice_get circuits j ≡ Some second
   pub slot : first.slot.0 ≡ second.slot.0
 
--- they are the first that do: no circuit before the second one shares a slot with one before it, and none before the first one shares
--- it with the second
+-- these two circuits are the first that share a slot: no circuit before the second one shares a slot with one before
+-- it, and none before the first one shares it with the second
 pub record AreFirstToShare (circuits : List Provisioned) (i j : ℕ) : Type 0 where
   pub share : Share circuits i j
   pub order : i < j
   pub least_second : (k l : ℕ) → k < l → l < j → Share circuits k l → ⊥
   pub least_first : (k : ℕ) → k < i → Share circuits k j → ⊥
 
--- ---- the same, computed
+-- ---- circuits that share a slot, computed
 
 unfoldable pub slot_at : List Provisioned → ℕ → ℕ
 slot_at circuits i = option_map_or (λ c. c.slot.0) (slice_get circuits i) 0

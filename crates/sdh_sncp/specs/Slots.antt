@@ -20,6 +20,6 @@ use_from at m i (c ∷ cs) = if c.slot.0 == m then use_by at i c else use_from a
 unfoldable pub use_of : List Provisioned → ℕ → ℕ → Use
 use_of circuits at m = use_from at m 0 circuits
 
--- of slots 1 to n
+-- the uses of slots 1 to n
 unfoldable pub uses_at : List Provisioned → ℕ → ℕ → List Use
 uses_at circuits at n = cells (λ k. use_of circuits at (k + 1)) n

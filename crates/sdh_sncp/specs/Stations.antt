@@ -1,4 +1,4 @@
--- A node of a path ring as a node that runs in rounds. No moment tells it anything.
+-- A node of a path ring as a node that runs in rounds. It does not depend on the moment.
 use Rattle.std.specs.Prelude.{◌≡◌, ℕ, ◌<◌, ◌^◌, refl}
 use Rattle.sdh_frame.specs.Sizes.{Frame}
 use Rattle.sdh_ringmap.specs.declared.Side.{Side}
@@ -22,7 +22,7 @@ path_node = record {
   outlet = λ port n. outlet_of port n.ports;
 }
 
--- it may run a round
+-- a node may run a round
 abbrev pub MayRun : ℕ → PathNode → Type 0
 MayRun now n = n.rounds < 2 ^ 32
 

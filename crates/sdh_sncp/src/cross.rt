@@ -40,7 +40,7 @@ impl Model for PathCross {
         (record { uses = x.uses.items; west = x.west; east = x.east; west_in = x.west_in; east_in = x.east_in }) };
 }
 
-// What feeds an AU-4 that leaves on a side, by what is done with its slot.
+// Returns what feeds an AU-4 that leaves on a side, by what is done with its slot.
 fn fed_for(used: Use, side: Side, au: u16) -> Feeder
     ensures { result ≡ fed_for used side au }
 {
@@ -52,7 +52,7 @@ fn fed_for(used: Use, side: Side, au: u16) -> Feeder
 }
 
 impl PathCross {
-    /// With nothing received. All memory is taken here.
+    /// Returns a cross-connect that has received nothing. All memory is taken here.
     pub fn try_new(
         alloc: Global,
         rate: Rate,
@@ -86,7 +86,8 @@ impl PathCross {
         }
     }
 
-    /// Both sides take what arrived, and the interpreters read. Whether they keep what they kept.
+    /// Lets both sides take what arrived, and the interpreters read. Returns whether the interpreters keep what they
+    /// kept.
     #[tactic(auto, unfolding(crate::specs::Node::after_taken))]
     pub fn take(&mut self, threshold: u16) -> bool
         ensures cross { self.new ≡ after_taken threshold self.old }
@@ -99,7 +100,7 @@ impl PathCross {
         west && east
     }
 
-    // Whether an AU-4 came in on a side with a pointer.
+    // Returns whether an AU-4 came in on a side with a pointer.
     fn comes(&self, side: Side, au: u16) -> bool
         requires first { 1 ≤ au }
         requires last { au ≤ n_of self.now.west.section.rate }

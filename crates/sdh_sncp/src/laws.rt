@@ -27,7 +27,7 @@ pub fn quiet_rings_deliver()
     ensures { QuietRingsDeliver }
 {}
 
-/// So they do after every settle step that ended.
+/// After every settle step that ended, all ports deliver what they are owed.
 pub fn steps_deliver()
     ensures { StepsDeliver }
 {}

@@ -41,7 +41,7 @@ impl Model for PathNode {
 }
 
 impl PathNode {
-    /// The node at a position of a ring with these circuits. All its memory is taken here.
+    /// Returns the node at a position of a ring with these circuits. All its memory is taken here.
     #[tactic(auto, unfolding(crate::specs::Node::new_node))]
     pub fn try_new(
         alloc: Global,
@@ -79,7 +79,7 @@ impl PathNode {
         self.cross.receive_landed(side, arrived, inbox);
     }
 
-    /// What a port of the node delivered in the last round, and AIS before the first.
+    /// Returns what a port of the node delivered in the last round, and AIS before the first.
     pub fn delivered(&self, port: PortId) -> &Delivered
         requires { HasPort self.now.ports port }
         ensures { result.now ≡ (outlet_of port self.now.ports).delivered }
@@ -87,7 +87,7 @@ impl PathNode {
         self.ports.outlet(port).delivered()
     }
 
-    /// The value of the interpreter through which a port's chunk came, and 0 where it delivers AIS.
+    /// Returns the value of the interpreter through which a port's chunk came, and 0 where it delivers AIS.
     pub fn value(&self, port: PortId) -> u16
         requires { HasPort self.now.ports port }
         ensures value { result ≡ (outlet_of port self.now.ports).value }
@@ -96,14 +96,14 @@ impl PathNode {
         self.ports.outlet(port).value()
     }
 
-    /// Whether the last round left all interpreters and generators as they were. The first round isn't calm.
+    /// Returns whether the last round left all interpreters and generators as they were. The first round isn't calm.
     pub fn calm(&self) -> bool
         ensures { result ≡ self.now.calm }
     {
         self.calm
     }
 
-    /// One round: what arrived is read, the ports deliver, and a frame goes out on each side. It takes no memory.
+    /// Runs one round: what arrived is read, the ports deliver, and a frame goes out on each side. It takes no memory.
     #[tactic(auto, unfolding(crate::specs::Node::node_round))]
     pub fn send(&mut self, west: &mut FrameBuf, east: &mut FrameBuf)
         requires west { west.old.rate ≡ self.old.west.section.rate }
@@ -139,15 +139,15 @@ impl PathNode {
     }
 }
 
-// Whether a round ran before.
+// Returns whether a round ran before.
 fn has_run(rounds: u64) -> bool
     ensures { result ≡ nat_le 1 rounds }
 {
     rounds >= 1
 }
 
-// What tells whether a round was calm: whether one ran before it, and of each of its calls whether what it compares is
-// the same.
+// What decides whether a round was calm: whether one ran before it, and for each of its calls whether what it compares
+// is as before.
 #[derive(Drop)]
 struct Signs {
     ran: bool,
@@ -156,7 +156,7 @@ struct Signs {
     east_made: bool,
 }
 
-// Whether the round was calm, by what its calls tell.
+// Returns whether the round was calm, by what its calls returned.
 fn is_calm(signs: &Signs) -> bool
     ensures { result ≡ (signs.now.ran && (signs.now.taken && (signs.now.west_made && signs.now.east_made))) }
 {

@@ -70,7 +70,7 @@ impl Model for PathRing {
 }
 
 impl PathRing {
-    /// A ring of new nodes, in which no round has run. All its memory is taken here.
+    /// Returns a ring of new nodes, in which no round has run. All its memory is taken here.
     #[tactic(auto, unfolding(crate::specs::Ring::new_nodes))]
     pub fn try_new(
         alloc: Global,
@@ -104,8 +104,8 @@ impl PathRing {
         Ok(PathRing { ring })
     }
 
-    /// One round: all nodes receive, except in round 0, and then all send. It takes no memory. After a fault of the plant
-    /// the ring is broken.
+    /// Runs one round: all nodes receive, except in round 0, and then all send. It takes no memory. After a fault of
+    /// the plant the ring is broken.
     pub fn round<P: Plant>(&mut self, plant: &mut P) -> Result<(), PlantFault>
         requires prepared { IsPrepared self.old.settings.rate (length self.old.ids) (P.fibres plant.old) }
         requires whole { self.old.broken ≡ false }
@@ -137,7 +137,7 @@ impl PathRing {
         let _ = &self.ring;
     }
 
-    // Each node is where it belongs: the same.
+    // Each node is where it belongs: the function does nothing, and its contract is the law.
     fn nodes_are_placed(&self)
         requires { self.now.broken ≡ false }
         ensures { IsPlacedRing self.now }
@@ -162,7 +162,7 @@ impl PathRing {
         self.settle_with(plant, limit, &mut Nobody)
     }
 
-    /// The same, with one who looks at the ring after each round.
+    /// Runs rounds as `settle` does, and lets an observer look at the ring after each round.
     pub fn settle_with<P: Plant, O: Observer<PathRing>>(
         &mut self,
         plant: &mut P,
@@ -203,9 +203,9 @@ impl RunsRounds for PathRing {
     }
 }
 
-// What the ring lends.
+// What can be read of the ring's ports and nodes.
 impl PathRing {
-    // The node where a port of a circuit is.
+    // Returns the node where a port of a circuit is.
     fn node_of(&self, port: PortId) -> &PathNode
         requires { port.circuit < length self.now.circuits.circuits }
         ensures port { HasPort result.now.ports port }
@@ -214,7 +214,7 @@ impl PathRing {
         self.ring.node_of(port)
     }
 
-    /// What a port of a circuit delivered in the last round, and AIS before the first.
+    /// Returns what a port of a circuit delivered in the last round, and AIS before the first.
     pub fn port(&self, port: PortId) -> &Delivered
         requires { port.circuit < length self.now.circuits.circuits }
         ensures { result.now ≡ (outlet_at self.now port).delivered }
@@ -222,7 +222,7 @@ impl PathRing {
         self.node_of(port).delivered(port)
     }
 
-    /// The value of the interpreter through which a port's chunk came, and 0 where it delivers AIS.
+    /// Returns the value of the interpreter through which a port's chunk came, and 0 where it delivers AIS.
     pub fn value(&self, port: PortId) -> u16
         requires { port.circuit < length self.now.circuits.circuits }
         ensures value { result ≡ (outlet_at self.now port).value }
@@ -231,28 +231,28 @@ impl PathRing {
         self.node_of(port).value(port)
     }
 
-    /// How many rounds have run, so that the last one has the number before it.
+    /// Returns how many rounds have run, so that the last one has the number before it.
     pub fn rounds(&self) -> u64
         ensures { result ≡ self.now.rounds }
     {
         self.ring.rounds()
     }
 
-    /// The nodes' identifiers.
+    /// Returns the nodes' identifiers.
     pub fn map(&self) -> &RingMap
         ensures { result.now ≡ self.now.ids }
     {
         self.ring.map()
     }
 
-    /// The circuits.
+    /// Returns the circuits.
     pub fn circuits(&self) -> &CircuitMap
         ensures { result.now ≡ self.now.circuits }
     {
         self.ring.circuits()
     }
 
-    /// Whether a fault of the plant broke a round off.
+    /// Returns whether a fault of the plant broke a round off.
     pub fn is_broken(&self) -> bool
         ensures { result ≡ self.now.broken }
     {

@@ -5,7 +5,7 @@ ghost use Rattle.sdh_sncp.specs.Sharing.{slot_at, share, first_before, has_befor
 
 use sdh_circuits::CircuitMap;
 
-// The slot of a circuit.
+// Returns the slot of a circuit.
 #[tactic(auto, unfolding(crate::specs::Sharing::slot_at))]
 fn slot_at(circuits: &CircuitMap, circuit: usize) -> u8
     requires { circuit < length circuits.now.circuits }
@@ -15,7 +15,7 @@ fn slot_at(circuits: &CircuitMap, circuit: usize) -> u8
     circuits.get(circuit as u8).slot().0
 }
 
-// Whether two circuits share a slot.
+// Returns whether two circuits share a slot.
 #[tactic(auto, unfolding(crate::specs::Sharing::share))]
 fn share(circuits: &CircuitMap, second: usize, first: usize) -> bool
     requires first { first < length circuits.now.circuits }
@@ -25,7 +25,7 @@ fn share(circuits: &CircuitMap, second: usize, first: usize) -> bool
     slot_at(circuits, first) == slot_at(circuits, second)
 }
 
-// The first circuit before this one that shares its slot.
+// Returns the first circuit before this one that shares its slot.
 #[tactic(auto, unfolding(crate::specs::Sharing::first_before))]
 fn first_before(circuits: &CircuitMap, second: usize) -> Option<usize>
     requires { second < length circuits.now.circuits }
@@ -43,7 +43,7 @@ fn has_before(circuits: &CircuitMap, second: usize) -> bool
     first_before(circuits, second).is_some()
 }
 
-// The first circuit that shares its slot with one before it.
+// Returns the first circuit that shares its slot with one before it.
 #[tactic(auto, unfolding(crate::specs::Sharing::first_second))]
 fn first_second(circuits: &CircuitMap) -> Option<usize>
     ensures index { result ≡ first_second circuits.now.circuits }
@@ -52,7 +52,7 @@ fn first_second(circuits: &CircuitMap) -> Option<usize>
     (0..circuits.len()).find(|second| has_before(circuits, *second))
 }
 
-/// The first two circuits that share a slot: the least second one, and its least first one.
+/// Returns the first two circuits that share a slot: the least second one, and its least first one.
 #[tactic(auto, using(crate::proofs::Sharing::alone_if, crate::proofs::Sharing::some_before))]
 pub fn first_shared(circuits: &CircuitMap) -> Option<(u8, u8)>
     ensures some { IfSome result (λ two. AreFirstToShare circuits.now.circuits two.0 two.1) }

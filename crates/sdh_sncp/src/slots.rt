@@ -14,7 +14,7 @@ pub enum Use {
     Ended(PortId),
 }
 
-// Where a circuit has the slot.
+// Returns where a circuit has the slot.
 fn use_by(at: Pos, number: u8, circuit: &Circuit) -> Use
     ensures { result ≡ use_by at.0 number circuit.now }
 {
@@ -33,7 +33,7 @@ fn use_by(at: Pos, number: u8, circuit: &Circuit) -> Use
     }
 }
 
-// What the node at a position does with a slot.
+// Returns what the node at a position does with a slot.
 #[tactic(auto, unfolding(crate::specs::Slots::use_of))]
 fn use_of(circuits: &CircuitMap, at: Pos, slot: u8) -> Use
     ensures { result ≡ use_of circuits.now.circuits at.0 slot }
@@ -47,7 +47,7 @@ fn use_of(circuits: &CircuitMap, at: Pos, slot: u8) -> Use
     Use::Unused
 }
 
-/// What the node at a position does with slots 1 to n. All memory is taken here.
+/// Returns what the node at a position does with slots 1 to n. All memory is taken here.
 #[tactic(auto, unfolding(crate::specs::Slots::uses_at))]
 pub fn uses_at(
     alloc: Global,

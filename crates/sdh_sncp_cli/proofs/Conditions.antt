@@ -1,4 +1,4 @@
--- The fibres' conditions by the changes that a script tells.
+-- The fibres' conditions by the changes that a script gives.
 use Rattle.std.proofs.Common.{◌≡◌, ℕ, ◌+◌, ◌*◌, ◌-◌, ◌%◌, ◌<◌, Bool, true, false, List, [], ◌∷◌, ◌++◌, length, set, get_or, replicate, refl}
 use Rattle.std.proofs.Common.{ap, sym, ◌∙◌, arith, inl, inr}
 use Rattle.std.specs.Prelude.{◌==◌, if◌then◌else◌, slice_index_or}
@@ -35,7 +35,7 @@ set_at i j c cs low = elim (cases_eq i j) [
       get_or-set_other cs i j c Clear (λ s. n (sym s)) ∙ ap (λ (b : Bool). if b then c else get_or cs j Clear) (sym test))
 ]
 
--- the fibres of a ring of n are in the conditions that these changes tell
+-- the fibres of a ring of n are in the conditions that these changes give
 pub record AreTold (n : ℕ) (changes : List Change) (conditions : List Condition) : Type 0 where
   pub size : length conditions ≡ 2 * n
   pub each : (p : ℕ) (d : Side) → slice_index_or conditions (fibre_to n p d) Clear ≡ (all_holding n p d changes new_holding).condition
@@ -58,7 +58,7 @@ told_more n q e c changes conditions some same told = record {
       ∙ ap (λ (x : Holding). x.condition) (sym (held_more n p d changes (Fibre q e c ∷ []) new_holding)));
 }
 
--- none is told of new fibres
+-- new fibres have none
 pub told_new : (n : ℕ) → 0 < n → AreTold n [] (replicate (2 * n) Clear)
 told_new n some = record {
   size = length-replicate (2 * n) Clear;

@@ -25,7 +25,7 @@ use Rattle.sdh_sncp_cli.specs.declared.ending.Ending.TheVariants as ending
 
 -- ---- one thing is done with it
 
--- circuits of which no two share a slot aren't the first to share one
+-- where no two circuits share a slot, no two are the first to share one
 none_share : (plan : Planned) (i j : ℕ) (A : Type 0) → AreAlone plan.circuits → AreFirstToShare plan.circuits i j → A
 none_share plan i j A alone x =
     absurd (let same : i ≡ j = alone i j x.share.first x.share.second x.share.first_is x.share.second_is x.share.slot in omega

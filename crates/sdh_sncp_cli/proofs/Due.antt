@@ -43,7 +43,7 @@ module _ (rate : Rate) (ids : List ℕ) (circuits : Provisioning) where
   abbrev Now : List Change → ℕ → World → Type 0
   Now changes ran w = Stands rate ids circuits changes ran w
 
-  -- which fibres are cut is what the script tells
+  -- which fibres are cut is what the script says
   cuts_told : (changes : List Change) (ran : ℕ) (w : World) → Now changes ran w → cut_in w ≡ cut_after n changes
   cuts_told changes ran w h =
       λ i p d. (ap (λ (l : List ℕ). is_cut (condition_of w.fibres (fibre_to (length l) p d))) h.ids ∙ ap is_cut (h.told.each p d)) i

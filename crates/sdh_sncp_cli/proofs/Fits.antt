@@ -1,4 +1,4 @@
--- A plan's steps of which none is strange can be done in a path ring.
+-- A plan's steps can be done in a path ring where none of them is strange.
 use Rattle.std.proofs.Common.{◌≡◌, ℕ, ◌+◌, ◌≤◌, Bool, true, false, None, Some, List, [], ◌∷◌, length, refl, arith}
 use Rattle.std.specs.Prelude.{nat_lt, option_map, cond}
 use Rattle.std.specs.List.{position_or_len}
@@ -10,7 +10,7 @@ use Rattle.sdh_plan.specs.Steps.{Past, after, new_past}
 use Rattle.sdh_plan.specs.Scripts.{AreSteps}
 use Rattle.sdh_sncp_cli.specs.Steps.{is_strange, first_strange, AreKnown, MayDo}
 
--- the first that is strange is behind them all
+-- the first that is strange is after them all
 none_here : (steps : List Step) → AreKnown steps → length steps ≤ position_or_len is_strange steps
 unfolding first_strange
 none_here steps none = by (nat_lt (position_or_len is_strange steps) (length steps)) refl none

@@ -91,7 +91,7 @@ module _ (plan : Planned) (f left : Fibres) (reports : List Report) (end : Statu
       law plan.settings plan.nodes (provisioning_of plan) f plan.limit plan.steps reports end x.0 form.nodes_fit honest circuits_fit
       (fits plan.settings.rate (length plan.nodes) (length plan.circuits) plan.steps known form.steps_fit) x.2
 
--- ---- all that is told
+-- ---- all that is reported
 
 pub tells : ReportsAreDue → PathScriptsSettle → (plan : Planned) (f left : Fibres) (text : List ℕ) (end : Status) → IsPlanned plan
     → AreKnown plan.steps → AreAlone plan.circuits → (f.honest ≡ true → IsHonest f)

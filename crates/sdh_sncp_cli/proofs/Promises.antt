@@ -119,7 +119,7 @@ module _ (words : List (List ℕ)) (bytes : List ℕ) (f left : Fibres) (reads c
       let r = ran (SettlesLarge Report) (λ plan reports end came. came.settles honest) plan is (inr (inl e)) in
       not_unsettled r.end r.number_is e (r.so large)
 
--- ---- what is told of the source
+-- ---- what is known of the source
 
 pub told_then : (words : List (List ℕ)) (o : Option (List ℕ)) (Q R : List ℕ → Type 0)
     → ((bytes : List ℕ) → (AreRun words → Q bytes) → R bytes) → IfSome (told words o) Q → IfSome o R

@@ -23,7 +23,7 @@ use Rattle.sdh_sncp.proofs.Rounds.{IsLeft, left_run}
 use Rattle.sdh_sncp.proofs.Wholes.{whole_settled}
 use Rattle.sdh_sncp_cli.proofs.Conditions.{AreTold, told_more, told_new}
 
--- a world of this ring, in which so many rounds have run, after these changes
+-- a world of this ring, after `ran` rounds and these changes
 pub record Stands (at : Rate) (named : List ℕ) (provisioned : Provisioning) (changes : List Change) (ran : ℕ) (w : World) : Type 0 where
   pub whole : IsWhole w
   pub rate : w.ring.settings.rate ≡ at

@@ -41,19 +41,19 @@ Delivers words bytes number old new = (plan : Planned) → IsRunPlan words bytes
     → (how : Status) × (reports : List Report) × RanTo number how × Appends old new (text_of listing.Reports reports ++ last_line how)
     × OwesAll plan reports how
 
--- it ends as the script does where the arrivals are known, and the text tells so: unsettled at exactly the step in which no quiet window
--- comes within the limit; or a plant's call failed
+-- the program ends as the script does where the arrivals are known, and the text says so: unsettled at exactly the step
+-- in which no quiet window comes within the limit; or a plant's call failed
 abbrev pub EndsAsItRuns : List (List ℕ) → List ℕ → Fibres → ℕ → Type 0
 EndsAsItRuns words bytes f number =
     (plan : Planned) → IsRunPlan words bytes plan → HasRun number → Knows (world_of plan f).fibres
     → RanTo number (ran_of plan f).ending ⊎ (number ≡ 8)
 
--- with so large a limit no settle step is unsettled
+-- with a limit that is enough no settle step is unsettled
 abbrev pub AlwaysSettles : List (List ℕ) → List ℕ → ℕ → Type 0
 AlwaysSettles words bytes number = (plan : Planned) → IsRunPlan words bytes plan → enough_for (length plan.nodes) ≤ plan.limit → number ≢ 7
 
--- the words ask for a run, and the source tells the bytes of a plan with which all is given: a script that settles, as it does over
--- honest fibres where the limit is large
+-- the words ask for a run, and the source shows the bytes of a plan with which all is given: a script that settles, as
+-- it does over honest fibres where the limit is large
 abbrev pub MayBeDone : List (List ℕ) → Option (List ℕ) → Fibres → Type 0
 MayBeDone words None f = ⊥
 MayBeDone words (Some bytes) f = (plan : Planned) × IsRunPlan words bytes plan × MaySettle plan f

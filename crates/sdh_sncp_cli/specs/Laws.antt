@@ -27,7 +27,7 @@ ReportsAreDue =
     → Runs path_walk limit 0 steps (world (new_ring s ids circuits) (prepared s.rate (length ids) f)) reports end left
     → AreDue (length ids) circuits.circuits limit [] 0 0 (scenes [] steps) reports end
 
--- from there no settle step with so large a limit is unsettled
+-- from a new ring over new honest fibres no settle step with a limit that is always enough is unsettled
 abbrev pub PathScriptsSettle : Type 0
 PathScriptsSettle =
     (s : Settings) (ids : List ℕ) (circuits : Provisioning) (f : Fibres) (limit : ℕ) (steps : List Step) (reports : List Report)

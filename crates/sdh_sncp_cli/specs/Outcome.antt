@@ -25,7 +25,7 @@ Does plan (Refuses (ending.Shared how)) = ⊥
 Does plan (Writes told) = ⊥
 Does plan (Runs listing) = AreKnown plan.steps × AreAlone plan.circuits
 
--- it runs a plan over a path ring, and reports each settle step
+-- the program that runs a plan over a path ring, and reports each settle step
 abbrev pub pathing : Program (Unit {0}) (Unit {0}) Report Ending
 pathing = record {
   usage = codes "usage: sdhpath run";
@@ -46,6 +46,6 @@ told words left = outcome.told pathing (asked_to_run words) left
 abbrev pub Answers : List (List ℕ) → List ℕ → Fibres → Fibres → Counts → Counts → ℕ → Option (List ℕ) → Option (List ℕ) → Type 0
 Answers words = outcome.Answers pathing (asked_to_run words)
 
--- what had come of source and plant when there was this to tell
+-- what source and plant had come to when this was to be reported
 abbrev pub CameTo : Bool → Bool → Counts → Counts → Option (List ℕ) → Option (List ℕ) → Ending → Type 0
 CameTo = CameToEnding path_endings

@@ -36,7 +36,7 @@ ran_of = plans.ran_of path_account
 abbrev pub MaySettle : Planned → Fibres → Type 0
 MaySettle = plans.MaySettle path_account
 
--- one list of reports, told in each way
+-- what is so of one list of reports: over every plant, where the arrivals are known, and over honest fibres
 abbrev pub IsRunOf : Planned → Fibres → List Report → Status → Fibres → Type 0
 IsRunOf = plans.IsRunOf path_account Owes
 

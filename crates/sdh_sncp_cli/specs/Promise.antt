@@ -1,4 +1,5 @@
--- What each report of a script over a path ring owes, by the fibres' conditions that the script tells and in customers' bytes.
+-- What each report of a script over a path ring owes, by the fibres' conditions that the script gives and in customers'
+-- bytes.
 use Rattle.std.specs.Prelude.{ℕ, ◌≡◌, ◌⊎◌, ◌+◌, Bool, List, [], ◌∷◌, ◌++◌, length}
 use Rattle.sdh_ringmap.specs.declared.Side.{Side}
 use Rattle.sdh_terms.specs.Fibres.{is_cut}
@@ -17,13 +18,14 @@ use Rattle.sdh_sncp.specs.Due.{due_path}
 abbrev pub cut_after : ℕ → List Change → ℕ → Side → Bool
 cut_after n changes p d = is_cut (all_holding n p d changes new_holding).condition
 
--- what all ports of these circuits are owed in round t, where `cut` tells which fibres are cut
+-- what all ports of these circuits are owed in round t, where `cut` says which fibres are cut
 abbrev pub due_ports : ℕ → (ℕ → Side → Bool) → ℕ → List Provisioned → List PortLine
 due_ports n cut t circuits = lines_from (λ index c e. due_path n cut c e t) 0 circuits
 
--- Each report shows every port of a ring of n with what it is owed after these changes, where so many rounds had run, so many settle
--- steps had ended, and these are the changes before each step to come. Report by report the number grows by 1, and the round tells how
--- many rounds the step ran. A settle step without a report is where the script ended, unsettled or by a fault.
+-- Each report shows every port of a ring of n with what it is owed after these changes. `ran` rounds had run, `before`
+-- settle steps had ended, and these are the changes before each step to come. Report by report the number grows by 1,
+-- and the round shows how many rounds the step ran. A settle step without a report is where the script ended, unsettled
+-- or by a fault.
 abbrev pub AreDue : ℕ → List Provisioned → ℕ → List Change → ℕ → ℕ → List (List Change) → List Report → Status → Type 0
 AreDue n circuits limit earlier ran before [] reports end = (reports ≡ []) × ((end ≡ status.Ok) ⊎ (end ≡ status.PlantFault))
 AreDue n circuits limit earlier ran before (changes ∷ later) [] end = (end ≡ status.Unsettled (before + 1)) ⊎ (end ≡ status.PlantFault)

@@ -1,4 +1,4 @@
--- What the report of a settle step tells of the path ring that it left. No node has a line.
+-- What the report of a settle step shows of the path ring that it left. No node has a line.
 use Rattle.std.specs.Prelude.{ℕ, ◌-◌, List, []}
 use Rattle.sdh_payload.specs.Outlet.{Outlet}
 use Rattle.sdh_circuits.specs.declared.End.{End}

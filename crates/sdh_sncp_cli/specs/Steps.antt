@@ -18,11 +18,11 @@ is_strange step.Settle = false
 unfoldable pub first_strange : List Step → Option ℕ
 first_strange steps = option_map (λ i. i + 1) (position is_strange steps)
 
--- there is none
+-- no step is strange to a path ring
 abbrev pub AreKnown : List Step → Type 0
 AreKnown steps = first_strange steps ≡ None
 
--- the steps can be done in a path ring of so many nodes, behind so many settle steps of 64
+-- the steps can be done in a path ring of `size` nodes, after `before` settle steps of 64
 abbrev pub MayDo : Rate → ℕ → ℕ → List Step → Type 0
 MayDo rate size before [] = Unit {0}
 MayDo rate size before (step.Fibre e ∷ later) = (e.at.0 < size) × IsConditionAt rate e.condition × MayDo rate size before later

@@ -13,13 +13,13 @@ pub enum Ending {
     NoSuchStep(u32),
     /// These two circuits, counted from 0, are the first that share a slot.
     SameSlot { first: u8, second: u8 },
-    /// As the program of a shared ring ends with the same words and plan: `Ok`, `Usage`, `ReadFault`, `WriteFault`, `NotToml`,
+    /// An ending that the program of a shared ring has too: `Ok`, `Usage`, `ReadFault`, `WriteFault`, `NotToml`,
     /// `BadPlan`, `Unsettled`, `PlantFault`, `TooLong` or `Memory`.
     Shared(Status),
 }
 
 impl Ending {
-    /// The number with which the program ends.
+    /// Returns the number with which the program ends.
     pub fn number(&self) -> u8
         ensures { result ≡ number_of self.now }
     {
@@ -44,7 +44,7 @@ fn short_slot(first: u8, second: u8)
     let _ = (first, second);
 }
 
-// The last line of two circuits that share a slot.
+// Appends the last line of two circuits that share a slot.
 fn put_same_slot(text: &mut Text, first: u8, second: u8)
     requires { length (same_slot_line first second) ≤ text.old.room }
     ensures { text.new ≡ with_part text.old (same_slot_line first second) }
@@ -56,7 +56,7 @@ fn put_same_slot(text: &mut Text, first: u8, second: u8)
     text.put(b"\n");
 }
 
-// The last line of a step that is none of a path ring's.
+// Appends the last line of a step that is none of a path ring's.
 fn put_no_such_step(text: &mut Text, step: u32)
     requires { length (no_such_step_line step) ≤ text.old.room }
     ensures { text.new ≡ with_part text.old (no_such_step_line step) }

@@ -26,7 +26,7 @@ use std::alloc::{AllocError, Global};
 #[derive(Clone, Copy, Debug)]
 pub struct Pathing;
 
-// A plan whose steps are a path ring's, run if no two circuits share a slot.
+// Returns a plan whose steps are a path ring's, run if no two circuits share a slot.
 fn ended_run<P: Plant>(
     alloc: Global,
     plan: Plan,

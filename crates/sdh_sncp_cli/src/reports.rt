@@ -11,7 +11,7 @@ use sdh_report::Text;
 use sdh_scripts::put_settle;
 use sdh_sncp::PathRing;
 
-// The line of the port at an end of a circuit.
+// Appends the line of the port at an end of a circuit.
 fn put_port(text: &mut Text, ring: &PathRing, circuit: u8, named: &Circuit, end: End)
     requires inside { circuit < length ring.now.circuits.circuits }
     requires room { 96 ≤ text.old.room }
@@ -22,7 +22,7 @@ fn put_port(text: &mut Text, ring: &PathRing, circuit: u8, named: &Circuit, end:
     text.port_line(named.name(), end, ring.port(port), ring.value(port));
 }
 
-// The lines of both ports of a circuit.
+// Appends the lines of both ports of a circuit.
 fn put_circuit(text: &mut Text, ring: &PathRing, circuit: u8, named: &Circuit)
     requires inside { circuit < length ring.now.circuits.circuits }
     requires room { 192 ≤ text.old.room }
@@ -34,7 +34,7 @@ fn put_circuit(text: &mut Text, ring: &PathRing, circuit: u8, named: &Circuit)
     put_port(text, ring, circuit, named, End::B);
 }
 
-// The lines of all ports.
+// Appends the lines of all ports.
 fn put_ports(text: &mut Text, ring: &PathRing)
     requires room { 192 * length ring.now.circuits.circuits ≤ text.old.room }
     ensures bytes { text.new.bytes ≡ text.old.bytes ++ flat_map told_line (ports_told ring.now) }
@@ -46,7 +46,7 @@ fn put_ports(text: &mut Text, ring: &PathRing)
     }
 }
 
-/// The report of settle step `number`, counted from 1.
+/// Appends the report of settle step `number`, counted from 1.
 #[tactic(auto, unfolding(crate::specs::Reports::report_of))]
 pub fn put_report(text: &mut Text, ring: &PathRing, number: u32)
     requires ran { 1 ≤ ring.now.rounds }

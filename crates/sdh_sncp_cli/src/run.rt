@@ -16,7 +16,7 @@ use sdh_scripts::{NewRun, Run, Runner, lines_room, start, text_for};
 use sdh_sncp::{PathError, PathRing};
 use std::alloc::Global;
 
-// The run of a plan, before its fibres are there.
+// Returns the run of a plan, before its fibres are prepared.
 fn new_run(alloc: Global, plan: Plan) -> Result<NewRun<PathRun>, PathError>
     requires known { AreKnown plan.steps }
     ensures may { IfOk result (MayBegin ⟦<PathRun as Runner>⟧.ring ⟦<PathRun as Runner>⟧.room ⟦<PathRun as Runner>⟧.MayRun) }
@@ -48,14 +48,15 @@ pub fn run_plan<P: Plant>(alloc: Global, plan: Plan, plant: &mut P) -> Result<Ru
     requires fresh { HasNoFibres (P.fibres plant.old) }
     requires known { AreKnown plan.steps }
 
-    // The text is that of one list of reports, which is told over every plant, where the arrivals are known, and over honest fibres.
+    // The text is that of one list of reports, which is given over every plant, where the arrivals are known, and over
+    // honest fibres.
     ensures came { IfOk result (λ run. Tells plan (P.fibres plant.old) run.text.bytes run.status (P.fibres plant.new)) }
 
     // The first two circuits that share a slot are refused.
     ensures same_slot { (first second : ℕ) → result ≡ Err (PathError.SameSlot first second) → AreFirstToShare plan.circuits first second }
     ensures alone { IfOk result (λ run. AreAlone plan.circuits) }
 
-    // Where two share one the plant is left as it is.
+    // Where two circuits share a slot the plant stays as it is.
     ensures unmoved { ¬ (AreAlone plan.circuits) → plant.new ≡ plant.old }
 
     // A fault has a cause, and without one a script that settles is done.

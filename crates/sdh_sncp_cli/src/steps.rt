@@ -4,14 +4,14 @@ ghost use Rattle.sdh_sncp_cli.specs.Steps.{is_strange, first_strange};
 
 use sdh_plan::Step;
 
-// Whether a step is none of a path ring's.
+// Returns whether a step is none of a path ring's.
 fn is_strange(step: &Step) -> bool
     ensures { result ≡ is_strange step.now }
 {
     !matches!(step, Step::Fibre(_) | Step::Settle)
 }
 
-// The place of the first such step.
+// Returns the place of the first such step.
 fn strange_place(steps: &[Step]) -> Option<usize>
     ensures place { result ≡ position is_strange steps.now }
     ensures within { IfSome result (λ i. i < length steps.now) }
@@ -19,7 +19,8 @@ fn strange_place(steps: &[Step]) -> Option<usize>
     steps.iter().position(|step| is_strange(step))
 }
 
-/// The first step that is none of a path ring's, counted from 1: the steps of a path ring are a fibre's conditions and settle steps.
+/// Returns the first step that is none of a path ring's, counted from 1: the steps of a path ring are a fibre's
+/// conditions and settle steps.
 #[tactic(auto, unfolding(crate::specs::Steps::first_strange))]
 pub fn first_strange(steps: &[Step]) -> Option<u32>
     requires few { length steps.now ≤ 1000 }

@@ -16,9 +16,9 @@ use sdh_plant::Plant;
 use sdh_scripts::call;
 use std::alloc::Global;
 
-/// Does all that the program does, and answers the number with which it ends. With the word `run` it reads a plan from the source,
-/// runs a path ring of it over the plant, and writes the report of every settle step: its line and that of each port. The last line
-/// says how it ended. All is written once, at the end.
+/// Does all that the program does, and returns the number with which it ends. With the word `run` it reads a plan from
+/// the source, runs a path ring of it over the plant, and writes the report of every settle step: its line and that of
+/// each port. The last line says how it ended. All is written once, at the end.
 pub fn sdhpath<R: Source, W: Sink, P: Plant>(
     alloc: Global,
     words: &[String],
@@ -28,8 +28,9 @@ pub fn sdhpath<R: Source, W: Sink, P: Plant>(
 ) -> u8
     requires fresh { HasNoFibres (P.fibres plant.old) }
 
-    // The number and the text that is written, for a source that tells its bytes, where it is read, and a sink that tells what was
-    // written. Over every plant the frames sent are those of the run, and where arrivals are known all of them are told.
+    // The number and the text that is written, for a source that shows its bytes, where it is read, and a sink that
+    // shows what was written. Over every plant the frames sent are those of the run, and where arrivals are known all
+    // of them are known.
     ensures outcome { let reads : Counts = record { before = R.faults source.old; after = R.faults source.new } in
         let calls : Counts = record { before = P.faults plant.old; after = P.faults plant.new } in
         IfSome (told (words_of words.now) (R.left source.old)) (λ bytes. Answers (words_of words.now) bytes (P.fibres plant.old)
@@ -52,8 +53,8 @@ pub fn sdhpath<R: Source, W: Sink, P: Plant>(
     ensures plant_fault { result ≡ 8 → Rose (P.faults plant.old) (P.faults plant.new) }
     ensures write_fault { result ≡ 4 → Rose (W.faults sink.old) (W.faults sink.new) }
 
-    // Where an object's count is exact, each of its calls that failed is told by its fault, and none is tried again; a write fault
-    // may stand in place of what was to be told. With 9 one byte more than a plan may have was taken.
+    // Where an object's count is exact, each failed call is reported as its fault, and none is tried again; a write
+    // fault may stand in place of what was to be reported. With 9 one byte more than a plan may have was taken.
     ensures came { let reads : Counts = record { before = R.faults source.old; after = R.faults source.new } in
         let calls : Counts = record { before = P.faults plant.old; after = P.faults plant.new } in
         (how : Ending) × ((result ≡ number_of how) ⊎ (result ≡ 4))

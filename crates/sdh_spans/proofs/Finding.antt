@@ -29,7 +29,7 @@ use Rattle.sdh_spans.proofs.Parities.{aus_through, shows_through, b2_through}
 
 -- ---- a frame that arrived
 
--- what is found in a frame that says this word, with so many violations
+-- what is found in a frame that says this word, with `b2` violations
 record FindsWord (clear : List ℕ) (threshold b2 : ℕ) (k : K) (last : Option Parities) (f : Reception) : Type 0 where
   pub bytes_are : f.bytes ≡ clear
   pub defect_is : f.defect ≡ (if nat_le threshold b2 then defect.Sd else defect.None)
@@ -57,7 +57,7 @@ found_word rate threshold k line last says other =
     ∙ ap (frame_reception rate threshold clear kept) (received_says rate k last line says) in
     subst (FindsWord clear threshold b2 k kept) (sym is) (found_at rate threshold clear kept k b2 other)
 
--- violations against the same B2 are the same
+-- violations against one B2 are equal
 pub b2_by : (n : ℕ) (last : Option Parities) (a b : List ℕ) → b2_in n a ≡ b2_in n b → b2_violations n last a ≡ b2_violations n last b
 b2_by n None a b e = refl
 b2_by n (Some last) a b e = ap (violations_of last.b2) e
@@ -77,7 +77,7 @@ inlets_stay at threshold i is = record {
       (found threshold i).bytes i.readings ∙ is.readings;
 }
 
--- one that was told nothing
+-- a side that received nothing
 pub untold_sides_find_nothing : UntoldSidesFindNothing
 unfolding taken_in after_taking
 untold_sides_find_nothing threshold i none =
@@ -91,7 +91,7 @@ untold_sides_find_nothing threshold i none =
       last = ap (λ (f : Reception). f.last) is;
     }
 
--- ---- a side that was told what came
+-- ---- a side that received what came
 
 module _ (at : Rate) (c : Condition) (k : K) (line : List ℕ) (threshold : ℕ) (i : Inlet) (is : IsTold at c k line i) where
   abbrev n : ℕ
@@ -124,7 +124,7 @@ module _ (at : Rate) (c : Condition) (k : K) (line : List ℕ) (threshold : ℕ)
     same_b2 : b2_violations n last (scrambled (9 * n) out) ≡ b2_violations n last (scrambled (9 * n) line)
     same_b2 = b2_by n last _ _ (b2_through at c line out is.says.size comes.there)
 
-  -- what is so behind a cut fibre, and behind any other
+  -- what is so after a cut fibre, and after any other
   by_cut : {X : Type 0} (x a b : X) → (is_cut c ≡ true → x ≡ a) → (is_cut c ≡ false → x ≡ b) → x ≡ (if is_cut c then a else b)
   by_cut x a b behind_cut behind_clear = elim (cases_Bool (is_cut c)) [
     | inl cut ↦ behind_cut cut ∙ sym (ap (λ (t : Bool). if t then a else b) cut)

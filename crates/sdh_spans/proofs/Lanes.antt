@@ -23,7 +23,7 @@ lane-part m i c a b bytes h e room =
 lane-rest : (m i c a : ℕ) (bytes : List ℕ) → i < m → length bytes ≡ a + c * m → lane m i (drop a bytes) ≡ every (a + i) m c bytes
 lane-rest m i c a bytes h e = ap (lane m i) (sym (take_rest bytes a)) ∙ lane-part m i c a (length bytes) bytes h e (omega arith)
 
--- BIP-8 of a lane of four parts, of which the first three are whole rows
+-- BIP-8 of a lane of four parts; the first three are whole rows
 lane-four : (m i c : ℕ) (p q r s : List ℕ) → length p ≡ c * m → length q ≡ c * m → length r ≡ c * m
     → bip8 (lane m i (p ++ q ++ r ++ s)) ≡ bit_xor (bit_xor (bit_xor (bip8 (lane m i p)) (bip8 (lane m i q))) (bip8 (lane m i r)))
     (bip8 (lane m i s))

@@ -26,7 +26,7 @@ use Rattle.sdh_spans.proofs.Finding.{sides_find_so}
 use Rattle.sdh_spans.proofs.Sends.{sides_send_so, carried_by, word_in_au}
 use Rattle.sdh_spans.proofs.Reading.{TookIn, reading_there, side_reads, side_brings, side_silent, word_of_ones}
 
--- ---- a side that was told what came
+-- ---- a side that received what came
 
 module _ (at : Rate) (c : Condition) (w : K) (line : List ℕ) (i : Inlet) (threshold : ℕ) (l : Lines) (d : Side) (k : ℕ)
     (is : IsTold at c w line i) (there : line_on l d ≡ line_after threshold i) (high : k + 1 ≤ n_of at) where
@@ -52,7 +52,7 @@ module _ (at : Rate) (c : Condition) (w : K) (line : List ℕ) (i : Inlet) (thre
   few : k < length i.readings
   few = let e = is.inlet.readings in omega arith
 
-  -- what comes in an AU-4 behind a fibre that isn't cut, and behind one that is
+  -- what comes in an AU-4 after a fibre that isn't cut, and after one that is
   au_taken : is_cut c ≡ false → au_of n (k + 1) taken ≡ au_of n (k + 1) (scrambled (9 * n) line)
   au_taken clear = ap (au_of n (k + 1)) bytes_are ∙ finds.aus clear (k + 1) (omega arith) high
 

@@ -1,4 +1,4 @@
--- One span in many rounds: what comes to rest behind it.
+-- One span in many rounds: what comes to rest after it.
 use Rattle.std.proofs.Common.{◌≡◌, ℕ, zero, suc, ◌+◌, ◌-◌, ◌≤◌, Bool, true, false, Option, ap, ap₂, sym, ◌∙◌, subst, arith}
 use Rattle.sdh_pointer.specs.declared.reading.Reading.{Reading}
 use Rattle.sdh_pointer.specs.declared.reading.Action.TheVariants as action
@@ -52,7 +52,7 @@ module _ (went : ℕ → Input) (sending : ℕ → Option ℕ) (k : ℕ) (goes :
 pub generators_rest : GeneratorsRest
 generators_rest went sending k goes c j h = sending_rests went sending k goes c j h
 
--- ---- the interpreter behind the fibre
+-- ---- the interpreter after the fibre
 
 module _ (cut : Bool) (went came : ℕ → Input) (sending : ℕ → Option ℕ) (reading : ℕ → Reading) (k : ℕ) (goes : GoesBy went sending)
     (behind : TakesBehind cut went sending reading came) (c : IsConstant went k) where

@@ -26,8 +26,8 @@ pub record CarriesWord (rate : Rate) (k : K) (a : Arrival) : Type 0 where
   pub there : a ≡ Some line
   pub says : Says rate k line
 
--- the fibres that leave position p, after so many rounds: each carries nothing before round 0, and then a frame with the word
--- of its side
+-- the fibres that leave position p, after this number of rounds: each carries nothing before round 0, and then a frame
+-- with the word of its side
 pub record AreCarried (rate : Rate) (f : Fibres) (rounds p : ℕ) (words : Side → K) : Type 0 where
   pub dark : (d : Side) → rounds ≡ 0 → carried_on f (fibre p d) ≡ None
   pub frames : (d : Side) → 0 < rounds → CarriesWord rate (words d) (carried_on f (fibre p d))

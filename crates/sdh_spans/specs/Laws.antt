@@ -29,7 +29,7 @@ use Rattle.sdh_spans.specs.Spans.{IsSpan, line_after, TakesWord, word_behind, Is
 
 -- ---- frames
 
--- a frame says the same word behind every fibre that isn't cut, and behind one that is nothing comes
+-- a frame says its word after every fibre that isn't cut, and nothing comes after one that is
 pub record FramesComeThrough : Type 0 where
   pub word : (at : Rate) (k : K) (c : Condition) (a : Arrival) → is_cut c ≡ false → CarriesWord at k a
       → CarriesWord at k (through (n_of at) c a)
@@ -57,7 +57,7 @@ SidesFindSo =
 abbrev pub PortsDeliver : Type 0
 PortsDeliver = (i : Input) (b : Outlet) → HasValue b → Brings i b → delivered_from i ≡ b
 
--- and a port that justifies nothing brings the next bytes of its stream
+-- a port that justifies nothing brings the next bytes of its stream
 abbrev pub PortsBring : Type 0
 PortsBring = (feed : Fed) → next_form feed.clock ≡ Plain → Brings (input_by (sent_in feed)) (plainly feed.port feed.clock)
 
@@ -80,7 +80,7 @@ SpansBring =
     → slice_index_or x.generators k None ≡ next_sending (slice_index_or x.generators k None) (input (k + 1)).action (input (k + 1)).value
     → (b : Outlet) → HasValue b → Brings (input (k + 1)) b → Brings (received l d (k + 1)) b
 
--- and where the fibre is cut AIS comes, whatever was sent
+-- where the fibre is cut AIS comes, whatever was sent
 abbrev pub CutSpansBringAis : Type 0
 CutSpansBringAis =
     (at : Rate) (c : Condition) (w : K) (line : List ℕ) (i : Inlet) (threshold : ℕ) (l : Lines) (d : Side) (k : ℕ) → IsTold at c w line i
@@ -95,7 +95,7 @@ GeneratorsRest =
     (went : ℕ → Input) (sending : ℕ → Option ℕ) (k : ℕ) → GoesBy went sending → (c : IsConstant went k) → (j : ℕ) → k + 1 ≤ j
     → sending j ≡ lasting_state c.does c.value
 
--- and nine rounds later the interpreter behind the fibre isn't moved any more, and what comes has one action and one value,
+-- nine rounds later the interpreter after the fibre isn't moved any more, and what comes has one action and one value,
 -- whatever both kept before
 pub record RestsBehind (reading : ℕ → Reading) (came : ℕ → Input) (k : ℕ) : Type 0 where
   pub stays : (j : ℕ) → k + 9 ≤ j → reading (suc j) ≡ reading j

@@ -53,12 +53,13 @@ pub record SendsSo (at : Rate) (input : ℕ → Input) (x : Sending) : Type 0 wh
       ≡ au_sent (slice_index_or x.generators k None) (input (k + 1))
   pub goes : (k : ℕ) → k + 1 ≤ n_of at → slice_index_or (after_sending input x).generators k None
       ≡ next_sending (slice_index_or x.generators k None) (input (k + 1)).action (input (k + 1)).value
-  -- so it is a side that sends
+  -- after sending it is a side that sends still
   pub stays : IsSenderAt at (after_sending input x)
 
 -- ---- what is found
 
--- a side that was told nothing: it has no defect, brings no word, and keeps what its interpreters kept; each AU-4 counts as AIS
+-- a side that received nothing: it has no defect, brings no word, and keeps what its interpreters kept; each AU-4
+-- counts as AIS
 pub record FindsNothing (threshold : ℕ) (i : Inlet) : Type 0 where
   pub defect : (found threshold i).defect ≡ defect.None
   pub word : (found threshold i).word ≡ None
@@ -66,7 +67,7 @@ pub record FindsNothing (threshold : ℕ) (i : Inlet) : Type 0 where
   pub reads : (after_taking threshold i).readings ≡ i.readings
   pub last : (after_taking threshold i).section.last ≡ None
 
--- a side that was told what came through a fibre, in this condition, on which this frame was sent, which says this word
+-- a side that received what came through a fibre, in this condition, on which this frame was sent, which says this word
 pub record IsTold (at : Rate) (c : Condition) (k : K) (line : List ℕ) (i : Inlet) : Type 0 where
   pub may : IsConditionAt at c
   pub says : Says at k line

@@ -1,4 +1,4 @@
--- One span: a side that sends, the fibre, and the side behind it; in one round, and in many.
+-- One span: a side that sends, the fibre, and the side after it; in one round, and in many.
 use Rattle.std.specs.Prelude.{ℕ, suc, ◌≡◌, ◌≢◌, ◌≤◌, Bool, if◌then◌else◌, Option, Some}
 use Rattle.sdh_terms.specs.declared.Rate.{Rate}
 use Rattle.sdh_terms.specs.Rates.{n_of}
@@ -17,17 +17,18 @@ use Rattle.sdh_terminal.specs.Lines.{Line}
 use Rattle.sdh_terminal.specs.Sending.{Sending, line_frame_from}
 use Rattle.sdh_spans.specs.Sides.{IsInletAt, IsSenderAt, AreFull}
 
--- a side that sent, of these AU-4s, on a fibre in this condition, and the side that was told in the round after what came
+-- a side that sent, of these AU-4s, on a fibre in this condition, and the side that received in the next round what
+-- came
 pub record IsSpan (at : Rate) (c : Condition) (input : ℕ → Input) (x : Sending) (i : Inlet) : Type 0 where
   pub may : IsConditionAt at c
   pub sender : IsSenderAt at x
-  -- it doesn't say that nothing comes
+  -- the word does not say that nothing comes
   pub no_ais : x.word.mark ≢ mark.MsAis
   pub full : AreFull input
   pub inlet : IsInletAt at i
   pub told : i.arrived ≡ Some (through (n_of at) c (Some (line_frame_from input x)))
 
--- what the node behind it has on that side in the round in which it takes what came
+-- what the node after it has on that side in the round in which it takes what came
 abbrev pub line_after : ℕ → Inlet → Line
 line_after threshold i = record { readings = (after_taking threshold i).readings; intake = taken_in threshold i }
 
@@ -39,7 +40,7 @@ pub record TakesWord (old new : Reading) (i : Input) (word : ℕ) : Type 0 where
   pub action : i.action ≡ action_on old word
   pub value : i.value ≡ new.value
 
--- the word that is read behind a fibre: ones where it is cut, whatever was sent
+-- the word that is read after a fibre: ones where it is cut, whatever was sent
 abbrev pub word_behind : Bool → ℕ → ℕ
 word_behind cut word = if cut then 65535 else word
 
@@ -57,7 +58,7 @@ pub record IsConstant (f : ℕ → Input) (k : ℕ) : Type 0 where
 abbrev pub GoesBy : (ℕ → Input) → (ℕ → Option ℕ) → Type 0
 GoesBy went sending = (j : ℕ) → sending (suc j) ≡ next_sending (sending j) (went j).action (went j).value
 
--- and the interpreter behind the fibre by the word that was sent one round before
+-- the interpreter after the fibre goes by the word that was sent one round before
 abbrev pub TakesBehind : Bool → (ℕ → Input) → (ℕ → Option ℕ) → (ℕ → Reading) → (ℕ → Input) → Type 0
 TakesBehind cut went sending reading came =
     (j : ℕ) → TakesWord (reading (suc j)) (reading (suc (suc j))) (came (suc j))

@@ -7,7 +7,7 @@
 ghost use Rattle.sdh_spans.specs.Laws.{FramesComeThrough, SidesSendSo, InletsStay, UntoldSidesFindNothing, SidesFindSo, PortsDeliver};
 ghost use Rattle.sdh_spans.specs.Laws.{PortsBring, SpansTakeWords, SpansBring, CutSpansBringAis, GeneratorsRest, SpansAreSteady};
 
-/// A frame says its word behind every fibre that isn't cut.
+/// A frame says its word after every fibre that isn't cut.
 pub fn frames_come_through()
     ensures { FramesComeThrough }
 {}
@@ -22,7 +22,7 @@ pub fn inlets_stay()
     ensures { InletsStay }
 {}
 
-/// Where nothing was told nothing is found.
+/// Where nothing was received nothing is found.
 pub fn untold_sides_find_nothing()
     ensures { UntoldSidesFindNothing }
 {}
@@ -52,7 +52,7 @@ pub fn spans_bring()
     ensures { SpansBring }
 {}
 
-/// Where it is cut it brings AIS.
+/// A cut span brings AIS.
 pub fn cut_spans_bring_ais()
     ensures { CutSpansBringAis }
 {}
@@ -62,7 +62,7 @@ pub fn generators_rest()
     ensures { GeneratorsRest }
 {}
 
-/// Nine rounds later what comes behind the span is constant too.
+/// Nine rounds later what comes after the span is constant too.
 pub fn spans_are_steady()
     ensures { SpansAreSteady }
 {}

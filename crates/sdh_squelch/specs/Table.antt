@@ -44,7 +44,7 @@ pub record SquelchTable : Type 0 where
 abbrev pub table_of : List ℕ → List Provisioned → Pos → SquelchTable
 table_of ring circuits at = record { ring = ring; at = at; circuits = circuits }
 
--- its sixteen rows: those of the west side before those of the east side
+-- the sixteen rows of a table: those of the west side before those of the east side
 unfoldable pub rows_of : SquelchTable → List (Option Row)
 rows_of t = let n = length t.ring in slots_on n t.circuits t.at.0 West ++ slots_on n t.circuits t.at.0 East
 

@@ -45,7 +45,7 @@ impl Model for Table {
     ghost invariant = { λ t. IsTable (record { ring = t.map; at = t.at; circuits = t.circuits.value.circuits }) t.rows.items };
 }
 
-// The circuit on a span in a slot.
+// Returns the circuit on a span in a slot.
 fn row_on(circuits: &CircuitMap, span: Span, slot: Slot) -> Option<Row>
     requires { IsProvisioning circuits.now }
     ensures row { (ids : List ℕ) → KeepsRing circuits.now ids → result ≡ circuit_on (length ids) circuits.now.circuits span.0 slot.0 }
@@ -83,7 +83,7 @@ fn add_rows(
 }
 
 impl Table {
-    /// The table of the node at a position. All its memory is taken here.
+    /// Returns the table of the node at a position. All its memory is taken here.
     pub fn try_new(
         alloc: Global,
         map: &RingMap,
@@ -106,8 +106,8 @@ impl Table {
         })
     }
 
-    /// The sixteen rows, for slots 1 to 8 of the west side, then for slots 1 to 8 of the east side. A slot that the
-    /// ring doesn't have has no circuit.
+    /// Returns the sixteen rows, for slots 1 to 8 of the west side, then for slots 1 to 8 of the east side. A slot that
+    /// the ring doesn't have has no circuit.
     pub fn rows(&self) -> &[Option<Row>]
         ensures rows { result.now ≡ rows_of self.now }
         ensures sixteen { length result.now ≡ 16 }
@@ -115,7 +115,7 @@ impl Table {
         self.rows.as_slice()
     }
 
-    // The row of a side and slot.
+    // Returns the row of a side and slot.
     fn row(&self, side: Side, slot: Slot) -> Option<Row>
         requires slot { (1 ≤ slot.0) × (slot.0 ≤ 8) }
         ensures row { result ≡ circuits_at (length self.now.ring) self.now.circuits self.now.at.0 slot.0 side }
@@ -128,7 +128,7 @@ impl Table {
         }
     }
 
-    /// The number of the circuit on a side in a slot.
+    /// Returns the number of the circuit on a side in a slot.
     pub fn circuit(&self, side: Side, slot: Slot) -> Option<u8>
         requires { (1 ≤ slot.0) × (slot.0 ≤ 8) }
         ensures { result ≡ option_map (λ r. r.circuit) (circuits_at (length self.now.ring) self.now.circuits self.now.at.0 slot.0 side) }
@@ -137,7 +137,7 @@ impl Table {
         Some(row.circuit)
     }
 
-    /// The positions of the two ends, port A's before port B's, of the circuit on a side in a slot.
+    /// Returns the positions of the two ends, port A's before port B's, of the circuit on a side in a slot.
     pub fn ends(&self, side: Side, slot: Slot) -> Option<(Pos, Pos)>
         requires { (1 ≤ slot.0) × (slot.0 ≤ 8) }
         ensures { result ≡ option_map (λ r. (r.from, r.to))
@@ -147,7 +147,7 @@ impl Table {
         Some((row.from, row.to))
     }
 
-    /// Whether a circuit is on a side in a slot and both its ends are in the chain.
+    /// Returns whether a circuit is on a side in a slot and both its ends are in the chain.
     pub fn may_carry(&self, map: &RingMap, side: Side, slot: Slot, chain: Chain) -> bool
         requires map { self.now.ring ≡ map.now }
         requires slot { (1 ≤ slot.0) × (slot.0 ≤ 8) }

@@ -30,7 +30,7 @@ pub find_tail : (id : PortId) (t : Tributary) (ts : List Tributary) → is_port 
     → find (is_port id) (t ∷ ts) ≡ find (is_port id) ts
 find_tail id t ts e = rw e refl
 
--- it has the name, and what is true of all ports
+-- a port that is found has the name, and what is true of all ports
 pub found_has : (P : Tributary → Type 0) (id : PortId) (ts : List Tributary) (t : Tributary) → All P ts → port_of id ts ≡ Some t
     → P t × (is_port id t ≡ true)
 unfolding port_of
@@ -42,7 +42,7 @@ found_has P id (u ∷ ts) t all is = by (is_port id u) refl (λ rest. found_has 
         (let k = sym (find_head id u ts e) ∙ is in cc) in subst (λ x. P x × (is_port id x ≡ true)) same (all 0 u (omega arith), e)
     by false e later = later (sym (find_tail id u ts e) ∙ is)
 
--- the same, among what a change made of all
+-- a port that is found among what a change made of all has what is true of all these
 pub found_one : (P : Tributary → Type 0) (id : PortId) (f : ℕ → Tributary → Tributary) (i : ℕ) (ts : List Tributary) (t : Tributary)
     → ((k : ℕ) (u : Tributary) → P (f k u)) → find (is_port id) (map_from f i ts) ≡ Some t → P t
 found_one P id f i [] t each is = absurd (cc)
@@ -190,7 +190,7 @@ ports_mapped f i [] same = refl
 ports_mapped f i (t ∷ ts) same =
     ap (λ p. p ∷ map fixed_port (map_from f (i + 1) ts)) (same i t) ∙ ap (λ ps. fixed_port t ∷ ps) (ports_mapped f (i + 1) ts same)
 
--- of new ports
+-- what is true of new ports
 pub new_ports : (P : Tributary → Type 0) → ((i : ℕ) (e : End) (d : Side) (s : Slot) (c : Customer) → P (new_tributary i e d s c))
     → (at : Pos) (i : ℕ) (cs : List Provisioned) → All P (tributaries_from at i cs)
 new_ports P each at i [] = All-nil P

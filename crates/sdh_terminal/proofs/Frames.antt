@@ -1,4 +1,4 @@
--- The frame that a side sends is the same whatever stood in its buffer.
+-- The frame that a side sends doesn't depend on what stood in its buffer.
 use Rattle.std.proofs.Common.{◌≡◌, ℕ, List, Some, length, replicate, ap, ◌∙◌}
 use Rattle.std.proofs.lemmas.List.{length-replicate}
 use Rattle.sdh_frame.specs.Sizes.{Frame, size_of}

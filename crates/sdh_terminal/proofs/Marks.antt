@@ -1,4 +1,4 @@
--- Interpreters and generators tell after each step whether it moved them: none moved where all keep what they kept.
+-- Interpreters and generators say after each step whether it moved them: none moved where all keep what they kept.
 use Rattle.std.proofs.Common.{◌≡◌, ℕ, ◌+◌, Bool, true, false, List, [], ◌∷◌, map, refl, ap, sym, ◌∙◌}
 use Rattle.std.specs.Prelude.{◌&&◌, ◌||◌, not}
 use Rattle.std.specs.List.{list_any}

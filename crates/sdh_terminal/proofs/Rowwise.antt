@@ -1,4 +1,4 @@
--- A sent frame, of which row after row is put together and written.
+-- A sent frame that is put together and written row after row.
 use Rattle.std.proofs.Common.{◌≡◌, ℕ, ◌+◌, ◌*◌, ◌-◌, ◌<◌, ◌≤◌, List, ◌++◌, length, Some, refl, ap, sym, subst, ◌∙◌, arith}
 use Rattle.std.specs.Prelude.{slice_range}
 use Rattle.sdh_terms.specs.declared.Rate.{Rate}
@@ -13,8 +13,8 @@ use Rattle.sdh_overhead.proofs.Built.{BuiltTo, built-next, all-built, built-kept
 use Rattle.sdh_interchange.specs.Assembled.{HasRow}
 use Rattle.sdh_interchange.proofs.Rows.{row-alike}
 
--- what is done for a row of a frame at this rate: `mid` is the buffer with the row put together, `was` the row that is lent of it, `part`
--- the row as it is written
+-- what is done for a row of a frame at this rate: `mid` is the buffer with the row put together, `was` the row that is
+-- handed out of it, `part` the row as it is written
 record GetsRow (aus : ℕ → List Au) (row : ℕ) (now mid was part new : List ℕ) (rate : Rate) : Type 0 where
   put : HasRow (n_of rate) row (with_aus (n_of rate) 1 (aus (n_of rate)) now) now mid
   lent : was ≡ slice_range mid ((row - 1) * (270 * n_of rate)) (row * (270 * n_of rate))

@@ -1,4 +1,4 @@
--- Interpreters and generators that are told to be the same are the same.
+-- Interpreters and generators that compare as equal are equal.
 use Rattle.std.proofs.Common.{◌≡◌, ℕ, true, List, [], ◌∷◌, Option, refl, ap, ◌∙◌}
 use Rattle.std.proofs.lemmas.Bool.{and_parts}
 use Rattle.sdh_pointer.specs.declared.reading.Reading.{Reading}

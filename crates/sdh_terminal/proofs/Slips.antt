@@ -1,4 +1,4 @@
--- Ports at one of which more slips wait.
+-- Ports, with more slips that wait at one of them.
 use Rattle.std.proofs.Common.{◌≡◌, ℕ, zero, suc, ◌+◌, ◌<◌, ◌≤◌, Bool, true, false, Some, None, Option, List, [], ◌∷◌, length, set, get_or}
 use Rattle.std.proofs.Common.{inl, inr, refl, ap, sym, ◌∙◌, arith}
 use Rattle.std.specs.Prelude.{◌==◌, ◌&&◌, if◌then◌else◌, All}
@@ -108,11 +108,11 @@ numbers_turned m n = elim (cases_eq m n) [
 names_turned : (p q : PortId) → same_port p q ≡ same_port q p
 names_turned p q = let h = numbers_turned p.circuit q.circuit in let k = ends_turned p.end q.end in λ j. (h j) && (k j)
 
--- a port with one name has another where these are the same
+-- a port with one name has another name exactly where the two are equal
 named : (id other : PortId) (t : Tributary) → is_port id t ≡ true → is_port other t ≡ same_port other id
 named id other t here = ap (λ p. same_port p other) (names_equal t.port id here) ∙ names_turned id other
 
--- the port with a name, where so many more slips wait at the port with this one
+-- the port with a name, with `count` more pending slips at the port with this one
 abbrev pub slipped_where : PortId → PortId → Turn → ℕ → Tributary → Tributary
 slipped_where other id turn count t = if same_port other id then slipped turn count t else t
 

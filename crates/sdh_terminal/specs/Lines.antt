@@ -42,7 +42,7 @@ fed_by l added (feeder.Port port) = added port
 fed_by l added (feeder.Received side au) = received l side au
 fed_by l added feeder.Ais = no_input
 
--- the same of all AU-4s that leave on a side, by their numbers
+-- what all AU-4s that leave on a side are fed with, by their numbers
 abbrev pub all_fed_by : Lines → (PortId → Input) → (ℕ → Feeder) → ℕ → Input
 all_fed_by l added leads au = fed_by l added (leads au)
 

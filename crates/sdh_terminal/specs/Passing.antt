@@ -24,7 +24,8 @@ no_input = record { action = action.Ais; value = 0; au = ones }
 abbrev pub h3_of : List ℕ → List ℕ
 h3_of pointers = slice_index pointers 6 ∷ slice_index pointers 7 ∷ slice_index pointers 8 ∷ []
 
--- they carry payload, and are passed on, where the word is that of a negative justification; else zeros are sent
+-- the three H3 bytes that are sent: they carry payload, and are passed on, where the word is that of a negative
+-- justification; else they are zeros
 abbrev pub h3_sent : Form → List ℕ → List ℕ
 h3_sent form.Down pointers = h3_of pointers
 h3_sent form.Normal pointers = 0 ∷ 0 ∷ 0 ∷ []

@@ -23,14 +23,14 @@ use Rattle.sdh_pointer.specs.Reading.{Interpreter, after_word, action_on, start}
 use Rattle.sdh_plant.specs.Fibres.{Arrival}
 
 pub record Inlet : Type 0 where
-  -- what arrived since the last round: None where nothing was told; else the bytes of a frame, or darkness
+  -- what arrived since the last round: None where nothing was received; else the bytes of a frame, or darkness
   pub arrived : Option Arrival
   -- the parities of the frame before
   pub section : section.SectionKept
   -- what the interpreters of AU-4s 1 to N keep
   pub readings : List Reading
 
--- one that has received nothing
+-- a side that has received nothing
 abbrev pub new_inlet : Rate → Inlet
 new_inlet rate = record { arrived = None; section = holding rate None; readings = replicate (n_of rate) start }
 
@@ -67,8 +67,8 @@ abbrev pub frame_reception : Rate → ℕ → List ℕ → Option Parities → R
 frame_reception rate threshold clear last Unframed = failure rate last
 frame_reception rate threshold clear last (Framed k1 k2 b1 b2) = framed_reception rate threshold clear last k1 k2 b2
 
--- A frame; darkness, which is a failure; or nothing was told: then the side has no defect, brings no word, and its frame
--- counts as ones. Where there is no frame the section forgets.
+-- A frame; darkness, which is a failure; or nothing was received: then the side has no defect, brings no word, and its
+-- frame counts as ones. Where there is no frame the section forgets.
 abbrev pub reception_of : Option Arrival → Rate → ℕ → Option Parities → Reception
 reception_of None rate threshold last = record { defect = defect.None; word = None; bytes = all_ones rate; last = None }
 reception_of (Some None) rate threshold last = failure rate None
@@ -98,8 +98,8 @@ actions_in n bytes readings = map_from (λ k r. action_on r (pointer_word_at n b
 
 -- ---- a round
 
--- What a side takes in, in a round: the frame without scrambling, ones where the side fails or nothing was told, and what
--- the interpreters of AU-4s 1 to N made of it.
+-- What a side takes in, in a round: the frame without scrambling, ones where the side fails or nothing was received,
+-- and what the interpreters of AU-4s 1 to N made of it.
 pub record Intake : Type 0 where
   pub frame : Frame
   pub actions : List Action
@@ -108,7 +108,8 @@ pub record Intake : Type 0 where
 abbrev pub new_intake : Rate → Intake
 new_intake rate = record { frame = record { rate = rate; bytes = replicate (size_of rate) 0 }; actions = replicate (n_of rate) action.Ais }
 
--- interpreters read where something was told; where nothing was, they keep what they kept, and every AU-4 counts as AIS
+-- interpreters read where something was received; where nothing was, they keep what they kept, and every AU-4 counts as
+-- AIS
 abbrev pub readings_by : Bool → ℕ → List ℕ → List Reading → List Reading
 readings_by told n bytes readings = if told then after_frame n bytes readings else readings
 

@@ -29,7 +29,7 @@ pub record Tributary : Type 0 where
   -- the side on which its circuit leaves the node, and its working slot there
   pub side : Side
   pub slot : Slot
-  -- its stream, of which bytes are taken in each round
+  -- the port's stream; bytes of it are taken in each round
   pub feed : Fed
   -- what it delivered in the last round
   pub outlet : Outlet
@@ -52,7 +52,7 @@ tributaries_of at i c =
     (if c.from.0 == at.0 then new_tributary i A East c.slot c.a ∷ [] else [])
     ++ (if c.to.0 == at.0 then new_tributary i B West c.slot c.b ∷ [] else [])
 
--- those of circuits that are numbered from i on
+-- the ports at a position, of circuits that are numbered from i on
 abbrev pub tributaries_from : Pos → ℕ → List Provisioned → List Tributary
 tributaries_from at i [] = []
 tributaries_from at i (c ∷ cs) = tributaries_of at i c ++ tributaries_from at (i + 1) cs
@@ -83,7 +83,7 @@ waiting_of id ports = option_map_or (λ t. waiting t.feed.clock) (port_of id por
 
 -- ---- between rounds
 
--- so many more slips wait at a port
+-- a port with `count` more pending slips
 abbrev pub slipped : Turn → ℕ → Tributary → Tributary
 slipped turn count t = record t { feed = record t.feed { clock = with_waiting turn count t.feed.clock } }
 
@@ -132,7 +132,7 @@ input_by a = record { action = a.action; value = a.value; au = record { pointers
 abbrev pub added_by : List Tributary → PortId → Input
 added_by ports id = option_map_or (λ t. input_by (sent_in t.feed)) (port_of id ports) no_input
 
--- the same of ports as the round leaves them
+-- what a port adds, as the round leaves it
 abbrev pub own_input : Tributary → Input
 own_input t = input_by (sent_by t.feed)
 
@@ -148,14 +148,14 @@ all_fed ports = map_from (λ i t. fed t) 0 ports
 
 -- ---- what it delivers
 
--- of what is dropped to it
+-- a port with what it delivers of what is dropped to it
 abbrev pub delivered_with : (Tributary → Input) → Tributary → Tributary
 delivered_with dropped t = record t { outlet = delivered_from (dropped t) }
 
 abbrev pub all_delivered_with : (Tributary → Input) → List Tributary → List Tributary
 all_delivered_with dropped ports = map_from (λ i t. delivered_with dropped t) 0 ports
 
--- ---- what is true of every port at a node with so many working slots, after so many rounds
+-- ---- what is true of every port at a node with `slots` working slots, after `rounds` rounds
 
 pub record IsTributary (slots rounds : ℕ) (t : Tributary) : Type 0 where
   pub first : 1 ≤ t.slot.0

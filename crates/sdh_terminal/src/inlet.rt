@@ -50,7 +50,7 @@ impl Model for Inlet {
 }
 
 impl Inlet {
-    /// A side that has received nothing. All its memory is taken here.
+    /// Returns a side that has received nothing. All its memory is taken here.
     pub fn try_new(alloc: Global, rate: Rate) -> Result<Inlet, AllocError>
         ensures { IfOk result (λ r. r ≡ new_inlet rate) }
     {
@@ -99,7 +99,7 @@ impl Inlet {
         }
     }
 
-    // Whether something was told to have arrived.
+    // Returns whether something was received, be it darkness.
     fn is_told(&self) -> bool
         ensures { result ≡ is_some self.now.arrived }
     {
@@ -141,8 +141,8 @@ impl Inlet {
         }
     }
 
-    // All interpreters read the frame, where something was told. Where nothing was they don't, and every AU-4 counts as
-    // AIS. Whether they keep what they kept.
+    // Lets all interpreters read the frame, where something was received; where nothing was they do not, and every AU-4
+    // counts as AIS. Returns whether they keep what they kept.
     fn interpret(&mut self, told: bool, intake: &mut Intake) -> bool
         requires { intake.old.frame.rate ≡ self.old.section.rate }
         ensures side { self.new ≡ record self.old {
@@ -182,7 +182,7 @@ impl Inlet {
         (defect, word, same)
     }
 
-    /// The value of the interpreter of an AU-4.
+    /// Returns the value of the interpreter of an AU-4.
     pub fn value(&self, au: u16) -> u16
         requires first { 1 ≤ au }
         requires last { au ≤ n_of self.now.section.rate }

@@ -43,7 +43,7 @@ impl Model for Intake {
 }
 
 impl Intake {
-    /// Before the first round. All its memory is taken here.
+    /// Returns the intake before the first round. All its memory is taken here.
     pub fn try_new(alloc: Global, rate: Rate) -> Result<Intake, AllocError>
         ensures { IfOk result (λ i. i ≡ new_intake rate) }
     {
@@ -53,21 +53,21 @@ impl Intake {
         })
     }
 
-    /// The rate of the frame.
+    /// Returns the rate of the frame.
     pub fn rate(&self) -> Rate
         ensures { result ≡ self.now.frame.rate }
     {
         self.frame.rate()
     }
 
-    /// The frame.
+    /// Returns the frame.
     pub fn frame(&self) -> &FrameBuf
         ensures { result.now ≡ self.now.frame }
     {
         &self.frame
     }
 
-    /// The action of the interpreter of an AU-4.
+    /// Returns the action of the interpreter of an AU-4.
     pub fn action(&self, au: u16) -> Action
         requires first { 1 ≤ au }
         requires last { au ≤ n_of self.now.frame.rate }
@@ -86,7 +86,7 @@ impl Intake {
         inbox.swap_frame(&mut self.frame);
     }
 
-    /// A frame of ones.
+    /// Makes the frame one of ones.
     pub fn fill_ones(&mut self)
         ensures { self.new ≡ record self.old { frame = record { rate = self.old.frame.rate; bytes = all_ones self.old.frame.rate } } }
     {
@@ -122,7 +122,7 @@ impl Intake {
         find_frame(threshold, received, &mut self.frame)
     }
 
-    /// All interpreters read the frame. Whether they keep what they kept.
+    /// Lets all interpreters read the frame. Returns whether they keep what they kept.
     pub fn read(&mut self, interps: &mut Vec<Interp>) -> bool
         requires { length interps.old.items ≡ n_of self.old.frame.rate }
         ensures intake { self.new ≡ record self.old {
@@ -136,7 +136,7 @@ impl Intake {
         read_all(&self.frame, interps, &mut self.actions)
     }
 
-    /// No interpreter reads, and every AU-4 counts as AIS.
+    /// Lets every AU-4 count as AIS. No interpreter reads.
     pub fn silence(&mut self)
         ensures { self.new ≡ record self.old { actions = replicate (n_of self.old.frame.rate) Action.Ais } }
     {
@@ -144,8 +144,8 @@ impl Intake {
     }
 }
 
-// What an opened frame is to a side by what it says, where B2 may have fewer violations than the threshold: the defect, and the
-// word heard. A frame that fails becomes ones.
+// Returns what an opened frame is to a side by what it says, where B2 may have fewer violations than the threshold: the
+// defect, and the word heard. A frame that fails becomes ones.
 fn find_frame(threshold: u16, received: Received, frame: &mut FrameBuf) -> (Defect, Option<K>)
     ensures frame { (last : Option Parities)
         → frame.new ≡ record frame.old { bytes = (frame_reception frame.old.rate threshold frame.old.bytes last received).bytes } }
@@ -174,7 +174,7 @@ fn find_frame(threshold: u16, received: Received, frame: &mut FrameBuf) -> (Defe
     }
 }
 
-// The three bytes H3 of an AU-4.
+// Returns the three bytes H3 of an AU-4.
 pub fn h3_at(frame: &FrameBuf, au: u16) -> [u8; 3]
     requires first { 1 ≤ au }
     requires last { au ≤ n_of frame.now.rate }
@@ -187,7 +187,7 @@ pub fn h3_at(frame: &FrameBuf, au: u16) -> [u8; 3]
     ]
 }
 
-// The pointer word of an AU-4.
+// Returns the pointer word of an AU-4.
 fn word_at(frame: &FrameBuf, au: u16) -> Word
     requires first { 1 ≤ au }
     requires last { au ≤ n_of frame.now.rate }
@@ -196,7 +196,7 @@ fn word_at(frame: &FrameBuf, au: u16) -> Word
     read_word(&[frame.pointer(au, 0), frame.pointer(au, 3)])
 }
 
-// All interpreters read the frame. Whether they keep what they kept.
+// Lets all interpreters read the frame. Returns whether they keep what they kept.
 fn read_all(frame: &FrameBuf, interps: &mut Vec<Interp>, actions: &mut Vec<Action>) -> bool
     requires few { n_of frame.now.rate ≤ 16 }
     requires interps { length interps.old.items ≡ n_of frame.now.rate }
@@ -215,7 +215,7 @@ fn read_all(frame: &FrameBuf, interps: &mut Vec<Interp>, actions: &mut Vec<Actio
     !any_moved(interps)
 }
 
-// Whether the last step of one of these moved it.
+// Returns whether the last step of one of these moved it.
 fn any_moved(interps: &[Interp]) -> bool
     ensures { result ≡ list_any (λ (i : Interpreter). i.moved) interps.now }
 {

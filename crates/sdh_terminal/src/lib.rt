@@ -1,7 +1,7 @@
-//! What a node of a ring is made of as far as frames and pointers go, whatever decides where its AU-4s come from: sides that
-//! receive and interpret, ports that add and drop, and sides that generate pointers and send.
+//! What a node of a ring is made of as far as frames and pointers go, whatever decides where its AU-4s come from: sides
+//! that receive and interpret, ports that add and drop, and sides that generate pointers and send.
 //!
-//! Where AU-4s come from is told by a `Matrix`, which each kind of node has of its own.
+//! Where AU-4s come from is decided by a `Matrix`, which each kind of node has of its own.
 #![tactic(auto)]
 
 mod inlet;

@@ -8,7 +8,7 @@ ghost use Rattle.sdh_terminal.specs.Passing.{states_of};
 use sdh_pointer::{Action, Gen, Interp};
 use std::alloc::{AllocError, Global};
 
-/// So many interpreters that have read nothing.
+/// Returns `count` interpreters that have read nothing.
 pub fn new_interpreters(alloc: Global, count: usize) -> Result<Vec<Interp>, AllocError>
     ensures { IfOk result (λ v. readings_of v.items ≡ replicate count start) }
 {
@@ -19,14 +19,14 @@ pub fn new_interpreters(alloc: Global, count: usize) -> Result<Vec<Interp>, Allo
     Ok(interps)
 }
 
-/// So many actions of interpreters that have read nothing.
+/// Returns the actions of `count` interpreters that have read nothing.
 pub fn no_actions(alloc: Global, count: usize) -> Result<Vec<Action>, AllocError>
     ensures { IfOk result (λ v. v.items ≡ replicate count Action.Ais) }
 {
     Ok(vec![in alloc; Action::Ais; count]?)
 }
 
-/// So many generators that have sent nothing.
+/// Returns `count` generators that have sent nothing.
 pub fn new_generators(alloc: Global, count: usize) -> Result<Vec<Gen>, AllocError>
     ensures { IfOk result (λ v. states_of v.items ≡ replicate count None) }
 {

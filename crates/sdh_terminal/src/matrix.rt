@@ -29,30 +29,30 @@ pub trait Matrix {
     /// What is dropped of a slot to a port whose circuit leaves on a side.
     ghost drops: { Self → Side → ℕ → Feeder };
 
-    /// The rate of both sides.
+    /// Returns the rate of both sides.
     fn rate(&self) -> Rate
         ensures { result ≡ (lines self.now).rate };
 
-    /// What a side took in.
+    /// Returns what a side took in.
     fn intake(&self, side: Side) -> &Intake
         ensures intake { result.now ≡ (line_on (lines self.now) side).intake }
         ensures rate { result.now.frame.rate ≡ (lines self.now).rate };
 
-    /// The value of the interpreter of an AU-4.
+    /// Returns the value of the interpreter of an AU-4.
     fn value(&self, side: Side, au: u16) -> u16
         requires first { 1 ≤ au }
         requires last { au ≤ n_of (lines self.now).rate }
         ensures value { result ≡ (received (lines self.now) side au).value }
         ensures small { result ≤ 782 };
 
-    /// What feeds an AU-4 that leaves on a side.
+    /// Returns what feeds an AU-4 that leaves on a side.
     fn leaving(&self, side: Side, au: u16) -> Feeder
         requires first { 1 ≤ au }
         requires last { au ≤ n_of (lines self.now).rate }
         ensures feeder { result ≡ leads self.now side au }
         ensures inside { IsFeeder (n_of (lines self.now).rate) result };
 
-    /// What is dropped to a port.
+    /// Returns what is dropped to a port.
     fn dropped(&self, side: Side, slot: Slot) -> Feeder
         requires first { 1 ≤ slot.0 }
         requires last { 2 * slot.0 ≤ n_of (lines self.now).rate }

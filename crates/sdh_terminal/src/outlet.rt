@@ -41,7 +41,7 @@ impl Model for Outlet {
 }
 
 impl Outlet {
-    /// AIS, with room for a chunk.
+    /// Returns an outlet that delivers AIS, with room for a chunk.
     pub fn try_new(alloc: Global) -> Result<Outlet, AllocError>
         ensures { IfOk result (λ outlet. outlet ≡ silent) }
     {
@@ -52,14 +52,14 @@ impl Outlet {
         })
     }
 
-    /// What is delivered.
+    /// Returns what is delivered.
     pub fn delivered(&self) -> &Delivered
         ensures { result.now ≡ self.now.delivered }
     {
         &self.delivered
     }
 
-    /// The value of the interpreter through which it came, 0 with AIS.
+    /// Returns the value of the interpreter through which it came, 0 with AIS.
     pub fn value(&self) -> u16
         ensures value { result ≡ self.now.value }
         ensures small { result ≤ 782 }
@@ -77,7 +77,7 @@ impl Outlet {
         self.value = 0;
     }
 
-    /// Delivers an AU-4 of a frame, of which some payloads have been taken out.
+    /// Delivers an AU-4 of a frame. Some payloads have been taken out of the frame.
     pub fn deliver_au(
         &mut self,
         frame: &FrameBuf,
@@ -101,7 +101,7 @@ impl Outlet {
     }
 }
 
-// The memory of a chunk, wherever it is. AIS is delivered then.
+// Returns the memory of a chunk, wherever it is. The outlet delivers AIS from then on.
 fn take_cells(delivered: &mut Delivered, spare: &mut Option<Cells>) -> Cells
     requires { HasRoom delivered.old spare.old }
     ensures { delivered.new ≡ Delivered.Ais }
@@ -117,7 +117,7 @@ fn take_cells(delivered: &mut Delivered, spare: &mut Option<Cells>) -> Cells
     }
 }
 
-// The bytes that a port takes from an AU-4 of a frame.
+// Takes the bytes of a port from an AU-4 of a frame.
 fn take_au(frame: &FrameBuf, payloads: &mut Taken, au: u16, form: ChunkForm, cells: &mut Cells)
     requires first { 1 ≤ au }
     requires last { au ≤ n_of frame.now.rate }

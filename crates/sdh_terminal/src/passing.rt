@@ -25,7 +25,7 @@ use sdh_ringmap::Side;
 use std::alloc::{AllocError, Global};
 use std::fmt;
 
-// The nine pointer bytes with a word.
+// Returns the nine pointer bytes with a word.
 fn pointers_with(word: Word, h3: [u8; 3]) -> [u8; 9]
     ensures { result ≡ pointers_with word.0 h3 }
 {
@@ -34,7 +34,7 @@ fn pointers_with(word: Word, h3: [u8; 3]) -> [u8; 9]
     [h[0], 0x9B, 0x9B, h[1], 0xFF, 0xFF, h3[0], h3[1], h3[2]]
 }
 
-// The three bytes H3 that go with a word of this form, where these came.
+// Returns the three bytes H3 that go with a word of this form, where these came.
 fn h3_sent(form: Form, h3: [u8; 3]) -> [u8; 3]
     ensures { (pointers : List ℕ) → h3 ≡ h3_of pointers → result ≡ h3_sent form pointers }
 {
@@ -44,7 +44,7 @@ fn h3_sent(form: Form, h3: [u8; 3]) -> [u8; 3]
     }
 }
 
-// The nine pointer bytes of an AU-4 of a frame that is passed on.
+// Returns the nine pointer bytes of an AU-4 of a frame that is passed on.
 fn pointers_for(action: Action, form: Form, word: Word, frame: &FrameBuf, au: u16) -> [u8; 9]
     requires first { 1 ≤ au }
     requires last { au ≤ n_of frame.now.rate }
@@ -58,7 +58,7 @@ fn pointers_for(action: Action, form: Form, word: Word, frame: &FrameBuf, au: u1
     }
 }
 
-// Where the payload of an AU-4 comes from that a side received.
+// Returns where the payload of an AU-4 comes from that a side received.
 fn source_for(action: Action, side: Side, au: u16) -> Source
     requires { 1 ≤ au }
     ensures source { (n to : ℕ) → au ≤ n → IsSource n to result }
@@ -74,7 +74,7 @@ fn source_for(action: Action, side: Side, au: u16) -> Source
     }
 }
 
-// AIS.
+// Steps a generator with AIS. Returns where the payload comes from, and the pointer bytes.
 #[tactic(auto, unfolding(crate::specs::Passing::au_sent))]
 fn send_ais(generator: &mut Gen) -> (Source, [u8; 9])
     ensures generator { generator.new ≡ after_action generator.old Action.Ais 0 }
@@ -87,7 +87,7 @@ fn send_ais(generator: &mut Gen) -> (Source, [u8; 9])
     (Source::Ones, [0xFF; 9])
 }
 
-// An AU-4 that a side received.
+// Returns an AU-4 that a side received.
 #[tactic(auto, unfolding(crate::specs::Passing::au_sent, sdh_pointer::specs::Sending::after_action))]
 fn pass_on<X: Matrix>(cross: &X, side: Side, au: u16, generator: &mut Gen) -> (Source, [u8; 9])
     requires first { 1 ≤ au }
@@ -106,7 +106,7 @@ fn pass_on<X: Matrix>(cross: &X, side: Side, au: u16, generator: &mut Gen) -> (S
     (source_for(action, side, au), pointers)
 }
 
-// What a port sends.
+// Returns what a port sends.
 #[tactic(auto, unfolding(crate::specs::Passing::au_sent, sdh_pointer::specs::Sending::after_action))]
 fn send_own<'a>(
     port: &'a Tributary,
@@ -129,7 +129,7 @@ fn send_own<'a>(
     (Source::Own(to), pointers_with(generator.word(), h3))
 }
 
-// What the port with this name sends, if it is there.
+// Returns what the port with this name sends, if it is there.
 fn add<'a>(
     id: PortId,
     ports: &'a Tributaries,
@@ -152,8 +152,8 @@ fn add<'a>(
     }
 }
 
-// What one AU-4 is: where its payload comes from, and its pointer bytes. A port's payload goes to the place of the AU-4 among
-// the own ones.
+// Returns what one AU-4 is: where its payload comes from, and its pointer bytes. A port's payload goes to the place of
+// the AU-4 among the own ones.
 fn send_one<'a, X: Matrix>(
     cross: &X,
     ports: &'a Tributaries,
@@ -180,14 +180,15 @@ fn send_one<'a, X: Matrix>(
     }
 }
 
-// Whether the last step of one of these moved it.
+// Returns whether the last step of one of these moved it.
 fn any_moved(generators: &[Gen]) -> bool
     ensures { result ≡ list_any (λ (g : Generator). g.moved) generators.now }
 {
     generators.iter().any(|generator| generator.moved())
 }
 
-// All generators of a side step, and tell what the AU-4s are. Whether they are in the states in which they were.
+// Steps all generators of a side, and sets what the AU-4s are. Returns whether they are in the states in which they
+// were.
 fn plan_all<'a, X: Matrix>(
     cross: &X,
     ports: &'a Tributaries,
@@ -236,7 +237,7 @@ impl fmt::Debug for Assembly {
 }
 
 impl Assembly {
-    /// Room for so many AU-4s. All its memory is taken here.
+    /// Returns room for `count` AU-4s. All its memory is taken here.
     pub fn try_new(alloc: Global, n: usize) -> Result<Assembly, AllocError>
         requires { n ≤ 16 }
         ensures sources { IfOk result (λ a. length a.sources.items ≡ n) }
@@ -248,8 +249,8 @@ impl Assembly {
         })
     }
 
-    /// All generators of a side step, and tell what the AU-4s of its next frame are. Whether they are in the states in which they
-    /// were.
+    /// Steps all generators of a side, and sets what the AU-4s of its next frame are. Returns whether they are in the
+    /// states in which they were.
     pub fn plan<'a, X: Matrix>(
         &mut self,
         cross: &X,

@@ -55,7 +55,7 @@ impl Model for Sender {
 }
 
 impl Sender {
-    /// A side that has sent nothing, with the word that it would send. All its memory is taken here.
+    /// Returns a side that has sent nothing, with the word that it would send. All its memory is taken here.
     pub fn try_new(alloc: Global, rate: Rate, word: K) -> Result<Sender, AllocError>
         requires { IsSpellable word }
         ensures { IfOk result (λ s. s ≡ new_sending rate word) }
@@ -79,7 +79,7 @@ impl Sender {
         same
     }
 
-    /// The word of the last frame.
+    /// Returns the word of the last frame.
     pub fn word(&self) -> K
         ensures word { result ≡ self.now.word }
         ensures spellable { IsSpellable result }
@@ -98,7 +98,7 @@ struct Content<'a, 'b> {
     k2: u8,
 }
 
-// What was planned for a frame, with the K bytes of a word.
+// Returns what was planned for a frame, with the K bytes of a word.
 fn content_of<'a, 'b>(
     rate: Rate,
     assembly: &'a Assembly,
@@ -123,7 +123,7 @@ fn content_of<'a, 'b>(
     }
 }
 
-// Both frames are put together, get their overhead and are scrambled, row by row.
+// Puts both frames together, gives them their overhead and scrambles them, row by row.
 fn send_rows(
     west: &Content,
     east: &Content,
@@ -190,8 +190,8 @@ fn send_rows(
     }
 }
 
-/// Both sides send their next frames. Whether all generators of the west side, and all of the east side, are in the states in which
-/// they were.
+/// Sends the next frames of both sides. Returns whether all generators of the west side, and all of the east side, are
+/// in the states in which they were.
 pub fn send_both<X: Matrix>(
     west: &mut Sender,
     east: &mut Sender,

@@ -62,7 +62,7 @@ fn port_numbered(number: usize) -> PortId
     }
 }
 
-// The places of so many ports of a ring's circuits.
+// Returns the places of `count` ports of a ring's circuits.
 fn places_in(
     alloc: Global,
     ports: &[Tributary],
@@ -79,7 +79,7 @@ fn places_in(
 }
 
 impl Tributaries {
-    /// The ports of a ring's circuits that are at a position. All their memory is taken here.
+    /// Returns the ports of a ring's circuits that are at a position. All their memory is taken here.
     #[tactic(auto, using(crate::proofs::Places::new_places))]
     pub fn try_new(alloc: Global, circuits: &CircuitMap, at: Pos) -> Result<Tributaries, AllocError>
         ensures ports { IfOk result (λ ports. ports ≡ tributaries_at at circuits.now.circuits) }
@@ -106,7 +106,7 @@ impl Tributaries {
         }
     }
 
-    /// The port with this name, if it is at the node.
+    /// Returns the port with this name, if it is at the node.
     #[tactic(auto, using(crate::proofs::Ports::port_found, crate::proofs::Ports::place_within))]
     pub fn find(&self, id: PortId) -> Option<&Tributary>
         ensures found { IfSome result (λ port. port_of id self.now ≡ Some port.now) }
@@ -121,7 +121,7 @@ impl Tributaries {
         }
     }
 
-    /// What a port delivers.
+    /// Returns what a port delivers.
     pub fn outlet(&self, id: PortId) -> &Outlet
         requires { HasPort self.now id }
         ensures { result.now ≡ outlet_of id self.now }
@@ -132,7 +132,7 @@ impl Tributaries {
         port.outlet()
     }
 
-    /// How many slips wait at a port.
+    /// Returns how many slips wait at a port.
     pub fn waiting(&self, id: PortId) -> u8
         requires { HasPort self.now id }
         ensures waiting { result ≡ waiting_of id self.now }
@@ -144,7 +144,7 @@ impl Tributaries {
         port.waiting()
     }
 
-    /// So many more slips wait at a port.
+    /// Adds `count` pending slips at a port.
     #[tactic(auto, using(crate::proofs::Slips::slips_stay, crate::proofs::Slips::slips_placed, crate::proofs::Slips::waiting_here, crate::proofs::Ports::place_within))]
     pub fn slip(&mut self, id: PortId, turn: Turn, count: u8)
         requires there { HasPort self.old id }
@@ -158,7 +158,7 @@ impl Tributaries {
         port.slip(turn, count);
     }
 
-    /// Each port takes the next bytes of its stream.
+    /// Takes the next bytes of each port's stream.
     #[tactic(auto, using(crate::proofs::Places::fed_stay))]
     pub fn feed(&mut self)
         requires { All (λ t. t.feed.clock.rounds < 2 ^ 32) self.old }
@@ -167,7 +167,7 @@ impl Tributaries {
         feed_all(&mut self.items);
     }
 
-    /// Each port delivers what is dropped to it.
+    /// Delivers at each port what is dropped to it.
     #[tactic(auto, using(crate::proofs::Places::delivered_stay))]
     pub fn deliver<X: Matrix>(&mut self, cross: &X)
         requires { All (λ t. (1 ≤ t.slot.0) × (2 * t.slot.0 ≤ n_of (X.lines cross.now).rate)) self.old }

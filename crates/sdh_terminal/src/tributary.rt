@@ -43,8 +43,8 @@ impl Model for Tributary {
     ghost invariant = { λ t. IsFed t.feed t.payload t.h3 };
 }
 
-// The bytes of a port's first round, in which no slip is used up. What a port sends is told of each of its states, and so
-// of the one before that round too.
+// Returns the bytes of a port's first round, in which no slip is used up. What a port sends is defined for each of its
+// states, and so for the one before that round too.
 fn first_payload(alloc: Global, port: &Port) -> Result<Cells, AllocError>
     ensures bytes { IfOk result (λ cells. cells ≡ stream_from port.now 0 2349) }
     ensures full { IfOk result (λ cells. length cells ≡ 2349) }
@@ -56,7 +56,7 @@ fn first_payload(alloc: Global, port: &Port) -> Result<Cells, AllocError>
 }
 
 impl Tributary {
-    /// A port that hasn't sent or delivered anything. All its memory is taken here.
+    /// Returns a port that hasn't sent or delivered anything. All its memory is taken here.
     #[tactic(auto, unfolding(crate::specs::Tributaries::sent_by))]
     pub fn try_new(
         alloc: Global,
@@ -78,7 +78,7 @@ impl Tributary {
         })
     }
 
-    // Whether it is this port.
+    // Returns whether it is this port.
     fn is(&self, id: PortId) -> bool
         ensures { result ≡ is_port id self.now }
     {
@@ -94,7 +94,7 @@ impl Tributary {
         self.h3 = lay_chunk_in_place(form, &mut self.payload);
     }
 
-    /// So many more slips of its customer's clock wait.
+    /// Adds `count` pending slips of its customer's clock.
     pub fn slip(&mut self, turn: Turn, count: u8)
         requires { waiting self.old.feed.clock + count ≤ 16 }
         ensures { self.new ≡ slipped turn count self.old }
@@ -102,7 +102,7 @@ impl Tributary {
         self.feed.wait(turn, count);
     }
 
-    /// How many slips wait.
+    /// Returns how many slips wait.
     pub fn waiting(&self) -> u8
         ensures waiting { result ≡ waiting self.now.feed.clock }
         ensures few { result ≤ 16 }
@@ -110,7 +110,7 @@ impl Tributary {
         self.feed.waiting()
     }
 
-    /// What its pointer generator is asked for in the round.
+    /// Returns what its pointer generator is asked for in the round.
     #[tactic(auto, unfolding(crate::specs::Tributaries::sent_by))]
     pub fn action(&self) -> Action
         ensures { result ≡ (sent_by self.now.feed).action }
@@ -118,7 +118,7 @@ impl Tributary {
         action_of(self.feed.form())
     }
 
-    /// The pointer value after it.
+    /// Returns the pointer value after it.
     #[tactic(auto, unfolding(crate::specs::Tributaries::sent_by))]
     pub fn value(&self) -> u16
         ensures value { result ≡ (sent_by self.now.feed).value }
@@ -127,7 +127,7 @@ impl Tributary {
         self.feed.value()
     }
 
-    /// The payload of its AU-4.
+    /// Returns the payload of its AU-4.
     pub fn payload(&self) -> &[u8]
         ensures bytes { result.now ≡ (sent_by self.now.feed).payload }
         ensures full { length result.now ≡ 2349 }
@@ -135,14 +135,14 @@ impl Tributary {
         self.payload.as_slice()
     }
 
-    /// The three H3 bytes of its AU-4.
+    /// Returns the three H3 bytes of its AU-4.
     pub fn h3(&self) -> [u8; 3]
         ensures { result ≡ (sent_by self.now.feed).h3 }
     {
         self.h3
     }
 
-    /// What it delivers.
+    /// Returns what it delivers.
     pub fn outlet(&self) -> &Outlet
         ensures { result.now ≡ self.now.outlet }
     {
@@ -164,7 +164,7 @@ impl Tributary {
     }
 }
 
-// A port that sends fewer or more bytes justifies its pointer.
+// Returns what a port asks of its pointer generator: a port that sends fewer or more bytes justifies its pointer.
 fn action_of(form: ChunkForm) -> Action
     ensures { result ≡ action_of form }
 {
@@ -175,7 +175,7 @@ fn action_of(form: ChunkForm) -> Action
     }
 }
 
-/// The place of a port among those of a node.
+/// Returns the place of a port among those of a node.
 pub fn place_of(ports: &[Tributary], id: PortId) -> Option<usize>
     ensures place { result ≡ position (is_port id) ports.now }
     ensures within { IfSome result (λ i. i < length ports.now) }
@@ -183,7 +183,7 @@ pub fn place_of(ports: &[Tributary], id: PortId) -> Option<usize>
     ports.iter().position(|port| port.is(id))
 }
 
-/// Each port takes the next bytes of its stream.
+/// Takes the next bytes of each port's stream.
 pub fn feed_all(ports: &mut Vec<Tributary>)
     requires { All (λ t. t.feed.clock.rounds < 2 ^ 32) ports.old.items }
     ensures { ports.new.items ≡ all_fed ports.old.items }
@@ -194,7 +194,7 @@ pub fn feed_all(ports: &mut Vec<Tributary>)
     }
 }
 
-/// Each port delivers what is dropped to it.
+/// Delivers at each port what is dropped to it.
 pub fn deliver_all<X: Matrix>(
     cross: &X,
     ports: &mut Vec<Tributary>,
@@ -269,7 +269,7 @@ fn add_ends(
     )
 }
 
-/// The ports of a ring's circuits that are at a position. All their memory is taken here.
+/// Returns the ports of a ring's circuits that are at a position. All their memory is taken here.
 pub fn tributaries_at(
     alloc: Global,
     circuits: &CircuitMap,

@@ -1,9 +1,9 @@
--- What a side asks for, by urgency. The table is this project's own, after ITU-T G.841.
+-- Request codes by urgency. The table is this project's own, after ITU-T G.841.
 use Rattle.std.specs.Prelude.{ℕ}
 use Rattle.sdh_terms.specs.declared.Code.{Code}
 use Rattle.sdh_terms.specs.declared.Code.TheVariants.{Nr, Rr, Wtr, Ms, Sd, Sf, Fs}
 
--- the table of codes: the four bits of each, of which the larger number is the more urgent
+-- the four bits of each code; the larger number is the more urgent
 abbrev pub code_number : Code → ℕ
 code_number Nr = 0
 code_number Rr = 1

@@ -1,4 +1,5 @@
-//! The terms that a plan and a promise share with frames, K bytes and fibres: rates, conditions of fibres, and what a side asks for.
+//! The terms that plans and promises share with frames, K bytes and fibres: rates, conditions of fibres, and request
+//! codes.
 #![tactic(auto)]
 
 ghost use Rattle.std.specs.Prelude.{◌≡◌, ◌*◌, ◌/◌, ◌≤◌};
@@ -15,7 +16,7 @@ pub enum Rate {
 }
 
 impl Rate {
-    /// N, the number of AU-4s in a frame: 4 or 16.
+    /// Returns N, the number of AU-4s in a frame: 4 or 16.
     pub fn n(self) -> usize
         ensures { result ≡ n_of self }
     {
@@ -25,7 +26,7 @@ impl Rate {
         }
     }
 
-    /// Half of N: so many AU-4s of a span are working slots, and so many protect them.
+    /// Returns half of N: the number of working slots of a span, and of the slots that protect them (ITU-T G.841).
     pub fn half(self) -> u8
         ensures half { result ≡ n_of self / 2 }
         ensures few { result ≤ 8 }
@@ -38,14 +39,14 @@ impl Rate {
     }
 }
 
-/// What a side or a word asks for, from the least to the most urgent.
+/// The request code of a side or of a K word, from the least to the most urgent.
 #[derive(Clone, Copy, Debug, PartialEq, Eq)]
 pub enum Code {
     /// No request.
     Nr,
     /// Reverse request: the answer to a neighbour's request.
     Rr,
-    /// Wait to restore: a defect has ended a short time ago.
+    /// Wait to restore: a defect ended a short time ago.
     Wtr,
     /// Manual switch.
     Ms,
@@ -58,7 +59,7 @@ pub enum Code {
 }
 
 impl Code {
-    /// The number of the code, which has four bits. A more urgent code has a larger number.
+    /// Returns the number of the code, which has four bits. A more urgent code has a larger number.
     pub fn number(self) -> u8
         ensures { result ≡ code_number self }
     {
@@ -74,18 +75,18 @@ impl Code {
     }
 }
 
-/// The condition of a fibre. The one in the round of arrival counts.
+/// The condition of a fibre. What arrives in a round depends on the condition in that round.
 #[derive(Clone, Copy, Debug, PartialEq, Eq)]
 pub enum Condition {
-    /// Frames come as they were sent.
+    /// Frames arrive as they were sent.
     Clear,
-    /// Nothing comes.
+    /// Nothing arrives.
     Cut,
-    /// Frames come with the top bit inverted of so many bytes of row 6, 1 to 3N.
+    /// Frames arrive with the top bit of this number of bytes of row 6 inverted, 1 to 3 N.
     Degraded(u16),
 }
 
-/// The fibre that leaves a position on a side comes into a condition.
+/// A change of a fibre: the fibre that leaves this position on this side gets this condition.
 #[derive(Clone, Copy, Debug, PartialEq, Eq)]
 pub struct FibreEvent {
     pub at: Pos,

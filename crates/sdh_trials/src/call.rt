@@ -7,7 +7,8 @@ use sdh_outside::{MemSink, MemSource};
 use sdh_plant::Plant;
 use std::alloc::{AllocError, Global};
 
-/// How many bytes a source and a sink give and take at a time, and the numbers of the read and the write that fail, 0 for none.
+/// The number of bytes that a source and a sink give and take at a time, and the numbers of the read and the write that
+/// fail, 0 for none.
 #[derive(Clone, Copy)]
 pub struct Failing {
     pub piece: usize,
@@ -24,7 +25,7 @@ impl Failing {
     };
 }
 
-// The list of these words.
+// Returns the list of these words.
 fn listed(alloc: Global, words: &[&str]) -> Result<Vec<String>, AllocError> {
     let mut list = Vec::new(alloc);
     for word in words {
@@ -33,7 +34,7 @@ fn listed(alloc: Global, words: &[&str]) -> Result<Vec<String>, AllocError> {
     Ok(list)
 }
 
-// The words of a command by its number: `run`, `check`, `drop c1 a`, and no words.
+// Returns the words of a command by its number: `run`, `check`, `drop c1 a`, and no words.
 fn words_of(alloc: Global, command: u8) -> Result<Vec<String>, AllocError> {
     match command {
         0 => listed(alloc, &["run"]),
@@ -43,7 +44,7 @@ fn words_of(alloc: Global, command: u8) -> Result<Vec<String>, AllocError> {
     }
 }
 
-/// The status, and the sink with what was written.
+/// Returns the status, and the sink with what was written.
 pub fn call_over<P: Plant>(
     alloc: Global,
     command: u8,

@@ -1,6 +1,6 @@
-//! The program's call over objects in memory, for the drivers in `bench/trials`: one call of source, sink or fibres fails at any place,
-//! or any bytes arrive. No other crate uses this one. Its functions say nothing of their own: the call's contract tells what comes of
-//! it, and the drivers compare it.
+//! The program's call over objects in memory, for the drivers in `bench/trials`: one call of source, sink or fibres
+//! fails at any place, or any bytes arrive. No other crate uses this one. Its functions say nothing of their own: the
+//! call's contract says what comes of it, and the drivers compare it.
 #![tactic(auto)]
 
 mod call;
@@ -29,21 +29,22 @@ fn kind_of(kind: u8) -> PlantCall {
     }
 }
 
-// As much as there is room for.
+// Copies as much as there is room for.
 fn copy_front(from: &[u8], to: &mut [u8]) {
     let count = from.len().min(to.len());
     to[..count].copy_from_slice(&from[..count]);
 }
 
-// How much was written, and its front.
+// Copies the front of what was written, and returns how much was.
 fn show(sink: &MemSink, text: &mut [u8]) -> u64 {
     copy_front(sink.bytes(), text);
     sink.bytes().len() as u64
 }
 
-/// Runs a command over a document, in pieces of a length. The read and the write of these numbers fail, and the plant's call of this kind
-/// and number, each counted from 1, and none at 0. Answers the status's number, or 255 where nothing was called for want of memory, and
-/// tells how many bytes were written and how many calls of `prepare`, `apply`, `send` and `receive` there were.
+/// Runs a command over a document, in pieces of a length. The read and the write of these numbers fail, and the plant's
+/// call of this kind and number, each counted from 1, and none at 0. Returns the status's number, or 255 where nothing
+/// was called because memory ran out, and shows how many bytes were written and how many calls of `prepare`, `apply`,
+/// `send` and `receive` there were.
 #[unsafe(no_mangle)]
 pub extern "C" fn sdh_trials_call(
     alloc: Global,
@@ -76,8 +77,8 @@ pub extern "C" fn sdh_trials_call(
     status.number()
 }
 
-/// Runs a plan over told arrivals, each of which is a byte, 0 where nothing comes, and the bytes of a frame. Tells how many bytes were
-/// written and how many bytes of frames were sent, all frames one after the other, of which `sent` gets the front.
+/// Runs a plan over told arrivals. Each is a byte, 0 where nothing comes, and the bytes of a frame. Returns how many
+/// bytes were written and how many bytes of frames were sent; `sent` gets the front of all frames, one after the other.
 #[unsafe(no_mangle)]
 pub extern "C" fn sdh_trials_told(
     alloc: Global,

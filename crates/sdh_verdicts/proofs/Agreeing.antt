@@ -1,4 +1,4 @@
--- What is told of a case, and the last report of the longer script.
+-- The verdicts in a case, and the last report of the longer script.
 use Rattle.std.proofs.Common.{◌≡◌, ℕ, ◌+◌, ◌-◌, ◌≤◌, Bool, true, false, List, [], ◌∷◌, ◌++◌, length, map, refl, sym, ap, ◌∙◌, arith}
 use Rattle.std.proofs.Common.{append_assoc}
 use Rattle.std.specs.Prelude.{◌||◌, if◌then◌else◌}
@@ -45,7 +45,7 @@ module _ (n : ℕ) (applied : ℕ → Bool) (c : Provisioned) (sent : ℕ → Ou
   by_arcs false true = refl
   by_arcs false false = refl
 
-  -- what is told of it
+  -- what a port is owed is what its circuit's verdict says
   due_is : due n applied c sent t ≡ outlet_told (verdict_under n applied c) (hops_under n applied c) sent t
   unfolding is_joined due
   due_is = by_arcs (is_clear n applied (arc_of n c)) (is_clear n applied (opposite_arc n (arc_of n c)))

@@ -12,7 +12,7 @@ use Rattle.sdh_restoration.specs.Routes.{applied_at_place, places_before, last_p
 
 -- ---- a list
 
--- the applied ones of the first i spans, so many, in a list
+-- a list with the applied ones of the first i spans; their number is `many`
 pub record AreListed (p : ℕ → Bool) (spans : List Span) (many i : ℕ) : Type 0 where
   pub inside : (s : ℕ) → s < i → is_among (take many spans) s ≡ p s
   pub beyond : (s : ℕ) → i ≤ s → is_among (take many spans) s ≡ false
@@ -33,7 +33,7 @@ module _ (p q : ℕ → Bool) (same : (i : ℕ) → p i ≡ q i) where
   last_same zero = refl
   last_same (suc k) = ap (λ b. if b then k else last_place p k) (same k) ∙ ap (λ x. if q k then k else x) (last_same k)
 
--- in a ring the same spans make the same way
+-- in a ring equal tests of spans give equal numbers of hops
 pub hops_same : (n : ℕ) (p q : ℕ → Bool) (arc : Arc) → 1 ≤ n → ((s : ℕ) → s < n → p s ≡ q s) → hops n p arc ≡ hops n q arc
 unfolding hops is_clear
 hops_same n p q arc some same =
@@ -46,7 +46,7 @@ hops_same n p q arc some same =
     ∙ ap (by (first_applied n q arc) (last_applied n q arc))
     (none_same (applied_at_place n p arc) (applied_at_place n q arc) at 0 arc.spans)
 
--- it is that of a circuit that is kept, or goes round
+-- the number of hops of a circuit that is kept or goes round
 pub hops_are : (n : ℕ) (p : ℕ → Bool) (c : Provisioned) (v : Verdict) (k : ℕ) → (v ≡ Kept) ⊎ (v ≡ Over) → v ≡ verdict_under n p c
     → k ≡ hops n p (arc_of n c) → k ≡ hops_under n p c
 hops_are n p c v k (inl kept) is way = way ∙ ap (λ w. hops_where w n p c) (sym kept ∙ is)

@@ -1,4 +1,4 @@
--- When the plan with a case behind its script is a plan.
+-- When the plan with a case after its script is a plan.
 use Rattle.std.proofs.Common.{◌≡◌, ℕ, ◌+◌, ◌-◌, ◌*◌, ◌<◌, ◌≤◌, true, false, cond, Some, List, [], ◌∷◌, ◌++◌, length, count_by, All}
 use Rattle.std.proofs.Common.{refl, sym, ap, ◌∙◌, subst, arith, append_assoc, length-append}
 use Rattle.std.specs.Prelude.{slice_get}
@@ -28,7 +28,7 @@ use Rattle.sdh_verdicts.specs.Failures.{IsFailureIn, condition_step, neighbour_p
 use Rattle.sdh_verdicts.specs.Verdicts.{longer_steps}
 use Rattle.sdh_verdicts.specs.Laws.{longer_plan, HasRoom, LongerPlansArePlans}
 
--- ---- steps behind others
+-- ---- steps after others
 
 module _ (rate : Rate) (size circuits : ℕ) where
   steps_more : (past : Past) (xs ys : List Step) → AreSteps rate size circuits past xs
@@ -56,7 +56,7 @@ module _ (rate : Rate) (size circuits : ℕ) where
       let fewer : past.settles + 1 ≤ 64 = omega (arith, few) in
       (record { in_ring = tt; forward = same; few_settles = fewer; few_slips = tt }, tt)
 
-  -- ---- those of a case
+  -- ---- the steps of a case
 
   module _ (threshold : ℕ) (from_1 : 1 ≤ threshold) (small : threshold ≤ 3 * n_of rate) (some : 0 < size) where
     one_fits : (past : Past) (f : Failure) (rest : List Step) → past.settles ≤ 63 → IsFailureIn size f

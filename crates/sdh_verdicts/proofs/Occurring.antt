@@ -1,4 +1,4 @@
--- A plan and a case of which the laws of tables hold.
+-- A plan and a case for which the laws of tables hold.
 use Rattle.std.proofs.Common.{◌≡◌, ℕ, zero, suc, ◌+◌, ◌<◌, ◌≤◌, true, List, [], ◌∷◌, length, Some, refl, sym, ◌∙◌, arith, inl}
 use Rattle.std.specs.Prelude.{slice_get, slice_index}
 use Rattle.std.specs.List.{All}
@@ -128,7 +128,7 @@ are_owed = (
   (refl, record { window = omega arith; within = omega arith; multiple = refl }, refl, (refl, inl refl)),
 )
 
--- ---- what is told of the case
+-- ---- the verdict in the case
 
 goes_round : verdict_of three cut c1 ≡ Over
 unfolding span_requests cells applies is_clear is_joined

@@ -23,7 +23,7 @@ long_last : (ss : List Stretch) (s : Stretch) → AreLong ss → 3 ≤ s.rounds 
 long_last [] s long last = (last, tt)
 long_last (t ∷ ss) s long last = (long.0, long_last ss s long.1 last)
 
--- the stretch of a report, behind those before it
+-- the stretch of a report, after those before it
 abbrev stretch_of : List Stretch → List Change → PortReport → Stretch
 stretch_of earlier changes r = record { changes = changes; rounds = r.round + 1 - rounds_in earlier }
 
@@ -63,7 +63,7 @@ module _ (ring : Ring) (limit : ℕ) (least : 1 ≤ ring.threshold) (some : 1 �
 -- ---- its last report
 
 module _ (ring : Ring) (limit : ℕ) where
-  -- the last of some reports behind earlier stretches, with the changes of all
+  -- the last of some reports after earlier stretches, with the changes of all
   record LastOf (earlier : List Stretch) (scenes : List (List Change)) (reports : List PortReport) : Type 0 where
     pub before : List PortReport
     pub last : PortReport
@@ -71,7 +71,7 @@ module _ (ring : Ring) (limit : ℕ) where
     pub changes : changes_in (stretches_by earlier scenes reports) ≡ changes_in earlier ++ scenes
     pub shows : IsForetold ring (stretches_by earlier scenes reports) last
 
-  -- the last one, behind a scene that is there
+  -- the last one, after a scene that is there
   last_of : (earlier : List Stretch) (before : ℕ) (changes : List Change) (later : List (List Change)) (reports : List PortReport)
       → AreOwed ring limit earlier before (changes ∷ later) reports status.Ok → AreForetold ring earlier (changes ∷ later) reports
       → LastOf earlier (changes ∷ later) reports

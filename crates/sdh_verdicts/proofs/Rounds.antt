@@ -72,7 +72,7 @@ module _ (threshold : ℕ) (least : 1 ≤ threshold) (g : SideHistory) where
   never_twice defect.Sd = refl
   never_twice defect.Sf = refl
 
-  -- a round more with the same holding
+  -- one round more in which the side's holding is unchanged
   pub stays : (t : ℕ) (r : Resting) → At t r → Same (suc t) r.holding → At (suc t) r
   stays t r x y =
       let now : defect_at threshold g (suc t) ≡ r.defect =
@@ -193,7 +193,7 @@ module _ (threshold : ℕ) (least : 1 ≤ threshold) (g : SideHistory) where
       no_end Cut = refl
       no_end (Degraded k) = refl
 
-  -- more rounds with the same holding
+  -- more rounds in which the side's holding is unchanged
   pub keeps : (k t : ℕ) (r : Resting) → At t r → ((i : ℕ) → i < k → Same (suc t + i) r.holding) → At (t + k) r
   keeps zero t r x each = subst (λ u. At u r) (omega arith) x
   keeps (suc k) t r x each =

@@ -1,4 +1,4 @@
--- The failures that are looked at, each with the steps that make it.
+-- The failures of a ring, each with the steps that make it.
 use Rattle.std.specs.Prelude.{ℕ, ◌<◌, ◌-◌, ◌*◌, ◌/◌, ◌%◌, ◌==◌, nat_lt, if◌then◌else◌, List, [], ◌∷◌, ◌++◌}
 use Rattle.sdh_ringmap.specs.declared.Pos.{Pos}
 use Rattle.sdh_ringmap.specs.declared.Side.{Side}
@@ -12,7 +12,7 @@ use Rattle.sdh_plan.specs.declared.step.Step.TheVariants as step
 use Rattle.sdh_verdicts.specs.declared.failure.Failure.{Failure}
 use Rattle.sdh_verdicts.specs.declared.failure.Failure.TheVariants.{Degraded, Cut, Span, Node, Manual, Forced}
 
--- it is one of a ring of n
+-- a failure is one of a ring of n
 abbrev pub IsFailureIn : ℕ → Failure → Type 0
 IsFailureIn n (Degraded at side) = at.0 < n
 IsFailureIn n (Cut at side) = at.0 < n
@@ -24,11 +24,11 @@ IsFailureIn n (Forced at side) = at.0 < n
 abbrev pub condition_step : Condition → Pos → Side → Step
 condition_step c at side = step.Fibre (record { at = at; side = side; condition = c })
 
--- the position on that side
+-- the position next to this one on that side
 abbrev pub neighbour_position : ℕ → Pos → Side → Pos
 neighbour_position n at side = record { 0 = neighbour n at.0 side }
 
--- the steps, in a ring of n where so many violations are a degradation
+-- the steps of a failure, in a ring of n where `threshold` violations are a degradation
 abbrev pub steps_of : ℕ → ℕ → Failure → List Step
 steps_of n threshold (Degraded at side) = condition_step (condition.Degraded threshold) at side ∷ []
 steps_of n threshold (Cut at side) = condition_step condition.Cut at side ∷ []
@@ -40,7 +40,7 @@ steps_of n threshold (Node at) =
 steps_of n threshold (Manual at side) = step.Order at side command.Manual ∷ []
 steps_of n threshold (Forced at side) = step.Order at side command.Forced ∷ []
 
--- those of a case, one failure after the other
+-- the steps of a case, one failure after the other
 abbrev pub case_steps : ℕ → ℕ → List Failure → List Step
 case_steps n threshold [] = []
 case_steps n threshold (failure ∷ others) = steps_of n threshold failure ++ case_steps n threshold others
@@ -54,8 +54,9 @@ side_of number = if number % 2 == 0 then West else East
 abbrev pub half : ℕ → Pos
 half number = record { 0 = number / 2 }
 
--- The failures of a ring of n in their order, counted from 0: fibres degraded, fibres cut, spans, nodes, manual switches, forced
--- switches; each by position, west before east. What is worse comes behind, so that in a case the worse of two holds.
+-- The failures of a ring of n in their order, counted from 0: fibres degraded, fibres cut, spans, nodes, manual
+-- switches, forced switches; each by position, west before east. What is worse comes later, so that in a case the worse
+-- of two holds.
 unfoldable pub failure_at : ℕ → ℕ → Failure
 failure_at n i =
     if nat_lt i (2 * n) then Degraded (half i) (side_of i) else

@@ -1,4 +1,4 @@
--- The laws: what a script's reports show is told by its changes alone.
+-- The laws: what a script's reports show follows from its changes alone.
 use Rattle.std.specs.Prelude.{ℕ, ◌≡◌, ◌≢◌, ◌≤◌, ◌+◌, ◌-◌, List, [], ◌∷◌, ◌++◌, map}
 use Rattle.sdh_report.specs.declared.status.Status.{Status}
 use Rattle.sdh_report.specs.declared.status.Status.TheVariants as status
@@ -16,30 +16,31 @@ AreLong (s ∷ ss) = (3 ≤ s.rounds) × AreLong ss
 abbrev pub changes_in : List Stretch → List (List Change)
 changes_in ss = map (λ s. s.changes) ss
 
--- In the last round of such stretches the requests are what their changes come to, however many rounds each has.
+-- In the last round of stretches with at least three rounds each the requests are what their changes come to, however
+-- many rounds each has.
 abbrev pub RequestsRest : Type 0
 RequestsRest =
     (ring : Ring) (ss : List Stretch) (t : ℕ) → 1 ≤ ring.threshold → AreLong ss → rounds_in ss ≡ t + 1
     → requests_by ring ss t ≡ requests_after ring (changes_in ss)
 
--- the stretches of a script's settle steps that have reports, behind those before them: the changes before each, and as
--- many rounds as there are from the last stretch to the round that its report tells
+-- the stretches of a script's settle steps that have reports, after those before them: the changes before each, and the
+-- number of rounds from the last stretch to the round of its report
 abbrev pub stretches_by : List Stretch → List (List Change) → List PortReport → List Stretch
 stretches_by earlier [] reports = earlier
 stretches_by earlier (changes ∷ later) [] = earlier
 stretches_by earlier (changes ∷ later) (r ∷ reports) =
     stretches_by (earlier ++ record { changes = changes; rounds = r.round + 1 - rounds_in earlier } ∷ []) later reports
 
--- After these stretches, each of at least three rounds, the report shows what is owed under the requests that their changes
--- come to. How many rounds each had counts for nothing but how far the customers have come.
+-- After these stretches, each of at least three rounds, the report shows what is owed under the requests that their
+-- changes come to. The number of rounds of each counts for how far the customers have come, and for nothing else.
 pub record IsForetold (ring : Ring) (ss : List Stretch) (r : PortReport) : Type 0 where
   pub long : AreLong ss
   pub rounds : rounds_in ss ≡ r.round + 1
   pub requests : requests_by ring ss r.round ≡ requests_after ring (changes_in ss)
   pub shows : IsOwed ring.nodes (requests_after ring (changes_in ss)) (happened ss) ring.circuits r
 
--- so is each of these reports, by its own stretch and those before it, where these changes were made before each settle
--- step to come
+-- each of these reports is foretold, by its own stretch and those before it, where these changes were made before each
+-- settle step to come
 abbrev pub AreForetold : Ring → List Stretch → List (List Change) → List PortReport → Type 0
 AreForetold ring earlier [] reports = reports ≡ []
 AreForetold ring earlier (changes ∷ later) [] = Unit {0}
@@ -60,7 +61,7 @@ pub record IsLastForetold (ring : Ring) (scenes : List (List Change)) (reports :
   pub changes : changes_in (stretches_by [] scenes reports) ≡ scenes
   pub shows : IsForetold ring (stretches_by [] scenes reports) last
 
--- and so is the last one of a script that was run to its end
+-- the last report of a script that was run to its end is foretold
 abbrev pub LastReportsAreForetold : Type 0
 LastReportsAreForetold = (ring : Ring) (limit : ℕ) (scenes : List (List Change)) (reports : List PortReport)
     → 1 ≤ ring.threshold → 1 ≤ ring.nodes → scenes ≢ [] → AreOwed ring limit [] 0 scenes reports status.Ok

@@ -23,36 +23,37 @@ use Rattle.sdh_verdicts.specs.declared.judging.Verdict.TheVariants.{Kept, Over, 
 use Rattle.sdh_verdicts.specs.Failures.{IsFailureIn, case_steps}
 use Rattle.sdh_verdicts.specs.Verdicts.{longer_steps, scenes_with, requests_with, verdict_under, verdict_of, hops_of}
 
--- the plan with a case behind its script, and another limit
+-- the plan with a case after its script, and another limit
 abbrev pub longer_plan : Planned → List Failure → ℕ → Planned
 longer_plan plan case limit = record plan { limit = limit; steps = longer_steps plan case }
 
 -- ---- when it is a plan
 
--- There is room behind the plan's script for the case's steps and a settle step: with them it has at most 1,000 steps,
--- 64 of which are settle steps. And a plan may have this limit; 64 n + 512, with which each step ends in a ring of n,
--- is one.
+-- There is room after the plan's script for the case's steps and a settle step: with them it has at most 1,000 steps,
+-- and at most 64 settle steps among them. And a plan may have this limit; 64 n + 512, with which each step ends in a
+-- ring of n, is one.
 pub record HasRoom (plan : Planned) (case : List Failure) (limit : ℕ) : Type 0 where
   pub steps : length plan.steps + length (case_steps (length plan.nodes) plan.settings.threshold case) ≤ 999
   pub settles : count_by is_settle plan.steps ≤ 63
   pub limit_from_1 : 1 ≤ limit
   pub limit_small : limit ≤ 65536
 
--- the longer plan is one exactly where there is
+-- the longer plan is a plan exactly where there is room for the case
 abbrev pub LongerPlansArePlans : Type 0
 LongerPlansArePlans = (plan : Planned) (case : List Failure) (limit : ℕ) → IsPlanned plan → All (IsFailureIn (length plan.nodes)) case
     → (IsPlanned (longer_plan plan case limit) ↔ HasRoom plan case limit)
 
 -- ---- what its last report shows
 
--- what is told of a circuit says of its ports: AIS where it is lost, and else what was sent so many rounds before
+-- what a port delivers in round t by its circuit's verdict: AIS where the circuit is lost, and else what was sent
+-- `hops` rounds before
 abbrev pub outlet_told : Verdict → ℕ → (ℕ → Outlet) → ℕ → Outlet
 outlet_told Lost hops sent t = silent
 outlet_told Kept hops sent t = sent (t - hops)
 outlet_told Over hops sent t = sent (t - hops)
 
--- So the line of the port at an end of the circuit of this number in round t, by what is told of the circuit in a case,
--- where this had happened at each port before each round. What was sent is the other end's.
+-- The line of the port at an end of the circuit of this number in round t, by the circuit's verdict in a case, where
+-- this had happened at each port before each round. What was sent is the other end's.
 abbrev pub port_told : Planned → List Failure → (PortId → ℕ → List Happening) → ℕ → ℕ → Provisioned → End → PortLine
 port_told plan case before t index c e =
     record {
@@ -62,15 +63,15 @@ port_told plan case before t index c e =
           (λ k. sends_by (customer_at c (other_end e)) (before (record { circuit = index; end = other_end e }) k)) t;
     }
 
--- those of all ports of these circuits, which are counted from `index`, in their order, a before b
+-- the lines of all ports of these circuits, which are counted from `index`, in their order, a before b
 abbrev pub ports_told : Planned → List Failure → (PortId → ℕ → List Happening) → ℕ → ℕ → List Provisioned → List PortLine
 ports_told plan case before t index [] = []
 ports_told plan case before t index (c ∷ cs) =
     port_told plan case before t index c A ∷ port_told plan case before t index c B ∷ ports_told plan case before t (index + 1) cs
 
--- The last of these reports shows each port with what is told of its circuit in the case, and what is told goes by the
--- requests of its round, and the spans that they apply. What had happened is the changes of the longer script in the rounds that the
--- reports tell.
+-- The last of these reports shows each port as its circuit's verdict in the case says. The verdicts go by the requests
+-- of that report's round, and the spans that they apply. What had happened is the changes of the longer script in the
+-- rounds that the reports have.
 pub record IsShown (plan : Planned) (case : List Failure) (reports : List PortReport) : Type 0 where
   pub foretold : IsLastForetold (ring_of plan) (scenes_with plan case) reports
   pub ports : foretold.last.ports
@@ -79,11 +80,11 @@ pub record IsShown (plan : Planned) (case : List Failure) (reports : List PortRe
   pub verdicts : (c : Provisioned) → verdict_of plan case c ≡ verdict_under (length plan.nodes)
       (is_applied (requests_by (ring_of plan) (stretches_by [] (scenes_with plan case) reports) foretold.last.round)) c
 
--- the reports of the plan with a case behind its script, where they come to its end and owe what the promise says
+-- the reports of the plan with a case after its script, where they come to its end and owe what the promise says
 abbrev pub CaseIsShown : Planned → List Failure → Type 0
 CaseIsShown plan case = (limit : ℕ) (reports : List Report) → OwesAll (longer_plan plan case limit) reports status.Ok
     → IsShown plan case (map ports_of reports)
 
--- for every plan and case
+-- every case of every plan is shown
 abbrev pub CasesAreShown : Type 0
 CasesAreShown = (plan : Planned) (case : List Failure) → IsPlanned plan → CaseIsShown plan case

@@ -1,5 +1,5 @@
--- A plan of three nodes and a case of which the laws of tables are worked out: a clock slips and a controller is held before the plan's
--- settle step, and then a span is cut.
+-- A plan of three nodes and a case for which the laws of tables are worked out: a clock slips and a controller is held
+-- before the plan's settle step, and then a span is cut.
 use Rattle.std.specs.Prelude.{ℕ, ◌≡◌, List, [], ◌∷◌, length, map, replicate, All}
 use Rattle.sdh_terms.specs.declared.Rate.TheVariants.{Four}
 use Rattle.sdh_ringmap.specs.Places.{position_of}
@@ -36,12 +36,12 @@ three = record {
   steps = step.Slip (record { circuit = 0; end = A }) Up 3 ∷ step.Hold (position_of 1) 7 ∷ step.Settle ∷ [];
 }
 
--- the span behind the first node is cut
+-- the span after the first node is cut
 abbrev pub cut : List Failure
 cut = Span (position_of 0) ∷ []
 
--- The case is one of the plan's, there is room for it, and the longer script has reports that owe what the promise says. So the last one
--- shows what is told: the circuit goes round, over three spans.
+-- The case is one of the plan's, there is room for it, and the longer script has reports that owe what the promise
+-- says. So the last one shows what the verdict says: the circuit goes round, over three spans.
 pub record CaseOccurs : Type 0 where
   pub planned : IsPlanned three
   pub case : All (IsFailureIn (length three.nodes)) cut

@@ -1,5 +1,5 @@
--- What each side of a ring has come to at a settle step of a script, by the changes before each settle step alone: no round is
--- counted. So what a report shows can be told without running one.
+-- What each side of a ring has come to at a settle step of a script, by the changes before each settle step alone: no
+-- round is counted. So what a report shows can be said without running one.
 use Rattle.std.specs.Prelude.{ℕ, ◌&&◌, not, nat_le, if◌then◌else◌, Option, Some, None, List, [], ◌∷◌}
 use Rattle.sdh_ringmap.specs.declared.Side.{Side}
 use Rattle.sdh_terms.specs.declared.Code.{Code}
@@ -20,11 +20,11 @@ pub record Resting : Type 0 where
   pub defect : Defect
   pub ended : Option ℕ
 
--- in a new ring over new fibres
+-- a side in a new ring over new fibres
 abbrev pub fresh : Resting
 fresh = record { holding = new_holding; defect = defect.None; ended = None }
 
--- the defect of a side whose fibre stays in this condition, where so many violations are a degradation
+-- the defect of a side whose fibre stays in this condition, where `threshold` violations are a degradation
 abbrev pub defect_of : ℕ → Condition → Defect
 defect_of threshold Clear = defect.None
 defect_of threshold Cut = defect.Sf
@@ -45,12 +45,12 @@ at_rest threshold h r =
 abbrev pub rest_after_changes : ℕ → ℕ → ℕ → Side → List Change → Resting → Resting
 rest_after_changes threshold n p d changes r = at_rest threshold (all_holding n p d changes r.holding) r
 
--- after the changes before each of some settle steps
+-- a side after the changes before each of some settle steps
 abbrev pub rest_in : ℕ → ℕ → ℕ → Side → List (List Change) → Resting → Resting
 rest_in threshold n p d [] r = r
 rest_in threshold n p d (changes ∷ later) r = rest_in threshold n p d later (rest_after_changes threshold n p d changes r)
 
--- what a side asks for at a settle step that left it so
+-- what a side in this state asks for at a settle step
 abbrev pub asks : ℕ → Resting → Code
 asks wait r = highest_code r.holding.command r.defect (waits wait r.defect r.holding.moment r.ended)
 

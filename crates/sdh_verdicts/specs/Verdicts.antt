@@ -1,4 +1,4 @@
--- What becomes of each circuit where these fail behind a plan's script.
+-- What becomes of each circuit where these fail after a plan's script.
 use Rattle.std.specs.Prelude.{ℕ, ◌≡◌, ◌+◌, ◌*◌, ◌/◌, ◌%◌, ◌<◌, ◌≤◌, zero, suc, Bool, true, false, if◌then◌else◌, List, [], ◌∷◌, ◌++◌}
 use Rattle.std.specs.Prelude.{not, nat_le, length, slice_index, map, take}
 use Rattle.sdh_basics.specs.Cells.{cells}
@@ -36,7 +36,7 @@ use Rattle.sdh_verdicts.specs.Sides.{resting_of, rests}
 abbrev pub longer_steps : Planned → List Failure → List Step
 longer_steps plan case = plan.steps ++ (case_steps (length plan.nodes) plan.settings.threshold case ++ step.Settle ∷ [])
 
--- the changes before each settle step of that
+-- the changes before each settle step of the longer script
 abbrev pub scenes_with : Planned → List Failure → List (List Change)
 scenes_with plan case = scenes [] (longer_steps plan case)
 
@@ -57,11 +57,13 @@ verdict_of plan case c = verdict_under (length plan.nodes) (is_applied (requests
 abbrev pub is_troubled : List ℕ → ℕ → Bool
 is_troubled requests s = nat_le (code_number Ms) (slice_index requests s)
 
--- A span of the circuit's own arc is in trouble. Where the circuit is kept it isn't applied: another request is as high or higher.
+-- A span of the circuit's own arc is in trouble. Where the circuit is kept that span isn't applied: another request is
+-- as high or higher.
 abbrev pub is_impaired : Planned → List Failure → Provisioned → Bool
 is_impaired plan case c = not (is_clear (length plan.nodes) (is_troubled (requests_with plan case)) (arc_of (length plan.nodes) c))
 
--- over how many spans the bytes of a circuit with this verdict go from port to port; 0 where its ends aren't joined
+-- the number of spans over which the bytes of a circuit with this verdict go from port to port; 0 where its ends aren't
+-- joined
 abbrev pub hops_where : Verdict → ℕ → (ℕ → Bool) → Provisioned → ℕ
 hops_where Lost n applied c = 0
 hops_where v n applied c = hops n applied (arc_of n c)
@@ -69,13 +71,13 @@ hops_where v n applied c = hops n applied (arc_of n c)
 abbrev pub hops_under : ℕ → (ℕ → Bool) → Provisioned → ℕ
 hops_under n applied c = hops_where (verdict_under n applied c) n applied c
 
--- over how many those of a circuit of the plan go in a case
+-- the number of spans over which the bytes of a circuit of the plan go in a case
 abbrev pub hops_of : Planned → List Failure → Provisioned → ℕ
 hops_of plan case c = hops_under (length plan.nodes) (is_applied (requests_with plan case)) c
 
 -- ---- failures that are none
 
--- what side d of position p has come to behind the plan's script
+-- what side d of position p has come to after the plan's script
 abbrev pub left_by : Planned → ℕ → Side → rest.Resting
 left_by plan p d = rests plan.settings.threshold (length plan.nodes) p d plan.steps rest.fresh
 
@@ -96,7 +98,7 @@ mends plan (Forced at side) = false
 
 -- ---- what the program keeps
 
--- what a side asks for behind the longer script
+-- what a side asks for after the longer script
 abbrev pub asks_with : Planned → List Failure → ℕ → Side → Code
 asks_with plan case p d =
     rest.asks plan.settings.wait (rest.rest_in plan.settings.threshold (length plan.nodes) p d (scenes_with plan case) rest.fresh)
@@ -105,7 +107,7 @@ asks_with plan case p d =
 abbrev pub asked_at : Planned → List Failure → ℕ → LocalRequests
 asked_at plan case p = record { west = asks_with plan case p West; east = asks_with plan case p East }
 
--- what the side of a number has come to behind the plan's script
+-- what the side of a number has come to after the plan's script
 abbrev pub numbered : Planned → ℕ → rest.Resting
 numbered plan number = left_by plan (number / 2) (side_of number)
 
@@ -129,8 +131,8 @@ places_below p (suc k) = places_below p k ++ (if p k then k ∷ [] else [])
 abbrev pub numbers_of : List RingSpan → List ℕ
 numbers_of spans = map (λ s. s.0) spans
 
--- the spans are those of a ring of n for which p holds: how many there are before each place, round the ring twice, and which
--- they are, one by one and in their order
+-- the spans are those of a ring of n for which p holds: how many there are before each place, round the ring twice, and
+-- the spans themselves in their order
 pub record AreSpans (n : ℕ) (p : ℕ → Bool) (a : SpanSet) : Type 0 where
   pub before : (i : ℕ) → i ≤ 2 * n → slice_index a.before i ≡ counted (λ j. p (j % n)) i
   pub among : (s : ℕ) → s < n → is_among (take a.many a.spans) s ≡ p s

@@ -27,7 +27,7 @@ pub enum Failure {
     Forced(Pos, Side),
 }
 
-/// How many failures a ring of so many nodes has.
+/// Returns the number of failures that a ring of `nodes` nodes has.
 pub fn count_of(nodes: usize) -> usize
     requires { nodes ≤ 16 }
     ensures { result ≡ 10 * nodes }
@@ -35,7 +35,7 @@ pub fn count_of(nodes: usize) -> usize
     10 * nodes
 }
 
-// The position and side of a number, west before east.
+// Returns the position and side of a number, west before east.
 fn place(number: usize) -> (Pos, Side)
     requires { number < 32 }
     ensures half { result.0.0 ≡ number / 2 }
@@ -49,7 +49,8 @@ fn place(number: usize) -> (Pos, Side)
     (Pos((number / 2) as u8), side)
 }
 
-/// The failure of a number, counted from 0: fibres degraded, fibres cut, spans, nodes, manual switches, forced switches.
+/// Returns the failure of a number, counted from 0: fibres degraded, fibres cut, spans, nodes, manual switches, forced
+/// switches.
 #[tactic(auto, unfolding(crate::specs::Failures::failure_at))]
 pub fn failure_at(nodes: usize, number: usize) -> Failure
     requires few { nodes ≤ 16 }
@@ -76,7 +77,7 @@ pub fn failure_at(nodes: usize, number: usize) -> Failure
     }
 }
 
-// The step that cuts a fibre.
+// Returns the step that cuts a fibre.
 fn cut(at: Pos, side: Side) -> Step
     ensures { result ≡ condition_step Condition.Cut at side }
 {
@@ -87,7 +88,7 @@ fn cut(at: Pos, side: Side) -> Step
     })
 }
 
-// Of steps, the one at a place.
+// Returns the step at a place of these, if there is one.
 fn pick(steps: &[Step], i: usize) -> Option<Step>
     ensures { result ≡ slice_get steps.now i }
 {
@@ -98,7 +99,7 @@ fn pick(steps: &[Step], i: usize) -> Option<Step>
     }
 }
 
-/// The step at a place of a failure's steps, counted from 0.
+/// Returns the step at a place of a failure's steps, counted from 0.
 pub fn step_of(map: &RingMap, threshold: u16, failure: Failure, i: usize) -> Option<Step>
     requires { IsFailureIn (length map.now) failure }
     ensures { result ≡ slice_get (steps_of (length map.now) threshold failure) i }

@@ -1,5 +1,5 @@
-//! What a plan's reports show, told by the plan's changes alone: no round is counted and none is run. Each function here
-//! has a law as its contract and no work to do.
+//! What a plan's reports show follows from the plan's changes alone: no round is counted and none is run. Each function
+//! here has a law as its contract and no work to do.
 ghost use Rattle.sdh_verdicts.specs.Foretold.{RequestsRest, ReportsAreForetold, LastReportsAreForetold};
 
 /// In the last round of stretches of three rounds or more the requests are what the changes come to.

@@ -35,9 +35,9 @@ pub struct Sides<'a> {
 /// Some spans of a ring.
 #[derive(Clone, Copy)]
 pub struct SpanSet {
-    // how many there are among the first so many, counted from span 0 on and round the ring twice
+    // by a number i: how many of the spans are among the first i, counted from span 0 on and round the ring twice
     before: [u8; 33],
-    // each of them, so many
+    // the spans: the first `many` of these
     spans: [Span; 16],
     many: usize,
 }
@@ -54,13 +54,13 @@ pub struct CaseSpans {
 pub enum Verdict {
     /// Its ends are joined by its own arc.
     Kept,
-    /// They are joined round applied spans.
+    /// Its ends are joined only round applied spans.
     Over,
-    /// They aren't joined.
+    /// Its ends aren't joined.
     Lost,
 }
 
-// The side of a number, west before east.
+// Returns the side of a number, west before east.
 fn place_at(number: usize) -> Place
     requires { number < 32 }
     ensures at { result.at.0 ≡ number / 2 }
@@ -76,7 +76,7 @@ fn place_at(number: usize) -> Place
     }
 }
 
-// A side after the steps of a failure.
+// Returns a side after the steps of a failure.
 fn with_failure(
     map: &RingMap,
     threshold: u16,
@@ -98,7 +98,7 @@ fn with_failure(
     rest
 }
 
-// A side after the steps of a case.
+// Returns a side after the steps of a case.
 fn with_case(
     map: &RingMap,
     threshold: u16,
@@ -124,7 +124,7 @@ const NO_REQUESTS: LocalRequests = LocalRequests {
 };
 
 impl<'a> Sides<'a> {
-    /// The sides of a plan's ring.
+    /// Returns the sides of a plan's ring.
     pub fn try_new(alloc: Global, plan: &'a Plan) -> Result<Sides<'a>, AllocError>
         ensures { IfOk result (λ sides. AreSidesOf plan.now sides) }
     {
@@ -143,7 +143,7 @@ impl<'a> Sides<'a> {
         })
     }
 
-    // What a side has come to behind the plan's script.
+    // Returns what a side has come to after the plan's script.
     fn kept(&self, place: Place) -> Resting
         requires sides { length self.now.rests.items ≡ 2 * length self.now.map.now }
         requires at { place.at.0 < length self.now.map.now }
@@ -152,8 +152,8 @@ impl<'a> Sides<'a> {
         self.rests[usize::from(fibre(place.at, place.side))]
     }
 
-    /// Whether the failure would mend what the plan's script has set: a degradation of a cut fibre, or a manual switch of a side
-    /// with a forced one. Its step takes the place of the script's.
+    /// Returns whether the failure would mend what the plan's script has set: a degradation of a cut fibre, or a manual
+    /// switch of a side with a forced one. Its step takes the place of the script's.
     pub fn mends(&self, failure: Failure) -> bool
         requires sides { length self.now.rests.items ≡ 2 * length self.now.map.now }
         requires failure { IsFailureIn (length self.now.map.now) failure }
@@ -172,7 +172,7 @@ impl<'a> Sides<'a> {
         }
     }
 
-    // What a side asks for where all of these fail, one after the other.
+    // Returns what a side asks for where all of these fail, one after the other.
     fn request(&self, case: &[Failure], at: Pos, side: Side) -> Code
         requires sides { length self.now.rests.items ≡ 2 * length self.now.map.now }
         requires at { at.0 < length self.now.map.now }
@@ -184,7 +184,7 @@ impl<'a> Sides<'a> {
         asks(self.wait, &at_rest(self.threshold, failed))
     }
 
-    // The requests of all spans where all of these fail.
+    // Returns the requests of all spans where all of these fail.
     fn requests(&self, case: &[Failure]) -> [Code; 16]
         requires sides { length self.now.rests.items ≡ 2 * length self.now.map.now }
         requires case { All (IsFailureIn (length self.now.map.now)) case.now }
@@ -226,7 +226,7 @@ impl<'a> Sides<'a> {
     }
 }
 
-// Whether a span is in trouble, by the requests of all.
+// Returns whether a span is in trouble, by the requests of all.
 fn is_troubled(requests: &[Code], span: Span) -> bool
     requires { span.0 < length requests.now }
     ensures { result ≡ is_troubled (map code_number requests.now) span.0 }
@@ -234,7 +234,7 @@ fn is_troubled(requests: &[Code], span: Span) -> bool
     requests[span.0 as usize].number() >= Code::Ms.number()
 }
 
-// The marked spans, one by one, and how many they are.
+// Returns the marked spans, and their number.
 fn list(marks: &[bool]) -> ([Span; 16], usize)
     requires few { length marks.now ≤ 16 }
     ensures few { result.1 ≤ 16 }
@@ -252,7 +252,7 @@ fn list(marks: &[bool]) -> ([Span; 16], usize)
     (spans, many)
 }
 
-// The marked spans.
+// Returns the marked spans.
 fn set_of(marks: &[bool]) -> SpanSet
     requires some { 1 ≤ length marks.now }
     requires few { length marks.now ≤ 16 }
@@ -271,7 +271,7 @@ fn set_of(marks: &[bool]) -> SpanSet
     }
 }
 
-// The applied spans, by the requests of all.
+// Returns the applied spans, by the requests of all.
 fn applied_in(requests: &[Code]) -> SpanSet
     requires some { 1 ≤ length requests.now }
     requires few { length requests.now ≤ 16 }
@@ -284,7 +284,7 @@ fn applied_in(requests: &[Code]) -> SpanSet
     set_of(&marks[..requests.len()])
 }
 
-// The spans in trouble, by the requests of all.
+// Returns the spans in trouble, by the requests of all.
 fn troubled_in(requests: &[Code]) -> SpanSet
     requires some { 1 ≤ length requests.now }
     requires few { length requests.now ≤ 16 }
@@ -298,7 +298,7 @@ fn troubled_in(requests: &[Code]) -> SpanSet
 }
 
 impl SpanSet {
-    /// Returns them one by one, in their order.
+    /// Returns the spans in their order.
     pub fn spans(&self) -> &[Span]
         requires { self.now.many ≤ 16 }
         ensures { result.now ≡ take self.now.many self.now.spans }
@@ -307,7 +307,7 @@ impl SpanSet {
     }
 }
 
-/// What becomes of a circuit where these spans are applied.
+/// Returns what becomes of a circuit where these spans are applied.
 #[tactic(auto)]
 pub fn judge(map: &RingMap, applied: &SpanSet, circuit: &Circuit) -> Verdict
     requires of { (p : ℕ → Bool) × AreSpans (length map.now) p applied.now }
@@ -340,7 +340,8 @@ pub fn meets(map: &RingMap, spans: &SpanSet, circuit: &Circuit) -> bool
     spans.before[first + over] != spans.before[first]
 }
 
-/// Over how many spans the bytes of a circuit go from port to port where these spans are applied; 0 where its ends aren't joined.
+/// Returns the number of spans over which the bytes of a circuit go from port to port where these spans are applied; 0
+/// where its ends aren't joined.
 pub fn way(map: &RingMap, applied: &SpanSet, circuit: &Circuit) -> u8
     requires of { (p : ℕ → Bool) × AreSpans (length map.now) p applied.now }
     requires from { circuit.now.from.0 < length map.now }

@@ -1,7 +1,7 @@
-//! What becomes of each circuit of a ring where things fail, by the restoration model alone: no round is run. `specs/Failures.antt` has
-//! the failures and their steps, `specs/Verdicts.antt` what becomes of a circuit, `specs/Resting.antt` what
-//! the sides of a ring come to at each settle step, `specs/Foretold.antt` that the reports that are owed show just that,
-//! and `specs/Laws.antt` that they show what becomes of each circuit.
+//! What becomes of each circuit of a ring where things fail, by the restoration model alone: no round is run.
+//! `specs/Failures.antt` has the failures and their steps, and `specs/Verdicts.antt` what becomes of a circuit.
+//! `specs/Resting.antt` says what the sides of a ring come to at each settle step, and `specs/Foretold.antt` that the
+//! reports that are owed show just that. `specs/Laws.antt` says that they show what becomes of each circuit.
 #![tactic(auto)]
 
 mod failure;

@@ -1,4 +1,4 @@
-//! What is told of a circuit of a plan.
+//! What becomes of a circuit of a plan in a case.
 ghost use Rattle.std.specs.Prelude.{◌≡◌, ◌<◌, List, length, slice_get, Some};
 ghost use Rattle.sdh_restoration.specs.Applied.{is_applied};
 ghost use Rattle.sdh_circuits.specs.Provisioned.{Provisioned};
@@ -8,7 +8,7 @@ ghost use Rattle.sdh_verdicts.specs.Verdicts.{AreSpans, requests_with, is_troubl
 use crate::judging::{SpanSet, Verdict, judge, meets, way};
 use sdh_plan::Plan;
 
-/// What becomes of a circuit, by its number, in the case of which these are the applied spans.
+/// Returns what becomes of a circuit, by its number, in the case with these applied spans.
 pub fn told(plan: &Plan, applied: &SpanSet, number: u8) -> Verdict
     requires number { number < length plan.now.circuits }
     requires case { (case : List Failure) × AreSpans (length plan.now.nodes) (is_applied (requests_with plan.now case)) applied.now }
@@ -21,7 +21,8 @@ pub fn told(plan: &Plan, applied: &SpanSet, number: u8) -> Verdict
     judge(plan.map(), applied, circuits.get(number))
 }
 
-/// Over how many spans the bytes of a circuit go, by its number, in the case of which these are the applied spans.
+/// Returns the number of spans over which the bytes of a circuit go, by its number, in the case with these applied
+/// spans.
 pub fn told_hops(plan: &Plan, applied: &SpanSet, number: u8) -> u8
     requires number { number < length plan.now.circuits }
     requires case { (case : List Failure) × AreSpans (length plan.now.nodes) (is_applied (requests_with plan.now case)) applied.now }
@@ -34,7 +35,7 @@ pub fn told_hops(plan: &Plan, applied: &SpanSet, number: u8) -> u8
     way(plan.map(), applied, circuits.get(number))
 }
 
-/// Returns whether a circuit's own arc has a span in trouble, by its number, in the case of which these are those spans.
+/// Returns whether a circuit's own arc has a span in trouble, by its number, in the case with these spans in trouble.
 pub fn told_impaired(plan: &Plan, troubled: &SpanSet, number: u8) -> bool
     requires number { number < length plan.now.circuits }
     requires case { (case : List Failure) × AreSpans (length plan.now.nodes) (is_troubled (requests_with plan.now case)) troubled.now }

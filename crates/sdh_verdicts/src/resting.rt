@@ -39,7 +39,7 @@ pub struct Place {
     pub side: Side,
 }
 
-/// The number of the fibre that leaves a position on a side.
+/// Returns the number of the fibre that leaves a position on a side.
 pub fn fibre(at: Pos, side: Side) -> u16
     ensures { result ≡ fibre at.0 side }
 {
@@ -49,7 +49,7 @@ pub fn fibre(at: Pos, side: Side) -> u16
     }
 }
 
-// The number of the fibre that ends at a side.
+// Returns the number of the fibre that ends at a side.
 fn fibre_to(map: &RingMap, place: Place) -> u16
     requires { place.at.0 < length map.now }
     ensures { result ≡ fibre_to (length map.now) place.at.0 place.side }
@@ -57,7 +57,7 @@ fn fibre_to(map: &RingMap, place: Place) -> u16
     fibre(map.step(place.at, place.side), place.side.opposite())
 }
 
-// The defect of a side whose fibre has been in this condition for some rounds.
+// Returns the defect of a side whose fibre has been in this condition for some rounds.
 fn defect_of(threshold: u16, condition: Condition) -> Defect
     ensures { result ≡ model.defect_of threshold condition }
 {
@@ -74,7 +74,7 @@ fn defect_of(threshold: u16, condition: Condition) -> Defect
     }
 }
 
-/// Whether a fibre in this condition is cut.
+/// Returns whether a fibre in this condition is cut.
 pub fn is_cut(condition: Condition) -> bool
     ensures { result ≡ is_cut condition }
 {
@@ -84,7 +84,7 @@ pub fn is_cut(condition: Condition) -> bool
     }
 }
 
-/// Whether it is a forced switch.
+/// Returns whether it is a forced switch.
 pub fn is_forced(command: Command) -> bool
     ensures { result ≡ is_forced command }
 {
@@ -94,7 +94,7 @@ pub fn is_forced(command: Command) -> bool
     }
 }
 
-// Whether there is none.
+// Returns whether there is none.
 fn is_clear(defect: Defect) -> bool
     ensures { result ≡ request.is_defect_free defect }
 {
@@ -104,7 +104,7 @@ fn is_clear(defect: Defect) -> bool
     }
 }
 
-/// The side at a settle step.
+/// Returns the side at a settle step.
 pub fn at_rest(threshold: u16, rest: Resting) -> Resting
     ensures { resting_of result ≡ walk.at_rest_now threshold (resting_of rest) }
 {
@@ -121,7 +121,7 @@ pub fn at_rest(threshold: u16, rest: Resting) -> Resting
     }
 }
 
-/// The side after a step.
+/// Returns the side after a step.
 pub fn rest_after(
     threshold: u16,
     map: &RingMap,
@@ -156,7 +156,7 @@ pub fn rest_after(
     }
 }
 
-/// The side after some steps.
+/// Returns the side after some steps.
 pub fn rests(threshold: u16, map: &RingMap, place: Place, steps: &[Step], from: Resting) -> Resting
     requires { place.at.0 < length map.now }
     ensures { resting_of result ≡ walk.rests threshold (length map.now) place.at.0 place.side steps.now (resting_of from) }
@@ -168,7 +168,7 @@ pub fn rests(threshold: u16, map: &RingMap, place: Place, steps: &[Step], from: 
     rest
 }
 
-// Whether the side waits to restore.
+// Returns whether the side waits to restore.
 fn waits(wait: u32, rest: &Resting) -> bool
     ensures { result ≡ request.waits wait rest.now.defect rest.now.moment.0 (option_map (λ m. m.0) rest.now.ended) }
 {
@@ -181,7 +181,7 @@ fn waits(wait: u32, rest: &Resting) -> bool
     }
 }
 
-/// What the side asks for at a settle step that left it so.
+/// Returns what the side asks for at a settle step that left it so.
 pub fn asks(wait: u32, rest: &Resting) -> Code
     ensures { result ≡ model.asks wait (resting_of rest.now) }
 {

@@ -38,7 +38,7 @@ use Rattle.sdh_watch.specs.Owed.{clean_watch}
 use Rattle.sdh_watch.proofs.Plainly.{GoesPlainly}
 use Rattle.sdh_rounds.specs.Rounds as any_round
 
--- a world that so many rounds of a ring at rest lead to
+-- the world to which k rounds of a ring at rest lead
 record At (clocks : PortId → ℕ → Clock) (w : World) (k : ℕ) (left : World) : Type 0 where
   rests : IsAtRest clocks left
   rounds : left.ring.rounds ≡ w.ring.rounds + k

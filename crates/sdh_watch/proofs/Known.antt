@@ -1,4 +1,4 @@
--- What is told with watches is told by the rounds of a settle step and the 128 behind it.
+-- What is reported with watches follows from the rounds of a settle step and the 128 after it.
 use Rattle.std.proofs.Common.{◌≡◌, ℕ, zero, suc, ◌+◌, ◌≤◌, ◌∷◌, refl, ap₂, arith}
 use Rattle.sdh_circuits.specs.declared.PortId.{PortId}
 use Rattle.sdh_world.specs.Rounds.{World}
@@ -7,7 +7,7 @@ use Rattle.sdh_owed.proofs.Known.{no_round}
 use Rattle.sdh_watch.specs.Watching.{given_at, heard_in, watched, watched_in}
 use Rattle.sdh_watch.specs.Scripts.{watch_walk}
 
--- courses that are the same so far
+-- courses that agree up to a round give a port's watch equal bytes
 pub heard_same : (k : ℕ) (at bt : ℕ → World) (port : PortId) → ((j : ℕ) → j ≤ k → at j ≡ bt j) → heard_in k at port ≡ heard_in k bt port
 heard_same zero at bt port same = refl
 heard_same (suc k) at bt port same =

@@ -37,7 +37,7 @@ held_one w left is =
     subst (λ (v : World). v.ring ≡ record w.ring { nodes = v.ring.nodes; rounds = w.ring.rounds + 1 }) (sym is.after_is)
     (held_round adm is.arrivals w)
 
--- behind one round more
+-- after one round more
 pub held_more : (w mid left : World) (k : ℕ) → mid.ring ≡ record w.ring { nodes = mid.ring.nodes; rounds = w.ring.rounds + k }
     → IsRound mid left → left.ring ≡ record w.ring { nodes = left.ring.nodes; rounds = w.ring.rounds + (k + 1) }
 held_more w mid left k held is =
@@ -98,7 +98,7 @@ none_round xs w id none = by_found (round_with xs w).ring id (λ k. waiting k �
     let few = next_few (clock_at w.ring id) 0 (omega (arith, none)) in
     omega (arith, ap (λ (k : Clock). waiting k) next, few)))
 
--- where no slip waits, none waits behind more rounds
+-- where no slip waits, none waits after more rounds
 pub none_lead : (k : ℕ) (w left : World) (heard : PortId → List Given) → Lead k w left heard → (id : PortId) → waiting_at w.ring id ≡ 0
     → waiting_at left.ring id ≡ 0
 none_lead zero w left heard lead id none = ap (λ (v : World). waiting_at v.ring id) lead.0 ∙ none

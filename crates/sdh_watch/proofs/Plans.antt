@@ -29,7 +29,7 @@ module _ (plan : Planned) (f left : Fibres) (reports : List Watched) (end : Stat
       law plan.settings plan.nodes (provisioning_of plan) f (may_start plan f fits honest)
       (circuits_fit plan fits) plan.limit new_past plan.steps fits.steps_fit reports end x.0 x.2
 
--- ---- all that is told
+-- ---- all that is reported
 
 pub tells : WatchesAreClean → ScriptsSettle → (plan : Planned) (f left : Fibres) (text : List ℕ) (end : Status) → IsPlanned plan
     → (f.honest ≡ true → IsHonest f)

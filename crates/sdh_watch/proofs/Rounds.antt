@@ -66,13 +66,13 @@ led_by (suc k) w left heard (mid, before, lead, is, more) =
           (λ j h. course_more adm old is.arrivals w j (omega (arith, h, c))));
     }
 
--- ---- a course behind another
+-- ---- a course after another
 
 behind_at : (xs ys : List (List Arrival)) (w mid : World) (j : ℕ) → mid ≡ run_with xs w
     → course_with (xs ++ ys) w (length xs + j) ≡ course_with ys mid j
 behind_at xs ys w mid j is = ap (λ rs. run_with rs w) (take_past xs ys j) ∙ run_on adm xs (take j ys) w ∙ ap (run_with (take j ys)) (sym is)
 
--- what is told of a settle step is what its rounds and those behind it show
+-- what is reported of a settle step is what its rounds and those after it show
 told_at : (number limit : ℕ) (w mid : World) (s : Settles w limit mid) (behind : List (List Arrival)) → length behind ≡ 128
     → watched_in number (course_with (s.rounds ++ behind) w) (length s.rounds)
     ≡ watched number mid.ring (run_with behind mid).ring (heard_in 128 (course_with behind mid))
@@ -88,9 +88,9 @@ told_at number limit w mid s behind count =
     (λ j h. behind_at s.rounds behind w mid j s.left_is) in
     λ i. watched number (first i).ring (last i).ring (λ port. heard port i)
 
--- ---- a settle step, and the rounds that are watched behind it
+-- ---- a settle step, and the rounds that are watched after it
 
--- it ended, and its 128 rounds were run and showed this
+-- a settle step ended, and its 128 rounds were run and showed this
 pub record IsWatched (limit number : ℕ) (w : World) (told : Watched) (left : World) : Type 0 where
   pub mid : World
   pub heard : PortId → List Given

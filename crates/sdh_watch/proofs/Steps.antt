@@ -1,4 +1,4 @@
--- A settle step and the rounds that are watched behind it.
+-- A settle step and the rounds that are watched after it.
 use Rattle.std.proofs.Common.{◌≡◌, ◌≤◌, ℕ, ◌+◌, length, List, ◌∷◌, ap, sym, ◌∙◌, arith, inr}
 use Rattle.sdh_plant.specs.Fibres.{IsPrepared}
 use Rattle.sdh_circuits.specs.declared.PortId.{PortId}

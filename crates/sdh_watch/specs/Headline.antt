@@ -1,4 +1,4 @@
--- What the program tells of a plan, and how it ends.
+-- What the program reports of a plan, and how it ends.
 use Rattle.std.specs.Prelude.{ℕ, ◌≡◌, List, codes, Option, None}
 use Rattle.sdh_plant.specs.Fibres.{Fibres}
 use Rattle.sdh_plant.specs.Arrivals.{Knows}
@@ -13,11 +13,11 @@ use Rattle.sdh_watch.specs.Shows.{Watched}
 use Rattle.sdh_watch.specs.Lines.{text_of}
 use Rattle.sdh_watch.specs.Plans.{IsRunOf, ran_of, MaySettle}
 
--- it is asked for one thing, with the word `run`
+-- what the words ask for: one thing, with the word `run`
 abbrev pub asked : List (List ℕ) → Option (Unit {0})
 asked = asked_to_run
 
--- it runs a plan with watches, and tells what they show behind each settle step
+-- the program that runs a plan with watches, and reports what they show after each settle step
 abbrev pub watching : Program (Unit {0}) (Unit {0}) Watched Status
 watching = record {
   usage = codes "usage: sdhwatch run";
@@ -30,11 +30,11 @@ watching = record {
   MaySettle = MaySettle;
 }
 
--- the number of a status of which this is so
+-- the number is that of a status for which this is so
 abbrev pub IsNumberOf : ℕ → (Status → Type 0) → Type 0
 IsNumberOf number Is = (how : Status) × (number ≡ number_of how) × Is how
 
--- it ends as the script does where the arrivals are known: unsettled at exactly the step in which no quiet window comes
--- within the limit; or a plant's call failed
+-- the program ends as the script does where the arrivals are known: unsettled at exactly the step in which no quiet
+-- window comes within the limit; or a plant's call failed
 abbrev pub EndsAsItRuns : List ℕ → Fibres → Status → Type 0
 EndsAsItRuns bytes f how = EndsAs (λ plan. Knows (world_of plan f).fibres) (λ plan. (ran_of plan f).ending) bytes how

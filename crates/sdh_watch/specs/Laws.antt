@@ -29,7 +29,7 @@ WatchesAreClean = (s : Settings) (ids : List ℕ) (circuits : Provisioning) (f :
     → (reports : List Watched) (end : Status) (left : World) → Watches limit 0 steps (new_world s ids circuits f) reports end left
     → AreClean (ring_by s (length ids) circuits.circuits) limit [] 0 (scenes [] steps) reports end)
 
--- from there no settle step with so large a limit is unsettled
+-- from a new ring over new honest fibres no settle step with a limit that is always enough is unsettled
 abbrev pub ScriptsSettle : Type 0
 ScriptsSettle = (s : Settings) (ids : List ℕ) (circuits : Provisioning) (f : Fibres) → (let l = layout_in (new_ring s ids circuits) in
     MayStart s ids f → HasCircuits l → (limit : ℕ) (past : Past) (steps : List Step)

@@ -19,10 +19,10 @@ clean_watch name end o = record { name = name; end = end; shows = shown o.delive
 abbrev pub owed_watch : PortLine → WatchLine
 owed_watch p = clean_watch p.name p.end p.outlet
 
--- What is told of each settle step is what is owed in the last of its 128 rounds, under the requests of the history and
--- by what happened at the ports, where `earlier` had happened, so many settle steps had ended, and these are the
--- changes before each step to come. The settle step itself ends as one does without watches. A settle step of which
--- nothing is told is where the script ended, unsettled or by a fault.
+-- What is reported of each settle step is what is owed in the last of its 128 rounds, under the requests of the history
+-- and by what happened at the ports. `earlier` had happened before, a number of settle steps had ended, and these are
+-- the changes before each step to come. The settle step itself ends as one does without watches. A settle step without
+-- a report is where the script ended, unsettled or by a fault.
 abbrev pub AreClean : Ring → ℕ → List Stretch → ℕ → List (List Change) → List Watched → Status → Type 0
 AreClean ring limit earlier before [] reports end = (reports ≡ []) × ((end ≡ status.Ok) ⊎ (end ≡ status.PlantFault))
 AreClean ring limit earlier before (changes ∷ later) [] end = (end ≡ status.Unsettled (before + 1)) ⊎ (end ≡ status.PlantFault)

@@ -21,7 +21,7 @@ ShowsClean plan reports end = AreClean (ring_of plan) plan.limit [] 0 (scenes []
 abbrev pub watch_account : Account Node Watched
 watch_account = record { walk = watch_walk; new_ring = new_ring_of }
 
--- that is what its lines owe
+-- the lines of a plan owe that over honest fibres each watch shows what its port is owed
 abbrev pub Owes : ReportsOwe Watched
 Owes plan f reports end left = ShowsClean plan reports end
 
@@ -34,7 +34,7 @@ ran_of = plans.ran_of watch_account
 abbrev pub MaySettle : Planned → Fibres → Type 0
 MaySettle = plans.MaySettle watch_account
 
--- one list, told in each way
+-- what is so of one list of settle steps: over every plant, where the arrivals are known, and over honest fibres
 abbrev pub IsRunOf : Planned → Fibres → List Watched → Status → Fibres → Type 0
 IsRunOf = plans.IsRunOf watch_account Owes
 

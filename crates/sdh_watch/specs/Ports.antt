@@ -17,7 +17,7 @@ pub record IsWatching (c : Provisioned) (index : ℕ) (heard : PortId → List G
   pub at_a : CameBy c.b.trace (heard (port_id index A)) both.a
   pub at_b : CameBy c.a.trace (heard (port_id index B)) both.b
 
--- so have those of all circuits
+-- the watches of all circuits keep what was delivered to their ports
 pub record AreWatching (circuits : List Provisioned) (heard : PortId → List Given) (watches : List WatchPair) : Type 0 where
   pub many : length watches ≡ length circuits
   pub each : (i : ℕ) (c : Provisioned) (both : WatchPair) → slice_get circuits i ≡ Some c → slice_get watches i ≡ Some both
@@ -25,7 +25,7 @@ pub record AreWatching (circuits : List Provisioned) (heard : PortId → List Gi
 
 -- ---- what the watches do
 
--- each of these watches has had at most so many chunks
+-- each of these watches was given at most k chunks
 abbrev pub AreFew : ℕ → List WatchPair → Type 0
 AreFew k watches = (i : ℕ) (both : WatchPair) → slice_get watches i ≡ Some both → (both.a.chunks ≤ k) × (both.b.chunks ≤ k)
 
@@ -36,8 +36,7 @@ pub record Looked (r : HeldRing) (index : ℕ) (before after : WatchPair) : Type
   pub few_a : after.a.chunks ≤ before.a.chunks + 1
   pub few_b : after.b.chunks ≤ before.b.chunks + 1
 
--- so many rounds lead from a world to another, and the watches have come to what they keep by what was delivered in
--- them
+-- k rounds lead from a world to another, and the watches have come to what they keep by what was delivered in them
 pub record Shown (k : ℕ) (w left : World) (watches : List WatchPair) : Type 0 where
   pub heard : PortId → List Given
   pub rounds : Lead k w left heard

@@ -21,8 +21,8 @@ watch_walk = record {
   last = λ (r : Watched). r.round;
 }
 
--- the steps from a world, after so many settle steps that have ended, with this limit of rounds a settle step: this is told, they
--- end so, and leave that world
+-- what the steps come to from a world, after a number of settle steps that have ended, with a limit of rounds a settle
+-- step: this is reported, they end so, and leave that world
 abbrev pub Watches : ℕ → ℕ → List Step → World → List Watched → Status → World → Type 0
 Watches = scripts.Runs watch_walk
 

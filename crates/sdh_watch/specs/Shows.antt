@@ -1,4 +1,4 @@
--- What is told of the watches on a ring's ports.
+-- What is reported of the watches on a ring's ports.
 use Rattle.std.specs.Prelude.{ℕ, Option, Some, None, List}
 use Rattle.sdh_circuits.specs.declared.End.{End}
 use Rattle.sdh_payload.specs.declared.delivered.Delivered.{Delivered}

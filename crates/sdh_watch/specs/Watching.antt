@@ -26,8 +26,8 @@ given_as value (delivered.Chunk bytes) = if length bytes == 2349 then Chunk byte
 abbrev pub given_at : HeldRing → PortId → Given
 given_at r port = given_as (outlet_at r port).value (outlet_at r port).delivered
 
--- so many rounds lead from a world to another, whatever arrives in them, and this is what is given to the watch on each
--- port, the latest first
+-- a number of rounds lead from a world to another, whatever arrives in them, and this is what is given to the watch on
+-- each port, the latest first
 abbrev pub Lead : ℕ → World → World → (PortId → List Given) → Type 0
 Lead zero w left heard = (left ≡ w) × ((port : PortId) → heard port ≡ [])
 Lead (suc k) w left heard =
@@ -39,7 +39,7 @@ abbrev pub heard_in : ℕ → (ℕ → World) → PortId → List Given
 heard_in zero at port = []
 heard_in (suc k) at port = given_at (at (suc k)).ring port ∷ heard_in k at port
 
--- a fault broke one of so many rounds off, and left these fibres
+-- a fault broke one of k rounds off, and left these fibres
 pub record BreaksAmong (k : ℕ) (w : World) (left : Fibres) : Type 0 where
   pub ran : ℕ
   pub few : ran < k
@@ -48,7 +48,7 @@ pub record BreaksAmong (k : ℕ) (w : World) (left : Fibres) : Type 0 where
   pub rounds : Lead ran w last heard
   pub off : IsBrokenOff last left
 
--- ---- what is told of them
+-- ---- what is reported of them
 
 -- the watch on the port at an end of the circuit of this number, where this was given to each watch: the trace is to be
 -- that of the circuit's other port
@@ -61,11 +61,11 @@ port_watched r heard index c e = (let port : PortId = record { circuit = index; 
           (path_report_of (customer_at c (other_end e)).trace (heard port));
     })
 
--- those of these circuits, which are counted from `index`
+-- the watches on the ports of these circuits, which are counted from `index`
 abbrev pub ports_watched : HeldRing → (PortId → List Given) → ℕ → List Provisioned → List WatchLine
 ports_watched r heard = of_ports (port_watched r heard)
 
--- of settle step `number`, which ended with the first of these rings, and the rounds to the second
+-- what is reported of settle step `number`, which ended with the first of these rings, and the rounds to the second
 abbrev pub watched : ℕ → HeldRing → HeldRing → (PortId → List Given) → Watched
 watched number mid left heard = record {
   number = number;
@@ -73,6 +73,6 @@ watched number mid left heard = record {
   watches = ports_watched left heard 0 left.circuits.circuits;
 }
 
--- of settle step `number`, which ended with the k-th round of a course, and the 128 rounds behind it
+-- what is reported of settle step `number`, which ended with the k-th round of a course, and the 128 rounds after it
 abbrev pub watched_in : ℕ → (ℕ → World) → ℕ → Watched
 watched_in number at k = watched number (at k).ring (at (k + 128)).ring (heard_in 128 (λ j. at (k + j)))

@@ -9,7 +9,7 @@ use sdh_path::{PathReport, TraceWord};
 use sdh_payload::Delivered;
 use sdh_report::Text;
 
-// What is said of a trace.
+// Returns what is said of a trace.
 fn letters(word: TraceWord) -> &'static [u8]
     ensures { result.now ≡ trace_word_text word }
 {
@@ -20,7 +20,7 @@ fn letters(word: TraceWord) -> &'static [u8]
     }
 }
 
-// The port that is watched.
+// Appends the port that is watched.
 fn put_named(text: &mut Text, name: &Name, end: End)
     requires { length (watch_named name.now end) ≤ text.old.room }
     ensures { text.new ≡ with_part text.old (watch_named name.now end) }
@@ -31,7 +31,7 @@ fn put_named(text: &mut Text, name: &Name, end: End)
     text.put_end(end);
 }
 
-// How many VC-4s there were, and in how many bits their B3 differ.
+// Appends how many VC-4s there were, and in how many bits their B3 differ.
 fn put_counts(text: &mut Text, report: &PathReport)
     requires { length (path_counts_text report.now) ≤ text.old.room }
     ensures { text.new ≡ with_part text.old (path_counts_text report.now) }
@@ -42,7 +42,7 @@ fn put_counts(text: &mut Text, report: &PathReport)
     text.put_number(u64::from(report.b3));
 }
 
-// What is reported of the port.
+// Appends what is reported of the port.
 fn put_report(text: &mut Text, report: &PathReport)
     requires { length (path_report_text report.now) ≤ text.old.room }
     ensures { text.new ≡ with_part text.old (path_report_text report.now) }
@@ -55,7 +55,7 @@ fn put_report(text: &mut Text, report: &PathReport)
     text.put(b"\n");
 }
 
-/// The line of the watch on the port at an end of the circuit of this name, by what the port delivered last.
+/// Appends the line of the watch on the port at an end of the circuit of this name, by what the port delivered last.
 pub fn watch_line(
     text: &mut Text,
     name: &Name,

@@ -25,7 +25,7 @@ use sdh_report::Text;
 use sdh_ring::{PlantFault, Ring};
 use std::alloc::{AllocError, Global};
 
-/// How many rounds are watched after each settle step.
+/// The number of rounds that are watched after each settle step.
 const ROUNDS: u32 = 128;
 
 /// The watches on both ports of a circuit.
@@ -35,7 +35,7 @@ pub struct WatchPair {
     pub b: Watch,
 }
 
-// A watch that expects the trace of the port at an end of a circuit.
+// Returns a watch that expects the trace of the port at an end of a circuit.
 fn watch_for(circuit: &Circuit, other: End) -> Watch
     ensures history { CameBy (customer_at circuit.now other).trace [] result }
     ensures none { result.chunks ≡ 0 }
@@ -46,7 +46,7 @@ fn watch_for(circuit: &Circuit, other: End) -> Watch
     watch
 }
 
-// New watches on both ports of a circuit.
+// Returns new watches on both ports of a circuit.
 fn pair_for(circuit: &Circuit) -> WatchPair
     ensures new { (index : ℕ) → IsWatching circuit.now index (λ port. []) result }
     ensures few { (result.a.chunks ≡ 0) × (result.b.chunks ≡ 0) }
@@ -57,7 +57,7 @@ fn pair_for(circuit: &Circuit) -> WatchPair
     }
 }
 
-/// Watches for all ports. All memory is taken here.
+/// Returns watches for all ports. All memory is taken here.
 pub fn new_watches(alloc: Global, circuits: &CircuitMap) -> Result<Vec<WatchPair>, AllocError>
     ensures { IfOk result (λ watches. length watches.items ≡ length circuits.now.circuits) }
 {
@@ -69,7 +69,7 @@ pub fn new_watches(alloc: Global, circuits: &CircuitMap) -> Result<Vec<WatchPair
     Ok(watches)
 }
 
-// Each watch begins anew.
+// Lets each watch begin anew.
 fn begin_anew(circuits: &CircuitMap, watches: &mut Vec<WatchPair>)
     requires { length watches.old.items ≡ length circuits.now.circuits }
     ensures new { AreWatching circuits.now.circuits (λ port. []) watches.new.items }
@@ -80,7 +80,7 @@ fn begin_anew(circuits: &CircuitMap, watches: &mut Vec<WatchPair>)
     }
 }
 
-// What a port delivered in the last round is given to its watch.
+// Gives a port's watch what the port delivered in the last round.
 fn look(watch: &mut Watch, ring: &Ring, port: PortId)
     requires port { port.circuit < length ring.now.circuits.circuits }
     requires few { watch.old.chunks < 1000000 }
@@ -101,7 +101,7 @@ fn look(watch: &mut Watch, ring: &Ring, port: PortId)
     }
 }
 
-// What both ports of a circuit delivered is given to their watches.
+// Gives the watches of a circuit what both ports delivered in the last round.
 fn look_both(both: &mut WatchPair, ring: &Ring, circuit: u8)
     requires port { circuit < length ring.now.circuits.circuits }
     requires few { (both.old.a.chunks < 1000000) × (both.old.b.chunks < 1000000) }
@@ -125,7 +125,7 @@ fn look_both(both: &mut WatchPair, ring: &Ring, circuit: u8)
     );
 }
 
-// What all ports delivered is given to their watches.
+// Gives all watches what their ports delivered in the last round.
 fn look_all(ring: &Ring, watches: &mut Vec<WatchPair>)
     requires many { length watches.old.items ≡ length ring.now.circuits.circuits }
     requires few { AreFew 999999 watches.old.items }
@@ -138,7 +138,7 @@ fn look_all(ring: &Ring, watches: &mut Vec<WatchPair>)
     }
 }
 
-/// The watches begin anew and look at what the ports deliver in the next rounds. It takes no memory.
+/// Lets the watches begin anew and look at what the ports deliver in the next rounds. Takes no memory.
 pub fn watch_rounds<P: Plant>(
     ring: &mut Ring,
     plant: &mut P,
@@ -164,7 +164,7 @@ pub fn watch_rounds<P: Plant>(
     Ok(())
 }
 
-// The line of the watch on a port.
+// Appends the line of the watch on a port.
 fn put_watch(text: &mut Text, ring: &Ring, circuit: u8, named: &Circuit, end: End, watch: &Watch)
     requires inside { circuit < length ring.now.circuits.circuits }
     requires room { 96 ≤ text.old.room }
@@ -178,7 +178,7 @@ fn put_watch(text: &mut Text, ring: &Ring, circuit: u8, named: &Circuit, end: En
     watch_line(text, named.name(), end, ring.port(port), &report);
 }
 
-// The lines of the watches on both ports of a circuit.
+// Appends the lines of the watches on both ports of a circuit.
 fn put_both(text: &mut Text, ring: &Ring, circuit: u8, named: &Circuit, both: &WatchPair)
     requires inside { circuit < length ring.now.circuits.circuits }
     requires room { 192 ≤ text.old.room }
@@ -190,7 +190,7 @@ fn put_both(text: &mut Text, ring: &Ring, circuit: u8, named: &Circuit, both: &W
     put_watch(text, ring, circuit, named, End::B, &both.b);
 }
 
-/// The lines of all watches.
+/// Appends the lines of all watches.
 pub fn put_watches(text: &mut Text, ring: &Ring, watches: &Vec<WatchPair>)
     requires many { length watches.now.items ≡ length ring.now.circuits.circuits }
     requires room { 192 * length ring.now.circuits.circuits ≤ text.old.room }

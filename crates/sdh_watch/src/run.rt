@@ -14,7 +14,7 @@ use sdh_ring::Ring;
 use sdh_scripts::{NewRun, Run, Runner, lines_room, start, text_for};
 use std::alloc::{AllocError, Global};
 
-// The run of a plan, before its fibres are there.
+// Returns the run of a plan, before its fibres are prepared.
 fn new_run(alloc: Global, plan: Plan) -> Result<NewRun<WatchRun>, AllocError>
     ensures may { IfOk result (MayBegin ⟦<WatchRun as Runner>⟧.ring ⟦<WatchRun as Runner>⟧.room ⟦<WatchRun as Runner>⟧.MayRun) }
     ensures is_of { IfOk result (IsOf ⟦<WatchRun as Runner>⟧.ring watch_account plan) }
@@ -40,7 +40,7 @@ fn new_run(alloc: Global, plan: Plan) -> Result<NewRun<WatchRun>, AllocError>
 pub fn run_plan<P: Plant>(alloc: Global, plan: Plan, plant: &mut P) -> Result<Run, AllocError>
     requires fresh { HasNoFibres (P.fibres plant.old) }
 
-    // The text is that of one list of lines, which is told over every plant, where the arrivals are known, and over
+    // The text is that of one list of lines, which is given over every plant, where the arrivals are known, and over
     // honest fibres.
     ensures came { IfOk result (λ run. Tells plan (P.fibres plant.old) run.text.bytes run.status (P.fibres plant.new)) }
 

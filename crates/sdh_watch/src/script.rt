@@ -26,7 +26,7 @@ pub struct WatchRun {
     pub watches: Vec<WatchPair>,
 }
 
-// The line of a settle step that left a ring in which so many rounds had run, and those of its watches.
+// Appends the line of a settle step that left a ring after `rounds` rounds, and those of its watches.
 fn put_step(text: &mut Text, ring: &Ring, number: u32, rounds: u64, watches: &Vec<WatchPair>)
     requires ran { 1 ≤ rounds }
     requires many { length watches.now.items ≡ length ring.now.circuits.circuits }

@@ -18,10 +18,10 @@ use sdh_plant::Plant;
 use sdh_scripts::call;
 use std::alloc::Global;
 
-/// Does all that the program does, and answers the number with which it ends. With the word `run` it reads a plan from the
-/// source and runs its ring over the plant; after each settle step that ends, a new watch looks at what each port delivers
-/// in 128 more rounds, and the lines of all watches are written behind that of the step. The last line says how it ended.
-/// All is written once, at the end.
+/// Does all that the program does, and returns the number with which it ends. With the word `run` it reads a plan from
+/// the source and runs its ring over the plant; after each settle step that ends, a new watch looks at what each port
+/// delivers in 128 more rounds, and the lines of all watches are written after that of the step. The last line says how
+/// it ended. All is written once, at the end.
 pub fn sdhwatch<R: Source, W: Sink, P: Plant>(
     alloc: Global,
     words: &[String],
@@ -31,8 +31,8 @@ pub fn sdhwatch<R: Source, W: Sink, P: Plant>(
 ) -> u8
     requires fresh { HasNoFibres (P.fibres plant.old) }
 
-    // The number and the text that is written, for a source that tells its bytes, where it is read, and a sink that
-    // tells what was written.
+    // The number and the text that is written, for a source that shows its bytes, where it is read, and a sink that
+    // shows what was written.
     ensures outcome { let ask = asked (words_of words.now) in
         let reads : Counts = record { before = R.faults source.old; after = R.faults source.new } in
         let calls : Counts = record { before = P.faults plant.old; after = P.faults plant.new } in
@@ -58,8 +58,8 @@ pub fn sdhwatch<R: Source, W: Sink, P: Plant>(
     ensures plant_fault { result ≡ 8 → Rose (P.faults plant.old) (P.faults plant.new) }
     ensures write_fault { result ≡ 4 → Rose (W.faults sink.old) (W.faults sink.new) }
 
-    // Where an object's count is exact, each of its calls that failed is told by its fault, and none is tried again; a
-    // write fault may stand in place of what was to be told. With 9 one byte more than a plan may have was taken.
+    // Where an object's count is exact, each failed call is reported as its fault, and none is tried again; a write
+    // fault may stand in place of what was to be reported. With 9 one byte more than a plan may have was taken.
     ensures came { let reads : Counts = record { before = R.faults source.old; after = R.faults source.new } in
         let calls : Counts = record { before = P.faults plant.old; after = P.faults plant.new } in
         (how : Status) × ((result ≡ number_of how) ⊎ (result ≡ 4))

@@ -1,4 +1,4 @@
--- Parts of a line that are put one behind the other.
+-- Parts of a line that are put one after the other.
 use Rattle.std.proofs.Common.{◌≡◌, ℕ, ◌+◌, ◌*◌, ◌<◌, Bool, true, false, Some, List, [], ◌∷◌, ◌++◌, length, map, take, get_or, inl, inr, sym, ap}
 use Rattle.std.proofs.Common.{◌∙◌, ◌==◌, arith, append_assoc}
 use Rattle.std.specs.Prelude.{count_by, slice_get, if◌then◌else◌}
@@ -111,6 +111,6 @@ sides_long plan s are =
 
 -- ---- a line
 
--- a part behind others
+-- a part after others
 pub onto : (start before part line new : List ℕ) → line ≡ start ++ before → new ≡ line ++ part → new ≡ start ++ (before ++ part)
 onto start before part line new is more = more ∙ ap (λ l. l ++ part) is ∙ append_assoc start before part

@@ -74,7 +74,7 @@ read_back form.Table texts all = in_table (codes ", ") texts refl all
 read_back form.Headed texts all = in_table (codes ", ") texts refl all
 read_back form.Summary texts all = in_table (codes ", ") texts refl all
 
--- a part, and those behind it
+-- a part, and those after it
 pub part_first : (q text b rest : List ℕ) → q ++ text ++ q ++ b ++ rest ≡ q ++ (text ++ (q ++ (b ++ rest)))
 part_first q text b rest =
     append_assoc (q ++ text ++ q) b rest ∙ append_assoc (q ++ text) q (b ++ rest) ∙ append_assoc q text (q ++ (b ++ rest))

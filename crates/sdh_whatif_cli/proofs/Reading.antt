@@ -151,7 +151,7 @@ module _ (plan : Planned) (fits : IsPlanned plan) where
   abbrev Passes : List (List ℕ) → Type 0
   Passes ws = first_fault (form_faults rate_n plan.nodes plan.circuits ws) ≡ None
 
-  -- the step has a text that is read back, of which no check fails, and in which there is no quote
+  -- the step has a text that is read back; no check fails for it, and it has no quote
   record Reads (s : Step) : Type 0 where
     pub text : List ℕ
     pub part : step_text plan.nodes s ≡ text

@@ -28,11 +28,11 @@ same_fate Over Over = true
 same_fate Lost Lost = true
 same_fate f g = false
 
--- of so many circuits this becomes
+-- the number of the plan's circuits with this fate
 abbrev pub count_of : Planned → List Failure → Fate → ℕ
 count_of plan case fate = count_by (λ c. same_fate fate (fate_of plan case c)) plan.circuits
 
--- over how many spans the longest way leads, of the circuits whose ends are joined; 0 where none are
+-- the number of spans of the longest way, of the circuits whose ends are joined; 0 where none are
 abbrev pub longest_of : Planned → List Failure → ℕ
 longest_of plan case = highest (map (hops_of plan case) plan.circuits)
 

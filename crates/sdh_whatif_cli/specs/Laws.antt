@@ -8,10 +8,10 @@ use Rattle.sdh_whatif_cli.specs.Cases.{case_at, is_told, told_below, is_in_part}
 use Rattle.sdh_whatif_cli.specs.Lines.{script_text, line_text, line_at}
 use Rattle.sdh_whatif_cli.specs.Reading.{texts_in, field_read, steps_read, PassChecks}
 
--- The line of a number of digits, where it is in the part that is asked for, is that of its case. The texts of its steps, as a reader of
--- the line takes them out of their field and the reader of plans reads them, are what the longer plan has behind the plan's own, and pass
--- the checks of their words. The longer plan is a plan exactly where there is room for it. Of what it comes to, the last report shows each
--- port with what the line tells of its circuit.
+-- The line of a number of digits, where it is in the part that is asked for, is that of its case. A reader of the line
+-- takes the texts of its steps out of their field, and the reader of plans reads them: they are what the longer plan
+-- has after the plan's own, and pass the checks of their words. The longer plan is a plan exactly where there is room
+-- for it. The last report that it comes to shows each port as the line says of its circuit.
 pub record IsTrueLine (plan : Planned) (ask : Ask) (c : ℕ) : Type 0 where
   pub line : is_in_part ask (told_below plan ask c) ≡ true
       → line_at plan ask c ≡ line_text plan (case_at plan c) (record { form = ask.form; number = told_below plan ask c })
@@ -21,7 +21,7 @@ pub record IsTrueLine (plan : Planned) (ask : Ask) (c : ℕ) : Type 0 where
   pub planned : (limit : ℕ) → (IsPlanned (longer_plan plan (case_at plan c) limit) ↔ HasRoom plan (case_at plan c) limit)
   pub shown : CaseIsShown plan (case_at plan c)
 
--- so is every line of every plan, whatever is asked for; and every case is shown, also one of which no line tells
+-- every line of every plan is true, whatever is asked for; and every case is shown, also one that has no line
 abbrev pub LinesAreTrue : Type 0
 LinesAreTrue = (plan : Planned) → IsPlanned plan
     → ((ask : Ask) (c : ℕ) → is_told plan ask c ≡ true → IsTrueLine plan ask c) × ((case : List Failure) → CaseIsShown plan case)

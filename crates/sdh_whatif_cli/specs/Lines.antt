@@ -116,7 +116,7 @@ names_text f nodes case = joined (either f (codes ",") (codes " + ")) (map (name
 abbrev pub step_part : Form → List ℕ → Step → List ℕ
 step_part f nodes s = step_quote f ++ step_text nodes s ++ step_quote f ++ either f (codes ",") (codes ", ")
 
--- the steps of a case, and the settle step behind them
+-- the steps of a case, and the settle step after them
 abbrev pub script_text : Form → Planned → List Failure → List ℕ
 script_text f plan case =
     flat_map (step_part f plan.nodes) (case_steps (length plan.nodes) plan.settings.threshold case) ++ step_quote f ++ codes "settle"
@@ -138,7 +138,8 @@ case_text f plan number case =
     ++ either f (codes "],\"steps\":[") (codes ",\"") ++ script_text f plan case ++ either f (codes "],\"applied\":[") (codes "\",")
     ++ spans_text f plan case ++ either f (codes "]") []
 
--- how many circuits are kept, impaired, led round applied spans and lost, and the longest way in spans
+-- the numbers of circuits that are kept, impaired, looped over protection and lost, and the number of spans of the
+-- longest way
 abbrev pub counts_text : Form → Counts → List ℕ
 counts_text f k =
     either f (codes ",\"kept\":") (codes ",") ++ decimal k.kept ++ either f (codes ",\"impaired\":") (codes ",") ++ decimal k.impaired
@@ -147,7 +148,7 @@ counts_text f k =
 
 -- ---- the fields of circuits
 
--- what becomes of a circuit whose bytes go over so many spans; in the table there is nothing where it is kept
+-- what becomes of a circuit whose bytes go over `hops` spans; in the table there is nothing where it is kept
 abbrev pub fate_cell : Form → Fate → ℕ → List ℕ
 fate_cell f fate.Kept hops = either f (codes "\"kept\"") []
 fate_cell f fate.Impaired hops = either f (codes "\"impaired\"") (codes "i")
@@ -166,13 +167,13 @@ fates_text f plan case = joined (either f (codes ",") []) (map (fate_text f plan
 
 -- ---- lines
 
--- the line of a case, in a form and with the number that it has among those that are told
+-- the line of a case, in a form and with the number that it has among those that are listed
 abbrev pub line_text : Planned → List Failure → Entry → List ℕ
 line_text plan case e =
     case_text e.form plan e.number case ++ counts_text e.form (counts_of plan case) ++ either e.form (codes ",\"circuits\":{") []
     ++ fates_text e.form plan case ++ either e.form (codes "}}\n") (codes "\r\n")
 
--- of the c-th number of digits, where its case is told in the part that is asked for
+-- the line of the c-th number of digits, where its case is listed in the part that is asked for
 abbrev pub line_at : Planned → Ask → ℕ → List ℕ
 line_at plan ask c = option_map_or (line_text plan (case_at plan c)) (entry_at plan ask c) []
 

@@ -14,19 +14,19 @@ abbrev pub refusal : Status → List ℕ
 refusal status.Usage = own_line (codes "usage: sdhwhatif single, double, triple, with kinds, part K N, head, json, summary")
 refusal how = last_line how
 
--- there is no plan, or its table is told
+-- there is no plan, or its table is written
 abbrev pub OfBytes : Ask → List ℕ → Status → List ℕ → Type 0
 OfBytes ask bytes how text =
     (HasNoPlan bytes how × (text ≡ refusal how)) ⊎ ((plan : Planned) × TellsPlan bytes plan × (how ≡ status.Ok)
     × (text ≡ table_text plan ask))
 
--- What is asked for comes to this status, with this text, where the source had these bytes left. Nothing comes to a write fault or to want
--- of memory: they may stand in place of an outcome.
+-- What is asked for comes to this status, with this text, where the source had these bytes left. Nothing comes to a
+-- write fault or to a lack of memory: each may stand in place of an outcome.
 abbrev pub IsOutcome : Option Ask → List ℕ → Status → List ℕ → Type 0
 IsOutcome None bytes how text = (how ≡ status.Usage) × (text ≡ refusal status.Usage)
 IsOutcome (Some ask) bytes how text = OfBytes ask bytes how text
 
--- what has to be known of a source: its bytes, or nothing where it isn't read
+-- what must be known of a source: its bytes, or nothing where it isn't read
 abbrev pub told : Option Ask → Option (List ℕ) → Option (List ℕ)
 told None left = Some []
 told (Some ask) left = left

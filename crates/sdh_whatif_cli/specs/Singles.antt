@@ -1,4 +1,4 @@
--- What each failure alone takes, kind by kind. The texts are this project's own, after RFC 4180.
+-- How many circuits are lost in each failure alone, kind by kind. The texts are this project's own, after RFC 4180.
 use Rattle.std.specs.Prelude.{ℕ, ◌+◌, ◌*◌, zero, suc, max, ◌==◌, if◌then◌else◌, List, [], ◌∷◌, ◌++◌, codes, decimal, length}
 use Rattle.sdh_plan.specs.Planned.{Planned}
 use Rattle.sdh_verdicts.specs.Failures.{failure_at}
@@ -14,19 +14,19 @@ use Rattle.sdh_whatif_cli.specs.Counting.{count_of}
 abbrev pub new_tally : Tally
 new_tally = record { cases = 0; losing = 0; most = 0 }
 
--- with one case more, in which so many circuits are lost
+-- a tally with one case more, in which `lost` circuits are lost
 abbrev pub with_case : ℕ → Tally → Tally
 with_case lost t = record { cases = t.cases + 1; losing = t.losing + (if lost == 0 then 0 else 1); most = max lost t.most }
 
--- so many are lost where the failure of this number is all that fails behind the script
+-- the number of circuits that are lost where the failure of this number is all that fails after the script
 abbrev pub lost_by : Planned → ℕ → ℕ
 lost_by plan number = count_of plan (failure_at (length plan.nodes) number ∷ []) Lost
 
--- with the failure of a number; one that would mend what the script has set is none
+-- a tally with the failure of a number; a failure that would mend what the script has set isn't counted
 abbrev pub tallied : Planned → ℕ → Tally → Tally
 tallied plan number t = if mends plan (failure_at (length plan.nodes) number) then t else with_case (lost_by plan number) t
 
--- of so many failures, from a number on
+-- the tally of a number of failures, from number `from` on
 abbrev pub tally_of : Planned → ℕ → ℕ → Tally
 tally_of plan from zero = new_tally
 tally_of plan from (suc k) = tallied plan (from + k) (tally_of plan from k)
@@ -42,7 +42,8 @@ kind_text kind.Nodes = codes "nodes"
 kind_text kind.Manual = codes "manual"
 kind_text kind.Forced = codes "forced"
 
--- failures of this kind: so many, so many of them in which circuits are lost, and the most that are lost in one
+-- the record of failures of a kind: their number, the number of them in which circuits are lost, and the most circuits
+-- that are lost in one
 abbrev pub tally_record : Kind → Tally → List ℕ
 tally_record k t =
     kind_text k ++ codes "," ++ decimal t.cases ++ codes "," ++ decimal t.losing ++ codes "," ++ decimal t.most ++ codes "\r\n"

@@ -33,7 +33,7 @@ kind_named word =
     else if bytes_eq word (codes "forced") then Some kind.Forced
     else None
 
--- in which form they are told
+-- the form in which cases are listed
 abbrev pub form_named : List ℕ → Option Form
 form_named word =
     if bytes_eq word (codes "head") then Some form.Headed
@@ -55,7 +55,7 @@ has_kind kinds kind.Nodes = kinds.nodes
 has_kind kinds kind.Manual = kinds.manual
 has_kind kinds kind.Forced = kinds.forced
 
--- and this one
+-- these kinds with this one named too
 abbrev pub with_kind : Kinds → Kind → Kinds
 with_kind kinds kind.Degraded = record kinds { degraded = true }
 with_kind kinds kind.Fibres = record kinds { fibres = true }
@@ -125,7 +125,7 @@ read_part r word =
     option_map (λ k. record { ask = with_part r.ask k (2 ^ 32 - 1); awaited = awaited.Parts; is_parted = r.is_parted })
     (numeral_in 1 (2 ^ 32 - 1) word)
 
--- of how many: no fewer than its own number
+-- the number of parts that the cases are parted into: no fewer than the number of the part
 abbrev pub read_parts : AskedSoFar → List ℕ → Option AskedSoFar
 read_parts r word =
     option_map (λ k. record { ask = with_part r.ask r.ask.part k; awaited = awaited.Any; is_parted = r.is_parted })
@@ -140,7 +140,7 @@ read_awaited awaited.Parts r word = read_parts r word
 abbrev pub read_word : AskedSoFar → List ℕ → Option AskedSoFar
 read_word r word = read_awaited r.awaited r word
 
--- these words, one by one
+-- these words, one after the other
 abbrev pub read_words : AskedSoFar → List (List ℕ) → Option AskedSoFar
 read_words r [] = Some r
 read_words r (word ∷ more) = option_and_then (λ next. read_words next more) (read_word r word)
@@ -162,14 +162,14 @@ may_be_parted form.Summary = false
 abbrev pub finished : AskedSoFar → Option Ask
 finished r = if is_whole r.awaited && (not r.is_parted || may_be_parted r.ask.form) then Some r.ask else None
 
--- What the words ask for: a depth; and behind it, in any order, kinds, at most one form, and at most once `part` with the number of a part
--- and of how many.
+-- What the words ask for: a depth; and after it, in any order, kinds, at most one form, and at most once `part` with
+-- the number of a part and of how many.
 unfoldable pub asked : List (List ℕ) → Option Ask
 asked [] = None
 asked (word ∷ others) = option_and_then (λ depth. option_and_then finished (read_words (begun depth) others)) (depth_named word)
 
 -- ---- what the program keeps
 
--- a part is one of so many
+-- a part is one of `parts` parts
 abbrev pub IsPart : Ask → Type 0
 IsPart ask = (1 ≤ ask.part) × (ask.part ≤ ask.parts)

@@ -7,7 +7,7 @@ ghost use Rattle.sdh_whatif_cli.specs.Words.{read_word, read_words, is_whole, ma
 
 use sdh_plan::numeral_in;
 
-/// How many failures are taken together at most.
+/// The most failures that are taken together in a case.
 #[derive(Clone, Copy, Debug, PartialEq, Eq)]
 pub enum Depth {
     Single,
@@ -24,7 +24,7 @@ pub enum Kind {
     Fibres,
     /// A span is cut both ways.
     Spans,
-    /// Both spans of a node are.
+    /// Both spans of a node are cut both ways.
     Nodes,
     /// A side has a manual switch.
     Manual,
@@ -43,21 +43,21 @@ pub struct Kinds {
     pub forced: bool,
 }
 
-/// In which form cases are told.
+/// The form in which cases are listed.
 #[derive(Clone, Copy, Debug, PartialEq, Eq)]
 pub enum Form {
     /// Records of a table.
     Table,
-    /// The same, behind one of the fields' names.
+    /// Records of a table, after a record of the fields' names.
     Headed,
     /// Lines of JSON.
     Json,
-    /// In their place what each failure alone takes, kind by kind.
+    /// No cases, but the counts of circuits lost in each failure alone, kind by kind.
     Summary,
 }
 
-/// Which cases are told, and how: those of so many failures at most, of these kinds; and of them one part of so many,
-/// counted from 1. Where no kind is named all are taken.
+/// Which cases are listed, and how. They have at most `depth` failures, of these kinds; where no kind is named all are
+/// taken. Of these cases part `part` of `parts` is listed, counted from 1.
 #[derive(Clone, Copy, Debug, PartialEq, Eq)]
 pub struct Ask {
     pub depth: Depth,
@@ -72,9 +72,9 @@ pub struct Ask {
 pub enum Awaited {
     /// A kind, a form, or `part`.
     Any,
-    /// Which part.
+    /// The number of the part.
     Part,
-    /// Of how many.
+    /// The number of parts.
     Parts,
 }
 
@@ -97,7 +97,7 @@ const NO_KINDS: Kinds = Kinds {
 };
 
 impl Kinds {
-    // Whether the kind is named.
+    // Returns whether the kind is named.
     fn has(self, kind: Kind) -> bool
         ensures { result ≡ has_kind self kind }
     {
@@ -111,7 +111,7 @@ impl Kinds {
         }
     }
 
-    // With this kind too.
+    // Returns the kinds with this one named too.
     fn with(self, kind: Kind) -> Kinds
         ensures { result ≡ with_kind self kind }
     {
@@ -143,7 +143,7 @@ impl Kinds {
         }
     }
 
-    // Whether any is named.
+    // Returns whether any is named.
     fn has_some(self) -> bool
         ensures { result ≡ has_some self }
     {
@@ -158,7 +158,7 @@ impl Kinds {
     }
 }
 
-// The depth that a word names.
+// Returns the depth that a word names.
 fn depth_named(word: &str) -> Option<Depth>
     ensures { result ≡ depth_named word.now }
 {
@@ -173,7 +173,7 @@ fn depth_named(word: &str) -> Option<Depth>
     }
 }
 
-// The kind that a word names.
+// Returns the kind that a word names.
 fn kind_named(word: &str) -> Option<Kind>
     ensures { result ≡ kind_named word.now }
 {
@@ -194,7 +194,7 @@ fn kind_named(word: &str) -> Option<Kind>
     }
 }
 
-// The form that a word names.
+// Returns the form that a word names.
 fn form_named(word: &str) -> Option<Form>
     ensures { result ≡ form_named word.now }
 {
@@ -209,7 +209,7 @@ fn form_named(word: &str) -> Option<Form>
     }
 }
 
-// What is asked for with one more kind.
+// Returns what is asked for with one more kind.
 fn ask_kind(ask: Ask, kind: Kind) -> Option<Ask>
     requires part { IsPart ask }
     ensures is { result ≡ ask_kind ask kind }
@@ -222,7 +222,7 @@ fn ask_kind(ask: Ask, kind: Kind) -> Option<Ask>
     Some(Ask { kinds, ..ask })
 }
 
-// Whether no form is asked for.
+// Returns whether no form is asked for.
 fn is_plain(form: Form) -> bool
     ensures { result ≡ is_plain form }
 {
@@ -232,7 +232,7 @@ fn is_plain(form: Form) -> bool
     }
 }
 
-// What is asked for in this form.
+// Returns what is asked for in this form.
 fn ask_form(ask: Ask, form: Form) -> Option<Ask>
     requires part { IsPart ask }
     ensures is { result ≡ ask_form ask form }
@@ -245,7 +245,7 @@ fn ask_form(ask: Ask, form: Form) -> Option<Ask>
     }
 }
 
-// What is asked for with a word that names a kind or a form.
+// Returns what is asked for with a word that names a kind or a form.
 fn ask_word(ask: Ask, word: &str) -> Option<Ask>
     requires part { IsPart ask }
     ensures is { result ≡ ask_word ask word.now }
@@ -260,7 +260,7 @@ fn ask_word(ask: Ask, word: &str) -> Option<Ask>
     }
 }
 
-// What is asked for with `part`.
+// Returns what is asked for with `part`.
 fn begin_part(so_far: AskedSoFar) -> Option<AskedSoFar>
     requires part { IsPart so_far.ask }
     ensures is { result ≡ begin_part so_far }
@@ -276,7 +276,7 @@ fn begin_part(so_far: AskedSoFar) -> Option<AskedSoFar>
     })
 }
 
-// What is asked for with a word that is no number of a part.
+// Returns what is asked for with a word that is no number of a part.
 fn read_any(so_far: AskedSoFar, word: &str) -> Option<AskedSoFar>
     requires part { IsPart so_far.ask }
     ensures is { result ≡ read_any so_far word.now }
@@ -291,7 +291,7 @@ fn read_any(so_far: AskedSoFar, word: &str) -> Option<AskedSoFar>
     }
 }
 
-// What is asked for with the number of a part.
+// Returns what is asked for with the number of a part.
 fn read_part(so_far: AskedSoFar, word: &str) -> Option<AskedSoFar>
     ensures is { result ≡ read_part so_far word.now }
     ensures part { IfSome result (λ next. IsPart next.ask) }
@@ -308,7 +308,7 @@ fn read_part(so_far: AskedSoFar, word: &str) -> Option<AskedSoFar>
     })
 }
 
-// What is asked for with the number of parts.
+// Returns what is asked for with the number of parts.
 fn read_parts(so_far: AskedSoFar, word: &str) -> Option<AskedSoFar>
     requires part { IsPart so_far.ask }
     ensures is { result ≡ read_parts so_far word.now }
@@ -325,7 +325,7 @@ fn read_parts(so_far: AskedSoFar, word: &str) -> Option<AskedSoFar>
     })
 }
 
-// What is asked for with one more word.
+// Returns what is asked for with one more word.
 fn read_word(so_far: AskedSoFar, word: &str) -> Option<AskedSoFar>
     requires part { IsPart so_far.ask }
     ensures is { result ≡ read_word so_far word.now }
@@ -338,7 +338,7 @@ fn read_word(so_far: AskedSoFar, word: &str) -> Option<AskedSoFar>
     }
 }
 
-// What is asked for with these words more.
+// Returns what is asked for with these words more.
 fn read_words(start: AskedSoFar, words: &[String]) -> Option<AskedSoFar>
     requires part { IsPart start.ask }
     ensures is { result ≡ read_words start (words_of words.now) }
@@ -354,7 +354,7 @@ fn read_words(start: AskedSoFar, words: &[String]) -> Option<AskedSoFar>
     Some(so_far)
 }
 
-// Whether no number is missing.
+// Returns whether no number is missing.
 fn is_whole(awaited: Awaited) -> bool
     ensures { result ≡ is_whole awaited }
 {
@@ -364,7 +364,7 @@ fn is_whole(awaited: Awaited) -> bool
     }
 }
 
-// Whether a form has parts.
+// Returns whether a form has parts.
 fn may_be_parted(form: Form) -> bool
     ensures { result ≡ may_be_parted form }
 {
@@ -374,7 +374,7 @@ fn may_be_parted(form: Form) -> bool
     }
 }
 
-// What was asked for at the end of the words.
+// Returns what was asked for at the end of the words.
 fn finished(so_far: AskedSoFar) -> Option<Ask>
     requires part { IsPart so_far.ask }
     ensures is { result ≡ finished so_far }
@@ -387,7 +387,7 @@ fn finished(so_far: AskedSoFar) -> Option<Ask>
     }
 }
 
-// Nothing but a depth was read.
+// Returns what is asked for where nothing but a depth was read.
 fn begun(depth: Depth) -> AskedSoFar
     ensures is { result ≡ begun depth }
     ensures part { IsPart result.ask }

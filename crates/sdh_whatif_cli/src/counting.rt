@@ -10,17 +10,17 @@ use sdh_verdicts::{CaseSpans, Verdict, told, told_hops, told_impaired};
 /// What becomes of a circuit.
 #[derive(Clone, Copy, Debug, PartialEq, Eq)]
 pub enum Fate {
-    /// Its ends are joined by its own arc, of which no span is degraded or asked for.
+    /// Its ends are joined by its own arc, and no span of it is degraded or asked for.
     Kept,
-    /// They are joined by its own arc, and a span of it is degraded or asked for.
+    /// Its ends are joined by its own arc, and a span of it is degraded or asked for.
     Impaired,
-    /// They are joined round applied spans.
+    /// Its ends are joined only round applied spans.
     Over,
-    /// They aren't joined.
+    /// Its ends aren't joined.
     Lost,
 }
 
-/// How many circuits become each of these, and over how many spans the longest way leads.
+/// The number of circuits with each of these fates, and the number of spans of the longest way.
 #[derive(Clone, Copy, Debug, PartialEq, Eq)]
 pub struct Counts {
     pub kept: u8,
@@ -30,7 +30,7 @@ pub struct Counts {
     pub hops: u8,
 }
 
-// What becomes of a circuit with this verdict.
+// Returns what becomes of a circuit with this verdict.
 fn fate_by(verdict: Verdict, impaired: bool) -> Fate
     ensures { result ≡ fate_by verdict impaired }
 {
@@ -42,7 +42,7 @@ fn fate_by(verdict: Verdict, impaired: bool) -> Fate
     }
 }
 
-/// Returns what becomes of a circuit, by its number, in the case of which these are the spans.
+/// Returns what becomes of a circuit, by its number, in the case with these spans.
 pub fn fate_of(plan: &Plan, spans: &CaseSpans, number: u8) -> Fate
     requires number { number < length plan.now.circuits }
     requires case { (case : List Failure) × AreSpansOf plan.now case spans.now }
@@ -54,7 +54,7 @@ pub fn fate_of(plan: &Plan, spans: &CaseSpans, number: u8) -> Fate
     fate_by(verdict, impaired)
 }
 
-// The counts with one circuit more, of which this becomes, and whose bytes go over so many spans.
+// Returns the counts with one circuit more that has this fate, and whose bytes go over `hops` spans.
 fn with_fate(counts: Counts, fate: Fate, hops: u8) -> Counts
     requires few { (counts.kept < 255) × (counts.impaired < 255) × (counts.over < 255) × (counts.lost < 255) }
     ensures kept { result.kept ≡ counts.kept + (if same_fate Fate.Kept fate then 1 else 0) }
@@ -98,7 +98,7 @@ const NO_COUNTS: Counts = Counts {
     hops: 0,
 };
 
-/// Returns the counts of the case of which these are the spans.
+/// Returns the counts of the case with these spans.
 pub fn counts_of(plan: &Plan, spans: &CaseSpans) -> Counts
     requires case { (case : List Failure) × AreSpansOf plan.now case spans.now }
     ensures { (case : List Failure) → AreSpansOf plan.now case spans.now → result ≡ counts_of plan.now case }

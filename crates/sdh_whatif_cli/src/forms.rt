@@ -1,18 +1,18 @@
-//! The forms in which cases are told.
+//! The forms in which cases are listed.
 ghost use Rattle.std.specs.Prelude.{◌≡◌, ◌+◌, ◌≤◌, ◌++◌, [], length, ◌==◌, if◌then◌else◌};
 ghost use Rattle.sdh_whatif_cli.specs.Lines.{is_json, either};
 
 use crate::ask::Form;
 use crate::line::Line;
 
-/// In which form a case is told, and the number that it has among all that are told.
+/// The form in which a case is listed, and the number that it has among all that are listed.
 #[derive(Clone, Copy, Debug, PartialEq, Eq)]
 pub struct Entry {
     pub form: Form,
     pub number: usize,
 }
 
-/// Returns whether cases are told in lines of JSON, and not in records of the table.
+/// Returns whether cases are listed in lines of JSON, and not in records of the table.
 pub fn is_json(form: Form) -> bool
     ensures { result ≡ is_json form }
 {

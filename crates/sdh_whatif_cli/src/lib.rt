@@ -1,6 +1,7 @@
-//! The table that tells which circuits survive each failure of a ring, by the restoration model alone: no round is run.
+//! The table that says which circuits survive each failure of a ring, by the restoration model alone: no round is run.
 //! `specs/Words.antt` has what words ask for, `specs/Cases.antt` the cases in their order, `specs/Lines.antt` the
-//! lines, `specs/Singles.antt` what each failure alone takes, and `specs/Laws.antt` that what a line says is so.
+//! lines, `specs/Singles.antt` how many circuits are lost in each failure alone, and `specs/Laws.antt` that what a line
+//! says is so.
 #![tactic(auto)]
 
 mod ask;

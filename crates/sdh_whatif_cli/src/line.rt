@@ -25,7 +25,7 @@ impl Model for Line {
 }
 
 impl Line {
-    /// An empty line.
+    /// Returns an empty line.
     pub fn try_new(alloc: Global) -> Result<Line, AllocError>
         ensures { IfOk result (λ line. line ≡ []) }
     {
@@ -34,7 +34,7 @@ impl Line {
         })
     }
 
-    /// The line so far.
+    /// Returns the line so far.
     pub fn bytes(&self) -> &[u8]
         ensures { result.now ≡ self.now }
     {

@@ -18,7 +18,7 @@ use sdh_verdicts::{CaseSpans, Failure, Sides, told_hops};
 
 // ---- a case
 
-// The applied spans.
+// Appends the applied spans.
 fn put_spans(line: &mut Line, form: Form, plan: &Plan, spans: &CaseSpans)
     requires case { (case : List Failure) × AreSpansOf plan.now case spans.now }
     requires room { length line.old + 704 ≤ 8192 }
@@ -32,7 +32,7 @@ fn put_spans(line: &mut Line, form: Form, plan: &Plan, spans: &CaseSpans)
     }
 }
 
-// The number of a case, its failures, its steps and its applied spans.
+// Appends the number of a case, its failures, its steps and its applied spans.
 fn put_case(line: &mut Line, plan: &Plan, spans: &CaseSpans, entry: Entry, case: &[Failure])
     requires case { All (IsFailureIn (length plan.now.nodes)) case.now }
     requires few { length case.now ≤ 3 }
@@ -80,7 +80,7 @@ fn put_counts(line: &mut Line, form: Form, counts: Counts)
 
 // ---- circuits
 
-// What becomes of a circuit whose bytes go over so many spans.
+// Appends what becomes of a circuit whose bytes go over `hops` spans.
 fn put_cell(line: &mut Line, form: Form, fate: Fate, hops: u8)
     requires room { length line.old + 13 ≤ 8192 }
     ensures text { line.new ≡ line.old ++ fate_cell form fate hops }
@@ -94,7 +94,7 @@ fn put_cell(line: &mut Line, form: Form, fate: Fate, hops: u8)
     }
 }
 
-// What stands before that, where the circuit has this name.
+// Appends what stands before the fate of a circuit, where the circuit has this name.
 fn put_before(line: &mut Line, form: Form, name: &[u8])
     requires name { length name.now ≤ 16 }
     requires room { length line.old + 19 ≤ 8192 }
@@ -110,7 +110,7 @@ fn put_before(line: &mut Line, form: Form, name: &[u8])
     }
 }
 
-// The field of a circuit, by its number.
+// Appends the field of a circuit, by its number.
 fn put_fate(line: &mut Line, form: Form, plan: &Plan, spans: &CaseSpans, number: u8)
     requires number { number < length plan.now.circuits }
     requires case { (case : List Failure) × AreSpansOf plan.now case spans.now }
@@ -125,7 +125,7 @@ fn put_fate(line: &mut Line, form: Form, plan: &Plan, spans: &CaseSpans, number:
     put_cell(line, form, fate, hops);
 }
 
-// The fields of all circuits.
+// Appends the fields of all circuits.
 fn put_fates(line: &mut Line, form: Form, plan: &Plan, spans: &CaseSpans)
     requires case { (case : List Failure) × AreSpansOf plan.now case spans.now }
     requires room { length line.old + 5760 ≤ 8192 }
@@ -140,7 +140,7 @@ fn put_fates(line: &mut Line, form: Form, plan: &Plan, spans: &CaseSpans)
 
 // ---- lines
 
-/// Appends the line of a case, in a form and with the number that it has among those that are told.
+/// Appends the line of a case, in a form and with the number that it has among those that are listed.
 pub fn put_line(line: &mut Line, plan: &Plan, sides: &Sides<'_>, entry: Entry, case: &[Failure])
     requires sides { AreSidesOf plan.now sides.now }
     requires case { All (IsFailureIn (length plan.now.nodes)) case.now }
@@ -156,7 +156,7 @@ pub fn put_line(line: &mut Line, plan: &Plan, sides: &Sides<'_>, entry: Entry, c
     put_either(line, entry.form, b"}}\n", b"\r\n");
 }
 
-// The name of a circuit, by its number, behind a comma.
+// Appends the name of a circuit, by its number, after a comma.
 fn put_circuit(line: &mut Line, plan: &Plan, number: u8)
     requires number { number < length plan.now.circuits }
     requires room { length line.old + 17 ≤ 8192 }

@@ -17,7 +17,7 @@ use sdh_ringmap::{Pos, RingMap, Side};
 use sdh_terms::Condition;
 use sdh_verdicts::{Failure, step_of};
 
-// The identifier of a node.
+// Appends the identifier of a node.
 fn put_id(line: &mut Line, map: &RingMap, at: Pos)
     requires at { at.0 < length map.now }
     requires room { length line.old + 2 ≤ 8192 }
@@ -27,7 +27,7 @@ fn put_id(line: &mut Line, map: &RingMap, at: Pos)
     line.put_number(u64::from(map.id(at)));
 }
 
-// A side.
+// Appends a side.
 fn put_side(line: &mut Line, side: Side)
     requires room { length line.old + 4 ≤ 8192 }
     ensures text { line.new ≡ line.old ++ side_text side }
@@ -41,7 +41,7 @@ fn put_side(line: &mut Line, side: Side)
 
 // ---- names
 
-// A kind, and the fibre that leaves a node on a side, or that side.
+// Appends a kind, and the fibre that leaves a node on a side, or that side.
 fn put_toward(line: &mut Line, map: &RingMap, kind: &[u8], at: Pos, side: Side)
     requires at { at.0 < length map.now }
     requires kind { length kind.now ≤ 9 }
@@ -55,7 +55,7 @@ fn put_toward(line: &mut Line, map: &RingMap, kind: &[u8], at: Pos, side: Side)
     put_id(line, map, map.step(at, side));
 }
 
-// A span.
+// Appends a span.
 fn put_span(line: &mut Line, map: &RingMap, at: Pos)
     requires at { at.0 < length map.now }
     requires room { length line.old + 5 ≤ 8192 }
@@ -67,7 +67,7 @@ fn put_span(line: &mut Line, map: &RingMap, at: Pos)
     put_id(line, map, map.step(at, Side::East));
 }
 
-// The name of a failure.
+// Appends the name of a failure.
 fn put_failure_name(line: &mut Line, map: &RingMap, failure: Failure)
     requires failure { IsFailureIn (length map.now) failure }
     requires room { length line.old + 14 ≤ 8192 }
@@ -90,7 +90,7 @@ fn put_failure_name(line: &mut Line, map: &RingMap, failure: Failure)
     }
 }
 
-// It, with what stands around it.
+// Appends the name of a failure, with what stands around it.
 fn put_name(line: &mut Line, form: Form, map: &RingMap, failure: Failure)
     requires failure { IsFailureIn (length map.now) failure }
     requires room { length line.old + 40 ≤ 8192 }
@@ -130,7 +130,7 @@ pub fn put_span_name(line: &mut Line, form: Form, map: &RingMap, at: Pos)
 
 // ---- steps
 
-// A verb, and the node and the side that it is about.
+// Appends a verb, and the node and the side that it is about.
 fn put_place(line: &mut Line, map: &RingMap, verb: &[u8], at: Pos, side: Side)
     requires at { at.0 < length map.now }
     requires verb { length verb.now ≤ 8 }
@@ -144,7 +144,7 @@ fn put_place(line: &mut Line, map: &RingMap, verb: &[u8], at: Pos, side: Side)
     put_side(line, side);
 }
 
-// A condition of a fibre.
+// Appends a condition of a fibre.
 fn put_fibre(line: &mut Line, map: &RingMap, at: Pos, side: Side, condition: Condition)
     requires at { at.0 < length map.now }
     requires room { length line.old + 21 ≤ 8192 }
@@ -162,7 +162,7 @@ fn put_fibre(line: &mut Line, map: &RingMap, at: Pos, side: Side, condition: Con
     }
 }
 
-// A command.
+// Appends a command.
 fn put_order(line: &mut Line, map: &RingMap, at: Pos, side: Side, command: Command)
     requires at { at.0 < length map.now }
     requires room { length line.old + 15 ≤ 8192 }
@@ -176,7 +176,7 @@ fn put_order(line: &mut Line, map: &RingMap, at: Pos, side: Side, command: Comma
     }
 }
 
-// The words of a step.
+// Appends the words of a step.
 fn put_words(line: &mut Line, map: &RingMap, step: Step)
     requires at { IsAt (length map.now) step }
     requires room { length line.old + 21 ≤ 8192 }
@@ -190,7 +190,7 @@ fn put_words(line: &mut Line, map: &RingMap, step: Step)
     }
 }
 
-// A step, and what parts it from the next.
+// Appends a step, and what parts it from the next.
 fn put_step(line: &mut Line, form: Form, map: &RingMap, step: Step)
     requires at { IsAt (length map.now) step }
     requires room { length line.old + 60 ≤ 8192 }
@@ -203,7 +203,7 @@ fn put_step(line: &mut Line, form: Form, map: &RingMap, step: Step)
     put_either(line, form, b",", b", ");
 }
 
-// Of a failure's steps, the one at a place, where there is one.
+// Appends the step of a failure at a place, where there is one.
 fn put_step_at(
     line: &mut Line,
     form: Form,
@@ -223,7 +223,7 @@ fn put_step_at(
     }
 }
 
-// The steps of a failure, each with what parts it from the next.
+// Appends the steps of a failure, each with what parts it from the next.
 fn put_failure(line: &mut Line, form: Form, map: &RingMap, threshold: u16, failure: Failure)
     requires failure { IsFailureIn (length map.now) failure }
     requires room { length line.old + 240 ≤ 8192 }
@@ -236,7 +236,7 @@ fn put_failure(line: &mut Line, form: Form, map: &RingMap, threshold: u16, failu
     put_step_at(line, form, map, threshold, failure, 3);
 }
 
-// The steps of a case.
+// Appends the steps of a case.
 fn put_steps(line: &mut Line, form: Form, map: &RingMap, threshold: u16, case: &[Failure])
     requires case { All (IsFailureIn (length map.now)) case.now }
     requires few { length case.now ≤ 3 }
@@ -249,7 +249,7 @@ fn put_steps(line: &mut Line, form: Form, map: &RingMap, threshold: u16, case: &
     }
 }
 
-/// Appends the steps of a case, and the settle step behind them.
+/// Appends the steps of a case, and the settle step after them.
 pub fn put_script(line: &mut Line, form: Form, map: &RingMap, threshold: u16, case: &[Failure])
     requires case { All (IsFailureIn (length map.now)) case.now }
     requires few { length case.now ≤ 3 }

@@ -9,7 +9,7 @@ use crate::line::Line;
 use sdh_plan::Plan;
 use sdh_verdicts::{Sides, failure_at};
 
-/// So many cases, so many of them in which circuits are lost, and the most that are lost in one.
+/// A number of cases, the number of them in which circuits are lost, and the most circuits that are lost in one.
 #[derive(Clone, Copy, Debug, PartialEq, Eq)]
 pub struct Tally {
     pub cases: u8,
@@ -17,7 +17,7 @@ pub struct Tally {
     pub most: u8,
 }
 
-// With one case more, in which so many circuits are lost.
+// Returns the tally with one case more, in which `lost` circuits are lost.
 fn with_case(lost: u8, tally: Tally) -> Tally
     requires few { (tally.cases < 255) × (tally.losing < 255) }
     ensures { result ≡ with_case lost tally }
@@ -29,7 +29,7 @@ fn with_case(lost: u8, tally: Tally) -> Tally
     }
 }
 
-// With the failure of a number.
+// Returns the tally with the failure of a number, unless that would mend what the script has set.
 fn tallied(plan: &Plan, sides: &Sides<'_>, number: usize, tally: Tally) -> Tally
     requires sides { AreSidesOf plan.now sides.now }
     requires number { number < 10 * length plan.now.nodes }
@@ -45,7 +45,7 @@ fn tallied(plan: &Plan, sides: &Sides<'_>, number: usize, tally: Tally) -> Tally
     with_case(counts_of(plan, &spans).lost, tally)
 }
 
-// Of so many failures, from a number on.
+// Returns the tally of `count` failures, from number `from` on.
 fn tally_of(plan: &Plan, sides: &Sides<'_>, from: usize, count: usize) -> Tally
     requires sides { AreSidesOf plan.now sides.now }
     requires numbers { from + count ≤ 10 * length plan.now.nodes }
@@ -63,7 +63,7 @@ fn tally_of(plan: &Plan, sides: &Sides<'_>, from: usize, count: usize) -> Tally
     tally
 }
 
-// A number behind a comma.
+// Appends a number after a comma.
 fn put_field(line: &mut Line, number: u8)
     requires room { length line.old + 6 ≤ 8192 }
     ensures text { line.new ≡ line.old ++ codes "," ++ decimal number }
@@ -73,7 +73,7 @@ fn put_field(line: &mut Line, number: u8)
     line.put_small(u16::from(number));
 }
 
-// The word of a kind.
+// Appends the word of a kind.
 fn put_kind(line: &mut Line, kind: Kind)
     requires room { length line.old + 8 ≤ 8192 }
     ensures text { line.new ≡ line.old ++ kind_text kind }
@@ -89,7 +89,7 @@ fn put_kind(line: &mut Line, kind: Kind)
     }
 }
 
-// The record of some failures.
+// Appends the record of some failures.
 fn put_tally(line: &mut Line, kind: Kind, tally: Tally)
     requires room { length line.old + 28 ≤ 8192 }
     ensures text { line.new ≡ line.old ++ tally_record kind tally }
@@ -102,7 +102,7 @@ fn put_tally(line: &mut Line, kind: Kind, tally: Tally)
     line.put(b"\r\n");
 }
 
-// Where a ring has the failures of a kind: from which number on, and how many.
+// Returns where a ring has the failures of a kind: from which number on, and how many.
 fn numbers_of(nodes: usize, kind: Kind) -> (usize, usize)
     requires few { nodes ≤ 16 }
     ensures first { result.0 ≡ first_of nodes kind }
@@ -120,7 +120,7 @@ fn numbers_of(nodes: usize, kind: Kind) -> (usize, usize)
     }
 }
 
-// The record of a kind, where it is taken.
+// Appends the record of a kind, where it is taken.
 fn put_record(line: &mut Line, plan: &Plan, sides: &Sides<'_>, kinds: Kinds, kind: Kind)
     requires sides { AreSidesOf plan.now sides.now }
     requires room { length line.old + 28 ≤ 8192 }

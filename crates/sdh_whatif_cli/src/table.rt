@@ -21,7 +21,7 @@ use sdh_plan::Plan;
 use sdh_shell::Output;
 use sdh_verdicts::{Failure, Sides, failure_at};
 
-// How many numbers there are.
+// Returns how many numbers there are.
 fn numbers_of(nodes: usize, depth: Depth) -> usize
     requires few { nodes ≤ 16 }
     ensures { result ≡ numbers_of nodes depth }
@@ -34,14 +34,14 @@ fn numbers_of(nodes: usize, depth: Depth) -> usize
     }
 }
 
-// Whether a digit may stand before another one.
+// Returns whether a digit may stand before another one.
 fn goes_before(digit: usize, next: usize) -> bool
     ensures { result ≡ goes_before digit next }
 {
     digit == 0 || digit < next
 }
 
-// The kind of a failure.
+// Returns the kind of a failure.
 fn kind_of(failure: Failure) -> Kind
     ensures { result ≡ kind_of failure }
 {
@@ -55,7 +55,8 @@ fn kind_of(failure: Failure) -> Kind
     }
 }
 
-// Whether a digit is nothing, or its failure is of a kind that is taken and would mend nothing that the script has set.
+// Returns whether a digit is nothing, or its failure is of a kind that is taken and would mend nothing that the script
+// has set.
 fn is_taken(sides: &Sides<'_>, nodes: usize, ask: Ask, digit: usize) -> bool
     requires sides { length sides.now.rests.items ≡ 2 * length sides.now.map.now }
     requires nodes { nodes ≡ length sides.now.map.now }
@@ -70,7 +71,7 @@ fn is_taken(sides: &Sides<'_>, nodes: usize, ask: Ask, digit: usize) -> bool
     ask.kinds.takes(kind_of(failure)) && !sides.mends(failure)
 }
 
-// The three digits of a number.
+// Returns the three digits of a number.
 fn digits_of(nodes: usize, number: usize) -> (usize, usize, usize)
     requires few { nodes ≤ 16 }
     ensures first { result.0 ≡ first nodes number }
@@ -86,7 +87,7 @@ fn digits_of(nodes: usize, number: usize) -> (usize, usize, usize)
     )
 }
 
-// Whether a number of these digits stands for a case that is told.
+// Returns whether a number of these digits stands for a case that is listed.
 fn are_told(sides: &Sides<'_>, nodes: usize, ask: Ask, digits: (usize, usize, usize)) -> bool
     requires sides { length sides.now.rests.items ≡ 2 * length sides.now.map.now }
     requires nodes { nodes ≡ length sides.now.map.now }
@@ -102,7 +103,7 @@ fn are_told(sides: &Sides<'_>, nodes: usize, ask: Ask, digits: (usize, usize, us
         && is_taken(sides, nodes, ask, third)
 }
 
-// Whether a number stands for a case that is told.
+// Returns whether a number stands for a case that is listed.
 fn is_told(plan: &Plan, sides: &Sides<'_>, ask: Ask, number: usize) -> bool
     requires sides { AreSidesOf plan.now sides.now }
     ensures { result ≡ is_told plan.now ask number }
@@ -111,7 +112,8 @@ fn is_told(plan: &Plan, sides: &Sides<'_>, ask: Ask, number: usize) -> bool
     are_told(sides, n, ask, digits_of(n, number))
 }
 
-// How a case is written, where it is told and in the part that is asked for: the one with so many told before it.
+// Returns how a case is written that has `number` cases listed before it, or `None` where it isn't listed or is in
+// another part.
 fn entry_of(ask: Ask, told: bool, number: usize) -> Option<Entry>
     requires part { IsPart ask }
     ensures { result ≡ entry_of ask told number }
@@ -206,7 +208,7 @@ fn write_entry<W: Sink>(
     }
 }
 
-// Writes the lines of all cases that are told in the part that is asked for.
+// Writes the lines of all cases that are listed in the part that is asked for.
 fn write_cases<W: Sink>(
     sink: &mut W,
     line: &mut Line,
@@ -241,7 +243,7 @@ fn write_head<W: Sink>(sink: &mut W, line: &mut Line, plan: &Plan) -> Result<(),
     sink.put(line.bytes())
 }
 
-// Writes what each failure alone takes.
+// Writes how many circuits are lost in each failure alone.
 fn write_singles<W: Sink>(
     sink: &mut W,
     line: &mut Line,

@@ -23,14 +23,14 @@ use sdh_shell::{NoPlan, Output, plan_in};
 use sdh_verdicts::Sides;
 use std::alloc::{AllocError, Global};
 
-// What is told, and how writing it ended.
+// How the call ends by what was asked for, and how writing its text ended.
 #[derive(Drop)]
 struct Told {
     status: Status,
     wrote: Result<(), WriteFault>,
 }
 
-// The line of a refusal.
+// Appends the line of a refusal.
 fn refusal(text: &mut Text, status: Status)
     requires room { 96 ≤ text.old.room }
     requires empty { text.old.bytes ≡ [] }
@@ -47,7 +47,7 @@ fn refusal(text: &mut Text, status: Status)
     }
 }
 
-// Writes the line of a refusal.
+// Writes the line of a refusal, and returns how that ended.
 fn refuse<W: Sink>(sink: &mut W, mut text: Text, status: Status) -> Told
     requires room { 96 ≤ text.room }
     requires empty { text.bytes ≡ [] }
@@ -60,7 +60,7 @@ fn refuse<W: Sink>(sink: &mut W, mut text: Text, status: Status) -> Told
     Told { status, wrote }
 }
 
-// Writes the table of a plan.
+// Writes the table of a plan, and returns how that ended.
 fn tell<W: Sink>(alloc: Global, sink: &mut W, plan: &Plan, ask: Ask) -> Result<Told, AllocError>
     requires part { IsPart ask }
     ensures status { IfOk result (λ x. x.status ≡ Status.Ok) }
@@ -77,7 +77,7 @@ fn tell<W: Sink>(alloc: Global, sink: &mut W, plan: &Plan, ask: Ask) -> Result<T
     })
 }
 
-// What is asked for, with the plan that a source has.
+// Returns what is asked for, with the plan that a source has.
 fn answer_ask<R: Source, W: Sink>(
     alloc: Global,
     ask: Ask,
@@ -105,7 +105,7 @@ fn answer_ask<R: Source, W: Sink>(
     }
 }
 
-// All that is done with memory.
+// Returns all that is done with memory.
 fn answer<R: Source, W: Sink>(
     alloc: Global,
     words: &[String],
@@ -136,23 +136,23 @@ fn answer<R: Source, W: Sink>(
     }
 }
 
-/// Does all that the program does. With the word `single`, `double` or `triple` it reads a plan from the source and writes a table:
-/// what becomes of each circuit where nothing more fails than in the plan's script, and where one, two or three things more do; words
-/// behind it tell which kinds of things, which part of the cases, and in which form. It is written line by line, and all memory is
-/// taken before the first.
+/// Does all that the program does, and returns how it ended. With the word `single`, `double` or `triple` it reads a
+/// plan from the source and writes a table: what becomes of each circuit where nothing more fails than in the plan's
+/// script, and where one, two or three things more do. Words after it say which kinds of things, which part of the
+/// cases, and in which form. The table is written line by line, and all memory is taken before the first.
 pub fn whatif<R: Source, W: Sink>(
     alloc: Global,
     words: &[String],
     source: &mut R,
     sink: &mut W,
 ) -> Status
-    // The status and the text that is written, for a source that tells its bytes, where it is read, and a sink that tells what was
-    // written.
+    // The status and the text that is written, for a source whose bytes are known, where it is read, and a sink that
+    // shows what was written.
     ensures outcome { IfSome (told (asked (words_of words.now)) (R.left source.old))
         (λ bytes. Writes (λ how text. IsOutcome (asked (words_of words.now)) bytes how text) result (W.written sink.old)
         (W.written sink.new)) }
 
-    // What each line says is what reports show: the last one of the plan with the line's steps behind its script.
+    // What each line says is what reports show: the last one of the plan with the line's steps after its script.
     ensures lines { LinesAreTrue }
 
     // Over every source and sink.
@@ -170,7 +170,7 @@ pub fn whatif<R: Source, W: Sink>(
     ensures read_whole { result ≡ Status.Ok → IsAtEnd (R.left source.new) }
     ensures later { (R.faults source.old ≤ R.faults source.new) × (W.faults sink.old ≤ W.faults sink.new) }
 
-    // With the words, the bytes of a plan and no fault, everything is told, or there is no memory.
+    // With the words, the bytes of a plan and no fault, everything is written, or there is no memory.
     ensures complete { asked (words_of words.now) ≢ None → HasPlan (R.left source.old)
         → ¬ (Rose (R.faults source.old) (R.faults source.new)) → ¬ (Rose (W.faults sink.old) (W.faults sink.new))
         → (result ≡ Status.Ok) ⊎ (result ≡ Status.Memory) }

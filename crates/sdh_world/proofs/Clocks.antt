@@ -124,7 +124,7 @@ ports_slipped id turn count (t ∷ ts) = by (is_port id t) refl (ports_slipped i
     by true e rest = rw e (λ there. (refl, refl))
     by false e rest = rw e rest
 
--- and those of another port
+-- slips of another port leave the port's clock
 ports_apart : (id other : PortId) (turn : Turn) (count : ℕ) (ts : List Tributary) → same_port id other ≡ false
     → Follows (λ c. c) (port_of id ts) (port_of id (with_slips other turn count ts))
 unfolding port_of with_slips
@@ -199,7 +199,7 @@ placed_apart id change keep zero (n ∷ ns) (suc p) = follows_same (port_at id n
 placed_apart id change keep (suc q) (n ∷ ns) zero = follows_same (port_of id n.ports)
 placed_apart id change keep (suc q) (n ∷ ns) (suc p) = placed_apart id change keep q ns p
 
--- and one at the port's own node
+-- a change at the port's own node changes the port's clock by f
 placed_there : (id : PortId) (f : Clock → Clock) (change : Node → Node) → ((n : Node) → NodeFollows id f n (change n))
     → (p : ℕ) (ns : List Node) → Follows f (port_at id ns p) (port_at id (at_place p change ns) p)
 placed_there id f change keep p [] = λ there. absurd (cc)
@@ -342,7 +342,7 @@ goes_changes id (c ∷ cs) w =
     goes_twice id (clock_after id c) (clock_changed id cs) w (changed c w) (all_changed cs (changed c w)) (goes_changed id c w)
     (goes_changes id cs (changed c w))
 
--- so many rounds after changes
+-- a number of rounds after changes
 abbrev part_in : PortId → Stretch → ℕ → Clock → Clock
 part_in id s t c = ticks t (clock_changed id s.changes c)
 
@@ -364,7 +364,7 @@ goes_in id (s ∷ ss) t w low = elim (cases_lt t s.rounds) [
       (world_in ss (after_stretch s w) (t - s.rounds)) (goes_part id s s.rounds w) rest))
 ]
 
--- and behind the last one
+-- the clock after the last stretch
 pub goes_behind : (id : PortId) (ss : List Stretch) (w : World) → Goes id (λ c. clock_in id ss c (rounds_in ss)) w (after_stretches ss w)
 unfolding ticks
 goes_behind id [] w = λ there. (there, refl)

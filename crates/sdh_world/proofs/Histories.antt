@@ -290,7 +290,7 @@ holding_all n p d [] w fits low = refl
 holding_all n p d (c ∷ cs) w fits low =
     holding_all n p d cs (changed c w) (fits_changed n c w fits) low ∙ ap (all_holding n p d cs) (holding_changed n p d c w fits low)
 
--- what holds in round t of the stretches is what the history tells
+-- what holds in round t of the stretches follows from the history
 pub holding_is : (n p : ℕ) (d : Side) (ss : List Stretch) (w : World) (t : ℕ) → Fits n w → p < n
     → holding_of n p d (world_in ss w t) ≡ holding_in n p d ss (holding_of n p d w) t
 holding_is n p d [] w t fits low = refl

@@ -37,7 +37,7 @@ was_at id ns ms p same there =
     by None (Some m) e h = absurd (cc)
     by (Some n) (Some m) e h = has_fixed id n m (sym (same_Some (fixed m) (fixed n) e)) h
 
--- the rings have the same circuits, and nodes that differ in what calls change alone
+-- the rings have equal circuits, and nodes that differ in what calls change alone
 record IsLike (r s : HeldRing) : Type 0 where
   circuits : s.circuits ≡ r.circuits
   nodes : map fixed s.nodes ≡ map fixed r.nodes

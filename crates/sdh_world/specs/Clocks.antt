@@ -24,11 +24,11 @@ first_clock circuits port = new_clock (offset_of circuits port)
 abbrev pub port_in : HeldRing → PortId → Option Tributary
 port_in r port = option_and_then (λ n. port_of port n.ports) (slice_get r.nodes (place_of_port r port))
 
--- it is there
+-- the port is in the ring
 abbrev pub HasPortIn : HeldRing → PortId → Type 0
 HasPortIn r port = IsSome (port_in r port)
 
--- its clock; that of no port where there is no such circuit
+-- the clock of a port; a new one of offset 0 where the ring has no such port
 unfoldable pub clock_at : HeldRing → PortId → Clock
 clock_at r port = option_map_or (λ t. t.feed.clock) (port_in r port) (new_clock 0)
 
@@ -51,7 +51,7 @@ abbrev pub clock_changed : PortId → List Change → Clock → Clock
 clock_changed port [] c = c
 clock_changed port (x ∷ xs) c = clock_changed port xs (clock_after port x c)
 
--- before round t of the stretches, or of rounds alone behind them
+-- before round t of the stretches, or of rounds alone after them
 abbrev pub clock_in : PortId → List Stretch → Clock → ℕ → Clock
 clock_in port [] c t = ticks t c
 clock_in port (s ∷ ss) c t =

@@ -24,7 +24,7 @@ pub record Fixed : Type 0 where
   pub circuits : List Provisioned
   pub ports : List FixedPort
 
--- what a node is, whatever it receives, sends and is told
+-- what a node is, whatever it receives, sends and is ordered
 unfoldable pub fixed : Node → Fixed
 fixed n = record {
   settings = n.settings;
@@ -41,7 +41,7 @@ pub record IsRested (c : Clock) : Type 0 where
   pub few : waiting c ≤ 16
   pub rest_few : c.rest ≤ 4
 
--- a node that has run so many rounds, the last of them not after that moment
+-- a node that has run `rounds` rounds, the last of them not after that moment
 pub record IsOn (rounds moment : ℕ) (n : Node) : Type 0 where
   pub rounds_are : n.rounds ≡ rounds
   pub early : moment_of n ≤ moment

@@ -54,17 +54,17 @@ IsChangeOf w (Hold p turns) = turns ≤ 100
 IsChangeOf w (Slip port turn count) = waiting_at w.ring port + count ≤ 16
 IsChangeOf w (Now t) = Unit {0}
 
--- so is each of these, one after the other
+-- each of these changes may happen, one after the other
 abbrev pub AreChangesOf : World → List Change → Type 0
 AreChangesOf w [] = Unit {0}
 AreChangesOf w (c ∷ cs) = IsChangeOf w c × AreChangesOf (changed c w) cs
 
--- and each of the stretches
+-- the changes of each of these stretches may happen, one stretch after the other
 abbrev pub MayHappen : World → List Stretch → Type 0
 MayHappen w [] = Unit {0}
 MayHappen w (s ∷ ss) = AreChangesOf w s.changes × MayHappen (after_stretch s w) ss
 
--- such changes leave prepared fibres prepared
+-- changes that may happen leave prepared fibres prepared
 abbrev pub ChangesKeepPrepared : Type 0
 ChangesKeepPrepared =
     (n : ℕ) (w : World) (c : Change) → IsChangeOf w c → IsPrepared w.ring.settings.rate n w.fibres
@@ -76,7 +76,7 @@ NewHolds =
     (s : Settings) (ids : List ℕ) (circuits : Provisioning) (rate : Rate) (f : Fibres) (p : ℕ) (d : Side) → p < length ids
     → holding_of (length ids) p d (world (new_ring s ids circuits) (prepared rate (length ids) f)) ≡ new_holding
 
--- what holds when round t of some stretches begins is what their history tells
+-- what holds when round t of some stretches begins follows from their history
 abbrev pub HistoriesHold : Type 0
 HistoriesHold =
     (n p : ℕ) (d : Side) (ss : List Stretch) (w : World) (t : ℕ) → Fits n w → p < n
@@ -84,9 +84,9 @@ HistoriesHold =
 
 -- ---- clocks
 
--- The clock of each port that is in a ring starts with the offset of its customer, goes on by each round, whatever arrives, and is
--- changed between rounds by slips of its own alone; so it is that of its history before each round of some stretches, and behind the
--- last one.
+-- The clock of each port that is in a ring starts with the offset of its customer, goes on by each round, whatever
+-- arrives, and is changed between rounds by slips of its own alone; so it is that of its history before each round of
+-- some stretches, and after the last one.
 pub record ClocksGoOn : Type 0 where
   pub new : (s : Settings) (ids : List ℕ) (circuits : Provisioning) (port : PortId) → HasPortIn (new_ring s ids circuits) port
       → clock_at (new_ring s ids circuits) port ≡ first_clock circuits.circuits port

@@ -22,7 +22,7 @@ EndsWindow = quiet.EndsWindow adm
 abbrev pub SettlesAt : (ℕ → World) → ℕ → ℕ → Type 0
 SettlesAt = quiet.SettlesAt adm
 
--- no window ends in so many rounds
+-- no window ends in this number of rounds
 abbrev pub NeverSettles : (ℕ → World) → ℕ → Type 0
 NeverSettles = quiet.NeverSettles adm
 
@@ -32,7 +32,7 @@ settles_in = quiet.settles_in adm
 
 -- ---- what a step leaves, whatever arrives
 
--- it ended with a window
+-- a settle step ended with a window
 abbrev pub Settles : World → ℕ → World → Type 0
 Settles = quiet.Settles adm
 

@@ -25,7 +25,7 @@ run = runs.run adm
 abbrev pub run_with : List (List Arrival) → World → World
 run_with = runs.run_with adm
 
--- they may arrive in so many rounds
+-- these may arrive in the next rounds: a list of arrivals for each round
 abbrev pub ArriveIn : List (List Arrival) → World → Type 0
 ArriveIn = runs.ArriveIn adm
 

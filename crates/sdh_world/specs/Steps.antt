@@ -11,6 +11,7 @@ use Rattle.sdh_promise.specs.Changes.{changes_of}
 abbrev pub after_step : Step → World → World
 after_step s w = all_changed (changes_of s) w
 
--- what the script has led to so far: the ring's moment, so many settle steps, and the slips that wait at its ports
+-- what the script has led to so far: the ring's moment, the number of settle steps, and the slips that wait at its
+-- ports
 abbrev pub past_of : ℕ → HeldRing → Past
 past_of before r = record { moment = r.moment; settles = before; slips = waiting_at r }

@@ -27,7 +27,7 @@ pub fn new_holds()
     ensures { NewHolds }
 {}
 
-/// What holds on a side in a round is what the history of its stretches tells.
+/// What holds on a side in a round follows from the history of its stretches.
 #[tactic(auto, using(crate::proofs::Histories::histories_hold))]
 pub fn histories_hold()
     ensures { HistoriesHold }
@@ -40,7 +40,8 @@ pub fn clocks_go_on()
     ensures { ClocksGoOn }
 {}
 
-/// A port's clock by the history of the ring is that of what happened at the port: the slips told there, and the rounds.
+/// A port's clock by the history of the ring is that of what happened at the port: the slips ordered there, and the
+/// rounds.
 #[tactic(auto, using(crate::proofs::Happened::clocks_tell))]
 pub fn clocks_tell_what_happened()
     ensures { ClocksTellWhatHappened }

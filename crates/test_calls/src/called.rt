@@ -45,7 +45,7 @@ pub const NO_WORDS: &[&str] = &[];
 /// Room for every text of these tests, in bytes.
 pub const ROOM: usize = 16_384;
 
-/// The status, and the sink with what was written.
+/// Returns the status, and the sink with what was written.
 pub fn call_over<P: Plant>(
     alloc: Global,
     words: &[&str],
@@ -63,7 +63,7 @@ pub fn call_over<P: Plant>(
     Ok((status, sink))
 }
 
-/// The same over honest fibres that never fail.
+/// Returns the status, and the sink with what was written, over honest fibres that never fail.
 pub fn call(
     alloc: Global,
     words: &[&str],
@@ -97,7 +97,7 @@ pub fn ends_over<P: Plant>(
     Ok(())
 }
 
-/// The same over honest fibres that never fail.
+/// Asserts how a call over honest fibres that never fail ends.
 pub fn ends(
     rt: &impl Abort,
     alloc: Global,

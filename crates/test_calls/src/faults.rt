@@ -1,5 +1,5 @@
-//! What is outside fails in mid-stream: the failure is told, in place of an answer to what came before it, and the next call is as
-//! any other.
+//! What is outside fails in mid-stream: the failure is reported, in place of an answer to what came before it, and the
+//! next call is as any other.
 
 use crate::called::{
     CHECK, DROP_OTHER, NO_WORDS, Outside, READERS, ROOM, RUN, SOUND, ends, ends_over,
@@ -96,7 +96,7 @@ fn each_write_that_fails_is_told(rt: HostRuntime) -> Result<(), Fail> {
     Ok(())
 }
 
-// Its first call writes the front of a text, and the next one a whole one behind it.
+// Its first call writes the front of a text, and the next one a whole one after it.
 const WRITTEN_ON: &[(Status, &str)] = &[
     (Status::WriteFault, "node 1 east slot 1 c"),
     (

@@ -7,7 +7,7 @@ use sdh_cli::Status;
 use std::test::Fail;
 use test_texts::{SMALLEST, scripted};
 
-// The digits of the byte at a place of a chunk, both counted from 1: of nine lines, and of 261 bytes in each.
+// Returns the digits of the byte at a place of a chunk, both counted from 1: of nine lines, and of 261 bytes in each.
 fn digits_at(text: &[u8], line: usize, byte: usize) -> Option<&[u8]>
     requires line { (1 ≤ line) × (line ≤ 9) }
     requires byte { (1 ≤ byte) × (byte ≤ 261) }
@@ -72,8 +72,9 @@ fn drop_lists_ais(rt: HostRuntime) -> Result<(), Fail> {
     ends(&rt, rt.alloc(), DROP, document.as_bytes(), SOUND, ending)
 }
 
-// The large plan of number 0 has 12 circuits, and cuts the spans east of nodes 2 and 3. While both are cut, two circuits lead from
-// the node between them, or end there. Each line is told but for its round, of which only the first is known to be 128.
+// The large plan of number 0 has 12 circuits, and cuts the spans east of nodes 2 and 3. While both are cut, two
+// circuits lead from the node between them, or end there. Each line is given but for its round, of which only the first
+// is known to be 128.
 const COUNTS: &[(&str, &str)] = &[
     ("settle 1 round 128 norm 24 ais 0", ""),
     ("settle 2 round ", " norm 24 ais 0"),

@@ -1,4 +1,4 @@
-//! Want of memory.
+//! Calls that run out of memory.
 
 use crate::called::{CHECK, DROP_OTHER, NO_WORDS, RUN, SOUND, call};
 use crate::plans::{CUT_OFF, CUT_OFF_TABLES, SMALLEST_TEXT, USAGE};
@@ -18,7 +18,7 @@ const ROWS: &[Row] = &[
     (NO_WORDS, SMALLEST, Status::Usage, USAGE),
 ];
 
-// Whether a call has no memory and writes nothing, or ends so.
+// Returns whether a call has no memory and writes nothing, or ends so.
 fn answers(
     alloc: Global,
     words: &[&str],
@@ -32,7 +32,7 @@ fn answers(
     Ok(answer == ended.0 && sink.bytes() == ended.1.as_bytes())
 }
 
-// It tells most where one of the allocations is made to fail.
+// It shows most where one of the allocations is made to fail.
 #[test]
 fn want_of_memory_writes_nothing(rt: HostRuntime) -> Result<(), Fail> {
     for (words, document, status, text) in ROWS {

@@ -16,7 +16,7 @@ use std::test::Fail;
 
 const DARK: u8 = 0;
 
-// A frame with this byte everywhere.
+// Returns a frame with this byte everywhere.
 fn frame_of(alloc: Global, rate: Rate, value: u8) -> Result<FrameBuf, AllocError>
     ensures { IfOk result (λ f. f.rate ≡ rate) }
 {
@@ -29,7 +29,7 @@ fn is_full_of(frame: &FrameBuf, value: u8) -> bool {
     frame.bytes().iter().all(|byte| *byte == value)
 }
 
-// Honest fibres between three nodes.
+// Returns honest fibres between three nodes.
 fn three_nodes(alloc: Global, rate: Rate) -> Result<FibrePlant, Fail>
     ensures nodes { IfOk result (λ p. p.nodes ≡ 3) }
     ensures rate { IfOk result (λ p. p.rate ≡ rate) }
@@ -39,7 +39,7 @@ fn three_nodes(alloc: Global, rate: Rate) -> Result<FibrePlant, Fail>
     Ok(plant)
 }
 
-// Whether a frame with this byte everywhere is sent.
+// Returns whether a frame with this byte everywhere is sent.
 fn sends<P: Plant>(plant: &mut P, at: Pos, side: Side, frame: &mut FrameBuf, value: u8) -> bool
     requires at { at.0 < (P.fibres plant.old).nodes }
     requires rate { frame.old.rate ≡ (P.fibres plant.old).rate }
@@ -51,7 +51,7 @@ fn sends<P: Plant>(plant: &mut P, at: Pos, side: Side, frame: &mut FrameBuf, val
     plant.send(at, side, frame).is_ok()
 }
 
-// The byte that a frame which comes has everywhere, or darkness, which leaves the frame as it was.
+// Returns the byte that a frame which comes has everywhere, or darkness, which leaves the frame as it was.
 fn came<P: Plant>(plant: &mut P, at: Pos, side: Side, frame: &mut FrameBuf) -> Option<u8>
     requires at { at.0 < (P.fibres plant.old).nodes }
     requires rate { frame.old.rate ≡ (P.fibres plant.old).rate }
@@ -72,7 +72,7 @@ fn came<P: Plant>(plant: &mut P, at: Pos, side: Side, frame: &mut FrameBuf) -> O
     }
 }
 
-// Whether a frame has the second byte in these places, and the first one everywhere else.
+// Returns whether a frame has the second byte in these places, and the first one everywhere else.
 fn is_full_of_but(frame: &FrameBuf, value: u8, first: usize, count: usize, other: u8) -> bool
     requires { first + count ≤ 2430 * n_of frame.now.rate }
 {
@@ -84,8 +84,8 @@ fn is_full_of_but(frame: &FrameBuf, value: u8, first: usize, count: usize, other
         && bytes[first + count..].iter().all(|byte| *byte == value)
 }
 
-// Whether a fibre that is degraded by so many columns inverts the top bits of as many bytes from an index on, the first of row 6, and
-// the fibre the other way is as it was.
+// Returns whether a fibre that is degraded by `columns` columns inverts the top bits of as many bytes from an index on,
+// the first of row 6, and the fibre the other way is as it was.
 fn is_degraded(alloc: Global, rate: Rate, columns: u16, first: usize) -> Result<bool, Fail> {
     let count = usize::from(columns);
     if count < 1 || count > 3 * rate.n() || first > 30_000 || first + count > 2430 * rate.n() {
@@ -133,7 +133,7 @@ fn a_degraded_fibre_inverts_the_first_columns_of_row_6(rt: HostRuntime) -> Resul
     Ok(())
 }
 
-// Two frames, of bytes 1 and 2, and darkness between them.
+// Returns two frames, of bytes 1 and 2, and darkness between them.
 fn three_arrivals(alloc: Global, rate: Rate) -> Result<Vec<Told>, Fail>
     ensures { IfOk result (λ v. All (IsToldAt rate) v.items) }
 {
@@ -144,7 +144,7 @@ fn three_arrivals(alloc: Global, rate: Rate) -> Result<Vec<Told>, Fail>
     Ok(arrivals)
 }
 
-// Prepares a plant, sends a frame over a span, and answers what comes.
+// Prepares a plant, sends a frame over a span, and returns what comes.
 fn over_a_span<P: Plant>(alloc: Global, plant: &mut P, rate: Rate) -> Result<Option<u8>, Fail>
     requires { HasNoFibres (P.fibres plant.old) }
 {
@@ -156,7 +156,7 @@ fn over_a_span<P: Plant>(alloc: Global, plant: &mut P, rate: Rate) -> Result<Opt
     Ok(came(plant, Pos(1), Side::West, &mut frame))
 }
 
-// The same of each plant; to the last one byte 1 is told.
+// Returns what comes over a span of each plant. The last one is given byte 1.
 fn over_each(alloc: Global, rate: Rate) -> Result<[Option<u8>; 4], Fail> {
     let mut failing = FailingPlant::new(alloc, &[(PlantCall::Send, 2)])?;
     let mut told = ToldPlant::new(rate, three_arrivals(alloc, rate)?);

@@ -5,7 +5,7 @@ use sdh_frame::{Field, FrameBuf, Place, au_place, place_of, pointer_place};
 use sdh_terms::Rate;
 use std::test::Fail;
 
-// What a frame has in a row and a column, both counted from 1, and nothing outside of it.
+// Returns what a frame has in a row and a column, both counted from 1, and nothing outside of it.
 fn field(rate: Rate, row: u16, column: u16) -> Option<Field> {
     if row < 1 || row > 9 || column < 1 || column as usize > 270 * rate.n() {
         return None;
@@ -50,7 +50,7 @@ fn fields_of_frames(rt: HostRuntime) {
     }
 }
 
-// The row and the column of a byte of an AU-4: of its payload, or of its pointer.
+// Returns the row and the column of a byte of an AU-4: of its payload, or of its pointer.
 fn stands(rate: Rate, au: u16, is_payload: bool, index: u16) -> Option<(u16, u16)> {
     if au < 1 || au as usize > rate.n() || index >= 2349 || !is_payload && index >= 9 {
         return None;
@@ -95,7 +95,7 @@ fn places_of_an_au(rt: HostRuntime) {
     }
 }
 
-// Whether K1 and K2 of an STM-4 frame have the indexes 4332 and 4344.
+// Returns whether K1 and K2 of an STM-4 frame have the indexes 4332 and 4344.
 fn has_k_bytes_there(frame: &mut FrameBuf) -> bool
     requires { frame.old.rate ≡ Rate.Four }
 {
@@ -114,7 +114,7 @@ fn bytes_of_a_frame(rt: HostRuntime) -> Result<(), Fail> {
     Ok(())
 }
 
-// Whether a payload byte of AU-4 number 2 of an STM-4 frame, by its index, stands at a place.
+// Returns whether a payload byte of AU-4 number 2 of an STM-4 frame, by its index, stands at a place.
 fn payload_stands_at(frame: &mut FrameBuf, index: u16, row: u16, column: u16) -> bool
     requires rate { frame.old.rate ≡ Rate.Four }
     requires index { index < 2349 }
@@ -129,7 +129,7 @@ fn payload_stands_at(frame: &mut FrameBuf, index: u16, row: u16, column: u16) ->
     frame.get(place) == 0x5A && frame.au(2).payload(index) == 0x5A
 }
 
-// The same of a pointer byte.
+// Returns whether a pointer byte of AU-4 number 2 of an STM-4 frame, by its index, stands at a place.
 fn pointer_stands_at(frame: &mut FrameBuf, index: u16, column: u16) -> bool
     requires rate { frame.old.rate ≡ Rate.Four }
     requires index { index < 9 }
@@ -154,7 +154,7 @@ fn places_of_a_view(rt: HostRuntime) -> Result<(), Fail> {
     Ok(())
 }
 
-// AU-4 number 2 of another frame is copied to number 16. A view for writing is done with before the next one is lent.
+// Copies AU-4 number 2 of another frame to number 16. A view for writing is done with before the next one is lent.
 fn write_two(frame: &mut FrameBuf, other: &mut FrameBuf)
     requires rate { frame.old.rate ≡ Rate.Sixteen }
     requires other_rate { other.old.rate ≡ Rate.Sixteen }
@@ -168,7 +168,7 @@ fn write_two(frame: &mut FrameBuf, other: &mut FrameBuf)
     second.set_payload(0, 7);
 }
 
-// The first pointer byte of an AU-4 of an STM-16 frame, and the first and the last byte of its payload.
+// Returns the first pointer byte of an AU-4 of an STM-16 frame, and the first and the last byte of its payload.
 fn ends_of(frame: &FrameBuf, au: u16) -> [u8; 3]
     requires rate { frame.now.rate ≡ Rate.Sixteen }
     requires first { 1 ≤ au }

@@ -33,7 +33,7 @@ fn frame(alloc: Global, n: usize) -> Result<Vec<u8>, AllocError>
     vec![in alloc; 0; 2430 * n]
 }
 
-// The bytes of a frame of zeros from the first that is scrambled on, behind the first 9N bytes of row 1.
+// Returns the bytes of a frame of zeros from the first that is scrambled on, after the first 9N bytes of row 1.
 fn scrambled(alloc: Global, n: usize) -> Result<Vec<u8>, AllocError>
     requires { n ≤ 16 }
     ensures { IfOk result (λ v. vec_len v ≡ 2430 * n) }
@@ -56,8 +56,9 @@ fn the_sequence(rt: HostRuntime) -> Result<(), Fail> {
     Ok(())
 }
 
-// The first 9N columns of rows 1 to 3 are left out: of STM-4 the bytes 0 to 35, 1080 to 1115 and 2160 to 2195. Of the
-// bytes that count, those of the first row start at lane 0, as do those of the other rows.
+// Returns BIP-24N of an STM-4 frame with five bytes set. The first 9N columns of rows 1 to 3 are left out: of STM-4 the
+// bytes 0 to 35, 1080 to 1115 and 2160 to 2195. Of the bytes that count, those of the first row start at lane 0, as do
+// those of the other rows.
 fn of_four(four: &mut [u8]) -> [u8; 12]
     requires { length four.old ≡ 9720 }
 {
@@ -93,14 +94,14 @@ fn section_parities(rt: HostRuntime) -> Result<(), Fail> {
     Ok(())
 }
 
-// The value of byte i of a frame that is cut.
+// Returns the value of byte i of a frame that is cut.
 fn mixed(i: usize) -> u8
     requires { i < 38880 }
 {
     (i * 7 % 251) as u8
 }
 
-// An STM-16 frame of mixed bytes.
+// Returns an STM-16 frame of mixed bytes.
 fn mixed_frame(alloc: Global) -> Result<Vec<u8>, AllocError>
     ensures { IfOk result (λ v. vec_len v ≡ 38880) }
 {
@@ -111,7 +112,7 @@ fn mixed_frame(alloc: Global) -> Result<Vec<u8>, AllocError>
     Ok(bytes)
 }
 
-// Both parities of two pieces, one after the other.
+// Returns both parities of two pieces, one after the other.
 fn of_pieces(bytes: &[u8], cut: usize, wide: &mut [u8]) -> u8
     requires bytes { cut ≤ length bytes.now }
     requires wide { length wide.old ≡ 48 }

@@ -30,7 +30,7 @@ const PORTS: &[Row] = &[
     (LONGEST, LONGEST, 0, None),
 ];
 
-// Whether a port is refused so, or is made, and tells what it was made with.
+// Returns whether a port is refused so, or is made, and shows what it was made with.
 fn is_answered(text: &[u8], trace: &[u8], offset: u16, wrong: Option<PortError>) -> bool {
     match Port::new(text, trace, offset) {
         Ok(port) => {
@@ -52,7 +52,7 @@ fn says_what_is_wrong_with_a_port(rt: HostRuntime) {
     }
 }
 
-// The next chunk of a port that never slips.
+// Puts the next chunk of a port that never slips into `out`.
 #[tactic(auto, using(sdh_payload::proofs::Clocking::rounds_more, sdh_payload::proofs::Clocking::plain_tick))]
 pub(crate) fn next_chunk(feed: &mut Feed, out: &mut Cells)
     requires few { feed.old.clock.rounds < 2 ^ 32 }
@@ -64,7 +64,7 @@ pub(crate) fn next_chunk(feed: &mut Feed, out: &mut Cells)
     feed.next(out);
 }
 
-// The chunk of this number, counted from 0.
+// Puts the chunk of this number, counted from 0, into `out`.
 fn chunk(port: &Port, number: u64, out: &mut Cells)
     requires { number < 2 ^ 32 }
 {
@@ -86,7 +86,7 @@ const FRONTS: &[(&[u8], u64, &[u8])] = &[
     (b"A", 0, b"\0AAAAAAAAAAAAAAA"),
 ];
 
-// Whether a chunk of a port has these bytes from an index on, and 2349 in all.
+// Returns whether a chunk of a port has these bytes from an index on, and 2349 in all.
 fn has_at(port: &Port, number: u64, index: usize, bytes: &[u8], out: &mut Cells) -> bool {
     if number > 1000 {
         return false;
@@ -127,8 +127,8 @@ fn begins_a_container_at_the_offset(rt: HostRuntime) -> Result<(), Fail> {
     Ok(())
 }
 
-// At offset 522 a chunk is a whole container.
-// Whether the first column of a container has J1, B3, C2, which tells that it is equipped, and zeros.
+// Returns whether the first column of a container has J1, B3, C2, which says that it is equipped, and zeros. At offset
+// 522 a chunk is a whole container.
 fn has_overhead(container: &[u8], j1: u8, b3: u8) -> bool {
     if container.len() != 2349 {
         return false;
@@ -169,7 +169,7 @@ fn writes_the_path_overhead(rt: HostRuntime) -> Result<(), Fail> {
     Ok(())
 }
 
-// Byte i of the payload is i modulo 251.
+// Returns a payload: its byte i is i modulo 251.
 fn payload(alloc: Global) -> Result<Vec<u8>, AllocError> {
     let mut payload = Vec::new(alloc);
     for i in 0..2349u32 {
@@ -185,8 +185,8 @@ const FORMS: &[(ChunkForm, usize, &[u8])] = &[
     (ChunkForm::Long, 2352, &[28, 29, 253, 254, 255, 30, 31, 32]),
 ];
 
-// Whether a chunk has so many bytes, these from index 781 on, and the payload's first and last byte, which is that of index 2348 and
-// so 89 modulo 251.
+// Returns whether a chunk has `len` bytes, these from index 781 on, and the payload's first and last byte, which is
+// that of index 2348 and so 89 modulo 251.
 fn is_taken(chunk: &[u8], len: usize, middle: &[u8]) -> bool {
     chunk.len() == len
         && chunk.get(781..789) == Some(middle)

@@ -24,7 +24,7 @@ fn words(rt: HostRuntime) {
     assert!(rt; bytes == [0x6A, 0x0A] && read_word(&[0x98, 0x01]) == Word(0x9801));
 }
 
-// An interpreter that has read these words, each so many times.
+// Returns an interpreter that has read these words, each the number of times beside it.
 fn after(runs: &[(u16, usize)]) -> Interp {
     let mut interp = Interp::new();
     for (word, count) in runs {

@@ -5,7 +5,7 @@ use sdh_retime_cli::retime;
 use std::alloc::{AllocError, Global};
 use std::test::Fail;
 
-// The first bytes of the stream whose byte number i is 97 + i mod 23.
+// Returns the first bytes of the stream whose byte number i is 97 + i mod 23.
 fn stream(alloc: Global, len: usize) -> Result<Vec<u8>, AllocError> {
     let mut bytes = Vec::new(alloc);
     for i in 0..len {
@@ -14,7 +14,7 @@ fn stream(alloc: Global, len: usize) -> Result<Vec<u8>, AllocError> {
     Ok(bytes)
 }
 
-// Lines, each with the next bytes of the stream in hexadecimal behind it, where there are some; and a last line.
+// Returns lines, each with the next bytes of the stream in hexadecimal after it, where there are some; and a last line.
 fn text(alloc: Global, lines: &[(&str, usize)], last: &str) -> Result<Vec<u8>, AllocError> {
     let mut text = Vec::new(alloc);
     let mut at = 0usize;
@@ -36,7 +36,7 @@ fn text(alloc: Global, lines: &[(&str, usize)], last: &str) -> Result<Vec<u8>, A
     Ok(text)
 }
 
-// Runs the program on so many bytes of the stream, where these reads and writes fail.
+// Runs the program on `len` bytes of the stream, where these reads and writes fail.
 fn run(
     alloc: Global,
     word: &str,

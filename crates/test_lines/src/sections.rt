@@ -46,7 +46,7 @@ fn invert(frame: &mut FrameBuf, row: u16, column: u16)
     frame.set(place, value ^ 0x80);
 }
 
-// Whether the next frame is read as it was written, and the bytes B2 are this one and zeros.
+// Returns whether the next frame is read as it was written, and the bytes B2 are this one and zeros.
 fn next_is_good(
     alloc: Global,
     sending: &mut Section,
@@ -73,7 +73,8 @@ fn three_frames(rt: HostRuntime) {
     assert!(rt; next_is_good(rt.alloc(), &mut sending, &mut receiving, 0) == Ok(true));
 }
 
-// What is read of three frames, the second of which can't be read, so that the third has nothing to be compared with.
+// Returns what is read of three frames, the second of which can't be read, so that the third has nothing to be compared
+// with.
 fn past_an_unframed_frame(alloc: Global) -> Result<[Received; 3], AllocError> {
     let mut sending = Section::try_new(Rate::Four);
     let mut receiving = Section::try_new(Rate::Four);
@@ -91,7 +92,7 @@ fn an_unframed_frame(rt: HostRuntime) {
     assert!(rt; past_an_unframed_frame(rt.alloc()) == Ok([GOOD, Received::Unframed, GOOD]));
 }
 
-// What is read of two frames, in the first of which five top bits are inverted.
+// Returns what is read of two frames, in the first of which five top bits are inverted.
 fn past_a_degraded_frame(alloc: Global) -> Result<[Received; 2], AllocError> {
     let mut sending = Section::try_new(Rate::Four);
     let mut receiving = Section::try_new(Rate::Four);
@@ -119,7 +120,8 @@ fn a_degraded_frame(rt: HostRuntime) {
     assert!(rt; past_a_degraded_frame(rt.alloc()) == Ok([GOOD, DEGRADED]));
 }
 
-// Whether row 1 has 3N bytes F6, 3N bytes 28, 01 and bytes AA, and then the first scrambling byte over a payload of zeros.
+// Returns whether row 1 has 3N bytes F6, 3N bytes 28, 01 and bytes AA, and then the first scrambling byte over a
+// payload of zeros.
 fn has_row_1(bytes: &[u8]) -> bool
     requires { length bytes.now ≡ 9720 }
 {
@@ -138,7 +140,7 @@ fn row_1_on_the_line(rt: HostRuntime) -> Result<(), Fail> {
     Ok(())
 }
 
-// Writes the rows of an STM-4 frame one by one, behind each other, with K bytes 03 10.
+// Writes the rows of an STM-4 frame one by one, after each other, with K bytes 03 10.
 fn write_by_rows(sending: &mut Section, bytes: &mut [u8])
     requires rate { sending.old.rate ≡ Rate.Four }
     requires fresh { sending.old.under_way ≡ None }
@@ -167,7 +169,7 @@ fn read_by_rows(receiving: &mut Section, bytes: &mut [u8]) -> Received
     receiving.finish_read()
 }
 
-// A frame of zeros, by its rows: what is read, and the first two bytes of B2.
+// Reads a frame of zeros by its rows. Returns what is read, and the first two bytes of B2.
 fn by_rows(
     alloc: Global,
     sending: &mut Section,
@@ -188,7 +190,7 @@ fn by_rows(
     Ok((received, bytes[4320], bytes[4321]))
 }
 
-// Three of them, with the rows that come next after them.
+// Reads three frames of zeros by their rows. Returns what is read of each, and the rows that come next after them.
 fn three_by_rows(alloc: Global) -> Result<([(Received, u8, u8); 3], u16, u16), AllocError> {
     let mut sending = Section::try_new(Rate::Four);
     let mut receiving = Section::try_new(Rate::Four);

@@ -7,7 +7,7 @@ use sdh_path::{BadTrace, PathReport, TraceWord, Watch};
 use sdh_payload::{Cells, Feed, Port};
 use std::test::Fail;
 
-// The next chunks of a feed, with a pointer value.
+// Gives a watch the next `count` chunks of a feed, with a pointer value.
 fn give(watch: &mut Watch, feed: &mut Feed, out: &mut Cells, value: u16, count: u32)
     requires value { value ≤ 782 }
     requires few { watch.old.chunks + count ≤ 1000000 }
@@ -23,7 +23,7 @@ fn give(watch: &mut Watch, feed: &mut Feed, out: &mut Cells, value: u16, count: 
     }
 }
 
-// The next chunk, where these bits of one byte are inverted, at value 522.
+// Gives a watch the next chunk with these bits of one byte inverted, at value 522.
 fn give_changed(watch: &mut Watch, feed: &mut Feed, out: &mut Cells, at: usize, bits: u8)
     requires few { watch.old.chunks < 1000000 }
     requires rounds { feed.old.clock.rounds < 2 ^ 32 }
@@ -40,7 +40,8 @@ fn give_changed(watch: &mut Watch, feed: &mut Feed, out: &mut Cells, at: usize, 
     watch.chunk(&bytes, 522);
 }
 
-// What a watch reports of so many VC-4s: no violation of B3, the right label, and so much of the trace.
+// What a watch reports of VC-4s as they were sent: no violation of B3, the right label, and the length of the trace
+// seen.
 const CLEAN: PathReport = PathReport {
     vcs: 70,
     b3: 0,
@@ -99,7 +100,7 @@ const FED: &[(&[u8], u16, u32, PathReport)] = &[
     ),
 ];
 
-// The report of a watch for `c1` on so many chunks of a feed.
+// Returns the report of a watch for `c1` on `count` chunks of a feed.
 fn report_of(trace: &[u8], offset: u16, count: u32, out: &mut Cells) -> Option<PathReport> {
     if offset > 782 || count > 128 {
         return None;
@@ -152,7 +153,7 @@ const CHANGED: &[(u32, usize, u8, PathReport)] = &[
     ),
 ];
 
-// The report of a watch for `c1` on 70 chunks, in one of which a byte is changed.
+// Returns the report of a watch for `c1` on 70 chunks, in one of which a byte is changed.
 fn report_changed(number: u32, at: usize, bits: u8, out: &mut Cells) -> Option<PathReport> {
     if number >= 70 || at >= 2349 {
         return None;

@@ -18,7 +18,7 @@ const SETTINGS: Settings = Settings {
     wait: 10,
 };
 
-// A circuit in slot 1.
+// Returns a circuit in slot 1.
 fn circuit(name: &str, from: i64, to: i64) -> Asked<'_> {
     Asked {
         name,
@@ -34,7 +34,7 @@ fn circuit(name: &str, from: i64, to: i64) -> Asked<'_> {
     }
 }
 
-// A ring of four nodes with a circuit from node 1 to another, and the plant laid for it.
+// Returns a ring of four nodes with a circuit from node 1 to another, and the plant laid for it.
 fn laid<P: Plant>(alloc: Global, plant: &mut P, to: i64) -> Result<PathRing, Fail>
     requires { HasNoFibres (P.fibres plant.old) }
     ensures prepared { IfOk result (λ ring. IsPrepared ring.settings.rate (length ring.ids) (P.fibres plant.new)) }
@@ -67,7 +67,8 @@ fn cut<P: Plant>(plant: &mut P, at: u8, side: Side) -> bool
     plant.apply(event).is_ok()
 }
 
-// Whether the port at an end of the circuit delivers a chunk that begins with these bytes, or AIS where there are none.
+// Returns whether the port at an end of the circuit delivers a chunk that begins with these bytes, or AIS where there
+// are none.
 fn delivers(ring: &PathRing, end: End, bytes: &[u8]) -> bool {
     if ring.circuits().len() == 0 {
         return false;

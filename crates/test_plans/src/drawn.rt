@@ -45,7 +45,8 @@ const OF_GREATEST: &[Drawn] = &[
     ("c2-5", 6, 8, 2, 183, 445),
 ];
 
-// Whether a port sends its circuit's name, with this letter behind it, from this offset on, and has the name as its trace.
+// Returns whether a port sends its circuit's name, with this letter after it, from this offset on, and has the name as
+// its trace.
 fn sends_name(port: &Port, name: &[u8], letter: u8, offset: u16) -> bool {
     let Some((last, front)) = port.text().split_last() else {
         return false;
@@ -99,7 +100,7 @@ fn covers_each_span_in_both_slots(rt: HostRuntime) -> Result<(), Fail> {
     Ok(())
 }
 
-// The script that cuts and mends two spans, each by the positions at its west and its east end.
+// Returns the script that cuts and mends two spans, each by the positions at its west and its east end.
 fn cutting(first: (u8, u8), second: (u8, u8)) -> [Step; 15] {
     [
         Step::Settle,

@@ -5,7 +5,7 @@ use sdh_plan::{Plan, Step};
 use sdh_ringmap::{Pos, Side};
 use sdh_terms::{Condition, FibreEvent, Rate};
 
-/// A fibre of a position comes into a condition.
+/// Returns the step in which a fibre of a position gets a condition.
 pub(crate) fn fibre(at: u8, side: Side, condition: Condition) -> Step {
     Step::Fibre(FibreEvent {
         at: Pos(at),
@@ -14,7 +14,7 @@ pub(crate) fn fibre(at: u8, side: Side, condition: Condition) -> Step {
     })
 }
 
-/// The rate, the threshold, the wait, the limit, and how many nodes and circuits there are.
+/// Returns the rate, the threshold, the wait, the limit, and the numbers of nodes and circuits.
 pub(crate) fn figures_of(plan: &Plan) -> (Rate, u16, u32, u32, usize, usize) {
     let settings = plan.settings();
     (

@@ -50,7 +50,7 @@ nodes = [1,
   2, 3]
 rate = 4";
 
-// A port's clock slips so many times more.
+// Returns the step that gives a port's clock `count` slips.
 fn slip(circuit: u8, end: End, turn: Turn, count: u8) -> Step {
     Step::Slip(PortId { circuit, end }, turn, count)
 }
@@ -63,7 +63,7 @@ fn is_sender(port: &Port, sends: Sends) -> bool {
     port.text() == text.as_bytes() && port.trace() == trace.as_bytes() && port.offset() == offset
 }
 
-// Whether a plan has this circuit, with these ports.
+// Returns whether a plan has this circuit, with these ports.
 fn has_circuit(plan: &Plan, number: u8, led: Led, a: Sends, b: Sends) -> bool {
     if number as usize >= plan.circuits().len() {
         return false;
@@ -84,7 +84,7 @@ fn reads_the_same_plan_in_other_words(rt: HostRuntime) -> Result<(), Fail> {
     Ok(())
 }
 
-// The steps of the plan that has each.
+// Returns the steps of the plan that has each.
 fn all_steps() -> [Step; 14] {
     [
         fibre(2, Side::East, Condition::Cut),

@@ -302,7 +302,7 @@ enum Answer {
     Refused(u8, u32),
 }
 
-// What is answered where a check fails with this reason at this place, or none does.
+// Returns what is answered where a check fails with this reason at this place, or none does.
 fn bad_plan(refusal: Option<(u8, u32)>) -> Answer {
     match refusal {
         Some((reason, place)) => Answer::Refused(reason, place),
@@ -310,7 +310,7 @@ fn bad_plan(refusal: Option<(u8, u32)>) -> Answer {
     }
 }
 
-// What is answered to the document.
+// Returns what is answered to the document.
 fn answer_to(alloc: Global, document: &[u8]) -> Answer {
     match read_plan(alloc, document) {
         Ok(_) => Answer::Plan,
@@ -353,7 +353,7 @@ fn tells_what_is_no_document(rt: HostRuntime) {
     }
 }
 
-// A document with so many arrays in one another.
+// Returns a document with arrays nested `levels` deep.
 fn nested(alloc: Global, levels: usize) -> Result<String, AllocError> {
     let mut document = String::from_str(alloc, "colour = ")?;
     for bracket in ["[", "]"] {
@@ -364,7 +364,7 @@ fn nested(alloc: Global, levels: usize) -> Result<String, AllocError> {
     Ok(document)
 }
 
-// A document whose key has so many parts.
+// Returns a document whose key has `parts` parts.
 fn dotted(alloc: Global, parts: usize) -> Result<String, AllocError> {
     let mut document = String::from_str(alloc, "colour")?;
     for _ in 1..parts {
@@ -395,7 +395,7 @@ fn answers_the_first_check_of_a_script_that_fails(rt: HostRuntime) -> Result<(),
     answers(&rt, rt.alloc(), OF_SCRIPTS)
 }
 
-// The smallest run with so many of these steps before its own.
+// Returns the smallest run with these steps `times` times before its own.
 fn repeating(alloc: Global, steps: &str, times: usize) -> Result<String, AllocError> {
     let mut script = steps.repeat(alloc, times)?;
     script.push_str("\"settle\"")?;
@@ -419,7 +419,7 @@ fn counts_the_steps_of_a_script(rt: HostRuntime) -> Result<(), Fail> {
     Ok(())
 }
 
-// The smallest run with these steps.
+// Returns the smallest run with these steps.
 fn with_steps(alloc: Global, steps: &str) -> Result<String, AllocError> {
     let script = steps.replace(alloc, "|", "\", \"")?;
     SMALLEST.replacen(alloc, "settle", script.as_str(), 1)

@@ -131,7 +131,7 @@ script = ["settle"]
     },
 ];
 
-// The document of a case.
+// Returns the document of a case.
 fn document_of(alloc: Global, case: &Case) -> Result<String, AllocError> {
     let mut document = String::new(alloc);
     document.push_str(case.head)?;

@@ -42,7 +42,7 @@ pub const WRITE: usize = 50;
 /// How a call ends: its number, and all that is written.
 pub type Ending<'a> = (u8, &'a str);
 
-// The number, and the sink with what was written.
+// Returns the number, and the sink with what was written.
 fn call_over<P: Plant>(
     alloc: Global,
     program: Program,
@@ -61,7 +61,7 @@ fn call_over<P: Plant>(
     Ok((number, sink))
 }
 
-/// Whether a call over these fibres ends so.
+/// Returns whether a call over these fibres ends so.
 pub fn ends_over<P: Plant>(
     alloc: Global,
     program: Program,
@@ -75,7 +75,7 @@ pub fn ends_over<P: Plant>(
     Ok(number == ending.0 && sink.bytes() == ending.1.as_bytes())
 }
 
-/// Whether it does so over honest fibres that never fail.
+/// Returns whether a call over honest fibres that never fail ends so.
 pub fn ends(
     alloc: Global,
     program: Program,

@@ -1,4 +1,4 @@
-//! What is outside fails in mid-stream: the failure is told, in place of an answer to what came before it.
+//! What is outside fails in mid-stream: the failure is reported, in place of an answer to what came before it.
 
 use crate::called::{Given, Program, READ, SOUND, WRITE, ends, ends_over};
 use crate::plans::{BOTH_WAYS, BOTH_WAYS_BROKEN, TWO_SPANS, WATCHED, WATCHED_BROKEN};
@@ -36,7 +36,7 @@ fn each_read_that_fails_is_told(rt: HostRuntime) -> Result<(), Fail> {
     Ok(())
 }
 
-// The front of a text that so many writes take.
+// Returns the front of a text that `writes` writes take.
 fn front(text: &str, writes: u32) -> &str {
     let count = (writes as usize).saturating_mul(WRITE).min(text.len());
     text.get(..count).unwrap_or("")
@@ -111,7 +111,7 @@ const WATCHES: &[Row] = &[
     (ONCE, PlantCall::Send, 1543, 0, WATCHED),
 ];
 
-// Whether a run of a plan with the row's script ends as the row says.
+// Returns whether a run of a plan with the row's script ends as the row says.
 fn is_told(alloc: Global, program: Program, plan: &str, row: &Row) -> Result<bool, AllocError> {
     let (script, call, count, number, text) = *row;
     let document = scripted(alloc, plan, script)?;
@@ -147,7 +147,7 @@ fn each_call_of_watched_fibres_that_fails_is_told(rt: HostRuntime) -> Result<(),
     Ok(())
 }
 
-// Fibres with room for so many frames, under two settle steps.
+// Fibres with room for a number of frames, under two settle steps.
 const ROOMS: &[(Program, &str, usize, &str)] = &[
     (Program::Path, TWO_SPANS, 1031, BROKEN),
     (Program::Path, TWO_SPANS, 1032, BOTH_WAYS_BROKEN),

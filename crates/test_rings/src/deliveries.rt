@@ -1,4 +1,5 @@
-//! What ports deliver over real frames, byte for byte: all that the circuit's other port sent so many rounds before, or AIS.
+//! What ports deliver over real frames, byte for byte: all that the circuit's other port sent a round a hop before, or
+//! AIS.
 ghost use Rattle.std.specs.Prelude.{◌≡◌, ◌<◌, length};
 
 use crate::streams::{Sender, is_sent_in};
@@ -8,7 +9,7 @@ use sdh_request::Command;
 use sdh_ring::Ring;
 use sdh_ringmap::{Pos, Side};
 
-/// What one end of a circuit sends.
+/// Returns what one end of a circuit sends.
 pub(crate) fn sender_at<'a>(asked: &Asked<'a>, end: End) -> Sender<'a> {
     match end {
         End::A => Sender {
@@ -24,7 +25,8 @@ pub(crate) fn sender_at<'a>(asked: &Asked<'a>, end: End) -> Sender<'a> {
     }
 }
 
-// Whether a port delivered all that the other end sent so many rounds before, with its pointer value, or AIS.
+// Returns whether a port delivered all that the other end sent as many rounds before as there are hops, with its
+// pointer value, or AIS.
 fn has_delivered(ring: &Ring, port: PortId, other: Sender<'_>, hops: Option<u32>) -> bool
     requires { port.circuit < length ring.now.circuits.circuits }
 {
@@ -40,7 +42,7 @@ fn has_delivered(ring: &Ring, port: PortId, other: Sender<'_>, hops: Option<u32>
     }
 }
 
-// Whether both ports of a circuit did.
+// Returns whether both ports of a circuit delivered all that the other end sent, or AIS.
 fn both_have_delivered(ring: &Ring, circuit: u8, asked: &Asked<'_>, hops: Option<u32>) -> bool
     requires { circuit < length ring.now.circuits.circuits }
 {
@@ -56,7 +58,8 @@ fn both_have_delivered(ring: &Ring, circuit: u8, asked: &Asked<'_>, hops: Option
         && has_delivered(ring, b, sender_at(asked, End::A), hops)
 }
 
-/// Whether the ports of each circuit have delivered all that the other end sent so many rounds before, or AIS.
+/// Returns whether the ports of each circuit have delivered all that the other end sent as many rounds before as there
+/// are hops, or AIS.
 pub(crate) fn have_delivered(ring: &Ring, circuits: &[Asked<'_>], hops: &[Option<u32>]) -> bool {
     if ring.circuits().len() != circuits.len() || hops.len() < circuits.len() {
         return false;

@@ -1,4 +1,4 @@
-//! What a side asks for: behind a degraded fibre, and behind one that was cut and mended.
+//! What a side asks for: after a degraded fibre, and after one that was cut and mended.
 ghost use Rattle.std.specs.Prelude.{◌≡◌, ◌≤◌, ◌<◌, true, false, length};
 ghost use Rattle.sdh_plant.specs.Fibres.{HasNoFibres, IsPrepared};
 
@@ -10,7 +10,7 @@ use sdh_ringmap::{Pos, Side};
 use sdh_terms::{Code, Condition, FibreEvent, Rate};
 use std::alloc::{AllocError, Global};
 
-// What the third node asks for on its west side.
+// Returns what the third node asks for on its west side.
 fn asked(ring: &Ring) -> Option<Code> {
     if ring.map().len() < 3 {
         return None;
@@ -36,7 +36,7 @@ fn degrade<P: Plant>(ring: &Ring, plant: &mut P, rate: Rate, columns: u16) -> bo
         .is_ok()
 }
 
-// What it asks for after so many rounds over a fibre that inverts so many bits.
+// Returns what the node asks for after `rounds` rounds over a fibre that inverts the bits of `columns` columns.
 fn asked_behind<P: Plant>(
     ring: &mut Ring,
     plant: &mut P,
@@ -56,7 +56,8 @@ fn asked_behind<P: Plant>(
     asked(ring)
 }
 
-// The same of a new ring.
+// Returns what the node of a new ring asks for after `rounds` rounds over a fibre that inverts the bits of `columns`
+// columns.
 fn asked_degraded<P: Plant>(
     alloc: Global,
     plant: &mut P,
@@ -95,7 +96,7 @@ fn a_degraded_fibre_is_seen_a_round_later_from_the_threshold_on(rt: HostRuntime)
     }
 }
 
-// Tells the moment and runs a round, and what is asked for then.
+// Sets the moment, runs a round, and returns what is asked for then.
 fn asked_at<P: Plant>(ring: &mut Ring, plant: &mut P, now: u64) -> Option<Code>
     requires prepared { IsPrepared ring.old.settings.rate (length ring.old.ids) (P.fibres plant.old) }
     requires whole { ring.old.broken ≡ false }
@@ -110,7 +111,7 @@ fn asked_at<P: Plant>(ring: &mut Ring, plant: &mut P, now: u64) -> Option<Code>
     asked(ring)
 }
 
-// The fibre is cut, and mended three rounds later; two more are run.
+// Cuts the fibre, mends it three rounds later, and runs two more rounds. Returns whether all of that could be done.
 fn is_mended<P: Plant>(ring: &mut Ring, plant: &mut P) -> bool
     requires prepared { IsPrepared ring.old.settings.rate (length ring.old.ids) (P.fibres plant.old) }
     requires whole { ring.old.broken ≡ false }
@@ -126,7 +127,7 @@ fn is_mended<P: Plant>(ring: &mut Ring, plant: &mut P) -> bool
     apply(ring, plant, 1, Side::East, Condition::Clear) && run(ring, plant, 2).is_ok()
 }
 
-// What is asked for at a moment after the fibre was cut and mended at moment 0.
+// Returns what is asked for at a moment after the fibre was cut and mended at moment 0.
 fn asked_mended<P: Plant>(
     alloc: Global,
     plant: &mut P,

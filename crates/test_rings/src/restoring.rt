@@ -64,7 +64,7 @@ fn has_lines(ring: &Ring, lines: &[Line]) -> bool {
     true
 }
 
-// Whether a settle step ends with the round of this number, and each node has its line then.
+// Returns whether a settle step ends with the round of this number, and each node has its line then.
 fn settles<P: Plant>(
     ring: &mut Ring,
     plant: &mut P,
@@ -81,7 +81,8 @@ fn settles<P: Plant>(
     Ok(ring.rounds() == u64::from(number) + 1 && has_lines(ring, lines))
 }
 
-// The same, and each port of the one circuit has delivered all that the other end sent so many rounds before.
+// Returns whether a settle step ends with the round of this number, each node has its line then, and each port of the
+// one circuit has delivered all that the other end sent `hops` rounds before.
 fn delivers<P: Plant>(
     ring: &mut Ring,
     plant: &mut P,
@@ -175,7 +176,7 @@ fn full_ring(alloc: Global) -> Result<Vec<Asked<'static>>, AllocError> {
     Ok(asked)
 }
 
-// Whether a port shows these bytes with pointer value 0, and this J1.
+// Returns whether a port shows these bytes with pointer value 0, and this J1.
 fn shows(ring: &Ring, port: PortId, front: &[u8], j1: u8) -> bool
     requires { port.circuit < length ring.now.circuits.circuits }
 {
@@ -188,9 +189,9 @@ fn shows(ring: &Ring, port: PortId, front: &[u8], j1: u8) -> bool
     }
 }
 
-// Whether all ports show the other end's text. The last round has a number that is a multiple of 128, so that J1 is the trace's first
-// byte where it was sent one round before, and a space of its padding where it was sent three rounds before: the circuits from the
-// second node have so many hops, or one as all others.
+// Returns whether all ports show the other end's text. The last round has a number that is a multiple of 128, so that
+// J1 is the trace's first byte where it was sent one round before, and a space of its padding where it was sent three
+// rounds before: the circuits from the second node have `hops` hops, or one as all others.
 fn all_show(ring: &Ring, hops: u32) -> bool {
     if ring.circuits().len() != NAMES.len() || NAMES.len() != 32 {
         return false;

@@ -50,7 +50,7 @@ pub(crate) fn state_of(state: &NodeState) -> State {
 /// The state of a node, and the K bytes that it sends west and east.
 pub(crate) type Line = (State, (u8, u8), (u8, u8));
 
-/// The line of the node at a position.
+/// Returns the line of the node at a position.
 pub(crate) fn line_of(ring: &Ring, at: usize) -> Option<Line> {
     if at >= ring.map().len() {
         return None;
@@ -63,7 +63,7 @@ pub(crate) fn line_of(ring: &Ring, at: usize) -> Option<Line> {
     ))
 }
 
-/// The circuits that are asked for; a refusal counts as want of memory here.
+/// Returns the circuits that are asked for; a refusal counts as a lack of memory here.
 pub(crate) fn circuits_of(
     alloc: Global,
     rate: Rate,
@@ -80,7 +80,8 @@ pub(crate) fn circuits_of(
     Ok(circuits)
 }
 
-/// The ring of these settings, nodes and circuits, and the plant laid for it; a refusal counts as want of memory here.
+/// Returns the ring of these settings, nodes and circuits, with the plant prepared for it. A refusal counts as a lack
+/// of memory here.
 pub(crate) fn laid_as<P: Plant>(
     alloc: Global,
     plant: &mut P,
@@ -103,7 +104,8 @@ pub(crate) fn laid_as<P: Plant>(
     Ok(Ring::try_new(alloc, settings, map, circuits)?)
 }
 
-/// The same at a rate, with a threshold of three and a wait of ten.
+/// Returns the ring of these nodes and circuits at a rate, with a threshold of three and a wait of ten, and the plant
+/// prepared for it.
 pub(crate) fn laid_with<P: Plant>(
     alloc: Global,
     plant: &mut P,
@@ -126,7 +128,7 @@ pub(crate) fn laid_with<P: Plant>(
     laid_as(alloc, plant, settings, ids, asked)
 }
 
-/// The ring of these nodes with the one circuit.
+/// Returns the ring of these nodes with the one circuit.
 pub(crate) fn laid<P: Plant>(
     alloc: Global,
     plant: &mut P,
@@ -182,7 +184,7 @@ pub(crate) fn cut_if<P: Plant>(ring: &Ring, plant: &mut P, is_cut: bool) -> bool
     east && west
 }
 
-/// Runs so many rounds.
+/// Runs `rounds` rounds.
 pub(crate) fn run<P: Plant>(ring: &mut Ring, plant: &mut P, rounds: u32) -> Result<(), PlantFault>
     requires prepared { IsPrepared ring.old.settings.rate (length ring.old.ids) (P.fibres plant.old) }
     requires whole { ring.old.broken ≡ false }
@@ -199,7 +201,7 @@ pub(crate) fn run<P: Plant>(ring: &mut Ring, plant: &mut P, rounds: u32) -> Resu
     Ok(())
 }
 
-/// Runs a settle step; one that doesn't answer counts as want of memory here.
+/// Runs a settle step; one that doesn't answer counts as a lack of memory here.
 pub(crate) fn settle<P: Plant>(ring: &mut Ring, plant: &mut P) -> Result<(), AllocError>
     requires prepared { IsPrepared ring.old.settings.rate (length ring.old.ids) (P.fibres plant.old) }
     requires whole { ring.old.broken ≡ false }

@@ -12,7 +12,7 @@ use sdh_ring::Ring;
 use sdh_terms::Rate;
 use std::alloc::{AllocError, Global};
 
-/// What a port sends in a round: so many bytes of its stream from a place on, and the pointer value with them.
+/// What a port sends in a round: a number of bytes of its stream from a place on, and the pointer value with them.
 #[derive(Clone, Copy, PartialEq, Eq)]
 struct Sent {
     from: u64,
@@ -39,12 +39,12 @@ const NONE: Slips = Slips {
 };
 
 impl Slips {
-    // How many wait.
+    // Returns how many wait.
     fn waiting(self) -> u64 {
         self.ups.saturating_add(self.downs)
     }
 
-    // With so many more that wait.
+    // Returns the counts with `count` more pending slips.
     fn with(self, turn: Turn, count: u8) -> Slips {
         let count = u64::from(count);
         match turn {
@@ -59,7 +59,7 @@ impl Slips {
         }
     }
 
-    // Whether one may be made good in a round: in none of the first four, and in none of three behind another.
+    // Returns whether one may be made good in a round: in none of the first four, and in none of three after another.
     fn may_be(self, round: u64) -> bool {
         match self.last {
             None => round >= 4,
@@ -67,7 +67,7 @@ impl Slips {
         }
     }
 
-    // After a round: ups come before downs.
+    // Returns the counts after a round: ups come before downs.
     fn after(self, round: u64) -> Slips {
         let last = Some(round);
         if !self.may_be(round) || self.waiting() == 0 {
@@ -89,19 +89,19 @@ impl Slips {
         }
     }
 
-    // How many bytes were sent before a round, three fewer for each up and three more for each down.
+    // Returns how many bytes were sent before a round, three fewer for each up and three more for each down.
     fn bytes_before(self, round: u64) -> u64 {
         let most = 2349 * round.min(5000) + 3 * self.lowered.min(5000);
         most.saturating_sub(3 * self.raised.min(5000))
     }
 
-    // The pointer value after so many.
+    // Returns the pointer value after these slips.
     fn value(self, offset: u64) -> u64 {
         (offset % 783 + self.raised % 783 + 783 - self.lowered % 783) % 783
     }
 }
 
-// What a port sends in a round that finds its clock with these slips and leaves it with those.
+// Returns what a port sends in a round that finds its clock with these slips and leaves it with those.
 fn sent_in(offset: u64, found: Slips, left: Slips, round: u64) -> Sent {
     let from = found.bytes_before(round);
     Sent {
@@ -113,7 +113,7 @@ fn sent_in(offset: u64, found: Slips, left: Slips, round: u64) -> Sent {
     }
 }
 
-// Whether a port delivers what the other end sent, with its pointer value.
+// Returns whether a port delivers what the other end sent, with its pointer value.
 fn has_delivered(
     ring: &Ring,
     port: PortId,
@@ -134,13 +134,13 @@ fn has_delivered(
     }
 }
 
-// Whether so many slips wait at a port.
+// Returns whether these slips are pending at a port.
 fn has_waiting(ring: &Ring, port: PortId, slips: Slips) -> bool {
     ring.circuits().len() > port.circuit as usize
         && u64::from(ring.waiting(port)) == slips.waiting()
 }
 
-// The clock of a port slips so many times more, where that many may wait.
+// Adds `count` pending slips at a port, where it may have as many.
 fn slip(ring: &mut Ring, port: PortId, turn: Turn, count: u8) -> bool
     ensures settings { ring.new.settings ≡ ring.old.settings }
     ensures ids { ring.new.ids ≡ ring.old.ids }
@@ -176,7 +176,7 @@ struct Chance {
 }
 
 impl Chance {
-    // The next number below a bound.
+    // Returns the next number below a bound.
     fn below(&mut self, bound: u64) -> u64
         requires { 1 ≤ bound }
         ensures { result < bound }
@@ -223,7 +223,7 @@ fn new_far<'a>(
     })
 }
 
-// What it sends in a round.
+// Keeps what the far end sends in a round.
 fn send(far: &mut Far<'_>, round: u64) {
     let left = far.slips.after(round);
     let sent = sent_in(far.sender.offset, far.slips, left, round);
@@ -237,7 +237,7 @@ fn send(far: &mut Far<'_>, round: u64) {
     far.sent = sent;
 }
 
-// In two of five rounds, up to four slips at a port.
+// Adds up to four slips at a port in two of five rounds.
 fn slip_by_chance(ring: &mut Ring, far: &mut Far<'_>, chance: &mut Chance)
     ensures settings { ring.new.settings ≡ ring.old.settings }
     ensures ids { ring.new.ids ≡ ring.old.ids }
@@ -255,8 +255,8 @@ fn slip_by_chance(ring: &mut Ring, far: &mut Far<'_>, chance: &mut Chance)
     }
 }
 
-// One round, before which both clocks slip by chance: whether each port delivers what the other end sent in the round before, and as
-// many slips wait as are to.
+// Runs one round, before which both clocks slip by chance. Returns whether each port delivers what the other end sent
+// in the round before, and as many slips wait as are to.
 fn go<P: Plant>(
     ring: &mut Ring,
     plant: &mut P,
@@ -294,7 +294,7 @@ struct Tally {
     under: u64,
 }
 
-// Runs so many rounds: in how many of them all was as it is to be.
+// Runs `rounds` rounds, and counts those in which all was as it should be.
 fn count_right<P: Plant>(
     ring: &mut Ring,
     plant: &mut P,
@@ -315,7 +315,7 @@ fn count_right<P: Plant>(
     Ok(right)
 }
 
-// Runs so many rounds of a new ring of two nodes with one circuit.
+// Runs `rounds` rounds of a new ring of two nodes with one circuit.
 fn tallied<P: Plant>(
     alloc: Global,
     plant: &mut P,
@@ -370,7 +370,8 @@ fn neighbours_interpret_random_slips(rt: HostRuntime) {
 
 // ---- slips before a settle step
 
-// What a port sends in a round by which so many slips up and down were made good, where none was waiting for that round.
+// Returns what a port sends in a round by which `ups` slips up and `downs` slips down were made good, where none was
+// pending for that round.
 fn settled(offset: u64, ups: u8, downs: u8, round: u64) -> Sent {
     let slips = Slips {
         raised: u64::from(ups),
@@ -402,7 +403,7 @@ pub(crate) fn slip_both(ring: &mut Ring, port: PortId, slips: (u8, u8)) -> bool
     ups && downs
 }
 
-// Whether a port delivers what the other end sent in a round, when so many of its slips were made good.
+// Returns whether a port delivers what the other end sent in a round, once these of its slips were made good.
 fn is_owed(
     alloc: Global,
     ring: &Ring,
@@ -423,7 +424,7 @@ fn is_owed(
     )
 }
 
-// Whether a row comes out in a new ring.
+// Returns whether a row comes out in a new ring.
 fn comes_out<P: Plant>(
     alloc: Global,
     ring: &mut Ring,
@@ -446,7 +447,7 @@ fn comes_out<P: Plant>(
     Ok(a && b && at_a && at_b)
 }
 
-// The same of a ring of four nodes with a circuit over two spans.
+// Returns whether a row comes out in a new ring of four nodes with a circuit over two spans.
 fn row_comes_out<P: Plant>(alloc: Global, plant: &mut P, row: Row) -> Result<bool, AllocError>
     requires { HasNoFibres (P.fibres plant.old) }
 {

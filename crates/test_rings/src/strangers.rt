@@ -13,7 +13,8 @@ use sdh_terms::{Condition, Rate};
 use std::alloc::{AllocError, Global};
 use std::test::Fail;
 
-// Circuits one behind the other in slot 1: x from node 0 to node 1, y from node 1 to node 2. Each port's text is one letter.
+// Circuits one after the other in slot 1: x from node 0 to node 1, y from node 1 to node 2. Each port's text is one
+// letter.
 const X: Asked<'static> = Asked {
     name: "x",
     from: 0,
@@ -60,7 +61,7 @@ enum Step {
     Settle,
 }
 
-// A ring of four nodes with both circuits, and the plant laid for it.
+// Returns a ring of four nodes with both circuits, and the plant laid for it.
 fn laid<P: Plant>(alloc: Global, plant: &mut P) -> Result<Ring, AllocError>
     requires { HasNoFibres (P.fibres plant.old) }
     ensures prepared { IfOk result (λ ring. IsPrepared ring.settings.rate (length ring.ids) (P.fibres plant.new)) }
@@ -69,7 +70,7 @@ fn laid<P: Plant>(alloc: Global, plant: &mut P) -> Result<Ring, AllocError>
     laid_as(alloc, plant, SETTINGS, &[0, 1, 2, 3], &[X, Y])
 }
 
-// The letter that a port delivers, and a dash for AIS.
+// Returns the letter that a port delivers, and a dash for AIS.
 fn letter(ring: &Ring, circuit: u8, end: End) -> u8 {
     if circuit as usize >= ring.circuits().len() {
         return b'?';
@@ -80,7 +81,7 @@ fn letter(ring: &Ring, circuit: u8, end: End) -> u8 {
     }
 }
 
-// Those of x's ports and of y's, A before B.
+// Returns the letters that x's ports and y's deliver, A before B.
 fn letters(ring: &Ring) -> [u8; 4] {
     [
         letter(ring, 0, End::A),
@@ -90,7 +91,7 @@ fn letters(ring: &Ring) -> [u8; 4] {
     ]
 }
 
-// Whether a port gets the bytes of the other circuit.
+// Returns whether a port gets the bytes of the other circuit.
 fn meets(ring: &Ring) -> bool {
     let [xa, xb, ya, yb] = letters(ring);
     is_of(xa, b'C', b'D') || is_of(xb, b'C', b'D') || is_of(ya, b'A', b'B') || is_of(yb, b'A', b'B')
@@ -100,7 +101,7 @@ fn is_of(letter: u8, a: u8, b: u8) -> bool {
     letter == a || letter == b
 }
 
-// Runs so many rounds, and tells in how many of them a port met a stranger.
+// Runs `rounds` rounds, and counts those in which a port met a stranger.
 fn counted<P: Plant>(ring: &mut Ring, plant: &mut P, rounds: u32) -> Result<u32, AllocError>
     requires prepared { IsPrepared ring.old.settings.rate (length ring.old.ids) (P.fibres plant.old) }
     requires whole { ring.old.broken ≡ false }
@@ -140,7 +141,7 @@ fn span_is<P: Plant>(
     }
 }
 
-// So many more slips wait at a port.
+// Adds `count` pending slips at a port.
 fn slip(ring: &mut Ring, port: PortId, count: u8) -> Result<(), AllocError>
     ensures prepared { (n : ℕ) (f : _) → IsPrepared ring.old.settings.rate n f → IsPrepared ring.new.settings.rate n f }
     ensures ids { ring.new.ids ≡ ring.old.ids }
@@ -156,7 +157,7 @@ fn slip(ring: &mut Ring, port: PortId, count: u8) -> Result<(), AllocError>
     Ok(())
 }
 
-// One step, and in how many of its rounds a port met a stranger; those of a settle step aren't counted.
+// Does one step, and returns in how many of its rounds a port met a stranger. Those of a settle step aren't counted.
 fn taken<P: Plant>(ring: &mut Ring, plant: &mut P, step: Step) -> Result<u32, AllocError>
     requires prepared { IsPrepared ring.old.settings.rate (length ring.old.ids) (P.fibres plant.old) }
     requires whole { ring.old.broken ≡ false }
@@ -191,7 +192,7 @@ fn taken<P: Plant>(ring: &mut Ring, plant: &mut P, step: Step) -> Result<u32, Al
     Ok(0)
 }
 
-// In how many of the rounds of these steps a port met a stranger.
+// Returns in how many of the rounds of these steps a port met a stranger.
 fn all_taken<P: Plant>(ring: &mut Ring, plant: &mut P, steps: &[Step]) -> Result<u32, AllocError>
     requires prepared { IsPrepared ring.old.settings.rate (length ring.old.ids) (P.fibres plant.old) }
     requires whole { ring.old.broken ≡ false }
@@ -203,7 +204,7 @@ fn all_taken<P: Plant>(ring: &mut Ring, plant: &mut P, steps: &[Step]) -> Result
     Ok(met)
 }
 
-// The same, from a new ring on.
+// Returns in how many of the rounds of these steps, from a new ring on, a port met a stranger.
 fn met(alloc: Global, steps: &[Step]) -> Result<u32, AllocError> {
     let mut plant = FibrePlant::new();
     let mut ring = laid(alloc, &mut plant)?;
@@ -279,7 +280,7 @@ fn laid_quiet<P: Plant>(alloc: Global, plant: &mut P) -> Result<Ring, AllocError
     laid_as(alloc, plant, WAITING, &[0, 1, 2, 3, 4], &[V, U])
 }
 
-// The fibres that leave nodes 1 and 2 eastwards come into these conditions.
+// Brings the fibres that leave nodes 1 and 2 eastwards into these conditions.
 fn eastwards<P: Plant>(
     ring: &Ring,
     plant: &mut P,
@@ -298,9 +299,9 @@ fn eastwards<P: Plant>(
     }
 }
 
-// Both are cut, so that node 2 is cut off, node 3 is switched and node 0 passes traffic through. Once that is quiet, the one is
-// degraded, the other is mended, and nodes 0 and 3 are held for so many turns, where that is any. In how many of the rounds that
-// follow a port meets a stranger.
+// Both are cut, so that node 2 is cut off, node 3 is switched and node 0 passes traffic through. Once that is quiet,
+// the one is degraded, the other is mended, and nodes 0 and 3 are held for `passing` and `switched` turns, where those
+// are any. In how many of the rounds that follow a port meets a stranger.
 fn met_quiet<P: Plant>(
     ring: &mut Ring,
     plant: &mut P,
@@ -351,9 +352,9 @@ fn a_passing_and_a_switched_node_held_in_a_quiet_ring_let_strangers_meet(
     Ok(())
 }
 
-// Three steps behind a quiet ring, and in how many of the rounds of each a port meets a stranger. In the first both controllers are
-// held, as above. Once that is quiet, both fibres are cut again while node 1, which is switched, is held. And once that is quiet,
-// the first comes again, with so many turns for each.
+// Three steps after a quiet ring, and in how many of the rounds of each a port meets a stranger. In the first both
+// controllers are held, as above. Once that is quiet, both fibres are cut again while node 1, which is switched, is
+// held. And once that is quiet, the first comes again, with these turns for each.
 fn met_in_turn(alloc: Global, passing: u32, switched: u32) -> Result<(u32, u32, u32), AllocError>
     requires few { (passing ≤ 100) × (switched ≤ 100) }
 {

@@ -1,4 +1,4 @@
-//! What a customer sends, told by the place of a byte in its stream, apart from the code that sends it.
+//! What a customer sends, by the place of a byte in its stream, apart from the code that sends it.
 ghost use Rattle.std.specs.Prelude.{◌<◌, ◌≤◌, length};
 
 use std::alloc::{AllocError, Global};
@@ -17,7 +17,8 @@ pub(crate) struct Sender<'a> {
     pub(crate) offset: u64,
 }
 
-// A byte of the first column but B3: J1 has the trace, padded with spaces to 64 bytes, and C2 tells a VC-4 that is equipped.
+// Returns a byte of the first column but B3: J1 has the trace, padded with spaces to 64 bytes, and C2 marks a VC-4 as
+// equipped.
 fn overhead(sender: Sender<'_>, number: u64, row: u64) -> u8 {
     match row {
         0 => sender
@@ -30,7 +31,7 @@ fn overhead(sender: Sender<'_>, number: u64, row: u64) -> u8 {
     }
 }
 
-// A byte of a VC-4, where that of B3 is 0.
+// Returns a byte of a VC-4, where that of B3 is 0.
 fn byte_but_b3(sender: Sender<'_>, number: u64, place: u64) -> u8
     requires text { 1 ≤ length sender.text.now }
     requires few { number ≤ 10000 }
@@ -45,7 +46,7 @@ fn byte_but_b3(sender: Sender<'_>, number: u64, place: u64) -> u8
     sender.text[(texts % sender.text.len() as u64) as usize]
 }
 
-// The parity of a VC-4 without its B3.
+// Returns the parity of a VC-4 without its B3.
 fn parity_but_b3(sender: Sender<'_>, number: u64) -> u8
     requires text { 1 ≤ length sender.text.now }
     requires few { number ≤ 10000 }
@@ -57,8 +58,8 @@ fn parity_but_b3(sender: Sender<'_>, number: u64) -> u8
     parity
 }
 
-// B3 has the parity of the VC-4 before it, whose B3 has that of the one before that, and so on: so it has the parity of all
-// bytes before it but the B3s.
+// Returns the B3 of a VC-4. B3 has the parity of the VC-4 before it, whose B3 has that of the one before that, and so
+// on: so it has the parity of all bytes before it but the B3s.
 fn b3(sender: Sender<'_>, number: u64) -> u8
     requires text { 1 ≤ length sender.text.now }
     requires few { number ≤ 10000 }
@@ -70,8 +71,8 @@ fn b3(sender: Sender<'_>, number: u64) -> u8
     parity
 }
 
-// The number of the VC-4 of a byte at a place of the stream, and the byte's place in it. The stream begins where the pointer's
-// offset says: three bytes for each step of it, counted from the fourth row of the AU-4.
+// Returns the number of the VC-4 of a byte at a place of the stream, and the byte's place in it. The stream begins
+// where the pointer's offset says: three bytes for each step of it, counted from the fourth row of the AU-4.
 fn place_at(sender: Sender<'_>, place: u64) -> (u64, u64)
     requires few { place ≤ 20000000 }
     requires offset { sender.offset ≤ 782 }
@@ -83,7 +84,7 @@ fn place_at(sender: Sender<'_>, place: u64) -> (u64, u64)
     (from_the_first / VC, from_the_first % VC)
 }
 
-// The byte at a place of the stream.
+// Returns the byte at a place of the stream.
 fn byte_at(sender: Sender<'_>, place: u64) -> u8
     requires text { 1 ≤ length sender.text.now }
     requires few { place ≤ 20000000 }
@@ -96,7 +97,7 @@ fn byte_at(sender: Sender<'_>, place: u64) -> u8
     byte_but_b3(sender, number, within)
 }
 
-/// Whether these are the 2349 bytes that it sends in a round.
+/// Returns whether these are the 2349 bytes that it sends in a round.
 pub(crate) fn is_sent_in(sender: Sender<'_>, round: u64, bytes: &[u8]) -> bool {
     if sender.text.is_empty() || sender.offset > 782 || round > 5000 || bytes.len() != 2349 {
         return false;
@@ -109,7 +110,8 @@ pub(crate) fn is_sent_in(sender: Sender<'_>, round: u64, bytes: &[u8]) -> bool {
     true
 }
 
-/// The B3 of so many VC-4s from the first one on, each of which `is_sent_from` would else make of all VC-4s before it.
+/// Returns the B3 of `count` VC-4s from the first one on, each of which `is_sent_from` would else make of all VC-4s
+/// before it.
 pub(crate) fn parities_of(
     alloc: Global,
     sender: Sender<'_>,
@@ -127,7 +129,7 @@ pub(crate) fn parities_of(
     Ok(parities)
 }
 
-// The byte at a place of the stream, where these are the B3 of its VC-4s.
+// Returns the byte at a place of the stream, where these are the B3 of its VC-4s.
 fn byte_with(sender: Sender<'_>, parities: &[u8], place: u64) -> u8
     requires text { 1 ≤ length sender.text.now }
     requires few { place ≤ 20000000 }
@@ -140,7 +142,7 @@ fn byte_with(sender: Sender<'_>, parities: &[u8], place: u64) -> u8
     byte_but_b3(sender, number, within)
 }
 
-/// Whether these are the bytes of its stream from a place on, where these are the B3 of its VC-4s.
+/// Returns whether these are the bytes of its stream from a place on, where these are the B3 of its VC-4s.
 pub(crate) fn is_sent_from(sender: Sender<'_>, parities: &[u8], from: u64, bytes: &[u8]) -> bool {
     if sender.text.is_empty() || sender.offset > 782 || from > 19_000_000 || bytes.len() > 2352 {
         return false;

@@ -114,7 +114,7 @@ fn befalls<P: Plant>(ring: &Ring, plant: &mut P, trouble: Trouble) -> bool
     }
 }
 
-// Whether a port shows this, and no slip waits at it.
+// Returns whether a port shows this, and no slip waits at it.
 fn shows(ring: &Ring, port: PortId, shown: Shown) -> bool {
     if ring.circuits().len() <= port.circuit as usize || ring.waiting(port) != 0 {
         return false;
@@ -146,7 +146,7 @@ fn comes_out<P: Plant>(
     Ok(a && b && befell && ended && shown)
 }
 
-// At either rate.
+// Returns whether a row comes out at either rate.
 fn both_come_out(alloc: Global, row: Row) -> bool {
     let (mut four, mut sixteen) = (FibrePlant::new(), FibrePlant::new());
     comes_out(alloc, &mut four, Rate::Four, row) == Ok(true)

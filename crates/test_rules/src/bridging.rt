@@ -30,7 +30,7 @@ fn heard(bytes: Bytes) -> Option<K> {
     }
 }
 
-// A side fails where nothing is heard there.
+// Returns the local request of a side: it fails where nothing is heard there.
 fn local(word: Option<K>) -> Code
     ensures { result ≡ (if is_none word then Code.Sf else Code.Nr) }
 {
@@ -40,7 +40,7 @@ fn local(word: Option<K>) -> Code
     }
 }
 
-// The state of a node that hears these words.
+// Returns the state of a node that hears these words.
 fn state(map: &RingMap, at: Pos, west: Bytes, east: Bytes) -> NodeState
     requires { at.0 < length map.now }
     ensures { IsElsewhere (length map.now) at.0 (far_of result) }
@@ -58,7 +58,7 @@ fn state(map: &RingMap, at: Pos, west: Bytes, east: Bytes) -> NodeState
     step(start(), map, at, needs, heard).0
 }
 
-// A circuit from one node to another in a slot.
+// Returns a circuit from one node to another in a slot.
 fn asked<'a>(name: &'a str, way: (i64, i64), slot: i64) -> Asked<'a> {
     Asked {
         name,
@@ -77,7 +77,7 @@ fn asked<'a>(name: &'a str, way: (i64, i64), slot: i64) -> Asked<'a> {
 // The origins of both sides of a node in slot 1: working, protection and drop, west before east.
 type Origins = [Origin; 6];
 
-// The origins of a node that hears these words, in a ring of nodes 1 to 4 with two circuits.
+// Returns the origins of a node that hears these words, in a ring of nodes 1 to 4 with two circuits.
 fn origins(
     alloc: Global,
     x: &Asked<'_>,
@@ -132,7 +132,7 @@ const Y_B: Origin = Origin::Add(PortId {
     end: End::B,
 });
 
-// Whether a node that hears these words has these origins.
+// Returns whether a node that hears these words has these origins.
 fn has(
     alloc: Global,
     x: &Asked<'_>,

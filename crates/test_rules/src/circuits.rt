@@ -18,7 +18,7 @@ const ASKED: Asked<'static> = Asked {
     trace_b: "far",
 };
 
-// What is answered at the second of two circuits, in a ring of two working slots.
+// Returns what is answered at the second of two circuits, in a ring of two working slots.
 fn second(
     alloc: Global,
     map: &RingMap,

@@ -37,7 +37,7 @@ const ENDS: &[(u8, u8, &[Span], bool)] = &[
     (2, 0, &[Span(4), Span(1)], true),
 ];
 
-// Whether two ends of a ring are joined, where they are two of its positions.
+// Returns whether two ends of a ring are joined, where they are two of its positions.
 fn are_joined(map: &RingMap, from: u8, to: u8, applied: &[Span]) -> Option<bool> {
     if from as usize >= map.len() || to as usize >= map.len() || from == to {
         return None;

@@ -24,7 +24,7 @@ const READS: &[(usize, &[u32], bool)] = &[
     (5, &[5, 0], true),
 ];
 
-// Whether the text comes whole, and else there is a fault.
+// Returns whether the text comes whole, and else there is a fault.
 fn comes_whole(alloc: Global, piece: usize, failing: &[u32]) -> Result<bool, Fail> {
     let mut source = MemSource::new(alloc, TEXT, piece.max(1), failing)?;
     match read_all(alloc, &mut source) {
@@ -57,7 +57,7 @@ const WRITES: &[(usize, usize, &[u32], usize)] = &[
     (96, 5, &[4], 14),
 ];
 
-// Whether so many bytes of the text are written, and all of them without a fault.
+// Returns whether `count` bytes of the text are written, and all of them without a fault.
 fn writes(
     alloc: Global,
     room: usize,
@@ -126,13 +126,13 @@ impl Write for Writer {
     }
 }
 
-// What three reads of a reader that fails at the second one give, and the first bytes.
+// Returns what three reads of a reader that fails at the second one give, and the first bytes.
 fn three_reads(buf: &mut [u8]) -> [Result<usize, Failed>; 3] {
     let mut source = StdSource::new(Reader { calls: 0 });
     [source.read(buf), source.read(buf), source.read(buf)]
 }
 
-// What four writes of a writer that takes none at the second and fails at the third give.
+// Returns what four writes of a writer that takes none at the second and fails at the third give.
 fn four_writes() -> ([Result<usize, Failed>; 4], Result<(), WriteFault>) {
     let mut sink = StdSink::new(Writer { calls: 0 });
     let each = [

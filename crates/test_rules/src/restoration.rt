@@ -53,12 +53,12 @@ const EAST_OF_4: usize = 7;
 
 const WEST_OF_1: usize = 0;
 
-// The local request of a side that has been in one condition for four rounds.
+// Returns the local request of a side that has been in one condition for four rounds.
 fn lasting(round: SideRound) -> Code {
     local_request(3, 10, &[round, round, round, round], 3)
 }
 
-// Which spans of a ring of four are applied, from the local requests of its eight sides, west before east.
+// Returns which spans of a ring of four are applied, from the local requests of its eight sides, west before east.
 fn applied_spans(sides: &[Code; 8]) -> [bool; 4] {
     let nodes = [
         LocalRequests {
@@ -148,7 +148,7 @@ const ROWS: &[Row] = &[
     ),
 ];
 
-// Which spans of a ring of four are applied where these sides have been in these conditions.
+// Returns which spans of a ring of four are applied where these sides have been in these conditions.
 fn applied_where(happens: &[(usize, SideRound)]) -> [bool; 4] {
     let mut sides = [Code::Nr; 8];
     for (side, round) in happens {
@@ -166,7 +166,8 @@ fn spans_are_applied_by_what_happens_on_the_sides(rt: HostRuntime) {
     }
 }
 
-// What a side asks for in rounds 0, 2 and 5, where it was cut in two of them, and the last one is at this moment.
+// Returns what a side asks for in rounds 0, 2 and 5, where it was cut in two of them, and the last one is at this
+// moment.
 fn asked_at(moment: u64) -> [Code; 3] {
     let mended = SideRound {
         moment: Moment(moment),

@@ -15,7 +15,7 @@ type Line = (Shape, (u8, u8), (u8, u8));
 
 const FREE: [bool; 4] = [false; 4];
 
-// The local requests of a node, where no side fails.
+// Returns the local requests of a node, where no side fails.
 fn asks(west: Code, east: Code) -> Needs
     requires west { west ≢ Code.Rr }
     requires east { east ≢ Code.Rr }
@@ -29,7 +29,7 @@ fn asks(west: Code, east: Code) -> Needs
     }
 }
 
-// Which sides of a node fail, where it asks for nothing else.
+// Returns the needs of a node whose sides fail so, and that asks for nothing else.
 fn fails(west: bool, east: bool) -> Needs
     ensures { MayNeed result }
 {
@@ -52,7 +52,8 @@ fn four(one: Needs, two: Needs, three: Needs, four: Needs) -> [Needs; 4]
     [one, two, three, four]
 }
 
-// Rounds with the same needs and no held node until the ring of four is still: how many, or 0 where 40 are too few.
+// Runs rounds with these needs and no held node until the ring of four is still. Returns how many, or 0 where 40 are
+// too few.
 fn rounds_until_still(ring: &mut SignalRing, needs: &[Needs]) -> u32
     requires four { length ring.old.ring.ids ≡ 4 }
     requires needs { length needs.now ≡ 4 }
@@ -70,7 +71,7 @@ fn rounds_until_still(ring: &mut SignalRing, needs: &[Needs]) -> u32
     0
 }
 
-// Whether a node has the state and sent the words of a line.
+// Returns whether a node has the state and sent the words of a line.
 fn has_line(ring: &SignalRing, at: u8, line: Line) -> bool
     requires at { at < length ring.now.ring.ids }
     requires ran { 1 ≤ ring.now.rounds }
@@ -81,7 +82,7 @@ fn has_line(ring: &SignalRing, at: u8, line: Line) -> bool
         && Some(sent.east) == decode(line.2.0, line.2.1)
 }
 
-// Whether the four nodes have the states and words of these lines.
+// Returns whether the four nodes have the states and words of these lines.
 fn has_lines(ring: &SignalRing, lines: &[Line]) -> bool
     requires size { length ring.now.ring.ids ≡ 4 }
     requires ran { 1 ≤ ring.now.rounds }
@@ -93,7 +94,7 @@ fn has_lines(ring: &SignalRing, lines: &[Line]) -> bool
         && has_line(ring, 3, lines[3])
 }
 
-// A ring of four in which no round has run.
+// Returns a ring of four in which no round has run.
 fn ring_of_four(alloc: Global) -> Option<SignalRing>
     ensures { IfSome result (λ ring. length ring.ring.ids ≡ 4) }
 {
@@ -101,7 +102,7 @@ fn ring_of_four(alloc: Global) -> Option<SignalRing>
     SignalRing::try_new(alloc, map).ok()
 }
 
-// The number of rounds until a new ring is still, where it then has these lines.
+// Returns the number of rounds until a new ring is still, where it then has these lines.
 fn stills(alloc: Global, needs: [Needs; 4], lines: &[Line]) -> Option<u32>
     requires { All MayNeed needs }
 {
@@ -140,7 +141,7 @@ fn needs_of(asked: Request) -> Needs
     }
 }
 
-// What four nodes need that ask for this; nothing, where not four are told of.
+// Returns what four nodes need that ask for this; nothing, where not four are given.
 fn all_needs(asked: &[Request]) -> [Needs; 4]
     ensures { All MayNeed result }
 {
@@ -163,7 +164,8 @@ const IDLE: &[Line] = &[
     (Idle, (0x03, 0x40), (0x01, 0x40)),
 ];
 
-// Before a ring without requests runs, and after each of four rounds: whether it is still, and whether it has these lines.
+// Returns whether a ring without requests is still, and whether it has these lines, before it runs and after each of
+// four rounds.
 fn idle_rounds(ring: &mut SignalRing) -> [(bool, bool); 5]
     requires four { length ring.old.ring.ids ≡ 4 }
 {
@@ -302,7 +304,7 @@ const ONE_ALONE: &[Line] = &[
     (SwitchEast(Some(Pos(0))), (0x61, 0x4a), (0x61, 0x42)),
 ];
 
-// Whether a ring gets still with these requests, and has these lines then.
+// Returns whether a ring gets still with these requests, and has these lines then.
 fn comes_to(ring: &mut SignalRing, asked: &[Request], lines: &[Line]) -> bool
     requires { length ring.old.ring.ids ≡ 4 }
     ensures { ring.new.ring.ids ≡ ring.old.ring.ids }

@@ -6,7 +6,7 @@ use sdh_ringmap::{Pos, RingMap, Side};
 use sdh_squelch::{Row, Table};
 use std::alloc::Global;
 
-// A circuit in slot 1.
+// Returns a circuit in slot 1.
 fn asked(name: &str, from: i64, to: i64) -> Asked<'_> {
     Asked {
         name,
@@ -22,7 +22,7 @@ fn asked(name: &str, from: i64, to: i64) -> Asked<'_> {
     }
 }
 
-// The table of the second node, with one circuit from node 1 to node 3.
+// Returns the table of the second node, with one circuit from node 1 to node 3.
 fn table_of_second(alloc: Global, map: &RingMap) -> Option<Table>
     ensures ring { IfSome result (λ table. table.ring ≡ map.now) }
     ensures four { IfSome result (λ table. length table.ring ≡ 4) }
@@ -35,7 +35,7 @@ fn table_of_second(alloc: Global, map: &RingMap) -> Option<Table>
     Table::try_new(alloc, map, &circuits, Pos(1)).ok()
 }
 
-// Whether the rows of slot 1, west and east, have the circuit, and no others have one.
+// Returns whether the rows of slot 1, west and east, have the circuit, and no others have one.
 fn has_rows(table: &Table) -> bool {
     let row = Some(Row {
         circuit: 0,
@@ -61,7 +61,7 @@ fn the_rows_of_the_second_node(rt: HostRuntime) {
     assert!(rt; table.ends(Side::East, Slot(1)) == Some((Pos(0), Pos(2))));
 }
 
-// Whether a circuit may be carried over the chain from a position eastwards to the second.
+// Returns whether a circuit may be carried over the chain from a position eastwards to the second.
 fn carries(map: &RingMap, table: &Table, slot: u8, from: u8) -> bool
     requires map { table.now.ring ≡ map.now }
     requires four { length table.now.ring ≡ 4 }

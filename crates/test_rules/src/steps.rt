@@ -11,7 +11,7 @@ use sdh_terms::Code;
 
 type Bytes = Option<(u8, u8)>;
 
-// Two local requests, where no side fails.
+// Returns the needs of a node with two local requests, where no side fails.
 fn asks(west: Code, east: Code) -> Needs
     requires west { west ≢ Code.Rr }
     requires east { east ≢ Code.Rr }
@@ -25,7 +25,7 @@ fn asks(west: Code, east: Code) -> Needs
     }
 }
 
-// Which sides fail, where nothing else is asked for.
+// Returns the needs of a node whose sides fail so, and that asks for nothing else.
 fn fail(west: bool, east: bool) -> Needs
     ensures may { MayNeed result }
     ensures west { result.west_fails ≡ west }
@@ -49,7 +49,7 @@ fn word(bytes: Bytes) -> Option<K>
     }
 }
 
-// The step of the second of four nodes, which hears these words.
+// Returns the step of the second of four nodes, which hears these words.
 fn stepped(needs: Needs, west: Option<K>, east: Option<K>) -> Option<(NodeState, Sent)>
     requires needs { MayNeed needs }
     requires west { needs.west_fails ≡ true → west ≡ None }
@@ -62,7 +62,7 @@ fn stepped(needs: Needs, west: Option<K>, east: Option<K>) -> Option<(NodeState,
     Some(step(start(), &map, Pos(1), needs, Heard { west, east }))
 }
 
-// Whether a step ends in a state, with these words.
+// Returns whether a step ends in a state, with these words.
 fn is(answer: Option<(NodeState, Sent)>, state: Shape, west: (u8, u8), east: (u8, u8)) -> bool {
     match answer {
         None => false,
@@ -125,7 +125,7 @@ const ROWS: &[Row] = &[
     ),
 ];
 
-// The step of the second of four nodes, which hears these words, and whose east side fails or not.
+// Returns the step of the second of four nodes, which hears these words, and whose east side fails or not.
 fn step_of(east_fails: bool, west: Bytes, east: Bytes) -> Option<(NodeState, Sent)> {
     if east_fails {
         stepped(fail(false, true), word(west), None)

@@ -78,7 +78,7 @@ pub const TABLE: &str = "number,failures,steps,applied,kept,impaired,over,lost,h
 30,forced 3>1,\"\"\"forced 3 east\"\", \"\"settle\"\"\",3-1,1,0,0,0,1,\r\n\
 ";
 
-/// The status, and the sink with what was written.
+/// Returns the status, and the sink with what was written.
 pub fn call(
     alloc: Global,
     words: &[&str],

@@ -5,7 +5,7 @@ use crate::called::{Outside, PLAN, SINGLE, SOUND, TABLE, call};
 use sdh_whatif_cli::Status;
 use std::test::Fail;
 
-// How many bytes the first lines of a text have.
+// Returns how many bytes the first lines of a text have.
 fn first_lines(text: &[u8], lines: usize) -> usize
     ensures { result ≤ length text.now }
 {
@@ -41,7 +41,7 @@ fn each_write_that_fails_is_told(rt: HostRuntime) -> Result<(), Fail> {
     Ok(())
 }
 
-// There is no write behind the last one.
+// There is no write after the last one.
 #[test]
 fn what_comes_in_pieces_is_the_same(rt: HostRuntime) -> Result<(), Fail> {
     let pieces = Outside { piece: 7, ..SOUND };

@@ -1,5 +1,5 @@
-//! The call that tells what is lost when, over objects in memory, as tests: what is outside failing in mid-stream, and want of
-//! memory. No other crate stands on this one.
+//! The call that reports what is lost when, over objects in memory, as tests: with failures outside in mid-stream, and
+//! with too little memory. No other crate stands on this one.
 #![tactic(auto)]
 
 #[cfg(test)]

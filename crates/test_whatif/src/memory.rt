@@ -1,4 +1,4 @@
-//! Want of memory.
+//! Calls that run out of memory.
 
 use crate::called::{NO_WORDS, PLAN, SINGLE, SOUND, TABLE, USAGE, call};
 use sdh_whatif_cli::Status;
@@ -13,7 +13,7 @@ const ROWS: &[Row] = &[
     (NO_WORDS, PLAN, Status::Usage, USAGE),
 ];
 
-// It tells most where one of the allocations is made to fail.
+// It shows most where one of the allocations is made to fail.
 #[test]
 fn want_of_memory_writes_nothing(rt: HostRuntime) -> Result<(), Fail> {
     for (words, document, status, text) in ROWS {

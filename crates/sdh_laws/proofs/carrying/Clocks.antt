@@ -33,7 +33,7 @@ value_moves Plain c same = refl
 value_moves Short c same = absurd (omega (arith, same))
 value_moves Long c same = absurd (omega (arith, same))
 
--- one that keeps its value sends 2349 bytes
+-- a clock that keeps its value sends 2349 bytes
 plain_by_value : (c : Clock) → (ticked c).value ≡ c.value → next_form c ≡ Plain
 unfolding ticked
 plain_by_value c same = value_moves (next_form c) c same
@@ -51,7 +51,7 @@ leads_to : (s : Option ℕ) (t : Tributary) → next_sending s (input_by (sent_i
 unfolding sent_by
 leads_to s t = let c = ticked t.feed.clock in next_by_action s (action_of c.form) c.value ∙ lasts c.form c.value
 
--- and no port leads it to AIS
+-- a generator that no port feeds goes to AIS
 ends_silent : (s : Option ℕ) → next_sending s no_input.action no_input.value ≡ None
 ends_silent s = next_by_action s no_input.action no_input.value
 

@@ -208,7 +208,8 @@ module _ (s : Settings) (ids : List ℕ) (circuits : Provisioning) (f : Fibres) 
         ∙ (goes_in id ss k begun (omega (arith, rounds_u, rounds_all, high)) there).1
         ∙ ap (λ c. clock_in id ss c k) (clocks_go_on.new s ids circuits id there)
 
-  -- where the last of them had so many rounds, and left the ring restored under the requests of its last round
+  -- where the last of them had enough rounds for a window, and left the ring restored under the requests of its last
+  -- round
   module _ (long : 3 * length u.ring.ids ≤ last.rounds) (settled_u : IsRestored (clocks_from v) u (requests_of u)) where
     restored : IsRestored (clocks_from v) u qs
     restored = subst (IsRestored (clocks_from v) u) (requests_last s ids circuits f earlier last may happen t many) settled_u

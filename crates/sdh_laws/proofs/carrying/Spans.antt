@@ -95,7 +95,7 @@ module _ (w : World) (whole : IsWhole w) (q : ℕ) (d : Side) (h : q < length w.
       state_after k ∙ (node_sends rate w.ring.moment sender d (sends_at w whole q d h)).goes k high
       ∙ λ t. next_sending (s t) (i t).action (i t).value
 
-  -- and its AU-4 in the frame that leaves is what the generator makes of that
+  -- an AU-4 in the frame that leaves is what its generator makes of what goes into it
   pub au_left : (line : List ℕ) → carried_on (round w).fibres (fibre q d) ≡ Some line → (k : ℕ) → k + 1 ≤ n_of rate
       → au_of (n_of rate) (k + 1) (scrambled (9 * n_of rate) line) ≡ au_sent (state_at k) (sent_at w q d (k + 1))
   au_left line there k high =
@@ -208,7 +208,7 @@ module _ (w : World) (whole : IsWhole w) (p : ℕ) (d : Side) (lt : p < length w
   left = ap (λ (i : Inlet). i.readings) (took_is v next p d pn).inlet
 
   module _ (k : ℕ) (high : k + 1 ≤ n_of w.ring.settings.rate) where
-    -- the interpreter behind a span takes the word that the generator before it sent in the round before
+    -- the interpreter after a span takes the word that the generator before it sent in the round before
     pub interpreter_step : TakesWord (get_or (receiving_on d (node_at v.ring.nodes p)).readings k start)
         (get_or (receiving_on d (node_at (round v).ring.nodes p)).readings k start) (received (lines_at v p) d (k + 1))
         (word_behind (is_cut c) (word_sent (get_or (sending_on e (node_at w.ring.nodes q)).generators k None) (sent_at w q e (k + 1)).action
@@ -229,7 +229,7 @@ module _ (w : World) (whole : IsWhole w) (p : ℕ) (d : Side) (lt : p < length w
         (word_behind (is_cut c) (word_sent (get_or (said w whole q e qn).generators k None) (fed w whole q e qn (k + 1)).action
         (fed w whole q e qn (k + 1)).value))) new took)
 
-    -- and where its fibre isn't cut, what comes is the AU-4 that the generator sent
+    -- where the fibre isn't cut, the AU-4 that comes is the one that the generator sent
     pub au_step : is_cut c ≡ false → (received (lines_at v p) d (k + 1)).au
         ≡ au_sent (get_or (sending_on e (node_at w.ring.nodes q)).generators k None) (sent_at w q e (k + 1))
     unfolding any_round.round any_round.round_with

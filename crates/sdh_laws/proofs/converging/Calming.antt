@@ -10,7 +10,7 @@ use Rattle.sdh_laws.specs.Hearing.Laws.{IsWhole}
 use Rattle.sdh_laws.proofs.hearing.Signalling.{calm_where_same}
 use Rattle.sdh_world.specs.Held.{node_at, AtEach}
 
--- all that is compared of two nodes is the same, side by side
+-- all that is compared of two nodes is equal, side by side
 pub record AreSame (a b : Node) : Type 0 where
   pub state : a.state ≡ b.state
   pub request : (d : Side) → (receiving_on d a).request ≡ (receiving_on d b).request

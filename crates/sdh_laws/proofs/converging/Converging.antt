@@ -45,7 +45,7 @@ use Rattle.sdh_world.specs.Sides.{condition_to}
 use Rattle.sdh_node.specs.Stations.{adm}
 use Rattle.sdh_rounds.specs.Runs as any_run
 
--- what lists that are the same when mapped have at a place
+-- elements at one place of two lists that are equal when mapped
 same_at : {Y : Type 0} (f : Node → Y) (xs ys : List Node) (p : ℕ) → p < length xs → p < length ys → map f xs ≡ map f ys
     → f (node_at xs p) ≡ f (node_at ys p)
 same_at f xs ys p hx hy e =
@@ -53,7 +53,7 @@ same_at f xs ys p hx hy e =
 
 -- ---- what comes
 
--- the word behind a fibre, if it comes
+-- the word after a fibre, if it comes
 abbrev come_behind : Condition → K → Option K
 come_behind c k = if is_cut c then None else Some k
 
@@ -174,7 +174,7 @@ module _ (w : World) (whole : IsWhole w) (form : HasCircuits (layout_of w)) (sti
   unfolding any_run.run
   earlier_in k p d h = (brings (run k w) (whole_run w k whole) p d (inside_run k p h)).earlier
 
-  -- the same word comes in each round
+  -- the word that came last is equal from round to round
   last_stays : (k p : ℕ) (d : Side) → 5 * n + 111 ≤ k → p < length w.ring.nodes → (kept (suc k) p d).last ≡ (kept k p d).last
   last_stays k p d late h =
       let i = k - 1 in
@@ -210,7 +210,7 @@ module _ (w : World) (whole : IsWhole w) (form : HasCircuits (layout_of w)) (sti
       let third = third_stays k p d late h in
       λ i. heard_of (last i) (second i) (third i)
 
-  -- ---- so rounds are calm
+  -- ---- rounds are calm
 
   same_from : (k : ℕ) → 31 * n + 127 ≤ k → (p : ℕ) → p < length w.ring.nodes
       → AreSame (node_at (run (suc k) w).ring.nodes p) (node_at (run k w).ring.nodes p)

@@ -298,7 +298,7 @@ module _ (s : Settings) (ids : List ℕ) (circuits : Provisioning) (f : Fibres) 
     traced q e i there few = elim
         (cases_lt half (i + 1)) [ inr low ↦ traced_working q e i there low | inl high ↦ traced_protection q e i there high few ]
 
-    -- so nothing moves from round number n + 4 on
+    -- no pointer moves from round number n + 4 on
     pub still_pointers : (j : ℕ) → n + 4 ≤ j → HasStillPointers w j
     still_pointers j late = record {
       generators = λ p d h. ext_get_or None _ _ (generators_many w whole (suc j) p d h ∙ sym (generators_many w whole j p d h)) (λ i small.

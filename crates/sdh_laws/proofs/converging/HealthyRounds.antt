@@ -44,7 +44,7 @@ module _ (v : World) (n b k : ℕ) (two : 2 ≤ n) (sizes : (j : ℕ) → length
       let p : (b + j - 1) % 128 ≡ 0 = omega arith in
       omega arith
 
-  -- and does where the rounds before it were calm
+  -- a settle step ends there, where the rounds before were calm
   settles_there : ((j : ℕ) → k < j + 3 * n → j ≤ k → IsCalm (course v) j) → 3 * n ≤ k → (limit : ℕ) → k ≤ limit
       → SettlesAt (course v) limit k
   settles_there calm long limit within =

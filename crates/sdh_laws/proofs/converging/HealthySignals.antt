@@ -58,7 +58,7 @@ all_clear m i = elim (cases_lt i m) [
   | inr past ↦ get_or_past (replicate m Clear) i Clear (omega (arith, length-replicate m Clear))
 ]
 
--- a stretch of so many rounds, without changes
+-- a stretch of k rounds, without changes
 abbrev only_rounds : ℕ → Stretch
 only_rounds k = record { changes = []; rounds = k }
 
@@ -122,7 +122,8 @@ module _ (s : Settings) (ids : List ℕ) (circuits : Provisioning) (f : Fibres) 
   abbrev pub kept : ℕ → ℕ → Side → Brought
   kept k p d = (receiving_on d (node_at (run k begin).ring.nodes p)).brought
 
-  -- it isn't held, is idle, says what a new node says, and hears no word that asks for something
+  -- the node at p isn't held after k rounds, is idle, says what a new node says, and hears no word that asks for
+  -- something
   pub record IsHealthy (p k : ℕ) : Type 0 where
     pub turns : (node_at (run k begin).ring.nodes p).held ≡ 0
     pub state_idle : (node_at (run k begin).ring.nodes p).state ≡ state.Idle tt

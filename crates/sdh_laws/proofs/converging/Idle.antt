@@ -83,7 +83,7 @@ module _ (s : Scene) (needs : s.needs ≡ no_needs) (quiet : (d : Side) → IsQu
   unfolding state_after
   idle = rw (never_switches West, never_switches East, rests West, rests East) refl
 
-  -- and asks for nothing
+  -- the word that the node sends asks for nothing
   pub asks_nothing : (d : Side) → word s d ≡ record { code = Nr; to = id_on s d; from = own_id s; path = Short; mark = mark.Idle }
   unfolding word
   asks_nothing d =

@@ -161,7 +161,7 @@ ends_small at i (c ∷ cs) all =
     (end_small (c.from.0 == at.0) a here.a) (end_small (c.to.0 == at.0) b here.b))
     (ends_small at (i + 1) cs (λ k d h. all (suc k) d (omega arith)))
 
--- what is fixed of a port tells its offset
+-- the fixed part of a port gives its offset
 fixed_small : (ts us : List Tributary) → map fixed_port ts ≡ map fixed_port us → All HasSmall us → All HasSmall ts
 fixed_small [] us same all = All-nil HasSmall
 fixed_small (t ∷ ts) [] same all = absurd (cc)

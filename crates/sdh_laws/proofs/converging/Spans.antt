@@ -49,7 +49,7 @@ module _ (w : World) (whole : IsWhole w) where
   generator_goes p d i j inside few =
       generator_step (run j w) (whole_run w j whole) p d (omega (arith, length_run w j)) i (omega (arith, rate_run w j))
 
-  -- an interpreter goes on by the word that was sent behind the span one round before
+  -- an interpreter goes on by the word that was sent after the span one round before
   pub interpreter_goes : (p : ℕ) (d : Side) (i j : ℕ) → p < length w.ring.nodes → i < n_of w.ring.settings.rate
       → Takes w p d i (suc j) (word_behind (is_cut (condition_to w p d)) (word_in w (neighbour (length w.ring.ids) p d) (opposite d) i j))
   unfolding any_run.run
@@ -67,7 +67,7 @@ module _ (w : World) (whole : IsWhole w) where
     pub sending_rests : (j : ℕ) → k + 1 ≤ j → sending_in w p d i j ≡ lasting_state c.does c.value
     sending_rests j h = generators_rest (went w p d (i + 1)) (sending_in w p d i) k (λ m. generator_goes p d i m inside few) c j h
 
-  -- and the interpreter behind the span
+  -- the interpreter after the span
   module _ (p : ℕ) (d : Side) (i k : ℕ) (inside : p < length w.ring.nodes) (few : i < n_of w.ring.settings.rate)
       (c : IsConstant (went w (neighbour (length w.ring.ids) p d) (opposite d) (i + 1)) k) where
     abbrev q : ℕ
@@ -79,7 +79,7 @@ module _ (w : World) (whole : IsWhole w) where
         (reading_in w p d i) k
         (λ j. generator_goes q (opposite d) i j (neighbour_inside w whole p d) few) (λ j. interpreter_goes p d i j inside few) c
 
-    -- it isn't moved any more
+    -- the interpreter after the span isn't moved any more
     pub reading_rests : (j : ℕ) → k + 9 ≤ j → reading_in w p d i (suc j) ≡ reading_in w p d i j
     reading_rests j h = rests.stays j h
 

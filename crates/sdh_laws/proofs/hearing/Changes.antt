@@ -161,7 +161,7 @@ each_at_place P f keep (suc p) (n ∷ ns) each zero h = each 0 (omega arith)
 each_at_place P f keep (suc p) (n ∷ ns) each (suc q) h =
     each_at_place (λ k. P (suc k)) f (λ k. keep (suc k)) p ns (λ k low. each (suc k) (omega arith)) q (omega arith)
 
--- and what the node that is changed gets of it
+-- what holds of each node holds after one was changed, where the change keeps it
 each_changed : (P : ℕ → Node → Type 0) (f : Node → Node) (p : ℕ) (ns : List Node)
     → ((n : Node) → slice_get ns p ≡ Some n → P p n → P p (f n)) → AtEach P ns → AtEach P (at_place p f ns)
 each_changed P f p [] keep each q h = absurd (omega arith)
@@ -171,7 +171,7 @@ each_changed P f (suc p) (n ∷ ns) keep each zero h = each 0 (omega arith)
 each_changed P f (suc p) (n ∷ ns) keep each (suc q) h =
     each_changed (λ k. P (suc k)) f p ns keep (λ k low. each (suc k) (omega arith)) q (omega arith)
 
--- it leaves the sides that send
+-- a command leaves the sides that send
 pub sending_commanded : (d e : Side) (c : Command) (n : Node) → sending_on e (at_receiving d (commanded_by c) n) ≡ sending_on e n
 sending_commanded d West c n = refl
 sending_commanded d East c n = refl
@@ -245,7 +245,7 @@ held_leaves turns = record { receiving = received; sending = sent }
     sent West n = refl
     sent East n = refl
 
--- and slips
+-- slips leave the sides
 pub slips_leave : (id : PortId) (turn : Turn) (count : ℕ) → LeavesSides (slips_at id turn count)
 slips_leave id turn count = record { receiving = received; sending = sent }
   where

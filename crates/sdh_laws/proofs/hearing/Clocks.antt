@@ -42,7 +42,7 @@ pub few_round : (w : World) → IsPlaced w → AtEach (λ p n. FewWait n.ports) 
     → AtEach (λ p n. FewWait n.ports) (round w).ring.nodes
 few_round w placed each = feeds_round (λ f. waiting f.clock ≤ 16) (λ f. waiting f.clock ≤ 16) (λ f h. next_few f.clock 16 h) w placed each
 
--- a clock after so many rounds in which nothing else happens, from one at which at most 16 slips waited
+-- a clock after k rounds in which nothing else happens, from one at which at most 16 slips waited
 pub record HasTicked (k : ℕ) (f : Fed) : Type 0 where
   pub from : Clock
   pub rest_few : from.rest ≤ 4

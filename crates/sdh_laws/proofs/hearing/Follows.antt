@@ -61,7 +61,7 @@ pub record Matches (h : SideHistory) (t : ℕ) (now : Holding) : Type 0 where
 abbrev pub Tells : (ℕ → Side → SideHistory) → World → Type 0
 Tells hist w = (p : ℕ) (d : Side) → p < length w.ring.ids → Matches (hist p d) w.ring.rounds (holding_of (length w.ring.ids) p d w)
 
--- what a side that receives keeps after so many rounds of a history, and what it asked for in the last one
+-- what a side that receives keeps after this number of rounds of a history, and what it asked for in the last one
 pub record FollowsSide (s : Settings) (h : SideHistory) (rounds : ℕ) (r : Receiving) : Type 0 where
   pub keeps : KeepsHistory s.threshold s.wait h rounds r.local
   pub request : (t : ℕ) → rounds ≡ suc t → r.request ≡ local_request s.threshold s.wait h t

@@ -1,4 +1,4 @@
--- The nodes of a ring, one by one, and what stays of them whatever arrives.
+-- The nodes of a ring, one at a time, and what stays of them whatever arrives.
 use Rattle.std.proofs.Common.{◌≡◌, ℕ, zero, suc, ◌+◌, ◌<◌, Bool, true, false, List, [], ◌∷◌, length, get_or, map, Option, Some, None, refl}
 use Rattle.std.proofs.Common.{ap, sym, subst, ◌∙◌, arith}
 use Rattle.std.specs.Prelude.{All, ◌==◌, if◌then◌else◌}
@@ -74,7 +74,7 @@ sides_next s now n is = record {
   sends = λ d. sender_after now n s.rate d (is.sends d);
 }
 
--- so many rounds, and the clocks of its ports too
+-- the node and the clocks of its ports have run this number of rounds
 abbrev HasRun : ℕ → Node → Type 0
 HasRun rounds n = (n.rounds ≡ rounds) × HaveGone rounds n.ports
 
@@ -108,7 +108,7 @@ placed_round xs w placed =
           (each_heard (HasRun t) (ran_met t) xs ns (λ p h. ((placed.between p h).ran, (placed.between p h).gone)));
     }
 
--- ---- what is told to a node
+-- ---- what arrives at a node
 
 -- to a side before the round that begins with this world: in round 0 nothing
 abbrev pub told_to : World → ℕ → Side → Option Arrival
@@ -117,7 +117,7 @@ told_to w p d = if w.ring.rounds == 0 then None else Some (arrival_at w.fibres p
 abbrev told_both : Option Arrival → Option Arrival → Node → Node
 told_both a b n = record n { west = record n.west { arrived = a }; east = record n.east { arrived = b } }
 
--- the node at position p with what is told to it
+-- the node at position p with what arrives there
 abbrev pub informed : World → ℕ → Node
 informed w p = told_both (told_to w p West) (told_to w p East) (node_at w.ring.nodes p)
 

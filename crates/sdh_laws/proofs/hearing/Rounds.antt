@@ -134,7 +134,7 @@ module _ (w : World) (whole : IsWhole w) where
 
   -- ---- what a side finds
 
-  -- the side with what is told to it
+  -- the side with what arrives there
   abbrev pub inlet_at : ℕ → Side → Inlet
   inlet_at p d = told_inlet (told_to w p d) (old_on p d)
 
@@ -234,7 +234,7 @@ module _ (w : World) (whole : IsWhole w) where
         earlier = took.brought ∙ ap (λ k. with_brought k (old_on p d).brought) (sym came);
       }
 
-  -- a side that works is behind a fibre that isn't cut
+  -- a side that works is after a fibre that isn't cut
   pub clear_where_it_works : (p : ℕ) (d : Side) → 0 < t → p < length w.ring.nodes → is_failed (new_on p d).local.defect ≡ false
       → is_cut (condition_to w p d) ≡ false
   clear_where_it_works p d some h works = elim (cases_Bool (is_cut (condition_to w p d))) [

@@ -58,7 +58,7 @@ keeps_all : (cs : List Change) (w : World) → Keeps w → Keeps (all_changed cs
 keeps_all [] w k = k
 keeps_all (c ∷ cs) w k = keeps_all cs (changed c w) (keeps_changed c w k)
 
--- the frame on the fibre to each position shows so many violations there
+-- the frame on the fibre to each position shows the number of violations that `shown` gives
 abbrev pub AllShow : (ℕ → Side → ℕ) → World → Type 0
 AllShow shown w =
     (d : Side) → AtEach (λ p n. ShowsSo w.ring.settings.rate (shown p d) w.ring.rounds

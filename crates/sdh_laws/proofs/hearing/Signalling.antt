@@ -179,7 +179,7 @@ module _ (w : World) (whole : IsWhole w) where
   unfolding signals_of
   kept_at p h = sym (get_or-map filters_of w.ring.nodes p nowhere no_filters h)
 
-  -- so a node's filters are those of the ring of signals
+  -- a node's filters are those of the ring of signals
   filters_same : (p : ℕ) → p < length after → filters_of (after_at p) ≡ filters_after before p (needed (after_at p))
   unfolding filters_after signals_of
   filters_same p h = same_filters _ _ (side West (λ (f : Filters). f.west) refl refl) (side East (λ (f : Filters). f.east) refl refl)
@@ -403,7 +403,7 @@ module _ (w : World) (whole : IsWhole w) where
     unfolding signals_of
     runs = le-leb 1 t ran_before
 
-    -- and it changes no word of a ring of signals
+    -- the round changes no word of a ring of signals
     pub changes_none : ChangesNoWord (needs_in (round w)) (signals_of w)
     changes_none = record {
       running = runs;

@@ -65,7 +65,7 @@ condition_kept w p d = condition_after (arrivals_of w) w p d
 abbrev pub AllFree : World → Type 0
 AllFree w = AtEach (λ p n. is_held n ≡ false) w.ring.nodes
 
--- so many held turns are left at most
+-- at most `turns` held turns are left
 abbrev AllHeldFor : ℕ → World → Type 0
 AllHeldFor turns w = AtEach (λ p n. n.held ≤ turns) w.ring.nodes
 
@@ -117,7 +117,7 @@ all_ticked w whole (suc k) = ticked_round k (run k w) (whole_run w k whole).plac
 pub none_wait : (w : World) → IsWhole w → (k : ℕ) → 68 ≤ k → AtEach (λ p n. NoneWait n.ports) (run k w).ring.nodes
 none_wait w whole k late p h = ticked_out k (node_at (run k w).ring.nodes p).ports late (all_ticked w whole k p h)
 
--- and none comes where none waits
+-- no slip waits later where none waits now
 pub none_waits_later : (w : World) → IsWhole w → AtEach (λ p n. NoneWait n.ports) w.ring.nodes → (k : ℕ)
     → AtEach (λ p n. NoneWait n.ports) (run k w).ring.nodes
 unfolding any_run.run

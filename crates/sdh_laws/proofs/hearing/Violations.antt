@@ -32,7 +32,7 @@ abbrev pub KeepsParities : Rate → ℕ → Arrival → Option Parities → Type
 KeepsParities rate rounds a last =
     (line : List ℕ) → 0 < rounds → a ≡ Some line → last ≡ Some (parities_of (n_of rate) (scrambled (9 * n_of rate) line) line)
 
--- the frame on a fibre shows so many violations to a section that receives
+-- the frame on a fibre shows `shown` violations to a section that receives it
 abbrev pub ShowsSo : Rate → ℕ → ℕ → Arrival → Option Parities → Type 0
 ShowsSo rate shown rounds a last =
     (line : List ℕ) → 0 < rounds → a ≡ Some line → b2_violations (n_of rate) last (scrambled (9 * n_of rate) line) ≡ shown

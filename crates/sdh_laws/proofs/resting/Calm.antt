@@ -65,7 +65,7 @@ even_as : (a b : Action) (v u : ℕ) → a ≡ b → v ≡ u → IsEven b u → 
 even_as a b v u ea ev (inl e) = inl (ea ∙ e)
 even_as a b v u ea ev (inr e) = inr (ea ∙ e.0, omega (arith, e.1))
 
--- the action and the value of two inputs are the same
+-- two inputs have equal actions and values
 abbrev SameInput : Input → Input → Type 0
 SameInput i j = (i.action ≡ j.action) × (i.value ≡ j.value)
 
@@ -429,7 +429,7 @@ module _ (law : StillRingsAreSettled) (w : World) (whole : IsWhole w) (form : Ha
       ∙ ap₂ (λ a v. next_sending (sending_in w q e i 5) a v) same.0 same.1
       ∙ sym (generator_goes w whole q e i 5 here few)
 
-  -- ---- so the next round is calm
+  -- ---- the next round is calm
 
   same_nodes : (p : ℕ) → p < length w.ring.nodes → AreSame (node_at (run 7 w).ring.nodes p) (node_at (run 6 w).ring.nodes p)
   same_nodes p h =
@@ -453,7 +453,7 @@ module _ (law : StillRingsAreSettled) (w : World) (whole : IsWhole w) (form : Ha
       calm_round (run 6 w) (whole_run w 6 whole) (started law w whole calm 6) (free_now 6 (omega arith))
       (λ p h. same_nodes p (omega (arith, length_run w 6)))
 
--- ---- and so are all later ones
+-- ---- all later rounds are calm
 
 -- rounds a + 1 to a + 6 are calm
 abbrev SixFrom : World → ℕ → Type 0

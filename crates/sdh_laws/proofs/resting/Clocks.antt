@@ -28,7 +28,7 @@ plain_after : (c : Clock) → next_form c ≡ Plain → ((ticked c).rest ≡ c.r
 unfolding ticked
 plain_after c plain = (ap (λ f. (after_form f c).rest) plain, ap (λ f. (after_form f c).value) plain)
 
--- one that might slip and doesn't has no slip that waits
+-- a clock that might slip and doesn't has no slip that waits
 none_waits : (c : Clock) → c.rest ≡ 0 → next_form c ≡ Plain → waiting c ≡ 0
 none_waits c may plain = go (nat_le 1 c.rest) (nat_le 1 c.ups) (nat_le 1 c.downs) refl refl refl plain
   where
@@ -66,7 +66,7 @@ by_clock (Some t) c e = cc
 pub form_by : (v : World) (q : ℕ) (id : PortId) (c : Clock) → clock_there v q id ≡ Some c → form_there v q id ≡ next_form c
 form_by v q id c e = ap next_form (by_clock (port_of id (node_at v.ring.nodes q).ports) c e)
 
--- and so is what it adds
+-- an input has the action and the value that a clock gives
 abbrev AddsBy : Input → Clock → Type 0
 AddsBy i c = (i.action ≡ action_of (next_form c)) × (i.value ≡ (ticked c).value)
 

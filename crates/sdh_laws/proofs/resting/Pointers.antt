@@ -31,7 +31,7 @@ abbrev pub state_word : Option ℕ → ℕ
 state_word None = 65535
 state_word (Some v) = word_of form.Normal v
 
--- such a word
+-- a word of all ones, or a normal one with a value of at most 782
 abbrev pub IsEvenWord : ℕ → Type 0
 IsEvenWord w = (w ≡ 65535) ⊎ ((v : ℕ) × (v ≤ 782) × (w ≡ word_of form.Normal v))
 
@@ -60,7 +60,7 @@ sends_even s a v (inr e) still =
 
 -- ---- an interpreter
 
--- as it is behind one normal word for ever, or not in Norm
+-- as it is after one normal word for ever, or not in Norm
 abbrev pub IsGood : Reading → Type 0
 IsGood r = ((v : ℕ) × (v ≤ 782) × (r ≡ settled mode.Norm v 3)) ⊎ (is_norm r.mode ≡ false)
 
@@ -80,7 +80,7 @@ norm_bad : (r : Reading) → after_in mode.Norm event.Bad r ≡
 unfolding after_in reading_row_of reading_table
 norm_bad r = refl
 
--- of all events only a word of its value doesn't move it
+-- an event that leaves a settled interpreter in Norm as it is gives the action Normal
 kept_event : (v : ℕ) (e : Event) → after_in mode.Norm e (settled mode.Norm v 3) ≡ settled mode.Norm v 3
     → action_in mode.Norm e (settled mode.Norm v 3) ≡ action.Normal
 kept_event v event.Same h = norm_same_action (settled mode.Norm v 3)
@@ -94,7 +94,7 @@ kept_event v (event.New x) h =
 kept_event v event.Ais h = absurd (let s : 1 ≡ 0 = ap (λ (r : Reading). r.ais) (sym (norm_ais (settled mode.Norm v 3)) ∙ h) in omega arith)
 kept_event v event.Bad h = absurd (let s : 1 ≡ 0 = ap (λ (r : Reading). r.bad) (sym (norm_bad (settled mode.Norm v 3)) ∙ h) in omega arith)
 
--- such an interpreter, where a word doesn't move it, answers as it does behind one word for ever
+-- a good interpreter that a word doesn't move answers as it does after one word for ever
 pub good_answers : (r : Reading) (w : ℕ) → IsGood r → after_word r w ≡ r → IsEven (action_on r w) r.value
 good_answers r w (inl (v, small, is)) still =
     let e = event_of r w in
@@ -105,7 +105,7 @@ good_answers r w (inl (v, small, is)) still =
 good_answers r w (inr none) still =
     inl (ais_from (action_on r w) (answer_tells_mode r w ∙ ap (λ (x : Reading). not (is_norm x.mode)) still ∙ ap not none))
 
--- and one that an even word doesn't move is such
+-- an interpreter that an even word doesn't move is good
 pub good_behind : (r : Reading) (w : ℕ) → IsEvenWord w → after_word r w ≡ r → IsGood r
 good_behind r w (inl ones) still =
     let i : Interpreter = record { reading = r; moved = false } in

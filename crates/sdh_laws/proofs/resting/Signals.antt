@@ -48,7 +48,7 @@ same_at : {Y : Type 0} (f : Node → Y) (xs ys : List Node) (p : ℕ) → p < le
 same_at f xs ys p hx hy e =
     sym (get_or-map f xs p nowhere (f nowhere) hx) ∙ ap (λ l. get_or l p (f nowhere)) e ∙ get_or-map f ys p nowhere (f nowhere) hy
 
--- the word behind a fibre, if it comes
+-- the word after a fibre, if it comes
 abbrev come_behind : Condition → K → Option K
 come_behind c k = if is_cut c then None else Some k
 
@@ -182,7 +182,7 @@ module _ (law : StillRingsAreSettled) (w : World) (whole : IsWhole w) (calm : (j
   pub heard_stays : (p : ℕ) (d : Side) → p < length w.ring.nodes → hears (kept 7 p d) ≡ hears (kept 6 p d)
   heard_stays p d h = ap hears (kept_stays 3 p d (omega arith) h)
 
-  -- ---- so the ring of signals stands still
+  -- ---- the ring of signals stands still
 
   filters_same : (p : ℕ) → p < length w.ring.nodes → filters_of (node_at (run 6 w).ring.nodes p)
       ≡ filters_of (node_at (run 5 w).ring.nodes p)

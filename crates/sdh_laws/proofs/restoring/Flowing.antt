@@ -1,4 +1,4 @@
--- What bytes and AIS do behind a span, whatever its generator and its interpreter kept.
+-- What bytes and AIS do after a span, whatever its generator and its interpreter kept.
 use Rattle.std.proofs.Common.{◌≡◌, ◌≢◌, ℕ, zero, suc, ◌+◌, ◌-◌, ◌*◌, ◌<◌, ◌≤◌, inl, inr, ◌⊎◌, Bool, true, false, List, length, get_or}
 use Rattle.std.proofs.Common.{Option, Some, None, refl, ap, ap₂, sym, ◌∙◌, subst, arith}
 use Rattle.std.specs.Prelude.{not}
@@ -279,7 +279,7 @@ module _ (w : World) (whole : IsWhole w) (p : ℕ) (d : Side) (i : ℕ) (inside 
       pub flows_new : (u : ℕ) × (u < t + 5) × Flows comes u v (λ j. bytes (j - 1)) × ((comes u).action ≡ action.New)
       flows_new = by_mode (reading (t + 1)).mode refl
 
-  -- ---- behind one span more
+  -- ---- after one span more
 
   pub flows_behind : (spans v : ℕ) (bytes : ℕ → List ℕ) → v ≤ 782 → cut ≡ false → FlowsBehind sent spans v bytes
       → FlowsBehind comes (spans + 1) v (λ j. bytes (j - 1))

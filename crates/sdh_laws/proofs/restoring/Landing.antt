@@ -57,7 +57,7 @@ enabled_taken r w enabled small other = by r.mode refl
     )
     by mode.Lop is = absurd (other is)
 
--- in Lop it isn't
+-- in Lop an enabled word isn't taken: the mode stays
 pub enabled_left : (r : Reading) (w : ℕ) → is_enabled w ≡ true → value_in w ≤ 782 → r.mode ≡ mode.Lop
     → after_word r w ≡ settled mode.Lop r.value 0
 enabled_left r w enabled small is =
@@ -77,7 +77,7 @@ module _ (w v : ℕ) (normal : is_normal w ≡ true) (carries : value_in w ≡ v
   keeps_for zero r at = at
   keeps_for (suc k) r at = keeps_for k (after_word r w) (keeps r at)
 
-  -- the answer there, and the answer that led there
+  -- in Norm at the value of the word the action is Normal
   pub answers_there : (r : Reading) → IsAt r → action_on r w ≡ action.Normal
   answers_there r at = same_action w v normal carries r at.0 at.1
 
@@ -190,7 +190,7 @@ module _ (w v : ℕ) (normal : is_normal w ≡ true) (carries : value_in w ≡ v
         → after_word r w ≡ with_new r v (later r.since)
     in_counted r is new less = reads mode.Norm r (event.New v) is new ∙ norm_new r v ∙ (let e = lt-leb _ _ less in rw e refl)
 
-    -- a round that counts a new value of which nothing else is known
+    -- a round that counts a new value; nothing else is known of it
     before_new : (b : ℕ) (r : Reading) → r.mode ≡ mode.Norm → r.value ≢ v → r.since < 3
         → ((s : Reading) → s.mode ≡ mode.Norm → s.value ≢ v → s.since ≡ later r.since → s.candidate ≡ v → s.news ≡ news_with r v
         → ByNew b s) → ByNew (suc b) r

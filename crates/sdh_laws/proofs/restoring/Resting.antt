@@ -55,7 +55,7 @@ use Rattle.sdh_laws.proofs.restoring.Flowing.{flows_behind, silent_on}
 use Rattle.sdh_laws.proofs.restoring.Walking.{joined_walk, parted_walk}
 use Rattle.sdh_rounds.specs.Runs as any_run
 
--- ---- the same in other words
+-- ---- what flows, for equal inputs and equal bytes
 
 flows_as : (f g : ℕ → Input) (spans v : ℕ) (x y : ℕ → List ℕ) → ((j : ℕ) → g j ≡ f j) → ((j : ℕ) → x j ≡ y j) → FlowsBehind f spans v x
     → FlowsBehind g spans v y

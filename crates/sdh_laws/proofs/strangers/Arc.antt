@@ -1,4 +1,5 @@
--- A circuit on whose arc nothing is asked: what its port sends comes over its spans one by one, from round 0 on.
+-- A circuit on whose arc nothing is asked: what its port sends comes over its spans, one after the other, from round 0
+-- on.
 use Rattle.std.proofs.Common.{◌≡◌, ◌≢◌, ℕ, zero, suc, ◌+◌, ◌-◌, ◌*◌, ◌<◌, ◌≤◌, Bool, true, false, List, length, get_or, Option, Some, None}
 use Rattle.std.proofs.Common.{refl, ap, ap₂, sym, ◌∙◌, subst, arith, inl, inr}
 use Rattle.std.specs.Prelude.{◌==◌, if◌then◌else◌, slice_get}

@@ -64,7 +64,7 @@ turns w free p h held = no (sym (none_held w free p h) ∙ held)
     no : false ≡ true → ⊥
     no z = cc
 
--- ---- so many rounds on
+-- ---- j rounds later
 
 module _ (clocks : PortId → ℕ → Clock) where
   -- AU-4s with a smaller lag hold at most what a port has put in
@@ -98,7 +98,7 @@ module _ (clocks : PortId → ℕ → Clock) where
   }
 
   module _ (most : ℕ) where
-    -- so many rounds ago no controller was to miss more turns than these
+    -- j rounds ago no controller was to miss more than `most` turns
     pub record IsClearing (j : ℕ) (w : World) : Type 0 where
       pub whole : IsWhole w
       pub held : AtEach (λ p n. n.held ≤ most - j) w.ring.nodes
@@ -169,7 +169,7 @@ module _ (clocks : PortId → ℕ → Clock) where
         } in
         kept_in clocks (λ v c. HoldsNone c) IsClearing clearing_changed clearing_then ss 0 w t form begins may (none_in w ss none) tells few
 
-    -- and then the ring is vouched for
+    -- a ring that has cleared for `most` and n (n + 1) rounds is vouched for
     pub cleared : (w : World) (j : ℕ) → IsClearing j w → most + length w.ring.ids * (length w.ring.ids + 1) ≤ j → IsVouched clocks w
     cleared w j k long =
         let n = length w.ring.ids in

@@ -1,4 +1,5 @@
--- What AU-4s may hold, told by a property for each port and for nobody: pointer words, values and generators don't matter to it.
+-- What AU-4s may hold, by a property for each port and for nobody: pointer words, values and generators don't matter to
+-- it.
 use Rattle.std.proofs.Common.{◌≡◌, ℕ, ◌⊎◌, Option, inl, inr}
 use Rattle.sdh_frame.specs.Aus.{Au, ones}
 use Rattle.sdh_ringmap.specs.declared.Side.{Side}

@@ -120,7 +120,8 @@ module _ (clocks : PortId → ℕ → Clock) (w : World) (form : HasCircuits (la
   below : (q : ℕ) → q < length w.ring.nodes → q < n
   below q h = omega (arith, count w whole.placed)
 
-  -- what is sent holds at most the bytes of the circuit on the span, or those of which the word sent beside it speaks
+  -- what is sent holds at most the bytes of the circuit on the span, or of the circuit that the word sent beside it
+  -- speaks of
   abbrev pub WorkingSent : ℕ → ℕ → Side → Type 0
   WorkingSent p m d = Fine (Own (t + 1)) (circuits_at n cs p m d) d (sent_at w p d m)
 

@@ -52,7 +52,7 @@ pub none_aside : (w : World) (ss : List Stretch) → NoneHolds ss → HeldAside 
 none_aside w [] none = tt
 none_aside w (s ∷ ss) none = (aside_each w s.changes none.0, none_aside (after_stretch s w) ss none.1)
 
--- ---- what is so after so many rounds, over changes of which something is asked and rounds that these are the clocks of
+-- ---- what is kept over changes that are allowed and over rounds, with these clocks
 
 module _ (clocks : PortId → ℕ → Clock) (May : World → Change → Type 0) (Kept : ℕ → World → Type 0)
     (change : (j : ℕ) (c : Change) (w : World) → IsChangeOf w c → May w c → Kept j w → Kept j (changed c w))
@@ -91,7 +91,7 @@ module _ (clocks : PortId → ℕ → Clock) (May : World → Change → Type 0)
             (omega arith)))
       ]
 
--- ---- stretches one behind the other
+-- ---- stretches one after the other
 
 pub rounds_together : (earlier later : List Stretch) → rounds_in (earlier ++ later) ≡ rounds_in earlier + rounds_in later
 rounds_together [] later = omega arith

@@ -20,7 +20,7 @@ use Rattle.sdh_nodestate.specs.Rules.{long_word}
 use Rattle.sdh_laws.specs.Strangers.Vouched.{spoken_of}
 use Rattle.sdh_laws.proofs.strangers.Content.{IsCarried}
 
--- so many steps lead from one position to another on a side, 0 to n - 1
+-- the number of steps from one position to another towards a side, 0 to n - 1
 abbrev pub steps : ℕ → Side → ℕ → ℕ → ℕ
 steps n East p q = eastwards n p q
 steps n West p q = eastwards n q p
@@ -61,7 +61,7 @@ abbrev pub start_of : Side → Row → ℕ
 start_of East r = r.from.0
 start_of West r = r.to.0
 
--- so many spans of the arc lie between that port and a position
+-- the number of spans of the arc between that port and a position
 abbrev pub place_on : ℕ → Side → Option OnSpan → ℕ → ℕ
 place_on n d None p = 0
 place_on n d (Some r) p = steps n d (start_of d r) p
@@ -70,8 +70,9 @@ place_on n d (Some r) p = steps n d (start_of d r) p
 abbrev pub working_lag : ℕ → Side → Option OnSpan → ℕ → ℕ
 working_lag n d o p = place_on n d o p * (n + 1)
 
--- The lag of a protection AU-4 that the node at p sends on the side opposite to d, under a word of which this node is the source and
--- which speaks of this: the source had it in the working slot, and it has come over so many spans since.
+-- The lag of a protection AU-4 that the node at p sends on the side opposite to d, under a word that has this node as
+-- its source and speaks of this: the source had it in the working slot, and this is the number of spans that it has
+-- crossed since.
 abbrev pub protection_lag : ℕ → Side → Option OnSpan → Option Pos → ℕ → ℕ
 protection_lag n d o None p = 0
 protection_lag n d o (Some g) p = place_on n d o g.0 * (n + 1) + steps n (opposite d) g.0 p + 1
@@ -91,11 +92,11 @@ lag_less n a b s h few =
     let more : b * (n + 1) + (n + 1) ≤ (b + 1) * (n + 1) = row_fits b (n + 1) (b + 1) (n + 1) (omega arith) (omega arith) in
     omega arith
 
--- ---- what holds at most of lagging AU-4s, before a round and behind it
+-- ---- what holds at most of lagging AU-4s, before a round and after it
 
 pub record AreLags (Was Own : ℕ → Option PortId → Au → Type 0) : Type 0 where
   pub was : (i : ℕ) → IsCarried (Was i)
   pub own : (i : ℕ) → IsCarried (Own i)
-  -- what was so of a lag is so of a larger one behind the round
+  -- what was so of a lag is so of a larger one after the round
   pub later : (i j : ℕ) (q : Option PortId) (a : Au) → i < j → Was i q a → Own j q a
   pub longer : (i j : ℕ) (q : Option PortId) (a : Au) → i ≤ j → Own i q a → Own j q a

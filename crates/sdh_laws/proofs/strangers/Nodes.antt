@@ -194,7 +194,7 @@ module _ (Was Own : ℕ → Option PortId → Au → Type 0) (lags : AreLags Was
   heard_source d k f h at =
       ap (option_and_then (λ (k : K). found_at ids k.from)) (heard_is_long s d k h) ∙ ap (λ i. found_at i k.from) (sym same) ∙ at
 
-  -- the circuit of which the word speaks that is heard away from a switched side
+  -- the circuit that is spoken of by the word heard away from a switched side
   heard_speaks : (d : Side) (k : K) (f : Pos) → long s d ≡ Some k → found_at s.ids k.from ≡ Some f
       → spoken_of ids cs m d k ≡ circuits_at n cs f.0 m d
   heard_speaks d k f h at = ap (told_of ids cs m d) (heard_source d k f h at)
@@ -332,7 +332,7 @@ module _ (Was Own : ℕ → Option PortId → Au → Type 0) (lags : AreLags Was
     pub working_fine : (d : Side) → WorkingFine st d
     working_fine d = working_by st stands_fine d (meets n cs ring p m inside d)
 
-    -- and at a node in any state, where what stands for its arrivals is fine
+    -- what a node in any state sends in the working slot is fine, where what stands for its arrivals is
     pub working_from : (x : NodeState) → ((d : Side) → StandsFine x d) → (d : Side) → WorkingFine x d
     working_from x stands d = working_by x stands d (meets n cs ring p m inside d)
 
@@ -442,7 +442,7 @@ module _ (n : ℕ) (cs : List Provisioned) (ring : AreOnRing n cs) (i : ℕ) (c 
       let seen = seen-on n cs ring i c get (inward e) in
       ap (λ q. circuits_at n cs q c.slot.0 (inward e)) (starts_at e) ∙ seen.on_arc 0 seen.long
 
--- and the stream that comes from there is the other port's
+-- the stream that comes from there is the other port's
 pub sent_to : (e : End) → sender (opposite (inward e)) ≡ other_end e
 sent_to A = refl
 sent_to B = refl

@@ -1,5 +1,5 @@
--- Behind a quiet window each switched node has a shield; and no port meets a stranger where no controller is held of a node that passes
--- traffic through.
+-- After a quiet window each switched node has a shield; and no port meets a stranger where no controller of a node that
+-- passes traffic through is held.
 use Rattle.std.proofs.Common.{◌≡◌, ℕ, zero, suc, ◌+◌, ◌-◌, ◌<◌, ◌≤◌, List, [], ◌∷◌, length, refl, ap, sym, ◌∙◌}
 use Rattle.std.proofs.Common.{subst, arith, inl, inr, ◌⊎◌}
 use Rattle.std.proofs.lemmas.Bool.{cases_lt}

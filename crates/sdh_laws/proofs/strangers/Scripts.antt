@@ -1,4 +1,4 @@
--- Which controllers a script may hold, told by what happened in it: a hold spoils its own step alone.
+-- Which controllers a script may hold, by what happened in it: a hold spoils its own step alone.
 use Rattle.std.proofs.Common.{◌≡◌, ℕ, zero, suc, ◌+◌, ◌-◌, ◌<◌, ◌≤◌, List, [], ◌∷◌, ◌++◌, length, refl, ap, sym, ◌∙◌, subst, arith, inl, inr}
 use Rattle.std.proofs.Common.{append_assoc}
 use Rattle.std.specs.Prelude.{◌/◌}
@@ -175,7 +175,7 @@ module _ (law : StillRingsAreSettled) (s : Settings) (ids : List ℕ) (circuits 
           λ high. node_beyond (run last.rounds v).ring.nodes p (omega arith),
         )
 
-  -- ---- a step behind a quiet window
+  -- ---- a step after a quiet window
 
   ends_behind : (before : List Stretch) (last next : Stretch) (w : World) → EndQuietly w (before ++ last ∷ next ∷ [])
       → EndsWindow (course (all_changed last.changes (after_stretches before w))) last.rounds

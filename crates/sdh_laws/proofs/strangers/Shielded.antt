@@ -1,4 +1,4 @@
--- A round of a ring with shields: what lies behind a switched node stays what it was.
+-- A round of a ring with shields: what lies after a switched node stays what it was.
 use Rattle.std.proofs.Common.{◌≡◌, ℕ, ◌+◌, ◌<◌, ◌≤◌, Bool, true, false, List, length, Option, Some, None, refl, ap, sym, ◌∙◌, subst}
 use Rattle.std.proofs.Common.{arith, inl, inr}
 use Rattle.std.specs.Prelude.{◌≢◌, if◌then◌else◌}

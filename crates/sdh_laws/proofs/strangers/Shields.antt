@@ -66,7 +66,7 @@ module _ (n : ℕ) (some : 0 < n) (e : Side) where
 
 module _ (n : ℕ) (cs : List Provisioned) (ring : AreOnRing n cs) (some : 0 < n) (e : Side) (q m x : ℕ) (f : Pos) (hq : q < n) (hx : x < n)
     (hf : f.0 < n) (other : x ≢ q) (less : steps n e x f.0 < steps n e x q) where
-  -- what may be carried between q and f is on the span behind every position that lies between them outside the chain
+  -- what may be carried between q and f is on the span after every position that lies between them outside the chain
   pub meets-between : carries_in n cs q e m (Some f) ≡ true → circuits_at n cs x m (opposite e) ≡ circuits_at n cs q m e
   meets-between t =
       let far = meets-farther n cs ring some e q m f hq hf t in
@@ -103,7 +103,7 @@ module _ (s : Scene) (p : ℕ) (ids : List ℕ) (same : s.ids ≡ ids) (at : s.a
   own_is : own_id s ≡ slice_index ids p
   own_is i = slice_index (same i) (at i)
 
-  -- of a word of its own the source is the node
+  -- the source of a node's own word is the node
   own_by : (k : K) → k.from ≡ own_id s → (o : Option K) → long_word k ≡ o → (o ≡ None) ⊎ (o ≡ Some k) → (g : Pos)
       → source_in ids k ≡ Some g → g.0 ≡ p
   own_by k from o is (inl none) g h = absurd (no (sym (ap (option_and_then (λ (k : K). found_at ids k.from)) (is ∙ none)) ∙ h))
@@ -172,7 +172,7 @@ pub open_on : (e : Side) (f : Option Pos) → is_open (Switch (opposite e) f) e 
 open_on West f = refl
 open_on East f = refl
 
--- one of four
+-- a node's state is one of four: aside, passing through, or switched on one side or the other
 pub by_state : (e : Side) (x : NodeState) (A : Type 0) → (IsAside x → A) → (x ≡ state.PassThrough tt → A) → ((f : Option Pos) → x ≡ Switch e f → A)
     → ((f : Option Pos) → x ≡ Switch (opposite e) f → A) → A
 by_state e (state.Idle i) A aside pass this other = aside tt

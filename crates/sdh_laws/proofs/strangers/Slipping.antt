@@ -308,7 +308,7 @@ module _ (clock : ℕ → Clock) (source : IsSource clock) where
       apart : action.Ais ≡ action.Down → ⊥
       apart z = cc
 
-  -- it comes later than the first bytes
+  -- a pointer step down comes later than the first bytes
   pub down_late : (k t : ℕ) → does k t ≡ action.Down → k < t
   down_late k t e = elim (cases_lt t k) [
     | inl before ↦ absurd (early_not_down k t before e)
@@ -333,7 +333,7 @@ module _ (clock : ℕ → Clock) (source : IsSource clock) where
       let down : V (t - k) ≡ one_down c.value = ap (λ f. (after_form f c).value) long in
       ap₂ (λ s a. form_sent s a u) (state_now k t h) e ∙ (down_sent c.value u (is ∙ down)).form
 
-  -- ---- the chunk's form is told by what comes
+  -- ---- the chunk's form follows from what arrives
 
   chunk_by : (f : ChunkForm) → chunk_form (action_of f) ≡ f
   chunk_by Plain = refl

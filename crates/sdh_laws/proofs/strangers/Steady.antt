@@ -161,7 +161,7 @@ module _ (clocks : PortId → ℕ → Clock) (rs : List ℕ) where
         → Fine (HoldsAtMost cs clocks (w.ring.rounds + 1)) (circuits_at n cs x m (opposite e)) e
         (sent_at w q (opposite e) (slots_of (layout_of w) + m)))
 
-    -- and so is what has come in
+    -- what has come in on protection over j spans is of the circuit on the switched span of x
     abbrev TheirsCame : ℕ → World → Type 0
     TheirsCame j w =
         (let n = length w.ring.ids in let cs = w.ring.circuits.circuits in

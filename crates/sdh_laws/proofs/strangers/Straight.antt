@@ -327,7 +327,7 @@ module _ (i : ℕ) (c : Provisioned) (d : Side) (clock : ℕ → Clock) (source 
   all_u [] w may u = u
   all_u (x ∷ xs) w may u = all_u xs (changed x w) may.1 (changed_u x w may.0 u)
 
-  -- ---- rounds, by what is told of each
+  -- ---- rounds, by what is known of each
 
   record Tells (w : World) : Type 0 where
     asks : AsksNothing i c d clock source w

@@ -254,7 +254,7 @@ held_after w whole most k p h =
     let few = k p low in
     omega arith
 
--- and only nodes that stand aside miss those that are left
+-- after a round only nodes that stand aside miss turns, where that was so before it
 aside_after : (w : World) → IsWhole w → AtEach (λ p n. MissesAside n) w.ring.nodes → AtEach (λ p n. MissesAside n) (round w).ring.nodes
 unfolding any_round.round any_round.round_with
 aside_after w whole k p h =

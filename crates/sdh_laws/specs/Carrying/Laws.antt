@@ -75,7 +75,7 @@ pub record IsRestored (clocks : PortId → ℕ → Clock) (w : World) (rs : List
 abbrev pub Restores : World → World → Type 0
 Restores w left = IsWhole w → IsRestored (clocks_from w) left (requests_of left)
 
--- so it is where a settle step answered
+-- where a settle step answered, the ring is restored
 abbrev pub SettledRingsAreRestored : Type 0
 SettledRingsAreRestored = (w left : World) (limit : ℕ) → HasCircuits (layout_of w) → Settles w limit left → Restores w left
 
@@ -93,6 +93,6 @@ SettledRingsRestore =
 
 -- ---- where circuits come from
 
--- those of every ring are circuits of its size and rate
+-- the circuits of every ring are circuits of its size and rate
 abbrev pub RingsHaveCircuits : Type 0
 RingsHaveCircuits = (r : HeldRing) → IsRing r → HasCircuits (layout_in r)

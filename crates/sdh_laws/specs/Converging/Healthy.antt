@@ -26,7 +26,7 @@ HealthyRoundsAreCalm =
     → HasCircuits (layout_of (new_world s ids circuits f))
     → (k : ℕ) → length ids + 5 ≤ k → IsCalm (course (new_world s ids circuits f)) k
 
--- the rounds of so many settle steps, one after the other
+-- the stretches of settle steps without changes, one after the other
 abbrev pub healthy_steps : ℕ → List Stretch
 healthy_steps zero = []
 healthy_steps (suc later) = record { changes = []; rounds = 129 } ∷ replicate later (record { changes = []; rounds = 128 })

@@ -18,8 +18,9 @@ use Rattle.sdh_laws.specs.Carrying.Windows.{layout_of, HasCircuits}
 use Rattle.sdh_spans.specs.Spans.{IsConstant}
 use Rattle.sdh_laws.specs.Converging.Steady.{went, came, StaysSettled, HasStillPointers}
 
--- What goes into an AU-4 with one action and one value from round k on comes out on the other side of the span, or AIS where
--- its fibre is cut, with one action and one value nine rounds later, whatever its generator and its interpreter kept.
+-- What goes into an AU-4 with one action and one value from round k on comes out on the other side of the span with one
+-- action and one value nine rounds later. AIS comes out where the fibre is cut. That is so whatever the AU-4's
+-- generator and interpreter kept.
 abbrev pub ASpanIsSteady : Type 0
 ASpanIsSteady = (w : World) → IsWhole w → (p : ℕ) (d : Side) (au k : ℕ) → p < length w.ring.ids → 1 ≤ au → au ≤ n_of w.ring.settings.rate
     → IsConstant (went w (neighbour (length w.ring.ids) p d) (opposite d) au) k → IsConstant (came w p d au) (k + 9)
@@ -41,16 +42,18 @@ pub record WindowBy (w : World) (most : ℕ) : Type 0 where
 abbrev pub CalmEndsWindows : Type 0
 CalmEndsWindows = (w : World) (first : ℕ) → ((j : ℕ) → first ≤ j → IsCalm (course w) j) → WindowBy w (first + 3 * length w.ring.ids + 128)
 
--- From every ring that is paired with its fibres, where nothing happens but rounds, all rounds are calm from some round on,
--- whatever the nodes' interpreters, generators, parities, words, filters and held turns were, however many slips wait at their ports, and whichever fibres are cut or degraded.
+-- From every ring that is paired with its fibres, where nothing happens but rounds, all rounds are calm from some round
+-- on. That is so whatever the nodes' interpreters, generators, parities, words, filters and held turns were, however
+-- many slips wait at their ports, and whichever fibres are cut or degraded.
 abbrev pub RoundsGetCalm : Type 0
 RoundsGetCalm = (w : World) → IsWhole w → HasCircuits (layout_of w) → (j : ℕ) → 31 * length w.ring.ids + 128 ≤ j → IsCalm (course w) j
 
--- so a quiet window always comes, within 34n + 256 rounds: 31n + 128 until all rounds are calm, and 3n + 128 until a window ends
+-- a quiet window always comes, within 34n + 256 rounds: 31n + 128 until all rounds are calm, and 3n + 128 until a
+-- window ends
 abbrev pub WindowsComeSoon : Type 0
 WindowsComeSoon = (w : World) → IsWhole w → HasCircuits (layout_of w) → WindowBy w (34 * length w.ring.ids + 256)
 
--- a step with so large a limit ends with a window
+-- a window ends within a limit that is always enough, and a step with this limit or a larger one ends with a window
 pub record Converges (w : World) : Type 0 where
   pub window : WindowBy w (enough_for (length w.ring.ids))
   pub answers : (limit : ℕ) → enough_for (length w.ring.ids) ≤ limit → (k : ℕ) × (settles_in w limit ≡ Some k)
@@ -59,7 +62,7 @@ pub record Converges (w : World) : Type 0 where
 abbrev pub RingsConverge : Type 0
 RingsConverge = (w : World) → IsWhole w → HasCircuits (layout_of w) → Converges w
 
--- so no such step is unsettled
+-- no settle step of a whole ring with a limit that is enough is unsettled
 abbrev pub Answers : World → ℕ → World → Type 0
 Answers w limit left = IsWhole w → enough_for (length w.ring.ids) ≤ limit → Unsettles w limit left → ⊥
 

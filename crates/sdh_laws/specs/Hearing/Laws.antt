@@ -88,8 +88,9 @@ pub record IsSignalRound (w : World) : Type 0 where
 abbrev pub RoundsAreSignalRounds : Type 0
 RoundsAreSignalRounds = (w : World) → IsWhole w → IsSignalRound w
 
--- what a round makes of a whole world, whichever plant ran it: it stays whole, and its states, words and filters are those that a
--- ring of signals has after a round with the same needs and the same held nodes, in which nothing comes in on a side that fails
+-- What a round makes of a whole world, whichever plant ran it: the world stays whole. Its states, words and filters are
+-- those of a ring of signals after a round with its needs and its held nodes, in which nothing comes in on a side that
+-- fails.
 pub record GoesAsSignals (w after : World) : Type 0 where
   pub whole : IsWhole after
   pub may_go : MayGo (needs_in after) (signals_of w)

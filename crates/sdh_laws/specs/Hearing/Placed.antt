@@ -17,11 +17,12 @@ pub record HasSides (s : Settings) (n : Node) : Type 0 where
   pub receives : (d : Side) → IsInletAt s.rate (inlet_of (receiving_on d n))
   pub sends : (d : Side) → IsSenderAt s.rate (sending_on d n)
 
--- the clocks of a node's ports have run so many rounds
+-- the clocks of a node's ports have run this number of rounds
 abbrev pub HaveGone : ℕ → List Tributary → Type 0
 HaveGone rounds ports = All (λ (t : Tributary). IsClock t.feed.port.offset rounds t.feed.clock) ports
 
--- between rounds: the node has run so many, the clocks of its ports too, and nothing was told on a side since the last one
+-- between rounds: the node and the clocks of its ports have run `rounds` rounds, and nothing has arrived on a side
+-- since the last one
 pub record IsBetween (rounds : ℕ) (n : Node) : Type 0 where
   pub ran : n.rounds ≡ rounds
   pub gone : HaveGone rounds n.ports

@@ -22,7 +22,7 @@ CalmGoesOn =
 abbrev pub LeavesAtRest : World → World → Type 0
 LeavesAtRest w left = IsWhole w → IsAtRest (clocks_from w) left
 
--- so it is where a settle step answered
+-- where a settle step answered, the ring is at rest
 abbrev pub StepsLeaveAtRest : Type 0
 StepsLeaveAtRest = (w left : World) (limit : ℕ) → HasCircuits (layout_of w) → Settles w limit left → LeavesAtRest w left
 

@@ -10,8 +10,9 @@ use Rattle.sdh_laws.specs.Hearing.Laws.{IsWhole}
 use Rattle.sdh_laws.specs.Carrying.Windows.{requests_of}
 use Rattle.sdh_laws.specs.Carrying.Laws.{DeliversWhatIsDue}
 
--- The ring and its fibres are paired, no controller misses a turn, and every round that follows with nothing set between is calm and
--- has each port deliver what it is owed in it, under the requests of that round, where these are the ports' clocks before each round.
+-- The ring and its fibres are paired, and no controller misses a turn. Every round that follows with nothing set
+-- between is calm, and each port delivers what it is owed in it, under the requests of that round. These are the ports'
+-- clocks before each round.
 pub record IsAtRest (clocks : PortId → ℕ → Clock) (w : World) : Type 0 where
   pub whole : IsWhole w
   pub free : AtEach (λ p n. n.held ≡ 0) w.ring.nodes

@@ -11,7 +11,7 @@ pub record Flows (f : ℕ → Input) (t v : ℕ) (bytes : ℕ → List ℕ) : Ty
   pub plain : (j : ℕ) → t + 1 ≤ j → (f j).action ≡ action.Normal
   pub payload : (j : ℕ) → t + 1 ≤ j → (f j).au.payload ≡ bytes j
 
--- behind so many spans: four rounds a span, and three rounds more once, where the first action was New
+-- after `spans` spans: four rounds a span, and three rounds more once, where the first action was New
 pub record FlowsBehind (f : ℕ → Input) (spans v : ℕ) (bytes : ℕ → List ℕ) : Type 0 where
   pub first : ℕ
   pub flows : Flows f first v bytes

@@ -29,16 +29,17 @@ use Rattle.sdh_laws.specs.Converging.Steady.{IsUnslipped}
 abbrev pub NoneHeld : World → Type 0
 NoneHeld w = AtEach (λ p n. is_held n ≡ false) w.ring.nodes
 
--- From every whole ring on: all nodes are in the settled states, and every port delivers what it is owed, in each round from number
--- 12n + 102 on, whatever the nodes' interpreters, generators, parities, words, filters and held turns were, however many slips wait at
--- their ports, and whichever fibres are cut or degraded. That is 294 in a ring of 16, so less than 400 rounds, in which 400 frames
--- of 125 microseconds cross each span.
+-- From every whole ring on, in each round from number 12n + 102 on, all nodes are in the settled states and every port
+-- delivers what it is owed. That is so whatever the nodes' interpreters, generators, parities, words, filters and held
+-- turns were, however many slips wait at their ports, and whichever fibres are cut or degraded. The number is 294 in a
+-- ring of 16, so less than 400 rounds, in which 400 frames of 125 microseconds cross each span.
 abbrev pub RingsAreRestoredSoon : Type 0
 RingsAreRestoredSoon =
     (w : World) → IsWhole w → HasCircuits (layout_of w) → (k : ℕ) → 12 * length w.ring.ids + 102 ≤ k
     → IsRestored (clocks_from w) (run k w) (requests_of (run k w))
 
--- Where no controller misses a turn, from number 12n + 2 on, which is 194 in a ring of 16; where slips wait, from 8n + 61 on too.
+-- Where no controller misses a turn, traffic is restored from number 12n + 2 on, which is 194 in a ring of 16; where
+-- slips wait, from 8n + 61 on too.
 abbrev pub FreeRingsAreRestoredSoon : Type 0
 FreeRingsAreRestoredSoon =
     (w : World) → IsWhole w → HasCircuits (layout_of w) → NoneHeld w → (k : ℕ) → 12 * length w.ring.ids + 2 ≤ k
@@ -51,8 +52,9 @@ UnslippedRingsAreRestoredSoon =
 
 -- ---- each port by its own number
 
--- where connections are those of the settled states from round `base` on, and no slip waits: the port of a circuit whose ends are joined over so
--- many hops delivers what it is owed four rounds a hop later, and every other port three rounds a span of the ring later
+-- where connections are those of the settled states from round `base` on, and no slip waits: the port of a circuit
+-- whose ends are joined over some number of hops delivers what it is owed four rounds a hop later, and every other port
+-- three rounds a span of the ring later
 pub record ArePortsOwedFrom (w : World) (base : ℕ) : Type 0 where
   pub joined : (k index : ℕ) (c : Provisioned) → slice_get w.ring.circuits.circuits index ≡ Some c → (e : End)
       → (let n = length w.ring.ids in let rs = requests_of (run k w) in
@@ -65,7 +67,8 @@ pub record ArePortsOwedFrom (w : World) (base : ℕ) : Type 0 where
 abbrev pub PortsAreOwedSoon : Type 0
 PortsAreOwedSoon = (w : World) → IsWhole w → HasCircuits (layout_of w) → ArePortsOwedFrom w (4 * length w.ring.ids + 109)
 
--- where no controller is held and no slip waits: over h hops from number 4n + 4h + 14 on, and AIS from number 7n + 7 on
+-- where no controller is held and no slip waits, ports are owed what comes over h hops from number 4n + 4h + 14 on, and
+-- AIS from number 7n + 7 on
 abbrev pub UnslippedPortsAreOwedSoon : Type 0
 UnslippedPortsAreOwedSoon =
     (w : World) → IsWhole w → HasCircuits (layout_of w) → NoneHeld w → IsUnslipped w → ArePortsOwedFrom w (4 * length w.ring.ids + 9)

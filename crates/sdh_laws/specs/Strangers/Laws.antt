@@ -60,7 +60,7 @@ abbrev pub EachMay : (World → Change → Type 0) → World → List Change →
 EachMay May w [] = Unit {0}
 EachMay May w (c ∷ cs) = May w c × EachMay May (changed c w) cs
 
--- and those of stretches
+-- each change of some stretches may be made, one after the other
 abbrev pub AllMay : (World → Change → Type 0) → World → List Stretch → Type 0
 AllMay May w [] = Unit {0}
 AllMay May w (s ∷ ss) = EachMay May w s.changes × AllMay May (after_stretch s w) ss
@@ -94,14 +94,14 @@ HeldBesidePassing Quiet w (s ∷ ss) =
     (EachMay HoldsAside w s.changes ⊎ (Quiet × EachMay HoldsNoPass w s.changes))
     × HeldBesidePassing (EndsWindow (course (all_changed s.changes w)) s.rounds) (after_stretch s w) ss
 
--- ---- the same, told by what happened
+-- ---- where requests follow from what happened
 
 -- the requests of all spans in the last round of these stretches, from a new ring of n on, with this threshold and this wait
 abbrev pub last_requests : ℕ → ℕ → ℕ → List Stretch → List ℕ
 last_requests threshold wait n ss = span_requests n (asked_in threshold wait n ss (rounds_in ss - 1))
 
--- Behind these stretches a change holds no controller, or that of a node that doesn't pass traffic through: in a new ring none does, and
--- in a quiet one it is told by the requests of the last round.
+-- After these stretches a change holds no controller, or that of a node that doesn't pass traffic through: in a new
+-- ring none does, and in a quiet one the requests of the last round decide it.
 abbrev pub HoldsNonePassing : ℕ → ℕ → ℕ → List Stretch → Change → Type 0
 HoldsNonePassing threshold wait n earlier (Fibre p d condition) = Unit {0}
 HoldsNonePassing threshold wait n earlier (Order p d command) = Unit {0}
@@ -143,11 +143,11 @@ pub record VouchedRingsStay : Type 0 where
   pub change : (c : Change) (w : World) (clocks : PortId → ℕ → Clock) → IsChangeOf w c → HoldsAside w c → IsVouched clocks w
       → IsVouched clocks (changed c w)
 
--- so does every round, whichever plant ran it
+-- every round keeps strangers out, whichever plant ran it
 abbrev pub RoundsKeepStrangersOut : Type 0
 RoundsKeepStrangersOut = (w after : World) → HasCircuits (layout_of w) → IsRound w after → KeepsStrangersOut w after
 
--- and every settle step, whether it ended with a window or ran all its rounds
+-- every settle step keeps strangers out, whether it ended with a window or ran all its rounds
 pub record StepsKeepStrangersOut : Type 0 where
   pub settled : (w left : World) (limit : ℕ) → HasCircuits (layout_of w) → Settles w limit left → KeepsStrangersOutInAll w left
   pub unsettled : (w left : World) (limit : ℕ) → HasCircuits (layout_of w) → Unsettles w limit left → KeepsStrangersOutInAll w left
@@ -163,8 +163,8 @@ NoPortEverMeetsAStranger =
     → (t : ℕ) → t < rounds_in ss → NoneMeetsAStranger (clocks_by circuits.circuits ss)
     (round (world_in ss (new_world s ids circuits f) t)).ring
 
--- Where controllers are held too, as long as each is one of a node that stands aside when it is held, idle or isolated: whatever comes
--- while it misses its turns.
+-- No port meets a stranger where controllers are held, as long as each is one of a node that stands aside when it is
+-- held, idle or isolated: whatever comes while it misses its turns.
 abbrev pub NodesAsideMayBeHeld : Type 0
 NodesAsideMayBeHeld =
     (s : Settings) (ids : List ℕ) (circuits : Provisioning) (f : Fibres) (ss : List Stretch) → AreIds ids → IsHonest f
@@ -183,7 +183,7 @@ NodesThatDoNotPassMayBeHeld =
     → (t : ℕ) → t < rounds_in ss → NoneMeetsAStranger (clocks_by circuits.circuits ss)
     (round (world_in ss (new_world s ids circuits f) t)).ring
 
--- ---- behind quiet windows
+-- ---- after quiet windows
 
 -- What a settle step leaves is vouched for, whatever the ring carried before it, and whichever controllers missed their turns.
 abbrev pub SettledRingsAreVouchedFor : Type 0
@@ -191,8 +191,9 @@ SettledRingsAreVouchedFor =
     (w left : World) (limit : ℕ) (clocks : PortId → ℕ → Clock) → IsWhole w → HasCircuits (layout_of w) → Settles w limit left
     → AreClocksBetween clocks w left → IsVouched clocks left
 
--- So a hold spoils its own step alone. From a new ring on, where each stretch but the last ends with a quiet window: in every round of the
--- last one, whatever was held before it, if its own changes hold no controller of a node that passes traffic through.
+-- A hold spoils its own step alone. From a new ring on, where each stretch but the last ends with a quiet window: in
+-- every round of the last one, whatever was held before it, if its own changes hold no controller of a node that passes
+-- traffic through.
 abbrev pub AHoldSpoilsItsOwnStepAlone : Type 0
 AHoldSpoilsItsOwnStepAlone =
     (s : Settings) (ids : List ℕ) (circuits : Provisioning) (f : Fibres) (earlier : List Stretch) (last : Stretch) → MayStart s ids f

@@ -44,7 +44,7 @@ pub data MeetsNoStranger (circuits : List Provisioned) (clocks : PortId → ℕ 
   bytes_come : (value : ℕ) (form : ChunkForm) (a : Au) → o ≡ delivering value (taken form a.payload (h3_of a.pointers))
       → Holds circuits clocks t (other_port port) a → MeetsNoStranger circuits clocks t port o
 
--- so does each port of a ring in the last round
+-- no port of a ring met a stranger in the last round
 abbrev pub NoneMeetsAStranger : (PortId → ℕ → Clock) → HeldRing → Type 0
 NoneMeetsAStranger clocks r = (index : ℕ) (c : Provisioned) → slice_get r.circuits.circuits index ≡ Some c → (e : End)
     → MeetsNoStranger r.circuits.circuits clocks (r.rounds - 1) (port_id index e) (outlet_at r (port_id index e))
@@ -55,7 +55,7 @@ AreClocksOf clocks r =
     (index : ℕ) (c : Provisioned) → slice_get r.circuits.circuits index ≡ Some c → (e : End)
     → clock_at r (port_id index e) ≡ clocks (port_id index e) r.rounds
 
--- and these before each round from one world to another, where nothing but rounds happens between them
+-- these are the clocks before each round from one world to another, where nothing but rounds happens between them
 abbrev pub AreClocksBetween : (PortId → ℕ → Clock) → World → World → Type 0
 AreClocksBetween clocks w left =
     (index : ℕ) (c : Provisioned) → slice_get w.ring.circuits.circuits index ≡ Some c → (e : End) (t : ℕ) → w.ring.rounds ≤ t

@@ -73,9 +73,9 @@ HoldsAtMost circuits clocks t (Some port) a = Holds circuits clocks t port a
 abbrev pub au_in : World → ℕ → List ℕ → Au
 au_in w au line = au_of (n_of w.ring.settings.rate) au (scrambled (9 * n_of w.ring.settings.rate) line)
 
--- A whole ring in which only nodes that stand aside miss their turns, and whose frames vouch for what they hold. On each fibre a
--- working slot holds at most the bytes of the circuit that is in it on that span, going that way. And a protection slot holds at
--- most those of the circuit of which the K word in the same frame speaks, going the other way.
+-- A whole ring in which only nodes that stand aside miss their turns, and whose frames vouch for what they hold. On
+-- each fibre a working slot holds at most the bytes of the circuit that is in it on that span, going that way. And a
+-- protection slot holds at most the bytes of the circuit that the K word in its frame speaks of, going the other way.
 pub record IsVouched (clocks : PortId → ℕ → Clock) (w : World) : Type 0 where
   pub whole : IsWhole w
   pub aside : AtEach (λ p n. MissesAside n) w.ring.nodes

@@ -4,7 +4,7 @@ use Rattle.sdh_basics.specs.Parity.{bip8}
 use Rattle.sdh_parity.specs.Parity.{every}
 use Rattle.sdh_parity.proofs.adding.add_rows48.Goals as goal
 
--- a third of the columns: those before and behind it stay
+-- a third of the columns: the columns before and after it stay
 third : (old mid new more bytes : List ℕ) (at rows : ℕ) → ((j : ℕ) → j < 16
     → get_or new (at + j) 0 ≡ bit_xor (get_or mid (at + j) 0) (get_or more j 0))
     → ((j : ℕ) → j < 16 → get_or more j 0 ≡ bip8 (every (at + j) 48 rows bytes))

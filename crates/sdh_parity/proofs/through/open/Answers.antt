@@ -16,7 +16,7 @@ module _ (c : goal.After-sequence_parity) where
   abbrev rows : ℕ
   rows = length from / 48
 
-  -- what was copied behind the whole rows
+  -- the bytes copied after the whole rows
   abbrev copied : List ℕ
   copied = c.copy_from_slice.new.self
 
