@@ -92,9 +92,14 @@ class Dist(unittest.TestCase):
                 self.assertIn(said, seen)
 
     def test_a_signal_ends_the_program(self):
-        # (whoever started the tests may have had SIGINT ignored, and a shell can't take that back)
-        hears = lambda: signal.signal(signal.SIGINT, signal.SIG_DFL)
-        for sent in (signal.SIGINT, signal.SIGTERM, signal.SIGHUP):
+        signals = (signal.SIGINT, signal.SIGTERM, signal.SIGHUP)
+
+        def hears():
+            """Whoever started the tests may have had a signal ignored, as `nohup` does, and a shell can't take that back."""
+            for sent in signals:
+                signal.signal(sent, signal.SIG_DFL)
+
+        for sent in signals:
             with self.subTest(sent=sent.name):
                 words = [self.top / "sdhring", "run"]
                 pipes = {"stdin": subprocess.PIPE, "stdout": subprocess.PIPE, "stderr": subprocess.PIPE}
