@@ -25,14 +25,14 @@ pub fn quiet_rings_deliver_what_is_due()
 pub fn settled_rings_are_restored()
     ensures { SettledRingsAreRestored }
 {
-    sdh_settling::still_rings_are_settled();
+    sdh_signal::still_rings_are_settled();
 }
 
 /// Where a quiet window ends a stretch, the ring is restored under the requests of the histories.
 pub fn settled_rings_restore()
     ensures { SettledRingsRestore }
 {
-    sdh_settling::still_rings_are_settled();
+    sdh_signal::still_rings_are_settled();
 }
 
 /// The circuits of every ring are circuits of its size.

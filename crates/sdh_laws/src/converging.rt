@@ -27,35 +27,35 @@ pub fn calm_ends_windows()
 pub fn rounds_get_calm()
     ensures { RoundsGetCalm }
 {
-    sdh_settling::rings_settle();
+    sdh_signal::rings_settle();
 }
 
 /// From every whole ring on a quiet window ends within 34n + 256 rounds.
 pub fn windows_come_soon()
     ensures { WindowsComeSoon }
 {
-    sdh_settling::rings_settle();
+    sdh_signal::rings_settle();
 }
 
 /// In every whole ring in which nothing but rounds happens a quiet window ends.
 pub fn rings_converge()
     ensures { RingsConverge }
 {
-    sdh_settling::rings_settle();
+    sdh_signal::rings_settle();
 }
 
 /// No settle step with a large limit is unsettled.
 pub fn steps_answer()
     ensures { StepsAnswer }
 {
-    sdh_settling::rings_settle();
+    sdh_signal::rings_settle();
 }
 
 /// A window ends after any stretches of changes and rounds.
 pub fn stretches_converge()
     ensures { StretchesConverge }
 {
-    sdh_settling::rings_settle();
+    sdh_signal::rings_settle();
 }
 
 /// The rounds of a healthy ring are calm from round number n + 4 on.
@@ -77,12 +77,12 @@ pub fn healthy_rings_apply_nothing()
 pub fn healthy_steps_deliver()
     ensures { HealthyStepsDeliver }
 {
-    sdh_settling::still_rings_are_settled();
+    sdh_signal::still_rings_are_settled();
 }
 
 /// A ring of three nodes, with cut and degraded fibres, for which the laws hold.
 pub fn a_ring_occurs()
     ensures { ARingOccurs }
 {
-    sdh_settling::rings_settle();
+    sdh_signal::rings_settle();
 }

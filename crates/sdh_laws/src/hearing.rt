@@ -75,7 +75,7 @@ pub fn calm_rounds_are_still()
 pub fn three_calm_rounds_are_settled()
     ensures { ThreeCalmRoundsAreSettled }
 {
-    sdh_settling::still_rings_are_settled();
+    sdh_signal::still_rings_are_settled();
 }
 
 /// In a quiet window the nodes are in the settled states.
@@ -83,14 +83,14 @@ pub fn three_calm_rounds_are_settled()
 pub fn windows_are_settled()
     ensures { WindowsAreSettled }
 {
-    sdh_settling::still_rings_are_settled();
+    sdh_signal::still_rings_are_settled();
 }
 
 /// A step that ends with a quiet window leaves the ring in order, and its nodes in the settled states.
 pub fn steps_settle()
     ensures { StepsSettle }
 {
-    sdh_settling::still_rings_are_settled();
+    sdh_signal::still_rings_are_settled();
 }
 
 /// Through any stretches the requests of the sides are those of their histories.
@@ -104,7 +104,7 @@ pub fn requests_are_the_historys()
 pub fn stretches_settle()
     ensures { StretchesSettle }
 {
-    sdh_settling::still_rings_are_settled();
+    sdh_signal::still_rings_are_settled();
 }
 
 /// Where no controller misses a turn from some round on, states and words stay from a fixed number of rounds after it
@@ -113,7 +113,7 @@ pub fn stretches_settle()
 pub fn free_runs_get_still()
     ensures { FreeRunsGetStill }
 {
-    sdh_settling::rings_settle();
+    sdh_signal::rings_settle();
 }
 
 /// A ring to which nothing happens but rounds gets into the settled states, and its words stay.
@@ -121,5 +121,5 @@ pub fn free_runs_get_still()
 pub fn runs_get_still()
     ensures { RunsGetStill }
 {
-    sdh_settling::rings_settle();
+    sdh_signal::rings_settle();
 }

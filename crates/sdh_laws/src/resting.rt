@@ -10,14 +10,14 @@ ghost use Rattle.sdh_laws.specs.Resting.Laws.{CalmGoesOn, StepsLeaveAtRest, Rest
 pub fn calm_goes_on()
     ensures { CalmGoesOn }
 {
-    sdh_settling::still_rings_are_settled();
+    sdh_signal::still_rings_are_settled();
 }
 
 /// Once a settle step answered, ring and fibres are at rest.
 pub fn steps_leave_at_rest()
     ensures { StepsLeaveAtRest }
 {
-    sdh_settling::still_rings_are_settled();
+    sdh_signal::still_rings_are_settled();
 }
 
 /// A round of a ring at rest is calm, delivers what is owed, and leaves the ring at rest.

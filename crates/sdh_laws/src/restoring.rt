@@ -9,21 +9,21 @@ ghost use Rattle.sdh_laws.specs.Restoring.Laws.{StretchesAreRestoredSoon};
 pub fn rings_are_restored_soon()
     ensures { RingsAreRestoredSoon }
 {
-    sdh_settling::rings_settle();
+    sdh_signal::rings_settle();
 }
 
 /// Where no controller misses a turn, traffic is restored from the larger of round numbers 12n + 2 and 8n + 61 on.
 pub fn free_rings_are_restored_soon()
     ensures { FreeRingsAreRestoredSoon }
 {
-    sdh_settling::rings_settle();
+    sdh_signal::rings_settle();
 }
 
 /// Where no controller misses a turn and no slip waits, traffic is restored from number 12n + 2 on.
 pub fn unslipped_rings_are_restored_soon()
     ensures { UnslippedRingsAreRestoredSoon }
 {
-    sdh_settling::rings_settle();
+    sdh_signal::rings_settle();
 }
 
 /// From every whole ring on, each port delivers what it is owed from a round of its own on: by the hops of its circuit,
@@ -31,26 +31,26 @@ pub fn unslipped_rings_are_restored_soon()
 pub fn ports_are_owed_soon()
     ensures { PortsAreOwedSoon }
 {
-    sdh_settling::rings_settle();
+    sdh_signal::rings_settle();
 }
 
 /// Where no controller is held and no slip waits, each port soon delivers what it is owed, circuit by circuit.
 pub fn unslipped_ports_are_owed_soon()
     ensures { UnslippedPortsAreOwedSoon }
 {
-    sdh_settling::rings_settle();
+    sdh_signal::rings_settle();
 }
 
 /// A settle step of at least 12n + 102 rounds leaves the ring restored, though no window ended.
 pub fn unsettled_rings_are_restored()
     ensures { UnsettledRingsAreRestored }
 {
-    sdh_settling::rings_settle();
+    sdh_signal::rings_settle();
 }
 
 /// Traffic is restored after any stretches of changes and rounds, where the last one has at least 12n + 102 rounds.
 pub fn stretches_are_restored_soon()
     ensures { StretchesAreRestoredSoon }
 {
-    sdh_settling::rings_settle();
+    sdh_signal::rings_settle();
 }

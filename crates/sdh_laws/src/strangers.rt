@@ -42,14 +42,14 @@ pub fn nodes_aside_may_be_held()
 pub fn nodes_that_do_not_pass_may_be_held()
     ensures { NodesThatDoNotPassMayBeHeld }
 {
-    sdh_settling::still_rings_are_settled();
+    sdh_signal::still_rings_are_settled();
 }
 
 /// What a settle step leaves is vouched for, whatever the ring carried before, and whichever controllers were held.
 pub fn settled_rings_are_vouched_for()
     ensures { SettledRingsAreVouchedFor }
 {
-    sdh_settling::still_rings_are_settled();
+    sdh_signal::still_rings_are_settled();
 }
 
 /// No port meets a stranger in any round of a step whose own changes hold no controller of a node that passes traffic
@@ -57,7 +57,7 @@ pub fn settled_rings_are_vouched_for()
 pub fn a_hold_spoils_its_own_step_alone()
     ensures { AHoldSpoilsItsOwnStepAlone }
 {
-    sdh_settling::still_rings_are_settled();
+    sdh_signal::still_rings_are_settled();
 }
 
 /// Every whole ring becomes vouched for, whatever it carries: a fixed number of rounds after the last turn that a

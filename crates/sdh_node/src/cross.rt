@@ -17,7 +17,7 @@ ghost use Rattle.sdh_node.specs.Crossing.{lines_of, leads, drops, all_delivered}
 ghost use Rattle.sdh_terminal.specs.Lines.{IsFeeder};
 
 use crate::receiver::Receiver;
-use sdh_bridge::{Origin, drop_origin, protection_origin, working_origin};
+use sdh_squelch::{Origin, drop_origin, protection_origin, working_origin};
 use sdh_circuits::{CircuitMap, Slot};
 use sdh_frame::FrameBuf;
 use sdh_nodestate::{Heard, Needs, NodeState, Sent, same_shape, shape_of, start, step};

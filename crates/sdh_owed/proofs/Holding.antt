@@ -8,8 +8,8 @@ use Rattle.sdh_nodestate.specs.declared.NodeState.TheVariants as state
 use Rattle.sdh_plant.specs.Fibres.{Fibres}
 use Rattle.sdh_request.specs.declared.settings.Settings.{Settings}
 use Rattle.sdh_restoration.proofs.Asked.{length-requests}
-use Rattle.sdh_settling.specs.Laws.{StillRingsAreSettled}
-use Rattle.sdh_settling.specs.Settled.{settled}
+use Rattle.sdh_signal.specs.Laws.{StillRingsAreSettled}
+use Rattle.sdh_signal.specs.Settled.{settled}
 use Rattle.sdh_node.specs.Receiving.{commanded_by}
 use Rattle.sdh_node.specs.Node.{at_receiving, held_for, slips_at}
 use Rattle.sdh_world.specs.Held.{node_at, AtEach, place_of_port}

@@ -14,8 +14,8 @@ use Rattle.sdh_request.proofs.Highest.{at_least_sf}
 use Rattle.sdh_restoration.specs.Applied.{is_applied, is_any_applied}
 use Rattle.sdh_restoration.specs.History.{SideHistory, shows_degraded, defect_at, last_end, local_request}
 use Rattle.sdh_restoration.proofs.Asked.{length-requests, asked_is_applied}
-use Rattle.sdh_settling.specs.Laws.{StillRingsAreSettled}
-use Rattle.sdh_settling.specs.Settled.{far_end, is_outranked, settled_by, settled}
+use Rattle.sdh_signal.specs.Laws.{StillRingsAreSettled}
+use Rattle.sdh_signal.specs.Settled.{far_end, is_outranked, settled_by, settled}
 use Rattle.sdh_plant.specs.Fibres.{Fibres, IsHonest}
 use Rattle.sdh_world.specs.Rounds.{World}
 use Rattle.sdh_world.specs.Runs.{run, course}

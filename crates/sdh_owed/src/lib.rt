@@ -38,7 +38,7 @@ pub fn healthy_scripts()
 pub fn courses_are_told()
     ensures { CoursesAreTold }
 {
-    sdh_settling::still_rings_are_settled();
+    sdh_signal::still_rings_are_settled();
     sdh_laws::strangers::a_hold_spoils_its_own_step_alone();
     sdh_laws::restoring::stretches_are_restored_soon();
     sdh_laws::restoring::free_rings_are_restored_soon();
@@ -66,7 +66,7 @@ pub fn three_meet_no_strangers()
     ensures { ThreeMeetNoStrangers }
 {
     sdh_laws::converging::a_ring_occurs();
-    sdh_settling::still_rings_are_settled();
+    sdh_signal::still_rings_are_settled();
     sdh_laws::strangers::a_hold_spoils_its_own_step_alone();
     sdh_laws::converging::windows_come_soon();
 }

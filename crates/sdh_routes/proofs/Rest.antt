@@ -11,9 +11,9 @@ use Rattle.sdh_ringmap.specs.declared.Side.{Side}
 use Rattle.sdh_ringmap.specs.declared.Side.TheVariants.{West, East}
 use Rattle.sdh_nodestate.specs.declared.NodeState.{NodeState}
 use Rattle.sdh_restoration.specs.Applied.{highest, has_one_leader, applies, is_applied, is_any_applied}
-use Rattle.sdh_settling.specs.Settled.{next_positions, far_end, is_outranked, settled_by, settled}
+use Rattle.sdh_signal.specs.Settled.{next_positions, far_end, is_outranked, settled_by, settled}
 use Rattle.sdh_ringmap.specs.Steps.{going, way}
-use Rattle.sdh_settling.proofs.FarEnds.{first_position}
+use Rattle.sdh_signal.proofs.FarEnds.{first_position}
 use Rattle.sdh_restoration.proofs.Highest.{IsTop, top_of}
 use Rattle.sdh_routes.specs.Law.{is_pass}
 use Rattle.sdh_routes.proofs.Views.{PassThrough, Idle, far_at, side_state}

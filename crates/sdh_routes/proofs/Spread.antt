@@ -1,9 +1,9 @@
 -- Steadiness spreads from the ports span by span, and so reaches every AU-4 of the ring.
 use Rattle.std.proofs.Common.{ℕ, ◌+◌, ◌*◌, ◌<◌, ◌≤◌, suc, zero, List, length, sym, subst, arith}
-use Rattle.sdh_bridge.specs.declared.Origin.{Origin}
+use Rattle.sdh_squelch.specs.declared.connecting.Origin.{Origin}
 use Rattle.sdh_circuits.specs.Provisioned.{Provisioned}
 use Rattle.sdh_circuits.specs.Provisioning.{AreCircuits}
-use Rattle.sdh_settling.specs.Settled.{settled}
+use Rattle.sdh_signal.specs.Settled.{settled}
 use Rattle.sdh_routes.proofs.Inhabited.{below-some}
 use Rattle.sdh_routes.proofs.Rest.{resting}
 use Rattle.sdh_routes.proofs.Inside.{back-inside}

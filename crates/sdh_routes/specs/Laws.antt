@@ -11,8 +11,8 @@ use Rattle.sdh_squelch.specs.Table.{circuit_on}
 use Rattle.sdh_nodestate.specs.declared.NodeState.{NodeState}
 use Rattle.sdh_nodestate.specs.declared.NodeState.TheVariants as state
 use Rattle.sdh_restoration.specs.Applied.{is_applied}
-use Rattle.sdh_settling.specs.Settled.{settled}
-use Rattle.sdh_bridge.specs.declared.Origin.{Origin}
+use Rattle.sdh_signal.specs.Settled.{settled}
+use Rattle.sdh_squelch.specs.declared.connecting.Origin.{Origin}
 use Rattle.sdh_ringmap.specs.Steps.{going}
 use Rattle.sdh_circuits.specs.Ends.{other_end}
 use Rattle.sdh_routes.specs.Walks.{Stand, stand, port, IsOver, Leads, working_in, carries_in, delivery}

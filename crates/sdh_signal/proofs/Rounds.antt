@@ -12,14 +12,14 @@ use Rattle.sdh_nodestate.specs.declared.NodeState.{NodeState}
 use Rattle.sdh_nodestate.specs.Conditions.{MayNeed}
 use Rattle.sdh_nodestate.specs.Words.{first_words, IsSourced}
 use Rattle.sdh_nodestate.specs.Rules.{state_after, sent_after}
-use Rattle.sdh_settling.specs.Settled.{settled_states}
-use Rattle.sdh_settling.specs.Signals.{Signals, Filters, no_filters, no_needs, filters_after, is_held, state_in, words_in, scene_at, round}
-use Rattle.sdh_settling.specs.Signals.{free_round, MayGo, requests_in}
-use Rattle.sdh_settling.specs.Laws.{ChangesNoWord}
-use Rattle.sdh_settling.proofs.Lists.{map_from-same}
-use Rattle.sdh_settling.proofs.Rounds.{filters_in}
-use Rattle.sdh_settling.proofs.StillRings.{may_go_on}
-use Rattle.sdh_settling.proofs.Fixpoint.{still_rings_are_settled, free_rounds}
+use Rattle.sdh_signal.specs.Settled.{settled_states}
+use Rattle.sdh_signal.specs.Signals.{Signals, Filters, no_filters, no_needs, filters_after, is_held, state_in, words_in, scene_at, round}
+use Rattle.sdh_signal.specs.Signals.{free_round, MayGo, requests_in}
+use Rattle.sdh_signal.specs.Laws.{ChangesNoWord}
+use Rattle.sdh_signal.proofs.Placewise.{map_from-same}
+use Rattle.sdh_signal.proofs.RunRounds.{filters_in}
+use Rattle.sdh_signal.proofs.StillRings.{may_go_on}
+use Rattle.sdh_signal.proofs.Fixpoint.{still_rings_are_settled, free_rounds}
 use Rattle.sdh_signal.specs.SignalRing.{ring_of, NoneHeld, LeavesWords, WereUnchanged, IsRing}
 use Rattle.sdh_signal.specs.Nodes.{filters_with, scene_through, next_state, next_sent}
 

@@ -9,7 +9,7 @@ use Rattle.sdh_nodestate.specs.declared.Needs.{Needs}
 use Rattle.sdh_nodestate.specs.declared.Sent.{Sent}
 use Rattle.sdh_nodestate.specs.Conditions.{MayNeed, MayStep}
 use Rattle.sdh_nodestate.specs.Filtering.{Brought, heard_of, hears}
-use Rattle.sdh_settling.specs.Signals.{Filters, no_filters, no_needs}
+use Rattle.sdh_signal.specs.Signals.{Filters, no_filters, no_needs}
 use Rattle.sdh_signal.specs.Nodes.{filters_with, scene_through, IsSilent}
 
 nothing_heard : (b : Brought) → b.last ≡ None → hears b ≡ None

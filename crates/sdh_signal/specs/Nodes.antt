@@ -7,7 +7,7 @@ use Rattle.sdh_nodestate.specs.declared.NodeState.{NodeState}
 use Rattle.sdh_nodestate.specs.declared.NodeState.TheVariants.{Idle}
 use Rattle.sdh_nodestate.specs.Filtering.{with_brought}
 use Rattle.sdh_nodestate.specs.Rules.{Scene, scene, state_after, sent_after}
-use Rattle.sdh_settling.specs.Signals.{Filters, no_filters, incoming, heard_through, is_held, unsaid}
+use Rattle.sdh_signal.specs.Signals.{Filters, no_filters, incoming, heard_through, is_held, unsaid}
 
 -- what the last three rounds brought to position p of a ring of n, after one more round, where these words are on their way
 abbrev pub filters_with : List Sent → ℕ → ℕ → Needs → Filters → Filters

@@ -7,8 +7,8 @@ use Rattle.sdh_nodestate.specs.declared.Sent.{Sent}
 use Rattle.sdh_nodestate.specs.declared.NodeState.{NodeState}
 use Rattle.sdh_nodestate.specs.declared.NodeState.TheVariants.{Idle}
 use Rattle.sdh_nodestate.specs.Words.{first_words, IsSourced}
-use Rattle.sdh_settling.specs.Signals.{Filters, no_filters, Signals, free_round}
-use Rattle.sdh_settling.specs.Laws.{ChangesNoWord}
+use Rattle.sdh_signal.specs.Signals.{Filters, no_filters, Signals, free_round}
+use Rattle.sdh_signal.specs.Laws.{ChangesNoWord}
 
 -- The ring; how many rounds have run (a count that stands still at 2 ^ 64 - 1); how many of the last rounds, counted up to 3, came
 -- after another one, held no node and changed no word; and whether the last round changed no state.

@@ -1,6 +1,6 @@
 //! Signalling without frames: a ring whose nodes send each other K words, one on each side in each round. A word comes in one
-//! round later, and counts where three rounds in a row brought it. `sdh_settling` has the definition of a round, and the law
-//! that a still ring is in the settled states.
+//! round later, and counts where three rounds in a row brought it. `specs/Signals.antt` has the definition of a round. The
+//! module `settling` has the laws of signalling, among them that a still ring is in the settled states.
 #![tactic(auto)]
 
 ghost use Rattle.std.specs.Prelude.{◌≡◌, ◌↔◌, ◌+◌, ◌≤◌, ◌<◌, ◌-◌, ◌^◌, min, nat_lt, if◌then◌else◌, [], length, All, IfOk, IsTrue};
@@ -8,11 +8,14 @@ ghost use Rattle.std.specs.Prelude.{Some, slice_get};
 ghost use Rattle.sdh_basics.specs.Cells.{cells};
 ghost use Rattle.sdh_nodestate.specs.Conditions.{MayNeed};
 ghost use Rattle.sdh_nodestate.specs.Words.{first_words};
-ghost use Rattle.sdh_settling.specs.Settled.{settled_states};
-ghost use Rattle.sdh_settling.specs.Signals.{no_filters, round, requests_in};
+ghost use Rattle.sdh_signal.specs.Settled.{settled_states};
+ghost use Rattle.sdh_signal.specs.Signals.{no_filters, round, requests_in};
 ghost use Rattle.sdh_signal.specs.SignalRing.{new_ring, NoneHeld, LeavesWords, IsStill};
 
 mod nodes;
+mod settling;
+
+pub use crate::settling::{free_rounds, not_all_pass_through, relayed_words_lead_back, rings_settle, runs_settle, still_rings_are_settled, words_stay};
 
 use crate::nodes::{Hearing, hear_all, is_free, step_all};
 use sdh_nodestate::{Needs, NodeState, Sent, first_word, start};

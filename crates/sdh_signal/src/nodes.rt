@@ -3,7 +3,7 @@ ghost use Rattle.std.specs.Prelude.{◌≡◌, ◌≤◌, ◌<◌, ◌↔◌, �
 ghost use Rattle.sdh_basics.specs.Indexed.{map_from};
 ghost use Rattle.sdh_nodestate.specs.Rules.{state_after, sent_after};
 ghost use Rattle.sdh_nodestate.specs.Conditions.{MayNeed, MayStep};
-ghost use Rattle.sdh_settling.specs.Signals.{no_filters, no_needs, incoming, heard_through};
+ghost use Rattle.sdh_signal.specs.Signals.{no_filters, no_needs, incoming, heard_through};
 ghost use Rattle.sdh_signal.specs.SignalRing.{NoneHeld};
 ghost use Rattle.sdh_signal.specs.Nodes.{filters_with, scene_through, next_state, next_sent, IsSilent};
 
@@ -20,7 +20,7 @@ pub struct Hearing {
 }
 
 impl Model for Hearing {
-    ghost use Rattle.sdh_settling.specs.Signals.{Filters};
+    ghost use Rattle.sdh_signal.specs.Signals.{Filters};
 
     ghost Value = { Filters };
 

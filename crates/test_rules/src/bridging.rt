@@ -4,7 +4,7 @@ ghost use Rattle.std.specs.Prelude.{◌≡◌, ◌<◌, length, if◌then◌else
 ghost use Rattle.sdh_nodestate.specs.FarEnds.{far_of, IsElsewhere};
 ghost use Rattle.std.specs.Option.{is_none};
 
-use sdh_bridge::{Origin, drop_origin, protection_origin, working_origin};
+use sdh_squelch::{Origin, drop_origin, protection_origin, working_origin};
 use sdh_circuits::{Asked, CircuitMap, End, PortId, Slot};
 use sdh_kbytes::{K, decode};
 use sdh_nodestate::{Heard, Needs, NodeState, start, step};

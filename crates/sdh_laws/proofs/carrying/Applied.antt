@@ -15,7 +15,7 @@ use Rattle.sdh_restoration.specs.Applied.{is_applied}
 use Rattle.sdh_restoration.proofs.Asked.{length-requests, asked_is_applied}
 use Rattle.sdh_request.specs.Kept as local
 use Rattle.sdh_request.specs.Kept.{kept_request}
-use Rattle.sdh_settling.specs.Signals.{request_on, no_needs}
+use Rattle.sdh_signal.specs.Signals.{request_on, no_needs}
 use Rattle.sdh_node.specs.Crossing.{is_failed}
 use Rattle.sdh_node.specs.Node.{receiving_on, needed}
 use Rattle.sdh_world.specs.Rounds.{World, round}

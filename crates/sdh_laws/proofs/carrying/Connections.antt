@@ -8,8 +8,8 @@ use Rattle.sdh_ringmap.specs.declared.Side.TheVariants.{West}
 use Rattle.sdh_circuits.specs.Provisioned.{Provisioned}
 use Rattle.sdh_squelch.specs.Table.{circuits_at}
 use Rattle.sdh_nodestate.specs.declared.NodeState.{NodeState}
-use Rattle.sdh_bridge.specs.declared.Origin.TheVariants.{Protection}
-use Rattle.sdh_bridge.specs.Connections.{stands_for, leaves_working, leaves_protection}
+use Rattle.sdh_squelch.specs.declared.connecting.Origin.TheVariants.{Protection}
+use Rattle.sdh_squelch.specs.Connections.{stands_for, leaves_working, leaves_protection}
 use Rattle.sdh_routes.specs.Walks.{stands_in, working_in, protection_in}
 use Rattle.sdh_request.specs.declared.settings.Settings.{Settings}
 use Rattle.sdh_node.specs.Receiving.{after_intake, after_overhead}

@@ -8,8 +8,8 @@ use Rattle.sdh_circuits.specs.Provisioned.{Provisioned, arc_of, customer_at}
 use Rattle.sdh_circuits.specs.Provisioning.{Provisioning, AreCircuits}
 use Rattle.sdh_nodestate.specs.declared.NodeState.{NodeState}
 use Rattle.sdh_restoration.specs.Applied.{span_requests, is_applied}
-use Rattle.sdh_settling.specs.Settled.{settled, settled_states}
-use Rattle.sdh_settling.specs.Laws.{StillRingsAreSettled}
+use Rattle.sdh_signal.specs.Settled.{settled, settled_states}
+use Rattle.sdh_signal.specs.Laws.{StillRingsAreSettled}
 use Rattle.sdh_world.specs.Rounds.{World, round}
 use Rattle.sdh_world.specs.Runs.{run, course}
 use Rattle.sdh_world.specs.Quiet.{IsCalm, EndsWindow}

@@ -5,10 +5,10 @@ use Rattle.std.proofs.lemmas.Bool.{cases_Bool}
 use Rattle.sdh_terms.specs.Rates.{n_of}
 use Rattle.sdh_ringmap.specs.Places.{opposite, neighbour, span_at}
 use Rattle.sdh_ringmap.specs.declared.Side.{Side}
-use Rattle.sdh_bridge.specs.declared.Origin.{Origin}
-use Rattle.sdh_bridge.specs.declared.Origin.TheVariants.{Add, Working, Protection, Ais}
+use Rattle.sdh_squelch.specs.declared.connecting.Origin.{Origin}
+use Rattle.sdh_squelch.specs.declared.connecting.Origin.TheVariants.{Add, Working, Protection, Ais}
 use Rattle.sdh_restoration.specs.Applied.{is_applied}
-use Rattle.sdh_settling.specs.Settled.{settled}
+use Rattle.sdh_signal.specs.Settled.{settled}
 use Rattle.sdh_payload.specs.Outlet.{Outlet}
 use Rattle.sdh_routes.specs.Walks.{IsArrival, back_from}
 use Rattle.sdh_routes.specs.Law.{IsFree}

@@ -10,9 +10,9 @@ use Rattle.sdh_ringmap.specs.Places.{neighbour, opposite}
 use Rattle.sdh_kbytes.specs.declared.K.{K}
 use Rattle.sdh_nodestate.specs.declared.Needs.{Needs}
 use Rattle.sdh_nodestate.specs.declared.Sent.{Sent}
-use Rattle.sdh_settling.specs.Settled.{settled_states}
-use Rattle.sdh_settling.specs.Signals.{requests_in, request_on, no_needs}
-use Rattle.sdh_settling.specs.Laws.{RingsSettle}
+use Rattle.sdh_signal.specs.Settled.{settled_states}
+use Rattle.sdh_signal.specs.Signals.{requests_in, request_on, no_needs}
+use Rattle.sdh_signal.specs.Laws.{RingsSettle}
 use Rattle.sdh_terms.specs.declared.Condition.{Condition}
 use Rattle.sdh_nodestate.specs.Filtering.{Brought, with_brought, hears, heard_of}
 use Rattle.sdh_node.specs.Node.{Node, receiving_on, sending_on, word_of, sent_of}

@@ -10,8 +10,8 @@ use Rattle.sdh_ringmap.specs.declared.Side.TheVariants.{West, East}
 use Rattle.sdh_ringmap.specs.Places.{neighbour, opposite, position_of}
 use Rattle.sdh_circuits.specs.Provisioned.{Provisioned}
 use Rattle.sdh_circuits.specs.Provisioning.{Provisioning}
-use Rattle.sdh_bridge.specs.declared.Origin.{Origin}
-use Rattle.sdh_bridge.specs.declared.Origin.TheVariants.{Add, Working, Protection, Ais}
+use Rattle.sdh_squelch.specs.declared.connecting.Origin.{Origin}
+use Rattle.sdh_squelch.specs.declared.connecting.Origin.TheVariants.{Add, Working, Protection, Ais}
 use Rattle.sdh_routes.specs.Law.{Ends, all_idle}
 use Rattle.sdh_routes.specs.Walks.{Stand, stand, IsOver, IsArrival, Leads, back_from, working_in, protection_in}
 use Rattle.sdh_routes.proofs.Idle.{idle_walks_are_short}

@@ -14,7 +14,7 @@ use Rattle.sdh_laws.proofs.carrying.Owed.{port_is_there}
 use Rattle.sdh_restoration.specs.Applied.{is_applied}
 use Rattle.sdh_circuits.specs.Ends.{other_end, port_id}
 use Rattle.sdh_laws.specs.Carrying.Laws.{due_by_clocks}
-use Rattle.sdh_settling.specs.Laws.{StillRingsAreSettled}
+use Rattle.sdh_signal.specs.Laws.{StillRingsAreSettled}
 use Rattle.sdh_world.specs.Held.{outlet_at}
 use Rattle.sdh_world.specs.Rounds.{World}
 use Rattle.sdh_world.specs.Runs.{run, course}

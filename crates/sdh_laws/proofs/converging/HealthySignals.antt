@@ -17,7 +17,7 @@ use Rattle.sdh_request.specs.declared.Defect.TheVariants as defect
 use Rattle.sdh_circuits.specs.Provisioning.{Provisioning}
 use Rattle.sdh_nodestate.specs.declared.NodeState.TheVariants as state
 use Rattle.sdh_nodestate.specs.Rules.{word_on, word, state_after, own_id, id_on}
-use Rattle.sdh_settling.specs.Signals.{no_needs}
+use Rattle.sdh_signal.specs.Signals.{no_needs}
 use Rattle.sdh_terms.specs.declared.Condition.TheVariants.{Clear}
 use Rattle.sdh_plant.specs.Fibres.{Fibres}
 use Rattle.sdh_terms.specs.Fibres.{fibre_to, is_cut, degraded_by}

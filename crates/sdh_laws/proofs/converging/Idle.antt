@@ -16,7 +16,7 @@ use Rattle.sdh_nodestate.specs.declared.NodeState.TheVariants as state
 use Rattle.sdh_nodestate.specs.Rules.{Scene, word_on, local, is_from_neighbour, short, long, long_word, stronger, weight, relayed}
 use Rattle.sdh_nodestate.specs.Rules.{weight_of, chosen, choose, rest, switches, switched, mark_on, fails, word, word_by, state_after}
 use Rattle.sdh_nodestate.specs.Rules.{own_id, id_on, one_side}
-use Rattle.sdh_settling.specs.Signals.{no_needs}
+use Rattle.sdh_signal.specs.Signals.{no_needs}
 
 -- a word that asks for nothing, or none
 abbrev pub IsQuiet : Option K → Type 0

@@ -7,7 +7,7 @@ use Rattle.sdh_ringmap.specs.declared.Side.TheVariants.{West, East}
 use Rattle.sdh_circuits.specs.Naming.{is_name}
 use Rattle.sdh_circuits.specs.Provisioned.{Provisioned}
 use Rattle.sdh_circuits.specs.Provisioning.{IsInRing, IsInSlots, HasOffsets, AreCircuits}
-use Rattle.sdh_settling.specs.Laws.{RingsSettle}
+use Rattle.sdh_signal.specs.Laws.{RingsSettle}
 use Rattle.sdh_terms.specs.declared.Condition.TheVariants.{Cut, Degraded}
 use Rattle.sdh_circuits.specs.declared.End.TheVariants.{A}
 use Rattle.sdh_circuits.specs.Ends.{port_id}

@@ -11,10 +11,10 @@ use Rattle.sdh_ringmap.specs.Places.{neighbour, opposite}
 use Rattle.sdh_ringmap.proofs.Sides.{neighbour_below}
 use Rattle.sdh_circuits.specs.Provisioned.{Provisioned}
 use Rattle.sdh_circuits.specs.Provisioning.{AreCircuits}
-use Rattle.sdh_bridge.specs.declared.Origin.{Origin}
-use Rattle.sdh_bridge.specs.declared.Origin.TheVariants.{Add, Working, Protection, Ais}
+use Rattle.sdh_squelch.specs.declared.connecting.Origin.{Origin}
+use Rattle.sdh_squelch.specs.declared.connecting.Origin.TheVariants.{Add, Working, Protection, Ais}
 use Rattle.sdh_nodestate.specs.declared.NodeState.{NodeState}
-use Rattle.sdh_settling.specs.Settled.{settled}
+use Rattle.sdh_signal.specs.Settled.{settled}
 use Rattle.sdh_routes.specs.Walks.{IsOver, IsArrival, back_from, working_in, protection_in}
 use Rattle.sdh_routes.specs.Rounds.{Spreads}
 use Rattle.sdh_routes.proofs.Spread.{steadiness_spreads}

@@ -1,6 +1,6 @@
 -- Windows after stretches.
 use Rattle.std.proofs.Common.{sym, subst}
-use Rattle.sdh_settling.specs.Laws.{RingsSettle}
+use Rattle.sdh_signal.specs.Laws.{RingsSettle}
 use Rattle.sdh_laws.proofs.hearing.Changes.{new_worlds_are_whole}
 use Rattle.sdh_laws.proofs.hearing.Requests.{whole_stretches}
 use Rattle.sdh_laws.specs.Carrying.Windows.{HasCircuits}

@@ -18,12 +18,12 @@ use Rattle.sdh_nodestate.specs.Conditions.{MayNeed}
 use Rattle.sdh_nodestate.specs.Words.{IsSourced}
 use Rattle.sdh_nodestate.specs.Filtering.{Brought, with_brought}
 use Rattle.sdh_restoration.specs.Applied.{span_requests}
-use Rattle.sdh_settling.specs.Settled.{settled_states}
-use Rattle.sdh_settling.specs.Signals as signal
-use Rattle.sdh_settling.specs.Signals.{Filters, no_filters, Signals, fails_on, sent_on, on_their_way, incoming, filters_after}
-use Rattle.sdh_settling.specs.Signals.{heard_through, scene_at, state_in, words_in, free_round, MayGo, requests_in, request_on, no_needs}
-use Rattle.sdh_settling.specs.Laws.{ChangesNoWord, StillRingsAreSettled}
-use Rattle.sdh_settling.proofs.Fixpoint.{free_rounds}
+use Rattle.sdh_signal.specs.Settled.{settled_states}
+use Rattle.sdh_signal.specs.Signals as signal
+use Rattle.sdh_signal.specs.Signals.{Filters, no_filters, Signals, fails_on, sent_on, on_their_way, incoming, filters_after}
+use Rattle.sdh_signal.specs.Signals.{heard_through, scene_at, state_in, words_in, free_round, MayGo, requests_in, request_on, no_needs}
+use Rattle.sdh_signal.specs.Laws.{ChangesNoWord, StillRingsAreSettled}
+use Rattle.sdh_signal.proofs.Fixpoint.{free_rounds}
 use Rattle.std.proofs.Common.{◌≡◌, ◌≢◌, ℕ, zero, suc, ◌+◌, ◌-◌, ◌<◌, ◌≤◌, Bool, true, false, List, [], ◌∷◌, length, get_or, map, Some, None}
 use Rattle.std.proofs.Common.{refl, ap, sym, subst, ◌∙◌, arith, inl, inr}
 use Rattle.std.specs.Prelude.{nat_le, max, if◌then◌else◌, option_map, slice_get, All}

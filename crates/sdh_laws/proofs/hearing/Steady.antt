@@ -9,10 +9,10 @@ use Rattle.sdh_request.specs.History.{ends}
 use Rattle.sdh_request.specs.Kept as local
 use Rattle.sdh_request.specs.Kept.{kept_request}
 use Rattle.sdh_nodestate.specs.declared.Needs.{Needs}
-use Rattle.sdh_settling.specs.Settled.{settled_states}
-use Rattle.sdh_settling.specs.Signals as signal
-use Rattle.sdh_settling.specs.Signals.{Signals, requests_in}
-use Rattle.sdh_settling.specs.Laws.{RingsSettle, Settles}
+use Rattle.sdh_signal.specs.Settled.{settled_states}
+use Rattle.sdh_signal.specs.Signals as signal
+use Rattle.sdh_signal.specs.Signals.{Signals, requests_in}
+use Rattle.sdh_signal.specs.Laws.{RingsSettle, Settles}
 use Rattle.sdh_terms.specs.declared.Condition.{Condition}
 use Rattle.sdh_terms.specs.Fibres.{fibre_to, is_cut}
 use Rattle.sdh_plant.specs.Arrivals.{carried_on}

@@ -14,11 +14,11 @@ use Rattle.sdh_circuits.specs.Provisioning.{AreCircuits, HasOffsets}
 use Rattle.sdh_payload.specs.declared.chunk.ChunkForm.TheVariants.{Plain}
 use Rattle.sdh_payload.specs.Clock.{Clock, next_form, ticked, ticks}
 use Rattle.sdh_payload.proofs.Clocking.{goes_plain, plain_tick}
-use Rattle.sdh_bridge.specs.declared.Origin.{Origin}
-use Rattle.sdh_bridge.specs.declared.Origin.TheVariants.{Add, Working, Protection, Ais}
+use Rattle.sdh_squelch.specs.declared.connecting.Origin.{Origin}
+use Rattle.sdh_squelch.specs.declared.connecting.Origin.TheVariants.{Add, Working, Protection, Ais}
 use Rattle.sdh_nodestate.specs.declared.NodeState.{NodeState}
-use Rattle.sdh_settling.specs.Settled.{settled}
-use Rattle.sdh_settling.specs.Laws.{StillRingsAreSettled}
+use Rattle.sdh_signal.specs.Settled.{settled}
+use Rattle.sdh_signal.specs.Laws.{StillRingsAreSettled}
 use Rattle.sdh_routes.specs.Walks.{IsOver, IsArrival, back_from, working_in, protection_in}
 use Rattle.sdh_routes.specs.Rounds.{Spreads}
 use Rattle.sdh_routes.proofs.Spread.{steadiness_spreads}

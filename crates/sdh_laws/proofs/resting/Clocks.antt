@@ -9,7 +9,7 @@ use Rattle.sdh_circuits.specs.Provisioning.{HasOffsets}
 use Rattle.sdh_payload.specs.declared.chunk.ChunkForm.TheVariants.{Plain, Short, Long}
 use Rattle.sdh_payload.specs.Clock.{Clock, IsClock, waiting, next_form, after_form, ticked, ticks}
 use Rattle.sdh_payload.proofs.Clocking.{form_ticked}
-use Rattle.sdh_bridge.specs.declared.Origin.TheVariants.{Add}
+use Rattle.sdh_squelch.specs.declared.connecting.Origin.TheVariants.{Add}
 use Rattle.sdh_terminal.specs.Passing.{Input, no_input}
 use Rattle.sdh_terminal.specs.Tributaries.{Tributary, port_of, sent_in, input_by}
 use Rattle.sdh_terminal.specs.Tributaries.{action_of, sent_by}

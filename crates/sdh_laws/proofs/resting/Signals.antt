@@ -11,9 +11,9 @@ use Rattle.sdh_kbytes.specs.declared.K.{K}
 use Rattle.sdh_nodestate.specs.declared.Needs.{Needs}
 use Rattle.sdh_nodestate.specs.declared.Sent.{Sent}
 use Rattle.sdh_nodestate.specs.Filtering.{Brought, with_brought, hears}
-use Rattle.sdh_settling.specs.Settled.{settled_states}
-use Rattle.sdh_settling.specs.Signals.{Signals, free_round, request_on, no_needs}
-use Rattle.sdh_settling.specs.Laws.{StillRingsAreSettled}
+use Rattle.sdh_signal.specs.Settled.{settled_states}
+use Rattle.sdh_signal.specs.Signals.{Signals, free_round, request_on, no_needs}
+use Rattle.sdh_signal.specs.Laws.{StillRingsAreSettled}
 use Rattle.sdh_terms.specs.declared.Condition.{Condition}
 use Rattle.sdh_terms.specs.Fibres.{is_cut}
 use Rattle.sdh_node.specs.Same.{Compared}

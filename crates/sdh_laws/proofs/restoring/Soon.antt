@@ -9,13 +9,13 @@ use Rattle.sdh_circuits.specs.Provisioned.{Provisioned, arc_of}
 use Rattle.sdh_circuits.specs.declared.End.{End}
 use Rattle.sdh_payload.specs.Clock.{Clock, ticks}
 use Rattle.sdh_restoration.specs.Applied.{is_applied}
-use Rattle.sdh_settling.specs.Settled.{settled_states}
+use Rattle.sdh_signal.specs.Settled.{settled_states}
 use Rattle.sdh_circuits.specs.Ends.{other_end, port_id}
 use Rattle.sdh_laws.specs.Carrying.Laws.{due_by_clocks}
 use Rattle.sdh_restoration.specs.Routes.{hops}
 use Rattle.sdh_ringmap.specs.Arcs.{is_joined}
-use Rattle.sdh_settling.specs.Signals.{requests_in}
-use Rattle.sdh_settling.specs.Laws.{RingsSettle}
+use Rattle.sdh_signal.specs.Signals.{requests_in}
+use Rattle.sdh_signal.specs.Laws.{RingsSettle}
 use Rattle.sdh_node.specs.Crossing.{is_failed}
 use Rattle.sdh_node.specs.Stations.{adm}
 use Rattle.sdh_node.specs.Node.{receiving_on, is_held}

@@ -1,6 +1,6 @@
 -- A ring is restored soon after any changes and rounds, from a new ring on.
 use Rattle.std.proofs.Common.{◌≡◌, length, ap, sym, ◌∙◌, subst, arith}
-use Rattle.sdh_settling.specs.Laws.{RingsSettle}
+use Rattle.sdh_signal.specs.Laws.{RingsSettle}
 use Rattle.sdh_laws.specs.Carrying.Windows.{size_of, HasCircuits}
 use Rattle.sdh_laws.proofs.carrying.Settles.{v, u, whole_v, layout_v, restored_by_history}
 use Rattle.sdh_laws.proofs.carrying.Ways.{layout_run}

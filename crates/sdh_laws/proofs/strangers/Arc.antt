@@ -25,7 +25,7 @@ use Rattle.sdh_squelch.specs.Table.{circuit_from}
 use Rattle.sdh_squelch.proofs.LookUps.{entry}
 use Rattle.sdh_nodestate.specs.declared.NodeState.{NodeState}
 use Rattle.sdh_nodestate.specs.Rules.{Scene, word_on, local, word, state_after}
-use Rattle.sdh_bridge.specs.declared.Origin.TheVariants.{Working}
+use Rattle.sdh_squelch.specs.declared.connecting.Origin.TheVariants.{Working}
 use Rattle.sdh_pointer.specs.declared.reading.Action.{Action}
 use Rattle.sdh_pointer.specs.declared.reading.Action.TheVariants as action
 use Rattle.sdh_pointer.specs.declared.reading.Reading.{Reading}

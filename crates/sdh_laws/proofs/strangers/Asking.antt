@@ -11,8 +11,8 @@ use Rattle.sdh_ringmap.specs.declared.Side.{Side}
 use Rattle.sdh_ringmap.specs.declared.Side.TheVariants.{West, East}
 use Rattle.sdh_nodestate.specs.Rules.{Scene, local, word_on, short, far, chosen, is_relay, word, switches, state_by, state_after}
 use Rattle.sdh_routes.proofs.Passing.{is_open}
-use Rattle.sdh_settling.proofs.OneNode.{IsShortHeard, Kind, a_short, a_long, a_relay, kind, long_from, relayed_from, short_from, weight_is}
-use Rattle.sdh_settling.proofs.OneNode.{switch_none}
+use Rattle.sdh_signal.proofs.OneNode.{IsShortHeard, Kind, a_short, a_long, a_relay, kind, long_from, relayed_from, short_from, weight_is}
+use Rattle.sdh_signal.proofs.OneNode.{switch_none}
 
 -- a word that is no request of a neighbour over the span between
 abbrev pub Harmless : K → Type 0

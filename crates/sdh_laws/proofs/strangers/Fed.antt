@@ -14,8 +14,8 @@ use Rattle.sdh_circuits.specs.Ends.{port_id}
 use Rattle.sdh_squelch.specs.Table.{circuits_at, circuit_on}
 use Rattle.sdh_nodestate.specs.declared.NodeState.{NodeState}
 use Rattle.sdh_nodestate.specs.Rules.{Scene, long, word, state_after}
-use Rattle.sdh_bridge.specs.declared.Origin.{Origin}
-use Rattle.sdh_bridge.specs.declared.Origin.TheVariants.{Add, Working, Protection, Ais}
+use Rattle.sdh_squelch.specs.declared.connecting.Origin.{Origin}
+use Rattle.sdh_squelch.specs.declared.connecting.Origin.TheVariants.{Add, Working, Protection, Ais}
 use Rattle.sdh_payload.specs.Clock.{Clock}
 use Rattle.sdh_terminal.specs.Passing.{Input}
 use Rattle.sdh_terminal.specs.Tributaries.{added_by}
@@ -26,7 +26,7 @@ use Rattle.sdh_world.specs.Rounds.{World, round}
 use Rattle.sdh_rounds.specs.Rounds as any_round
 use Rattle.sdh_routes.specs.Walks.{port, port_at, working_in, protection_in}
 use Rattle.sdh_routes.proofs.Views.{AreOnRing, on-ring}
-use Rattle.sdh_settling.proofs.OneNode.{long_from}
+use Rattle.sdh_signal.proofs.OneNode.{long_from}
 use Rattle.sdh_laws.specs.Hearing.Laws.{IsWhole}
 use Rattle.sdh_laws.proofs.hearing.Nodes.{count, length-after}
 use Rattle.sdh_laws.proofs.hearing.Rounds.{neighbour_inside, scene_ids, scene_place, next_node, whole_round}

@@ -26,9 +26,9 @@ use Rattle.sdh_nodestate.specs.declared.NodeState.{NodeState}
 use Rattle.sdh_nodestate.specs.declared.NodeState.TheVariants as state
 use Rattle.sdh_nodestate.specs.Rules.{Scene, own_id, stronger, weight, long, relayed, word, own_word, state_after}
 use Rattle.sdh_nodestate.specs.Words.{IsMember}
-use Rattle.sdh_bridge.specs.declared.Origin.{Origin}
-use Rattle.sdh_bridge.specs.declared.Origin.TheVariants.{Working, Protection, Ais}
-use Rattle.sdh_bridge.specs.Connections.{may_carry}
+use Rattle.sdh_squelch.specs.declared.connecting.Origin.{Origin}
+use Rattle.sdh_squelch.specs.declared.connecting.Origin.TheVariants.{Working, Protection, Ais}
+use Rattle.sdh_squelch.specs.Connections.{may_carry}
 use Rattle.sdh_frame.specs.Aus.{Au}
 use Rattle.sdh_pointer.specs.declared.reading.Action.TheVariants as action
 use Rattle.sdh_terminal.specs.Passing.{Input}
@@ -47,8 +47,8 @@ use Rattle.sdh_laws.specs.Strangers.Vouched.{streams_to}
 use Rattle.sdh_laws.proofs.strangers.Content.{Fine}
 use Rattle.sdh_laws.proofs.strangers.Lags.{steps, steps_few, steps_going, steps_next, start_of, place_on, working_lag, protection_lag}
 use Rattle.sdh_laws.proofs.strangers.Lags.{source_in, spoken_lag, lag_less, AreLags}
-use Rattle.sdh_settling.proofs.Ends.{found}
-use Rattle.sdh_settling.proofs.OneNode.{word_long, relayed_from}
+use Rattle.sdh_signal.proofs.Ends.{found}
+use Rattle.sdh_signal.proofs.OneNode.{word_long, relayed_from}
 use Rattle.sdh_laws.proofs.strangers.Rules.{switched_one, passes_relays, relays, switched_says_long, long_word_is, heard_is_long, far_from}
 
 -- ---- the circuits on the two spans of a node

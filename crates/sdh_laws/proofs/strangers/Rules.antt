@@ -19,7 +19,7 @@ use Rattle.sdh_nodestate.specs.Rules.{Scene, own_id, weight, weight_of, long, lo
 use Rattle.sdh_nodestate.specs.Rules.{relay, rest, is_relay, word, switches, is_below, is_about, state_by, state_after}
 use Rattle.sdh_nodestate.specs.Urgency.{weight_on}
 use Rattle.sdh_nodestate.proofs.Urgency.{first_words_are_sent}
-use Rattle.sdh_settling.proofs.OneNode.{switch_top, relayed_from, long_from, word_relay, choose_long_top, choose_long}
+use Rattle.sdh_signal.proofs.OneNode.{switch_top, relayed_from, long_from, word_relay, choose_long_top, choose_long}
 use Rattle.sdh_routes.proofs.Views.{Switch}
 
 -- ---- the state by what is switched

@@ -8,7 +8,7 @@ use Rattle.sdh_circuits.specs.Provisioned.{Provisioned}
 use Rattle.sdh_circuits.specs.Provisioning.{Provisioning, AreCircuits}
 use Rattle.sdh_circuits.specs.declared.PortId.{PortId}
 use Rattle.sdh_circuits.specs.Ends.{port_id}
-use Rattle.sdh_settling.specs.Laws.{StillRingsAreSettled}
+use Rattle.sdh_signal.specs.Laws.{StillRingsAreSettled}
 use Rattle.sdh_payload.specs.Clock.{Clock, ticks}
 use Rattle.sdh_plant.specs.Fibres.{Fibres, IsHonest}
 use Rattle.sdh_request.specs.declared.settings.Settings.{Settings}

@@ -13,7 +13,7 @@ use Rattle.sdh_circuits.specs.declared.PortId.{PortId}
 use Rattle.sdh_circuits.specs.Ends.{port_id}
 use Rattle.sdh_squelch.specs.Table.{circuits_at}
 use Rattle.sdh_nodestate.specs.declared.NodeState.{NodeState}
-use Rattle.sdh_bridge.specs.declared.Origin.TheVariants.{Protection, Ais}
+use Rattle.sdh_squelch.specs.declared.connecting.Origin.TheVariants.{Protection, Ais}
 use Rattle.sdh_payload.specs.Clock.{Clock}
 use Rattle.sdh_terminal.specs.Passing.{Input}
 use Rattle.sdh_terminal.specs.Tributaries.{added_by}

@@ -17,8 +17,8 @@ use Rattle.sdh_squelch.specs.Table.{circuits_at}
 use Rattle.sdh_nodestate.specs.declared.NodeState.{NodeState}
 use Rattle.sdh_nodestate.specs.declared.NodeState.TheVariants as state
 use Rattle.sdh_nodestate.specs.Rules.{Scene, long, word, state_after}
-use Rattle.sdh_bridge.specs.declared.Origin.{Origin}
-use Rattle.sdh_bridge.specs.declared.Origin.TheVariants.{Protection, Ais}
+use Rattle.sdh_squelch.specs.declared.connecting.Origin.{Origin}
+use Rattle.sdh_squelch.specs.declared.connecting.Origin.TheVariants.{Protection, Ais}
 use Rattle.sdh_payload.specs.Clock.{Clock}
 use Rattle.sdh_terms.specs.Fibres.{fibre}
 use Rattle.sdh_plant.specs.Arrivals.{carried_on}
@@ -32,7 +32,7 @@ use Rattle.sdh_rounds.specs.Rounds as any_round
 use Rattle.sdh_routes.specs.Walks.{carries_in, stands_in, working_in, protection_in}
 use Rattle.sdh_routes.proofs.Views.{AreOnRing, Switch, on-ring}
 use Rattle.sdh_routes.proofs.Passing.{isolated-leaves, idle-leaves, bridged-leaves, blocked-leaves, away-leaves, passed-leaves}
-use Rattle.sdh_settling.proofs.OneNode.{long_from}
+use Rattle.sdh_signal.proofs.OneNode.{long_from}
 use Rattle.sdh_laws.specs.Hearing.Laws.{IsWhole}
 use Rattle.sdh_laws.proofs.hearing.Nodes.{informed, informed_out, count, nodes_after, length-after}
 use Rattle.sdh_laws.proofs.hearing.Rounds.{neighbour_inside, scene_ids, scene_place, next_node}

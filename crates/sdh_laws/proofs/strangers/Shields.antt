@@ -32,8 +32,8 @@ use Rattle.sdh_routes.proofs.Views.{AreOnRing, Switch}
 use Rattle.sdh_routes.proofs.OnArcs.{near_at, seen-on}
 use Rattle.sdh_routes.proofs.Meets.{meets-farther}
 use Rattle.sdh_routes.proofs.Passing.{is_open}
-use Rattle.sdh_settling.proofs.Ends.{found}
-use Rattle.sdh_settling.proofs.OneNode.{word_long}
+use Rattle.sdh_signal.proofs.Ends.{found}
+use Rattle.sdh_signal.proofs.OneNode.{word_long}
 use Rattle.sdh_laws.specs.Carrying.Windows.{layout_of, slots_of}
 use Rattle.sdh_laws.specs.Strangers.Vouched.{streams_to, HoldsAtMost, au_in, IsAside}
 use Rattle.sdh_laws.proofs.strangers.Lags.{steps, steps_going, source_in}

@@ -8,8 +8,8 @@ use Rattle.sdh_ringmap.specs.declared.Pos.{Pos}
 use Rattle.sdh_ringmap.specs.declared.Side.{Side}
 use Rattle.sdh_circuits.specs.declared.PortId.{PortId}
 use Rattle.sdh_squelch.specs.Table.{circuits_at}
-use Rattle.sdh_settling.specs.Laws.{StillRingsAreSettled}
-use Rattle.sdh_settling.specs.Settled.{settled}
+use Rattle.sdh_signal.specs.Laws.{StillRingsAreSettled}
+use Rattle.sdh_signal.specs.Settled.{settled}
 use Rattle.sdh_payload.specs.Clock.{Clock}
 use Rattle.sdh_terms.specs.Fibres.{fibre}
 use Rattle.sdh_plant.specs.Arrivals.{carried_on}

@@ -18,7 +18,7 @@ use Rattle.sdh_squelch.specs.Table.{OnSpan, circuits_at, circuit_on}
 use Rattle.sdh_nodestate.specs.declared.NodeState.{NodeState}
 use Rattle.sdh_nodestate.specs.Words.{IsMember}
 use Rattle.sdh_nodestate.specs.Rules.{Scene, long, word, state_after}
-use Rattle.sdh_bridge.specs.declared.Origin.TheVariants.{Working, Protection, Ais}
+use Rattle.sdh_squelch.specs.declared.connecting.Origin.TheVariants.{Working, Protection, Ais}
 use Rattle.sdh_pointer.specs.declared.reading.Action.TheVariants as action
 use Rattle.sdh_terms.specs.Fibres.{fibre}
 use Rattle.sdh_plant.specs.Arrivals.{carried_on}
@@ -41,7 +41,7 @@ use Rattle.sdh_routes.proofs.Views.{AreOnRing}
 use Rattle.sdh_laws.specs.Strangers.Vouched.{streams_to, spoken_of, au_in, IsAside}
 use Rattle.sdh_laws.proofs.strangers.Content.{IsCarried, Bears, Fine, bears_sent}
 use Rattle.sdh_laws.proofs.strangers.Lags.{place_on, working_lag, spoken_lag, AreLags}
-use Rattle.sdh_settling.proofs.OneNode.{long_from}
+use Rattle.sdh_signal.proofs.OneNode.{long_from}
 use Rattle.sdh_rounds.specs.Rounds as any_round
 use Rattle.sdh_laws.proofs.strangers.Arrivals.{span_across, lost, silent_first, au_received, ones_received, heard_came}
 use Rattle.sdh_laws.proofs.strangers.Nodes.{stands_fine, protection_fine, aside_stands, aside_protection, working_from}

@@ -8,7 +8,7 @@ use Rattle.sdh_circuits.specs.declared.End.{End}
 use Rattle.sdh_circuits.specs.Provisioning.{Provisioning, AreCircuits}
 use Rattle.sdh_plant.specs.Fibres.{Fibres}
 use Rattle.sdh_restoration.specs.Applied.{span_requests, is_applied}
-use Rattle.sdh_settling.specs.Settled.{settled_states}
+use Rattle.sdh_signal.specs.Settled.{settled_states}
 use Rattle.sdh_payload.specs.Outlet.{Outlet}
 use Rattle.sdh_restoration.specs.Due.{due}
 use Rattle.sdh_circuits.specs.Ends.{other_end}

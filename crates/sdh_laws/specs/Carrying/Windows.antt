@@ -5,10 +5,10 @@ use Rattle.sdh_ringmap.specs.Places.{span_at}
 use Rattle.sdh_ringmap.specs.declared.Side.{Side}
 use Rattle.sdh_circuits.specs.Provisioned.{Provisioned}
 use Rattle.sdh_circuits.specs.Provisioning.{AreCircuits}
-use Rattle.sdh_bridge.specs.declared.Origin.{Origin}
+use Rattle.sdh_squelch.specs.declared.connecting.Origin.{Origin}
 use Rattle.sdh_restoration.specs.Applied.{is_applied}
-use Rattle.sdh_settling.specs.Settled.{settled}
-use Rattle.sdh_settling.specs.Signals.{requests_in}
+use Rattle.sdh_signal.specs.Settled.{settled}
+use Rattle.sdh_signal.specs.Signals.{requests_in}
 use Rattle.sdh_request.specs.declared.settings.Settings.{Settings}
 use Rattle.sdh_terminal.specs.declared.matrix.Feeder.{Feeder}
 use Rattle.sdh_terminal.specs.Passing.{Input}

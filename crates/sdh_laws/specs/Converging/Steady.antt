@@ -1,7 +1,7 @@
 -- What stays the same from some round of a run on.
 use Rattle.std.specs.Prelude.{ℕ, suc, ◌≡◌, ◌<◌, ◌≤◌, List, length}
 use Rattle.sdh_ringmap.specs.declared.Side.{Side}
-use Rattle.sdh_bridge.specs.declared.Origin.{Origin}
+use Rattle.sdh_squelch.specs.declared.connecting.Origin.{Origin}
 use Rattle.sdh_terminal.specs.Passing.{Input}
 use Rattle.sdh_terminal.specs.Lines.{received}
 use Rattle.sdh_node.specs.Node.{receiving_on, sending_on}

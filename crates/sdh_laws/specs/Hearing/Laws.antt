@@ -5,9 +5,9 @@ use Rattle.sdh_ringmap.specs.Ids.{AreIds}
 use Rattle.sdh_ringmap.specs.declared.Side.{Side}
 use Rattle.sdh_circuits.specs.Provisioning.{Provisioning}
 use Rattle.sdh_restoration.specs.Applied.{span_requests}
-use Rattle.sdh_settling.specs.Settled.{settled_states}
-use Rattle.sdh_settling.specs.Signals as signal
-use Rattle.sdh_settling.specs.Signals.{MayGo, requests_in}
+use Rattle.sdh_signal.specs.Settled.{settled_states}
+use Rattle.sdh_signal.specs.Signals as signal
+use Rattle.sdh_signal.specs.Signals.{MayGo, requests_in}
 use Rattle.sdh_plant.specs.Fibres.{Arrival, Fibres, IsHonest}
 use Rattle.sdh_request.specs.declared.settings.Settings.{Settings}
 use Rattle.sdh_node.specs.Node.{receiving_on, is_held, compared, word_of}

@@ -21,7 +21,7 @@ use Rattle.sdh_world.specs.Clocks.{clocks_by}
 use Rattle.sdh_world.specs.Laws.{IsChangeOf, MayHappen}
 use Rattle.sdh_world.specs.Sides.{world_in}
 use Rattle.sdh_restoration.specs.Applied.{span_requests}
-use Rattle.sdh_settling.specs.Settled.{settled}
+use Rattle.sdh_signal.specs.Settled.{settled}
 use Rattle.sdh_promise.specs.Owed.{asked_in}
 use Rattle.sdh_laws.specs.Hearing.Laws.{IsWhole, MayStart}
 use Rattle.sdh_laws.specs.Carrying.Windows.{layout_of, HasCircuits}

@@ -3,8 +3,8 @@ use Rattle.sdh_ringmap.specs.Arcs.{is_clear, holds_span}
 use Rattle.sdh_ringmap.specs.Steps.{going}
 use Rattle.sdh_restoration.specs.Applied.{applies}
 use Rattle.sdh_restoration.specs.Routes.{hops}
-use Rattle.sdh_settling.specs.Settled.{settled, far_end}
-use Rattle.sdh_bridge.specs.Connections.{may_carry, stands_for, leaves_working, leaves_protection}
+use Rattle.sdh_signal.specs.Settled.{settled, far_end}
+use Rattle.sdh_squelch.specs.Connections.{may_carry, stands_for, leaves_working, leaves_protection}
 use Rattle.sdh_routes.specs.Walks.{delivery}
 use Rattle.sdh_routes.proofs.worked_rings.Goals as goal
 

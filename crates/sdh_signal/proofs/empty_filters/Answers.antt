@@ -1,7 +1,7 @@
 use Rattle.std.proofs.Common.{ap, sym, ◌∙◌}
 use Rattle.std.specs.Prelude.{[], ◌∷◌, ◌++◌}
 use Rattle.sdh_basics.proofs.CellsLaws.{cells-zero, cells-more}
-use Rattle.sdh_settling.specs.Signals.{no_filters}
+use Rattle.sdh_signal.specs.Signals.{no_filters}
 use Rattle.sdh_signal.proofs.empty_filters.Goals as goal
 
 pub loop-init : goal.loop-init

@@ -1,6 +1,6 @@
 use Rattle.std.proofs.Common.{length, ap, sym, subst, ◌∙◌}
 use Rattle.std.specs.Prelude.{[], IsTrue, nat_lt, if◌then◌else◌}
-use Rattle.sdh_settling.specs.Signals.{Signals, round}
+use Rattle.sdh_signal.specs.Signals.{Signals, round}
 use Rattle.sdh_signal.specs.SignalRing.{Signalling, IsRing}
 use Rattle.sdh_signal.proofs.Scenes.{all_silent}
 use Rattle.sdh_signal.proofs.Rounds.{made_by, is_round, words_left, may_go, ring_after, is_settled}

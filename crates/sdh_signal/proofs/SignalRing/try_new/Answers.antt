@@ -3,7 +3,7 @@ use Rattle.std.specs.Prelude.{length}
 use Rattle.sdh_basics.proofs.CellsLaws.{length-cells}
 use Rattle.sdh_nodestate.specs.declared.NodeState.TheVariants.{Idle}
 use Rattle.sdh_nodestate.specs.Words.{first_words}
-use Rattle.sdh_settling.specs.Signals.{no_filters}
+use Rattle.sdh_signal.specs.Signals.{no_filters}
 use Rattle.sdh_signal.proofs.Rounds.{first_sourced}
 use Rattle.sdh_signal.proofs.SignalRing.try_new.Goals as goal
 

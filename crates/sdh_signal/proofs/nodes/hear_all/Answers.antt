@@ -2,7 +2,7 @@ use Rattle.std.proofs.Common.{get_or, ap, ◌∙◌, sym, arith}
 use Rattle.std.specs.Prelude.{length}
 use Rattle.std.proofs.Math.ListN.{length-set}
 use Rattle.sdh_basics.proofs.Indexing.{place_more, rest_more}
-use Rattle.sdh_settling.specs.Signals.{no_filters, no_needs}
+use Rattle.sdh_signal.specs.Signals.{no_filters, no_needs}
 use Rattle.sdh_signal.specs.Nodes.{filters_with}
 use Rattle.sdh_signal.proofs.Lists.{was_at}
 use Rattle.sdh_signal.proofs.nodes.hear_all.Goals as goal

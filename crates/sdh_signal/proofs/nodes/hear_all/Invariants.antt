@@ -1,6 +1,6 @@
 use Rattle.std.proofs.Common.{◌≡◌, take, drop, length, get_or}
 use Rattle.sdh_basics.specs.Indexed.{map_from}
-use Rattle.sdh_settling.specs.Signals.{no_filters}
+use Rattle.sdh_signal.specs.Signals.{no_filters}
 use Rattle.sdh_signal.specs.Nodes.{filters_with}
 use Rattle.sdh_signal.proofs.nodes.hear_all.Given as goal
 

@@ -5,7 +5,7 @@ use Rattle.sdh_basics.proofs.Indexing.{place_more, rest_more}
 use Rattle.sdh_nodestate.specs.declared.NodeState.TheVariants.{Idle}
 use Rattle.sdh_nodestate.specs.Conditions.{MayNeed}
 use Rattle.sdh_nodestate.specs.Rules.{state_after, sent_after}
-use Rattle.sdh_settling.specs.Signals.{no_filters, no_needs, unsaid}
+use Rattle.sdh_signal.specs.Signals.{no_filters, no_needs, unsaid}
 use Rattle.sdh_signal.specs.Nodes.{scene_through, next_state, next_sent}
 use Rattle.sdh_signal.proofs.Lists.{same_more, was_at}
 use Rattle.sdh_signal.proofs.Scenes.{may_step, heard_silent, turned}

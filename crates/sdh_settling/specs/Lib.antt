@@ -1,4 +1,0 @@
-pub mod Settled
-pub mod Signals
-pub mod Runs
-pub mod Laws

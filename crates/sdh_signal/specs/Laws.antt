@@ -1,0 +1,91 @@
+-- The laws of signalling. They are promised by the functions of this crate, which have no work to do.
+use Rattle.std.specs.Prelude.{ℕ, suc, ◌≡◌, ◌≢◌, ◌+◌, ◌*◌, ◌<◌, ◌≤◌, Bool, true, false, List, length, slice_index, All}
+use Rattle.sdh_ringmap.specs.Places.{opposite}
+use Rattle.sdh_ringmap.specs.declared.Side.{Side}
+use Rattle.sdh_kbytes.specs.declared.K.{K}
+use Rattle.sdh_nodestate.specs.declared.Needs.{Needs}
+use Rattle.sdh_nodestate.specs.declared.NodeState.TheVariants as state
+use Rattle.sdh_nodestate.specs.Rules.{word, chosen, relay, state_after}
+use Rattle.sdh_signal.specs.Settled.{settled, settled_states}
+use Rattle.sdh_signal.specs.Signals.{Signals, round, free_round, rounds, MayGo, requests_in}
+use Rattle.sdh_signal.specs.Runs.{Run, at_round, IsRun, run_requests}
+use Rattle.sdh_ringmap.specs.Steps.{going}
+
+-- The fixpoint law, for runs: from round 4n + 7 on each node of a run is in the settled state of its position, with its
+-- far end, under the requests of the spans.
+abbrev pub RunsSettle : Type 0
+RunsSettle =
+    (run : Run) → IsRun run → (t p : ℕ) → 4 * length run.ids + 7 ≤ t → p < length run.ids
+    → state_after (at_round run t p) ≡ settled (run_requests run) p
+
+-- From round 5n + 7 on no node of a run sends another word than in the round before.
+abbrev pub WordsStay : Type 0
+WordsStay =
+    (run : Run) → IsRun run → (t p : ℕ) (d : Side) → 5 * length run.ids + 7 ≤ t → p < length run.ids
+    → word (at_round run (suc t) p) d ≡ word (at_round run t p) d
+
+-- a round in which no node is held, which isn't the first one, and which changes no word
+pub record ChangesNoWord (needs : List Needs) (s : Signals) : Type 0 where
+  pub running : s.running ≡ true
+  pub may : MayGo needs s
+  pub words : (free_round needs s).words ≡ s.words
+
+-- The fixpoint law, for a ring of signals: after three such rounds, one after the other, each node is in the settled state of its
+-- position, with its far end, under the requests of the needs in the last one.
+abbrev pub StillRingsAreSettled : Type 0
+StillRingsAreSettled =
+    (first second third : List Needs) (s : Signals) → ChangesNoWord first s → ChangesNoWord second (free_round first s)
+    → ChangesNoWord third (free_round second (free_round first s))
+    → (free_round third (free_round second (free_round first s))).states ≡ settled_states (requests_in third)
+
+-- a round that holds no node is one round, by both definitions of it
+abbrev pub FreeRounds : Type 0
+FreeRounds = (needs : List Needs) (held : List Bool) (s : Signals) → All (λ b. b ≡ false) held → round needs held s ≡ free_round needs s
+
+-- Convergence. A ring of signals whose needs stay and in which no node is held is in the settled states after 4n + 8
+-- rounds, and changes no word and no state after 5n + 8 rounds. That is so whatever its filters kept and whatever its
+-- words were, as long as each word had a source in the ring.
+pub record Settles (needs : List Needs) (s : Signals) : Type 0 where
+  pub settled : (t : ℕ) → 4 * length s.ids + 8 ≤ t → (rounds needs t s).states ≡ settled_states (requests_in needs)
+  pub words : (t : ℕ) → 5 * length s.ids + 8 ≤ t → (rounds needs (suc t) s).words ≡ (rounds needs t s).words
+
+abbrev pub RingsSettle : Type 0
+RingsSettle = (needs : List Needs) (s : Signals) → MayGo needs s → Settles needs s
+
+-- no node of the run sends another word in round t + 1 than in round t
+abbrev pub IsStillAfter : Run → ℕ → Type 0
+IsStillAfter run t = (p : ℕ) (d : Side) → p < length run.ids → word (at_round run (suc t) p) d ≡ word (at_round run t p) d
+
+-- in round t, p sends on to the other side what comes in on side d
+abbrev pub Relays : Run → ℕ → ℕ → Side → Type 0
+Relays run t p d = chosen (at_round run t p) (opposite d) ≡ relay
+
+-- the word that p then sends on the other side
+abbrev pub passed : Run → ℕ → ℕ → Side → K
+passed run t p d = word (at_round run t p) (opposite d)
+
+-- The word that p relays from its side d leads back, node by node on that side, to a node that sends it as its own in
+-- the same round: that many steps away, and with fewer than n steps.
+pub record LeadsBack (run : Run) (t p : ℕ) (d : Side) : Type 0 where
+  pub steps : ℕ
+  pub some : 0 < steps
+  pub few : steps < length run.ids
+  pub between : (j : ℕ) → j < steps → Relays run t (going (length run.ids) d p j) d
+  pub same : (j : ℕ) → j ≤ steps → passed run t (going (length run.ids) d p j) d ≡ passed run t p d
+  pub own : (passed run t p d).from ≡ slice_index run.ids (going (length run.ids) d p steps)
+
+-- A still ring relays no word that nobody sends: each relayed word leads back to a node that sends it now.
+abbrev pub RelayedWordsLeadBack : Type 0
+RelayedWordsLeadBack =
+    (run : Run) → IsRun run → (t : ℕ) → IsStillAfter run t → (p : ℕ) (d : Side) → p < length run.ids → Relays run (suc t) p d
+    → LeadsBack run (suc t) p d
+
+-- a node that doesn't pass through in round t
+pub record HasOneNotPassing (run : Run) (t : ℕ) : Type 0 where
+  pub at : ℕ
+  pub inside : at < length run.ids
+  pub differs : state_after (at_round run t at) ≢ state.PassThrough tt
+
+-- In a still ring not all nodes pass through.
+abbrev pub NotAllPassThrough : Type 0
+NotAllPassThrough = (run : Run) → IsRun run → (t : ℕ) → IsStillAfter run t → HasOneNotPassing run (suc t)

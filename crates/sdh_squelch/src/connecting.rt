@@ -1,0 +1,158 @@
+//! What a node connects: where each AU-4 that it sends or drops comes from, by its state and its squelch table. Bridging,
+//! switching, passing through and squelching are those of ITU-T G.841, MS shared protection rings.
+//!
+//! The origins are asked for every AU-4 of every round. They read the prepared rows of the table and search no circuits.
+ghost use Rattle.std.specs.Prelude.{◌≡◌, ◌≤◌, ◌<◌, false, IfSome, length};
+ghost use Rattle.std.specs.Option.{option_map_or};
+ghost use Rattle.sdh_squelch.specs.Table.{circuits_at, is_carried};
+ghost use Rattle.sdh_nodestate.specs.FarEnds.{far_of, IsElsewhere};
+ghost use Rattle.sdh_squelch.specs.Connections.{stands_for, leaves_working, leaves_protection};
+
+use sdh_circuits::{End, PortId, Slot};
+use sdh_nodestate::NodeState;
+use sdh_ringmap::{Chain, Pos, RingMap, Side};
+use crate::Table;
+
+/// Where an AU-4 that a node sends or drops comes from.
+#[derive(Clone, Copy, Debug, PartialEq, Eq)]
+pub enum Origin {
+    /// The stream of a port of the node.
+    Add(PortId),
+    /// What arrived on a side in the working slot.
+    Working(Side),
+    /// What arrived on a side in the protection slot.
+    Protection(Side),
+    /// Nothing: AIS stands in its place.
+    Ais,
+}
+
+// Returns whether there is a chain over which the circuit on a side in a slot may be carried.
+fn may_carry(chain: Option<Chain>, map: &RingMap, table: &Table, side: Side, slot: Slot) -> bool
+    requires table { table.now.ring ≡ map.now }
+    requires slot { (1 ≤ slot.0) × (slot.0 ≤ 8) }
+    requires chain { IfSome chain (λ k. k.first.0 < length map.now) }
+    ensures { result ≡ option_map_or (is_carried (length map.now)
+        (circuits_at (length map.now) table.now.circuits table.now.at.0 slot.0 side)) chain false }
+{
+    match chain {
+        Some(chain) => table.may_carry(map, side, slot, chain),
+        None => false,
+    }
+}
+
+/// Returns what the working arrival of a slot from a side stands for: that arrival; or, where the side is switched,
+/// what arrives on protection from the other side if the circuit may be carried round, and else AIS. A port whose
+/// circuit is on the side delivers it.
+#[tactic(auto, unfolding(crate::specs::Connections::stands_for, crate::specs::Connections::may_carry))]
+pub fn drop_origin(
+    state: &NodeState,
+    map: &RingMap,
+    table: &Table,
+    at: Pos,
+    side: Side,
+    slot: Slot,
+) -> Origin
+    requires at { at.0 < length map.now }
+    requires table { (table.now.ring ≡ map.now) × (table.now.at ≡ at) }
+    requires slot { (1 ≤ slot.0) × (slot.0 ≤ 8) }
+    requires far { IsElsewhere (length map.now) at.0 (far_of state.now) }
+    ensures { result ≡ stands_for (length map.now) at (circuits_at (length map.now) table.now.circuits at.0 slot.0) state.now side }
+{
+    match (state, side) {
+        (NodeState::Isolated(_), _) => Origin::Ais,
+        (NodeState::SwitchWest(west), Side::West) => {
+            if may_carry(west.chain(map, at), map, table, Side::West, slot) {
+                Origin::Protection(Side::East)
+            } else {
+                Origin::Ais
+            }
+        }
+        (NodeState::SwitchEast(east), Side::East) => {
+            if may_carry(east.chain(map, at), map, table, Side::East, slot) {
+                Origin::Protection(Side::West)
+            } else {
+                Origin::Ais
+            }
+        }
+        _ => Origin::Working(side),
+    }
+}
+
+/// Returns what leaves on a side in a working slot: the stream of the port where the circuit there ends at the node,
+/// else what the working arrival from the other side stands for; AIS where there is no circuit, and from an isolated
+/// node.
+#[tactic(auto, unfolding(crate::specs::Connections::leaves_working))]
+pub fn working_origin(
+    state: &NodeState,
+    map: &RingMap,
+    table: &Table,
+    at: Pos,
+    side: Side,
+    slot: Slot,
+) -> Origin
+    requires at { at.0 < length map.now }
+    requires table { (table.now.ring ≡ map.now) × (table.now.at ≡ at) }
+    requires slot { (1 ≤ slot.0) × (slot.0 ≤ 8) }
+    requires far { IsElsewhere (length map.now) at.0 (far_of state.now) }
+    ensures { result ≡ leaves_working (length map.now) at (circuits_at (length map.now) table.now.circuits at.0 slot.0) state.now side }
+{
+    if let NodeState::Isolated(_) = state {
+        return Origin::Ais;
+    }
+    match (table.circuit(side, slot), table.ends(side, slot)) {
+        (Some(circuit), Some((from, to))) => {
+            if from.0 == at.0 {
+                Origin::Add(PortId {
+                    circuit,
+                    end: End::A,
+                })
+            } else if to.0 == at.0 {
+                Origin::Add(PortId {
+                    circuit,
+                    end: End::B,
+                })
+            } else {
+                drop_origin(state, map, table, at, side.opposite(), slot)
+            }
+        }
+        _ => Origin::Ais,
+    }
+}
+
+/// Returns what leaves on a side in a protection slot: what arrives on protection from the other side where the node
+/// passes through; what leaves on the other side in the working slot where that side alone is switched and the circuit
+/// there may be carried round; else AIS.
+#[tactic(auto, unfolding(crate::specs::Connections::leaves_protection, crate::specs::Connections::may_carry))]
+pub fn protection_origin(
+    state: &NodeState,
+    map: &RingMap,
+    table: &Table,
+    at: Pos,
+    side: Side,
+    slot: Slot,
+) -> Origin
+    requires at { at.0 < length map.now }
+    requires table { (table.now.ring ≡ map.now) × (table.now.at ≡ at) }
+    requires slot { (1 ≤ slot.0) × (slot.0 ≤ 8) }
+    requires far { IsElsewhere (length map.now) at.0 (far_of state.now) }
+    ensures { result ≡ leaves_protection (length map.now) at (circuits_at (length map.now) table.now.circuits at.0 slot.0) state.now side }
+{
+    match (state, side) {
+        (NodeState::PassThrough(_), _) => Origin::Protection(side.opposite()),
+        (NodeState::SwitchWest(west), Side::East) => {
+            if may_carry(west.chain(map, at), map, table, Side::West, slot) {
+                working_origin(state, map, table, at, Side::West, slot)
+            } else {
+                Origin::Ais
+            }
+        }
+        (NodeState::SwitchEast(east), Side::West) => {
+            if may_carry(east.chain(map, at), map, table, Side::East, slot) {
+                working_origin(state, map, table, at, Side::East, slot)
+            } else {
+                Origin::Ais
+            }
+        }
+        _ => Origin::Ais,
+    }
+}
