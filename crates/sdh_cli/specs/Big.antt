@@ -77,7 +77,7 @@ abbrev pub circuits_from : ℕ → ℕ → Laying → List Provisioned
 circuits_from zero slot l = []
 circuits_from (suc most) slot l = if l.left == 0 then [] else next_circuit slot l ∷ circuits_from most slot (with_next l)
 
--- the generator's state after them
+-- the generator's state after the next circuits of a slot, at most a given number
 abbrev pub state_behind : ℕ → Laying → ℕ
 state_behind zero l = l.state
 state_behind (suc most) l = if l.left == 0 then l.state else state_behind most (with_next l)
@@ -94,16 +94,16 @@ behind_slot x = state_behind 16 (slot_begun x)
 abbrev pub big_circuits : ℕ → List Provisioned
 big_circuits x = slot_circuits 1 x ++ slot_circuits 2 (behind_slot x)
 
--- a fibre comes into a condition
+-- the fibre that leaves a position on a side comes into a condition
 abbrev pub fibre_comes : Condition → ℕ → Side → Step
 fibre_comes condition at side = step.Fibre (record { at = position_of at; side = side; condition = condition })
 
--- both fibres of a span do, the one eastwards first
+-- both fibres of a span come into a condition, the one eastwards first
 abbrev pub span_comes : Condition → ℕ → List Step
 span_comes condition span = fibre_comes condition span East ∷ fibre_comes condition ((span + 1) % 16) West ∷ []
 
--- one span is cut and then another, they are mended in this order, and the present moment comes at which both sides
--- have waited to restore; rounds run before the first and after each
+-- One span is cut and then another, and they are mended in this order. Then the moment comes at which both sides have
+-- waited to restore. Rounds run before the first of these and after each.
 abbrev pub big_steps : ℕ → ℕ → List Step
 big_steps u v =
     step.Settle ∷ (span_comes Cut u ++ step.Settle ∷ (span_comes Cut v ++ step.Settle
@@ -114,7 +114,7 @@ big_steps u v =
 abbrev pub first_cut : ℕ → ℕ
 first_cut x = drawn x % 16
 
--- the second one, which is another
+-- the second span that is cut, which is another one
 abbrev pub second_cut : ℕ → ℕ
 second_cut x = (first_cut x + 1 + drawn (next x) % 15) % 16
 

@@ -1,4 +1,5 @@
--- What the program promises of a plan that is run: the headline over honest fibres, how it ends, and what a healthy ring shows.
+-- What the program promises of a plan that is run: the headline over honest fibres, how it ends, and what a healthy
+-- ring shows.
 use Rattle.std.specs.Prelude.{◌≡◌, ◌≢◌, ◌⊎◌, ℕ, ◌≤◌, List, ◌++◌, length, Option, Some, None}
 use Rattle.std.specs.Io.KnownBytes.{Appends}
 use Rattle.sdh_plant.specs.Fibres.{Fibres}
@@ -17,7 +18,7 @@ use Rattle.sdh_cli.specs.Outcome.{own_plan, Does}
 use Rattle.sdh_scripts.specs.Headline as headline
 use Rattle.sdh_shell.specs.Calls.{HasRun}
 
--- the plan of what is asked: that of the source's bytes, or the one of the number
+-- the plan of what is asked: that of the source's bytes, or for `big` the large plan of the number
 abbrev pub IsPlanFor : Ask → List ℕ → Planned → Type 0
 IsPlanFor ask bytes plan = headline.is_plan_for (own_plan ask) bytes plan
 
@@ -26,10 +27,11 @@ abbrev pub Lists : Option Ask → List ℕ → Planned → Listing → Type 0
 Lists None bytes plan listing = ⊥
 Lists (Some ask) bytes plan listing = IsPlanFor ask bytes plan × (listing_of ask plan ≡ Some listing)
 
--- The headlines, of one list of reports. What was written is what is listed of them, and the last line. They show for every port what it is
--- owed by the restoration model, under the requests of the script's history; a script of settle steps alone shows a healthy ring. And in every
--- round that gave them, settled or not: no port meets a stranger in a settle step, unless a node that passes through is held right before that
--- step; and after the changes before each settle step every port soon has what it is owed.
+-- The promise, of one list of reports. What was written is what is listed of them, and the last line. They show for
+-- every port what it is owed by the restoration model, under the requests of the script's history. A script of settle
+-- steps alone shows a healthy ring. In every round that gave the reports, settled or not, no port meets a stranger,
+-- except in a step right before which a node that passes through is held. After the changes before each settle step
+-- every port soon has what it is owed.
 abbrev pub IsAsPromised : Option Ask → List ℕ → Fibres → Status → Option (List ℕ) → Option (List ℕ) → Fibres → Type 0
 IsAsPromised ask bytes f how old new left = (plan : Planned) (listing : Listing) → Lists ask bytes plan listing → HasRun how
     → (reports : List Report) × Appends old new (text_of listing reports ++ last_line how) × AreAsPromised plan f reports how left
@@ -45,8 +47,8 @@ abbrev pub AlwaysSettles : Option Ask → List ℕ → Status → Type 0
 AlwaysSettles ask bytes how = (plan : Planned) (listing : Listing) → Lists ask bytes plan listing
     → enough_for (length plan.nodes) ≤ plan.limit → (k : ℕ) → how ≢ status.Unsettled k
 
--- the words are one of the forms, and all is given for what is asked: for the tables a plan; for a run a plan, its port, and a script
--- that settles, as it does over honest fibres where the limit is large
+-- The words are one of the forms, and all is given for what is asked. The tables need a plan. A run needs a plan, its
+-- port, and a script that settles, as it does over honest fibres where the limit is large.
 abbrev pub MayBeDone : Option Ask → Option (List ℕ) → Fibres → Type 0
 MayBeDone None left f = ⊥
 MayBeDone (Some ask) left f = headline.may_be_done_by own_plan (headline.may_go_by Does MaySettle) ask left f

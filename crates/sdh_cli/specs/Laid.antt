@@ -24,7 +24,7 @@ pub record IsLaid (slot : ℕ) (l : Laying) (c : Provisioned) : Type 0 where
   pub by_number : c.slot.0 ≡ slot → number < l.number
   pub apart : c.slot.0 ≡ slot → (span : ℕ) → holds_span 16 (arc_of 16 c) span ≡ true → l.left ≤ eastwards 16 l.at span
 
--- what is asked for so that a circuit is laid, under these texts and offsets
+-- the wish for a circuit over `spans` spans from position `at` on, with these texts and offsets
 abbrev pub wish_with : ℕ → ℕ → ℕ → List ℕ → List ℕ → List ℕ → ℕ → ℕ → Wish
 wish_with slot at spans name text_a text_b offset_a offset_b = record {
   name = name;

@@ -14,7 +14,7 @@ use Rattle.sdh_cli.specs.Tables.{tables_of}
 use Rattle.sdh_cli.specs.Plans.{IsRunOf, MaySettle}
 use Rattle.sdh_cli.specs.Words.{Ask, Check, Big, asked, listing_of}
 
--- the large plan of a number is its own
+-- the plan that what is asked names by itself: for `big` the large plan of the number
 abbrev pub own_plan : Ask → Option Planned
 own_plan (Big number) = Some (big_planned number)
 own_plan ask = None
@@ -56,6 +56,6 @@ LeavesPlant = outcome.LeavesPlant ringing
 abbrev pub HasRead : Option Ask → Option (List ℕ) → Type 0
 HasRead ask left = outcome.HasRead (outcome.reads_by own_plan ask) left
 
--- an outcome that these failures allow
+-- an outcome whose read fault or plant fault, if it is one, has its cause in a call that failed
 abbrev pub MayEnd : Option Ask → List ℕ → Fibres → Counts → Counts → Status → List ℕ → Fibres → Type 0
 MayEnd = outcome.MayEnd ringing

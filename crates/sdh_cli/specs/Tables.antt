@@ -11,8 +11,8 @@ use Rattle.sdh_terms.specs.Rates.{n_of}
 use Rattle.sdh_plan.specs.Planned.{Planned}
 use Rattle.sdh_report.specs.Lines.{table_line}
 
--- the circuit in slot m on side d of the node at p, in a ring of n: the one whose arc holds the span there in that slot. No two
--- circuits share a span and a slot
+-- The circuit in slot m on side d of the node at p, in a ring of n: the one whose arc holds the span there in that
+-- slot. No two circuits share a span and a slot.
 abbrev pub circuit_at : ℕ → List Provisioned → ℕ → Side → ℕ → Option Provisioned
 circuit_at n circuits p d m = find (is_on n (span_at n p d) m) circuits
 

@@ -11,8 +11,9 @@ use Rattle.sdh_shell.specs.Calls.{end_lettered}
 use Rattle.sdh_cli.specs.declared.words.Command.{Command}
 use Rattle.sdh_cli.specs.declared.words.Command.TheVariants as command
 
--- what the program is asked for: to run the plan and report every settle step; to write the squelch tables of the plan; to run it
--- and write all that the port at that end of the circuit of this name delivers; or to run the plan of this number and count
+-- What the program is asked for: to run the plan and report every settle step; to write the squelch tables of the plan;
+-- to run the plan and write all that the port at that end of the circuit of this name delivers; or to run the large
+-- plan of this number and count the ports that show bytes, and those that show AIS.
 pub data Ask : Type 0 where
   Run : Ask
   Check : Ask
@@ -45,7 +46,7 @@ asked (word ∷ number ∷ []) = asked_with_number word number
 asked (word ∷ name ∷ letter ∷ []) = asked_with_port word name letter
 asked (word ∷ name ∷ letter ∷ more ∷ others) = None
 
--- what is listed of each report; the port that is asked for is none where the plan has no circuit of its name
+-- what is listed of each report; nothing where the plan has no circuit of the name that is asked for
 abbrev pub listing_of : Ask → Planned → Option Listing
 listing_of Run plan = Some listing.Reports
 listing_of Check plan = None

@@ -43,7 +43,7 @@ fn spans_drawn(draws: &mut Draws, left: u8) -> u8
     spans.min(left)
 }
 
-// Returns what is asked for a circuit.
+// Returns a circuit as a plan asks for it: its name, ends and slot, and the texts and offsets of its ports.
 fn asked<'a>(
     stretch: Stretch,
     name: &'a str,
@@ -175,7 +175,7 @@ fn circuits_drawn(
     Ok(circuits)
 }
 
-// Returns the step in which the fibre that comes in on a side of a position gets a condition.
+// Returns the step that gives a condition to the fibre that leaves a position on a side.
 fn fibre(condition: Condition, at: u8, side: Side) -> Step
     ensures { result ≡ fibre_comes condition at side }
 {

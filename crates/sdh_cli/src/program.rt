@@ -32,7 +32,7 @@ fn ended_tables(alloc: Global, plan: &Plan) -> Result<EndedText<Status>, AllocEr
     Ok(ended(Status::Ok, text))
 }
 
-// Returns a plan that is run.
+// Runs a plan. Returns the text of what is listed of its reports, and how the run ended.
 fn ended_run<P: Plant>(
     alloc: Global,
     plan: Plan,

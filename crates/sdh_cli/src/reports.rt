@@ -17,7 +17,7 @@ use sdh_ring::Ring;
 use sdh_ringmap::{Pos, Side};
 use sdh_scripts::put_settle;
 
-// Returns the word of a state.
+// Returns the word that a report has for a state.
 fn state_told(state: &NodeState) -> StateWord
     ensures { result ≡ state_word state.now }
 {
@@ -30,7 +30,7 @@ fn state_told(state: &NodeState) -> StateWord
     }
 }
 
-// Returns the bytes of a word.
+// Returns the bytes K1 and K2 of a word.
 fn bytes_told(word: K) -> WordBytes
     requires to { word.to ≤ 15 }
     requires from { word.from ≤ 15 }
@@ -139,7 +139,8 @@ fn put_delivered(text: &mut Text, ring: &Ring, port: PortId)
     text.drop_lines(ring.port(port));
 }
 
-// Returns 1 for a port that delivered a chunk, else 0.
+// Returns 1 for a port that delivered a chunk, which is a round's bytes of a customer, and 0 for one that delivered
+// AIS.
 fn chunks_of(ring: &Ring, circuit: u8, end: End) -> u32
     requires inside { circuit < length ring.now.circuits.circuits }
     ensures chunks { result ≡ chunks_of (outlet_at ring.now (record { circuit = circuit; end = end })).delivered }

@@ -62,14 +62,15 @@ pub fn run_plan<P: Plant>(
     requires fresh { HasNoFibres (P.fibres plant.old) }
     requires listing { MayList (length plan.circuits) listing }
 
-    // The text is what is listed of one list of reports. What is so of these reports is said over every plant, where
-    // the arrivals are known, and over honest fibres, with every round that gave them.
+    // The text is what is listed of one list of reports. Of these it is said what holds over every plant, what holds
+    // where the arrivals are known, and what holds over honest fibres, with every round that gave them.
     ensures came { IfOk result (λ run. Tells plan listing (P.fibres plant.old) run.text.bytes run.status (P.fibres plant.new)) }
 
     // A fault has a cause, and without one a script that settles is done.
     ensures failed { IfOk result (λ run. run.status ≡ Status.PlantFault → Rose (P.faults plant.old) (P.faults plant.new)) }
 
-    // Where the plant's count is exact: one call failed with a fault, and none with any other ending, nor without memory.
+    // Where the plant's count of faults is exact, one call failed if the run ended with a plant fault. None failed with
+    // any other ending, and none where memory ran out.
     ensures counted { IfOk result (λ run. IsCounted P.exact (run.status ≡ Status.PlantFault) (P.faults plant.old) (P.faults plant.new)) }
     ensures uncounted { OnErr result (P.exact ≡ true → P.faults plant.new ≡ P.faults plant.old) }
     ensures complete { IfOk result

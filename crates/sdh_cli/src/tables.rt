@@ -34,7 +34,7 @@ fn put_circuit(
     text.table_line(map.id(at), side, slot, name, map.id(ends.0), map.id(ends.1));
 }
 
-// Appends the line of a slot, which has none where no circuit is there.
+// Appends the line of the circuit in a slot, and nothing where no circuit is there.
 fn put_slot(text: &mut Text, plan: &Plan, table: &Table, at: Pos, side: Side, slot: Slot)
     requires at { at.0 < length plan.now.nodes }
     requires table { table.now ≡ table_of plan.now.nodes plan.now.circuits at }

@@ -31,8 +31,8 @@ pub fn sdhring<R: Source, W: Sink, P: Plant>(
 ) -> Status
     requires fresh { HasNoFibres (P.fibres plant.old) }
 
-    // The status and the text that is written, for a source whose bytes are known, where it is read, and a sink that
-    // shows what was written.
+    // The status and the text that is written. It is said where the bytes of a source that is read are known, and where
+    // the sink shows what was written.
     ensures outcome { let ask = asked (words_of words.now) in
         let reads : Counts = record { before = R.faults source.old; after = R.faults source.new } in
         let calls : Counts = record { before = P.faults plant.old; after = P.faults plant.new } in
@@ -40,10 +40,11 @@ pub fn sdhring<R: Source, W: Sink, P: Plant>(
         (λ bytes. Writes (λ how text. MayEnd ask bytes (P.fibres plant.old) reads calls how text (P.fibres plant.new)) result
         (W.written sink.old) (W.written sink.new)) }
 
-    // Over honest fibres, of one list of reports: they show for every port what it is owed; a script of settle steps
-    // alone shows a healthy ring; and the rounds that gave them are as many as they say and sent what was sent. In no
-    // round of a settle step a port delivers another customer's byte, unless a node that passes through is held right
-    // before that step; and soon after the last changes every port delivers what it is owed.
+    // The promise over honest fibres, of one list of reports. The reports show for every port what it is owed. A script
+    // of settle steps alone shows a healthy ring. The rounds that gave the reports are as many as the reports say, and
+    // what is on the fibres is what these rounds sent. In no round of a settle step does a port deliver another
+    // customer's byte, except in a step right before which a node that passes through is held. Soon after the last
+    // changes every port delivers what it is owed.
     ensures promised { (P.fibres plant.old).honest ≡ true
         → IfSome (told (asked (words_of words.now)) (R.left source.old)) (λ bytes. IsAsPromised (asked (words_of words.now)) bytes
         (P.fibres plant.old) result (W.written sink.old) (W.written sink.new) (P.fibres plant.new)) }
@@ -53,11 +54,12 @@ pub fn sdhring<R: Source, W: Sink, P: Plant>(
         → IfSome (told (asked (words_of words.now)) (R.left source.old))
         (λ bytes. AlwaysSettles (asked (words_of words.now)) bytes result) }
 
-    // Where arrivals are known, unsettled comes at exactly the settle step in which no quiet window comes within the limit.
+    // Where arrivals are known, `Unsettled` comes at exactly the settle step in which no quiet window comes within the
+    // limit.
     ensures unsettled { IfSome (told (asked (words_of words.now)) (R.left source.old))
         (λ bytes. EndsAsItRuns (asked (words_of words.now)) bytes (P.fibres plant.old) result) }
 
-    // Over every source, sink and plant.
+    // These clauses hold over every source, sink and plant.
     ensures usage { result ≡ Status.Usage → asked (words_of words.now) ≡ None }
     ensures usage_only { asked (words_of words.now) ≡ None
         → (result ≡ Status.Usage) ⊎ (result ≡ Status.WriteFault) ⊎ (result ≡ Status.Memory) }
@@ -67,9 +69,9 @@ pub fn sdhring<R: Source, W: Sink, P: Plant>(
     ensures plant_fault { result ≡ Status.PlantFault → Rose (P.faults plant.old) (P.faults plant.new) }
     ensures write_fault { result ≡ Status.WriteFault → Rose (W.faults sink.old) (W.faults sink.new) }
 
-    // Where an object's count is exact, each of its calls that failed is reported by its fault, and none is tried
-    // again; a write fault may stand in place of what was to be reported. With TooLong one byte more than a plan may
-    // have was taken.
+    // Where the count of faults of a source, sink or plant is exact, each of its calls that failed is reported by its
+    // fault, and none is tried again. A write fault may stand in place of what was to be reported. With TooLong, one
+    // byte more than a plan may have was taken.
     ensures came { let reads : Counts = record { before = R.faults source.old; after = R.faults source.new } in
         let calls : Counts = record { before = P.faults plant.old; after = P.faults plant.new } in
         (how : Status) × ((result ≡ how) ⊎ (result ≡ Status.WriteFault))
@@ -81,7 +83,7 @@ pub fn sdhring<R: Source, W: Sink, P: Plant>(
     ensures later { (R.faults source.old ≤ R.faults source.new) × (W.faults sink.old ≤ W.faults sink.new)
         × (P.faults plant.old ≤ P.faults plant.new) }
 
-    // With all that a run needs, and no fault, everything is done, or there is no memory.
+    // Where all that a run needs is given and no call fails, everything is done, or memory runs out.
     ensures complete { MayBeDone (asked (words_of words.now)) (told (asked (words_of words.now)) (R.left source.old)) (P.fibres plant.old)
         → ¬ (Rose (R.faults source.old) (R.faults source.new)) → ¬ (Rose (W.faults sink.old) (W.faults sink.new))
         → ¬ (Rose (P.faults plant.old) (P.faults plant.new)) → (result ≡ Status.Ok) ⊎ (result ≡ Status.Memory) }

@@ -16,7 +16,7 @@ pub enum Command<'a> {
     Check,
     /// Run the plan and write all that one port delivers.
     Drop(&'a str, End),
-    /// Run the plan of a number and count.
+    /// Run the large plan of a number, and write for each settle step how many ports show bytes and how many AIS.
     Big(u32),
 }
 

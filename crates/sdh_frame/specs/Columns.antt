@@ -1,7 +1,8 @@
 -- Columns of a frame, counted from 0 through all rows, in which some bytes are written.
 use Rattle.std.specs.Prelude.{ℕ, ◌≡◌, ◌/◌, ◌<◌, ◌≤◌, Bool, if◌then◌else◌, List, slice_index}
 
--- in the columns from one on, up to another, the bytes that are meant have these values, by their places; all others stay
+-- In the columns from `from` on and before `to`, each byte i for which `is_meant` holds has the value `value i`. All
+-- other bytes stay.
 pub record HasWritten (n from to : ℕ) (is_meant : ℕ → Bool) (value : ℕ → ℕ) (old new : List ℕ) : Type 0 where
   pub inside : (i : ℕ) → from ≤ i / n → i / n < to → slice_index new i ≡ (if is_meant i then value i else slice_index old i)
   pub before : (i : ℕ) → i / n < from → slice_index new i ≡ slice_index old i

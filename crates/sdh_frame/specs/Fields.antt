@@ -27,6 +27,6 @@ field_at n row column =
 abbrev pub payload_place : ℕ → ℕ → ℕ → Place
 payload_place n au j = record { row = j / 261 + 1; column = 9 * n + (j % 261 * n + au) }
 
--- the place of byte p of its pointer, which is H1, Y, Y, H2, two bytes of ones, H3, H3, H3
+-- the place of byte p of the pointer of an AU-4: H1, Y, Y, H2, two bytes of ones, H3, H3, H3
 abbrev pub place_of_pointer : ℕ → ℕ → ℕ → Place
 place_of_pointer n au p = record { row = 4; column = p * n + au }

@@ -5,7 +5,7 @@ use Rattle.sdh_frame.specs.Sizes.{Frame}
 use Rattle.sdh_terms.specs.Rates.{n_of}
 use Rattle.sdh_frame.specs.contracts.FrameBuf.{the_row}
 
--- the frame with these bytes, as far as they reach
+-- the frame with these bytes at its start; after them it keeps its own bytes, and its length stays
 abbrev pub with_bytes : Frame → List ℕ → Frame
 with_bytes f w = record { rate = f.rate; bytes = take (length f.bytes) (w ++ drop (length w) f.bytes) }
 

@@ -1,4 +1,4 @@
-//! The AU-4s of a frame, written in place. The loops are code of their own for each rate, in which N is a constant.
+//! The AU-4s of a frame, written in place. Each loop is compiled once for each rate, with N as a constant.
 ghost use Rattle.std.specs.Prelude.{◌≡◌, ◌+◌, ◌*◌, ◌-◌, ◌/◌, ◌%◌, ◌<◌, ◌≤◌, ◌⊎◌, length, slice_index, replicate};
 ghost use Rattle.sdh_frame.specs.Sizes.{size_of};
 ghost use Rattle.sdh_terms.specs.Rates.{n_of};
@@ -43,7 +43,7 @@ fn fill_row<const N: usize>(bytes: &mut [u8], au: usize, r: usize)
     }
 }
 
-// Copies all rows of the payload of an AU-4 of another frame. In the callers' code N is a constant.
+// Copies all rows of the payload of an AU-4 of another frame to an AU-4 of this frame.
 #[inline(always)]
 fn copy_rows<const N: usize>(bytes: &mut [u8], to: usize, source: &[u8], from: usize)
     requires rate { (N ≡ 4) ⊎ (N ≡ 16) }
@@ -89,7 +89,7 @@ fn put_pointer<const N: usize>(bytes: &mut [u8], au: usize, pointers: &[u8])
     }
 }
 
-// Copies the payload of AU-4 `from` of `source` to AU-4 `to`, at either rate. Each rate has code of its own.
+// Copies the payload of AU-4 `from` of `source` to AU-4 `to`, by the code that is compiled for the rate.
 fn copy(rate: Rate, bytes: &mut [u8], to: usize, source: &[u8], from: usize)
     requires size { length bytes.old ≡ size_of rate }
     requires source_size { length source.now ≡ size_of rate }

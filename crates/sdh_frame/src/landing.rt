@@ -3,7 +3,8 @@ ghost use Rattle.std.specs.Prelude.{◌≡◌, Some};
 
 use crate::FrameBuf;
 
-/// Room for an arriving frame: a buffer that it is copied into, or one that inspects its bytes on the way.
+/// Room for an arriving frame: a buffer that the frame is copied into, or one that also inspects the bytes while it
+/// copies them.
 pub trait Landing {
     ghost use Rattle.std.specs.Prelude.{ℕ, List, Option};
     ghost use Rattle.sdh_terms.specs.declared.Rate.{Rate};
@@ -11,7 +12,7 @@ pub trait Landing {
     /// The rate of the frames that fit.
     ghost rate: { Self → Rate };
 
-    /// The bytes of the last frame that landed, as they arrived, while they are still there.
+    /// The bytes of the last frame that landed, as they arrived, or `None` where they are no longer there.
     ghost landed: { Self → Option (List ℕ) };
 
     /// Takes a frame in place of the one before.

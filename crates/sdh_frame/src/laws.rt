@@ -19,7 +19,7 @@ pub fn writing_an_au_keeps_the_rest()
     ensures { WritingKeeps }
 {}
 
-/// Writing a payload or a pointer is the same as writing the AU-4 with its other list unchanged.
+/// Writing only the payload or only the pointer bytes is the same as writing the AU-4 with the other of them unchanged.
 pub fn writing_one_list_writes_the_au()
     ensures { WritingOneList }
 {}

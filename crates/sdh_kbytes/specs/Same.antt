@@ -18,7 +18,7 @@ same_word a b =
 unfoldable pub agrees : K → K → Bool
 agrees a b = same_code a.code b.code && (a.to == b.to) && (a.from == b.from) && (path_number a.path == path_number b.path)
 
--- one word is heard both times, or none both times
+-- the same was heard twice: the same word, or no word
 abbrev pub same_heard : Option K → Option K → Bool
 same_heard None None = true
 same_heard (Some a) (Some b) = same_word a b

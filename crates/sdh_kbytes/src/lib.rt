@@ -29,7 +29,7 @@ pub enum Mark {
     Bridged,
     /// One side is switched, towards a far end.
     BridgedSwitched,
-    /// Remote defect indication: its side on which it sends the word fails.
+    /// Remote defect indication: the side on which the source sends the word fails.
     Rdi,
     /// Alarm indication of the multiplex section. No node sends it, and a side that it comes to fails.
     MsAis,

@@ -46,7 +46,7 @@ pub fn agrees(left: K, right: K) -> bool
         && is_path(left.path, right.path)
 }
 
-/// Returns whether one word is heard both times, or none both times.
+/// Returns whether the same was heard twice: the same word, or no word.
 pub fn same_heard(left: Option<K>, right: Option<K>) -> bool
     ensures { result ≡ same_heard left right }
 {

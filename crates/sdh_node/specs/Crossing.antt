@@ -84,11 +84,11 @@ heard_words x = record { west = hears x.west.brought; east = hears x.east.brough
 unfoldable pub scene_of : Cross → Scene
 scene_of x = scene x.ids x.at.0 (needs_of x) (heard_words x)
 
--- the state by the rules, or, in a turn in which the controller is held, the one before
+-- the state by the rules, or the one before in a round that the controller misses
 unfoldable pub after_decision : Bool → Cross → Cross
 after_decision held x = record x { state = if held then x.state else state_after (scene_of x) }
 
--- the word that is sent on a side after the word k: the one of the rules, or k in a held turn
+-- the word that is sent on a side after the word k: the one of the rules, or k in a held round
 unfoldable pub next_word : Bool → Cross → Side → K → K
 next_word held x side k = if held then k else word (scene_of x) side
 
@@ -108,8 +108,8 @@ leaving x side au =
     if nat_le au (half_of x) then leaves_working (length x.ids) x.at (circuit_in x (slot_of x au)) x.state side
     else leaves_protection (length x.ids) x.at (circuit_in x (slot_of x au)) x.state side
 
--- what an AU-4 is fed with that comes from an origin in slot m: working slot m is AU-4 number m, and protection slot m number
--- N / 2 + m
+-- The feeder of an AU-4 whose bytes come from an origin in slot m. Working slot m is AU-4 number m, and protection slot
+-- m is AU-4 number N / 2 + m.
 abbrev pub feeder_of : Cross → ℕ → Origin → Feeder
 feeder_of x m (origin.Add port) = feeder.Port port
 feeder_of x m (origin.Working side) = feeder.Received side m
@@ -131,7 +131,7 @@ leads x side au = feeder_of x (slot_of x au) (leaving x side au)
 unfoldable pub drops : Cross → Side → ℕ → Feeder
 drops x side m = feeder_of x m (stands_for (length x.ids) x.at (circuit_in x m) x.state side)
 
--- what goes into that AU-4, and what is dropped of that slot
+-- what goes into AU-4 number au that leaves on a side, and what is dropped of slot m from a side
 abbrev pub input_at : Cross → (PortId → Input) → Side → ℕ → Input
 input_at x added side au = all_fed_by (lines_of x) added (leads x side) au
 
@@ -140,7 +140,7 @@ dropped_at x side m = dropped_by (lines_of x) (drops x side m)
 
 -- ---- deliveries
 
--- what the circuit of a port comes in with
+-- what a port is to deliver: what is dropped of the slot of its circuit
 abbrev pub dropped_to : Cross → Tributary → Input
 dropped_to x t = dropped_at x t.side t.slot.0
 

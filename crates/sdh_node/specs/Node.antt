@@ -45,7 +45,7 @@ pub record Node : Type 0 where
   -- both sides that send
   pub west_out : Sending
   pub east_out : Sending
-  -- how many of its next turns its controller misses
+  -- how many of the next rounds its controller misses
   pub held : ℕ
   -- the last round was calm
   pub calm : Bool
@@ -100,7 +100,7 @@ new_cross s ids circuits at = record {
 abbrev pub at_receiving : Side → (Receiving → Receiving) → Node → Node
 at_receiving side f n = record n { west = if_west side f n.west; east = if_east side f n.east }
 
--- a node whose controller is held for `turns` turns, in place of those left
+-- a node whose controller is held for `turns` rounds, in place of those left
 abbrev pub held_for : ℕ → Node → Node
 held_for turns n = record n { held = turns }
 
@@ -110,7 +110,7 @@ slips_at id turn count n = record n { ports = with_slips id turn count n.ports }
 
 -- ---- a round, at a moment
 
--- the controller misses the turn
+-- the controller misses this round
 abbrev pub is_held : Node → Bool
 is_held n = nat_le 1 n.held
 
@@ -135,7 +135,8 @@ ports_after x ports = all_fed (all_delivered x ports)
 abbrev pub with_next_word : Bool → Cross → Side → Sending → Sending
 with_next_word held x side s = with_word (next_word held x side s.word) s
 
--- the node after it: all pointer generators, section overhead and scrambling; a held turn is used up
+-- the node after a round with this cross-connect: all pointer generators, section overhead and scrambling; one of the
+-- rounds that the controller misses is used up
 unfoldable pub after_crossing : Cross → Node → Node
 after_crossing x n = record n {
   rounds = n.rounds + 1;
@@ -175,12 +176,12 @@ compared n = record {
   east_out = compared_out n.east_out;
 }
 
--- a round ran before, and this turn isn't held
+-- a round ran before, and the controller doesn't miss this one
 abbrev pub may_be_calm : Node → Bool
 may_be_calm n = nat_le 1 n.rounds && not (is_held n)
 
--- the node `new` after a round that found it as `old`: the round was calm where one ran before it, the turn wasn't held, and it
--- changed nothing of what is compared
+-- The node `new` after a round that found it as `old`. The round was calm where one ran before it, the controller
+-- didn't miss it, and it changed nothing of what is compared.
 unfoldable pub with_calm : Node → Node → Node
 with_calm old new = record new { calm = may_be_calm old && same_compared (compared new) (compared old) }
 
@@ -202,7 +203,8 @@ sending_on East n = n.east_out
 abbrev pub moment_of : Node → ℕ
 moment_of n = n.west.local.moment
 
--- what a round leaves for the next one: the settings and the ports, one round more, one held turn less, and the moment
+-- what a round leaves for the next one: the settings and the ports, one round more, one round less to miss, and the
+-- moment
 pub record GoesOn (now : ℕ) (old new : Node) : Type 0 where
   pub settings : new.settings ≡ old.settings
   pub rounds : new.rounds ≡ old.rounds + 1

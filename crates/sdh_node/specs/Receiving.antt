@@ -27,7 +27,7 @@ pub record Receiving : Type 0 where
   pub arrived : Option Arrival
   -- the parities of the frame before
   pub section : section.SectionKept
-  -- commands, the defect and when the last one ended
+  -- the commands, the defect, and when the last defect ended
   pub local : local.LocalKept
   -- the local request in the last round
   pub request : Code
@@ -41,7 +41,7 @@ reception threshold r = reception_of r.arrived r.section.rate threshold r.sectio
 
 -- ---- the local request
 
--- what is kept for it after the moment and the defect of a round
+-- what is kept for the local request after the moment and the defect of a round
 abbrev pub local_after : ℕ → Defect → local.LocalKept → local.LocalKept
 local_after now d k = after_happening (seen d) (after_happening (reached now) k)
 
@@ -77,7 +77,7 @@ after_intake threshold now r =
 abbrev pub commanded_by : Command → Receiving → Receiving
 commanded_by c r = record r { local = after_happening (commanded c) r.local }
 
--- on one side, in place of what arrived there since the last round
+-- a side on which this arrived, in place of what arrived since the last round
 abbrev pub arrived_on : Arrival → Receiving → Receiving
 arrived_on a r = record r { arrived = Some a }
 
@@ -99,6 +99,6 @@ pub record IsReceiving (r : Receiving) : Type 0 where
   pub silent : r.local.defect ≡ defect.Sf → hears r.brought ≡ None
   pub spellable : IfSome (hears r.brought) IsSpellable
 
--- what of it frames and pointers are about
+-- the part of a side that receives which frames and pointers need: what arrived, the parities and the interpreters
 abbrev pub inlet_of : Receiving → Inlet
 inlet_of r = record { arrived = r.arrived; section = r.section; readings = r.readings }

@@ -29,7 +29,7 @@ pub record MayRun (now : ℕ) (n : Node) : Type 0 where
   pub within : now ≤ 1000000000
   pub few : n.rounds < 2 ^ 32
 
--- ---- what arrives changes neither its rate nor whether it may run
+-- ---- what arrives at a node changes neither its rate nor whether it may run
 
 pub told_rate : (side : Side) (a : Arrival) (n : Node) → (adm.told side a n).settings.rate ≡ n.settings.rate
 told_rate West a n = refl

@@ -88,7 +88,7 @@ impl Adm {
         self.cross.command(side, command);
     }
 
-    /// Holds the controller for the next `turns` turns, in place of those left of an earlier call. In a held turn the
+    /// Holds the controller for the next `turns` rounds, in place of those left of an earlier call. In a held round the
     /// node keeps its state and the words that it sends, and does everything else.
     pub fn hold(&mut self, turns: u32)
         requires some { 1 ≤ turns }
@@ -128,8 +128,8 @@ impl Adm {
         self.cross.receive(side, arrived, frame);
     }
 
-    /// Keeps what arrived on a side as `receive` does, without a copy: what landed is taken in exchange for another buffer of the
-    /// same rate.
+    /// Keeps what arrived on a side as `receive` does, but without a copy: the buffer in which the frame landed is
+    /// exchanged for another one of the same rate.
     pub fn receive_landed(&mut self, side: Side, arrived: Arrived, inbox: &mut Landed)
         requires rate { inbox.old.rate ≡ self.old.settings.rate }
         requires here { arrived ≡ Arrived.Frame → inbox.old.landed ≢ None }
@@ -150,7 +150,8 @@ impl Adm {
         self.ports.outlet(port).delivered()
     }
 
-    /// Returns the value of the interpreter through which a port's chunk came, and 0 where it delivers AIS.
+    /// Returns the pointer value of the interpreter through which a port's bytes came, and 0 where the port delivers
+    /// AIS.
     pub fn value(&self, port: PortId) -> u16
         requires { HasPort self.now.ports port }
         ensures value { result ≡ (outlet_of port self.now.ports).value }
@@ -166,7 +167,8 @@ impl Adm {
         self.cross.state()
     }
 
-    /// Returns the word sent on a side in the last round; before the first the one that asks the neighbour for nothing.
+    /// Returns the word sent on a side in the last round. Before the first round it is the word that asks the neighbour
+    /// for nothing.
     pub fn sent_k(&self, side: Side) -> K
         ensures word { result ≡ (sending_on side self.now).word }
         ensures to { result.to ≤ 15 }
@@ -200,7 +202,7 @@ impl Adm {
         self.cross.receiver(side).heard()
     }
 
-    /// Returns whether the last round was no held turn and changed nothing: no word sent or heard, no state, far end,
+    /// Returns whether the last round was no held round and changed nothing: no word sent or heard, no state, far end,
     /// local request, interpreter or generator. The first round isn't calm.
     pub fn calm(&self) -> bool
         ensures { result ≡ self.now.calm }
@@ -256,8 +258,8 @@ impl Adm {
     }
 }
 
-// What decides whether a round is calm: whether it may be, and for each of its calls whether what it compares is as
-// before.
+// The signs by which a round is calm. `counts` says whether it may be calm at all. Each other sign says of one call
+// whether what it compares is as before.
 #[derive(Drop)]
 struct Signs {
     counts: bool,
@@ -269,7 +271,7 @@ struct Signs {
     east_made: bool,
 }
 
-// Returns whether the round is calm: it may be, and all that is compared is as before.
+// Returns whether the round is calm: it may be calm, and all that is compared is as before.
 fn is_calm(signs: &Signs) -> bool
     ensures { result ≡ (signs.now.counts && (signs.now.taken && signs.now.decided && (signs.now.west_said && signs.now.west_made)
         && (signs.now.east_said && signs.now.east_made))) }
@@ -295,21 +297,21 @@ fn words_of(west: &Sender, east: &Sender) -> Sent
     }
 }
 
-// Returns whether a turn is held.
+// Returns whether the controller misses this round: there are rounds left to miss.
 fn is_held(turns: u32) -> bool
     ensures { result ≡ nat_le 1 turns }
 {
     turns >= 1
 }
 
-// Returns the held turns after this one.
+// Returns the number of rounds left to miss after this one.
 fn one_less(turns: u32) -> u32
     ensures { result ≡ turns - 1 }
 {
     turns.saturating_sub(1)
 }
 
-// Returns whether a round may be calm: one ran before it, and the turn isn't held.
+// Returns whether a round may be calm: one ran before it, and the controller doesn't miss it.
 fn may_be_calm(rounds: u64, held: bool) -> bool
     ensures { result ≡ (nat_le 1 rounds && not held) }
 {

@@ -1,4 +1,5 @@
-//! The cross-connect: both sides that receive and what they take in, the state, and where it leads what comes in.
+//! The cross-connect: both sides that receive and what they take in, the node's state, and where that state leads what
+//! comes in.
 ghost use Rattle.std.specs.Prelude.{◌≡◌, ◌&&◌, ◌+◌, ◌-◌, ◌<◌, ◌≤◌, ◌≢◌, None, true, false, All, IfOk, length, get_or, option_map};
 ghost use Rattle.sdh_terms.specs.Rates.{n_of};
 ghost use Rattle.sdh_ringmap.specs.declared.Pos.{Pos};
@@ -117,7 +118,8 @@ impl CrossConnect {
         }
     }
 
-    /// Keeps what arrived on a side, and takes what landed in exchange for another buffer. What was taken in before isn't kept.
+    /// Keeps what arrived on a side, but without a copy: the buffer in which the frame landed is exchanged for the
+    /// side's own. What was in that one isn't kept.
     pub fn receive_landed(&mut self, side: Side, arrived: Arrived, inbox: &mut Landed)
         requires rate { inbox.old.rate ≡ self.old.west.section.rate }
         requires here { arrived ≡ Arrived.Frame → inbox.old.landed ≢ None }
@@ -182,8 +184,8 @@ impl CrossConnect {
         (sent, same)
     }
 
-    /// Takes the state of this round, and returns the words to send, and whether the state is as before. In a held turn
-    /// the state stays, and the words are those of the round before.
+    /// Sets the state of this round. Returns the words to send, and whether the state is as before. In a held round the
+    /// state and the words stay as they were.
     #[tactic(auto, unfolding(crate::specs::Crossing::after_decision, crate::specs::Crossing::next_word), using(sdh_nodestate::proofs::SameStates::state_itself))]
     pub fn decide(&mut self, held: bool, before: Sent) -> (Sent, bool)
         requires { SendsSpellable before }
@@ -226,7 +228,7 @@ impl CrossConnect {
         }
     }
 
-    // Returns what an AU-4 is fed with that comes from an origin in a slot.
+    // Returns the feeder of an AU-4 whose bytes come from an origin in a slot.
     fn feeder_of(&self, slot: u16, origin: Origin) -> Feeder
         requires first { 1 ≤ slot }
         requires last { slot ≤ half_of self.now }
@@ -268,7 +270,8 @@ impl Matrix for CrossConnect {
         }
     }
 
-    // Returns where an AU-4 lies: those up to half of N are the working slots, and those above it the protection slots.
+    // Returns what feeds an AU-4 that leaves. Those up to half of N are the working slots, those above it the
+    // protection slots.
     #[tactic(auto, unfolding(crate::specs::Crossing::leads))]
     fn leaving(&self, side: Side, au: u16) -> Feeder {
         let half = u16::from(self.west_in.rate().half());

@@ -66,8 +66,8 @@ impl Receiver {
         self.inlet.receive(arrived, frame);
     }
 
-    /// Keeps what arrived for the next round as `receive` does, and takes what landed in exchange for the buffer that was taken in
-    /// before, so that few buffers go round. Where no frame arrived, nothing is exchanged.
+    /// Keeps what arrived for the next round as `receive` does, but without a copy: the buffer in which the frame
+    /// landed is exchanged for the one that was taken in before. Where no frame arrived, nothing is exchanged.
     pub fn receive_landed(&mut self, arrived: Arrived, inbox: &mut Landed, intake: &mut Intake)
         requires rate { inbox.old.rate ≡ self.old.section.rate }
         requires here { arrived ≡ Arrived.Frame → inbox.old.landed ≢ None }
@@ -90,8 +90,8 @@ impl Receiver {
         self.local.command(command);
     }
 
-    // Returns what the filter makes of the word that came, and the local request with the defect at a moment. Whether
-    // the word heard and the request are as before.
+    // Takes the word that came and the defect at a moment, and sets the filter and the local request by them. Returns
+    // whether the word heard and the request are as before.
     fn hear(&mut self, now: Moment, defect: Defect, word: Option<K>) -> bool
         requires later { self.old.local.moment ≤ now.0 }
         requires within { now.0 ≤ 1000000000 }
@@ -115,8 +115,8 @@ impl Receiver {
         same
     }
 
-    /// Takes what arrived, at a moment, and the interpreters read. Whether the local request, the word heard and what the
-    /// interpreters keep are as before.
+    /// Takes what arrived, at a moment, and lets the interpreters read. Returns whether the local request, the word
+    /// heard and what the interpreters keep are as before.
     #[tactic(auto, unfolding(crate::specs::Receiving::after_intake, crate::specs::Receiving::intake_of, crate::specs::Receiving::after_overhead, crate::specs::Receiving::reception, sdh_terminal::specs::Receiving::taken_in, sdh_terminal::specs::Receiving::after_taking))]
     pub fn take(&mut self, threshold: u16, now: Moment, intake: &mut Intake) -> bool
         requires later { self.old.local.moment ≤ now.0 }

@@ -32,7 +32,7 @@ planned settings limit nodes provisioning steps = record {
   steps = steps;
 }
 
--- the plan's circuit map: half of N are working slots, and the ring that is kept is the plan's
+-- the map of the plan's circuits, with half of N working slots on each span of the plan's ring
 abbrev pub provisioning_of : Planned → Provisioning
 provisioning_of plan = provisioned (n_of plan.settings.rate / 2) plan.nodes plan.circuits
 

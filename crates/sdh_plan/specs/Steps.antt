@@ -168,8 +168,8 @@ form_step n nodes circuits (first ∷ others) = told_step n nodes circuits (verb
 abbrev pub step_of : ℕ → List ℕ → List Provisioned → List ℕ → Step
 step_of n nodes circuits text = form_step n nodes circuits (words text)
 
--- what a script has led to before a step: the present moment, the number of settle steps, and how many slips each port was given
--- since the last of them
+-- what a script has led to before a step: the present moment, the number of settle steps, and for each port the number
+-- of slips that it was given since the last of them
 pub record Past : Type 0 where
   pub moment : ℕ
   pub settles : ℕ

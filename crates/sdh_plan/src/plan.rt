@@ -32,9 +32,9 @@ impl Model for Plan {
 }
 
 impl Plan {
-    /// Returns a plan of these parts, which are those of a plan: the settings of its nodes, how many rounds a settle
-    /// step has at most, the ring with its circuits, and the steps of its script. What a document has to be for that is
-    /// checked where it is read.
+    /// Returns the plan of these parts: the settings of its nodes, the most rounds that a settle step may run, the ring
+    /// with its circuits, and the steps of its script. The parts have to pass the checks of a plan, which `read_plan`
+    /// makes.
     pub fn from_parts(
         settings: Settings,
         limit: u32,
@@ -65,7 +65,7 @@ impl Plan {
         self.settings
     }
 
-    /// Returns how many rounds a settle step has at most, 1 to 65,536.
+    /// Returns the most rounds that a settle step may run, 1 to 65,536.
     pub fn limit(&self) -> u32
         ensures limit { result ≡ self.now.limit }
         ensures from_1 { 1 ≤ result }
@@ -81,7 +81,7 @@ impl Plan {
         &self.ring
     }
 
-    /// Returns the circuits. Half of N are working slots, and the ring that is kept is the plan's.
+    /// Returns the map of the circuits, with half of N working slots on each span of the plan's ring.
     pub fn circuits(&self) -> &CircuitMap
         ensures { result.now ≡ provisioning_of self.now }
     {

@@ -9,7 +9,7 @@ pub enum Reason {
     NodeCount = 1,
     /// The identifier of a node isn't 0 to 15.
     NodeId = 2,
-    /// The identifier of a node stood before.
+    /// An earlier node has the same identifier.
     Repeat = 3,
     /// The slot isn't 1 to half the rate.
     Slot = 4,
@@ -23,7 +23,7 @@ pub enum Reason {
     Text = 8,
     /// An earlier circuit has one of the spans in the slot.
     Overlap = 9,
-    /// The name isn't of its form, or an earlier circuit has it.
+    /// The name isn't 1 to 16 bytes of `a` to `z`, `0` to `9`, `-` and `_`, or an earlier circuit has it.
     Name = 10,
     /// A trace isn't 1 to 64 bytes of 0x20 to 0x7E. A missing trace is the name.
     Trace = 11,

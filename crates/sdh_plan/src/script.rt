@@ -22,8 +22,8 @@ use sdh_terms::Rate;
 use std::alloc::Global;
 use toml::{Table, Value};
 
-// Returns the step that a text gives, or the reason of the first check that fails. The script has then led to what is
-// after the step.
+// Returns the step that a text gives, or the reason of the first check that fails. Adds the step to what the script has
+// led to, `past`.
 fn next_step(
     ring: &RingMap,
     circuits: &CircuitMap,

@@ -55,7 +55,8 @@ pub fn words_of(text: &[u8]) -> Option<ArrayVec<&[u8], 6>>
     Some(words)
 }
 
-// Returns the number that digits are, where each byte is one and it is below 2 ^ 32. A larger one may be given too.
+// Returns the number that these bytes are as decimal digits, or `None` where one of them is no digit. It may be `None`
+// too for a number that isn't below 2 ^ 32.
 fn decimal(digits: &[u8]) -> Option<u64>
     ensures number { IfSome result (λ number. (list_all is_digit digits.now ≡ true) × (number ≡ decimal_from 0 digits.now)) }
     ensures none { IfNone result ((list_all is_digit digits.now ≡ false) ⊎ (2 ^ 32 ≤ decimal_from 0 digits.now)) }

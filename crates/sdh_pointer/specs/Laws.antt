@@ -51,7 +51,7 @@ is_ais_action action.Down = false
 abbrev pub AnswerTellsMode : Type 0
 AnswerTellsMode = (r : Reading) (w : ℕ) → is_ais_action (action_on r w) ≡ not (is_norm (after_word r w).mode)
 
--- every interpreter that starts as a new one keeps a value of at most 782, and counts within their bounds
+-- a new interpreter is within the bounds of `IsBounded`, and each word leaves it within them
 abbrev pub BoundsAreKept : Type 0
 BoundsAreKept = IsBounded start × ((r : Reading) (w : ℕ) → IsBounded r → IsBounded (after_word r w))
 
@@ -165,8 +165,8 @@ abbrev pub IsInStep : Option ℕ → Reading → Type 0
 IsInStep None r = r.mode ≡ mode.Ais
 IsInStep (Some g) r = (r.mode ≡ mode.Norm) × (r.value ≡ g) × (g ≤ 782)
 
--- an action and the value after it go on from what the generator sends, and the interpreter after it reads
--- justifications
+-- an action and the value after it go on from what the generator sends: Normal keeps its value, and Up and Down change
+-- it by one step, where the interpreter after it reads justifications; New is always possible, Ais only after Ais
 abbrev pub GoesOn : Option ℕ → Action → ℕ → Reading → Type 0
 GoesOn s action.New v r = Unit {0}
 GoesOn (Some g) action.Normal v r = v ≡ g
@@ -190,9 +190,9 @@ ReadsWhatIsSent =
 
 -- ---- from span to span
 
--- h spans on, in round t: a generator in the given state, and given the action and any value that it may have, sends
--- the given word and goes into the state of the next round; one round later the interpreter after it reads that word,
--- and answers and keeps what is given
+-- What happens in round t, h spans after the source. A generator in the given state is given the action and any value
+-- that it may have. It sends the given word and goes into the state of the next round. One round later the interpreter
+-- after it reads that word, and answers and keeps what is given.
 pub record SpreadsOver (o : Option ℕ) (h t : ℕ) : Type 0 where
   pub sending : (u : ℕ) → IsValueOver o h t u → next_sending (sending_over o h t) (action_over o h t) u ≡ sending_over o h (t + 1)
   pub word : (u : ℕ) → IsValueOver o h t u → word_sent (sending_over o h t) (action_over o h t) u ≡ word_over o h t

@@ -73,7 +73,7 @@ sending_row_of s a v = find (λ row. row.input s a v) sending_table
 unfoldable pub form_sent : Option ℕ → Action → ℕ → Form
 form_sent s a v = option_map_or (λ row. row.form) (sending_row_of s a v) form.Ais
 
--- the value that it carries
+-- the value that the sent word carries
 unfoldable pub value_sent : Option ℕ → Action → ℕ → ℕ
 value_sent s a v = option_map_or (λ row. row.value s v) (sending_row_of s a v) v
 

@@ -28,8 +28,8 @@ impl Model for Gen {
     ghost invariant = { λ a. option_map_or (λ g. g) a.sending 0 ≤ 782 };
 }
 
-// Returns the form of the word that is sent in a state for an input, and the value that it carries: that of the state
-// where it is justified.
+// Returns the form and the value of the word that is sent in a state for an input. A justified word carries the value
+// of the state, which is the one before the justification.
 #[tactic(auto, unfolding(crate::specs::Sending::form_sent, crate::specs::Sending::value_sent, crate::specs::Sending::sending_row_of, crate::specs::Sending::sending_table))]
 fn parts_sent(sending: Option<u16>, action: Action, value: u16) -> (Form, u16)
     requires kept { option_map_or (λ g. g) sending 0 ≤ 782 }
@@ -83,8 +83,8 @@ impl Gen {
         }
     }
 
-    /// Makes the word of the next frame for an action and the value after it. `Up` and `Down` are sent
-    /// only where that value follows the one that is sent.
+    /// Makes the word of the next frame for an action and the value that holds after it. The forms `Up` and `Down` are
+    /// sent only where that value is one step up or down from the value sent last.
     #[tactic(auto, unfolding(crate::specs::Sending::after_action, crate::specs::Sending::word_sent))]
     pub fn step(&mut self, action: Action, value: u16) -> Form
         requires { value ≤ 782 }

@@ -65,8 +65,8 @@ impl Interp {
         self.reading.value
     }
 
-    /// Returns whether the last step changed the mode, the value, a count, a candidate that is counted or `since`.
-    /// Before the first step it is false.
+    /// Returns whether the last step changed the mode, the value, a count, the candidate or `since`. Before the first
+    /// step it is false.
     pub fn moved(&self) -> bool
         ensures { result ≡ self.now.moved }
     {

@@ -3,12 +3,12 @@ ghost use Rattle.sdh_pointer.specs.Laws.{EachWordHasOneRow, EachInputHasOneRow, 
 ghost use Rattle.sdh_pointer.specs.Laws.{GeneratorMoves, GeneratorRepeats, NormalWordSettles, EnabledWordSettles, AisSettles, InputsLast};
 ghost use Rattle.sdh_pointer.specs.Laws.{RepeatedWordsRest, UnmovedIsNormal, UnmovedIsAis, SteadyIsNormal, ReadsWhatIsSent, ValuesSpread};
 
-/// The interpreter's table has exactly one row for each word in each state, and a step is by it.
+/// The interpreter's table has exactly one row for each word in each state, and a step goes by that row.
 pub fn each_word_has_one_row()
     ensures { EachWordHasOneRow }
 {}
 
-/// The generator's table has exactly one row for each input in each state, and a step is by it.
+/// The generator's table has exactly one row for each input in each state, and a step goes by that row.
 pub fn each_input_has_one_row()
     ensures { EachInputHasOneRow }
 {}
@@ -43,7 +43,7 @@ pub fn normal_word_settles()
     ensures { NormalWordSettles }
 {}
 
-/// An interpreter that reads one enabled word for ever keeps what one round gives.
+/// An interpreter that reads one enabled word for ever no longer changes after the first round.
 pub fn enabled_word_settles()
     ensures { EnabledWordSettles }
 {}
@@ -63,17 +63,17 @@ pub fn unmoved_is_ais()
     ensures { UnmovedIsAis }
 {}
 
-/// In `Norm` a normal word of the value kept is answered `Normal`, and soon moves nothing.
+/// An interpreter in `Norm` that reads normal words of its own value answers `Normal`, and soon no longer changes.
 pub fn steady_is_normal()
     ensures { SteadyIsNormal }
 {}
 
-/// What a generator sends for an action, an interpreter in step with it reads as that action.
+/// An interpreter that is in step with a generator reads each of its words as the action for which it was sent.
 pub fn reads_what_is_sent()
     ensures { ReadsWhatIsSent }
 {}
 
-/// An input leads to one state, and is answered there by one word.
+/// An input leads to one state, whatever the state was before. In that state the same input is answered by one word.
 pub fn inputs_last()
     ensures { InputsLast }
 {}
@@ -83,7 +83,7 @@ pub fn repeated_words_rest()
     ensures { RepeatedWordsRest }
 {}
 
-/// A value that is sent from round 0 on is known over each span in each round.
+/// Where a source sends one value from round 0 on, each generator and interpreter on its way is known in each round.
 pub fn values_spread()
     ensures { ValuesSpread }
 {}

@@ -41,10 +41,10 @@ pub enum Action {
     Ais,
 }
 
-/// What an interpreter keeps: its mode; the value, which is not used in `Ais` and `Lop`; how many AIS
-/// words, invalid words and equal new values were read in a row, with that new value as candidate, 0
-/// where none is counted; and in `since` how many steps, up to 3, lie after the last new data flag or
-/// justification, or after mode `Norm` was entered.
+/// What an interpreter keeps. `value` is not used in the modes `Ais` and `Lop`. `ais`, `bad` and `news` are the numbers
+/// of AIS words, of invalid words and of equal new values that were read in a row. `candidate` is that new value, or 0
+/// where none is counted. `since` is the number of steps, up to 3, after the last new data flag or justification, or
+/// after mode `Norm` was entered.
 #[derive(Clone, Copy, Debug, PartialEq, Eq)]
 pub struct Reading {
     pub mode: Mode,
@@ -62,7 +62,7 @@ const LAST: u16 = 782;
 // The number of values that the last ten bits of a word can hold.
 const VALUE_END: u16 = 1024;
 
-// The numbers of AIS words, of equal new values and of invalid words in a row that are needed.
+// The numbers of AIS words, of equal new values and of invalid words in a row that change the mode or the value.
 const AIS_NEEDED: u8 = 3;
 
 const NEWS_NEEDED: u8 = 3;
@@ -87,7 +87,7 @@ fn settled(mode: Mode, value: u16, since: u8) -> Reading
     }
 }
 
-// Returns the count with one more AIS word.
+// Returns the reading with one more AIS word in a row.
 fn with_ais(reading: Reading, since: u8) -> Reading
     requires { IsBounded reading }
     ensures { result ≡ with_ais reading since }
@@ -98,7 +98,7 @@ fn with_ais(reading: Reading, since: u8) -> Reading
     }
 }
 
-// Returns the count with one more invalid word.
+// Returns the reading with one more invalid word in a row.
 fn with_bad(reading: Reading, since: u8) -> Reading
     requires { IsBounded reading }
     ensures { result ≡ with_bad reading since }
@@ -216,7 +216,7 @@ pub fn event_of(reading: &Reading, word: Word) -> Event
     }
 }
 
-// Returns the rows of mode Norm.
+// Returns what is kept after an event in mode Norm, and the action: the table's rows of that mode.
 #[tactic(auto, unfolding(crate::specs::Reading::after_in, crate::specs::Reading::action_in, crate::specs::Reading::reading_row_of, crate::specs::Reading::reading_table))]
 fn step_in_norm(reading: Reading, event: Event) -> (Reading, Action)
     requires bounded { IsBounded reading }
@@ -247,7 +247,7 @@ fn step_in_norm(reading: Reading, event: Event) -> (Reading, Action)
     }
 }
 
-// Returns a new value out of mode Norm: the third equal one is taken.
+// Returns what is kept after a new value in mode Ais or Lop, and the action. The third equal value in a row is taken.
 #[tactic(auto, unfolding(crate::specs::Reading::after_in, crate::specs::Reading::action_in, crate::specs::Reading::reading_row_of, crate::specs::Reading::reading_table))]
 fn step_at_new(reading: Reading, value: u16) -> (Reading, Action)
     requires bounded { IsBounded reading }
@@ -266,7 +266,7 @@ fn step_at_new(reading: Reading, value: u16) -> (Reading, Action)
     }
 }
 
-// Returns the rows of mode Ais.
+// Returns what is kept after an event in mode Ais, and the action: the table's rows of that mode.
 #[tactic(auto, unfolding(crate::specs::Reading::after_in, crate::specs::Reading::action_in, crate::specs::Reading::reading_row_of, crate::specs::Reading::reading_table))]
 fn step_in_ais(reading: Reading, event: Event) -> (Reading, Action)
     requires bounded { IsBounded reading }
@@ -286,7 +286,7 @@ fn step_in_ais(reading: Reading, event: Event) -> (Reading, Action)
     }
 }
 
-// Returns the rows of mode Lop.
+// Returns what is kept after an event in mode Lop, and the action: the table's rows of that mode.
 #[tactic(auto, unfolding(crate::specs::Reading::after_in, crate::specs::Reading::action_in, crate::specs::Reading::reading_row_of, crate::specs::Reading::reading_table))]
 fn step_in_lop(reading: Reading, event: Event) -> (Reading, Action)
     requires bounded { IsBounded reading }

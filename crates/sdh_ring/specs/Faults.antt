@@ -15,14 +15,14 @@ ClocksWentOn t k old new =
     (port : PortId) → HasPortIn old port → HasPortIn new port
     × (clock_at new port ≡ ticks (if nat_lt (place_of_port old port) k then t + 1 else t) (clock_at old port))
 
--- a round that was broken off: the ring is broken, and the clocks of the ports at the nodes that had their round have gone on by
--- it, and no others
+-- A round was broken off. The ring is broken; the clocks of the ports have gone on by one round at the nodes that had
+-- this round, and at no others.
 pub record BreaksRound (w left : World) : Type 0 where
   pub off : IsBrokenOff w left.fibres
   pub ring : left.ring ≡ record w.ring { nodes = left.ring.nodes; broken = true }
   pub clocks : ClocksWentOn 0 (had_round off) w.ring left.ring
 
--- a settle step in whose last round that happened
+-- a settle step whose last round was broken off
 pub record BreaksStep (w : World) (limit : ℕ) (left : World) : Type 0 where
   pub step : BreaksOff w limit left.fibres
   pub ring : left.ring ≡ record w.ring { nodes = left.ring.nodes; rounds = w.ring.rounds + length step.rounds; broken = true }

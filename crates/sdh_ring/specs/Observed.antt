@@ -1,12 +1,13 @@
--- What an observer keeps of the rounds of a settle step. It looks at a ring of add-drop multiplexers after each of
--- them.
+-- What an observer keeps of the rounds of a settle step. The observer looks at a ring of add-drop multiplexers after
+-- each round.
 use Rattle.std.specs.Prelude.{ℕ, Bool}
 use Rattle.sdh_node.specs.Stations.{adm}
 use Rattle.sdh_rounds.specs.Observed as observed
 use Rattle.sdh_world.specs.Held.{HeldRing}
 use Rattle.sdh_world.specs.Rounds.{World}
 
--- after k rounds of a course one more was run and left this ring
+-- one more round was run and left this ring, after k rounds of a course, which gives the world after each number of
+-- rounds
 abbrev pub RanOne : (ℕ → World) → ℕ → HeldRing → Type 0
 RanOne = observed.RanOne adm
 
@@ -14,10 +15,10 @@ RanOne = observed.RanOne adm
 abbrev pub Hears : ((ℕ → World) → ℕ → Type 0) → World → ℕ → World → Type 0
 Hears = observed.Hears adm
 
--- one that didn't end, and what is kept of its whole rounds
+-- a settle step that didn't end, and what is kept of its whole rounds
 abbrev pub HearsSome : ((ℕ → World) → ℕ → Type 0) → World → ℕ → World → Type 0
 HearsSome = observed.HearsSome adm
 
--- one that was stopped after a round, and what is kept of its rounds
+-- a settle step that was stopped after a round, and what is kept of its rounds
 abbrev pub IsStopped : Bool → ((ℕ → World) → ℕ → Type 0) → World → ℕ → World → ℕ → ℕ → Type 0
 IsStopped = observed.IsStopped adm

@@ -17,18 +17,21 @@ pub record KeepsPromises (w : World) (limit : ℕ) (result : Result (Unit {0}) S
   pub whole : result ≢ Err PlantFault → IsWhole w → IsWhole left
   -- a step of at least 68 rounds uses up all slips
   pub slips : OnOk result ((port : PortId) → w.ring.rounds + 68 ≤ left.ring.rounds → waiting_at left.ring port ≡ 0)
-  -- where what comes is what was sent, each node is in its settled state then, and each port has delivered what it is owed
+  -- after a step that ended, where the fibres carry what was sent: each node is in its settled state, and each port has
+  -- delivered what it is owed
   pub restored : OnOk result (Restores w left)
-  -- with a limit of at least 12n + 102 so it is after a step in which no window ended, too
+  -- the same holds after an unsettled step, if its limit is at least 12n + 102
   pub soon : result ≡ Err Unsettled → RestoresBy w limit left
   -- ring and fibres are at rest once a window ended
   pub rests : OnOk result (LeavesAtRest w left)
-  -- where it is vouched for it stays so, and no port meets a stranger in any round of the step
+  -- a ring that is vouched for stays so, and no port meets a stranger in any round of the step
   pub strangers : result ≢ Err PlantFault → KeepsStrangersOutInAll w left
-  -- with a limit that is always enough a window does end, whatever happened before, where no fault breaks the step off
+  -- where the fibres carry what was sent, a step with a limit that is always enough is never unsettled, whatever
+  -- happened before it
   pub answers : IsWhole w → enough_for (length w.ring.ids) ≤ limit → result ≢ Err Unsettled
   -- each port's clock has gone on by the rounds that ran
   pub clocks : result ≢ Err PlantFault → (port : PortId) → HasPortIn w.ring port
       → clock_at left.ring port ≡ clocks_from w port left.ring.rounds
-  -- after a fault, by the whole rounds, and by the last one where their nodes had it
+  -- after a fault, the ports' clocks have gone on by the whole rounds, and by the broken-off one where their nodes had
+  -- it
   pub broken_clocks : result ≡ Err PlantFault → BreaksStep w limit left

@@ -1,4 +1,4 @@
-//! What a step does at once.
+//! The steps of a script that run no round.
 ghost use Rattle.std.specs.Prelude.{◌≡◌, [], ◌∷◌, length, OnOk, OnErr};
 ghost use Rattle.sdh_basics.specs.Causes.{HasCause};
 ghost use Rattle.sdh_plant.specs.Fibres.{IsPrepared};
@@ -12,8 +12,7 @@ use sdh_plan::Step;
 use sdh_plant::Plant;
 use sdh_rounds::PlantFault;
 
-/// Does a step that runs no round to a ring of add-drop multiplexers, whichever steps went before. A fault leaves all
-/// as it was.
+/// Changes a ring of add-drop multiplexers or its fibres by a step that runs no round. A fault leaves all as it was.
 #[tactic(auto, unfolding(sdh_world::specs::Changes::changed))]
 pub fn change<P: Plant>(ring: &mut Ring, plant: &mut P, step: Step) -> Result<(), PlantFault>
     requires prepared { IsPrepared ring.old.settings.rate (length ring.old.ids) (P.fibres plant.old) }

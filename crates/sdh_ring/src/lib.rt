@@ -1,7 +1,7 @@
-//! A ring of add-drop multiplexers: rounds of all its nodes over the fibres between them, and settle steps, which run until the
-//! ring is quiet.
+//! A ring of add-drop multiplexers: rounds of all its nodes over the fibres between them, and settle steps, which run
+//! rounds until a quiet window ends.
 //!
-//! Its round is `round_with` in `sdh_rounds/specs/Rounds.antt`, and where a step ends is in `sdh_rounds/specs/Quiet.antt`.
+//! Its round is `round_with` in `sdh_rounds/specs/Rounds.antt`. Where a step ends is in `sdh_rounds/specs/Quiet.antt`.
 #![tactic(auto)]
 
 mod changing;

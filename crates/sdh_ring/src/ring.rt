@@ -97,7 +97,8 @@ impl Ring {
         // Over fibres that were just prepared for it, what is carried is what was sent.
         ensures whole { IfOk result (λ ring. (f : Fibres) → IsHonest f → IsWhole (world ring (prepared settings.rate (length map) f))) }
 
-        // A new ring is vouched for, whatever the clocks of its ports will be.
+        // A new ring is vouched for, whatever the clocks of its ports will be: no frame that is under way has bytes of
+        // a circuit in a place of another one.
         ensures vouched { IfOk result (λ ring. (f : Fibres) (clocks : PortId → ℕ → Clock) → IsHonest f
             → IsVouched clocks (world ring (prepared settings.rate (length map) f))) }
     {
@@ -123,9 +124,9 @@ impl Ring {
         command_at(&mut self.ring, at.0 as usize, side, command);
     }
 
-    /// Holds the controller of a node for the next `turns` rounds, in place of those left of an earlier call. The ring
-    /// stays vouched for where the node is idle or isolated. A node that passes traffic through goes on doing so,
-    /// whatever its neighbours' words say, so the ring may not stay vouched for then.
+    /// Holds the controller of a node for the next `turns` rounds, in place of those left of an earlier call. Where the
+    /// node is idle or isolated, the ring stays vouched for (`IsVouched`). In another state it may not: a node that
+    /// passes traffic through goes on doing so, whatever its neighbours' words say.
     pub fn hold(&mut self, at: Pos, turns: u32)
         requires at { at.0 < length self.old.ids }
         requires some { 1 ≤ turns }
@@ -151,7 +152,8 @@ impl Ring {
         self.ring.place_of(port)
     }
 
-    /// Adds `count` pending slips to the clock of a port's customer. In each the port sends three bytes fewer or more.
+    /// Adds `count` pending slips to the clock of a port's customer. For each slip the port sends three bytes fewer or
+    /// more in one round.
     pub fn slip(&mut self, port: PortId, turn: Turn, count: u8)
         requires port { port.circuit < length self.old.circuits.circuits }
         requires few { waiting_at self.old port + count ≤ 16 }
@@ -200,8 +202,8 @@ impl Ring {
         ensures ok { OnOk result (IsRound (world self.old (P.fibres plant.old)) (world self.new (P.fibres plant.new))) }
         ensures prepared { OnOk result (IsPrepared self.old.settings.rate (length self.old.ids) (P.fibres plant.new)) }
 
-        // Where what comes is what was sent, states, words and filters are those of a ring of signals with its needs
-        // and held nodes.
+        // Where the fibres carry what was sent, states, words and filters are those of a ring of signals (`sdh_signal`)
+        // with the same needs and held nodes.
         ensures signals { OnOk result (IsWhole (world self.old (P.fibres plant.old))
             → GoesAsSignals (world self.old (P.fibres plant.old)) (world self.new (P.fibres plant.new))) }
 
@@ -209,12 +211,12 @@ impl Ring {
         ensures rest { OnOk result ((clocks : PortId → ℕ → Clock) → IsAtRest clocks (world self.old (P.fibres plant.old))
             → StaysAtRest clocks (world self.new (P.fibres plant.new))) }
 
-        // Where it is vouched for it stays so, and no port meets a stranger in the round: each delivers AIS, or ones, or what its
-        // circuit's other port sent in one round before.
+        // Where the ring is vouched for it stays so, and no port meets a stranger in the round: each port delivers AIS,
+        // or ones, or what its circuit's other port sent in some earlier round.
         ensures strangers { OnOk result (KeepsStrangersOut (world self.old (P.fibres plant.old)) (world self.new (P.fibres plant.new))) }
 
-        // A fault breaks the ring. The first frames of the round may have been sent, and the clocks of ports have gone on where their
-        // nodes had the round before it.
+        // A fault breaks the ring. Some frames of the round may have been sent before it. The clocks of ports have gone
+        // on at the nodes that had this round before the fault.
         ensures err { OnErr result (IsBrokenOff (world self.old (P.fibres plant.old)) (P.fibres plant.new)) }
         ensures broken { OnErr result (self.new.broken ≡ true) }
         ensures breaks { OnErr result (BreaksOne adm (world self.old (P.fibres plant.old)) (world self.new (P.fibres plant.new))) }
@@ -222,7 +224,8 @@ impl Ring {
         ensures later { P.faults plant.old ≤ P.faults plant.new }
         ensures failed { OnErr result (Rose (P.faults plant.old) (P.faults plant.new)) }
 
-        // Where the plant's count is exact: one call failed with a fault, and none with Ok.
+        // Where the plant's count of faults is exact, one call failed if the round ends with a fault, and none if it
+        // ends with Ok.
         ensures counted { IsCounted P.exact (IsErr result) (P.faults plant.old) (P.faults plant.new) }
     {
         sdh_laws::hearing::whole_rounds_go_as_signals();
@@ -235,11 +238,11 @@ impl Ring {
 
 // Settle steps.
 impl Ring {
-    // The circuits are circuits of its size and rate: the function does nothing, and its contract is the law.
+    // The circuits fit the ring's size and rate: the function does nothing, and its contract is the law.
     fn circuits_fit(&self)
         ensures { HasCircuits (layout_in self.now) }
     {
-        // A field that is looked at opens the ring, of whose fields the law is true.
+        // Looking at a field gives the prover the ring's invariant, from which the law follows.
         let _ = &self.ring;
     }
 
@@ -251,8 +254,8 @@ impl Ring {
         let _ = &self.ring;
     }
 
-    /// Runs rounds until one ends a quiet window, which is `3 * n` calm rounds of this step whose last number is a multiple
-    /// of 128, at most `limit` of them. It takes no memory.
+    /// Runs rounds, at most `limit`, until one ends a quiet window. That is `3 * n` calm rounds of this step, the last
+    /// of which has a number that is a multiple of 128. It takes no memory.
     pub fn settle<P: Plant>(&mut self, plant: &mut P, limit: u32) -> Result<(), SettleError>
         requires prepared { IsPrepared self.old.settings.rate (length self.old.ids) (P.fibres plant.old) }
         requires whole { self.old.broken ≡ false }
@@ -262,7 +265,7 @@ impl Ring {
         ensures step { IsStep adm P.exact (world self.old (P.fibres plant.old)) limit result (world self.new (P.fibres plant.new))
             (P.faults plant.old) (P.faults plant.new) }
 
-        // Traffic is restored, no port meets a stranger, and a step that may be long enough ends.
+        // Traffic is restored, no port meets a stranger, and a step whose limit is large enough ends with a window.
         ensures laws { KeepsPromises (world self.old (P.fibres plant.old)) limit result (world self.new (P.fibres plant.new)) }
     {
         self.settle_with(plant, limit, &mut Nobody)
@@ -285,7 +288,8 @@ impl Ring {
             (P.faults plant.old) (P.faults plant.new) }
         ensures laws { KeepsPromises (world self.old (P.fibres plant.old)) limit result (world self.new (P.fibres plant.new)) }
 
-        // What the observer keeps of a step that ended is what it is to keep of all its rounds, and of no other.
+        // What the observer keeps after a step that ended is what it should keep of all rounds of that step, and of no
+        // others.
         ensures heard { OnOk result
             (Hears (λ at k. O.Heard at k observer.new) (world self.old (P.fibres plant.old)) limit (world self.new (P.fibres plant.new))) }
     {
@@ -320,8 +324,8 @@ impl Ring {
             (world self.new (P.fibres plant.new)) (P.faults plant.old) (P.faults plant.new)) }
         ensures laws { IfOk result (λ ended. KeepsPromises (world self.old (P.fibres plant.old)) limit ended (world self.new (P.fibres plant.new))) }
 
-        // What is recorded of a step is what is to be recorded of its rounds, and of no other: of all of them where it ended, of the whole
-        // ones where it didn't, and of those up to the one after which it was stopped.
+        // What is recorded is what should be recorded of the rounds of the step, and of no others. These are all its
+        // rounds where it ended, its whole rounds where it didn't, and those up to the stop where it was stopped.
         ensures heard { IfOk result (λ ended. OnOk ended (Hears (λ at k. O.Records recorder.old log.old at k recorder.new log.new)
             (world self.old (P.fibres plant.old)) limit (world self.new (P.fibres plant.new)))) }
         ensures begun { IfOk result (λ ended. OnErr ended (HearsSome (λ at k. O.Records recorder.old log.old at k recorder.new log.new)
@@ -375,7 +379,8 @@ impl Ring {
         self.node_of(port).delivered(port)
     }
 
-    /// Returns the value of the interpreter through which a port's chunk came, and 0 where it delivers AIS.
+    /// Returns the pointer value of the interpreter through which a port's bytes came, and 0 where the port delivers
+    /// AIS.
     pub fn value(&self, port: PortId) -> u16
         requires { port.circuit < length self.now.circuits.circuits }
         ensures value { result ≡ (outlet_at self.now port).value }
@@ -384,7 +389,7 @@ impl Ring {
         self.node_of(port).value(port)
     }
 
-    /// Returns how many rounds have run, so that the last one has the number before it.
+    /// Returns how many rounds have run. They are numbered from 0, so the last one has a number one below that.
     pub fn rounds(&self) -> u64
         ensures { result ≡ self.now.rounds }
     {

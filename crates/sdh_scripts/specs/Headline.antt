@@ -11,7 +11,7 @@ use Rattle.sdh_shell.specs.Reading.{TellsPlan}
 use Rattle.sdh_shell.specs.Calls.{HasRun}
 use Rattle.sdh_scripts.specs.Programs.{Deed, Refuses, Writes, Runs, Program}
 
--- the plan of what is asked: one of its own, or that of the source's bytes
+-- the plan of what is asked: the one that it names by itself, or else that of the source's bytes
 abbrev pub is_plan_for : Option Planned → List ℕ → Planned → Type 0
 is_plan_for None bytes plan = TellsPlan bytes plan
 is_plan_for (Some own) bytes plan = plan ≡ own
@@ -36,7 +36,8 @@ EndsAs Known ending bytes how =
 abbrev pub AlwaysSettles : List ℕ → Status → Type 0
 AlwaysSettles bytes how = (plan : Planned) → TellsPlan bytes plan → enough_for (length plan.nodes) ≤ plan.limit → IsSettled how
 
--- all is given for this: a text is written of the plan; or the plan is run, and `MaySettle` gives what a run needs to come to its end
+-- all that a deed needs is given: nothing where a text is written of the plan; what `MaySettle` says, so that a run
+-- comes to its end, where the plan is run; a refused plan is never done
 abbrev pub may_do_by : {L E : Type 0} → (Planned → Fibres → Type 0) → Deed L E → Planned → Fibres → Type 0
 may_do_by MaySettle (Refuses why) plan f = ⊥
 may_do_by MaySettle (Writes told) plan f = Unit {0}
@@ -45,14 +46,15 @@ may_do_by MaySettle (Runs listing) plan f = MaySettle plan f
 abbrev pub may_do : {A L T E : Type 0} → Program A L T E → Deed L E → Planned → Fibres → Type 0
 may_do program = may_do_by program.MaySettle
 
--- all is given for what is asked with a plan, where this is done with it
+-- what is asked leads with this plan to a deed for which all is given
 abbrev pub may_go_by : {A L E : Type 0} → (A → Planned → Deed L E → Type 0) → (Planned → Fibres → Type 0) → A → Planned → Fibres → Type 0
 may_go_by {L = L} {E = E} Does MaySettle ask plan f = (deed : Deed L E) × Does ask plan deed × may_do_by MaySettle deed plan f
 
 abbrev pub MayGo : {A L T E : Type 0} → Program A L T E → A → Planned → Fibres → Type 0
 MayGo program = may_go_by program.Does program.MaySettle
 
--- the source's bytes are known, and all is given with the plan of what is asked: its own, or that of the bytes
+-- what is asked can be done: the source's bytes are known, and all is given with the plan that it names by itself, or
+-- else with that of the bytes
 abbrev pub may_be_done_by : {A : Type 0} → (A → Option Planned) → (A → Planned → Fibres → Type 0) → A → Option (List ℕ) → Fibres → Type 0
 may_be_done_by own_plan May ask None f = ⊥
 may_be_done_by own_plan May ask (Some bytes) f = (plan : Planned) × is_plan_for (own_plan ask) bytes plan × May ask plan f

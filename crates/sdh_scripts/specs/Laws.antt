@@ -7,7 +7,8 @@ use Rattle.sdh_report.specs.declared.status.Status.{Status}
 use Rattle.sdh_scripts.specs.Walks.{Walk}
 use Rattle.sdh_scripts.specs.Scripts.{Runs, ComesTo}
 
--- a step that runs no round leaves the nodes as many, the rounds as they were, and what was sent and is known of arrivals
+-- a step that runs no round leaves the number of nodes, the number of rounds and what was sent; known arrivals stay
+-- known
 pub record DoesNoRound {N : Type 0} (does : Step → World N → World N) : Type 0 where
   pub ids : (s : Step) (w : World N) → (does s w).ring.ids ≡ w.ring.ids
   pub size : (s : Step) (w : World N) → length (does s w).ring.nodes ≡ length w.ring.nodes
@@ -22,7 +23,7 @@ pub record KeepsRounds {N T : Type 0} (walk : Walk N T) : Type 0 where
   pub looks : (number k : ℕ) (at bt : ℕ → World N) → ((j : ℕ) → j ≤ k + walk.behind → at j ≡ bt j)
       → walk.tells number at k ≡ walk.tells number bt k
 
--- where arrivals are known, what comes of a script is determined, and after a fault it is the front of that
+-- where arrivals are known, what a script comes to is determined; after a fault it is the beginning of that
 abbrev pub KnownScripts : {N T : Type 0} → Walk N T → Type 0
 KnownScripts {N} {T} walk = (limit before : ℕ) (steps : List Step) (w : World N) (reports : List T) (end : Status) (left : World N)
     → Knows w.fibres → 1 ≤ length w.ring.ids → length w.ring.nodes ≡ length w.ring.ids → Runs walk limit before steps w reports end left

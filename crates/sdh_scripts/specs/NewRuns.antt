@@ -1,4 +1,4 @@
--- What is so of a run before its fibres are there.
+-- What is true of a run before its fibres are made.
 use Rattle.std.specs.Prelude.{ℕ, ◌≡◌, ◌≤◌, List, [], length}
 use Rattle.sdh_plant.specs.Fibres.{Fibres}
 use Rattle.sdh_plant.specs.Calls.{prepared}
@@ -9,8 +9,8 @@ use Rattle.sdh_scripts.specs.Texts.{HasRoom}
 use Rattle.sdh_scripts.specs.Plans.{Account}
 use Rattle.sdh_scripts.specs.declared.run.NewRun.{NewRun}
 
--- the rate and the number of nodes are those of its ring, its steps may be run over fibres that are prepared for these, and nothing is
--- written yet
+-- a run may begin: the rate and the number of nodes are those of its ring, its steps may be run over fibres that are
+-- prepared for these, and nothing is written yet
 pub record MayBegin {N R : Type 0} (ring : R → HeldRing N) (room : R → ℕ) (MayRun : ℕ → List Step → R → Fibres → Type 0)
     (run : NewRun R) : Type 0 where
   pub rate : run.rate ≡ (ring run.runner).settings.rate

@@ -26,8 +26,8 @@ pub record IsRunOutcome {A L T E : Type 0} (program : Program A L T E) (listing 
   pub text_is : text ≡ program.text_of listing told ++ program.endings.line how
   pub came : program.IsRunOf plan f told status left
 
--- What is done with a plan comes to this. Where no round is run the fibres are left alone: there is the last line alone, or the text and
--- the last line.
+-- How a deed with a plan ends, with this text and these fibres left. Where no round is run the fibres are left alone,
+-- and the text is the last line alone, or the text that is written of the plan and the last line.
 abbrev pub OfDeed : {A L T E : Type 0} → Program A L T E → Deed L E → Planned → Fibres → E → List ℕ → Fibres → Type 0
 OfDeed program (Refuses why) plan f how text left =
     (how ≡ why) × RefusesPlan program.endings how × Says (program.endings.line how) text f left
@@ -35,7 +35,7 @@ OfDeed program (Writes told) plan f how text left =
     (how ≡ program.endings.of status.Ok) × Says (told ++ program.endings.line how) text f left
 OfDeed program (Runs listing) plan f how text left = IsRunOutcome program listing plan f how text left
 
--- what is asked comes to this with a plan
+-- what is asked ends so with a plan
 abbrev pub OfPlan : {A L T E : Type 0} → Program A L T E → A → Planned → Fibres → E → List ℕ → Fibres → Type 0
 OfPlan {L = L} {E = E} program ask plan f how text left =
     (deed : Deed L E) × program.Does ask plan deed × OfDeed program deed plan f how text left
@@ -50,30 +50,30 @@ pub record HasRefused {A L T E : Type 0} (program : Program A L T E) (bytes : Li
   pub none : HasNoPlan bytes status
   pub says : Says (program.endings.line how) text f left
 
--- the bytes are refused, or what is asked comes to this with their plan
+-- the bytes are refused, or what is asked ends so with their plan
 abbrev pub OfBytes : {A L T E : Type 0} → Program A L T E → A → List ℕ → Fibres → E → List ℕ → Fibres → Type 0
 OfBytes program ask bytes f how text left =
     HasRefused program bytes f how text left ⊎ ((plan : Planned) × TellsPlan bytes plan × OfPlan program ask plan f how text left)
 
 -- ---- with the words
 
--- what is asked comes to this with a plan of its own, or with the bytes of a source
+-- what is asked ends so, with a plan of its own or with the bytes of a source
 abbrev pub OfOwnPlan : {A L T E : Type 0} → Program A L T E → A → Option Planned → List ℕ → Fibres → E → List ℕ → Fibres → Type 0
 OfOwnPlan program ask None bytes f how text left = OfBytes program ask bytes f how text left
 OfOwnPlan program ask (Some plan) bytes f how text left = OfPlan program ask plan f how text left
 
--- what is asked, if anything, comes to this ending, with this text, where the source had these bytes left. No outcome
--- is a write fault or a lack of memory: each may stand in place of an outcome
+-- What the words ask for, if anything, ends so with this text, where the source had these bytes left. No outcome is a
+-- write fault or a lack of memory: each of these may stand in place of an outcome.
 abbrev pub IsOutcome : {A L T E : Type 0} → Program A L T E → Option A → List ℕ → Fibres → E → List ℕ → Fibres → Type 0
 IsOutcome program None bytes f how text left = (how ≡ program.endings.of status.Usage) × Says (own_line program.usage) text f left
 IsOutcome program (Some ask) bytes f how text left = OfOwnPlan program ask (program.own_plan ask) bytes f how text left
 
--- an outcome that these failures allow
+-- an outcome whose read fault or plant fault, if it is one, has its cause in a call that failed
 abbrev pub MayEnd : {A L T E : Type 0} → Program A L T E → Option A → List ℕ → Fibres → Counts → Counts → E → List ℕ → Fibres → Type 0
 MayEnd program asked bytes f reads calls how text left =
     IsOutcome program asked bytes f how text left × EndsWithCause program.endings reads calls how
 
--- what was written when this number was answered
+-- what was written when the program ended with this number
 pub record Answers {A L T E : Type 0} (program : Program A L T E) (asked : Option A) (bytes : List ℕ) (f left : Fibres)
     (reads calls : Counts) (number : ℕ) (old new : Option (List ℕ)) : Type 0 where
   pub ending : E
@@ -82,12 +82,12 @@ pub record Answers {A L T E : Type 0} (program : Program A L T E) (asked : Optio
 
 -- ---- what is asked for of source and plant
 
--- the source is read where there is no plan of its own
+-- the source is read where what is asked names no plan by itself
 abbrev pub reads_without : Option Planned → Bool
 reads_without None = true
 reads_without (Some plan) = false
 
--- the source is read for what is asked, where these are the plans that a program has of its own
+-- the source is read for what is asked; `own_plan` gives the plan that it names by itself, if it names one
 abbrev pub reads_by : {A : Type 0} → (A → Option Planned) → Option A → Bool
 reads_by own_plan None = false
 reads_by own_plan (Some ask) = reads_without (own_plan ask)

@@ -15,8 +15,8 @@ use Rattle.sdh_scripts.specs.Scripts.{Runs, Ran, reports_within}
 abbrev pub with_fibres : {N : Type 0} → HeldRing N → Fibres → World N
 with_fibres r f = world r (prepared r.settings.rate (length r.ids) f)
 
--- Over any plant: it made no fibres, and nothing ran; or these are the reports of what came of the steps from this world, which has the
--- fibres that were prepared.
+-- What comes of steps over any plant. Either it made no fibres, and nothing ran; or these are the reports of the steps
+-- from this world, which has the fibres that were prepared.
 abbrev pub ComesOfSteps : {N T : Type 0} → Walk N T → ℕ → List Step → World N → Fibres → List T → Status → Fibres → Type 0
 ComesOfSteps {N} walk limit steps w f reports end left =
     ((end ≡ status.PlantFault) × (reports ≡ []) × (left ≡ f))
@@ -29,13 +29,14 @@ pub record Came {N T : Type 0} (walk : Walk N T) (limit : ℕ) (text_of : T → 
   pub text_is : text ≡ flat_map text_of reports
   pub ran : ComesOfSteps walk limit steps w f reports end left
 
--- Where the arrivals are known it ended so: reports, ending and fibres are those that the script comes to, and with them all frames sent.
+-- A run ended so where the arrivals are known: its reports, its ending and its fibres are those that the script comes
+-- to, with all frames sent.
 pub record IsDone {N T : Type 0} (r : Ran N T) (reports : List T) (end : Status) (left : Fibres) : Type 0 where
   pub reports_are : reports ≡ r.reports
   pub end_is : end ≡ r.ending
   pub left_is : left ≡ r.left.fibres
 
--- A fault broke it off when the first `count` of its frames were sent. The reports, in a ring of n, are those of
+-- A fault broke a run off when the first `count` of its frames were sent. The reports, in a ring of n, are those of
 -- exactly the settle steps with all frames sent, of their rounds and of all rounds after them.
 pub record IsCut {N T : Type 0} (walk : Walk N T) (r : Ran N T) (n : ℕ) (f : Fibres) (reports : List T) (left : Fibres) : Type 0 where
   pub count : ℕ

@@ -12,7 +12,7 @@ use Rattle.sdh_scripts.specs.Walks.{Walk}
 use Rattle.sdh_scripts.specs.Scripts.{Ran, script}
 use Rattle.sdh_scripts.specs.Outcomes.{with_fibres, IsSettled, ComesOfSteps, ComesOfKnownRun}
 
--- how a plan is reported of that is run over a ring of some kind
+-- how plans are run and reported over rings of some kind
 pub record Account (N T : Type 0) : Type 1 where
   -- what a script does with such a ring, and what is reported of a settle step
   pub walk : Walk N T
@@ -27,7 +27,7 @@ ReportsOwe T = Planned → Fibres → List T → Status → Fibres → Type 0
 abbrev pub world_of : {N T : Type 0} → Account N T → Planned → Fibres → World N
 world_of t plan f = with_fibres (t.new_ring plan) f
 
--- what its script comes to there, where the arrivals are known
+-- what the script of a plan comes to over these fibres, where the arrivals are known
 abbrev pub ran_of : {N T : Type 0} → Account N T → Planned → Fibres → Ran N T
 ran_of t plan f = script t.walk plan.limit 0 plan.steps (world_of t plan f)
 
@@ -39,8 +39,8 @@ Comes t plan f reports end left = ComesOfSteps t.walk plan.limit plan.steps (wor
 abbrev pub ComesKnown : {N T : Type 0} → Account N T → Planned → Fibres → List T → Status → Fibres → Type 0
 ComesKnown t plan f reports end left = ComesOfKnownRun t.walk (ran_of t plan f) (length plan.nodes) f reports end left
 
--- a script that settles: where the arrivals are known each settle step has a quiet window within the limit; or the fibres are honest and
--- the limit is large
+-- A script that settles. Where the arrivals are known each settle step has a quiet window within the limit; or the
+-- fibres are honest and the limit is large.
 abbrev pub MaySettle : {N T : Type 0} → Account N T → Planned → Fibres → Type 0
 MaySettle t plan f =
     (Knows (world_of t plan f).fibres × ((ran_of t plan f).ending ≡ status.Ok))

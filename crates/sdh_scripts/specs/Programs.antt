@@ -6,8 +6,8 @@ use Rattle.sdh_report.specs.declared.status.Status.{Status}
 use Rattle.sdh_report.specs.declared.status.Status.TheVariants as status
 use Rattle.sdh_shell.specs.Endings.{Endings}
 
--- What is done with a plan: it is refused with this ending; this text is written of it, and no round is run; or it is run, and this is
--- listed of its settle steps.
+-- What is done with a plan: it is refused with this ending; or this text is written of it, and no round is run; or it
+-- is run, and this is listed of its settle steps.
 pub data Deed (L E : Type 0) : Type 0 where
   Refuses : E → Deed L E
   Writes : List ℕ → Deed L E
@@ -18,8 +18,8 @@ abbrev pub deed_listing : {L : Type 0} → Option L → Deed L Status
 deed_listing None = Refuses status.NoSuchPort
 deed_listing (Some listing) = Runs listing
 
--- What it can be asked for; what can be listed of a plan; what is reported of a settle step, whatever is listed of
--- that; and how it ends.
+-- A program that runs plans. `Ask` is what it can be asked for, `Listing` what can be listed of a plan, `Told` what is
+-- reported of a settle step, whatever is listed of it, and `E` how the program ends.
 pub record Program (Ask Listing Told E : Type 0) : Type 1 where
   -- how it is called
   pub usage : List ℕ
@@ -27,7 +27,7 @@ pub record Program (Ask Listing Told E : Type 0) : Type 1 where
   pub asked : List (List ℕ) → Option Ask
   -- how it ends
   pub endings : Endings E
-  -- a plan of its own, which what is asked names; else the plan is read from a source
+  -- the plan that what is asked names by itself; without one the plan is read from a source
   pub own_plan : Ask → Option Planned
   -- what is done with a plan
   pub Does : Ask → Planned → Deed Listing E → Type 0
@@ -36,5 +36,5 @@ pub record Program (Ask Listing Told E : Type 0) : Type 1 where
   -- what is reported of the settle steps of a plan that is run over new fibres, how the run ends, and the fibres that
   -- it leaves
   pub IsRunOf : Planned → Fibres → List Told → Status → Fibres → Type 0
-  -- with which plan and fibres it is done
+  -- the plans and fibres with which a run comes to its end
   pub MaySettle : Planned → Fibres → Type 0

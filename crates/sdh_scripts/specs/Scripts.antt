@@ -34,13 +34,13 @@ pub record BreaksBehind {N T : Type 0} (walk : Walk N T) (limit : ℕ) (w : Worl
   pub few : length rounds < walk.behind
   pub off : IsBrokenOff walk.station (run_with walk.station rounds mid) left
 
--- a fault broke one of its rounds off, or of those after it
+-- a fault broke off one of the rounds of a settle step, or one of those after it
 abbrev pub Breaks : {N T : Type 0} → Walk N T → ℕ → World N → Fibres → Type 0
 Breaks walk limit w left = BreaksOff walk.station w limit left ⊎ BreaksBehind walk limit w left
 
 -- ---- a script, over any fibres
 
--- no further report; the script has ended so
+-- no further report comes, and the script has ended with `how`
 abbrev pub Stops : {T : Type 0} → Status → List T → Status → Type 0
 Stops how reports end = (reports ≡ []) × (end ≡ how)
 
@@ -85,14 +85,14 @@ ran_unsettled walk limit number w =
       frames = frames_in walk.station (arrivals_in walk.station limit w) w;
     }
 
--- a settle step ends in k rounds, those after it are run, and the script goes on
+-- a settle step ends in k rounds, the rounds after it are run, and the script goes on
 abbrev pub ran_settled : {N T : Type 0} → Walk N T → ℕ → ℕ → World N → Ran N T → Ran N T
 ran_settled walk k number w later = record later {
   reports = walk.tells number (course walk.station w) k ∷ later.reports;
   frames = frames_in walk.station (arrivals_in walk.station (k + walk.behind) w) w ++ later.frames;
 }
 
--- the steps from a world, after `before` settle steps that have ended
+-- what the steps come to from a world, after `before` settle steps that have ended
 abbrev pub script : {N T : Type 0} → Walk N T → ℕ → ℕ → List Step → World N → Ran N T
 script walk limit before [] w = ran_none w
 script walk limit before (step.Settle ∷ later) w =
@@ -100,14 +100,14 @@ script walk limit before (step.Settle ∷ later) w =
     (settles_in walk.station w limit) (ran_unsettled walk limit (before + 1) w)
 script walk limit before (s ∷ later) w = script walk limit before later (walk.does s w)
 
--- the script ended so
+-- the reports, the ending and the world that is left are those that the script comes to
 pub record IsRan {N T : Type 0} (r : Ran N T) (reports : List T) (end : Status) (left : World N) : Type 0 where
   pub reports_are : reports ≡ r.reports
   pub end_is : end ≡ r.ending
   pub left_is : left ≡ r.left
 
--- of reports, those of settle steps whose last round, or the last of those after it, is among the first that send
--- `frames` frames: a ring of n sends 2 n in a round
+-- The reports of the settle steps that are complete within the first `frames` frames: all rounds of the step, and the
+-- rounds after it, have sent theirs. A ring of n nodes sends 2 n frames in a round.
 abbrev pub reports_within : {N T : Type 0} → Walk N T → ℕ → ℕ → List T → List T
 reports_within walk n frames [] = []
 reports_within walk n frames (r ∷ reports) =

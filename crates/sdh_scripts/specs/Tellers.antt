@@ -1,4 +1,4 @@
--- What a settle step comes to whose reports are written as they come.
+-- What a settle step comes to, if its report is written while its rounds run.
 use Rattle.std.specs.Prelude.{ℕ, ◌≡◌, ◌⊎◌, ◌<◌, ◌≤◌, List, ◌++◌, length, Option}
 use Rattle.std.specs.Io.KnownBytes.{Appends}
 use Rattle.sdh_outside.specs.Writing.{AppendsFewer}
@@ -11,7 +11,7 @@ use Rattle.sdh_scripts.specs.Scripts.{Ended, Breaks}
 use Rattle.sdh_scripts.specs.declared.teller.StepError.{StepError}
 use Rattle.sdh_scripts.specs.declared.teller.StepError.TheVariants.{Unsettled, PlantFault, WriteFault}
 
--- ---- its rounds so far
+-- ---- the rounds of a settle step so far
 
 -- rounds of a settle step ran, none of them after a quiet window, and this is reported of them
 pub record InStep {N T : Type 0} (walk : Walk N T) (limit number : ℕ) (w : World N) (told : T) (mid : World N) : Type 0 where
@@ -44,20 +44,21 @@ pub record Begun {N T : Type 0} (walk : Walk N T) (limit number : ℕ) (begun_of
   pub next : (left ≡ mid) ⊎ IsBrokenOff walk.station mid left.fibres
   pub text_is : text ≡ begun_of told
 
--- ---- how it didn't end
+-- ---- how a settle step didn't end
 
--- why it didn't, with the rounds after it
+-- why a settle step, with the rounds after it, didn't end
 abbrev pub StopsBy : {N T : Type 0} → Walk N T → ℕ → World N → StepError → World N → Type 0
 StopsBy walk limit w Unsettled left = Unsettles walk.station w limit left
 StopsBy walk limit w PlantFault left = Breaks walk limit w left.fibres
 StopsBy walk limit w WriteFault left = Unit {0}
 
--- what was to be written where a write failed: what is written of the rounds that ran so far, or of the step, which ended
+-- what was to be written where a write failed: the text of the rounds that ran so far, or that of the step, which ended
 abbrev pub WasToWrite : {N T : Type 0} → Walk N T → ℕ → ℕ → (T → List ℕ) → (T → List ℕ) → World N → List ℕ → World N → Type 0
 WasToWrite {T = T} walk limit number text_of begun_of w text left =
     Begun walk limit number begun_of w text left ⊎ ((told : T) × Ended walk limit number w told left × (text ≡ text_of told))
 
--- what was written of it: of its rounds so far; or, where a write failed, a front of what was to be written
+-- what was written of a settle step that didn't end: the text of its rounds so far; or, where a write failed, the first
+-- bytes of what was to be written
 abbrev pub WroteBegun : {N T : Type 0} → Walk N T → ℕ → ℕ → (T → List ℕ) → (T → List ℕ) → World N → StepError → World N
     → Option (List ℕ) → Option (List ℕ) → Type 0
 WroteBegun walk limit number text_of begun_of w WriteFault left old new =

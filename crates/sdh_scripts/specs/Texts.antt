@@ -32,14 +32,15 @@ pub record Went {N T : Type 0} (walk : Walk N T) (limit : ℕ) (text_of : T → 
   pub goes : (later : List Step) (rest : List T) (end : Status) (last : World N) → Runs walk limit now later left rest end last
       → Runs walk limit before (gone ++ later) w (reports ++ rest) end last
 
--- This is to be written of the step with which a script ended, after `before` settle steps: of a settle step what is
--- written of its rounds that ran, and nothing of a step that was refused.
+-- The text that is due for the step with which a script ended, after `before` settle steps. For a settle step it is the
+-- text of the rounds that ran; for a step that was refused it is empty.
 abbrev pub WritesLast : {N T : Type 0} → Walk N T → ℕ → (T → List ℕ) → ℕ → Step → World N → List ℕ → Status → World N → Type 0
 WritesLast {T = T} walk limit begun_of before step.Settle w text end left =
     Runs {T = T} walk limit before (step.Settle ∷ []) w [] end left × Begun walk limit (before + 1) begun_of w text left
 WritesLast {T = T} walk limit begun_of before s w text end left = Refuses {T = T} s w [] end left × (text ≡ [])
 
--- the script ends with this step, whatever is left of it, and what is to be written of it was
+-- the script ends with this step, whichever steps would come after it, and the text that is due for the step was
+-- written
 pub record StopsAt {N T : Type 0} (walk : Walk N T) (limit : ℕ) (begun_of : T → List ℕ) (before : ℕ) (s : Step) (w : World N)
     (old new : Option (List ℕ)) (end : Status) (left : World N) : Type 0 where
   pub runs : (later : List Step) → Runs walk limit before (s ∷ later) w [] end left
@@ -47,7 +48,7 @@ pub record StopsAt {N T : Type 0} (walk : Walk N T) (limit : ℕ) (begun_of : T 
   pub writes : WritesLast walk limit begun_of before s w tail end left
   pub text : Appends old new tail
 
--- a write failed in this settle step: a front was written of what was to be written of it
+-- a write failed in this settle step, and only the first bytes of what was to be written of it were written
 pub record FailsAt {N T : Type 0} (walk : Walk N T) (limit : ℕ) (text_of begun_of : T → List ℕ) (before : ℕ) (s : Step) (w : World N)
     (old new : Option (List ℕ)) (left : World N) : Type 0 where
   pub settles : s ≡ step.Settle
@@ -57,7 +58,7 @@ pub record FailsAt {N T : Type 0} (walk : Walk N T) (limit : ℕ) (text_of begun
 
 -- ---- a script
 
--- the script ended with the step that comes after these, and this is to be written of that step
+-- the script ended with the step that comes after these, and this text is due for that step
 pub record Stopped {N T : Type 0} (walk : Walk N T) (limit : ℕ) (begun_of : T → List ℕ) (steps : List Step) (w : World N)
     (reports : List T) (tail : List ℕ) (end : Status) (left : World N) : Type 0 where
   pub gone : List Step
@@ -68,7 +69,8 @@ pub record Stopped {N T : Type 0} (walk : Walk N T) (limit : ℕ) (begun_of : T 
   pub went : Runs walk limit 0 gone w reports status.Ok mid
   pub writes : WritesLast walk limit begun_of (length reports) stops mid tail end left
 
--- the text grew by what is written of each report of what came of the steps, and of the step with which they stopped before their end
+-- the text grew by what is written of each report, and by what is due for the step with which the script stopped, if it
+-- stopped before its end
 pub record Lists {N T : Type 0} (walk : Walk N T) (limit : ℕ) (text_of begun_of : T → List ℕ) (steps : List Step) (w : World N)
     (old new : Option (List ℕ)) (end : Status) (left : World N) : Type 0 where
   pub reports : List T
@@ -77,8 +79,8 @@ pub record Lists {N T : Type 0} (walk : Walk N T) (limit : ℕ) (text_of begun_o
   pub tail_is : ((end ≡ status.Ok) × (tail ≡ [])) ⊎ Stopped walk limit begun_of steps w reports tail end left
   pub text : Appends old new (flat_map text_of reports ++ tail)
 
--- A write failed in the settle step that comes after these steps, and nothing more was run: a front was written of what
--- was to be written of the reports so far and of that step.
+-- A write failed in the settle step that comes after these steps, and nothing more was run. Only the first bytes were
+-- written of what was to be written: the reports so far, and the text of that step.
 pub record WriteFailed {N T : Type 0} (walk : Walk N T) (limit : ℕ) (text_of begun_of : T → List ℕ) (steps : List Step) (w : World N)
     (old new : Option (List ℕ)) (left : World N) : Type 0 where
   pub gone : List Step

@@ -7,11 +7,11 @@ use Rattle.sdh_report.specs.Reports.{Report}
 
 -- `T` is what is reported of a settle step
 pub record Walk (N T : Type 0) : Type 0 where
-  -- its nodes, which run in rounds
+  -- the ring's nodes, which run in rounds
   pub station : Station N
   -- what a step that runs no round does to the ring and its fibres
   pub does : Step → World N → World N
-  -- the number of rounds that are run after a settle step that ended, and looked at
+  -- the number of rounds that are run after each settle step that ended, and reported with it
   pub behind : ℕ
   -- what is reported of the settle step of this number that ended with the k-th round of a course, which gives the
   -- world after each number of rounds of the step and of those after it

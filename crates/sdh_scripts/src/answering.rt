@@ -48,7 +48,8 @@ fn ended_status<'a, M: RunsPlans<'a>>(status: Status, text: Text) -> EndedText<M
     ended(ending_of::<M>(status), text)
 }
 
-// Returns what is asked, with a plan of its own or the one that a source has.
+// Returns the ending and the text of what is asked, with the plan that it names by itself or the one that the source
+// has.
 fn ended_asked<'a, M: RunsPlans<'a>, R: Source, P: Plant>(
     alloc: Global,
     asked: M,
@@ -95,7 +96,7 @@ fn ended_asked<'a, M: RunsPlans<'a>, R: Source, P: Plant>(
     }
 }
 
-/// Returns what the words, the source and the plant come to.
+/// Returns the ending and the text to which the words, the source and the plant lead.
 pub fn ended_call<'a, M: RunsPlans<'a>, R: Source, P: Plant>(
     alloc: Global,
     words: &'a [String],

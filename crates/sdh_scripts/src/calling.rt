@@ -28,8 +28,8 @@ pub fn call<'a, M: RunsPlans<'a>, R: Source, W: Sink, P: Plant>(
 ) -> M::Ending
     requires fresh { HasNoFibres (P.fibres plant.old) }
 
-    // The ending and the text that is written, for a source whose bytes are known, where it is read, and a sink that
-    // shows what was written.
+    // The ending and the text that is written. It is said where the bytes of a source that is read are known, and where
+    // the sink shows what was written.
     ensures outcome { let ask = M.program.asked (words_of words.now) in
         let reads : Counts = record { before = R.faults source.old; after = R.faults source.new } in
         let calls : Counts = record { before = P.faults plant.old; after = P.faults plant.new } in
@@ -37,7 +37,7 @@ pub fn call<'a, M: RunsPlans<'a>, R: Source, W: Sink, P: Plant>(
         (λ how text. MayEnd M.program ask bytes (P.fibres plant.old) reads calls how text (P.fibres plant.new)) result
         (W.written sink.old) (W.written sink.new)) }
 
-    // Over every source, sink and plant.
+    // These clauses hold over every source, sink and plant.
     ensures usage { result ≡ M.program.endings.of Status.Usage → M.program.asked (words_of words.now) ≡ None }
     ensures usage_only { M.program.asked (words_of words.now) ≡ None → (result ≡ M.program.endings.of Status.Usage)
         ⊎ (result ≡ M.program.endings.of Status.WriteFault) ⊎ (result ≡ M.program.endings.of Status.Memory) }
@@ -48,9 +48,9 @@ pub fn call<'a, M: RunsPlans<'a>, R: Source, W: Sink, P: Plant>(
     ensures plant_fault { result ≡ M.program.endings.of Status.PlantFault → Rose (P.faults plant.old) (P.faults plant.new) }
     ensures write_fault { result ≡ M.program.endings.of Status.WriteFault → Rose (W.faults sink.old) (W.faults sink.new) }
 
-    // Where an object's count is exact, each of its calls that failed is reported by its fault, and none is tried
-    // again; a write fault may stand in place of what was to be reported. With TooLong one byte more than a plan may
-    // have was taken.
+    // Where the count of faults of a source, sink or plant is exact, each of its calls that failed is reported by its
+    // fault, and none is tried again. A write fault may stand in place of what was to be reported. With TooLong, one
+    // byte more than a plan may have was taken.
     ensures came { let reads : Counts = record { before = R.faults source.old; after = R.faults source.new } in
         let calls : Counts = record { before = P.faults plant.old; after = P.faults plant.new } in
         (how : M.Ending) × ((result ≡ how) ⊎ (result ≡ M.program.endings.of Status.WriteFault))
@@ -64,7 +64,7 @@ pub fn call<'a, M: RunsPlans<'a>, R: Source, W: Sink, P: Plant>(
     ensures later { (R.faults source.old ≤ R.faults source.new) × (W.faults sink.old ≤ W.faults sink.new)
         × (P.faults plant.old ≤ P.faults plant.new) }
 
-    // With all that is needed, and no fault, everything is done, or there is no memory.
+    // Where all that is needed is given and no call fails, everything is done, or memory runs out.
     ensures complete { (ask : M.Ask) → M.program.asked (words_of words.now) ≡ Some ask
         → MayBeDone M.program ask (told M.program (Some ask) (R.left source.old)) (P.fibres plant.old)
         → ¬ (Rose (R.faults source.old) (R.faults source.new)) → ¬ (Rose (W.faults sink.old) (W.faults sink.new))

@@ -1,12 +1,13 @@
-//! Scripts over rings of any kind, and the call of a program that runs them. `specs/Walks.antt` says what a kind of
-//! ring brings to a script, `specs/Scripts.antt` what comes of one, and `specs/Laws.antt` has the law. The trait
-//! `Teller` runs a script and writes its reports as they come; `run_script` runs it over any output, and
-//! `specs/Texts.antt` says what was written, wherever it stopped. The trait `Runner` reports a settle step once it has
-//! ended. `start` runs one over new fibres, with its text in memory; what is reported of a plan then is `Tells` in
-//! `specs/Plans.antt`.
+//! Scripts over rings of any kind, and the call of a program that runs them. `specs/Walks.antt` says what a script
+//! needs of a kind of ring, `specs/Scripts.antt` what a script comes to, and `specs/Laws.antt` has the law of scripts.
 //!
-//! What the words of a program ask for, and what it reports of a plan, is a `RunsPlans`. What its call comes to is
-//! `IsOutcome` in `specs/Outcome.antt`, and what it promises then is in `specs/Headline.antt`.
+//! `run_script` runs a script over a `Teller`, which writes each report to an output while the rounds run. What was
+//! written, wherever the script stopped, is in `specs/Texts.antt`. A `Runner` reports a settle step once it has ended.
+//! `start` runs the script of a `Runner` over new fibres, with its text in memory. What that reports of a plan is
+//! `Tells` in `specs/Plans.antt`.
+//!
+//! What the words of a program ask for, and what it reports of a plan, is a `RunsPlans`. How its call ends is
+//! `IsOutcome` in `specs/Outcome.antt`, and what it may promise of a plan is in `specs/Headline.antt`.
 #![tactic(auto)]
 
 ghost use Rattle.sdh_scripts.specs.Laws.{KeepsRounds, KnownScripts};
@@ -29,7 +30,7 @@ pub use runner::Runner;
 pub use script::run_script;
 pub use teller::{StepError, Teller};
 
-/// Where arrivals are known, what comes of a script is determined, and after a fault it is the front of that.
+/// Where arrivals are known, what a script comes to is determined. After a fault it is the beginning of that.
 #[tactic(auto, using(crate::proofs::Known::known_scripts))]
 pub fn known_scripts<R: Runner>()
     ensures { KeepsRounds R.walk → KnownScripts R.walk }

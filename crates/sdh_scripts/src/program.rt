@@ -43,7 +43,7 @@ pub trait RunsPlans<'a>: Copy {
     fn asked(words: &'a [String]) -> Option<Self>
         ensures { option_map ask_of result ≡ program.asked (words_of words.now) };
 
-    /// Returns the plan that what is asked for names, or `None` where the plan is read from a source.
+    /// Returns the plan that the words name by themselves, or `None` where the plan is read from a source.
     fn own_plan(self, alloc: Global) -> Result<Option<Plan>, AllocError>
         ensures { IfOk result (λ own. own ≡ program.own_plan (ask_of self)) };
 

@@ -19,8 +19,8 @@ use std::alloc::{AllocError, Global};
 /// The number of settle steps that a script has at most.
 const SETTLES_MAX: usize = 64;
 
-/// A run before its fibres are there: a ring in which no round has run, the rate and the number of its nodes, the steps, how many
-/// rounds each settle step has at most, and a text in which nothing is written.
+/// A run before its fibres are there: a ring in which no round has run, the rate and the number of its nodes, the
+/// steps, the most rounds that a settle step may run, and a text in which nothing is written.
 #[derive(Drop)]
 pub struct NewRun<R> {
     pub runner: R,
@@ -49,7 +49,7 @@ pub fn text_for(alloc: Global, each: usize) -> Result<Text, AllocError>
     Ok(text)
 }
 
-// Returns the script over a ring and its fibres.
+// Runs the script over a ring and its fibres. Returns what was written, and how the run ended.
 fn run_from<R: Runner + Drop, P: Plant>(new_run: NewRun<R>, plant: &mut P) -> Run
     requires may { R.MayRun 0 new_run.steps.items new_run.runner (P.fibres plant.old) }
     requires room { HasRoom (R.room new_run.runner) 0 new_run.text.room }
@@ -87,12 +87,14 @@ pub fn start<R: Runner + Drop, P: Plant>(
     requires fresh { HasNoFibres (P.fibres plant.old) }
     requires ready { MayBegin R.ring R.room R.MayRun new_run }
 
-    // The text is that of one list of reports, which came over the fibres that were prepared for the ring; or there were none.
+    // The text is that of one list of reports, which came over the fibres that were prepared for the ring. Where no
+    // fibres could be prepared the list is empty.
     ensures came { IfOk result (λ run. Came R.walk new_run.limit (R.text_of new_run.runner) new_run.steps.items
         (with_fibres (R.ring new_run.runner) (P.fibres plant.old)) (P.fibres plant.old) run.text.bytes run.status (P.fibres plant.new)) }
     ensures failed { IfOk result (λ run. run.status ≡ Status.PlantFault → Rose (P.faults plant.old) (P.faults plant.new)) }
 
-    // Where the plant's count is exact: one call failed with a fault, and none with any other ending, nor without memory.
+    // Where the plant's count of faults is exact, one call failed if the run ended with a plant fault. None failed with
+    // any other ending, and none where memory ran out.
     ensures counted { IfOk result (λ run. IsCounted P.exact (run.status ≡ Status.PlantFault) (P.faults plant.old) (P.faults plant.new)) }
     ensures uncounted { OnErr result (P.exact ≡ true → P.faults plant.new ≡ P.faults plant.old) }
     ensures later { P.faults plant.old ≤ P.faults plant.new }

@@ -87,8 +87,8 @@ pub fn run_script<O: Output, R: Teller<O>, P: Plant>(
     ensures failed { result ≡ Status.PlantFault → Rose (P.faults plant.old) (P.faults plant.new) }
     ensures cut { result ≡ Status.WriteFault → Rose (O.faults output.old) (O.faults output.new) }
 
-    // Where a count is exact: one call of the plant failed with a plant fault, one write with a write fault, and none with any
-    // other ending.
+    // Where a count of faults is exact: one call of the plant failed if the script ended with a plant fault, one write
+    // if it ended with a write fault, and none with any other ending.
     ensures counted { IsCounted P.exact (result ≡ Status.PlantFault) (P.faults plant.old) (P.faults plant.new) }
     ensures writes_counted { IsCounted O.exact (result ≡ Status.WriteFault) (O.faults output.old) (O.faults output.new) }
 {
