@@ -18,7 +18,7 @@ use Rattle.sdh_circuits.specs.declared.Asked.{Asked}
 use Rattle.sdh_circuits.specs.declared.AddError.{AddError}
 use Rattle.sdh_circuits.specs.declared.AddError.TheVariants as refused
 
--- what is asked for a circuit: nodes by their identifiers, and for each end text, trace and offset
+-- a circuit as it is asked for: nodes by their identifiers, and for each end text, trace and offset
 pub record Wish : Type 0 where
   pub name : List ℕ
   pub from : ℤ
@@ -59,7 +59,7 @@ unfoldable pub do_share : ℕ → Provisioned → Provisioned → Bool
 do_share n c d =
     c.slot.0 == d.slot.0 && list_any (λ span. holds_span n (arc_of n c) span && holds_span n (arc_of n d) span) (range_with_len 0 n)
 
--- the position of a node that is in the ring
+-- the position of the node with this number, where it is in the ring
 abbrev pub position_of_node : List ℕ → ℤ → Pos
 position_of_node ids number = unwrap_or (node_of ids number) (record { 0 = 0 })
 
@@ -102,11 +102,11 @@ has_traces wish = is_text wish.trace_a && is_text wish.trace_b
 abbrev pub is_free_name : List Provisioned → List ℕ → Bool
 is_free_name circuits name = is_name name && not (list_any (λ c. bytes_eq c.name name) circuits)
 
--- no circuit is on a span of its arc in its slot
+-- no circuit shares a span and a slot with the one that is asked for
 abbrev pub has_room : List ℕ → List Provisioned → Wish → Bool
 has_room ids circuits wish = not (list_any (do_share (length ids) (circuit_of ids wish)) circuits)
 
--- the checks in their order, each with what is said where it fails
+-- the checks in their order, each with the error that is returned where it fails
 unfoldable pub checks : Provisioning → List ℕ → Wish → List (Bool × AddError)
 checks before ids wish =
     (has_slot before.slots wish, refused.Slot)
@@ -119,15 +119,15 @@ checks before ids wish =
     ∷ ((has_room ids before.circuits wish, refused.Overlap)
     ∷ [])))))))
 
--- what is said at the first check that fails, if one does
+-- the error of the first check that fails, if one does
 abbrev pub first_failing : List (Bool × AddError) → Option AddError
 first_failing [] = None
 first_failing (check ∷ later) = if check.0 then first_failing later else Some check.1
 
--- why the circuit that is asked for can't be added
+-- why the circuit that is asked for can't be added: the error of the first check that fails
 unfoldable pub refusal : Provisioning → List ℕ → Wish → Option AddError
 refusal before ids wish = first_failing (checks before ids wish)
 
--- the circuit map after the circuit was added: it stands after the others, and the ring is kept
+-- the circuit map after the circuit was added: it stands after the others, and the map keeps the ring
 abbrev pub with_circuit : Provisioning → List ℕ → Provisioned → Provisioning
 with_circuit before ids circuit = record { slots = before.slots; ring = Some ids; circuits = before.circuits ++ circuit ∷ [] }

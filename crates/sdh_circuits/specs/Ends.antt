@@ -11,7 +11,7 @@ abbrev pub other_end : End → End
 other_end A = B
 other_end B = A
 
--- the side of a port's node on which its circuit's arc is
+-- the side of the node at this end on which the circuit's arc lies
 abbrev pub inward : End → Side
 inward A = East
 inward B = West
@@ -20,11 +20,11 @@ inward B = West
 abbrev pub port_id : ℕ → End → PortId
 port_id index e = record { circuit = index; end = e }
 
--- A before B
+-- the number of an end: A has 0, and B has 1
 abbrev pub end_number : End → ℕ
 end_number A = 0
 end_number B = 1
 
--- the ports of a ring's circuits are counted from 0, circuit by circuit, A before B
+-- the number of a port: the ports of a ring's circuits are counted from 0, circuit by circuit, A before B
 abbrev pub port_number : PortId → ℕ
 port_number id = 2 * id.circuit + end_number id.end

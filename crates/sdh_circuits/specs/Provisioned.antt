@@ -37,7 +37,7 @@ same_end B B = true
 same_end A B = false
 same_end B A = false
 
--- two names are those of one port
+-- two port identifiers are those of one port
 abbrev pub same_port : PortId → PortId → Bool
 same_port p q = (p.circuit == q.circuit) && same_end p.end q.end
 

@@ -33,8 +33,9 @@ pub record HasOffsets (c : Provisioned) : Type 0 where
   pub a : c.a.offset ≤ 782
   pub b : c.b.offset ≤ 782
 
--- what is true of the circuits of a ring of n with `slots` working slots: the ends of each are two nodes of the ring,
--- each slot is one of them, each name has its form, and no two circuits have one name, or share a span and a slot
+-- What is true of the circuits of a ring of n with `slots` working slots. The ends of each circuit are two nodes of the
+-- ring, its slot is a working slot, its offsets are pointer values, and its name has its form. No two circuits have one
+-- name, or share a span and a slot.
 pub record AreCircuits (n slots : ℕ) (circuits : List Provisioned) : Type 0 where
   pub in_ring : All (IsInRing n) circuits
   pub in_slots : All (IsInSlots slots) circuits
@@ -43,7 +44,7 @@ pub record AreCircuits (n slots : ℕ) (circuits : List Provisioned) : Type 0 wh
   pub named_apart : (i j : ℕ) (c d : Provisioned) → slice_get circuits i ≡ Some c → slice_get circuits j ≡ Some d → c.name ≡ d.name → i ≡ j
   pub apart : AreApart n circuits
 
--- the number of nodes of the ring that is kept
+-- the number of nodes of the ring that the map keeps, 0 where it keeps none
 abbrev pub ring_size : Provisioning → ℕ
 ring_size p = option_map_or length p.ring 0
 
@@ -54,10 +55,10 @@ pub record IsProvisioning (p : Provisioning) : Type 0 where
   pub empty : IfNone p.ring (p.circuits ≡ [])
   pub circuits : AreCircuits (ring_size p) p.slots p.circuits
 
--- the first circuit that is on a span in a slot
+-- the number of the first circuit that is on a span in a slot, if there is one
 abbrev pub on_span : Provisioning → ℕ → ℕ → Option ℕ
 on_span p span slot = position (is_on (ring_size p) span slot) p.circuits
 
--- the circuit of a name
+-- the number of the circuit that has a name, if there is one
 abbrev pub at_port : Provisioning → List ℕ → Option ℕ
 at_port p name = position (λ c. bytes_eq c.name name) p.circuits

@@ -31,8 +31,8 @@ impl Model for CircuitMap {
 }
 
 impl CircuitMap {
-    /// Returns an empty map, at a rate with `rate_half` working slots on each span: half of its N. It belongs to no
-    /// ring before the first circuit is added, which brings its ring along.
+    /// Returns an empty map for a rate with `rate_half` working slots on each span, which is half of its N: 2 for STM-4
+    /// and 8 for STM-16. The map belongs to no ring before the first circuit is added, which brings its ring along.
     pub fn new(alloc: Global, rate_half: u8) -> CircuitMap
         requires { IsRateHalf rate_half }
         ensures { result ≡ record { slots = rate_half; ring = None; circuits = [] } }
@@ -44,7 +44,7 @@ impl CircuitMap {
         }
     }
 
-    // Returns the name, where it has its form and no circuit has it.
+    // Returns the name, where it has the form of a name and no circuit has it, else `None`.
     fn free_name(&self, name: &str) -> Option<Name>
         ensures free { is_some result ≡ is_free_name self.now.circuits name.now }
         ensures name { IfSome result (λ free. free ≡ name.now) }
@@ -55,7 +55,7 @@ impl CircuitMap {
         Name::new(name.as_bytes())
     }
 
-    // Returns the circuit that is asked for, or the first check that fails.
+    // Returns the circuit that is asked for, or the error of the first check that fails.
     #[tactic(auto, using(crate::proofs::Kept::inside_kept, crate::proofs::Kept::in_ring, crate::proofs::Refusing::last_check), unfolding(crate::specs::Checks::refusal, crate::specs::Checks::checks))]
     fn check(&self, map: &RingMap, asked: &Asked<'_>) -> Result<Circuit, AddError>
         requires { IfSome self.now.ring (λ ids. ids ≡ map.now) }
@@ -101,14 +101,14 @@ impl CircuitMap {
         Ok(circuit)
     }
 
-    /// Adds the circuit that is asked for after the others, or returns the first check that fails: the slot, the ends,
-    /// that they are two nodes, both offsets, both texts, both traces, the name, and that no other circuit is on one of
-    /// its spans in its slot. A refusal changes nothing.
+    /// Adds the circuit that is asked for after the others, or returns the error of the first check that fails. The
+    /// checks are of the slot, the ends, that they are two nodes, both offsets, both texts, both traces, the name, and
+    /// that no other circuit is on one of its spans in its slot. An error, `Memory` too, changes nothing.
     pub fn add(&mut self, map: &RingMap, asked: &Asked<'_>) -> Result<(), AddError>
         requires { IfSome self.old.ring (λ kept. kept ≡ map.now) }
         ensures added { OnOk result (self.new ≡ with_circuit self.old map.now (circuit_of map.now (wish_of asked.now))) }
 
-        // The first check that fails is the answer. A lack of memory is one only where no check fails.
+        // The error is that of the first check that fails. It is `Memory` only where no check fails.
         ensures refused { IfSome (refusal self.old map.now (wish_of asked.now)) (λ why. result ≡ Err why) }
         ensures memory { IfNone (refusal self.old map.now (wish_of asked.now)) (IfErr result (λ why. why ≡ AddError.Memory)) }
         ensures unchanged { OnErr result (self.new ≡ self.old) }
@@ -117,7 +117,7 @@ impl CircuitMap {
         self.keep(map, circuit)
     }
 
-    // Keeps the circuit and the ring map, or finds no memory.
+    // Keeps the circuit and the ring map, or returns `Memory` where memory runs out.
     fn keep(&mut self, map: &RingMap, circuit: Circuit) -> Result<(), AddError>
         requires { IsProvisioning (with_circuit self.old map.now circuit) }
         ensures kept { OnOk result (self.new ≡ with_circuit self.old map.now circuit) }
@@ -131,7 +131,7 @@ impl CircuitMap {
         Ok(())
     }
 
-    /// Returns how many circuits there are.
+    /// Returns the number of circuits, at most 128.
     #[tactic(auto, using(crate::proofs::Few::few_circuits))]
     pub fn len(&self) -> usize
         ensures len { result ≡ length self.now.circuits }
@@ -149,7 +149,7 @@ impl CircuitMap {
         &self.circuits[circuit as usize]
     }
 
-    /// Returns the circuit that is on a span in a slot, or `None` where no circuit is.
+    /// Returns the number of the circuit that is on a span in a slot, or `None` where no circuit is.
     pub fn on_span(&self, span: Span, slot: Slot) -> Option<u8>
         ensures { result ≡ on_span self.now span.0 slot.0 }
     {
@@ -158,7 +158,7 @@ impl CircuitMap {
         Some(at as u8)
     }
 
-    /// Returns the circuit of a name, or `None` where no circuit has it.
+    /// Returns the number of the circuit that has a name, or `None` where no circuit has it.
     pub fn at_port(&self, name: &str) -> Option<u8>
         ensures { result ≡ at_port self.now name.now }
     {

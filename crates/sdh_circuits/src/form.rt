@@ -1,4 +1,5 @@
-//! Checks of what is asked that need no other circuit, and the parts that are made of it.
+//! Checks of a circuit that is asked for, as far as they need no other circuit, and the ends and ports that are made
+//! for it.
 ghost use Rattle.std.specs.Prelude.{◌≡◌, ◌↔◌, true, false, IsSome, IfSome, IfNone};
 ghost use Rattle.sdh_circuits.specs.Checks.{wish_of, is_within, node_of, has_slot, has_ends, has_two_ends, has_offsets, has_texts};
 ghost use Rattle.sdh_circuits.specs.Checks.{has_traces};
@@ -31,21 +32,21 @@ pub(crate) fn has_offsets(asked: &Asked<'_>) -> bool
     is_within(0, 782, asked.offset_a) && is_within(0, 782, asked.offset_b)
 }
 
-// Returns whether both texts have their form.
+// Returns whether both texts have 1 to 64 bytes, each from 0x20 to 0x7E.
 pub(crate) fn has_texts(asked: &Asked<'_>) -> bool
     ensures { result ≡ has_texts (wish_of asked.now) }
 {
     is_text(asked.text_a.as_bytes()) && is_text(asked.text_b.as_bytes())
 }
 
-// Returns whether both traces have their form.
+// Returns whether both traces have 1 to 64 bytes, each from 0x20 to 0x7E.
 pub(crate) fn has_traces(asked: &Asked<'_>) -> bool
     ensures { result ≡ has_traces (wish_of asked.now) }
 {
     is_text(asked.trace_a.as_bytes()) && is_text(asked.trace_b.as_bytes())
 }
 
-// Returns the number as an identifier, where it is one.
+// Returns the number as an identifier, where it is 0 to 15.
 fn identifier(number: i64) -> Option<u8>
     ensures form { IsSome result ↔ (is_id number ≡ true) }
     ensures number { IfSome result (λ id. id ≡ magnitude number) }
@@ -57,14 +58,14 @@ fn identifier(number: i64) -> Option<u8>
     }
 }
 
-// Returns the position of the node with this number.
+// Returns the position of the node whose identifier is this number, if there is one.
 fn node_of(map: &RingMap, number: i64) -> Option<Pos>
     ensures { result ≡ node_of map.now number }
 {
     map.find(identifier(number)?)
 }
 
-// Returns the positions of both ends.
+// Returns the positions of both ends, where both are nodes of the ring.
 pub(crate) fn ends(map: &RingMap, asked: &Asked<'_>) -> Option<(Pos, Pos)>
     ensures missing { IfNone result (has_ends map.now (wish_of asked.now) ≡ false) }
     ensures from { IfSome result (λ ends. node_of map.now asked.now.from ≡ Some ends.0) }
@@ -82,7 +83,7 @@ pub(crate) fn has_two_ends(asked: &Asked<'_>) -> bool
     asked.from != asked.to
 }
 
-// Returns the port that is asked for, where its parts have their form.
+// Returns the port that is asked for. Text, trace and offset have passed their checks.
 pub(crate) fn port(text: &str, trace: &str, offset: i64) -> Port
     requires text { is_text text.now ≡ true }
     requires trace { is_text trace.now ≡ true }

@@ -43,8 +43,8 @@ pub struct PortId {
     pub end: End,
 }
 
-/// A circuit that is asked for, as numbers and texts from outside: nodes by their identifiers, and for each
-/// end the text, the trace and the offset of its port.
+/// A circuit that is asked for, as numbers and texts from outside. The nodes are named by their identifiers. Each end
+/// has the text, the trace and the offset of its port.
 #[derive(Clone, Copy, Debug)]
 pub struct Asked<'a> {
     pub name: &'a str,
@@ -59,10 +59,10 @@ pub struct Asked<'a> {
     pub trace_b: &'a str,
 }
 
-/// Why a circuit isn't added, in the order in which it is checked.
+/// Why a circuit isn't added. Apart from `Memory`, the reasons stand in the order in which they are checked.
 #[derive(Clone, Copy, Debug, PartialEq, Eq, Error)]
 pub enum AddError {
-    /// There is no memory to keep the circuit. All checks passed.
+    /// There is no memory to keep the circuit, which passed all checks.
     #[error("no memory")]
     Memory,
     /// The slot isn't 1 to half of the rate's N.
@@ -86,7 +86,7 @@ pub enum AddError {
     /// The name hasn't 1 to 16 bytes of `a` to `z`, `0` to `9`, `-` and `_`, or another circuit has it.
     #[error("the name is no name, or another circuit has it")]
     Name,
-    /// Another circuit is on one of its spans in its slot.
+    /// Another circuit is on one of the circuit's spans in the same slot.
     #[error("another circuit is on one of its spans in its slot")]
     Overlap,
 }

@@ -59,7 +59,7 @@ fn is_name(bytes: &[u8]) -> bool
 }
 
 impl Name {
-    // Returns the name of these bytes, or `None` where they are none.
+    // Returns the name of these bytes, or `None` where they are no name.
     pub(crate) fn new(bytes: &[u8]) -> Option<Name>
         ensures form { is_some result ≡ is_name bytes.now }
         ensures bytes { IfSome result (λ name. name ≡ bytes.now) }
@@ -103,7 +103,7 @@ impl Model for Circuit {
 }
 
 impl Circuit {
-    /// Returns its name, of at most 16 bytes.
+    /// Returns the circuit's name, of 1 to 16 bytes.
     #[tactic(auto, unfolding(crate::specs::Naming::is_name))]
     pub fn name(&self) -> &Name
         ensures name { result.now ≡ self.now.name }
@@ -114,28 +114,28 @@ impl Circuit {
         name
     }
 
-    /// Returns where its arc starts, and its port A is.
+    /// Returns the position at which the circuit's arc starts, where its port A is.
     pub fn from(&self) -> Pos
         ensures { result ≡ self.now.from }
     {
         self.from
     }
 
-    /// Returns where its arc ends, and its port B is.
+    /// Returns the position at which the circuit's arc ends, where its port B is.
     pub fn to(&self) -> Pos
         ensures { result ≡ self.now.to }
     {
         self.to
     }
 
-    /// Returns its working slot, which it has on each span of its arc.
+    /// Returns the working slot that the circuit has on each span of its arc.
     pub fn slot(&self) -> Slot
         ensures { result ≡ self.now.slot }
     {
         self.slot
     }
 
-    /// Returns the port at one of its ends.
+    /// Returns the port at an end of the circuit.
     pub fn port(&self, end: End) -> &Port
         ensures { result.now ≡ customer_at self.now end }
     {

@@ -26,7 +26,7 @@ fn is_on(map: &RingMap, circuit: &Circuit, span: Span, slot: Slot) -> bool
     circuit.slot() == slot && holds(map, circuit, span)
 }
 
-// Returns the first circuit that is on the span in the slot.
+// Returns the number of the first circuit that is on the span in the slot, if there is one.
 pub(crate) fn index_on(map: &RingMap, circuits: &[Circuit], span: Span, slot: Slot) -> Option<usize>
     requires { All (IsInRing (length map.now)) circuits.now }
     ensures index { result ≡ position (is_on (length map.now) span.0 slot.0) circuits.now }
@@ -51,7 +51,7 @@ pub(crate) fn is_named(circuits: &[Circuit], name: &str) -> bool
     circuits.iter().any(|circuit| has_name(circuit, name))
 }
 
-// Returns the circuit of the name.
+// Returns the number of the first circuit that has the name, if there is one.
 pub(crate) fn index_named(circuits: &[Circuit], name: &str) -> Option<usize>
     ensures index { result ≡ position (λ c. bytes_eq c.name name.now) circuits.now }
     ensures within { IfSome result (λ i. i < length circuits.now) }

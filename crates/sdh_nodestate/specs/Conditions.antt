@@ -1,18 +1,18 @@
--- What a caller of a node's step owes.
+-- What a step of a node requires.
 use Rattle.std.specs.Prelude.{◌≡◌, ◌≢◌, ◌<◌, ◌≤◌, true, None, length}
 use Rattle.sdh_terms.specs.Requests.{code_number}
 use Rattle.sdh_terms.specs.declared.Code.TheVariants.{Rr}
 use Rattle.sdh_nodestate.specs.declared.Needs.{Needs}
 use Rattle.sdh_nodestate.specs.Rules.{Scene}
 
--- what a node may need: no local request is a reverse request, and a side that fails asks for at least SF
+-- needs that a node may have: no local request is a reverse request, and a side that fails asks for at least SF
 pub record MayNeed (x : Needs) : Type 0 where
   pub west : x.west ≢ Rr
   pub east : x.east ≢ Rr
   pub west_fails : x.west_fails ≡ true → 11 ≤ code_number x.west
   pub east_fails : x.east_fails ≡ true → 11 ≤ code_number x.east
 
--- the node is in its ring, its needs may be, and a side that fails hears nothing
+-- the position is one of the ring, the needs are such as a node may have, and a side that fails hears nothing
 pub record MayStep (s : Scene) : Type 0 where
   pub inside : s.at < length s.ids
   pub needs : MayNeed s.needs

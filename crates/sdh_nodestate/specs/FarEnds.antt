@@ -6,7 +6,7 @@ use Rattle.sdh_ringmap.specs.declared.Chain.{Chain}
 use Rattle.sdh_nodestate.specs.declared.NodeState.{NodeState}
 use Rattle.sdh_nodestate.specs.declared.NodeState.TheVariants as state
 
--- only a node that switches one side may have a far end
+-- the far end of a state: only a node that switches one side may have one
 abbrev pub far_of : NodeState → Option Pos
 far_of (state.SwitchWest far) = far
 far_of (state.SwitchEast far) = far

@@ -9,7 +9,7 @@ pub record Brought : Type 0 where
   pub second : Option K
   pub third : Option K
 
--- before the first round
+-- what was brought before the first round: no word
 abbrev pub nothing_brought : Brought
 nothing_brought = record { last = None; second = None; third = None }
 
@@ -17,7 +17,7 @@ nothing_brought = record { last = None; second = None; third = None }
 abbrev pub with_brought : Option K → Brought → Brought
 with_brought word b = record { last = word; second = b.last; third = b.second }
 
--- the first of three words that agree but for their marks
+-- the first of three words where they agree in all but their marks; else none
 abbrev pub agreed : K → K → K → Option K
 agreed a b c = if agrees a b && agrees a c then Some a else None
 

@@ -96,7 +96,7 @@ is_about s d x k = is_side x (opposite d) && (k.to == own_id s) && (k.from == id
 unfoldable pub stronger : Scene → Side → Code
 stronger s d = larger (local s d) (short s d)
 
--- how urgent that request is; 0 is none
+-- how urgent the request of the span on d is: the number of its code, where 0 is no request
 abbrev pub weight : Scene → Side → ℕ
 weight s d = code_number (stronger s d)
 
@@ -116,9 +116,9 @@ pub data Choice : Type 0 where
   relay : Choice
   rest : Choice
 
--- Which word is sent, by the weights of the own short, the own long and the relayed word, where 0 is no word: the first
--- of an own short word of at least SF, an own long word of at least SF, the word of greatest weight if there is one,
--- and rest. In a tie an own short word is preferred, then an own long one.
+-- Which word is sent, by the weights of the own short, the own long and the relayed word, where 0 is no word. An own
+-- short word of at least SF comes first, then an own long word of at least SF, then the word of greatest weight. Where
+-- there is no word at all, it is rest. In a tie an own short word is preferred, then an own long one.
 abbrev pub choose : ℕ → ℕ → ℕ → Choice
 choose s l r =
     if nat_le 11 s then own_short else
@@ -132,7 +132,8 @@ choose s l r =
 unfoldable pub chosen : Scene → Side → Choice
 chosen s d = choose (weight s d) (weight s (opposite d)) (weight_of (relayed s d))
 
--- a long word heard on x leaves the span on d its switch: there is none, it is about that span, or its code is smaller
+-- no long word heard on x prevents a switch of d: none is heard, or it is about the span on d, or its code is smaller
+-- than that span's
 abbrev pub is_below : Scene → Side → Side → Bool
 is_below s d x = option_map_or (λ k. is_about s d x k || nat_lt (code_number k.code) (weight s d)) (long s x) true
 
@@ -158,7 +159,7 @@ one_side false false = None
 abbrev pub switched : Scene → Option Side
 switched s = one_side (switches s West) (switches s East)
 
--- by whether the side fails, and by the far end of the one switched side, where exactly one is switched
+-- the mark by whether the side fails, and, where exactly one side is switched, by that side's far end
 abbrev pub mark_by : Bool → Option (Option Pos) → m.Mark
 mark_by true o = mark.Rdi
 mark_by false None = mark.Idle
@@ -170,7 +171,7 @@ mark_by false (Some (Some p)) = mark.BridgedSwitched
 unfoldable pub mark_on : Scene → Side → m.Mark
 mark_on s d = mark_by (fails s d) (option_map (far s) (switched s))
 
--- a word of this node's own that is sent on d
+-- a word of this node's own that is sent on d, to the neighbour on side `to`
 abbrev pub own_word : Scene → Side → Code → Side → Path → K
 own_word s d code to path = record { code = code; to = id_on s to; from = own_id s; path = path; mark = mark_on s d }
 
@@ -178,9 +179,9 @@ own_word s d code to path = record { code = code; to = id_on s to; from = own_id
 abbrev pub rest_word : Scene → Side → K
 rest_word s d = own_word s d Nr d Short
 
--- The own short word goes to the neighbour on d, with the local request where that is at least the neighbour's, else with
--- RR, a reverse request. The own long word goes the long way to the neighbour on the opposite side, with the request of
--- the span there. A relayed word is unchanged.
+-- The word that is sent on d. The own short word goes to the neighbour on d. It has the local request where that is at
+-- least the neighbour's, else RR, a reverse request. The own long word goes the long way to the neighbour on the
+-- opposite side, with the request of the span there. A relayed word is unchanged.
 abbrev pub word_by : Scene → Side → Choice → K
 word_by s d own_short = own_word s d (if nat_le (code_number (short s d)) (code_number (local s d)) then local s d else Rr) d Short
 word_by s d own_long = own_word s d (stronger s (opposite d)) (opposite d) Long
@@ -197,7 +198,8 @@ is_relay own_short = false
 is_relay own_long = false
 is_relay rest = false
 
--- by whether west and east are switched, whether the words sent there are relayed, and the far ends of each side
+-- the state by whether west and east are switched, whether the words sent on them are relayed, and the far end of each
+-- side
 abbrev pub state_by : Bool → Bool → Bool → Bool → Option Pos → Option Pos → NodeState
 state_by true true r q w e = state.Isolated tt
 state_by true false r q w e = state.SwitchWest w
@@ -212,6 +214,6 @@ state_by false false false false w e = state.Idle tt
 unfoldable pub state_after : Scene → NodeState
 state_after s = state_by (switches s West) (switches s East) (is_relay (chosen s West)) (is_relay (chosen s East)) (far s West) (far s East)
 
--- both words
+-- the words sent on both sides
 abbrev pub sent_after : Scene → Sent
 sent_after s = record { west = word s West; east = word s East }

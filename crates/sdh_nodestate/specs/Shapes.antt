@@ -6,7 +6,7 @@ use Rattle.sdh_nodestate.specs.declared.NodeState.TheVariants as state
 use Rattle.sdh_nodestate.specs.declared.shape.Shape.{Shape}
 use Rattle.sdh_nodestate.specs.declared.shape.Shape.TheVariants as shape
 
--- the state of that shape
+-- the state of a shape
 abbrev pub state_of : Shape → NodeState
 state_of shape.Idle = state.Idle tt
 state_of shape.PassThrough = state.PassThrough tt

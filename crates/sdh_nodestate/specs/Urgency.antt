@@ -1,5 +1,5 @@
--- Which word is sent on a side, by the urgency of the words that may be sent there. This project's own, after ITU-T
--- G.841.
+-- Which word is sent on a side, by the urgency of the words that may be sent there. The order is this project's own,
+-- after ITU-T G.841.
 use Rattle.std.specs.Prelude.{ℕ, ◌≡◌, ◌≢◌, ◌<◌, ◌≤◌, ◌⊎◌}
 use Rattle.sdh_ringmap.specs.Places.{opposite}
 use Rattle.sdh_ringmap.specs.declared.Side.{Side}
@@ -16,19 +16,19 @@ weight_on s d rest = 0
 abbrev pub IsAsUrgent : ℕ → ℕ → Type 0
 IsAsUrgent a b = (11 ≤ a) ⊎ (b ≤ a)
 
--- between words that are equally urgent an own short one stands before an own long one, and that before a relayed one
+-- the order of words that are equally urgent: the own short one, the own long one, the relayed one
 abbrev pub place : Choice → ℕ
 place own_short = 0
 place own_long = 1
 place relay = 2
 place rest = 3
 
--- of words with these weights this is the one to be sent
+-- of words with these weights, c is the one to be sent
 pub record IsFirst (weight : Choice → ℕ) (c : Choice) : Type 0 where
-  -- it is there; only where no word is there, the one that asks for nothing is sent
+  -- the word that is sent is there; the word that asks for nothing is sent only where no other is there
   pub there : c ≢ rest → 0 < weight c
   pub nothing : c ≡ rest → (other : Choice) → weight other ≡ 0
-  -- none is more urgent, and of those that are as urgent it stands first
+  -- no word is more urgent than the one that is sent, which stands first among those that are as urgent
   pub urgent : (other : Choice) → IsAsUrgent (weight c) (weight other)
   pub before : (other : Choice) → 0 < weight other → IsAsUrgent (weight other) (weight c) → place c ≤ place other
 

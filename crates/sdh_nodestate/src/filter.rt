@@ -23,7 +23,7 @@ impl Model for Filter {
     ghost inverse = { λ b. record { last = b.last; second = b.second; third = b.third } };
 }
 
-// Returns the first of three words, where they agree.
+// Returns the first of three words where they agree in all but their marks, else `None`.
 fn agreed(first: K, second: K, third: K) -> Option<K>
     ensures { result ≡ agreed first second third }
 {

@@ -1,8 +1,9 @@
-//! The state of a node of a shared protection ring, and the K words that it sends, by what it needs and what it hears in
-//! one round. The rules are this project's profile of ITU-T G.841 clause 7.2; they are in `specs/Rules.antt`.
+//! The state of a node of a shared protection ring, and the K words that it sends. Both follow from its local requests,
+//! the sides that fail, and the words that it hears in one round. The rules are this project's profile of ITU-T G.841
+//! clause 7.2; they are in `specs/Rules.antt`.
 //!
 //! Each state is a type of its own. A step consumes the old state and makes the next. Only a node that switches exactly
-//! one side may have a far end, and with it a chain.
+//! one side may have a far end, and with it a chain: the positions between the node and its far end, both included.
 #![tactic(auto)]
 
 ghost use Rattle.std.specs.Prelude.{◌≡◌, ◌<◌, length};
@@ -140,7 +141,7 @@ pub struct Sent {
     pub east: K,
 }
 
-/// Returns the state of a new node.
+/// Returns the state of a new node, which is idle.
 pub fn start() -> NodeState
     ensures { result ≡ NodeState.Idle tt }
 {
@@ -168,7 +169,7 @@ pub fn step(old: NodeState, map: &RingMap, at: Pos, needs: Needs, heard: Heard) 
     ensures state { result.0 ≡ state_after (scene map.now at.0 needs heard) }
     ensures sent { result.1 ≡ sent_after (scene map.now at.0 needs heard) }
 
-    // What follows of the state and the words for whoever goes on with them.
+    // These clauses follow from the two above. They are for callers that build on the state and the words.
     ensures far { IsElsewhere (length map.now) at.0 (far_of result.0) }
     ensures sourced { HearsSourced map.now heard → IsSourced map.now result.1 }
     ensures spellable { HearsSpellable heard → SendsSpellable result.1 }
@@ -189,15 +190,16 @@ pub fn step(old: NodeState, map: &RingMap, at: Pos, needs: Needs, heard: Heard) 
 }
 
 impl SwitchWest {
-    /// Returns the far end, if there is one: the source of the long word that was heard on the east side. In a settled
-    /// ring it switches east.
+    /// Returns the position of the far end, if there is one: the source of the long word that was heard on the east
+    /// side. In a settled ring the far end switches its east side.
     pub fn far(&self) -> Option<Pos>
         ensures { result ≡ self.now }
     {
         self.far
     }
 
-    /// Returns the positions from this node, which is at `at`, eastwards up to the far end.
+    /// Returns the positions from this node, which is at `at`, eastwards up to the far end, or `None` where there is no
+    /// far end.
     pub fn chain(&self, map: &RingMap, at: Pos) -> Option<Chain>
         requires at { at.0 < length map.now }
         requires far { IsElsewhere (length map.now) at.0 self.now }
@@ -211,15 +213,16 @@ impl SwitchWest {
 }
 
 impl SwitchEast {
-    /// Returns the far end, if there is one: the source of the long word that was heard on the west side. In a settled
-    /// ring it switches west.
+    /// Returns the position of the far end, if there is one: the source of the long word that was heard on the west
+    /// side. In a settled ring the far end switches its west side.
     pub fn far(&self) -> Option<Pos>
         ensures { result ≡ self.now }
     {
         self.far
     }
 
-    /// Returns the positions from the far end eastwards up to this node, which is at `at`.
+    /// Returns the positions from the far end eastwards up to this node, which is at `at`, or `None` where there is no
+    /// far end.
     pub fn chain(&self, map: &RingMap, at: Pos) -> Option<Chain>
         requires at { at.0 < length map.now }
         requires far { IsElsewhere (length map.now) at.0 self.now }
@@ -232,8 +235,9 @@ impl SwitchEast {
     }
 }
 
-/// The word sent on a side is the most urgent of those that may be sent there, where all requests of at least SF are equally
-/// urgent; between equally urgent words an own short one stands before an own long one, and that before a relayed one.
+/// The word sent on a side is the most urgent of those that may be sent there. All requests of at least SF are equally
+/// urgent. Of words that are equally urgent the node's own short word comes first, then its own long word, and then the
+/// relayed one.
 #[tactic(auto, using(crate::proofs::Urgency::first_words_are_sent))]
 pub fn first_words_are_sent()
     ensures { FirstWordsAreSent }

@@ -21,8 +21,8 @@ pub(crate) struct Scene<'a> {
     pub(crate) heard: Heard,
 }
 
-// Which word is sent on a side: an own one over the span there, an own one the long way, a relayed one, or the one that
-// asks for nothing.
+// Which word is sent on a side: the node's own word over the span there, its own word the long way about the span on
+// the opposite side, a relayed word, or the word that asks for nothing.
 #[derive(Clone, Copy, Debug, PartialEq, Eq)]
 pub(crate) enum Choice {
     OwnShort,
@@ -31,8 +31,8 @@ pub(crate) enum Choice {
     Rest,
 }
 
-// Returns the word to send, by the weights of the own short, the own long and the relayed word. A weight of 0 is no
-// word.
+// Returns which word to send. `short`, `long` and `relayed` are the code numbers of the node's own short word, of its
+// own long word and of the relayed word, or 0 where there is no such word.
 fn choose(short: u8, long: u8, relayed: u8) -> Choice
     ensures { choice_of result ≡ choose short long relayed }
 {
@@ -98,7 +98,7 @@ impl Scene<'_> {
         }
     }
 
-    // Returns the request heard from the neighbour on this side.
+    // Returns the request heard from the neighbour on this side, or NR where none is heard.
     #[tactic(auto, unfolding(crate::specs::Rules::short))]
     fn short(&self, side: Side) -> Code
         requires { self.now.at.0 < length self.now.map.now }
@@ -114,7 +114,7 @@ impl Scene<'_> {
         }
     }
 
-    // Returns the long word heard on this side.
+    // Returns the long word heard on this side, if it asks for at least WTR.
     #[tactic(auto, unfolding(crate::specs::Rules::long))]
     fn long(&self, side: Side) -> Option<K>
         ensures word { result ≡ long (view self.now) side }
@@ -151,7 +151,7 @@ impl Scene<'_> {
         }
     }
 
-    // Returns the word that is passed on from the opposite side.
+    // Returns the long word, heard on the opposite side, that the node passes on to this side, if there is one.
     #[tactic(auto, unfolding(crate::specs::Rules::relayed))]
     fn relayed(&self, side: Side) -> Option<K>
         requires { self.now.at.0 < length self.now.map.now }
@@ -182,7 +182,8 @@ impl Scene<'_> {
 }
 
 impl Scene<'_> {
-    // Returns whether a long word heard on `on` leaves the span on `side` its switch.
+    // Returns whether no long word heard on `on` prevents a switch of `side`: none is heard, or it is about the span on
+    // `side`, or its request is smaller than that span's.
     fn is_below(&self, side: Side, on: Side) -> bool
         requires { self.now.at.0 < length self.now.map.now }
         ensures { result ≡ is_below (view self.now) side on }
@@ -223,7 +224,7 @@ impl Scene<'_> {
         }
     }
 
-    // Returns the far end of a node that switches this side.
+    // Returns the position of the far end of a node that switches this side, if there is one.
     #[tactic(auto, unfolding(crate::specs::Rules::far), using(crate::proofs::FarEnds::found_elsewhere))]
     fn far(&self, side: Side) -> Option<Pos>
         requires { self.now.at.0 < length self.now.map.now }

@@ -1,11 +1,12 @@
-//! States that are compared.
+//! Shapes of states, by which states are compared.
 ghost use Rattle.std.specs.Prelude.{◌≡◌, ◌↔◌, IsTrue};
 ghost use Rattle.sdh_nodestate.specs.Shapes.{state_of, same_far, same_state};
 
 use crate::NodeState;
 use sdh_ringmap::Pos;
 
-/// What a state is, for comparing: a step takes the state itself.
+/// What a state is, as a value that can be copied and compared. The state itself can't be copied, since a step consumes
+/// it.
 #[derive(Clone, Copy, Debug, PartialEq, Eq)]
 pub enum Shape {
     Idle,
@@ -40,7 +41,7 @@ fn same_far(left: Option<Pos>, right: Option<Pos>) -> bool
     }
 }
 
-/// Returns whether the states of two shapes are the same, with their far ends.
+/// Returns whether two shapes are those of one state, with one far end.
 #[tactic(auto, using(crate::proofs::SameStates::state_tells), unfolding(crate::specs::Shapes::same_state))]
 pub fn same_shape(left: Shape, right: Shape) -> bool
     ensures same { result ≡ same_state (state_of left) (state_of right) }

@@ -8,8 +8,8 @@ use Rattle.sdh_circuits.specs.declared.PortId.{PortId}
 use Rattle.sdh_plan.specs.declared.step.Step.{Step}
 use Rattle.sdh_plan.specs.declared.step.Step.TheVariants as step
 
--- a change of a ring: the fibre that leaves a position on a side gets a condition; a side of a node gets a command; the
--- controller of a node is held for a number of turns; slips are ordered at a port; the moment is set
+-- A change of a ring: the fibre that leaves a position on a side gets a condition; a side of a node gets a command; the
+-- controller of a node is held for a number of rounds; slips are ordered at a port; the moment is set.
 pub data Change : Type 0 where
   Fibre : ℕ → Side → Condition → Change
   Order : ℕ → Side → Command → Change
@@ -17,12 +17,12 @@ pub data Change : Type 0 where
   Slip : PortId → Turn → ℕ → Change
   Now : ℕ → Change
 
--- changes, and the number of rounds after them
+-- a stretch of a run: changes, and the number of rounds that run after them
 pub record Stretch : Type 0 where
   pub changes : List Change
   pub rounds : ℕ
 
--- how many rounds stretches have
+-- the number of rounds of these stretches together
 abbrev pub rounds_in : List Stretch → ℕ
 rounds_in [] = 0
 rounds_in (s ∷ ss) = s.rounds + rounds_in ss
@@ -38,7 +38,8 @@ changes_of (step.Hold p turns) = Hold p.0 turns ∷ []
 changes_of (step.Slip port turn count) = Slip port turn count ∷ []
 changes_of step.Settle = []
 
--- the changes before each settle step of these steps, where these were made before them
+-- for each settle step among these steps, the changes since the settle step before it; `changes` were made before these
+-- steps
 abbrev pub scenes : List Change → List Step → List (List Change)
 scenes changes [] = []
 scenes changes (step.Settle ∷ later) = changes ∷ scenes [] later

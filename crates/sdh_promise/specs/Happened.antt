@@ -6,9 +6,10 @@ use Rattle.sdh_circuits.specs.declared.PortId.{PortId}
 use Rattle.sdh_circuits.specs.Provisioned.{same_port}
 use Rattle.sdh_promise.specs.Changes.{Change, Slip, Stretch}
 
--- All of it is lists of what happened, the latest first.
+-- A history is the list of what happened at one port, the latest first.
 
--- what a change makes happen at a port: slips may be ordered there
+-- the history of a port after one more change: slips that are ordered at the port are added, and other changes add
+-- nothing
 abbrev pub told_by : PortId → Change → List Happening → List Happening
 told_by port (Slip other turn count) history = if same_port port other then told turn count ∷ history else history
 told_by port change history = history
@@ -22,13 +23,14 @@ abbrev pub went_by : ℕ → List Happening → List Happening
 went_by zero history = history
 went_by (suc k) history = went ∷ went_by k history
 
--- before round t of the stretches, or of rounds alone after them
+-- what happened at a port before round t of these stretches, after a history; after the last stretch rounds run without
+-- changes
 abbrev pub happened_in : PortId → List Stretch → List Happening → ℕ → List Happening
 happened_in port [] history t = went_by t history
 happened_in port (s ∷ ss) history t =
     if nat_lt t s.rounds then went_by t (told_by_all port s.changes history)
     else happened_in port ss (went_by s.rounds (told_by_all port s.changes history)) (t - s.rounds)
 
--- from a new ring on
+-- what happened at a port of a new ring before round t of these stretches
 abbrev pub happened : List Stretch → PortId → ℕ → List Happening
 happened ss port t = happened_in port ss [] t

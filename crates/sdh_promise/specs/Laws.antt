@@ -1,4 +1,4 @@
--- What follows of the definitions of this crate: they are no weaker than this.
+-- What follows from the definitions of this crate: they say at least this.
 use Rattle.std.specs.Prelude.{ℕ, ◌≡◌, ◌≤◌, ◌+◌, ◌%◌, false, List, [], ◌∷◌}
 use Rattle.sdh_ringmap.specs.declared.Side.{Side}
 use Rattle.sdh_terms.specs.declared.Condition.{Condition}
@@ -29,7 +29,8 @@ ReportsGoOn =
     (ring : Ring) (limit : ℕ) (earlier : List Stretch) (before : ℕ) (later : List (List Change)) (reports : List PortReport) (end : Status)
     → 2 ≤ ring.nodes → AreOwed ring limit earlier before later reports end → GoOn limit (rounds_in earlier) reports
 
--- The first two reports speak of all that happened before them: after a stretch of one's changes they show what is owed.
+-- The first two reports of a script show what is owed by all that happened before them: the first by the changes `one`
+-- and the k rounds after them, the second by these, the changes `two`, and m rounds more.
 abbrev pub ReportsRemember : Type 0
 ReportsRemember =
     (ring : Ring) (limit : ℕ) (one two : List Change) (later : List (List Change)) (r s : PortReport) (reports : List PortReport) (end : Status)
@@ -39,7 +40,7 @@ ReportsRemember =
     IsOwed ring.nodes (requests_by ring (first ∷ []) r.round) (happened (first ∷ [])) ring.circuits r
     × IsOwed ring.nodes (requests_by ring (first ∷ second ∷ []) s.round) (happened (first ∷ second ∷ [])) ring.circuits s)
 
--- a side sees the fibre that ends at it
+-- a side sees the condition of the fibre that ends at it
 abbrev pub SidesAreTold : Type 0
 SidesAreTold =
     (n p q : ℕ) (d e : Side) (c : Condition) (h : Holding) → fibre q e ≡ fibre_to n p d
@@ -51,7 +52,7 @@ PortsAreTold =
     (port other : PortId) (turn : Turn) (count : ℕ) (history : List Happening) → same_port port other ≡ false
     → told_by port (Slip other turn count) history ≡ history
 
--- a port is owed what the other end's customer sends, by what happened there
+-- where no span is applied, a port is owed what the customer at its circuit's other end sends, by what happened there
 abbrev pub OwedByTheOther : Type 0
 OwedByTheOther = (n t index : ℕ) (before : PortId → ℕ → List Happening) (c : Provisioned) (e : End)
     → (owed_port n (λ s. false) before t index c e).outlet ≡ due n (λ s. false) c

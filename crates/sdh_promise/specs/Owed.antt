@@ -16,30 +16,33 @@ use Rattle.sdh_promise.specs.Changes.{Change, Stretch, rounds_in}
 use Rattle.sdh_promise.specs.Sides.{side_history}
 use Rattle.sdh_promise.specs.Happened.{happened}
 
--- what a report owes by: its settle step, counted from 1; its last round; and each port in the order of the circuits, a before b
+-- what is compared of a report: its settle step, counted from 1; its last round; and the line of each port in the order
+-- of the circuits, a before b
 pub record PortReport : Type 0 where
   pub number : ℕ
   pub round : ℕ
   pub ports : List PortLine
 
--- a ring, as far as reports owe by it: how many nodes, how many violations degrade a side, how long a side waits to restore, and
--- the circuits in their order
+-- What of a ring decides what its reports owe: the number of nodes, the least number of violations that degrades a
+-- side, the number of moments that a side waits to restore, and the circuits in their order.
 pub record Ring : Type 0 where
   pub nodes : ℕ
   pub threshold : ℕ
   pub wait : ℕ
   pub circuits : List Provisioned
 
--- what each side asks for in round t of the stretches, by what happened to it, in a ring of n with this threshold and this wait
+-- what each side asks for in round t of the stretches, by its history, in a ring of n with this threshold and this
+-- waiting time
 abbrev pub asked_in : ℕ → ℕ → ℕ → List Stretch → ℕ → Asking
 asked_in threshold wait n stretches t p d = local_request threshold wait (side_history n p d stretches) t
 
--- the requests of all spans in round t
+-- the requests of all spans in round t of the stretches
 abbrev pub requests_by : Ring → List Stretch → ℕ → List ℕ
 requests_by r stretches t = span_requests r.nodes (asked_in r.threshold r.wait r.nodes stretches t)
 
--- What the port at an end of the circuit of this number is owed in round t, in a ring of n in which these spans are applied, where
--- this had happened at each port before each round: the other end's customer sends by what happened there.
+-- What the port at an end of circuit number `index` is owed in round t, in a ring of n in which these spans are
+-- applied. `before` gives what had happened at each port before each round. The customer at the other end sends by what
+-- had happened at its own port.
 abbrev pub owed_port : ℕ → (ℕ → Bool) → (PortId → ℕ → List Happening) → ℕ → ℕ → Provisioned → End → PortLine
 owed_port n applied before t index c e =
     record {
@@ -49,27 +52,30 @@ owed_port n applied before t index c e =
           (λ k. sends_by (customer_at c (other_end e)) (before (record { circuit = index; end = other_end e }) k)) t;
     }
 
--- what all ports of these circuits are owed, which are counted from `index`, in their order, a before b
+-- what all ports of these circuits are owed, in the order of the circuits, a before b; the circuits are numbered from
+-- `index` on
 abbrev pub owed_ports : ℕ → (ℕ → Bool) → (PortId → ℕ → List Happening) → ℕ → ℕ → List Provisioned → List PortLine
 owed_ports n applied before t index [] = []
 owed_ports n applied before t index (c ∷ cs) =
     owed_port n applied before t index c A ∷ owed_port n applied before t index c B ∷ owed_ports n applied before t (index + 1) cs
 
--- the report shows each port of these circuits with what it is owed in a ring of n under these requests of spans, by what happened
+-- the report shows for each port of these circuits what it is owed, in a ring of n under these requests of spans, by
+-- what had happened at the ports
 abbrev pub IsOwed : ℕ → List ℕ → (PortId → ℕ → List Happening) → List Provisioned → PortReport → Type 0
 IsOwed n requests before circuits r = r.ports ≡ owed_ports n (is_applied requests) before r.round 0 circuits
 
--- The last round of a settle step that ended, in a ring of n, before which `ran` rounds had run: a quiet window has 3 n
--- rounds, the step has at most the limit, and the number of its last one is a multiple of 128
+-- Round t may be the last one of a settle step that ended, in a ring of n, where `ran` rounds had run before the step.
+-- The step has room for a quiet window, which is 3 n rounds, and has at most `limit` rounds. The number t is a multiple
+-- of 128.
 pub record IsLast (n limit ran t : ℕ) : Type 0 where
   pub window : ran + 3 * n ≤ t + 1
   pub within : t + 1 ≤ ran + limit
   pub multiple : t % 128 ≡ 0
 
--- Each report shows what is owed under the requests of the history and by what happened at the ports. `earlier` had
--- happened, `before` settle steps had ended, and these are the changes before each step to come. Report by report the
--- number grows by 1, and the round shows how many rounds the step ran. A settle step without a report is where the
--- script ended, unsettled or by a fault.
+-- Each report shows what is owed under the requests of the history and by what happened at the ports. Before these
+-- reports the stretches `earlier` had run and `before` settle steps had ended. The list of lists has the changes before
+-- each settle step to come. The number of a report is one more than that of the report before it, and its round shows
+-- how many rounds its step ran. At the first settle step without a report the script ended, unsettled or by a fault.
 abbrev pub AreOwed : Ring → ℕ → List Stretch → ℕ → List (List Change) → List PortReport → Status → Type 0
 AreOwed ring limit earlier before [] reports end = (reports ≡ []) × ((end ≡ status.Ok) ⊎ (end ≡ status.PlantFault))
 AreOwed ring limit earlier before (changes ∷ later) [] end = (end ≡ status.Unsettled (before + 1)) ⊎ (end ≡ status.PlantFault)

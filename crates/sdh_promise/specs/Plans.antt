@@ -6,7 +6,7 @@ use Rattle.sdh_report.specs.Reports.{Report}
 use Rattle.sdh_promise.specs.Changes.{scenes}
 use Rattle.sdh_promise.specs.Owed.{Ring, PortReport, AreOwed}
 
--- the ring of a plan, as far as reports owe by it
+-- what of a plan's ring decides what its reports owe
 abbrev pub ring_of : Planned → Ring
 ring_of plan = record {
   nodes = length plan.nodes;
@@ -15,7 +15,7 @@ ring_of plan = record {
   circuits = plan.circuits;
 }
 
--- a report without its nodes' lines
+-- a report without the lines of its nodes
 abbrev pub ports_of : Report → PortReport
 ports_of r = record { number = r.number; round = r.round; ports = r.ports }
 

@@ -15,11 +15,11 @@ pub record Holding : Type 0 where
   pub command : Command
   pub moment : ℕ
 
--- in a new ring over new fibres
+-- what holds on a side of a new ring over new fibres
 abbrev pub new_holding : Holding
 new_holding = record { condition = Clear; command = command.Clear; moment = 0 }
 
--- after a change, on side d of position p in a ring of n
+-- what holds on side d of position p in a ring of n after a change
 abbrev pub holding_after : ℕ → ℕ → Side → Change → Holding → Holding
 holding_after n p d (Fibre q e condition) h = if fibre q e == fibre_to n p d then record h { condition = condition } else h
 holding_after n p d (Order q e command) h = if fibre q e == fibre p d then record h { command = command } else h
@@ -30,13 +30,13 @@ abbrev pub all_holding : ℕ → ℕ → Side → List Change → Holding → Ho
 all_holding n p d [] h = h
 all_holding n p d (c ∷ cs) h = all_holding n p d cs (holding_after n p d c h)
 
--- what holds in round t of the stretches
+-- what holds on side d of position p in round t of these stretches, where h held before them
 abbrev pub holding_in : ℕ → ℕ → Side → List Stretch → Holding → ℕ → Holding
 holding_in n p d [] h t = h
 holding_in n p d (s ∷ ss) h t =
     if nat_lt t s.rounds then all_holding n p d s.changes h else holding_in n p d ss (all_holding n p d s.changes h) (t - s.rounds)
 
--- the side's history, from a new ring over new fibres
+-- the history of side d of position p over these stretches, from a new ring over new fibres on
 abbrev pub side_history : ℕ → ℕ → Side → List Stretch → SideHistory
 side_history n p d ss = record {
   is_cut = λ t. is_cut (holding_in n p d ss new_holding t).condition;

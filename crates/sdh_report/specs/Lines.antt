@@ -29,7 +29,7 @@ settle_line number round = step_ended number round ++ codes "\n"
 
 -- ---- a node
 
--- the word of a state
+-- the name of a state
 abbrev pub state_text : StateWord → List ℕ
 state_text word.Idle = codes "idle"
 state_text word.Pass = codes "pass"
@@ -37,11 +37,11 @@ state_text word.SwitchWest = codes "switch-west"
 state_text word.SwitchEast = codes "switch-east"
 state_text word.Isolated = codes "isolated"
 
--- the bytes K1 and K2 of a word, two hexadecimal digits each
+-- the bytes K1 and K2 of a K word, two hexadecimal digits each
 abbrev pub word_text : WordBytes → List ℕ
 word_text w = hex_of (w.first ∷ []) ++ codes " " ++ hex_of (w.second ∷ [])
 
--- the line of a node: its identifier, its state, and the words that it sent last
+-- the line of a node: its identifier, the name of its state, and the K words that it sent last
 abbrev pub node_line : NodeLine → List ℕ
 node_line l =
     codes "node " ++ decimal l.id ++ codes " " ++ state_text l.state ++ codes " west " ++ word_text l.west ++ codes " east "
@@ -54,16 +54,17 @@ abbrev pub end_letter : End → List ℕ
 end_letter A = codes "a"
 end_letter B = codes "b"
 
--- the port at that end of the circuit of that name
+-- how each line of a port begins: the circuit's name and the letter of the port
 abbrev pub port_named : List ℕ → End → List ℕ
 port_named name end = codes "port " ++ name ++ codes " " ++ end_letter end
 
--- the port delivers a chunk that came with this pointer value: its first 16 bytes in hexadecimal
+-- the line of a port that delivers a chunk: the pointer value that the chunk came with, and its first 16 bytes in
+-- hexadecimal
 abbrev pub chunk_line : List ℕ → End → ℕ → List ℕ → List ℕ
 chunk_line name end value chunk =
     port_named name end ++ codes " norm " ++ decimal value ++ codes " " ++ hex_of (take 16 chunk) ++ codes "\n"
 
--- the port delivers AIS
+-- the line of a port that delivers AIS
 abbrev pub ais_line : List ℕ → End → List ℕ
 ais_line name end = port_named name end ++ codes " ais\n"
 
@@ -71,12 +72,12 @@ abbrev pub port_line : List ℕ → End → Delivered → ℕ → List ℕ
 port_line name end Ais value = ais_line name end
 port_line name end (Chunk chunk) value = chunk_line name end value chunk
 
--- all that it delivers: the bytes of row i of a chunk, counted from 0. A chunk of 2349 bytes has nine rows of 261, as a
--- VC-4 has (ITU-T G.707); a chunk of another length has at most nine
+-- The bytes of a chunk in row i, counted from 0. A chunk of 2349 bytes has nine rows of 261 bytes, as a VC-4 has (ITU-T
+-- G.707). A chunk of another length has at most nine.
 abbrev pub row : List ℕ → ℕ → List ℕ
 row chunk i = take 261 (drop (261 * i) chunk)
 
--- a row has a line where there are bytes in it
+-- the line of a row of bytes; none where the row is empty
 abbrev pub row_line : List ℕ → List ℕ
 row_line [] = []
 row_line (b ∷ bytes) = hex_of (b ∷ bytes) ++ codes "\n"
@@ -94,15 +95,15 @@ abbrev pub side_text : Side → List ℕ
 side_text West = codes "west"
 side_text East = codes "east"
 
--- the slot on this side of the node of this identifier
+-- how a line of a squelch table begins: the identifier of the node, the side and the slot
 abbrev pub table_place : ℕ → Side → Slot → List ℕ
 table_place id side slot = codes "node " ++ decimal id ++ codes " " ++ side_text side ++ codes " slot " ++ decimal slot.0
 
--- the nodes of these identifiers
+-- how a line of a squelch table ends: the identifiers of the nodes at the circuit's ends
 abbrev pub table_ends : ℕ → ℕ → List ℕ
 table_ends from to = codes " " ++ decimal from ++ codes " " ++ decimal to ++ codes "\n"
 
--- the line of the circuit of this name, which is at this place, between these two nodes
+-- the line of the circuit of this name in a squelch table, at this node, side and slot, between these two nodes
 abbrev pub table_line : ℕ → Side → Slot → List ℕ → ℕ → ℕ → List ℕ
 table_line id side slot name from to = table_place id side slot ++ codes " " ++ name ++ table_ends from to
 

@@ -1,4 +1,4 @@
--- What a settle step reports, and the text of reports. This project's own.
+-- What a settle step reports, and the text of reports. Their form is this project's own.
 use Rattle.std.specs.Prelude.{ℕ, ◌+◌, List, [], ◌∷◌, ◌++◌, slice_index_or}
 use Rattle.std.specs.List.{flat_map}
 use Rattle.sdh_circuits.specs.declared.End.{End}
@@ -21,7 +21,8 @@ pub record PortLine : Type 0 where
   pub end : End
   pub outlet : Outlet
 
--- the settle step, counted from 1; its last round; each node by position; and each port in the order of the circuits, a before b
+-- a report: the settle step, counted from 1; its last round; the line of each node by position; and that of each port
+-- in the order of the circuits, a before b
 pub record Report : Type 0 where
   pub number : ℕ
   pub round : ℕ
@@ -37,24 +38,26 @@ told_line p = port_line p.name p.end p.outlet.delivered p.outlet.value
 abbrev pub report_text : Report → List ℕ
 report_text r = settle_line r.number r.round ++ flat_map node_line r.nodes ++ flat_map told_line r.ports
 
--- what a port delivered
+-- what a port delivered, by the lines of all ports
 abbrev pub delivered_in : List PortLine → PortId → Delivered
 delivered_in ports port = (slice_index_or ports (port_number port) (record { name = []; end = A; outlet = silent })).outlet.delivered
 
--- 1 for a chunk, and 1 for AIS
+-- 1 where a chunk was delivered, and 0 for AIS
 abbrev pub chunks_of : Delivered → ℕ
 chunks_of Ais = 0
 chunks_of (Chunk chunk) = 1
 
+-- 1 where AIS was delivered, and 0 for a chunk
 abbrev pub silences_of : Delivered → ℕ
 silences_of Ais = 1
 silences_of (Chunk chunk) = 0
 
--- how many of these ports delivered a chunk, and how many AIS
+-- the number of these ports that delivered a chunk
 abbrev pub chunks_in : List PortLine → ℕ
 chunks_in [] = 0
 chunks_in (p ∷ ports) = chunks_of p.outlet.delivered + chunks_in ports
 
+-- the number of these ports that delivered AIS
 abbrev pub silences_in : List PortLine → ℕ
 silences_in [] = 0
 silences_in (p ∷ ports) = silences_of p.outlet.delivered + silences_in ports

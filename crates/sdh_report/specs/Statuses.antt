@@ -18,8 +18,8 @@ number_of status.TooLong = 9
 number_of status.NoSuchPort = 10
 number_of status.Memory = 70
 
--- the last line of the text that goes with a status; there is none after a write fault or a lack of memory, and for
--- wrong words each program has a line of its own
+-- the last line of the text that goes with a status; there is none after a write fault and where memory ran out, and
+-- none here for wrong words, for which each program has a line of its own
 abbrev pub last_line : Status → List ℕ
 last_line status.Ok = own_line (codes "done")
 last_line status.Usage = []

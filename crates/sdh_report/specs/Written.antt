@@ -1,7 +1,7 @@
 -- A text with reserved room, as contracts see it.
 use Rattle.std.specs.Prelude.{ℕ, ◌-◌, List, ◌++◌, length}
 
--- the bytes so far, and how many more have room
+-- the bytes so far, and the number of bytes for which there is room left
 pub record Written : Type 0 where
   pub bytes : List ℕ
   pub room : ℕ

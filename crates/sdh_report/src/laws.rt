@@ -11,8 +11,9 @@ ghost use Rattle.sdh_ringmap.specs.declared.Side.{Side};
 use crate::status::Status;
 use crate::text::{CHUNK_MAX, LINE_MAX};
 
-/// Each line has room in `LINE_MAX` bytes, whatever numbers its call takes and whatever name of at most 16 bytes, and
-/// the lines of a chunk in `CHUNK_MAX`. `last_line_is_short` says so of the last line.
+/// Each line has at most `LINE_MAX` bytes, whatever numbers its call takes and whatever name of at most 16 bytes. The
+/// lines of a chunk have at most `CHUNK_MAX` bytes together. `last_line_is_short` says so of the last line; a line of
+/// the caller's own isn't meant.
 pub fn lines_are_short()
     ensures settle { (number round : ℕ) → number < 2 ^ 32 → round < 2 ^ 64 → length (settle_line number round) ≤ LINE_MAX }
     ensures node { (line : NodeLine) → line.id < 2 ^ 8 → length (node_line line) ≤ LINE_MAX }
@@ -25,7 +26,7 @@ pub fn lines_are_short()
         → length (count_line number round norm ais) ≤ LINE_MAX }
 {}
 
-/// The last line of a status has room in `LINE_MAX` bytes, whatever numbers it has.
+/// The last line of a status has at most `LINE_MAX` bytes, whatever numbers the status has.
 pub fn last_line_is_short(status: &Status)
     ensures { length (last_line status.now) ≤ LINE_MAX }
 {
@@ -36,7 +37,7 @@ pub fn last_line_is_short(status: &Status)
     }
 }
 
-// Numbers of these sizes have few digits.
+// The last line of a plan that fails a check is short, since numbers of these sizes have few digits.
 fn short_plan(reason: u8, place: u32)
     ensures { length (last_line (Status.BadPlan reason place)) ≤ LINE_MAX }
 {

@@ -1,4 +1,4 @@
-//! The lines.
+//! The lines of the program's texts. Each method appends one, or a part of one.
 ghost use Rattle.std.specs.Prelude.{◌≡◌, ◌+◌, ◌*◌, ◌≤◌, ◌<◌, ◌++◌, codes, decimal, length, take, drop};
 ghost use Rattle.sdh_basics.specs.Hexadecimal.{hex_of};
 ghost use Rattle.sdh_report.specs.Written.{with_part};
@@ -20,7 +20,7 @@ fn first_bytes(chunk: &[u8]) -> &[u8]
     &chunk[..chunk.len().min(16)]
 }
 
-// Returns the bytes from a place on, none where it is past the end.
+// Returns the bytes from a place on, which are none where the place is past the end.
 fn bytes_from(chunk: &[u8], at: usize) -> &[u8]
     ensures { result.now ≡ drop at chunk.now }
 {
@@ -53,7 +53,7 @@ impl Text {
         self.put(b"\n");
     }
 
-    // Appends the end of a settle step: its number and its last round.
+    // Appends that a settle step has ended, with its number and its last round, and no newline byte.
     fn put_step(&mut self, number: u32, round: u64)
         requires { length (step_ended number round) ≤ self.old.room }
         ensures { self.new ≡ with_part self.old (step_ended number round) }
@@ -73,7 +73,7 @@ impl Text {
         self.put(b"\n");
     }
 
-    /// Appends the bytes K1 and K2 of a word.
+    /// Appends the bytes K1 and K2 of a K word, two hexadecimal digits each.
     pub fn put_word(&mut self, word: WordBytes)
         requires { 5 ≤ self.old.room }
         ensures { self.new ≡ with_part self.old (word_text word) }
@@ -135,8 +135,8 @@ impl Text {
         self.put(b"\n");
     }
 
-    /// Appends the line of a port: of a chunk the pointer value that it came with, and its first 16 bytes (or all,
-    /// where there are fewer). With AIS the value isn't looked at.
+    /// Appends the line of a port. For a chunk the line has the pointer value that the chunk came with, `offset`, and
+    /// the first 16 bytes of the chunk, or all where there are fewer. For AIS `offset` isn't used.
     pub fn port_line(&mut self, name: &Name, end: End, delivered: &Delivered, offset: u16)
         requires { length (port_line name.now end delivered.now offset) ≤ self.old.room }
         ensures { self.new ≡ with_part self.old (port_line name.now end delivered.now offset) }
@@ -153,7 +153,7 @@ impl Text {
 
 // Lines of one port, of a squelch table, of counts, and the last one.
 impl Text {
-    // Appends the line of a row, which has none where the row is empty.
+    // Appends the line of a row of bytes, or nothing where the row is empty.
     fn put_row(&mut self, bytes: &[u8])
         requires { length (row_line bytes.now) ≤ self.old.room }
         ensures { self.new ≡ with_part self.old (row_line bytes.now) }
@@ -165,7 +165,7 @@ impl Text {
         self.put(b"\n");
     }
 
-    // Appends the lines of a chunk.
+    // Appends the rows of a chunk, one line each.
     fn put_rows(&mut self, chunk: &[u8])
         requires { length (drop_lines (Delivered.Chunk chunk.now)) ≤ self.old.room }
         ensures { self.new ≡ with_part self.old (drop_lines (Delivered.Chunk chunk.now)) }
@@ -175,8 +175,9 @@ impl Text {
         }
     }
 
-    /// Appends all that a port delivers: the nine rows of a chunk of 2349 bytes, a line each. Of a chunk of another
-    /// length its first 2349 bytes, or all where there are fewer; the last line may then be shorter.
+    /// Appends all that a port delivers: the nine rows of a chunk of 2349 bytes, one line each, or the line of AIS. Of
+    /// a chunk of another length it appends the first 2349 bytes, or all where there are fewer. The last line may then
+    /// be shorter.
     pub fn drop_lines(&mut self, delivered: &Delivered)
         requires { length (drop_lines delivered.now) ≤ self.old.room }
         ensures { self.new ≡ with_part self.old (drop_lines delivered.now) }
@@ -187,7 +188,7 @@ impl Text {
         }
     }
 
-    // Appends the word of a side.
+    // Appends the name of a side, `west` or `east`.
     fn put_side(&mut self, side: Side)
         requires { 4 ≤ self.old.room }
         ensures { self.new ≡ with_part self.old (side_text side) }
@@ -198,7 +199,7 @@ impl Text {
         }
     }
 
-    // Appends the place of a line of a squelch table.
+    // Appends how a line of a squelch table begins: the node, the side and the slot.
     fn put_place(&mut self, id: u8, side: Side, slot: Slot)
         requires { length (table_place id side slot) ≤ self.old.room }
         ensures { self.new ≡ with_part self.old (table_place id side slot) }
@@ -211,7 +212,7 @@ impl Text {
         self.put_number(u64::from(slot.0));
     }
 
-    // Appends the ends of the circuit in a line of a squelch table.
+    // Appends how a line of a squelch table ends: the identifiers of the nodes at the circuit's ends.
     fn put_ends(&mut self, from: u8, to: u8)
         requires { length (table_ends from to) ≤ self.old.room }
         ensures { self.new ≡ with_part self.old (table_ends from to) }
@@ -223,8 +224,8 @@ impl Text {
         self.put(b"\n");
     }
 
-    /// Appends the line of a circuit in a squelch table: the node, its side and slot, and the identifiers of the
-    /// circuit's ends.
+    /// Appends the line of a circuit in a squelch table: the node, its side and slot, the circuit's name, and the
+    /// identifiers of the nodes at the circuit's ends.
     pub fn table_line(&mut self, id: u8, side: Side, slot: Slot, name: &Name, from: u8, to: u8)
         requires { length (table_line id side slot name.now from to) ≤ self.old.room }
         ensures { self.new ≡ with_part self.old (table_line id side slot name.now from to) }
@@ -235,8 +236,8 @@ impl Text {
         self.put_ends(from, to);
     }
 
-    /// Appends the line of the end of a settle step, with the number of ports that delivered a chunk and of those that
-    /// delivered AIS.
+    /// Appends the line of the end of a settle step with counts: its number, its last round, the number of ports that
+    /// delivered a chunk, and the number of those that delivered AIS.
     pub fn count_line(&mut self, number: u32, round: u64, norm: u32, ais: u32)
         requires { length (count_line number round norm ais) ≤ self.old.room }
         ensures { self.new ≡ with_part self.old (count_line number round norm ais) }
@@ -271,8 +272,8 @@ impl Text {
         self.put(b"\n");
     }
 
-    /// Appends the last line of a text, by how the program ends. There is none after a write fault or a lack of memory,
-    /// and for wrong words each program has a line of its own.
+    /// Appends the last line of a text, by how the program ends. Nothing is appended after a write fault and where
+    /// memory ran out, nor after wrong words, for which each program has a line of its own.
     pub fn last_line(&mut self, status: &Status)
         requires { length (last_line status.now) ≤ self.old.room }
         ensures { self.new ≡ with_part self.old (last_line status.now) }

@@ -2,7 +2,7 @@
 ghost use Rattle.std.specs.Prelude.{◌≡◌, codes};
 ghost use Rattle.sdh_report.specs.Lines.{state_text};
 
-/// The word of a state.
+/// The name that a report gives to the state of a node.
 #[derive(Clone, Copy, Debug, PartialEq, Eq)]
 pub enum StateWord {
     Idle,
@@ -12,14 +12,15 @@ pub enum StateWord {
     Isolated,
 }
 
-/// The two bytes of a word, K1 and K2.
+/// The two bytes K1 and K2 of a K word.
 #[derive(Clone, Copy, Debug, PartialEq, Eq)]
 pub struct WordBytes {
     pub first: u8,
     pub second: u8,
 }
 
-/// The line of a node: its identifier, its state, and the bytes of the words that it sent last on each side.
+/// The line of a node: its identifier, the name of its state, and the bytes of the K words that it sent last on each
+/// side.
 #[derive(Clone, Copy, Debug, PartialEq, Eq)]
 pub struct NodeLine {
     pub id: u8,
@@ -29,7 +30,7 @@ pub struct NodeLine {
 }
 
 impl StateWord {
-    /// Returns the letters of a state.
+    /// Returns the name as bytes.
     pub fn letters(self) -> &'static [u8]
         ensures { result.now ≡ state_text self }
     {

@@ -2,31 +2,31 @@
 ghost use Rattle.std.specs.Prelude.{◌≡◌};
 ghost use Rattle.sdh_report.specs.Statuses.{number_of};
 
-/// How the program ends. With each status but `WriteFault` and `Memory` goes a text.
+/// How the program ends. A text goes with each status but `WriteFault` and `Memory`.
 #[derive(Clone, Copy, Debug, PartialEq, Eq)]
 pub enum Status {
     /// Everything was done.
     Ok,
-    /// The words are none of the program's.
+    /// The words that the program was called with are none of its commands.
     Usage,
-    /// The source failed.
+    /// A call of the source failed, from which the plan is read.
     ReadFault,
-    /// The sink failed. What was written is the front of a text.
+    /// A call of the sink failed, to which the text is written. What was written is the beginning of a text.
     WriteFault,
     /// What was read is no TOML document.
     NotToml,
-    /// What was read is a document, but no plan: the first check that fails, by its number, and the node, circuit or step
-    /// that it is about, counted from 1, or 0 for the document.
+    /// What was read is a document, but no plan. `reason` is the number of the first check that fails. `place` is the
+    /// node, circuit or step that the check is about, counted from 1, or 0 for the document.
     BadPlan { reason: u8, place: u32 },
-    /// This settle step, counted from 1, ends without a quiet window.
+    /// The settle step of this number, counted from 1, ended without a quiet window.
     Unsettled(u32),
-    /// A call of the plant failed.
+    /// A call of the plant failed, which carries the frames over the fibres.
     PlantFault,
     /// The source has more than 1,048,576 bytes.
     TooLong,
-    /// The plan has no circuit of the name.
+    /// The plan has no circuit of the name that is asked for.
     NoSuchPort,
-    /// There was no memory. Nothing was written.
+    /// Memory ran out. Nothing was written.
     Memory,
 }
 

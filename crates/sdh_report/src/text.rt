@@ -15,7 +15,7 @@ pub const LINE_MAX: usize = 96;
 /// Room for the lines of a delivered chunk, in bytes: nine rows of 261 bytes, two digits each, with their newline bytes.
 pub const CHUNK_MAX: usize = 4707;
 
-/// A list of bytes with reserved room. Its room is reserved when it is made, so no line takes memory.
+/// A list of bytes with reserved room. All its room is reserved when it is made, so appending takes no memory.
 #[derive(Drop)]
 pub struct Text {
     bytes: Vec<u8>,
@@ -57,7 +57,7 @@ fn digit(value: u8) -> u8
 }
 
 impl Text {
-    /// Returns an empty text with so much room, in bytes.
+    /// Returns an empty text with room for `room` bytes, or an error where memory runs out.
     pub fn try_new(alloc: Global, room: usize) -> Result<Text, AllocError>
         ensures { IfOk result (λ text. text ≡ record { bytes = []; room = room }) }
     {
@@ -67,7 +67,7 @@ impl Text {
         })
     }
 
-    /// Returns how many more bytes have room.
+    /// Returns the number of bytes for which there is room left.
     pub fn room(&self) -> usize
         ensures { result ≡ self.now.room }
     {
@@ -81,7 +81,7 @@ impl Text {
         &self.bytes
     }
 
-    /// Takes all of it away, and has the room again.
+    /// Removes all bytes of the text, whose room is then free again.
     pub fn clear(&mut self)
         ensures { self.new ≡ record { bytes = []; room = self.old.room + length self.old.bytes } }
     {

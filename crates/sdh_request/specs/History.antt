@@ -15,7 +15,7 @@ pub data LocalHappening : Type 0 where
 
 -- A history is the list of what happened, the latest first.
 
--- what the last look saw; no defect before the first
+-- the defect that the last round found; none before the first round
 abbrev pub present_defect : List LocalHappening → Defect
 present_defect [] = defect.None
 present_defect (seen d ∷ earlier) = d
@@ -36,7 +36,7 @@ present_moment (seen d ∷ earlier) = present_moment earlier
 present_moment (commanded c ∷ earlier) = present_moment earlier
 present_moment (reached t ∷ earlier) = t
 
--- a defect ends: one look saw it, and the next sees none
+-- a defect ends: one round found it, and the next one finds none
 abbrev pub ends : Defect → Defect → Bool
 ends before d = not (is_defect_free before) && is_defect_free d
 
@@ -47,7 +47,7 @@ last_end_moment (seen d ∷ earlier) = if ends (present_defect earlier) d then S
 last_end_moment (commanded c ∷ earlier) = last_end_moment earlier
 last_end_moment (reached t ∷ earlier) = last_end_moment earlier
 
--- the local request after a history, with that waiting time
+-- the local request after a history of a side that waits `wait` moments to restore
 abbrev pub request_of : ℕ → List LocalHappening → Code
 request_of wait history =
     highest_code (present_command history) (present_defect history)

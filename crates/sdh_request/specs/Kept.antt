@@ -15,7 +15,7 @@ pub record LocalKept : Type 0 where
   pub moment : ℕ
   pub ended : Option ℕ
 
--- what is kept of a history
+-- what a side with a waiting time keeps of its history
 abbrev pub kept_of : ℕ → List LocalHappening → LocalKept
 kept_of wait history = record {
   wait = wait;
@@ -31,7 +31,7 @@ after_happening (seen d) k = record k { defect = d; ended = if ends k.defect d t
 after_happening (commanded c) k = record k { command = c }
 after_happening (reached t) k = record k { moment = t }
 
--- whatever history was kept, that history with one more happening is kept now
+-- `old` is what is kept of some history, and `new` is what is kept of that history with one more happening
 abbrev pub Adds : LocalHappening → LocalKept → LocalKept → Type 0
 Adds x old new = (wait : ℕ) (history : List LocalHappening) → old ≡ kept_of wait history → new ≡ kept_of wait (x ∷ history)
 

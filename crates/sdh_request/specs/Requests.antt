@@ -1,5 +1,5 @@
--- The local request of one side of a node: of the codes that apply there, the highest. After ITU-T G.841, in
--- which a request that is more urgent pre-empts the others.
+-- The local request of one side of a node: the highest of the codes that apply there. After ITU-T G.841, in which a
+-- request that is more urgent pre-empts the others.
 use Rattle.std.specs.Prelude.{ℕ, ◌+◌, Bool, true, false, ◌&&◌, nat_lt, Option, List, [], ◌∷◌, find}
 use Rattle.std.specs.Option.{option_map_or}
 use Rattle.sdh_terms.specs.declared.Code.{Code}
@@ -9,14 +9,14 @@ use Rattle.sdh_request.specs.declared.Defect.TheVariants as defect
 use Rattle.sdh_request.specs.declared.Command.{Command}
 use Rattle.sdh_request.specs.declared.Command.TheVariants as command
 
--- no defect is there
+-- the defect is none
 abbrev pub is_defect_free : Defect → Bool
 is_defect_free defect.None = true
 is_defect_free defect.Sd = false
 is_defect_free defect.Sf = false
 
--- the side waits to restore: no defect is there, and the present moment is before the end of the last defect
--- and the waiting time after it
+-- the side waits to restore: it has no defect now, one ended before, and fewer than `wait` moments have passed since
+-- that end
 abbrev pub waits : ℕ → Defect → ℕ → Option ℕ → Bool
 waits wait d now ended = is_defect_free d && option_map_or (λ t. nat_lt now (t + wait)) ended false
 

@@ -1,6 +1,6 @@
-//! The local request of one side of a node: what it asks for because of a command, a defect, or a defect that ended a
-//! short time ago. Time is counted in moments, and waiting goes by them alone. After ITU-T G.841; the codes, and that a
-//! defect asks at once, are this project's own.
+//! The local request of one side of a node: what the side asks for because of a command, a defect, or a defect that
+//! ended a short time ago. How long a side waits to restore is counted in the plan's moments, not in rounds. The rules
+//! are after ITU-T G.841. The choice of codes, and that a defect is requested at once, are this project's own.
 #![tactic(auto)]
 
 ghost use Rattle.std.specs.Prelude.{◌≡◌, ◌≢◌, ℕ, ◌≤◌, List, []};
@@ -12,10 +12,10 @@ use sdh_terms::Code;
 pub use settings::Settings;
 use std::marker::Model;
 
-/// What a look at a side sees.
+/// The defect that a round finds on a side.
 #[derive(Clone, Copy, Debug, PartialEq, Eq)]
 pub enum Defect {
-    /// Nothing is wrong.
+    /// No defect.
     None,
     /// Signal degrade.
     Sd,
@@ -23,10 +23,10 @@ pub enum Defect {
     Sf,
 }
 
-/// What an operator wants of a side.
+/// An operator's command for a side.
 #[derive(Clone, Copy, Debug, PartialEq, Eq)]
 pub enum Command {
-    /// Nothing, any more.
+    /// No command: it ends the command that was given before.
     Clear,
     /// A forced switch, more urgent than any defect.
     Forced,
@@ -34,11 +34,13 @@ pub enum Command {
     Manual,
 }
 
-/// A moment of the plan's time, counted from 0. A side waits to restore for a number of moments; rounds don't count.
+/// A moment of the plan's time, counted from 0. A side waits to restore for a number of moments; the number of rounds
+/// that run meanwhile doesn't matter.
 #[derive(Clone, Copy, Debug, PartialEq, Eq)]
 pub struct Moment(pub u64);
 
-/// One side of a node: its command, its defect and when a defect last ended.
+/// What one side of a node keeps for its local request: the waiting time, the command, the defect of the last round,
+/// the present moment, and the moment at which a defect last ended.
 #[derive(Debug, Drop)]
 pub struct Local {
     wait: u32,
@@ -70,8 +72,8 @@ impl Local {
     ghost use Rattle.sdh_request.specs.Kept.{kept_of, after_happening, Adds, kept_request};
     ghost use Rattle.sdh_request.specs.Requests.{waits};
 
-    /// Returns a side without a command and a defect, at moment 0. `wait` is how long it waits to restore after a
-    /// defect.
+    /// Returns a side that has no command and no defect, at moment 0. `wait` is the number of moments that it waits to
+    /// restore after a defect.
     pub fn new(wait: u32) -> Local
         ensures { result ≡ kept_of wait [] }
     {
@@ -93,7 +95,7 @@ impl Local {
         self.command = command;
     }
 
-    /// Sets the present moment, which never goes back.
+    /// Sets the present moment, which never goes back and is at most 1,000,000,000.
     #[tactic(auto, using(crate::proofs::Keeping::after_history))]
     pub fn at_moment(&mut self, now: Moment)
         requires later { self.old.moment ≤ now.0 }
@@ -104,7 +106,8 @@ impl Local {
         self.moment = now;
     }
 
-    /// Looks at the side. A defect that the last look saw and this one doesn't has ended at the present moment.
+    /// Takes the defect that a round finds on the side. If the round before found one and this round finds none, that
+    /// defect ended at the present moment.
     #[tactic(auto, using(crate::proofs::Keeping::after_history))]
     pub fn see(&mut self, defect: Defect)
         ensures kept { self.new ≡ after_happening (seen defect) self.old }
@@ -117,7 +120,7 @@ impl Local {
         self.defect = defect;
     }
 
-    /// Returns what the last look saw.
+    /// Returns the defect that the last round found, and `None` before the first round.
     pub fn defect(&self) -> Defect
         ensures { result ≡ self.now.defect }
     {
@@ -133,7 +136,8 @@ impl Local {
         }
     }
 
-    /// Returns the highest code that applies, never RR.
+    /// Returns the local request: the highest of the codes that apply to the side. It is never RR, and it is at least
+    /// SF where the last round found signal fail.
     #[tactic(auto, using(crate::proofs::Keeping::request_after, crate::proofs::Highest::never_rr, crate::proofs::Highest::at_least_sf))]
     pub fn request(&self) -> Code
         ensures kept { result ≡ kept_request self.now }

@@ -6,7 +6,7 @@ use sdh_terms::Rate;
 pub struct Settings {
     /// The rate of all frames.
     pub rate: Rate,
-    /// The least number of violations of B2 in a frame that degrades a side, 1 to 3N in a plan.
+    /// The least number of B2 violations in a frame at which a side is degraded, 1 to 3N in a plan.
     pub threshold: u16,
     /// The number of moments that a side waits to restore once its last defect ended. With 0 it doesn't wait.
     pub wait: u32,

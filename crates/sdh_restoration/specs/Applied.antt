@@ -1,5 +1,5 @@
--- The applied set: which spans a ring switches away from, by one look at the requests of all spans.
--- After ITU-T G.841, MS shared protection rings; how equal lower requests are treated is this project's own.
+-- The applied set: which spans a ring switches away from, by the requests of all spans. After ITU-T G.841, MS shared
+-- protection rings; how equal lower requests are treated is this project's own.
 use Rattle.std.specs.Prelude.{ℕ, max, Bool, ◌&&◌, nat_lt, nat_le, ◌==◌, if◌then◌else◌, List, [], ◌∷◌, slice_index, count_by}
 use Rattle.std.specs.List.{list_any}
 use Rattle.sdh_basics.specs.Cells.{cells}
@@ -22,8 +22,8 @@ highest (r ∷ rs) = max r (highest rs)
 abbrev pub has_one_leader : List ℕ → Bool
 has_one_leader rs = count_by (λ r. r == highest rs) rs == 1
 
--- a span with request r is applied: r is at least that of a signal failure (11); or, where no span's request
--- is, r is above 0 and alone the highest
+-- A span with request r is applied. Where some span's request is at least that of a signal failure (11), r is at least
+-- that too. Otherwise r is above 0, the highest of all, and the request of no other span.
 unfoldable pub applies : List ℕ → ℕ → Bool
 applies rs r = if nat_le 11 (highest rs) then nat_le 11 r else (nat_lt 0 (highest rs) && has_one_leader rs) && (r == highest rs)
 

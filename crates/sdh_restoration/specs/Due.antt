@@ -1,4 +1,4 @@
--- What a port is owed in a settled round, in customers' bytes alone. No frame occurs in it.
+-- What a port is owed in a ring that has come to rest, in customers' bytes alone. No frame occurs in it.
 use Rattle.std.specs.Prelude.{ℕ, ◌-◌, Bool, false, if◌then◌else◌, List}
 use Rattle.sdh_ringmap.specs.Numbering.{magnitude}
 use Rattle.sdh_ringmap.specs.Arcs.{is_joined}
@@ -13,12 +13,13 @@ use Rattle.sdh_restoration.specs.Routes.{hops}
 abbrev pub nothing_applied : ℕ → Bool
 nothing_applied s = false
 
--- what a customer sends in the next round, after all that happened at its port: 2349 bytes from the one with which the round begins,
--- with the pointer value before it
+-- what a customer sends in the next round, after all that happened at its port: 2349 bytes from the one with which the
+-- round begins, and the pointer value before the round
 abbrev pub sends_by : Customer → List Happening → Outlet
 sends_by customer history = delivering (magnitude (value_now customer.offset history)) (stream_from customer (first_byte_now history) 2349)
 
--- What a port of a circuit is owed in round t, in a ring of n in which these spans are applied, where the circuit's other customer sends
--- so in each round: where the circuit's ends are joined, what that one sent `hops` rounds before; AIS where they are not.
+-- What a port of a circuit is owed in round t, in a ring of n in which these spans are applied. `sends` gives what the
+-- customer at the circuit's other end sends in each round. Where the ends are joined, the port is owed what that
+-- customer sent `hops` rounds before. Where they are not, it is owed AIS.
 unfoldable pub due : ℕ → (ℕ → Bool) → Provisioned → (ℕ → Outlet) → ℕ → Outlet
 due n applied c sends t = if is_joined n applied (arc_of n c) then sends (t - hops n applied (arc_of n c)) else silent

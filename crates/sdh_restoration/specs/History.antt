@@ -16,8 +16,8 @@ pub record SideHistory : Type 0 where
   pub command : ℕ → Command
   pub moment : ℕ → ℕ
 
--- the degradation of the round before shows in round t: two frames in a row came in, the first of them with at least
--- `threshold` inverted bits. Round 0 brings no frame, so this is from round 2 on
+-- The degradation of the round before shows in round t: two frames in a row came in, the first of them with at least
+-- `threshold` inverted bits. Round 0 brings no frame, so it can show from round 2 on.
 abbrev pub shows_degraded : ℕ → SideHistory → ℕ → Bool
 shows_degraded threshold h t = nat_le 2 t && (not (h.is_cut (t - 1)) && nat_le threshold (h.degraded (t - 1)))
 
@@ -28,7 +28,7 @@ defect_at threshold h zero = defect.None
 defect_at threshold h (suc t) =
     if h.is_cut (suc t) then defect.Sf else if shows_degraded threshold h (suc t) then defect.Sd else defect.None
 
--- in round t a defect of the round before is there no longer
+-- a defect ends in round t: the side has one in the round before, and none in round t
 unfoldable pub ends_at : ℕ → SideHistory → ℕ → Bool
 ends_at threshold h zero = false
 ends_at threshold h (suc t) = not (is_defect_free (defect_at threshold h t)) && is_defect_free (defect_at threshold h (suc t))

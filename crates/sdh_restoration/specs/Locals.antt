@@ -16,7 +16,7 @@ on_side East l = l.east
 abbrev pub no_requests : LocalRequests
 no_requests = record { west = Nr; east = Nr }
 
--- the local request on that side of position p; none where there is no such position
+-- the local request on side d of position p; NR where there is no such position
 abbrev pub local_of : List LocalRequests → ℕ → Side → Code
 local_of ls p d = on_side d (slice_index_or ls p no_requests)
 

@@ -4,11 +4,11 @@ use Rattle.sdh_request.specs.declared.Command.TheVariants as command
 use Rattle.sdh_restoration.specs.declared.history.SideRound.{SideRound}
 use Rattle.sdh_restoration.specs.History.{SideHistory}
 
--- a round in which nothing happens
+-- a round in which the fibre is clear, no command holds, and the moment is 0
 abbrev pub still_round : SideRound
 still_round = record { is_cut = false; degraded = 0; command = command.Clear; moment = record { 0 = 0 } }
 
--- the history that the list gives; after its end nothing happens
+-- the history that a list of rounds gives; after the end of the list all rounds are still ones
 abbrev pub history_of : List SideRound → SideHistory
 history_of rounds = record {
   is_cut = λ t. (slice_index_or rounds t still_round).is_cut;

@@ -3,7 +3,7 @@
 use Rattle.std.specs.Prelude.{ℕ, zero, suc, ◌+◌, ◌-◌, ◌*◌, Bool, if◌then◌else◌, List, [], ◌∷◌, ◌++◌, reverse}
 use Rattle.sdh_ringmap.specs.Arcs.{Arc, arc_span, is_clear}
 
--- how many of the k places from i on come before the first at which p holds
+-- the number of places, of the k from i on, that come before the first one at which p holds; k where p holds at none
 abbrev pub places_before : (ℕ → Bool) → ℕ → ℕ → ℕ
 places_before p i zero = 0
 places_before p i (suc k) = if p i then 0 else suc (places_before p (suc i) k)
@@ -18,22 +18,23 @@ module _ (n : ℕ) (applied : ℕ → Bool) (arc : Arc) where
   abbrev pub applied_at_place : ℕ → Bool
   applied_at_place i = applied (arc_span n arc i)
 
-  -- the place of the arc's first applied span, counted from 0
+  -- the place of the arc's first applied span, counted from 0; the arc's number of spans where none is applied
   abbrev pub first_applied : ℕ
   first_applied = places_before applied_at_place 0 arc.spans
 
-  -- the place of its last applied span
+  -- the place of the arc's last applied span, counted from 0; 0 where none is applied
   abbrev pub last_applied : ℕ
   last_applied = last_place applied_at_place arc.spans
 
-  -- the number of spans of the route between the ends of the arc, where they are joined: those of the arc; or
-  -- along the arc to the first applied span, at place f, back the other way round to the far side of the
-  -- last, at place l, and along the arc to its end
+  -- The number of spans of the route between the ends of the arc, where they are joined. A clear arc is the route.
+  -- Otherwise the route leads along the arc to the first applied span, at place f. From there it leads back the other
+  -- way round to the far side of the last applied span, at place l, and along the arc to its end.
   unfoldable pub hops : ℕ
   hops = let f = first_applied in let l = last_applied in
       if is_clear n applied arc then arc.spans else (2 * f + n + arc.spans) - 2 * (l + 1)
 
-  -- k spans from place i on, in their order along the arc; the places from its length to n - 1 are the opposite arc
+  -- the k spans from place i on, in the direction of the arc; the places from the arc's length to n - 1 are those of
+  -- the opposite arc
   abbrev pub spans_from : ℕ → ℕ → List ℕ
   spans_from i zero = []
   spans_from i (suc k) = arc_span n arc i ∷ spans_from (suc i) k

@@ -25,7 +25,8 @@ fn larger(one: Code, other: Code) -> Code
     }
 }
 
-/// Returns the request of a span: the larger local request of its two ends, by the local requests at each position.
+/// Returns the request of a span: the larger local request of its two ends. `local` has the local requests of each
+/// position, from 0 on.
 #[tactic(auto, using(crate::proofs::Spans::request_of_span))]
 pub fn span_request(local: &[LocalRequests], span: Span) -> Code
     requires { span.0 < length local.now }
@@ -36,7 +37,7 @@ pub fn span_request(local: &[LocalRequests], span: Span) -> Code
     larger(west_end.east, east_end.west)
 }
 
-// The highest of some spans' requests.
+// Returns the highest number of these requests' codes, 0 where there is no request.
 
 fn highest(requests: &[Code]) -> u8
     ensures { result ≡ highest (map code_number requests.now) }
@@ -48,7 +49,7 @@ fn highest(requests: &[Code]) -> u8
     most
 }
 
-// Returns how many spans have this request.
+// Returns the number of requests whose code has this number.
 fn count_of(requests: &[Code], number: u8) -> usize
     ensures { result ≡ count_by (λ r. code_number r == number) requests.now }
 {

@@ -11,8 +11,8 @@ use sdh_terms::Code;
 #[derive(Clone, Copy, Debug, PartialEq, Eq)]
 pub struct SideRound {
     pub is_cut: bool,
-    /// The number of bits of a frame that are inverted. Each shows as a violation of B2. 0 on a fibre that isn't
-    /// degraded.
+    /// The number of bits of a frame that the fibre inverts, 0 where it isn't degraded. Each of them shows as a
+    /// violation of B2.
     pub degraded: u16,
     pub command: Command,
     pub moment: Moment,
@@ -38,7 +38,7 @@ fn defect_in(threshold: u16, rounds: &[SideRound], t: usize) -> Defect
     }
 }
 
-// Returns whether the defect in a round is none.
+// Returns whether a defect is none.
 fn is_clear(defect: Defect) -> bool
     ensures { result ≡ is_defect_free defect }
 {
@@ -48,7 +48,7 @@ fn is_clear(defect: Defect) -> bool
     }
 }
 
-// Returns whether a defect of the round before is there no longer in the next.
+// Returns whether the side has a defect in round t and none in the round after it.
 #[tactic(auto, unfolding(crate::specs::History::ends_at))]
 fn ends_after(threshold: u16, rounds: &[SideRound], t: usize) -> bool
     requires { t + 1 < length rounds.now }
@@ -88,8 +88,8 @@ fn waits(threshold: u16, wait: u32, rounds: &[SideRound], t: usize) -> bool
     }
 }
 
-/// Returns the local request of a side in a round, from all its rounds up to that one. `threshold` is the number of
-/// inverted bits in a frame that is a signal degradation, and `wait` how many moments a side waits to restore.
+/// Returns the local request of a side in round t, by all its rounds up to that one. `threshold` is the least number of
+/// inverted bits in a frame that is a signal degradation. `wait` is the number of moments that a side waits to restore.
 #[tactic(auto, unfolding(crate::specs::History::local_request))]
 pub fn local_request(threshold: u16, wait: u32, rounds: &[SideRound], t: usize) -> Code
     requires { t < length rounds.now }

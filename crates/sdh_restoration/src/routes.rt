@@ -33,7 +33,7 @@ fn is_applied_at(map: &RingMap, ends: Ends, place: u8, applied: &[Span]) -> bool
     applied.iter().any(|other| other.0 == span.0)
 }
 
-// Returns whether none of `count` spans of a ring is applied, from a place of the arc on.
+// Returns whether none of the `count` spans from place `first` of the arc on is applied.
 fn is_free(map: &RingMap, ends: Ends, first: u8, count: u8, applied: &[Span]) -> bool
     requires from { ends.from.0 < length map.now }
     requires places { first + count ≤ length map.now }
@@ -49,7 +49,7 @@ fn is_free(map: &RingMap, ends: Ends, first: u8, count: u8, applied: &[Span]) ->
     true
 }
 
-// Returns the place of the first applied span of an arc, or its number of spans.
+// Returns the place of the first applied span of an arc, or the arc's number of spans where none is applied.
 fn first_place(map: &RingMap, ends: Ends, applied: &[Span]) -> u8
     requires from { ends.from.0 < length map.now }
     requires to { ends.to.0 < length map.now }
@@ -65,7 +65,7 @@ fn first_place(map: &RingMap, ends: Ends, applied: &[Span]) -> u8
     spans
 }
 
-// Returns the place of the last applied span of an arc, or 0.
+// Returns the place of the last applied span of an arc, or 0 where none is applied.
 fn last_place(map: &RingMap, ends: Ends, applied: &[Span]) -> u8
     requires from { ends.from.0 < length map.now }
     requires to { ends.to.0 < length map.now }

@@ -10,13 +10,13 @@ use Rattle.sdh_rounds.specs.Rounds.{with_arrivals, all_with_arrivals, arrivals_f
 
 -- ---- receives
 
--- the node at position p received on a side what came, which is what the fibres give where that is known
+-- the node at position p received on side d what came; where arrivals are known, that is what the fibres give
 pub record ReceivesOne {N : Type 0} (s : Station N) (f : Fibres) (p : ℕ) (d : Side) (old new : N) : Type 0 where
   pub came : Arrival
   pub known : Knows f → came ≡ arrival f p d
   pub node : new ≡ s.told d came old
 
--- first on the west and then on the east
+-- the node at position p received what came, first on the west and then on the east
 pub record ReceivesBoth {N : Type 0} (s : Station N) (f : Fibres) (p : ℕ) (old new : N) : Type 0 where
   pub west : Arrival
   pub east : Arrival
@@ -24,7 +24,7 @@ pub record ReceivesBoth {N : Type 0} (s : Station N) (f : Fibres) (p : ℕ) (old
   pub east_known : Knows (after_receive f) → east ≡ arrival (after_receive f) p East
   pub node : new ≡ with_arrivals s west east old
 
--- the first k nodes received
+-- the first k nodes received what came, each on both sides
 pub record FirstReceive {N : Type 0} (s : Station N) (k : ℕ) (f g : Fibres) (old new : List N) : Type 0 where
   pub arrivals : List Arrival
   pub count : length arrivals ≡ 2 * k
@@ -32,7 +32,8 @@ pub record FirstReceive {N : Type 0} (s : Station N) (k : ℕ) (f g : Fibres) (o
   pub nodes : new ≡ all_with_arrivals s arrivals old
   pub fibres : g ≡ after_given (length arrivals) f
 
--- the nodes that received these arrivals by position, west before east, the last of them perhaps on the west alone
+-- the nodes after the first of them received these arrivals, by position, west before east; the last of those received
+-- perhaps on the west alone
 abbrev pub told_some : {N : Type 0} → Station N → List Arrival → List N → List N
 told_some s [] ns = ns
 told_some s (west ∷ []) [] = []
@@ -49,10 +50,11 @@ pub record SomeReceive {N : Type 0} (s : Station N) (k : ℕ) (f g : Fibres) (ol
 
 -- ---- sends
 
--- the fibres after the node at position p sent on the west, and then on the east
+-- the fibres after the node at position p sent on the west
 abbrev pub sent_west : {N : Type 0} → Station N → ℕ → ℕ → N → Fibres → Fibres
 sent_west s now p n f = after_send f p West (s.sends now West n)
 
+-- the fibres after the node at position p sent on the west, and then on the east
 abbrev pub sent_now : {N : Type 0} → Station N → ℕ → ℕ → N → Fibres → Fibres
 sent_now s now p n f = after_send (sent_west s now p n f) p East (s.sends now East n)
 
@@ -60,7 +62,7 @@ sent_now s now p n f = after_send (sent_west s now p n f) p East (s.sends now Ea
 abbrev pub first_after : {N : Type 0} → Station N → ℕ → ℕ → List N → List N
 first_after s now k ns = map (s.after now) (take k ns) ++ drop k ns
 
--- the first frames of these nodes were sent, but not all; the node whose send failed had its round before
+-- the first frames of these nodes were sent, but not all; the node whose send failed had run its round before the send
 pub record SendsSome {N : Type 0} (s : Station N) (now : ℕ) (old new : List N) (f g : Fibres) : Type 0 where
   pub out : ℕ
   pub not_all : out < length (frames_of s now old)

@@ -7,12 +7,14 @@ use Rattle.sdh_rounds.specs.Runs.{ArriveIn, run_with, course_with, IsBrokenOff}
 use Rattle.sdh_rounds.specs.Quiet.{NeverSettles}
 use Rattle.sdh_rounds.specs.Calls.{told_some, first_after}
 
--- the number of nodes that had their round in one that was broken off: none where a receive failed, as not all arrivals
--- were taken then; else those whose frames were sent on both sides, and the one whose send failed
+-- The number of nodes that ran their round, in a round that was broken off. It is none where a receive failed, as not
+-- all arrivals were taken then. Otherwise it is that of the nodes whose frames were sent on both sides, and the one
+-- whose send failed.
 abbrev pub had_round : {N : Type 0} {s : Station N} {w : World N} {f : Fibres} → IsBrokenOff s w f → ℕ
 had_round off = if nat_lt off.given (length off.arrivals) then 0 else off.out / 2 + 1
 
--- a round that was broken off: the ring is broken; the first nodes had received, and of these the first had their round
+-- A round was broken off. The ring is broken. The first nodes received what arrived, and of these the first ran their
+-- round.
 pub record BreaksRound {N : Type 0} (s : Station N) (w left : World N) : Type 0 where
   pub off : IsBrokenOff s w left.fibres
   pub ring : left.ring ≡ record w.ring { nodes = left.ring.nodes; broken = true }

@@ -15,6 +15,7 @@ use Rattle.sdh_request.specs.declared.settings.Settings.{Settings}
 use Rattle.sdh_plant.specs.Fibres.{Fibres}
 use Rattle.sdh_rounds.specs.Stations.{Station}
 
+-- what a ring of nodes of any kind holds: its settings, the map and the circuits, its nodes, and how far its rounds are
 pub record HeldRing (N : Type 0) : Type 0 where
   pub settings : Settings
   -- the identifiers of the nodes, by position
@@ -24,7 +25,7 @@ pub record HeldRing (N : Type 0) : Type 0 where
   pub nodes : List N
   -- the present moment
   pub moment : ℕ
-  -- how many rounds have run, so that the next one has this number
+  -- the number of rounds that have run, which is the number of the next one
   pub rounds : ℕ
   -- a fault of the plant broke a round off
   pub broken : Bool
@@ -49,7 +50,7 @@ at_place (suc p) change (n ∷ ns) = n ∷ at_place p change ns
 abbrev pub new_nodes : {N : Type 0} → Station N → Settings → List ℕ → List Provisioned → ℕ → List N
 new_nodes s settings ids circuits n = cells (λ p. s.new settings ids circuits (position_of p)) n
 
--- the ring that has these nodes
+-- the ring of these nodes in which no round has run
 abbrev pub ring_of : {N : Type 0} → Settings → List ℕ → Provisioning → List N → HeldRing N
 ring_of settings ids circuits nodes = record {
   settings = settings;
@@ -67,11 +68,11 @@ new_ring s settings ids circuits = ring_of settings ids circuits (new_nodes s se
 
 -- ---- where a port of a circuit is
 
--- the position of its node, and none of the ring where there is no such circuit
+-- the position of the node where a port is; the number of nodes, which is no position, where there is no such circuit
 abbrev pub place_of_port : {N : Type 0} → HeldRing N → PortId → ℕ
 place_of_port r port = option_map_or (λ c. (end_of c port.end).0) (slice_get r.circuits.circuits port.circuit) (length r.nodes)
 
--- what it delivered in the last round, at the node where it is
+-- what a port delivered in the last round, at the node where it is
 abbrev pub outlet_at : {N : Type 0} → Station N → HeldRing N → PortId → Outlet
 outlet_at s r port =
     option_map_or (λ c. option_map_or (s.outlet port) (slice_get r.nodes (end_of c port.end).0) silent)
@@ -96,7 +97,7 @@ pub record IsNodeOf {N : Type 0} (r : HeldRing N) (port : PortId) (n : N) : Type
 abbrev pub nowhere : {N : Type 0} → Station N → N
 nowhere s = s.new (record { rate = Four; threshold = 0; wait = 0 }) [] [] (position_of 0)
 
--- what holds of the node at position p of a ring, at each position; `none` stands for a node of no ring
+-- P holds of each position of a ring and the node there; `none`, a node of no ring, is only the default of the look-up
 abbrev pub AtEach : {N : Type 0} → N → (ℕ → N → Type 0) → List N → Type 0
 AtEach none P ns = (p : ℕ) → p < length ns → P p (slice_index_or ns p none)
 

@@ -12,11 +12,11 @@ use Rattle.sdh_rounds.specs.Quiet.{SettlesAt, NeverSettles, settles_in, Settles,
 
 -- ---- a round
 
--- where arrivals are known it is determined, and they stay known
+-- where arrivals are known they determine a round, and those of the next rounds stay known
 abbrev pub KnownRounds : {N : Type 0} → Station N → Type 0
 KnownRounds {N} s = (w after : World N) → Knows w.fibres → IsRound s w after → (after ≡ round s w) × Knows after.fibres
 
--- what a round leaves as it was
+-- what this number of rounds leaves as it was
 pub record Keeps {N : Type 0} (w after : World N) (rounds : ℕ) : Type 0 where
   pub ring : after.ring ≡ record w.ring { nodes = after.ring.nodes; rounds = w.ring.rounds + rounds }
   pub size : length after.ring.nodes ≡ length w.ring.nodes
@@ -24,7 +24,7 @@ pub record Keeps {N : Type 0} (w after : World N) (rounds : ℕ) : Type 0 where
   pub honest : after.fibres.honest ≡ w.fibres.honest
   pub prepared : (rate : Rate) → IsPrepared rate (length w.ring.nodes) w.fibres → IsPrepared rate (length w.ring.nodes) after.fibres
 
--- where the plant reports what was sent, these frames were appended
+-- where the plant reports what was sent, these frames were appended from the fibres f to the fibres g
 abbrev pub Appends : Fibres → List (List ℕ) → Fibres → Type 0
 Appends f frames g = g.sent ≡ option_map (λ sent. sent ++ frames) f.sent
 
@@ -32,7 +32,7 @@ abbrev pub RoundsKeep : {N : Type 0} → Station N → Type 0
 RoundsKeep {N} s =
     (w after : World N) → (r : IsRound s w after) → Keeps w after 1 × Appends w.fibres (frames_with s r.arrivals w) after.fibres
 
--- a round that was broken off
+-- what a round that was broken off keeps, and the first of its frames, which it appends
 pub record FaultsKeep {N : Type 0} (s : Station N) : Type 0 where
   pub conditions : (w : World N) (g : Fibres) → IsBrokenOff s w g → g.conditions ≡ w.fibres.conditions
   pub honest : (w : World N) (g : Fibres) → IsBrokenOff s w g → g.honest ≡ w.fibres.honest
@@ -55,7 +55,7 @@ RunsKeep {N} s =
     (rounds : List (List Arrival)) (w : World N) → Keeps w (run_with s rounds w) (length rounds)
     × Appends w.fibres (frames_in s rounds w) (run_with s rounds w).fibres
 
--- a step that ended ran at least one round, and the number of the last is a multiple of 128 and not 0
+-- a settle step that ended ran at least one round, and the number of the last is a multiple of 128 and not 0
 pub record EndsAtAMultiple {N : Type 0} (r left : HeldRing N) (limit : ℕ) : Type 0 where
   pub ran : r.rounds < left.rounds
   pub most : left.rounds ≤ r.rounds + limit
@@ -66,20 +66,21 @@ abbrev pub SettledNumbers : {N : Type 0} → Station N → Type 0
 SettledNumbers {N} s =
     (w left : World N) (limit : ℕ) → 1 ≤ length w.ring.ids → Settles s w limit left → EndsAtAMultiple w.ring left.ring limit
 
--- where a fault broke it off, frames were appended of all whole rounds and of the one that was broken off
+-- where a fault broke a settle step off, all frames of its whole rounds were appended, and then the first frames of the
+-- round that was broken off
 abbrev pub BrokenStepsSend : {N : Type 0} → Station N → Type 0
 BrokenStepsSend {N} s =
     (w : World N) (limit : ℕ) (g : Fibres) → (b : BreaksOff s w limit g)
     → Appends w.fibres (frames_in s b.rounds w ++ take b.off.out (frames_with s b.off.arrivals (run_with s b.rounds w))) g
 
--- where arrivals are known a step is determined
+-- where arrivals are known they determine a settle step
 pub record KnownSteps {N : Type 0} (s : Station N) : Type 0 where
   pub settled : (w left : World N) (limit : ℕ) → Knows w.fibres → Settles s w limit left
       → (k : ℕ) × SettlesAt s (course s w) limit k × (left ≡ run s k w)
   pub unsettled : (w left : World N) (limit : ℕ) → Knows w.fibres → Unsettles s w limit left
       → NeverSettles s (course s w) limit × (left ≡ run s limit w)
 
--- where a step ends with its k-th round, or doesn't end, can be computed
+-- whether a settle step ends with its k-th round, or doesn't end, can be computed
 pub record StepsAreComputed {N : Type 0} (s : Station N) : Type 0 where
   pub settled : (w : World N) (limit k : ℕ) → (settles_in s w limit ≡ Some k) ↔ SettlesAt s (course s w) limit k
   pub unsettled : (w : World N) (limit : ℕ) → (settles_in s w limit ≡ None) ↔ NeverSettles s (course s w) limit

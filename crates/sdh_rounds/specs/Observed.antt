@@ -6,21 +6,21 @@ use Rattle.sdh_rounds.specs.Held.{HeldRing, World}
 use Rattle.sdh_rounds.specs.Runs.{IsRound, IsBrokenOff, run_with, ArriveIn, course_with}
 use Rattle.sdh_rounds.specs.Quiet.{EndsWindow, Settles}
 
--- after k rounds of a course, which gives the world after each number of rounds, one more was run and left this ring
+-- after k rounds of a course, which gives the world after each number of rounds, one more round ran and left this ring
 pub record RanOne {N : Type 0} (s : Station N) (at : ℕ → World N) (k : ℕ) (ring : HeldRing N) : Type 0 where
   pub few : k < 65536
   pub round : IsRound s (at k) (at (suc k))
   pub ring_is : ring ≡ (at (suc k)).ring
 
--- a settle step that ended, and what is kept of its rounds; `heard` says whether that is what is to be kept of a number
--- of rounds of a course
+-- A settle step ended, and something is kept of its rounds. `heard` says whether it is what is to be kept of a number
+-- of rounds of a course.
 pub record Hears {N : Type 0} (s : Station N) (heard : (ℕ → World N) → ℕ → Type 0) (w : World N) (limit : ℕ) (left : World N) : Type 0 where
   pub settles : Settles s w limit left
   pub kept : heard (course_with s settles.rounds w) (length settles.rounds)
 
 -- ---- a settle step that didn't end
 
--- rounds of a settle step ran, and none of them came after a quiet window; what is kept of them is what `kept_of` says
+-- Rounds of a settle step ran, and none of them came after a quiet window. What is kept of them is what `kept_of` says.
 pub record RanSome {N : Type 0} (s : Station N) (kept_of : (ℕ → World N) → ℕ → Type 0) (w : World N) (limit : ℕ)
     (mid : World N) : Type 0 where
   pub rounds : List (List Arrival)
@@ -30,16 +30,16 @@ pub record RanSome {N : Type 0} (s : Station N) (kept_of : (ℕ → World N) →
   pub mid_is : mid ≡ run_with s rounds w
   pub kept : kept_of (course_with s rounds w) (length rounds)
 
--- what is kept of a settle step that didn't end: after the rounds that are kept no more ran, or a fault broke the next
--- one off
+-- What is kept of a settle step that didn't end. After the rounds of which something is kept no other round ran, or a
+-- fault broke the next one off.
 pub record HearsSome {N : Type 0} (s : Station N) (heard : (ℕ → World N) → ℕ → Type 0) (w : World N) (limit : ℕ)
     (left : World N) : Type 0 where
   pub mid : World N
   pub ran : RanSome s heard w limit mid
   pub next : (left ≡ mid) ⊎ IsBrokenOff s mid left.fibres
 
--- An observer stopped a settle step after a round, and no more ran. The plant's count of faults was `before` and is `after`: no call of it
--- failed.
+-- An observer stopped a settle step after a round, and no further round ran. The plant's count of faults was `before`
+-- and is `after`. Where it is exact, no call of the plant failed.
 pub record IsStopped {N : Type 0} (s : Station N) (exact : Bool) (kept_of : (ℕ → World N) → ℕ → Type 0) (w : World N) (limit : ℕ)
     (left : World N) (before after : ℕ) : Type 0 where
   pub ran : RanSome s kept_of w limit left

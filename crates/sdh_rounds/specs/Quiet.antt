@@ -16,13 +16,14 @@ is_calm s ns = list_all s.calm ns
 abbrev pub IsCalm : {N : Type 0} → Station N → (ℕ → World N) → ℕ → Type 0
 IsCalm s at k = is_calm s (at k).ring.nodes ≡ true
 
--- a quiet window ends with the k-th round: it is the last of 3 n calm rounds of the step, and its number is a multiple of 128
+-- a quiet window ends with the k-th round: it is the last of 3 n calm rounds of the step, and its number is a multiple
+-- of 128
 pub record EndsWindow {N : Type 0} (s : Station N) (at : ℕ → World N) (k : ℕ) : Type 0 where
   pub long : 3 * length (at k).ring.ids ≤ k
   pub calm : (j : ℕ) → k < j + 3 * length (at k).ring.ids → j ≤ k → IsCalm s at j
   pub place : ((at k).ring.rounds - 1) % 128 ≡ 0
 
--- the step ends with its k-th round, which is the first to end a window
+-- the settle step ends with its k-th round, which is the first to end a window
 pub record SettlesAt {N : Type 0} (s : Station N) (at : ℕ → World N) (limit k : ℕ) : Type 0 where
   pub within : k ≤ limit
   pub window : EndsWindow s at k
@@ -40,7 +41,8 @@ ends_window s at k =
     nat_le (3 * length (at k).ring.ids) k && (list_all (λ i. is_calm s (at (k - i)).ring.nodes)
     (range_with_len 0 (3 * length (at k).ring.ids)) && (((at k).ring.rounds - 1) % 128 == 0))
 
--- in how many rounds a step from w ends, where arrivals are known: the first number within the limit that ends a window
+-- the number of rounds after which a settle step from w ends, where arrivals are known: the first number within the
+-- limit with which a window ends
 unfoldable pub settles_in : {N : Type 0} → Station N → World N → ℕ → Option ℕ
 settles_in s w limit = find (ends_window s (course s w)) (range_with_len 0 (limit + 1))
 
@@ -53,7 +55,7 @@ pub record Settles {N : Type 0} (s : Station N) (w : World N) (limit : ℕ) (lef
   pub settles : SettlesAt s (course_with s rounds w) limit (length rounds)
   pub left_is : left ≡ run_with s rounds w
 
--- as many rounds ran as it might run, and none ended a window
+-- the limit's rounds ran in a settle step, and none of them ended a window
 pub record Unsettles {N : Type 0} (s : Station N) (w : World N) (limit : ℕ) (left : World N) : Type 0 where
   pub rounds : List (List Arrival)
   pub arrive : ArriveIn s rounds w
@@ -61,7 +63,7 @@ pub record Unsettles {N : Type 0} (s : Station N) (w : World N) (limit : ℕ) (l
   pub never : NeverSettles s (course_with s rounds w) limit
   pub left_is : left ≡ run_with s rounds w
 
--- a fault broke a round off, before any ended a window
+-- a fault broke a round of a settle step off, before any round ended a window
 pub record BreaksOff {N : Type 0} (s : Station N) (w : World N) (limit : ℕ) (left : Fibres) : Type 0 where
   pub rounds : List (List Arrival)
   pub arrive : ArriveIn s rounds w

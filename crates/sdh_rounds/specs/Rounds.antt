@@ -41,7 +41,7 @@ arrivals_of w = arrivals_from w.fibres 0 (receivers w)
 unfoldable pub with_arrivals : {N : Type 0} → Station N → Arrival → Arrival → N → N
 with_arrivals s west east n = s.told East east (s.told West west n)
 
--- the nodes that have received, each the next two arrivals; where these are at their end, no further node receives
+-- the nodes after they received: each takes the next two arrivals, and where no two are left, no further node receives
 abbrev pub all_with_arrivals : {N : Type 0} → Station N → List Arrival → List N → List N
 all_with_arrivals s [] ns = ns
 all_with_arrivals s (west ∷ []) ns = ns
@@ -62,7 +62,7 @@ both_frames s now n = s.sends now West n ∷ s.sends now East n ∷ []
 abbrev pub frames_of : {N : Type 0} → Station N → ℕ → List N → List (List ℕ)
 frames_of s now ns = flat_map (both_frames s now) ns
 
--- the fibres after a frame was sent on each
+-- the fibres after a frame was sent on each of them
 unfoldable pub sent_all : List (List ℕ) → Fibres → Fibres
 sent_all frames f = record f { carried = map Some frames; sent = option_map (λ sent. sent ++ frames) f.sent }
 
@@ -77,7 +77,7 @@ sent_some frames f =
 abbrev pub nodes_with : {N : Type 0} → Station N → List Arrival → World N → List N
 nodes_with s arrivals w = all_with_arrivals s arrivals w.ring.nodes
 
--- the frames that they send
+-- the frames that the nodes of a world send after these arrivals
 abbrev pub frames_with : {N : Type 0} → Station N → List Arrival → World N → List (List ℕ)
 frames_with s arrivals w = frames_of s w.ring.moment (nodes_with s arrivals w)
 

@@ -8,7 +8,8 @@ use Rattle.sdh_rounds.specs.Rounds.{receivers, arrivals_of, after_given, sent_so
 
 -- ---- one round
 
--- these may arrive in the next round: two for each node that receives, and those of the fibres where they are known
+-- these may arrive in the next round: two for each node that receives, and those that the fibres give where arrivals
+-- are known
 pub record Arrive {N : Type 0} (w : World N) (arrivals : List Arrival) : Type 0 where
   pub count : length arrivals ≡ 2 * receivers w
   pub known : Knows w.fibres → arrivals ≡ arrivals_of w
@@ -19,8 +20,8 @@ pub record IsRound {N : Type 0} (s : Station N) (w after : World N) : Type 0 whe
   pub arrive : Arrive w arrivals
   pub after_is : after ≡ round_with s arrivals w
 
--- the fibres after a round that a fault broke off: of its arrivals the first were taken, and of its frames the first were
--- sent but not all; none before all arrivals were taken
+-- The fibres after a round that a fault broke off. The first of its arrivals were taken. The first of its frames were
+-- sent, but not all, and none before all arrivals were taken.
 pub record IsBrokenOff {N : Type 0} (s : Station N) (w : World N) (after : Fibres) : Type 0 where
   pub arrivals : List Arrival
   pub arrive : Arrive w arrivals
@@ -38,7 +39,7 @@ unfoldable pub run : {N : Type 0} → Station N → ℕ → World N → World N
 run s zero w = w
 run s (suc k) w = round s (run s k w)
 
--- the arrivals of these rounds
+-- the arrivals of the next k rounds, where they are known
 unfoldable pub arrivals_in : {N : Type 0} → Station N → ℕ → World N → List (List Arrival)
 arrivals_in s zero w = []
 arrivals_in s (suc k) w = arrivals_of w ∷ arrivals_in s k (round s w)
@@ -53,7 +54,7 @@ abbrev pub ArriveIn : {N : Type 0} → Station N → List (List Arrival) → Wor
 ArriveIn s [] w = Unit {0}
 ArriveIn s (arrivals ∷ later) w = Arrive w arrivals × ArriveIn s later (round_with s arrivals w)
 
--- the course of such a run: the world after each number of rounds
+-- the course of a run with these arrivals: the world after each number of rounds
 abbrev pub course_with : {N : Type 0} → Station N → List (List Arrival) → World N → ℕ → World N
 course_with s rounds w j = run_with s (take j rounds) w
 

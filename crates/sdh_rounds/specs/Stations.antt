@@ -15,9 +15,9 @@ pub record Station (N : Type 0) : Type 0 where
   pub told : Side → Arrival → N → N
   -- the node after its round at a moment
   pub after : ℕ → N → N
-  -- the bytes of the frame that it sends on a side in that round
+  -- the bytes of the frame that the node sends on a side in its round at a moment
   pub sends : ℕ → Side → N → List ℕ
-  -- its last round was calm: nothing that is compared changed
+  -- the node's last round was calm: nothing that is compared changed
   pub calm : N → Bool
-  -- what a port at it delivered in its last round
+  -- what a port at the node delivered in the node's last round
   pub outlet : PortId → N → Outlet

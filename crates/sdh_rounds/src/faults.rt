@@ -18,7 +18,7 @@ impl From<Failed> for PlantFault {
 /// Why a settle step didn't end with a quiet window.
 #[derive(Clone, Copy, Debug, PartialEq, Eq, Error)]
 pub enum SettleError {
-    /// As many rounds as it might run have run, and none ended a quiet window.
+    /// The limit's rounds have run, and none of them ended a quiet window.
     #[error("no quiet window in as many rounds as might run")]
     Unsettled,
     /// A call of the plant failed in a round. The ring is broken from then on.
@@ -26,7 +26,7 @@ pub enum SettleError {
     PlantFault,
 }
 
-/// What looks at a ring after each round stopped a settle step.
+/// A recorder stopped a settle step after a round.
 #[derive(Clone, Copy, Debug, PartialEq, Eq, Error)]
 #[error("the settle step was stopped after a round")]
 pub struct Stopped;

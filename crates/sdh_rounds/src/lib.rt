@@ -1,6 +1,6 @@
-//! Rounds of a ring over its fibres, for nodes of any kind: what a round asks of a node is the trait `Station`, a round
-//! is in `specs/Rounds.antt`, a run with any arrivals in `specs/Runs.antt`, and where a settle step ends in
-//! `specs/Quiet.antt`. What has no work to do here is a law.
+//! Rounds of a ring over its fibres, for nodes of any kind. The trait `Station` has what a round asks of a node. A
+//! round is defined in `specs/Rounds.antt`, a run with any arrivals in `specs/Runs.antt`, and the end of a settle step
+//! in `specs/Quiet.antt`. Each function in this file has a law as its contract and no work to do.
 #![tactic(auto)]
 
 ghost use Rattle.sdh_rounds.specs.Laws.{KnownRounds, RoundsKeep, FaultsKeep, HonestRounds, RunsKeep, SettledNumbers, BrokenStepsSend};
@@ -18,7 +18,7 @@ pub use ring::StationRing;
 pub use station::Station;
 pub use steps::{Nobody, Nowhere, Observer, Recorder, RunsRounds, settle, settle_recording};
 
-/// Where arrivals are known a round is determined.
+/// Where the arrivals are known they determine what a round leaves.
 pub fn known_rounds_are<S: Station>()
     ensures { KnownRounds S.kind }
 {}
@@ -35,7 +35,7 @@ pub fn faults_keep<S: Station>()
     ensures { FaultsKeep S.kind }
 {}
 
-/// Honest fibres stay honest, and what arrives is what was sent.
+/// Honest fibres stay honest, and what arrives is what was sent, as their conditions let it through.
 #[tactic(auto, using(crate::proofs::Honest::honest_rounds))]
 pub fn honest_fibres_stay_honest<S: Station>()
     ensures { HonestRounds S.kind }
@@ -47,23 +47,24 @@ pub fn runs_keep<S: Station>()
     ensures { RunsKeep S.kind }
 {}
 
-/// A step that ends with a window ends with a round whose number is a multiple of 128 and not 0.
+/// A settle step that ends with a quiet window ends with a round whose number is a multiple of 128 and not 0.
 pub fn settled_numbers<S: Station>()
     ensures { SettledNumbers S.kind }
 {}
 
-/// A step that a fault broke off has sent all frames of its whole rounds and the first of the next one.
+/// A settle step that a fault broke off has sent all frames of its whole rounds, and the first frames of the round
+/// after them.
 pub fn broken_steps_send<S: Station>()
     ensures { BrokenStepsSend S.kind }
 {}
 
-/// Where arrivals are known a step is determined.
+/// Where the arrivals are known they determine what a settle step leaves.
 #[tactic(auto, using(crate::proofs::Laws::known_steps))]
 pub fn known_steps<S: Station>()
     ensures { KnownSteps S.kind }
 {}
 
-/// Where arrivals are known the number of rounds of a step can be computed.
+/// Where the arrivals are known the number of rounds of a settle step can be computed.
 #[tactic(auto, using(crate::proofs::Laws::steps_are_computed))]
 pub fn steps_are_computed<S: Station>()
     ensures { StepsAreComputed S.kind }

@@ -30,7 +30,7 @@ pub struct StationRing<N: Station> {
     circuits: CircuitMap,
     /// The nodes, by position.
     pub nodes: Vec<N>,
-    // What a node receives, and what it sends on each side.
+    // The frames that a node receives, and that it sends on each side. All nodes use the same ones in turn.
     arrived: Landed,
     west: FrameBuf,
     east: FrameBuf,
@@ -55,7 +55,7 @@ impl<N: Station> Model for StationRing<N> {
     } };
 }
 
-// Returns a new node at each position.
+// Returns a new node for each position, or an error where memory runs out.
 fn new_nodes<N: Station>(
     alloc: Global,
     settings: Settings,
@@ -85,7 +85,8 @@ fn end_of(circuit: &Circuit, end: End) -> Pos
 }
 
 impl<N: Station> StationRing<N> {
-    /// Returns a ring of new nodes, in which no round has run, at moment 0. All its memory is taken here.
+    /// Returns a ring of new nodes, in which no round has run, at moment 0, or an error where memory runs out. No other
+    /// call takes memory.
     pub fn try_new(
         alloc: Global,
         settings: Settings,
@@ -103,7 +104,7 @@ impl<N: Station> StationRing<N> {
         Ok(StationRing::of_nodes(settings, map, circuits, nodes, arrived, west, east))
     }
 
-    // Returns the ring of these new nodes, with the frames that they are to receive and send.
+    // Returns the ring of these new nodes, with room for the frames that they are to receive and send.
     fn of_nodes(
         settings: Settings,
         map: RingMap,
@@ -213,21 +214,21 @@ impl<N: Station> StationRing<N> {
         &self.nodes[at.0 as usize]
     }
 
-    /// Returns how many rounds have run, so that the last one has the number before it.
+    /// Returns the number of rounds that have run. The last one has the number before it.
     pub fn rounds(&self) -> u64
         ensures { result ≡ self.now.rounds }
     {
         self.rounds
     }
 
-    /// Returns the nodes' identifiers.
+    /// Returns the ring's map, which has the identifiers of the nodes by position.
     pub fn map(&self) -> &RingMap
         ensures { result.now ≡ self.now.ids }
     {
         &self.map
     }
 
-    /// Returns the circuits.
+    /// Returns the circuits of the ring.
     pub fn circuits(&self) -> &CircuitMap
         ensures { result.now ≡ self.now.circuits }
     {

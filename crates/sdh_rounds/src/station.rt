@@ -29,7 +29,8 @@ pub trait Station: Drop {
     /// A node may run a round at a moment.
     ghost MayRun: { ℕ → Self → Type 0 };
 
-    /// Returns a new node at a position of a ring with these circuits. All its memory is taken here.
+    /// Returns a new node at a position of a ring with these circuits, or an error where memory runs out. No other call
+    /// takes memory.
     fn try_new(
         alloc: Global,
         settings: Settings,
@@ -42,8 +43,9 @@ pub trait Station: Drop {
         requires kept { KeepsRing circuits.now map.now }
         ensures { IfOk result (λ node. node ≡ kind.new settings map.now circuits.now.circuits at) };
 
-    /// Keeps what arrived on a side for its next round, in place of what arrived there since the last one. A frame that
-    /// landed is taken in exchange for another buffer of its rate, in which nothing has landed.
+    /// Keeps what arrived on a side for the node's next round, in place of what arrived there since the last one. A
+    /// frame that landed is kept without a copy: its buffer is exchanged for another one of the same rate, in which
+    /// nothing has landed.
     fn receive_landed(&mut self, side: Side, arrived: Arrived, inbox: &mut Landed)
         requires rate { inbox.old.rate ≡ rate self.old }
         requires here { arrived ≡ Arrived.Frame → inbox.old.landed ≢ None }
@@ -53,7 +55,7 @@ pub trait Station: Drop {
         ensures dark { arrived ≡ Arrived.Dark → inbox.new ≡ inbox.old }
         ensures taken { arrived ≡ Arrived.Frame → inbox.new.landed ≡ None };
 
-    /// Runs a round at a moment, and gives the frames that it sends on both sides.
+    /// Runs a round at a moment, and writes the frames that the node sends on its two sides.
     fn send(&mut self, now: Moment, west: &mut FrameBuf, east: &mut FrameBuf)
         requires west { west.old.rate ≡ rate self.old }
         requires east { east.old.rate ≡ rate self.old }
@@ -63,11 +65,11 @@ pub trait Station: Drop {
         ensures east { east.new.bytes ≡ kind.sends now.0 East self.old }
         ensures rates { (west.new.rate ≡ west.old.rate) × (east.new.rate ≡ east.old.rate) };
 
-    /// Returns whether its last round was calm: nothing that is compared changed.
+    /// Returns whether the node's last round was calm: nothing that is compared changed.
     fn calm(&self) -> bool
         ensures { result ≡ kind.calm self.now };
 
-    /// What arrives changes neither its rate nor whether it may run.
+    /// What arrives changes neither the rate of a node nor whether the node may run.
     ghost told_rate: { (side : Side) (a : Arrival) (n : Self) → rate (kind.told side a n) ≡ rate n };
 
     ghost told_may: { (now : ℕ) (side : Side) (a : Arrival) (n : Self) → MayRun now n → MayRun now (kind.told side a n) };

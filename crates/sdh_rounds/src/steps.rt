@@ -10,12 +10,12 @@ use crate::ring::StationRing;
 use crate::station::Station;
 use sdh_plant::Plant;
 
-/// A ring that runs in rounds. More may be true of it than of every ring.
+/// A ring that runs in rounds. Each implementation may guarantee more of its rings than holds of every `StationRing`.
 pub trait RunsRounds {
-    /// What its nodes are.
+    /// The kind of the ring's nodes.
     type Node: Station;
 
-    /// What it holds.
+    /// What the ring holds, as contracts see it.
     ghost held: { Self → HeldRing Self.Node };
 
     /// Returns the nodes, and what a round of them needs.
@@ -31,13 +31,14 @@ pub trait RunsRounds {
             (world (held self.new) (P.fibres plant.new)) (P.faults plant.old) (P.faults plant.new) };
 }
 
-/// What looks at a ring after each round of a settle step, and keeps something of what it saw.
+/// An observer: it looks at a ring after each round of a settle step, and keeps something of what it saw.
 pub trait Observer<R: RunsRounds> {
-    /// The observer keeps what it is to keep after a number of rounds of a course. A course gives the world after each
-    /// number of rounds.
+    /// The observer keeps what it is to keep after a number of rounds of a course. A course gives the world, which is a
+    /// ring and its fibres, after each number of rounds.
     ghost Heard: { (ℕ → World R.Node) → ℕ → Self → Type 0 };
 
-    /// Looks at the ring that one round more has left. Whatever course led there, it keeps what is to be kept of it then.
+    /// Looks at the ring after one more round. Whatever course led there, the observer then keeps what it is to keep of
+    /// it.
     fn look(&mut self, ring: &R)
         requires { (at : ℕ → World R.Node) × (k : ℕ) × RanOne R.Node.kind at k (R.held ring.now) × Heard at k self.old }
         ensures { (at : ℕ → World R.Node) (k : ℕ) → RanOne R.Node.kind at k (R.held ring.now) → Heard at k self.old
@@ -47,7 +48,7 @@ pub trait Observer<R: RunsRounds> {
     ghost same: { (at bt : ℕ → World R.Node) (k : ℕ) (o : Self) → ((j : ℕ) → j ≤ k → at j ≡ bt j) → Heard at k o → Heard bt k o };
 }
 
-/// One that keeps nothing.
+/// An observer that keeps nothing.
 #[derive(Drop)]
 pub struct Nobody;
 
@@ -59,10 +60,11 @@ impl<R: RunsRounds> Observer<R> for Nobody {
     ghost same = { λ at bt k o same heard. tt };
 }
 
-/// What looks at a ring after each round of a settle step, writes what it saw to a log that is passed along, and may stop the step.
+/// A recorder: it looks at a ring after each round of a settle step, writes what it saw to a log that is passed along,
+/// and may stop the step.
 pub trait Recorder<R: RunsRounds, L> {
     /// The recorder and the log are what they are to be after a number of rounds of a course, by what they were before
-    /// the step. A course gives the world after each number of rounds.
+    /// the step. A course gives the world, which is a ring and its fibres, after each number of rounds.
     ghost Records: { Self → L → (ℕ → World R.Node) → ℕ → Self → L → Type 0 };
 
     /// The recorder and the log are what they are to be where the recorder stopped the step after a number of rounds.
@@ -101,7 +103,7 @@ impl<R: RunsRounds, O: Observer<R>> Recorder<R, Nowhere> for O {
     ghost same = { λ first begun at bt k o l same heard. O.same at bt k o same heard };
 }
 
-// Returns the number of calm rounds that the last round ends, where there were `calm` before it.
+// Returns the number of calm rounds in a row up to the last round, where there were `calm` up to the round before.
 fn calm_rounds(was_calm: bool, calm: u32) -> u32
     requires { calm + 1 < 2 ^ 32 }
     ensures { result ≡ (if was_calm then calm + 1 else 0) }
@@ -109,9 +111,10 @@ fn calm_rounds(was_calm: bool, calm: u32) -> u32
     if was_calm { calm + 1 } else { 0 }
 }
 
-/// Runs at most `limit` rounds, until one ends a quiet window: `3 * n` calm rounds of this step, and the number of the
-/// last is a multiple of 128. The recorder looks at the ring after each round, and may stop the step then. Takes no
-/// memory. Returns how the step ended, and an error only where the recorder stopped it.
+/// Runs at most `limit` rounds, until one ends a quiet window: `3 * n` calm rounds of this step, where the number of
+/// the last is a multiple of 128. The recorder looks at the ring after each round, and may stop the step then. Takes no
+/// memory. The outer result is an error only where the recorder stopped the step. The inner one says how the step
+/// ended.
 pub fn settle_recording<R: RunsRounds, P: Plant, L, O: Recorder<R, L>>(
     ring: &mut R,
     plant: &mut P,
@@ -129,7 +132,7 @@ pub fn settle_recording<R: RunsRounds, P: Plant, L, O: Recorder<R, L>>(
     ensures step { IfOk result (λ ended. IsStep R.Node.kind P.exact (world (R.held ring.old) (P.fibres plant.old)) limit ended
         (world (R.held ring.new) (P.fibres plant.new)) (P.faults plant.old) (P.faults plant.new)) }
 
-    // What is recorded of a step that ended is what is to be recorded of all its rounds, and of no other.
+    // What is recorded of a step that ended is what is to be recorded of all its rounds, and of no other round.
     ensures heard { IfOk result (λ ended. OnOk ended
         (Hears R.Node.kind (λ at k. O.Records recorder.old log.old at k recorder.new log.new)
         (world (R.held ring.old) (P.fibres plant.old)) limit (world (R.held ring.new) (P.fibres plant.new)))) }
@@ -156,9 +159,9 @@ pub fn settle_recording<R: RunsRounds, P: Plant, L, O: Recorder<R, L>>(
     Ok(Err(SettleError::Unsettled))
 }
 
-/// Runs at most `limit` rounds, until one ends a quiet window: `3 * n` calm rounds of this step, and the number of the
-/// last is a multiple of 128. The observer looks at the ring after each round. Takes no memory. Returns `Unsettled`
-/// where no window ended, or `PlantFault`.
+/// Runs at most `limit` rounds, until one ends a quiet window: `3 * n` calm rounds of this step, where the number of
+/// the last is a multiple of 128. The observer looks at the ring after each round. Takes no memory. Returns `Unsettled`
+/// where no round ended a window, and `PlantFault` where a call of the plant failed.
 pub fn settle<R: RunsRounds, P: Plant, O: Observer<R>>(
     ring: &mut R,
     plant: &mut P,
@@ -174,7 +177,7 @@ pub fn settle<R: RunsRounds, P: Plant, O: Observer<R>>(
     ensures step { IsStep R.Node.kind P.exact (world (R.held ring.old) (P.fibres plant.old)) limit result
         (world (R.held ring.new) (P.fibres plant.new)) (P.faults plant.old) (P.faults plant.new) }
 
-    // What the observer keeps of a step that ended is what it is to keep of all its rounds, and of no other.
+    // What the observer keeps of a step that ended is what it is to keep of all its rounds, and of no other round.
     ensures heard { OnOk result (Hears R.Node.kind (λ at k. O.Heard at k observer.new)
         (world (R.held ring.old) (P.fibres plant.old)) limit (world (R.held ring.new) (P.fibres plant.new))) }
 {

@@ -1,5 +1,5 @@
--- What the routes law says of a port and of a walk, in a ring of n whose node at p is in `state p` and whose span s is
--- applied where `applied s`.
+-- What the routes law says of a port and of a walk, in a ring of n. The node at p is in `state p`, and span s is
+-- applied where `applied s` holds.
 use Rattle.std.specs.Prelude.{ℕ, ◌≡◌, ◌+◌, ◌*◌, ◌<◌, ◌≤◌, Bool, true, false, List, length, reverse}
 use Rattle.sdh_ringmap.specs.Arcs.{is_clear, is_joined}
 use Rattle.sdh_ringmap.specs.Places.{span_at}
@@ -54,7 +54,7 @@ pub record IsShort (n : ℕ) (applied : ℕ → Bool) (c : Provisioned) : Type 0
   pub around : is_clear n applied (arc_of n c) ≡ false → hops n applied (arc_of n c) + 3 ≤ 2 * n
   pub some : 1 ≤ hops n applied (arc_of n c)
 
--- not an arrival over an applied span
+-- the origin at p isn't an arrival over an applied span
 abbrev pub IsFree : ℕ → (ℕ → Bool) → ℕ → Origin → Type 0
 IsFree n applied p Ais = Unit {0}
 IsFree n applied p (Add port) = Unit {0}

@@ -1,5 +1,5 @@
--- The laws of routes: for every ring, given by the requests rs of its spans, and all circuits of it, with each node in
--- its settled state and connected by it.
+-- The laws of routes. They hold for every ring, given by the requests rs of its spans, and for all circuits of it. Each
+-- node is in its settled state, and connects by that state.
 use Rattle.std.specs.Prelude.{ℕ, suc, ◌≡◌, ◌+◌, ◌-◌, ◌*◌, ◌<◌, Bool, true, false, Some, List, length, slice_get}
 use Rattle.sdh_ringmap.specs.Places.{opposite, span_at}
 use Rattle.sdh_ringmap.specs.declared.Pos.{Pos}
@@ -43,7 +43,7 @@ abbrev pub EachWalkHasOneEnd : Type 0
 EachWalkHasOneEnd = (n : ℕ) (state : ℕ → NodeState) (cs : List Provisioned) (m j k : ℕ) (x y z : Stand)
     → Leads n state cs m j x y → Leads n state cs m k x z → IsOver y.origin → IsOver z.origin → (j ≡ k) × (y ≡ z)
 
--- whatever is followed from anywhere ends in AIS or at a port within 3n + 1 spans
+-- a walk from any position and any origin ends in AIS or at a port within 3n + 1 spans
 abbrev pub EachWalkEnds : Type 0
 EachWalkEnds = (rs : List ℕ) (slots : ℕ) (cs : List Provisioned) → AreCircuits (length rs) slots cs
     → (m p : ℕ) (o : Origin) → p < length rs → Ends (length rs) (settled rs) cs m (3 * length rs + 1) (stand p o)
@@ -58,7 +58,8 @@ abbrev pub TheProtectionRingIsOpen : Type 0
 TheProtectionRingIsOpen = (rs : List ℕ) (d : Side) (p : ℕ) → p < length rs
     → (k : ℕ) × (k < length rs) × (is_pass (settled rs (going (length rs) d p (suc k))) ≡ false)
 
--- what may be carried over a chain is, on the outward span of its far end, the same circuit
+-- where the circuit in slot m may be carried over a chain, the same circuit is in that slot on the far end's span away
+-- from the chain
 abbrev pub ALoopedSlotMeetsItsOwnCircuit : Type 0
 ALoopedSlotMeetsItsOwnCircuit = (n slots : ℕ) (cs : List Provisioned) → AreCircuits n slots cs
     → (d : Side) (q m : ℕ) (f : Pos) → q < n → f.0 < n → carries_in n cs q d m (Some f) ≡ true
@@ -74,7 +75,7 @@ abbrev pub NoWayCrossesAnAppliedSpan : Type 0
 NoWayCrossesAnAppliedSpan =
     (rs : List ℕ) (cs : List Provisioned) (p : ℕ) (d : Side) (m : ℕ) → ConnectsFree (length rs) (is_applied rs) (settled rs) cs p d m
 
--- what takes w rounds a span to become steady is steady everywhere after w (3n + 1) rounds
+-- where steadiness takes w rounds for each span, all is steady w (3n + 1) rounds after round `first`
 abbrev pub SteadinessSpreads : Type 0
 SteadinessSpreads = (rs : List ℕ) (slots : ℕ) (cs : List Provisioned) → AreCircuits (length rs) slots cs
     → (m : ℕ) (steady : ℕ → ℕ → Origin → Bool) (first w : ℕ) → Spreads (length rs) (settled rs) cs m (λ t p o. steady t p o ≡ true) first w

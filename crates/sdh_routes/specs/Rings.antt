@@ -42,7 +42,8 @@ OneSpanFailed =
     × ((stand_after 4 rs (c ∷ []) 4 (delivery 4 (settled rs) (c ∷ []) c A)).origin ≡ port 0 B)
     × ((stand_after 4 rs (c ∷ []) 4 (delivery 4 (settled rs) (c ∷ []) c B)).origin ≡ port 0 A)
 
--- a circuit from the first to the fourth: the first and the third span have failed, and the fourth is left
+-- four nodes, a circuit from the first to the fourth: the first and the third span have failed, and the circuit goes
+-- over the fourth
 abbrev pub TwoSpansFailed : Type 0
 TwoSpansFailed =
     let rs = 11 ∷ 0 ∷ 11 ∷ 0 ∷ [] in let c = circuit 0 3 in

@@ -1,12 +1,12 @@
--- How soon rounds are steady, where the connections stay the same.
+-- How soon a ring is steady, where the connections stay the same.
 use Rattle.std.specs.Prelude.{ℕ, ◌+◌, ◌<◌, ◌≤◌, List}
 use Rattle.sdh_circuits.specs.Provisioned.{Provisioned}
 use Rattle.sdh_nodestate.specs.declared.NodeState.{NodeState}
 use Rattle.sdh_squelch.specs.declared.connecting.Origin.{Origin}
 use Rattle.sdh_routes.specs.Walks.{IsArrival, IsOver, back_from}
 
--- `steady t p o`: from round t on what the origin o brings at p is steady. What ports send is steady from round `first`
--- on, and over a span it takes w rounds more
+-- `steady t p o` says that from round t on what the origin o brings at p is steady. What ports send, and AIS, is steady
+-- from round `first` on, and over each span it takes w rounds more.
 pub record Spreads (n : ℕ) (state : ℕ → NodeState) (cs : List Provisioned) (m : ℕ) (steady : ℕ → ℕ → Origin → Type 0)
     (first w : ℕ) : Type 0 where
   pub starts : (p : ℕ) (o : Origin) → p < n → IsOver o → steady first p o

@@ -29,14 +29,14 @@ port i e = Add (record { circuit = i; end = e })
 abbrev pub port_at : Provisioned → End → ℕ
 port_at c e = (end_of c e).0
 
--- the walk goes on over a span
+-- the origin is an arrival, so the walk goes on over a span
 abbrev pub IsArrival : Origin → Type 0
 IsArrival Ais = ⊥
 IsArrival (Add q) = ⊥
 IsArrival (Working d) = Unit {0}
 IsArrival (Protection d) = Unit {0}
 
--- nothing is left to be followed: AIS, or a port's own stream
+-- the walk is over, since nothing is left to be followed: AIS, or a port's own stream
 abbrev pub IsOver : Origin → Type 0
 IsOver Ais = Unit {0}
 IsOver (Add q) = Unit {0}
@@ -74,17 +74,18 @@ module _ (n : ℕ) (state : ℕ → NodeState) (circuits : List Provisioned) whe
     Leads zero x y = x ≡ y
     Leads (suc k) x y = IsArrival x.origin × Leads k (back_from x.at x.origin) y
 
-    -- the spans over which the first k steps of a walk lead, in the walk's order
+    -- the spans `rest`, and before them the span over which the origin arrives at p, if it is an arrival
     abbrev pub with_span : ℕ → Origin → List ℕ → List ℕ
     with_span p Ais rest = rest
     with_span p (Add q) rest = rest
     with_span p (Working d) rest = span_at n p d ∷ rest
     with_span p (Protection d) rest = span_at n p d ∷ rest
 
+    -- the spans over which the first k steps of a walk lead, in the walk's order
     abbrev pub crossed : ℕ → Stand → List ℕ
     crossed zero x = []
     crossed (suc k) x = with_span x.at x.origin (crossed k (back_from x.at x.origin))
 
-  -- what the port of a circuit delivers
+  -- where the walk of a circuit's port begins: at the port's position, with what the port delivers
   unfoldable pub delivery : Provisioned → End → Stand
   delivery c e = let p = port_at c e in stand p (stands_in n circuits p (state p) (inward e) c.slot.0)

@@ -30,15 +30,16 @@ pub record ChangesNoWord (needs : List Needs) (s : Signals) : Type 0 where
   pub may : MayGo needs s
   pub words : (free_round needs s).words ≡ s.words
 
--- The fixpoint law, for a ring of signals: after three such rounds, one after the other, each node is in the settled state of its
--- position, with its far end, under the requests of the needs in the last one.
+-- The fixpoint law, for a ring of signals. After three rounds, one after the other, that hold no node and change no
+-- word, each node is in the settled state of its position, with its far end. The requests are those of the needs in the
+-- last of these rounds.
 abbrev pub StillRingsAreSettled : Type 0
 StillRingsAreSettled =
     (first second third : List Needs) (s : Signals) → ChangesNoWord first s → ChangesNoWord second (free_round first s)
     → ChangesNoWord third (free_round second (free_round first s))
     → (free_round third (free_round second (free_round first s))).states ≡ settled_states (requests_in third)
 
--- a round that holds no node is one round, by both definitions of it
+-- a round with a list of held nodes that holds none is the round without such a list
 abbrev pub FreeRounds : Type 0
 FreeRounds = (needs : List Needs) (held : List Bool) (s : Signals) → All (λ b. b ≡ false) held → round needs held s ≡ free_round needs s
 
@@ -56,16 +57,16 @@ RingsSettle = (needs : List Needs) (s : Signals) → MayGo needs s → Settles n
 abbrev pub IsStillAfter : Run → ℕ → Type 0
 IsStillAfter run t = (p : ℕ) (d : Side) → p < length run.ids → word (at_round run (suc t) p) d ≡ word (at_round run t p) d
 
--- in round t, p sends on to the other side what comes in on side d
+-- in round t, p relays to its other side the long word that it hears on side d
 abbrev pub Relays : Run → ℕ → ℕ → Side → Type 0
 Relays run t p d = chosen (at_round run t p) (opposite d) ≡ relay
 
--- the word that p then sends on the other side
+-- the word that p sends in round t on the side opposite to d
 abbrev pub passed : Run → ℕ → ℕ → Side → K
 passed run t p d = word (at_round run t p) (opposite d)
 
 -- The word that p relays from its side d leads back, node by node on that side, to a node that sends it as its own in
--- the same round: that many steps away, and with fewer than n steps.
+-- the same round. That node is `steps` steps away, which are fewer than n.
 pub record LeadsBack (run : Run) (t p : ℕ) (d : Side) : Type 0 where
   pub steps : ℕ
   pub some : 0 < steps

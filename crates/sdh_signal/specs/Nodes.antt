@@ -16,7 +16,7 @@ filters_with words n p x f = record {
   east = with_brought (incoming words n p x East) f.east;
 }
 
--- the node at position p, which hears through these filters
+-- the scene of the node at position p, which hears through these filters
 abbrev pub scene_through : List ℕ → ℕ → Needs → Filters → Scene
 scene_through ids p x f = scene ids p x (heard_through f)
 
@@ -29,7 +29,7 @@ next_sent ids filters held words p x =
     if is_held held p then get_or words p (record { west = unsaid; east = unsaid })
     else sent_after (scene_through ids p x (get_or filters p no_filters))
 
--- the round brought nothing on a failing side
+-- the last round brought nothing on a failing side
 pub record IsSilent (x : Needs) (f : Filters) : Type 0 where
   pub west : x.west_fails ≡ true → f.west.last ≡ None
   pub east : x.east_fails ≡ true → f.east.last ≡ None

@@ -20,7 +20,7 @@ pub record Run : Type 0 where
   pub need : ℕ → Needs
   pub heard : ℕ → ℕ → Heard
 
--- position p in round t
+-- the node at position p in round t
 abbrev pub at_round : Run → ℕ → ℕ → Scene
 at_round run t p = scene run.ids p (run.need p) (run.heard t p)
 
@@ -32,7 +32,7 @@ sent_here run t p d = word (at_round run t (neighbour (length run.ids) p d)) (op
 abbrev pub bare : K → K
 bare k = record { code = k.code; to = k.to; from = k.from; path = k.path; mark = mark.Idle }
 
--- what makes such rounds a run
+-- what makes needs and heard words, round by round, a run of a ring
 pub record IsRun (run : Run) : Type 0 where
   pub ids_ok : AreIds run.ids
   pub sound : (p : ℕ) → p < length run.ids → MayNeed (run.need p)

@@ -1,6 +1,6 @@
--- The settled states: in which state each node of a ring is under the requests of its spans, with its far end, by
--- one look at all spans. No word occurs in it. After ITU-T G.841, MS shared protection rings; the states of nodes
--- that see no applied span under lower requests are this project's own.
+-- The settled states: in which state each node of a ring is under the requests of its spans, with its far end. They
+-- follow from all spans at once, and no K word occurs here. After ITU-T G.841, MS shared protection rings; the states
+-- of nodes beside no applied span under lower requests are this project's own.
 use Rattle.std.specs.Prelude.{ℕ, ◌-◌, Bool, true, false, ◌&&◌, ◌||◌, nat_lt, Option, option_map, List, map, length, slice_index, find}
 use Rattle.std.specs.List.{range_with_len}
 use Rattle.sdh_basics.specs.Cells.{cells}
@@ -17,8 +17,8 @@ use Rattle.sdh_restoration.specs.Applied.{highest, is_applied, is_any_applied}
 abbrev pub next_positions : ℕ → Side → ℕ → ℕ → List ℕ
 next_positions n d p k = map (going n d p) (range_with_len 1 k)
 
--- the far end of position p, of whose spans the one on side d alone is applied: the first position, going from p
--- away from that span, whose next span on the way is applied
+-- The far end of position p, where only its span on side d is applied. It is the first position, going from p away from
+-- that span, whose next span on the way is applied.
 unfoldable pub far_end : List ℕ → ℕ → Side → Option Pos
 far_end rs p d =
     option_map (λ q. record { 0 = q })
@@ -31,8 +31,8 @@ is_outranked rs p =
     && (nat_lt (slice_index rs (span_at (length rs) p West)) (highest rs)
     && nat_lt (slice_index rs (span_at (length rs) p East)) (highest rs))
 
--- the state by whether the spans on the west and on the east are applied, whether a node with neither serves
--- others, and the far ends of a switch to the west and to the east
+-- the state by whether the spans on the west and on the east are applied, whether a node beside no applied span passes
+-- through, and the far ends of a switch to the west and to the east
 abbrev pub settled_by : Bool → Bool → Bool → Option Pos → Option Pos → NodeState
 settled_by true true serves west east = state.Isolated tt
 settled_by true false serves west east = state.SwitchWest west

@@ -10,8 +10,9 @@ use Rattle.sdh_nodestate.specs.Words.{first_words, IsSourced}
 use Rattle.sdh_signal.specs.Signals.{Filters, no_filters, Signals, free_round}
 use Rattle.sdh_signal.specs.Laws.{ChangesNoWord}
 
--- The ring; how many rounds have run (a count that stands still at 2 ^ 64 - 1); how many of the last rounds, counted up to 3, came
--- after another one, held no node and changed no word; and whether the last round changed no state.
+-- A ring, and what is counted of its rounds. `rounds` have run, a count that goes no further than 2 ^ 64 - 1.
+-- `unchanged` of the last rounds, counted up to 3, came after another round, held no node and changed no word. `steady`
+-- says whether the last round changed no state.
 pub record Signalling : Type 0 where
   pub ring : Signals
   pub rounds : ℕ
@@ -42,7 +43,8 @@ pub record LeavesWords (held : List Bool) (before after : Signals) : Type 0 wher
   pub free : NoneHeld held
   pub words : after.words ≡ before.words
 
--- a ring is still: at least four rounds have run, none of the last three held a node or changed a word, and the last one changed no state
+-- A ring is still. At least four rounds have run, none of the last three held a node or changed a word, and the last
+-- one changed no state.
 pub record IsStill (s : Signalling) : Type 0 where
   pub four : 4 ≤ s.rounds
   pub words : s.unchanged ≡ 3

@@ -1,6 +1,6 @@
--- A ring of signals: nodes that send each other words, one on each side in each round, without frames. All nodes take what comes
--- in first, and then all send. A word comes in one round after it was sent, and counts where three rounds in a row brought it. The
--- controller of a node may miss a round: the node is held.
+-- A ring of signals: nodes that send each other K words, one on each side in each round, without frames. All nodes take
+-- what comes in first, and then all send. A word comes in one round after it was sent, and is heard where three rounds
+-- in a row brought it. The controller of a node may miss a round: the node is held.
 use Rattle.std.specs.Prelude.{ℕ, zero, suc, ◌≡◌, Bool, true, false, if◌then◌else◌, Option, None, option_map, List, [], length, slice_get}
 use Rattle.std.specs.Prelude.{get_or, All}
 use Rattle.sdh_basics.specs.Indexed.{map_from}
@@ -81,7 +81,7 @@ heard_through f = record { west = hears f.west; east = hears f.east }
 unfoldable pub scene_at : Signals → ℕ → Needs → Scene
 scene_at s p x = scene s.ids p x (heard_through (filters_after s p x))
 
--- a position is held in a round
+-- the node at a position is held in a round
 abbrev pub is_held : List Bool → ℕ → Bool
 is_held held p = get_or held p false
 
@@ -94,8 +94,8 @@ state_in s p = get_or s.states p (state.Idle tt)
 abbrev pub words_in : Signals → ℕ → Sent
 words_in s p = get_or s.words p (record { west = unsaid; east = unsaid })
 
--- One round: each node takes what comes in. Then each, in its place, is in the state and sends the words that the rules give; a
--- node that is held keeps its state and its words.
+-- One round. Each node takes what comes in. Then each node, by its position, goes into the state and sends the words
+-- that the rules give. A node that is held keeps its state and its words.
 unfoldable pub round : List Needs → List Bool → Signals → Signals
 round needs held s = record {
   ids = s.ids;

@@ -1,6 +1,6 @@
-//! Signalling without frames: a ring whose nodes send each other K words, one on each side in each round. A word comes in one
-//! round later, and counts where three rounds in a row brought it. `specs/Signals.antt` has the definition of a round. The
-//! module `settling` has the laws of signalling, among them that a still ring is in the settled states.
+//! Signalling without frames: a ring whose nodes send each other K words, one on each side in each round. A word comes
+//! in one round later, and is heard where three rounds in a row brought it. `specs/Signals.antt` has the definition of
+//! a round. The module `settling` has the laws of signalling, among them that a still ring is in the settled states.
 #![tactic(auto)]
 
 ghost use Rattle.std.specs.Prelude.{◌≡◌, ◌↔◌, ◌+◌, ◌≤◌, ◌<◌, ◌-◌, ◌^◌, min, nat_lt, if◌then◌else◌, [], length, All, IfOk, IsTrue};
@@ -47,7 +47,7 @@ impl Model for SignalRing {
     ghost invariant = { λ a. IsRing (ring_of a.map a.states.items a.sent.items a.filters.items a.rounds) a.rounds a.unchanged };
 }
 
-/// Returns `count` idle nodes.
+/// Returns the states of `count` idle nodes, or an error where memory runs out.
 fn idle_states(alloc: Global, count: usize) -> Result<Vec<NodeState>, AllocError>
     ensures { IfOk result (λ v. v.items ≡ cells (λ p. NodeState.Idle tt) count) }
 {
@@ -58,7 +58,7 @@ fn idle_states(alloc: Global, count: usize) -> Result<Vec<NodeState>, AllocError
     Ok(states)
 }
 
-/// Returns the words of new nodes.
+/// Returns the words of the new nodes of a ring, by position, or an error where memory runs out.
 fn first_words(alloc: Global, map: &RingMap) -> Result<Vec<Sent>, AllocError>
     ensures { IfOk result (λ v. v.items ≡ cells (first_words map.now) (length map.now)) }
 {
@@ -74,7 +74,7 @@ fn first_words(alloc: Global, map: &RingMap) -> Result<Vec<Sent>, AllocError>
     Ok(words)
 }
 
-/// Returns the filters of `count` nodes to which no word was brought.
+/// Returns the filters of `count` nodes to which no round has brought a word, or an error where memory runs out.
 fn empty_filters(alloc: Global, count: usize) -> Result<Vec<Hearing>, AllocError>
     ensures { IfOk result (λ v. v.items ≡ cells (λ p. no_filters) count) }
 {
@@ -85,21 +85,22 @@ fn empty_filters(alloc: Global, count: usize) -> Result<Vec<Hearing>, AllocError
     Ok(filters)
 }
 
-/// Returns the words that are on their way: before the first round none was sent.
+/// Returns the words that are on their way: those of the round before, and none before the first round.
 fn on_their_way(rounds: u64, sent: &[Sent]) -> &[Sent]
     ensures { result.now ≡ (if nat_lt 0 rounds then sent.now else []) }
 {
     if rounds > 0 { sent } else { &[] }
 }
 
-/// Returns whether a round after `rounds` others held no node, and words stayed the same.
+/// Returns whether a round came after another one, held no node and changed no word. `rounds` ran before it, and
+/// `words` says whether all words stayed the same.
 fn leaves_words(rounds: u64, held: &[bool], words: bool) -> bool
     ensures { IsTrue result ↔ ((0 < rounds) × NoneHeld held.now × IsTrue words) }
 {
     rounds > 0 && is_free(held) && words
 }
 
-/// Returns one more, up to 3, where the sequence goes on, and else 0.
+/// Returns the count after one more round: one more, up to 3, where the round counts too, and else 0.
 fn counted(count: u8, goes_on: bool) -> u8
     requires { count ≤ 3 }
     ensures { result ≡ (if goes_on then min (count + 1) 3 else 0) }
@@ -108,7 +109,8 @@ fn counted(count: u8, goes_on: bool) -> u8
 }
 
 impl SignalRing {
-    /// Returns a ring in which no round has run: all nodes are new, and nothing was sent.
+    /// Returns a ring in which no round has run: all nodes are new, and nothing was sent. Returns an error where memory
+    /// runs out.
     pub fn try_new(alloc: Global, map: RingMap) -> Result<SignalRing, AllocError>
         ensures { IfOk result (λ ring. ring ≡ new_ring map) }
     {

@@ -34,7 +34,7 @@ pub struct Stays {
     pub words: bool,
 }
 
-/// Returns whether two nodes sent the same words.
+/// Returns whether two pairs of words, each sent by a node on its two sides, are the same.
 fn is_sent(a: &Sent, b: &Sent) -> bool
     ensures { IsTrue result ↔ (a.now ≡ b.now) }
 {
@@ -56,7 +56,7 @@ fn incoming(map: &RingMap, words: &[Sent], at: Pos, needs: &Needs, side: Side) -
 }
 
 impl Hearing {
-    /// Returns filters to which no word was brought.
+    /// Returns filters to which no round has brought a word.
     pub fn new() -> Hearing
         ensures { result ≡ no_filters }
     {
@@ -66,7 +66,7 @@ impl Hearing {
         }
     }
 
-    /// Takes what comes in at a position.
+    /// Gives both filters the words that come in at a position.
     fn take(&mut self, map: &RingMap, words: &[Sent], at: Pos, needs: &Needs)
         requires at { at.0 < length map.now }
         ensures { self.new ≡ filters_with words.now (length map.now) at.0 needs.now self.old }
@@ -75,7 +75,7 @@ impl Hearing {
         self.east.hear(incoming(map, words, at, needs, Side::East));
     }
 
-    /// Returns what is heard.
+    /// Returns the words that are heard on the two sides.
     fn heard(&self) -> Heard
         ensures { result ≡ heard_through self.now }
     {
@@ -86,7 +86,7 @@ impl Hearing {
     }
 }
 
-/// Lets all nodes take what comes in.
+/// Gives the filters of all nodes the words that come in.
 pub fn hear_all(map: &RingMap, words: &[Sent], needs: &[Needs], filters: &mut Vec<Hearing>)
     requires few { length map.now ≤ 16 }
     requires needs { length needs.now ≡ length map.now }
@@ -100,7 +100,7 @@ pub fn hear_all(map: &RingMap, words: &[Sent], needs: &[Needs], filters: &mut Ve
     }
 }
 
-/// Runs one node for a step, and returns whether its state and its words stay the same.
+/// Lets one node step, and returns whether its state and its words stay the same.
 fn step_at(
     map: &RingMap,
     at: Pos,
@@ -127,7 +127,8 @@ fn step_at(
     stays
 }
 
-/// Does one node's part of a round, once all have taken what comes in.
+/// Does one node's part of a round, after all filters took what comes in: the node steps, unless it is held. Returns
+/// whether its state and its words stay the same.
 fn turn_at(
     map: &RingMap,
     at: Pos,
@@ -152,7 +153,7 @@ fn turn_at(
     step_at(map, at, needs, hearing, state, sent)
 }
 
-/// Runs all nodes that are not held for a step, and returns whether all states and words stay the same.
+/// Lets all nodes step that aren't held, and returns whether all states and all words stay the same.
 pub fn step_all(
     map: &RingMap,
     needs: &[Needs],

@@ -4,37 +4,39 @@
 ghost use Rattle.sdh_signal.specs.Laws.{RunsSettle, WordsStay, StillRingsAreSettled, FreeRounds, RingsSettle, RelayedWordsLeadBack};
 ghost use Rattle.sdh_signal.specs.Laws.{NotAllPassThrough};
 
-/// A ring whose needs stay from round to round gets into the settled states.
+/// A ring whose needs stay the same from round to round is in the settled states from round 4n + 7 on.
 #[tactic(auto, using(crate::proofs::Fixpoint::runs_settle))]
 pub fn runs_settle()
     ensures { RunsSettle }
 {}
 
-/// The words of a ring whose needs stay from round to round stay from some round on.
+/// In a ring whose needs stay the same from round to round the words stay the same from round 5n + 7 on.
 #[tactic(auto, using(crate::proofs::Fixpoint::words_stay))]
 pub fn words_stay()
     ensures { WordsStay }
 {}
 
-/// A ring of signals in which three rounds change no word is in the settled states.
+/// A ring of signals in which three rounds, one after the other, hold no node and change no word is in the settled
+/// states.
 #[tactic(auto, using(crate::proofs::Fixpoint::still_rings_are_settled))]
 pub fn still_rings_are_settled()
     ensures { StillRingsAreSettled }
 {}
 
-/// A round that holds no node is one round, by both definitions of it.
+/// A round with a list of held nodes that holds none is the round without such a list.
 #[tactic(auto, using(crate::proofs::Fixpoint::free_rounds))]
 pub fn free_rounds()
     ensures { FreeRounds }
 {}
 
-/// A ring of signals becomes still in a number of rounds that grows with its number of nodes alone.
+/// A ring of signals whose needs stay the same, and in which no node is held, is in the settled states after 4n + 8
+/// rounds. It changes no word after 5n + 8 rounds.
 #[tactic(auto, using(crate::proofs::Fixpoint::rings_settle))]
 pub fn rings_settle()
     ensures { RingsSettle }
 {}
 
-/// A still ring passes on no word that no node sends any more.
+/// Each word that a still ring passes on leads back to a node that sends it as its own in the same round.
 #[tactic(auto, using(crate::proofs::Tracing::relayed_words_lead_back))]
 pub fn relayed_words_lead_back()
     ensures { RelayedWordsLeadBack }

@@ -1,4 +1,4 @@
--- What the frame on a fibre says, and what the fibres of a ring carry.
+-- Which K word the frame on a fibre has, and what the fibres of a ring carry.
 use Rattle.std.specs.Prelude.{ℕ, ◌≡◌, ◌+◌, ◌*◌, ◌<◌, true, Some, None, List, length, if◌then◌else◌}
 use Rattle.sdh_terms.specs.declared.Rate.{Rate}
 use Rattle.sdh_frame.specs.Sizes.{size_of}
@@ -13,7 +13,7 @@ use Rattle.sdh_plant.specs.Fibres.{Arrival, Fibres}
 use Rattle.sdh_terms.specs.Fibres.{fibre, is_cut, degraded_by}
 use Rattle.sdh_plant.specs.Arrivals.{carried_on}
 
--- the bytes on the line are those of a framed frame with the K bytes of this word, as a section reads it
+-- the bytes on the line are those of a framed frame that has the K bytes of this word, as a section reads them
 pub record Says (rate : Rate) (k : K) (line : List ℕ) : Type 0 where
   pub size : length line ≡ size_of rate
   pub framed : is_framed (n_of rate) line ≡ true
@@ -32,6 +32,7 @@ pub record AreCarried (rate : Rate) (f : Fibres) (rounds p : ℕ) (words : Side 
   pub dark : (d : Side) → rounds ≡ 0 → carried_on f (fibre p d) ≡ None
   pub frames : (d : Side) → 0 < rounds → CarriesWord rate (words d) (carried_on f (fibre p d))
 
--- how many violations of B2 a fibre in this condition makes the next frame show: the bits that it inverts, and none where it is cut
+-- the number of B2 violations that a fibre in this condition makes the next frame show: the number of bits that it
+-- inverts, and none where it is cut
 abbrev pub shown_by : Condition → ℕ
 shown_by c = if is_cut c then 0 else degraded_by c

@@ -29,7 +29,7 @@ use Rattle.sdh_spans.specs.Spans.{IsSpan, line_after, TakesWord, word_behind, Is
 
 -- ---- frames
 
--- a frame says its word after every fibre that isn't cut, and nothing comes after one that is
+-- a frame still has its word after every fibre that isn't cut, and nothing comes after a fibre that is cut
 pub record FramesComeThrough : Type 0 where
   pub word : (at : Rate) (k : K) (c : Condition) (a : Arrival) → is_cut c ≡ false → CarriesWord at k a
       → CarriesWord at k (through (n_of at) c a)
@@ -40,7 +40,7 @@ pub record FramesComeThrough : Type 0 where
 abbrev pub SidesSendSo : Type 0
 SidesSendSo = (at : Rate) (input : ℕ → Input) (x : Sending) → IsSenderAt at x → SendsSo at input x
 
--- a side that takes what arrived stays one at its rate
+-- a side that receives at a rate still does so after it took in what arrived
 abbrev pub InletsStay : Type 0
 InletsStay = (at : Rate) (threshold : ℕ) (i : Inlet) → IsInletAt at i → IsInletAt at (after_taking threshold i)
 
@@ -71,7 +71,7 @@ SpansTakeWords =
     → TakesWord (slice_index_or i.readings k start) (slice_index_or (after_taking threshold i).readings k start) (received l d (k + 1))
     (word_behind (is_cut c) (word_sent (slice_index_or x.generators k None) (input (k + 1)).action (input (k + 1)).value))
 
--- where the fibre isn't cut, and neither its generator nor the interpreters move, an AU-4 comes as it went in
+-- where the fibre isn't cut, and neither the AU-4's generator nor the interpreters change, an AU-4 comes as it was sent
 abbrev pub SpansBring : Type 0
 SpansBring =
     (at : Rate) (c : Condition) (input : ℕ → Input) (x : Sending) (i : Inlet) (threshold : ℕ) (l : Lines) (d : Side) (k : ℕ)
@@ -80,7 +80,7 @@ SpansBring =
     → slice_index_or x.generators k None ≡ next_sending (slice_index_or x.generators k None) (input (k + 1)).action (input (k + 1)).value
     → (b : Outlet) → HasValue b → Brings (input (k + 1)) b → Brings (received l d (k + 1)) b
 
--- where the fibre is cut AIS comes, whatever was sent
+-- where the fibre is cut and the interpreters don't change, AIS comes, whatever was sent
 abbrev pub CutSpansBringAis : Type 0
 CutSpansBringAis =
     (at : Rate) (c : Condition) (w : K) (line : List ℕ) (i : Inlet) (threshold : ℕ) (l : Lines) (d : Side) (k : ℕ) → IsTold at c w line i
@@ -89,14 +89,15 @@ CutSpansBringAis =
 
 -- ---- one span in many rounds
 
--- what goes into an AU-4 with one action and one value from round k on leaves its generator in one state
+-- where what goes into an AU-4 has one action and one value from round k on, its generator is in one state from round k
+-- + 1 on
 abbrev pub GeneratorsRest : Type 0
 GeneratorsRest =
     (went : ℕ → Input) (sending : ℕ → Option ℕ) (k : ℕ) → GoesBy went sending → (c : IsConstant went k) → (j : ℕ) → k + 1 ≤ j
     → sending j ≡ lasting_state c.does c.value
 
--- nine rounds later the interpreter after the fibre isn't moved any more, and what comes has one action and one value,
--- whatever both kept before
+-- from round k + 9 on the interpreter after the fibre changes no more, and what comes has one action and one value,
+-- whatever generator and interpreter kept before
 pub record RestsBehind (reading : ℕ → Reading) (came : ℕ → Input) (k : ℕ) : Type 0 where
   pub stays : (j : ℕ) → k + 9 ≤ j → reading (suc j) ≡ reading j
   pub comes : IsConstant came (k + 9)

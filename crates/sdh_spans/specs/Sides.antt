@@ -25,12 +25,12 @@ use Rattle.sdh_spans.specs.Frames.{Says, shown_by}
 
 -- ---- sides at a rate
 
--- a side that receives
+-- a side that receives at this rate: it has an interpreter for each AU-4
 pub record IsInletAt (at : Rate) (i : Inlet) : Type 0 where
   pub rate : i.section.rate ≡ at
   pub readings : length i.readings ≡ n_of at
 
--- a side that sends
+-- a side that sends at this rate: it has a generator for each AU-4, and the parities of its last frame
 pub record IsSenderAt (at : Rate) (x : Sending) : Type 0 where
   pub rate : x.section.rate ≡ at
   pub generators : length x.generators ≡ n_of at
@@ -38,12 +38,12 @@ pub record IsSenderAt (at : Rate) (x : Sending) : Type 0 where
 
 -- ---- what is sent
 
--- what goes into each AU-4 has a whole payload
+-- what goes into each AU-4 has a whole payload, of 2349 bytes
 abbrev pub AreFull : (ℕ → Input) → Type 0
 AreFull input = (au : ℕ) → length (input au).au.payload ≡ 2349
 
--- what a side sends in a round, of what goes into its AU-4s, and what is left of it: the frame says its word, B2 is the parity
--- that the side kept, and each AU-4 is what its generator makes of what goes into it
+-- What a side sends in a round for what goes into its AU-4s, and what it keeps. The frame has the side's word, B2 is
+-- the parity that the side kept, and each AU-4 is what its generator makes of what goes into it.
 pub record SendsSo (at : Rate) (input : ℕ → Input) (x : Sending) : Type 0 where
   pub says : Says at x.word (line_frame_from input x)
   pub b2 : b2_in (n_of at) (scrambled (9 * n_of at) (line_frame_from input x)) ≡ (placed_after (n_of at) x.section.last).b2
@@ -53,13 +53,13 @@ pub record SendsSo (at : Rate) (input : ℕ → Input) (x : Sending) : Type 0 wh
       ≡ au_sent (slice_index_or x.generators k None) (input (k + 1))
   pub goes : (k : ℕ) → k + 1 ≤ n_of at → slice_index_or (after_sending input x).generators k None
       ≡ next_sending (slice_index_or x.generators k None) (input (k + 1)).action (input (k + 1)).value
-  -- after sending it is a side that sends still
+  -- after sending, the side is still one that sends at this rate
   pub stays : IsSenderAt at (after_sending input x)
 
 -- ---- what is found
 
--- a side that received nothing: it has no defect, brings no word, and keeps what its interpreters kept; each AU-4
--- counts as AIS
+-- a side that received nothing: it has no defect, takes no word, keeps what its interpreters kept, and forgets the
+-- parities of the frame before; each AU-4 counts as AIS
 pub record FindsNothing (threshold : ℕ) (i : Inlet) : Type 0 where
   pub defect : (found threshold i).defect ≡ defect.None
   pub word : (found threshold i).word ≡ None
@@ -67,17 +67,18 @@ pub record FindsNothing (threshold : ℕ) (i : Inlet) : Type 0 where
   pub reads : (after_taking threshold i).readings ≡ i.readings
   pub last : (after_taking threshold i).section.last ≡ None
 
--- a side that received what came through a fibre, in this condition, on which this frame was sent, which says this word
+-- Side i received what came through a fibre in condition c, on which the frame `line` with the word k was sent.
 pub record IsTold (at : Rate) (c : Condition) (k : K) (line : List ℕ) (i : Inlet) : Type 0 where
   pub may : IsConditionAt at c
   pub says : Says at k line
-  -- none of the words that say that nothing comes
+  -- the mark of the word isn't AIS of the multiplex section, with which a side fails
   pub no_ais : k.mark ≢ mark.MsAis
   pub inlet : IsInletAt at i
   pub told : i.arrived ≡ Some (through (n_of at) c (Some line))
 
--- What the side finds, takes in and keeps: it fails exactly where the fibre is cut, and then its frame counts as ones. Else the word
--- comes, the side is degraded by what B2 of the frame shows it, and each AU-4 comes as it was sent.
+-- What the side finds, takes in and keeps. It fails exactly where the fibre is cut, and then its frame counts as ones.
+-- Otherwise the word comes, the side is degraded by the violations that B2 of the frame shows, and each AU-4 comes as
+-- it was sent.
 pub record FindsSo (at : Rate) (c : Condition) (k : K) (line : List ℕ) (threshold : ℕ) (i : Inlet) : Type 0 where
   pub defect : (found threshold i).defect ≡ (if is_cut c then defect.Sf
       else if nat_le threshold (b2_violations (n_of at) i.section.last (scrambled (9 * n_of at) line)) then defect.Sd else defect.None)
@@ -88,6 +89,6 @@ pub record FindsSo (at : Rate) (c : Condition) (k : K) (line : List ℕ) (thresh
       → au_of (n_of at) au (taken_in threshold i).frame.bytes ≡ au_of (n_of at) au (scrambled (9 * n_of at) line)
   pub acts : (taken_in threshold i).actions ≡ actions_in (n_of at) (taken_in threshold i).frame.bytes i.readings
   pub reads : (after_taking threshold i).readings ≡ after_frame (n_of at) (taken_in threshold i).frame.bytes i.readings
-  -- a next frame with the parity of this one shows what the fibre did to this one
+  -- a next frame whose B2 is the parity of this frame shows the bits that the fibre inverted in this frame
   pub shows : (next : List ℕ) → b2_in (n_of at) (scrambled (9 * n_of at) next) ≡ section_parity (n_of at) (scrambled (9 * n_of at) line)
       → b2_violations (n_of at) (after_taking threshold i).section.last (scrambled (9 * n_of at) next) ≡ shown_by c

@@ -17,24 +17,24 @@ use Rattle.sdh_terminal.specs.Lines.{Line}
 use Rattle.sdh_terminal.specs.Sending.{Sending, line_frame_from}
 use Rattle.sdh_spans.specs.Sides.{IsInletAt, IsSenderAt, AreFull}
 
--- a side that sent, of these AU-4s, on a fibre in this condition, and the side that received in the next round what
--- came
+-- Side x sent a frame, of these AU-4s, on a fibre in condition c, and side i received in the next round what came.
 pub record IsSpan (at : Rate) (c : Condition) (input : ℕ → Input) (x : Sending) (i : Inlet) : Type 0 where
   pub may : IsConditionAt at c
   pub sender : IsSenderAt at x
-  -- the word does not say that nothing comes
+  -- the mark of the word isn't AIS of the multiplex section, with which a side fails
   pub no_ais : x.word.mark ≢ mark.MsAis
   pub full : AreFull input
   pub inlet : IsInletAt at i
   pub told : i.arrived ≡ Some (through (n_of at) c (Some (line_frame_from input x)))
 
--- what the node after it has on that side in the round in which it takes what came
+-- what the node at the end of the fibre has on that side in the round in which it takes in what came
 abbrev pub line_after : ℕ → Inlet → Line
 line_after threshold i = record { readings = (after_taking threshold i).readings; intake = taken_in threshold i }
 
 -- ---- one AU-4
 
--- one interpreter in a round: it takes a word, and what comes in its AU-4 is what it answers
+-- one interpreter in a round: it takes a word, and what comes in its AU-4 has the action and the value that the
+-- interpreter gives
 pub record TakesWord (old new : Reading) (i : Input) (word : ℕ) : Type 0 where
   pub reading : new ≡ after_word old word
   pub action : i.action ≡ action_on old word
@@ -46,7 +46,7 @@ word_behind cut word = if cut then 65535 else word
 
 -- ---- in many rounds
 
--- from round k on these have one action and one value
+-- from round k on what f gives has one action and one value
 pub record IsConstant (f : ℕ → Input) (k : ℕ) : Type 0 where
   pub does : Action
   pub value : ℕ

@@ -1,33 +1,36 @@
-//! One span of a ring: what a side sends on a fibre, what the side behind it finds, what an AU-4 brings over it, and how
-//! pointers come to rest behind it. No rule of protection occurs here, so that any kind of ring can cite it.
+//! One span of a ring: what a side sends on a fibre, what the side at the fibre's other end finds, what an AU-4 brings
+//! over it, and how pointers come to rest after it. No rule of protection occurs here, so that the laws serve for any
+//! kind of ring.
 //!
-//! Each function here is a law: it does nothing, and its contract is the law, whose words are in `specs/`.
+//! Each function here is a law: it does nothing, and its contract is the law, which `specs/Laws.antt` states.
 #![tactic(auto)]
 
 ghost use Rattle.sdh_spans.specs.Laws.{FramesComeThrough, SidesSendSo, InletsStay, UntoldSidesFindNothing, SidesFindSo, PortsDeliver};
 ghost use Rattle.sdh_spans.specs.Laws.{PortsBring, SpansTakeWords, SpansBring, CutSpansBringAis, GeneratorsRest, SpansAreSteady};
 
-/// A frame says its word after every fibre that isn't cut.
+/// A frame still has its K word after every fibre that isn't cut.
 pub fn frames_come_through()
     ensures { FramesComeThrough }
 {}
 
-/// What a side sends says its word, shows the parity of the frame before, and holds what its generators make.
+/// The frame that a side sends has the side's K word, shows the parity of the frame before in B2, and holds what the
+/// side's generators make.
 pub fn sides_send_so()
     ensures { SidesSendSo }
 {}
 
-/// A side that receives stays one.
+/// A side that receives at a rate still does so after it took in what arrived.
 pub fn inlets_stay()
     ensures { InletsStay }
 {}
 
-/// Where nothing was received nothing is found.
+/// A side that received nothing has no defect and takes no word, and its AU-4s count as AIS.
 pub fn untold_sides_find_nothing()
     ensures { UntoldSidesFindNothing }
 {}
 
-/// A side fails exactly where its fibre is cut, and else finds the word, the degradation and the AU-4s that were sent.
+/// A side fails exactly where its fibre is cut. Otherwise it finds the word and the AU-4s that were sent, and the
+/// degradation that B2 shows.
 pub fn sides_find_so()
     ensures { SidesFindSo }
 {}
@@ -42,27 +45,28 @@ pub fn ports_bring()
     ensures { PortsBring }
 {}
 
-/// An interpreter takes the word that the generator before its span sent one round earlier.
+/// An interpreter takes the word that the generator at the other end of its span sent one round earlier, or ones where
+/// the fibre is cut.
 pub fn spans_take_words()
     ensures { SpansTakeWords }
 {}
 
-/// Where nothing moves a span that isn't cut brings what was sent.
+/// Where neither its generator nor the interpreters change, an AU-4 comes over a fibre that isn't cut as it was sent.
 pub fn spans_bring()
     ensures { SpansBring }
 {}
 
-/// A cut span brings AIS.
+/// Where the interpreters don't change, AIS comes over a cut fibre.
 pub fn cut_spans_bring_ais()
     ensures { CutSpansBringAis }
 {}
 
-/// A constant input leaves its generator in one state.
+/// A generator whose input stays the same stays in one state.
 pub fn generators_rest()
     ensures { GeneratorsRest }
 {}
 
-/// Nine rounds later what comes after the span is constant too.
+/// Nine rounds after the input of a generator has become constant, what comes after the span is constant too.
 pub fn spans_are_steady()
     ensures { SpansAreSteady }
 {}

@@ -30,11 +30,13 @@ module _ (n : ℕ) (p : Pos) (on : Side → Option OnSpan) where
   chain_on West far = west_chain n p far
   chain_on East far = east_chain n p far
 
-  -- where side d is switched: there is a far end, and both ends of the circuit on side d are in the chain
+  -- where side d is switched and the far end is this one: there is a far end, and both ends of the circuit on side d
+  -- are in the chain
   unfoldable pub may_carry : Side → Option Pos → Bool
   may_carry d far = option_map_or (is_carried n (on d)) (chain_on d far) false
 
-  -- what the working arrival from side d stands for
+  -- the origin of what the node takes from side d in the working slot: what arrives there, or, where d is switched,
+  -- what arrives in the protection slot on the other side
   unfoldable pub stands_for : NodeState → Side → Origin
   stands_for (state.Isolated x) d = Ais
   stands_for (state.SwitchWest far) West = if may_carry West far then Protection East else Ais

@@ -16,7 +16,7 @@ use Rattle.sdh_squelch.specs.declared.Row.{Row}
 abbrev pub OnSpan : Type 0
 OnSpan = Row
 
--- in a ring of n, the circuit on span s in slot m, with its end positions, among circuits numbered from i on
+-- the circuit on span s in slot m, with its end positions, in a ring of n, where the circuits are numbered from i on
 abbrev pub circuit_from : ℕ → ℕ → ℕ → ℕ → List Provisioned → Option OnSpan
 circuit_from n s m i [] = None
 circuit_from n s m i (c ∷ cs) =

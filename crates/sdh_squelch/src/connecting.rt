@@ -1,7 +1,8 @@
-//! What a node connects: where each AU-4 that it sends or drops comes from, by its state and its squelch table. Bridging,
-//! switching, passing through and squelching are those of ITU-T G.841, MS shared protection rings.
+//! What a node connects: where the bytes of each AU-4 that it sends or drops come from, by its state and its squelch
+//! table. Bridging, switching, passing through and squelching are those of ITU-T G.841, MS shared protection rings.
 //!
-//! The origins are asked for every AU-4 of every round. They read the prepared rows of the table and search no circuits.
+//! The origin of every AU-4 is asked for in every round. These functions read the rows of the table, which are made
+//! beforehand, and search no circuits.
 ghost use Rattle.std.specs.Prelude.{◌≡◌, ◌≤◌, ◌<◌, false, IfSome, length};
 ghost use Rattle.std.specs.Option.{option_map_or};
 ghost use Rattle.sdh_squelch.specs.Table.{circuits_at, is_carried};
@@ -13,7 +14,7 @@ use sdh_circuits::{End, PortId, Slot};
 use sdh_nodestate::NodeState;
 use sdh_ringmap::{Chain, Pos, RingMap, Side};
 
-/// Where an AU-4 that a node sends or drops comes from.
+/// Where the bytes of an AU-4 that a node sends or drops come from.
 #[derive(Clone, Copy, Debug, PartialEq, Eq)]
 pub enum Origin {
     /// The stream of a port of the node.
@@ -26,7 +27,7 @@ pub enum Origin {
     Ais,
 }
 
-// Returns whether there is a chain over which the circuit on a side in a slot may be carried.
+// Returns whether there is a chain and the circuit on a side in a slot may be carried over it.
 fn may_carry(chain: Option<Chain>, map: &RingMap, table: &Table, side: Side, slot: Slot) -> bool
     requires table { table.now.ring ≡ map.now }
     requires slot { (1 ≤ slot.0) × (slot.0 ≤ 8) }
@@ -40,9 +41,10 @@ fn may_carry(chain: Option<Chain>, map: &RingMap, table: &Table, side: Side, slo
     }
 }
 
-/// Returns what the working arrival of a slot from a side stands for: that arrival; or, where the side is switched,
-/// what arrives on protection from the other side if the circuit may be carried round, and else AIS. A port whose
-/// circuit is on the side delivers it.
+/// Returns the origin of what a node takes from a side in a working slot. It is what arrives there in that slot, as
+/// long as the side isn't switched. Where the side is switched, it is what arrives in the protection slot on the other
+/// side if the circuit may be carried round, and else AIS. In an isolated node it is AIS. A port whose circuit is on
+/// the side delivers it.
 #[tactic(auto, unfolding(crate::specs::Connections::stands_for, crate::specs::Connections::may_carry))]
 pub fn drop_origin(
     state: &NodeState,
@@ -78,9 +80,9 @@ pub fn drop_origin(
     }
 }
 
-/// Returns what leaves on a side in a working slot: the stream of the port where the circuit there ends at the node,
-/// else what the working arrival from the other side stands for; AIS where there is no circuit, and from an isolated
-/// node.
+/// Returns the origin of what leaves on a side in a working slot. Where the circuit there ends at the node, it is the
+/// stream of its port; else it is what the node takes from the other side in that slot. It is AIS where there is no
+/// circuit, and in an isolated node.
 #[tactic(auto, unfolding(crate::specs::Connections::leaves_working))]
 pub fn working_origin(
     state: &NodeState,
@@ -119,9 +121,9 @@ pub fn working_origin(
     }
 }
 
-/// Returns what leaves on a side in a protection slot: what arrives on protection from the other side where the node
-/// passes through; what leaves on the other side in the working slot where that side alone is switched and the circuit
-/// there may be carried round; else AIS.
+/// Returns the origin of what leaves on a side in a protection slot. In a node that passes through, it is what arrives
+/// in the protection slot on the other side. Where the other side alone is switched and the circuit there may be
+/// carried round, it is what leaves on that side in the working slot. Else it is AIS.
 #[tactic(auto, unfolding(crate::specs::Connections::leaves_protection, crate::specs::Connections::may_carry))]
 pub fn protection_origin(
     state: &NodeState,

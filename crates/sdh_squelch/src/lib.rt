@@ -1,5 +1,6 @@
-//! What a node knows beforehand of the circuits that pass it: for each side and slot the circuit there and where it
-//! ends. By it a node that switches decides which slots it may carry round the ring, and squelches the others.
+//! The squelch table: what a node knows beforehand of the circuits that pass it. For each side and slot it has the
+//! circuit there and the positions of its ends. A node that switches decides by it which slots it may carry round the
+//! ring, and squelches the others.
 #![tactic(auto)]
 
 ghost use Rattle.std.specs.Prelude.{◌≡◌, ◌≤◌, ◌<◌, ◌+◌, ◌-◌, ◌++◌, ℕ, List, Some, option_map, length, IfOk, OnOk};
@@ -26,8 +27,8 @@ pub struct Row {
     pub to: Pos,
 }
 
-/// The circuits on the two spans of a node, slot by slot. The ring's circuits stand there for clauses alone: they take no
-/// memory, and the code has the rows.
+/// The circuits on the two spans of a node, slot by slot. The field `circuits` is for clauses alone and takes no
+/// memory: the code reads the rows.
 #[derive(Drop)]
 #[derive_where(Debug)]
 pub struct Table {
@@ -48,7 +49,7 @@ impl Model for Table {
     ghost invariant = { λ t. IsTable (record { ring = t.map; at = t.at; circuits = t.circuits.value.circuits }) t.rows.items };
 }
 
-// Returns the circuit on a span in a slot.
+// Returns the circuit on a span in a slot, or `None` where no circuit is.
 fn row_on(circuits: &CircuitMap, span: Span, slot: Slot) -> Option<Row>
     requires { IsProvisioning circuits.now }
     ensures row { (ids : List ℕ) → KeepsRing circuits.now ids → result ≡ circuit_on (length ids) circuits.now.circuits span.0 slot.0 }
@@ -67,7 +68,7 @@ fn row_on(circuits: &CircuitMap, span: Span, slot: Slot) -> Option<Row>
     }
 }
 
-// Adds the circuits in slots 1 to 8 of a span.
+// Appends the circuits in slots 1 to 8 of a span to the rows.
 fn add_rows(
     rows: &mut Vec<Option<Row>>,
     circuits: &CircuitMap,
@@ -86,7 +87,7 @@ fn add_rows(
 }
 
 impl Table {
-    /// Returns the table of the node at a position. All its memory is taken here.
+    /// Returns the table of the node at a position, or an error where memory runs out. No other call takes memory.
     pub fn try_new(
         alloc: Global,
         map: &RingMap,
@@ -118,7 +119,7 @@ impl Table {
         self.rows.as_slice()
     }
 
-    // Returns the row of a side and slot.
+    // Returns the row of a side and a slot.
     fn row(&self, side: Side, slot: Slot) -> Option<Row>
         requires slot { (1 ≤ slot.0) × (slot.0 ≤ 8) }
         ensures row { result ≡ circuits_at (length self.now.ring) self.now.circuits self.now.at.0 slot.0 side }
@@ -131,7 +132,7 @@ impl Table {
         }
     }
 
-    /// Returns the number of the circuit on a side in a slot.
+    /// Returns the number of the circuit on a side in a slot of 1 to 8, or `None` where no circuit is.
     pub fn circuit(&self, side: Side, slot: Slot) -> Option<u8>
         requires { (1 ≤ slot.0) × (slot.0 ≤ 8) }
         ensures { result ≡ option_map (λ r. r.circuit) (circuits_at (length self.now.ring) self.now.circuits self.now.at.0 slot.0 side) }
@@ -140,7 +141,8 @@ impl Table {
         Some(row.circuit)
     }
 
-    /// Returns the positions of the two ends, port A's before port B's, of the circuit on a side in a slot.
+    /// Returns the positions of the two ends, port A's before port B's, of the circuit on a side in a slot of 1 to 8,
+    /// or `None` where no circuit is.
     pub fn ends(&self, side: Side, slot: Slot) -> Option<(Pos, Pos)>
         requires { (1 ≤ slot.0) × (slot.0 ≤ 8) }
         ensures { result ≡ option_map (λ r. (r.from, r.to))
@@ -150,7 +152,7 @@ impl Table {
         Some((row.from, row.to))
     }
 
-    /// Returns whether a circuit is on a side in a slot and both its ends are in the chain.
+    /// Returns whether a circuit is on a side in a slot of 1 to 8, and both its ends are in the chain.
     pub fn may_carry(&self, map: &RingMap, side: Side, slot: Slot, chain: Chain) -> bool
         requires map { self.now.ring ≡ map.now }
         requires slot { (1 ≤ slot.0) × (slot.0 ≤ 8) }

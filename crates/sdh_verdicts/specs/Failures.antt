@@ -12,7 +12,7 @@ use Rattle.sdh_plan.specs.declared.step.Step.TheVariants as step
 use Rattle.sdh_verdicts.specs.declared.failure.Failure.{Failure}
 use Rattle.sdh_verdicts.specs.declared.failure.Failure.TheVariants.{Degraded, Cut, Span, Node, Manual, Forced}
 
--- a failure is one of a ring of n
+-- the failure is one of a ring of n
 abbrev pub IsFailureIn : ℕ → Failure → Type 0
 IsFailureIn n (Degraded at side) = at.0 < n
 IsFailureIn n (Cut at side) = at.0 < n
@@ -47,7 +47,7 @@ case_steps n threshold (failure ∷ others) = steps_of n threshold failure ++ ca
 
 -- ---- by number
 
--- the side of a number, west before east, and its position
+-- the side that has a number, where sides are counted by position, west before east
 abbrev pub side_of : ℕ → Side
 side_of number = if number % 2 == 0 then West else East
 

@@ -16,31 +16,31 @@ AreLong (s ∷ ss) = (3 ≤ s.rounds) × AreLong ss
 abbrev pub changes_in : List Stretch → List (List Change)
 changes_in ss = map (λ s. s.changes) ss
 
--- In the last round of stretches with at least three rounds each the requests are what their changes come to, however
--- many rounds each has.
+-- In the last round of stretches with at least three rounds each, the requests follow from the changes of the stretches
+-- alone, however many rounds each has.
 abbrev pub RequestsRest : Type 0
 RequestsRest =
     (ring : Ring) (ss : List Stretch) (t : ℕ) → 1 ≤ ring.threshold → AreLong ss → rounds_in ss ≡ t + 1
     → requests_by ring ss t ≡ requests_after ring (changes_in ss)
 
--- the stretches of a script's settle steps that have reports, after those before them: the changes before each, and the
--- number of rounds from the last stretch to the round of its report
+-- The stretches `earlier`, and then one for each settle step of a script that has a report. Each has the changes before
+-- its step, and the rounds from the end of the stretch before to the report's round.
 abbrev pub stretches_by : List Stretch → List (List Change) → List PortReport → List Stretch
 stretches_by earlier [] reports = earlier
 stretches_by earlier (changes ∷ later) [] = earlier
 stretches_by earlier (changes ∷ later) (r ∷ reports) =
     stretches_by (earlier ++ record { changes = changes; rounds = r.round + 1 - rounds_in earlier } ∷ []) later reports
 
--- After these stretches, each of at least three rounds, the report shows what is owed under the requests that their
--- changes come to. The number of rounds of each counts for how far the customers have come, and for nothing else.
+-- After these stretches, each of at least three rounds, the report shows what is owed under the requests that follow
+-- from their changes. The numbers of rounds decide how far the customers' streams have come, and nothing else.
 pub record IsForetold (ring : Ring) (ss : List Stretch) (r : PortReport) : Type 0 where
   pub long : AreLong ss
   pub rounds : rounds_in ss ≡ r.round + 1
   pub requests : requests_by ring ss r.round ≡ requests_after ring (changes_in ss)
   pub shows : IsOwed ring.nodes (requests_after ring (changes_in ss)) (happened ss) ring.circuits r
 
--- each of these reports is foretold, by its own stretch and those before it, where these changes were made before each
--- settle step to come
+-- Each of these reports is foretold by its own stretch and those before it. The list of lists has the changes before
+-- each settle step to come.
 abbrev pub AreForetold : Ring → List Stretch → List (List Change) → List PortReport → Type 0
 AreForetold ring earlier [] reports = reports ≡ []
 AreForetold ring earlier (changes ∷ later) [] = Unit {0}
@@ -48,12 +48,13 @@ AreForetold ring earlier (changes ∷ later) (r ∷ reports) =
     (let now = earlier ++ record { changes = changes; rounds = r.round + 1 - rounds_in earlier } ∷ [] in
     IsForetold ring now r × AreForetold ring now later reports)
 
--- each report of every script that owes what the promise says is foretold
+-- each report of every script is foretold, where the reports show what they owe
 abbrev pub ReportsAreForetold : Type 0
 ReportsAreForetold = (ring : Ring) (limit : ℕ) (scenes : List (List Change)) (reports : List PortReport) (end : Status)
     → 1 ≤ ring.threshold → 1 ≤ ring.nodes → AreOwed ring limit [] 0 scenes reports end → AreForetold ring [] scenes reports
 
--- there is a last one of these reports, and it is foretold by the stretches of them all, which have all changes
+-- these reports have a last one, and it is foretold by the stretches of all of them, which have all changes of the
+-- script
 pub record IsLastForetold (ring : Ring) (scenes : List (List Change)) (reports : List PortReport) : Type 0 where
   pub before : List PortReport
   pub last : PortReport

@@ -1,4 +1,4 @@
--- What verdicts have to do with what a ring reports.
+-- How verdicts on circuits agree with what a ring reports.
 use Rattle.std.specs.Prelude.{ℕ, ◌≡◌, ◌↔◌, ◌+◌, ◌-◌, ◌≤◌, List, [], ◌∷◌, length, map, count_by, All}
 use Rattle.sdh_circuits.specs.declared.End.{End}
 use Rattle.sdh_circuits.specs.declared.End.TheVariants.{A, B}
@@ -30,8 +30,8 @@ longer_plan plan case limit = record plan { limit = limit; steps = longer_steps 
 -- ---- when it is a plan
 
 -- There is room after the plan's script for the case's steps and a settle step: with them it has at most 1,000 steps,
--- and at most 64 settle steps among them. And a plan may have this limit; 64 n + 512, with which each step ends in a
--- ring of n, is one.
+-- of which at most 64 are settle steps. The limit is one that a plan may have. Such a limit is 64 n + 512, with which
+-- each settle step ends in a ring of n.
 pub record HasRoom (plan : Planned) (case : List Failure) (limit : ℕ) : Type 0 where
   pub steps : length plan.steps + length (case_steps (length plan.nodes) plan.settings.threshold case) ≤ 999
   pub settles : count_by is_settle plan.steps ≤ 63
@@ -52,8 +52,8 @@ outlet_told Lost hops sent t = silent
 outlet_told Kept hops sent t = sent (t - hops)
 outlet_told Over hops sent t = sent (t - hops)
 
--- The line of the port at an end of the circuit of this number in round t, by the circuit's verdict in a case, where
--- this had happened at each port before each round. What was sent is the other end's.
+-- The line of the port at an end of circuit number `index` in round t, by the circuit's verdict in a case. `before`
+-- gives what had happened at each port before each round. What was sent is what the customer at the other end sent.
 abbrev pub port_told : Planned → List Failure → (PortId → ℕ → List Happening) → ℕ → ℕ → Provisioned → End → PortLine
 port_told plan case before t index c e =
     record {
@@ -63,15 +63,16 @@ port_told plan case before t index c e =
           (λ k. sends_by (customer_at c (other_end e)) (before (record { circuit = index; end = other_end e }) k)) t;
     }
 
--- the lines of all ports of these circuits, which are counted from `index`, in their order, a before b
+-- the lines of all ports of these circuits, in the order of the circuits, a before b; the circuits are numbered from
+-- `index` on
 abbrev pub ports_told : Planned → List Failure → (PortId → ℕ → List Happening) → ℕ → ℕ → List Provisioned → List PortLine
 ports_told plan case before t index [] = []
 ports_told plan case before t index (c ∷ cs) =
     port_told plan case before t index c A ∷ port_told plan case before t index c B ∷ ports_told plan case before t (index + 1) cs
 
--- The last of these reports shows each port as its circuit's verdict in the case says. The verdicts go by the requests
--- of that report's round, and the spans that they apply. What had happened is the changes of the longer script in the
--- rounds that the reports have.
+-- The last of these reports shows each port as its circuit's verdict in the case says. The verdicts follow from the
+-- requests in that report's round and the spans that are applied under them. What had happened at the ports follows
+-- from the changes of the longer script and the rounds of the reports.
 pub record IsShown (plan : Planned) (case : List Failure) (reports : List PortReport) : Type 0 where
   pub foretold : IsLastForetold (ring_of plan) (scenes_with plan case) reports
   pub ports : foretold.last.ports
@@ -80,7 +81,8 @@ pub record IsShown (plan : Planned) (case : List Failure) (reports : List PortRe
   pub verdicts : (c : Provisioned) → verdict_of plan case c ≡ verdict_under (length plan.nodes)
       (is_applied (requests_by (ring_of plan) (stretches_by [] (scenes_with plan case) reports) foretold.last.round)) c
 
--- the reports of the plan with a case after its script, where they come to its end and owe what the promise says
+-- the plan with a case after its script: whatever reports it has show the case, where they come to its end and show
+-- what they owe
 abbrev pub CaseIsShown : Planned → List Failure → Type 0
 CaseIsShown plan case = (limit : ℕ) (reports : List Report) → OwesAll (longer_plan plan case limit) reports status.Ok
     → IsShown plan case (map ports_of reports)

@@ -1,5 +1,5 @@
--- A plan of three nodes and a case for which the laws of tables are worked out: a clock slips and a controller is held
--- before the plan's settle step, and then a span is cut.
+-- A plan of three nodes and a case, for which the laws of `specs/Laws.antt` are worked out. A clock slips and a
+-- controller is held before the plan's settle step, and then a span is cut.
 use Rattle.std.specs.Prelude.{ℕ, ◌≡◌, List, [], ◌∷◌, length, map, replicate, All}
 use Rattle.sdh_terms.specs.declared.Rate.TheVariants.{Four}
 use Rattle.sdh_ringmap.specs.Places.{position_of}
@@ -26,7 +26,7 @@ customer offset = record { text = 65 ∷ []; trace = replicate 16 32; offset = o
 abbrev pub c1 : Provisioned
 c1 = record { name = 99 ∷ 49 ∷ []; from = position_of 0; to = position_of 2; slot = record { 0 = 1 }; a = customer 0; b = customer 522 }
 
--- three nodes at STM-4: a customer's clock slips three times, and the controller of the second node misses seven turns
+-- three nodes at STM-4: a customer's clock slips three times, and the controller of the second node misses seven rounds
 abbrev pub three : Planned
 three = record {
   settings = record { rate = Four; threshold = 1; wait = 5 };
@@ -36,12 +36,12 @@ three = record {
   steps = step.Slip (record { circuit = 0; end = A }) Up 3 ∷ step.Hold (position_of 1) 7 ∷ step.Settle ∷ [];
 }
 
--- the span after the first node is cut
+-- the span east of the first node is cut
 abbrev pub cut : List Failure
 cut = Span (position_of 0) ∷ []
 
--- The case is one of the plan's, there is room for it, and the longer script has reports that owe what the promise
--- says. So the last one shows what the verdict says: the circuit goes round, over three spans.
+-- The case is one of the plan's ring, there is room for it, and the longer script has reports that show what they owe.
+-- So the last report shows what the verdict says: the circuit goes round the cut, over three spans.
 pub record CaseOccurs : Type 0 where
   pub planned : IsPlanned three
   pub case : All (IsFailureIn (length three.nodes)) cut

@@ -1,4 +1,4 @@
--- What becomes of each circuit where these fail after a plan's script.
+-- What becomes of each circuit in a case: a list of failures that come one after the other, after a plan's script.
 use Rattle.std.specs.Prelude.{ℕ, ◌≡◌, ◌+◌, ◌*◌, ◌/◌, ◌%◌, ◌<◌, ◌≤◌, zero, suc, Bool, true, false, if◌then◌else◌, List, [], ◌∷◌, ◌++◌}
 use Rattle.std.specs.Prelude.{not, nat_le, length, slice_index, map, take}
 use Rattle.sdh_basics.specs.Cells.{cells}
@@ -32,7 +32,7 @@ use Rattle.sdh_verdicts.specs.declared.judging.Verdict.TheVariants.{Kept, Over, 
 use Rattle.sdh_verdicts.specs.Failures.{case_steps, side_of}
 use Rattle.sdh_verdicts.specs.Sides.{resting_of, rests}
 
--- the plan's script, then the steps of a case, and a settle step
+-- the longer script: the plan's script, then the steps of a case, and a settle step
 abbrev pub longer_steps : Planned → List Failure → List Step
 longer_steps plan case = plan.steps ++ (case_steps (length plan.nodes) plan.settings.threshold case ++ step.Settle ∷ [])
 
@@ -40,12 +40,12 @@ longer_steps plan case = plan.steps ++ (case_steps (length plan.nodes) plan.sett
 abbrev pub scenes_with : Planned → List Failure → List (List Change)
 scenes_with plan case = scenes [] (longer_steps plan case)
 
--- the requests of all spans that the longer script comes to
+-- the requests of all spans after the longer script
 abbrev pub requests_with : Planned → List Failure → List ℕ
 requests_with plan case = rest.requests_after (ring_of plan) (scenes_with plan case)
 
--- what becomes of a circuit of a ring of n where these spans are applied: its ends are joined by its own arc, or only round applied
--- spans, or not at all
+-- what becomes of a circuit of a ring of n where these spans are applied: its ends are joined by its own arc, or only
+-- round applied spans, or not at all
 abbrev pub verdict_under : ℕ → (ℕ → Bool) → Provisioned → Verdict
 verdict_under n applied c = if is_clear n applied (arc_of n c) then Kept else if is_joined n applied (arc_of n c) then Over else Lost
 
@@ -53,12 +53,12 @@ verdict_under n applied c = if is_clear n applied (arc_of n c) then Kept else if
 abbrev pub verdict_of : Planned → List Failure → Provisioned → Verdict
 verdict_of plan case c = verdict_under (length plan.nodes) (is_applied (requests_with plan case)) c
 
--- a span is in trouble: it is degraded or asked for by a command, or worse
+-- a span is in trouble: its request is at least a manual switch
 abbrev pub is_troubled : List ℕ → ℕ → Bool
 is_troubled requests s = nat_le (code_number Ms) (slice_index requests s)
 
--- A span of the circuit's own arc is in trouble. Where the circuit is kept that span isn't applied: another request is
--- as high or higher.
+-- A span of the circuit's own arc is in trouble. Where the circuit is kept, that span isn't applied, since another
+-- request is as high or higher.
 abbrev pub is_impaired : Planned → List Failure → Provisioned → Bool
 is_impaired plan case c = not (is_clear (length plan.nodes) (is_troubled (requests_with plan case)) (arc_of (length plan.nodes) c))
 
@@ -75,7 +75,7 @@ hops_under n applied c = hops_where (verdict_under n applied c) n applied c
 abbrev pub hops_of : Planned → List Failure → Provisioned → ℕ
 hops_of plan case c = hops_under (length plan.nodes) (is_applied (requests_with plan case)) c
 
--- ---- failures that are none
+-- ---- failures that would mend something
 
 -- what side d of position p has come to after the plan's script
 abbrev pub left_by : Planned → ℕ → Side → rest.Resting
@@ -86,8 +86,8 @@ is_forced command.Forced = true
 is_forced command.Manual = false
 is_forced command.Clear = false
 
--- The failure's step would take the place of something worse that the script has set: a degradation of a fibre that is cut, or a manual
--- switch of a side that has a forced one.
+-- The failure's step would take the place of something worse that the script has set. It is a degradation of a fibre
+-- that is cut, or a manual switch of a side that has a forced one.
 abbrev pub mends : Planned → Failure → Bool
 mends plan (Degraded at side) = is_cut (left_by plan (neighbour (length plan.nodes) at.0 side) (opposite side)).holding.condition
 mends plan (Manual at side) = is_forced (left_by plan at.0 side).holding.command
@@ -98,16 +98,16 @@ mends plan (Forced at side) = false
 
 -- ---- what the program keeps
 
--- what a side asks for after the longer script
+-- the local request of a side after the longer script
 abbrev pub asks_with : Planned → List Failure → ℕ → Side → Code
 asks_with plan case p d =
     rest.asks plan.settings.wait (rest.rest_in plan.settings.threshold (length plan.nodes) p d (scenes_with plan case) rest.fresh)
 
--- what both sides of a node ask for
+-- the local requests of both sides of a node after the longer script
 abbrev pub asked_at : Planned → List Failure → ℕ → LocalRequests
 asked_at plan case p = record { west = asks_with plan case p West; east = asks_with plan case p East }
 
--- what the side of a number has come to after the plan's script
+-- what the side that has this number has come to after the plan's script
 abbrev pub numbered : Planned → ℕ → rest.Resting
 numbered plan number = left_by plan (number / 2) (side_of number)
 
@@ -118,7 +118,7 @@ pub record AreSidesOf (plan : Planned) (s : Sides) : Type 0 where
   pub wait : s.wait ≡ plan.settings.wait
   pub rests : map resting_of s.rests.items ≡ cells (numbered plan) (2 * length plan.nodes)
 
--- how many of the first k places a test holds at
+-- the number of the first k places at which a test holds
 abbrev pub counted : (ℕ → Bool) → ℕ → ℕ
 counted p zero = 0
 counted p (suc k) = counted p k + (if p k then 1 else 0)
@@ -131,8 +131,8 @@ places_below p (suc k) = places_below p k ++ (if p k then k ∷ [] else [])
 abbrev pub numbers_of : List RingSpan → List ℕ
 numbers_of spans = map (λ s. s.0) spans
 
--- the spans are those of a ring of n for which p holds: how many there are before each place, round the ring twice, and
--- the spans themselves in their order
+-- a is the set of the spans of a ring of n at which p holds: it has their number before each place, round the ring
+-- twice, and the spans themselves in their order
 pub record AreSpans (n : ℕ) (p : ℕ → Bool) (a : SpanSet) : Type 0 where
   pub before : (i : ℕ) → i ≤ 2 * n → slice_index a.before i ≡ counted (λ j. p (j % n)) i
   pub among : (s : ℕ) → s < n → is_among (take a.many a.spans) s ≡ p s

@@ -1,4 +1,4 @@
-//! The failures that are looked at.
+//! The failures of which a case is made, by number, and the steps that make each.
 ghost use Rattle.std.specs.Prelude.{◌≡◌, ◌*◌, ◌/◌, ◌<◌, ◌≤◌, length, slice_get};
 ghost use Rattle.sdh_verdicts.specs.Failures.{IsFailureIn, condition_step, steps_of, side_of, failure_at};
 
@@ -7,15 +7,15 @@ use sdh_request::Command;
 use sdh_ringmap::{Pos, RingMap, Side};
 use sdh_terms::{Condition, FibreEvent};
 
-/// The most steps of a failure.
+/// The largest number of steps that one failure has.
 pub const STEPS_MAX: usize = 4;
 
-/// One thing that fails, or is set.
+/// One failure, or one command that is set.
 #[derive(Clone, Copy, Debug, PartialEq, Eq)]
 pub enum Failure {
-    /// The fibre that leaves a node on a side is degraded at the threshold.
+    /// The fibre that leaves a node on a side is degraded, by as many bits as the threshold.
     Degraded(Pos, Side),
-    /// That fibre is cut.
+    /// The fibre that leaves a node on a side is cut.
     Cut(Pos, Side),
     /// Both fibres of the span east of a position are cut.
     Span(Pos),
@@ -27,7 +27,7 @@ pub enum Failure {
     Forced(Pos, Side),
 }
 
-/// Returns the number of failures that a ring of `nodes` nodes has.
+/// Returns the number of failures that a ring of `nodes` nodes has, which is 10 for each node.
 pub fn count_of(nodes: usize) -> usize
     requires { nodes ≤ 16 }
     ensures { result ≡ 10 * nodes }
@@ -35,7 +35,7 @@ pub fn count_of(nodes: usize) -> usize
     10 * nodes
 }
 
-// Returns the position and side of a number, west before east.
+// Returns the position and the side that have this number. They are counted by position, west before east.
 fn place(number: usize) -> (Pos, Side)
     requires { number < 32 }
     ensures half { result.0.0 ≡ number / 2 }
@@ -49,8 +49,8 @@ fn place(number: usize) -> (Pos, Side)
     (Pos((number / 2) as u8), side)
 }
 
-/// Returns the failure of a number, counted from 0: fibres degraded, fibres cut, spans, nodes, manual switches, forced
-/// switches.
+/// Returns the failure that has this number, counted from 0. First come the degraded fibres, then cut fibres, spans,
+/// nodes, manual switches and forced switches.
 #[tactic(auto, unfolding(crate::specs::Failures::failure_at))]
 pub fn failure_at(nodes: usize, number: usize) -> Failure
     requires few { nodes ≤ 16 }
@@ -88,7 +88,7 @@ fn cut(at: Pos, side: Side) -> Step
     })
 }
 
-// Returns the step at a place of these, if there is one.
+// Returns the step at a place of these steps, if there is one.
 fn pick(steps: &[Step], i: usize) -> Option<Step>
     ensures { result ≡ slice_get steps.now i }
 {
@@ -99,7 +99,7 @@ fn pick(steps: &[Step], i: usize) -> Option<Step>
     }
 }
 
-/// Returns the step at a place of a failure's steps, counted from 0.
+/// Returns the step at a place of a failure's steps, counted from 0, or `None` after the last one.
 pub fn step_of(map: &RingMap, threshold: u16, failure: Failure, i: usize) -> Option<Step>
     requires { IsFailureIn (length map.now) failure }
     ensures { result ≡ slice_get (steps_of (length map.now) threshold failure) i }

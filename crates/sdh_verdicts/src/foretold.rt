@@ -2,17 +2,18 @@
 //! here has a law as its contract and no work to do.
 ghost use Rattle.sdh_verdicts.specs.Foretold.{RequestsRest, ReportsAreForetold, LastReportsAreForetold};
 
-/// In the last round of stretches of three rounds or more the requests are what the changes come to.
+/// Where each stretch of a run has at least three rounds, the requests in the last round follow from the changes alone.
 pub fn requests_rest()
     ensures { RequestsRest }
 {}
 
-/// Each report that is owed shows what its script's changes come to.
+/// Each report that is owed shows what is owed under the requests that follow from its script's changes alone.
 pub fn reports_are_foretold()
     ensures { ReportsAreForetold }
 {}
 
-/// The last report of a script that was run to its end shows what all its changes come to.
+/// The last report of a script that was run to its end shows what is owed under the requests that follow from all its
+/// changes.
 pub fn last_reports_are_foretold()
     ensures { LastReportsAreForetold }
 {}

@@ -1,4 +1,4 @@
-//! What becomes of each circuit in a case.
+//! What becomes of each circuit in a case: a list of failures that come one after the other, after a plan's script.
 ghost use Rattle.std.specs.Prelude.{◌≡◌, ◌*◌, ◌/◌, ℕ, Bool, false, not, ◌<◌, ◌≤◌, length, get_or, map, take, All, IfOk};
 ghost use Rattle.sdh_plan.specs.Planned.{Planned};
 ghost use Rattle.sdh_verdicts.specs.Sides.{resting_of, rests};
@@ -28,21 +28,22 @@ pub struct Sides<'a> {
     map: &'a RingMap,
     threshold: u16,
     wait: u32,
-    // by position, west before east
+    // What each side has come to, by position, west before east.
     rests: Vec<Resting>,
 }
 
-/// Some spans of a ring.
+/// A set of spans of a ring.
 #[derive(Clone, Copy)]
 pub struct SpanSet {
-    // by a number i: how many of the spans are among the first i, counted from span 0 on and round the ring twice
+    // `before[i]` is the number of spans of the set among the first i, counted from span 0 on and round the ring twice.
     before: [u8; 33],
-    // the spans: the first `many` of these
+    // The spans of the set are the first `many` of these, in their order.
     spans: [Span; 16],
     many: usize,
 }
 
-/// The applied spans of a ring in a case, and those that are in trouble: degraded or asked for by a command, or worse.
+/// The applied spans of a ring in a case, and the spans in trouble. A span is in trouble where its request is at least
+/// a manual switch.
 #[derive(Clone, Copy)]
 pub struct CaseSpans {
     pub applied: SpanSet,
@@ -54,13 +55,13 @@ pub struct CaseSpans {
 pub enum Verdict {
     /// Its ends are joined by its own arc.
     Kept,
-    /// Its ends are joined only round applied spans.
+    /// Its own arc holds applied spans, and its ends are joined round them.
     Over,
     /// Its ends aren't joined.
     Lost,
 }
 
-// Returns the side of a number, west before east.
+// Returns the side that has this number. Sides are counted by position, west before east.
 fn place_at(number: usize) -> Place
     requires { number < 32 }
     ensures at { result.at.0 ≡ number / 2 }
@@ -76,7 +77,7 @@ fn place_at(number: usize) -> Place
     }
 }
 
-// Returns a side after the steps of a failure.
+// Returns what a side has come to after the steps of a failure, where it had come to `from` before them.
 fn with_failure(
     map: &RingMap,
     threshold: u16,
@@ -98,7 +99,7 @@ fn with_failure(
     rest
 }
 
-// Returns a side after the steps of a case.
+// Returns what a side has come to after the steps of a case, where it had come to `from` before them.
 fn with_case(
     map: &RingMap,
     threshold: u16,
@@ -124,7 +125,7 @@ const NO_REQUESTS: LocalRequests = LocalRequests {
 };
 
 impl<'a> Sides<'a> {
-    /// Returns the sides of a plan's ring.
+    /// Returns the sides of a plan's ring as its script leaves them, or an error where memory runs out.
     pub fn try_new(alloc: Global, plan: &'a Plan) -> Result<Sides<'a>, AllocError>
         ensures { IfOk result (λ sides. AreSidesOf plan.now sides) }
     {
@@ -152,8 +153,8 @@ impl<'a> Sides<'a> {
         self.rests[usize::from(fibre(place.at, place.side))]
     }
 
-    /// Returns whether the failure would mend what the plan's script has set: a degradation of a cut fibre, or a manual
-    /// switch of a side with a forced one. Its step takes the place of the script's.
+    /// Returns whether the failure would take the place of something worse that the plan's script has set. Such a
+    /// failure is a degradation of a fibre that is cut, or a manual switch of a side that has a forced one.
     pub fn mends(&self, failure: Failure) -> bool
         requires sides { length self.now.rests.items ≡ 2 * length self.now.map.now }
         requires failure { IsFailureIn (length self.now.map.now) failure }
@@ -172,7 +173,7 @@ impl<'a> Sides<'a> {
         }
     }
 
-    // Returns what a side asks for where all of these fail, one after the other.
+    // Returns the local request of a side in a case.
     fn request(&self, case: &[Failure], at: Pos, side: Side) -> Code
         requires sides { length self.now.rests.items ≡ 2 * length self.now.map.now }
         requires at { at.0 < length self.now.map.now }
@@ -184,7 +185,7 @@ impl<'a> Sides<'a> {
         asks(self.wait, &at_rest(self.threshold, failed))
     }
 
-    // Returns the requests of all spans where all of these fail.
+    // Returns the requests of all spans in a case, by span. After the ring's last span they are NR.
     fn requests(&self, case: &[Failure]) -> [Code; 16]
         requires sides { length self.now.rests.items ≡ 2 * length self.now.map.now }
         requires case { All (IsFailureIn (length self.now.map.now)) case.now }
@@ -208,7 +209,7 @@ impl<'a> Sides<'a> {
         requests
     }
 
-    /// Returns the applied spans, and those in trouble, where all of these fail.
+    /// Returns the applied spans and the spans in trouble in a case.
     pub fn spans(&self, case: &[Failure]) -> CaseSpans
         requires sides { length self.now.rests.items ≡ 2 * length self.now.map.now }
         requires case { All (IsFailureIn (length self.now.map.now)) case.now }
@@ -226,7 +227,7 @@ impl<'a> Sides<'a> {
     }
 }
 
-// Returns whether a span is in trouble, by the requests of all.
+// Returns whether a span is in trouble, by the requests of all spans.
 fn is_troubled(requests: &[Code], span: Span) -> bool
     requires { span.0 < length requests.now }
     ensures { result ≡ is_troubled (map code_number requests.now) span.0 }
@@ -234,7 +235,7 @@ fn is_troubled(requests: &[Code], span: Span) -> bool
     requests[span.0 as usize].number() >= Code::Ms.number()
 }
 
-// Returns the marked spans, and their number.
+// Returns the spans whose mark is set, in their order, and their number.
 fn list(marks: &[bool]) -> ([Span; 16], usize)
     requires few { length marks.now ≤ 16 }
     ensures few { result.1 ≤ 16 }
@@ -252,7 +253,7 @@ fn list(marks: &[bool]) -> ([Span; 16], usize)
     (spans, many)
 }
 
-// Returns the marked spans.
+// Returns the set of the spans whose mark is set.
 fn set_of(marks: &[bool]) -> SpanSet
     requires some { 1 ≤ length marks.now }
     requires few { length marks.now ≤ 16 }
@@ -271,7 +272,7 @@ fn set_of(marks: &[bool]) -> SpanSet
     }
 }
 
-// Returns the applied spans, by the requests of all.
+// Returns the set of the applied spans, by the requests of all spans.
 fn applied_in(requests: &[Code]) -> SpanSet
     requires some { 1 ≤ length requests.now }
     requires few { length requests.now ≤ 16 }
@@ -284,7 +285,7 @@ fn applied_in(requests: &[Code]) -> SpanSet
     set_of(&marks[..requests.len()])
 }
 
-// Returns the spans in trouble, by the requests of all.
+// Returns the set of the spans in trouble, by the requests of all spans.
 fn troubled_in(requests: &[Code]) -> SpanSet
     requires some { 1 ≤ length requests.now }
     requires few { length requests.now ≤ 16 }
@@ -298,7 +299,7 @@ fn troubled_in(requests: &[Code]) -> SpanSet
 }
 
 impl SpanSet {
-    /// Returns the spans in their order.
+    /// Returns the spans of the set, in their order.
     pub fn spans(&self) -> &[Span]
         requires { self.now.many ≤ 16 }
         ensures { result.now ≡ take self.now.many self.now.spans }

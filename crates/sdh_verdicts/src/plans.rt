@@ -8,7 +8,7 @@ ghost use Rattle.sdh_verdicts.specs.Verdicts.{AreSpans, requests_with, is_troubl
 use crate::judging::{SpanSet, Verdict, judge, meets, way};
 use sdh_plan::Plan;
 
-/// Returns what becomes of a circuit, by its number, in the case with these applied spans.
+/// Returns what becomes of circuit `number` of the plan, counted from 0, in the case in which these spans are applied.
 pub fn told(plan: &Plan, applied: &SpanSet, number: u8) -> Verdict
     requires number { number < length plan.now.circuits }
     requires case { (case : List Failure) × AreSpans (length plan.now.nodes) (is_applied (requests_with plan.now case)) applied.now }
@@ -21,8 +21,8 @@ pub fn told(plan: &Plan, applied: &SpanSet, number: u8) -> Verdict
     judge(plan.map(), applied, circuits.get(number))
 }
 
-/// Returns the number of spans over which the bytes of a circuit go, by its number, in the case with these applied
-/// spans.
+/// Returns the number of spans over which the bytes of circuit `number` of the plan go, in the case in which these
+/// spans are applied. It is 0 where the circuit is lost.
 pub fn told_hops(plan: &Plan, applied: &SpanSet, number: u8) -> u8
     requires number { number < length plan.now.circuits }
     requires case { (case : List Failure) × AreSpans (length plan.now.nodes) (is_applied (requests_with plan.now case)) applied.now }
@@ -35,7 +35,8 @@ pub fn told_hops(plan: &Plan, applied: &SpanSet, number: u8) -> u8
     way(plan.map(), applied, circuits.get(number))
 }
 
-/// Returns whether a circuit's own arc has a span in trouble, by its number, in the case with these spans in trouble.
+/// Returns whether the own arc of circuit `number` of the plan has a span in trouble, in the case with these spans in
+/// trouble.
 pub fn told_impaired(plan: &Plan, troubled: &SpanSet, number: u8) -> bool
     requires number { number < length plan.now.circuits }
     requires case { (case : List Failure) × AreSpans (length plan.now.nodes) (is_troubled (requests_with plan.now case)) troubled.now }

@@ -12,8 +12,8 @@ use sdh_request::{Command, Defect, Moment};
 use sdh_ringmap::{Pos, RingMap, Side};
 use sdh_terms::{Code, Condition};
 
-/// What holds on a side, the defect that it had at the last settle step, and the moment of the settle step at which its last
-/// defect was no longer there.
+/// What a side has come to: the condition of the fibre that comes in, the command and the moment, the defect that the
+/// side had at the last settle step, and the moment of the settle step at which its last defect was no longer there.
 #[derive(Clone, Copy, Debug, PartialEq, Eq)]
 pub struct Resting {
     pub condition: Condition,
@@ -84,7 +84,7 @@ pub fn is_cut(condition: Condition) -> bool
     }
 }
 
-/// Returns whether it is a forced switch.
+/// Returns whether a command is a forced switch.
 pub fn is_forced(command: Command) -> bool
     ensures { result ≡ is_forced command }
 {
@@ -94,7 +94,7 @@ pub fn is_forced(command: Command) -> bool
     }
 }
 
-// Returns whether there is none.
+// Returns whether a defect is none.
 fn is_clear(defect: Defect) -> bool
     ensures { result ≡ request.is_defect_free defect }
 {
@@ -104,7 +104,7 @@ fn is_clear(defect: Defect) -> bool
     }
 }
 
-/// Returns the side at a settle step.
+/// Returns what a side has come to after a settle step, which lets it come to rest.
 pub fn at_rest(threshold: u16, rest: Resting) -> Resting
     ensures { resting_of result ≡ walk.at_rest_now threshold (resting_of rest) }
 {
@@ -121,7 +121,7 @@ pub fn at_rest(threshold: u16, rest: Resting) -> Resting
     }
 }
 
-/// Returns the side after a step.
+/// Returns what the side at `place` has come to after one more step of a script.
 pub fn rest_after(
     threshold: u16,
     map: &RingMap,
@@ -156,7 +156,7 @@ pub fn rest_after(
     }
 }
 
-/// Returns the side after some steps.
+/// Returns what the side at `place` has come to after some steps of a script, where it had come to `from` before them.
 pub fn rests(threshold: u16, map: &RingMap, place: Place, steps: &[Step], from: Resting) -> Resting
     requires { place.at.0 < length map.now }
     ensures { resting_of result ≡ walk.rests threshold (length map.now) place.at.0 place.side steps.now (resting_of from) }
@@ -181,7 +181,7 @@ fn waits(wait: u32, rest: &Resting) -> bool
     }
 }
 
-/// Returns what the side asks for at a settle step that left it so.
+/// Returns the local request of a side at a settle step, by what the side had come to in that step.
 pub fn asks(wait: u32, rest: &Resting) -> Code
     ensures { result ≡ model.asks wait (resting_of rest.now) }
 {
