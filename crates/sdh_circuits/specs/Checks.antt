@@ -90,15 +90,15 @@ has_two_ends wish = not (int_eq wish.from wish.to)
 abbrev pub has_offsets : Wish → Bool
 has_offsets wish = is_within 0 782 wish.offset_a && is_within 0 782 wish.offset_b
 
--- both texts have their form
+-- both texts have 1 to 64 bytes, each from 0x20 to 0x7E
 abbrev pub has_texts : Wish → Bool
 has_texts wish = is_text wish.text_a && is_text wish.text_b
 
--- both traces have their form
+-- both traces have 1 to 64 bytes, each from 0x20 to 0x7E
 abbrev pub has_traces : Wish → Bool
 has_traces wish = is_text wish.trace_a && is_text wish.trace_b
 
--- the name has its form, and no circuit has it
+-- the name is 1 to 16 bytes that may stand in a name, and no circuit has it
 abbrev pub is_free_name : List Provisioned → List ℕ → Bool
 is_free_name circuits name = is_name name && not (list_any (λ c. bytes_eq c.name name) circuits)
 

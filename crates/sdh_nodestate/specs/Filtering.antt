@@ -1,4 +1,4 @@
--- When a word counts: three rounds in a row have to bring it.
+-- When a word is heard: three rounds in a row have to bring it.
 use Rattle.std.specs.Prelude.{◌&&◌, if◌then◌else◌, Option, Some, None}
 use Rattle.sdh_kbytes.specs.declared.K.{K}
 use Rattle.sdh_kbytes.specs.Same.{agrees}

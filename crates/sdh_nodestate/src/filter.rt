@@ -1,4 +1,4 @@
-//! When a word counts: three rounds in a row have to bring it.
+//! When a word is heard: three rounds in a row have to bring it.
 ghost use Rattle.std.specs.Prelude.{◌≡◌};
 ghost use Rattle.sdh_nodestate.specs.Filtering.{nothing_brought, with_brought, agreed, hears};
 

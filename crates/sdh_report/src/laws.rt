@@ -11,9 +11,9 @@ ghost use Rattle.sdh_ringmap.specs.declared.Side.{Side};
 use crate::status::Status;
 use crate::text::{CHUNK_MAX, LINE_MAX};
 
-/// Each line has at most `LINE_MAX` bytes, whatever numbers its call takes and whatever name of at most 16 bytes. The
-/// lines of a chunk have at most `CHUNK_MAX` bytes together. `last_line_is_short` says so of the last line; a line of
-/// the caller's own isn't meant.
+/// Each line, except a line of the caller's own, has at most `LINE_MAX` bytes, whatever numbers its call takes and
+/// whatever name of at most 16 bytes. The lines of a chunk have at most `CHUNK_MAX` bytes together.
+/// `last_line_is_short` says so of the last line.
 pub fn lines_are_short()
     ensures settle { (number round : ℕ) → number < 2 ^ 32 → round < 2 ^ 64 → length (settle_line number round) ≤ LINE_MAX }
     ensures node { (line : NodeLine) → line.id < 2 ^ 8 → length (node_line line) ≤ LINE_MAX }

@@ -9,9 +9,9 @@ pub enum Status {
     Ok,
     /// The words that the program was called with are none of its commands.
     Usage,
-    /// A call of the source failed, from which the plan is read.
+    /// The plan couldn't be read: a call of its source failed.
     ReadFault,
-    /// A call of the sink failed, to which the text is written. What was written is the beginning of a text.
+    /// The text couldn't be written to its end: a call of the sink failed. What was written is the beginning of a text.
     WriteFault,
     /// What was read is no TOML document.
     NotToml,
@@ -20,7 +20,7 @@ pub enum Status {
     BadPlan { reason: u8, place: u32 },
     /// The settle step of this number, counted from 1, ended without a quiet window.
     Unsettled(u32),
-    /// A call of the plant failed, which carries the frames over the fibres.
+    /// A frame couldn't be sent or received: a call of the plant failed, which has the fibres.
     PlantFault,
     /// The source has more than 1,048,576 bytes.
     TooLong,

@@ -15,7 +15,7 @@ use Rattle.sdh_request.specs.declared.settings.Settings.{Settings}
 use Rattle.sdh_plant.specs.Fibres.{Fibres}
 use Rattle.sdh_rounds.specs.Stations.{Station}
 
--- what a ring of nodes of any kind holds: its settings, the map and the circuits, its nodes, and how far its rounds are
+-- a ring of nodes of any kind, as contracts see it
 pub record HeldRing (N : Type 0) : Type 0 where
   pub settings : Settings
   -- the identifiers of the nodes, by position

@@ -12,7 +12,7 @@ use Rattle.sdh_rounds.specs.Quiet.{SettlesAt, NeverSettles, settles_in, Settles,
 
 -- ---- a round
 
--- where arrivals are known they determine a round, and those of the next rounds stay known
+-- where arrivals are known they determine what a round leaves, and the arrivals of later rounds stay known
 abbrev pub KnownRounds : {N : Type 0} → Station N → Type 0
 KnownRounds {N} s = (w after : World N) → Knows w.fibres → IsRound s w after → (after ≡ round s w) × Knows after.fibres
 
@@ -24,7 +24,7 @@ pub record Keeps {N : Type 0} (w after : World N) (rounds : ℕ) : Type 0 where
   pub honest : after.fibres.honest ≡ w.fibres.honest
   pub prepared : (rate : Rate) → IsPrepared rate (length w.ring.nodes) w.fibres → IsPrepared rate (length w.ring.nodes) after.fibres
 
--- where the plant reports what was sent, these frames were appended from the fibres f to the fibres g
+-- where the plant reports what was sent, g has what was sent on f, and after it these frames
 abbrev pub Appends : Fibres → List (List ℕ) → Fibres → Type 0
 Appends f frames g = g.sent ≡ option_map (λ sent. sent ++ frames) f.sent
 

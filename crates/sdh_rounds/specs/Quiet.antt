@@ -1,4 +1,4 @@
--- Quiet windows, and where a settle step ends. This project's own.
+-- Quiet windows, and where a settle step ends. Both are this project's own.
 use Rattle.std.specs.Prelude.{ℕ, ◌≡◌, ◌+◌, ◌*◌, ◌-◌, ◌%◌, ◌==◌, ◌&&◌, ◌<◌, ◌≤◌, Bool, true, nat_le, Option, List, length, find}
 use Rattle.std.specs.List.{list_all, range_with_len}
 use Rattle.sdh_plant.specs.Fibres.{Arrival, Fibres}

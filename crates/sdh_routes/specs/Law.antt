@@ -48,7 +48,7 @@ pub record Ends (n : ℕ) (state : ℕ → NodeState) (cs : List Provisioned) (m
 abbrev pub all_idle : ℕ → NodeState
 all_idle q = state.Idle tt
 
--- a route over the arc has at most n - 1 spans, a switched one at most 2n - 3, and each at least one
+-- a route has at least one span, at most n - 1 where the circuit's arc is clear, and at most 2n - 3 where it isn't
 pub record IsShort (n : ℕ) (applied : ℕ → Bool) (c : Provisioned) : Type 0 where
   pub straight : is_clear n applied (arc_of n c) ≡ true → hops n applied (arc_of n c) + 1 ≤ n
   pub around : is_clear n applied (arc_of n c) ≡ false → hops n applied (arc_of n c) + 3 ≤ 2 * n

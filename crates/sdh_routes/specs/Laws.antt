@@ -53,7 +53,7 @@ abbrev pub IdleWalksAreShort : Type 0
 IdleWalksAreShort = (n slots : ℕ) (cs : List Provisioned) → AreCircuits n slots cs
     → (d : Side) (q m : ℕ) → q < n → Ends n all_idle cs m (n - 1) (stand q (working_in n cs q (state.Idle tt) d m))
 
--- going round the ring, on either side, meets a node that doesn't pass through
+-- on the way round the ring from any position, either way, there is a node that doesn't pass through
 abbrev pub TheProtectionRingIsOpen : Type 0
 TheProtectionRingIsOpen = (rs : List ℕ) (d : Side) (p : ℕ) → p < length rs
     → (k : ℕ) × (k < length rs) × (is_pass (settled rs (going (length rs) d p (suc k))) ≡ false)
@@ -65,7 +65,7 @@ ALoopedSlotMeetsItsOwnCircuit = (n slots : ℕ) (cs : List Provisioned) → AreC
     → (d : Side) (q m : ℕ) (f : Pos) → q < n → f.0 < n → carries_in n cs q d m (Some f) ≡ true
     → circuit_on n cs (span_at n f.0 (opposite d)) m ≡ circuit_on n cs (span_at n q d) m
 
--- a route has at least one span; at most n - 1 where it isn't switched, at most 2n - 3 where it is
+-- a route has at least one span, at most n - 1 where the circuit's arc is clear, and at most 2n - 3 where it isn't
 abbrev pub RoutesAreShort : Type 0
 RoutesAreShort = (rs : List ℕ) (slots : ℕ) (cs : List Provisioned) → AreCircuits (length rs) slots cs
     → (index : ℕ) (c : Provisioned) → slice_get cs index ≡ Some c → IsShort (length rs) (is_applied rs) c

@@ -56,8 +56,9 @@ WereUnchanged zero now = ⊤
 WereUnchanged (suc k) now =
     (before : Signals) × (needs : List Needs) × ChangesNoWord needs before × (now ≡ free_round needs before) × WereUnchanged k before
 
--- What a ring keeps: the identifiers are those of a ring, each position has a state, words and filters, and each word
--- that was sent has its source in the ring. The last `unchanged` rounds, fewer than all, left the words as they were.
+-- What is true of every ring of signals: the identifiers are those of a ring, each position has a state, words and
+-- filters, and each word that was sent has its source in the ring. The last `unchanged` rounds, fewer than all, left
+-- the words as they were.
 pub record IsRing (ring : Signals) (rounds unchanged : ℕ) : Type 0 where
   pub ids_ok : AreIds ring.ids
   pub states_len : length ring.states ≡ length ring.ids

@@ -24,7 +24,7 @@ use Rattle.sdh_nodestate.specs.Conditions.{MayNeed}
 use Rattle.sdh_nodestate.specs.Words.{IsSourced}
 use Rattle.sdh_restoration.specs.Applied.{span_requests}
 
--- the local request on that side
+-- the local request on a side
 abbrev pub request_on : Needs → Side → Code
 request_on x West = x.west
 request_on x East = x.east
@@ -34,7 +34,7 @@ abbrev pub fails_on : Needs → Side → Bool
 fails_on x West = x.west_fails
 fails_on x East = x.east_fails
 
--- the word that a node sent on that side
+-- the word that a node sent on a side
 abbrev pub sent_on : Sent → Side → K
 sent_on s West = s.west
 sent_on s East = s.east
@@ -57,7 +57,7 @@ pub record Signals : Type 0 where
   -- a round has run
   pub running : Bool
 
--- the words that are on their way: before the first round none was sent
+-- the words that are on their way: those of the round before, and none before the first round
 abbrev pub on_their_way : Signals → List Sent
 on_their_way s = if s.running then s.words else []
 
@@ -73,11 +73,11 @@ filters_after s p x = record {
   east = with_brought (incoming (on_their_way s) (length s.ids) p x East) (get_or s.filters p no_filters).east;
 }
 
--- what is heard, by what three rounds brought
+-- the words that are heard, by what the last three rounds brought
 abbrev pub heard_through : Filters → Heard
 heard_through f = record { west = hears f.west; east = hears f.east }
 
--- position p in the next round: its ring, its needs and what it hears
+-- the scene of the node at position p in the next round: its ring, its needs and what it hears
 unfoldable pub scene_at : Signals → ℕ → Needs → Scene
 scene_at s p x = scene s.ids p x (heard_through (filters_after s p x))
 
@@ -115,7 +115,7 @@ rounds needs zero s = s
 rounds needs (suc t) s = free_round needs (rounds needs t s)
 
 -- A ring of signals with needs for each of its nodes: its identifiers are those of a ring, and the words that were sent
--- have their sources in it. The states are free, since the rules look at no old state.
+-- have their sources in it. Its states may be any, since the rules look at no old state.
 pub record MayGo (needs : List Needs) (s : Signals) : Type 0 where
   pub ids_ok : AreIds s.ids
   pub size : length needs ≡ length s.ids

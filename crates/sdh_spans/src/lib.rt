@@ -51,7 +51,7 @@ pub fn spans_take_words()
     ensures { SpansTakeWords }
 {}
 
-/// Where neither its generator nor the interpreters change, an AU-4 comes over a fibre that isn't cut as it was sent.
+/// An AU-4 arrives as it was sent where the fibre isn't cut, and neither its generator nor the interpreters change.
 pub fn spans_bring()
     ensures { SpansBring }
 {}

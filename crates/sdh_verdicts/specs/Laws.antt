@@ -81,8 +81,8 @@ pub record IsShown (plan : Planned) (case : List Failure) (reports : List PortRe
   pub verdicts : (c : Provisioned) → verdict_of plan case c ≡ verdict_under (length plan.nodes)
       (is_applied (requests_by (ring_of plan) (stretches_by [] (scenes_with plan case) reports) foretold.last.round)) c
 
--- the plan with a case after its script: whatever reports it has show the case, where they come to its end and show
--- what they owe
+-- the reports of the plan with a case after its script show the case, whatever they are, if they come to the script's
+-- end and show what they owe
 abbrev pub CaseIsShown : Planned → List Failure → Type 0
 CaseIsShown plan case = (limit : ℕ) (reports : List Report) → OwesAll (longer_plan plan case limit) reports status.Ok
     → IsShown plan case (map ports_of reports)

@@ -53,7 +53,7 @@ verdict_under n applied c = if is_clear n applied (arc_of n c) then Kept else if
 abbrev pub verdict_of : Planned → List Failure → Provisioned → Verdict
 verdict_of plan case c = verdict_under (length plan.nodes) (is_applied (requests_with plan case)) c
 
--- a span is in trouble: its request is at least a manual switch
+-- a span is in trouble: its request is at least that of a manual switch
 abbrev pub is_troubled : List ℕ → ℕ → Bool
 is_troubled requests s = nat_le (code_number Ms) (slice_index requests s)
 

@@ -7,13 +7,14 @@ pub fn requests_rest()
     ensures { RequestsRest }
 {}
 
-/// Each report that is owed shows what is owed under the requests that follow from its script's changes alone.
+/// Where the reports of a script show what they owe, the requests by which they owe it follow from the script's changes
+/// alone.
 pub fn reports_are_foretold()
     ensures { ReportsAreForetold }
 {}
 
-/// The last report of a script that was run to its end shows what is owed under the requests that follow from all its
-/// changes.
+/// Where a script runs to its end and its reports show what they owe, the requests by which the last one owes it follow
+/// from all the script's changes.
 pub fn last_reports_are_foretold()
     ensures { LastReportsAreForetold }
 {}

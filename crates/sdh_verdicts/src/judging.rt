@@ -43,7 +43,7 @@ pub struct SpanSet {
 }
 
 /// The applied spans of a ring in a case, and the spans in trouble. A span is in trouble where its request is at least
-/// a manual switch.
+/// that of a manual switch.
 #[derive(Clone, Copy)]
 pub struct CaseSpans {
     pub applied: SpanSet,
