@@ -31,6 +31,7 @@ pub record Wish : Type 0 where
   pub trace_a : List ℕ
   pub trace_b : List ℕ
 
+-- the circuit that the code's caller asks for
 abbrev pub wish_of : Asked → Wish
 wish_of asked = record {
   name = asked.name.now;

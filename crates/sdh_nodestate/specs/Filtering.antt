@@ -21,6 +21,7 @@ with_brought word b = record { last = word; second = b.last; third = b.second }
 abbrev pub agreed : K → K → K → Option K
 agreed a b c = if agrees a b && agrees a c then Some a else None
 
+-- the word heard in a round, by what that round and the two before brought
 abbrev pub heard_of : Option K → Option K → Option K → Option K
 heard_of (Some a) (Some b) (Some c) = agreed a b c
 heard_of (Some a) (Some b) None = None

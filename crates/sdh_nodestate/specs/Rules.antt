@@ -80,6 +80,7 @@ is_from_neighbour s d k = is_short k.path && (k.to == own_id s) && (k.from == id
 unfoldable pub short : Scene → Side → Code
 short s d = option_map_or (λ k. if is_from_neighbour s d k then k.code else Nr) (word_on s d) Nr
 
+-- the word k, where its path is long and its code at least WTR
 abbrev pub long_word : K → Option K
 long_word k = if not (is_short k.path) && nat_le 5 (code_number k.code) then Some k else None
 
@@ -105,6 +106,7 @@ weight s d = code_number (stronger s d)
 unfoldable pub relayed : Scene → Side → Option K
 relayed s d = option_map_or (λ k. if (k.to == own_id s) || (k.from == own_id s) then None else Some k) (long s (opposite d)) None
 
+-- the number of a word's code; 0 where there is no word
 abbrev pub weight_of : Option K → ℕ
 weight_of o = option_map_or (λ k. code_number k.code) o 0
 
@@ -156,6 +158,7 @@ one_side false true = Some East
 one_side true true = None
 one_side false false = None
 
+-- the side that the node switches, where it switches exactly one
 abbrev pub switched : Scene → Option Side
 switched s = one_side (switches s West) (switches s East)
 

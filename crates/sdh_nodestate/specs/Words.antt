@@ -39,10 +39,12 @@ pub record HearsSourced (ids : List ℕ) (h : Heard) : Type 0 where
   pub west : IfSome h.west (λ k. IsMember ids k.from)
   pub east : IfSome h.east (λ k. IsMember ids k.from)
 
+-- K1 and K2 can carry the words that a node sends
 pub record SendsSpellable (s : Sent) : Type 0 where
   pub west : IsSpellable s.west
   pub east : IsSpellable s.east
 
+-- K1 and K2 can carry the words that a node hears
 pub record HearsSpellable (h : Heard) : Type 0 where
   pub west : IfSome h.west IsSpellable
   pub east : IfSome h.east IsSpellable

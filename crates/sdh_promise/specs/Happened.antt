@@ -14,6 +14,7 @@ abbrev pub told_by : PortId → Change → List Happening → List Happening
 told_by port (Slip other turn count) history = if same_port port other then told turn count ∷ history else history
 told_by port change history = history
 
+-- the history of a port after these changes, in their order
 abbrev pub told_by_all : PortId → List Change → List Happening → List Happening
 told_by_all port [] history = history
 told_by_all port (x ∷ xs) history = told_by_all port xs (told_by port x history)

@@ -26,6 +26,7 @@ holding_after n p d (Order q e command) h = if fibre q e == fibre p d then recor
 holding_after n p d (Now t) h = record h { moment = t }
 holding_after n p d c h = h
 
+-- what holds on side d of position p in a ring of n after these changes, in their order
 abbrev pub all_holding : ℕ → ℕ → Side → List Change → Holding → Holding
 all_holding n p d [] h = h
 all_holding n p d (c ∷ cs) h = all_holding n p d cs (holding_after n p d c h)

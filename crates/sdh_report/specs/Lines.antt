@@ -24,6 +24,7 @@ own_line line = line ++ codes "\n"
 abbrev pub step_ended : ℕ → ℕ → List ℕ
 step_ended number round = codes "settle " ++ decimal number ++ codes " round " ++ decimal round
 
+-- the line of a settle step that has ended
 abbrev pub settle_line : ℕ → ℕ → List ℕ
 settle_line number round = step_ended number round ++ codes "\n"
 
@@ -68,6 +69,7 @@ chunk_line name end value chunk =
 abbrev pub ais_line : List ℕ → End → List ℕ
 ais_line name end = port_named name end ++ codes " ais\n"
 
+-- the line of a port, by what it delivers; for AIS the pointer value isn't used
 abbrev pub port_line : List ℕ → End → Delivered → ℕ → List ℕ
 port_line name end Ais value = ais_line name end
 port_line name end (Chunk chunk) value = chunk_line name end value chunk
@@ -82,9 +84,11 @@ abbrev pub row_line : List ℕ → List ℕ
 row_line [] = []
 row_line (b ∷ bytes) = hex_of (b ∷ bytes) ++ codes "\n"
 
+-- the lines of the first n rows of a chunk
 abbrev pub chunk_rows : List ℕ → ℕ → List ℕ
 chunk_rows chunk n = flat_map row_line (cells (row chunk) n)
 
+-- the lines of all that a port delivers
 abbrev pub drop_lines : Delivered → List ℕ
 drop_lines Ais = codes "ais\n"
 drop_lines (Chunk chunk) = chunk_rows chunk 9

@@ -31,6 +31,7 @@ pub record Report : Type 0 where
 
 -- ---- its text
 
+-- the line of a port in a report
 abbrev pub told_line : PortLine → List ℕ
 told_line p = port_line p.name p.end p.outlet.delivered p.outlet.value
 

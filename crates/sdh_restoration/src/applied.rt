@@ -38,7 +38,6 @@ pub fn span_request(local: &[LocalRequests], span: Span) -> Code
 }
 
 // Returns the highest number of these requests' codes, 0 where there is no request.
-
 fn highest(requests: &[Code]) -> u8
     ensures { result ≡ highest (map code_number requests.now) }
 {

@@ -28,6 +28,7 @@ pub record Keeps {N : Type 0} (w after : World N) (rounds : ℕ) : Type 0 where
 abbrev pub Appends : Fibres → List (List ℕ) → Fibres → Type 0
 Appends f frames g = g.sent ≡ option_map (λ sent. sent ++ frames) f.sent
 
+-- what a round leaves as it was, and the frames that it appends
 abbrev pub RoundsKeep : {N : Type 0} → Station N → Type 0
 RoundsKeep {N} s =
     (w after : World N) → (r : IsRound s w after) → Keeps w after 1 × Appends w.fibres (frames_with s r.arrivals w) after.fibres
@@ -50,6 +51,7 @@ abbrev pub frames_in : {N : Type 0} → Station N → List (List Arrival) → Wo
 frames_in s [] w = []
 frames_in s (arrivals ∷ later) w = frames_with s arrivals w ++ frames_in s later (round_with s arrivals w)
 
+-- what rounds one after the other leave as it was, and the frames that they append
 abbrev pub RunsKeep : {N : Type 0} → Station N → Type 0
 RunsKeep {N} s =
     (rounds : List (List Arrival)) (w : World N) → Keeps w (run_with s rounds w) (length rounds)
@@ -62,6 +64,7 @@ pub record EndsAtAMultiple {N : Type 0} (r left : HeldRing N) (limit : ℕ) : Ty
   pub multiple : (left.rounds - 1) % 128 ≡ 0
   pub later : 128 < left.rounds
 
+-- in a ring with a node every settle step that ends with a window ends at a multiple of 128
 abbrev pub SettledNumbers : {N : Type 0} → Station N → Type 0
 SettledNumbers {N} s =
     (w left : World N) (limit : ℕ) → 1 ≤ length w.ring.ids → Settles s w limit left → EndsAtAMultiple w.ring left.ring limit

@@ -26,6 +26,7 @@ pub record IsOneRound {N : Type 0} (s : Station N) (exact : Bool) (w : World N) 
   -- where the plant's count is exact: one call failed if the round ended with a fault, and none if it ended with Ok
   pub counted : IsCounted exact (IsErr result) before after
 
+-- what a settle step leaves, by how it ended
 abbrev pub Outcome : {N : Type 0} → Station N → World N → ℕ → Result (Unit {0}) SettleError → World N → Type 0
 Outcome s w limit (Ok u) left = Settles s w limit left
 Outcome s w limit (Err Unsettled) left = Unsettles s w limit left

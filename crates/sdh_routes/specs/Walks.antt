@@ -45,16 +45,20 @@ IsOver (Protection d) = ⊥
 
 -- the connections of the node at q, in a state, with these circuits of a ring of n
 module _ (n : ℕ) (circuits : List Provisioned) (q : ℕ) where
+  -- where side d is switched and this is the far end, the circuit there in slot m may be carried round
   abbrev pub carries_in : Side → ℕ → Option Pos → Bool
   carries_in d m far = may_carry n (position_of q) (circuits_at n circuits q m) d far
 
   module _ (state : NodeState) where
+    -- the origin of what the node takes from side d in working slot m
     abbrev pub stands_in : Side → ℕ → Origin
     stands_in d m = stands_for n (position_of q) (circuits_at n circuits q m) state d
 
+    -- the origin of what leaves on side d in working slot m
     abbrev pub working_in : Side → ℕ → Origin
     working_in d m = leaves_working n (position_of q) (circuits_at n circuits q m) state d
 
+    -- the origin of what leaves on side d in protection slot m
     abbrev pub protection_in : Side → ℕ → Origin
     protection_in d m = leaves_protection n (position_of q) (circuits_at n circuits q m) state d
 

@@ -50,6 +50,7 @@ pub record Settles (needs : List Needs) (s : Signals) : Type 0 where
   pub settled : (t : ℕ) → 4 * length s.ids + 8 ≤ t → (rounds needs t s).states ≡ settled_states (requests_in needs)
   pub words : (t : ℕ) → 5 * length s.ids + 8 ≤ t → (rounds needs (suc t) s).words ≡ (rounds needs t s).words
 
+-- every ring of signals that may go converges
 abbrev pub RingsSettle : Type 0
 RingsSettle = (needs : List Needs) (s : Signals) → MayGo needs s → Settles needs s
 

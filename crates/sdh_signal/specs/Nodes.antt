@@ -20,10 +20,12 @@ filters_with words n p x f = record {
 abbrev pub scene_through : List ℕ → ℕ → Needs → Filters → Scene
 scene_through ids p x f = scene ids p x (heard_through f)
 
+-- the state of the node at position p after a round with these filters: the state before it where the node is held
 abbrev pub next_state : List ℕ → List Filters → List Bool → List NodeState → ℕ → Needs → NodeState
 next_state ids filters held states p x =
     if is_held held p then get_or states p (Idle tt) else state_after (scene_through ids p x (get_or filters p no_filters))
 
+-- the words of the node at position p after a round with these filters: the words before it where the node is held
 abbrev pub next_sent : List ℕ → List Filters → List Bool → List Sent → ℕ → Needs → Sent
 next_sent ids filters held words p x =
     if is_held held p then get_or words p (record { west = unsaid; east = unsaid })

@@ -44,6 +44,7 @@ pub record Filters : Type 0 where
   pub west : Brought
   pub east : Brought
 
+-- filters to which no round has brought a word
 abbrev pub no_filters : Filters
 no_filters = record { west = nothing_brought; east = nothing_brought }
 
@@ -85,12 +86,15 @@ scene_at s p x = scene s.ids p x (heard_through (filters_after s p x))
 abbrev pub is_held : List Bool → ℕ → Bool
 is_held held p = get_or held p false
 
+-- a word in place of one that isn't there
 abbrev pub unsaid : K
 unsaid = record { code = Nr; to = 0; from = 0; path = Short; mark = mark.Idle }
 
+-- the state of the node at position p
 abbrev pub state_in : Signals → ℕ → NodeState
 state_in s p = get_or s.states p (state.Idle tt)
 
+-- the words that the node at position p sent in the last round
 abbrev pub words_in : Signals → ℕ → Sent
 words_in s p = get_or s.words p (record { west = unsaid; east = unsaid })
 

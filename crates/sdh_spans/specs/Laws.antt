@@ -37,6 +37,7 @@ pub record FramesComeThrough : Type 0 where
 
 -- ---- sides
 
+-- every side that sends does so as `SendsSo` says
 abbrev pub SidesSendSo : Type 0
 SidesSendSo = (at : Rate) (input : ℕ → Input) (x : Sending) → IsSenderAt at x → SendsSo at input x
 
@@ -44,9 +45,11 @@ SidesSendSo = (at : Rate) (input : ℕ → Input) (x : Sending) → IsSenderAt a
 abbrev pub InletsStay : Type 0
 InletsStay = (at : Rate) (threshold : ℕ) (i : Inlet) → IsInletAt at i → IsInletAt at (after_taking threshold i)
 
+-- a side that received nothing finds nothing, as `FindsNothing` says
 abbrev pub UntoldSidesFindNothing : Type 0
 UntoldSidesFindNothing = (threshold : ℕ) (i : Inlet) → i.arrived ≡ None → FindsNothing threshold i
 
+-- a side that received what came through a fibre finds what `FindsSo` says
 abbrev pub SidesFindSo : Type 0
 SidesFindSo =
     (at : Rate) (c : Condition) (k : K) (line : List ℕ) (threshold : ℕ) (i : Inlet) → IsTold at c k line i → FindsSo at c k line threshold i
@@ -102,6 +105,7 @@ pub record RestsBehind (reading : ℕ → Reading) (came : ℕ → Input) (k : �
   pub stays : (j : ℕ) → k + 9 ≤ j → reading (suc j) ≡ reading j
   pub comes : IsConstant came (k + 9)
 
+-- after a constant input of its generator a span comes to rest
 abbrev pub SpansAreSteady : Type 0
 SpansAreSteady =
     (cut : Bool) (went came : ℕ → Input) (sending : ℕ → Option ℕ) (reading : ℕ → Reading) (k : ℕ) → GoesBy went sending

@@ -21,6 +21,7 @@ IsFailureIn n (Node at) = at.0 < n
 IsFailureIn n (Manual at side) = at.0 < n
 IsFailureIn n (Forced at side) = at.0 < n
 
+-- the step that gives a condition to the fibre that leaves a position on a side
 abbrev pub condition_step : Condition → Pos → Side → Step
 condition_step c at side = step.Fibre (record { at = at; side = side; condition = c })
 
@@ -51,6 +52,7 @@ case_steps n threshold (failure ∷ others) = steps_of n threshold failure ++ ca
 abbrev pub side_of : ℕ → Side
 side_of number = if number % 2 == 0 then West else East
 
+-- the position of the side that has a number
 abbrev pub half : ℕ → Pos
 half number = record { 0 = number / 2 }
 

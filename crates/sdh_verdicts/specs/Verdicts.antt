@@ -68,6 +68,8 @@ abbrev pub hops_where : Verdict → ℕ → (ℕ → Bool) → Provisioned → �
 hops_where Lost n applied c = 0
 hops_where v n applied c = hops n applied (arc_of n c)
 
+-- the number of spans over which the bytes of a circuit go where these spans are applied; 0 where its ends aren't
+-- joined
 abbrev pub hops_under : ℕ → (ℕ → Bool) → Provisioned → ℕ
 hops_under n applied c = hops_where (verdict_under n applied c) n applied c
 
