@@ -32,6 +32,6 @@ pub record IsFirst (weight : Choice → ℕ) (c : Choice) : Type 0 where
   pub urgent : (other : Choice) → IsAsUrgent (weight c) (weight other)
   pub before : (other : Choice) → 0 < weight other → IsAsUrgent (weight other) (weight c) → place c ≤ place other
 
--- in every scene the word sent on a side is the one that its weights say
+-- in every scene the word sent on a side is the one that comes first by the weights
 abbrev pub FirstWordsAreSent : Type 0
 FirstWordsAreSent = (s : Scene) (d : Side) → IsFirst (weight_on s d) (chosen s d)

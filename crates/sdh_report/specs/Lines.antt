@@ -20,7 +20,7 @@ use Rattle.sdh_report.specs.declared.node_line.NodeLine.{NodeLine}
 abbrev pub own_line : List ℕ → List ℕ
 own_line line = line ++ codes "\n"
 
--- settle step `number` has ended with round `round`
+-- how the lines of a settle step begin: its number and its last round
 abbrev pub step_ended : ℕ → ℕ → List ℕ
 step_ended number round = codes "settle " ++ decimal number ++ codes " round " ++ decimal round
 

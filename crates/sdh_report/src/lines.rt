@@ -53,7 +53,7 @@ impl Text {
         self.put(b"\n");
     }
 
-    // Appends that a settle step has ended, with its number and its last round, and no newline byte.
+    // Appends how the lines of a settle step begin: its number and its last round, with no newline byte.
     fn put_step(&mut self, number: u32, round: u64)
         requires { length (step_ended number round) ≤ self.old.room }
         ensures { self.new ≡ with_part self.old (step_ended number round) }

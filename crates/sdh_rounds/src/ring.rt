@@ -30,7 +30,7 @@ pub struct StationRing<N: Station> {
     circuits: CircuitMap,
     /// The nodes, by position.
     pub nodes: Vec<N>,
-    // The frames that a node receives, and that it sends on each side. All nodes use the same ones in turn.
+    // Room for the frame that a node receives, and for the frames that it sends on its two sides.
     arrived: Landed,
     west: FrameBuf,
     east: FrameBuf,
