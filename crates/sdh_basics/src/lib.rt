@@ -1,3 +1,3 @@
-// Words that several layers cite, over plain numbers and lists: lists by a place, BIP-8, hexadecimal
-// digits and causes of faults. Each is a definition in specs/, with its lemmas in proofs/.
+// Definitions that several layers cite, over plain numbers and lists: lists by a place, BIP-8, hexadecimal digits and
+// causes of faults. They stand in specs/, with their lemmas in proofs/.
 #![tactic(auto)]

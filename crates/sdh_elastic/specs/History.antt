@@ -11,7 +11,7 @@ use Rattle.sdh_elastic.specs.Turns.{given, next_action, is_held, value_after, wo
 abbrev pub fill_by : List Action → List ℕ → ℕ
 fill_by actions lengths = sum lengths - sum_by given actions
 
--- what the turns so far did, by the lengths that they took in
+-- what the turns so far did, by the lengths of the chunks that they took in
 unfoldable pub actions : List ℕ → List Action
 actions [] = []
 actions (n ∷ earlier) = next_action (actions earlier) (fill_by (actions earlier) earlier) ∷ actions earlier
@@ -20,7 +20,7 @@ actions (n ∷ earlier) = next_action (actions earlier) (fill_by (actions earlie
 abbrev pub fill : List ℕ → ℕ
 fill lengths = fill_by (actions lengths) lengths
 
--- no turn of these is a drift
+-- none of these turns is a drift
 abbrev pub lasts : List ℕ → Bool
 lasts [] = true
 lasts (n ∷ earlier) = lasts earlier && is_held (fill (n ∷ earlier))
@@ -34,7 +34,7 @@ abbrev pub taken_in : List (List ℕ) → List ℕ
 taken_in [] = []
 taken_in (chunk ∷ earlier) = taken_in earlier ++ chunk
 
--- how many of them were given
+-- the number of bytes that were given
 abbrev pub count_given : List (List ℕ) → ℕ
 count_given history = sum_by given (actions (lengths history))
 
@@ -42,7 +42,7 @@ count_given history = sum_by given (actions (lengths history))
 abbrev pub held : List (List ℕ) → List ℕ
 held history = drop (count_given history) (taken_in history)
 
--- what the last turn did
+-- what the last turn did, and Ais before the first
 abbrev pub last_action : List (List ℕ) → Action
 last_action [] = action.Ais
 last_action (chunk ∷ earlier) = next_action (actions (lengths earlier)) (fill (lengths earlier))
@@ -57,17 +57,17 @@ abbrev pub given_in_all : List (List ℕ) → List ℕ
 given_in_all [] = []
 given_in_all (chunk ∷ earlier) = given_in_all earlier ++ last_given (chunk ∷ earlier)
 
--- the pointer value after turns that did this, from the first value
+-- the pointer value after turns with these actions, from the first value on
 abbrev pub value_of : ℕ → List Action → ℕ
 value_of first [] = first
 value_of first (a ∷ earlier) = value_after a (value_of first earlier)
 
--- the pointer word of the last turn; all ones before the first
+-- the pointer word of the last of the turns with these actions; all ones before the first
 abbrev pub last_word : ℕ → List Action → ℕ
 last_word first [] = 0xFFFF
 last_word first (a ∷ earlier) = word_for a (value_of first earlier)
 
--- what an interpreter keeps that has read the words of all turns
+-- what an interpreter keeps that has read the words of all turns with these actions
 abbrev pub heard : ℕ → List Action → Reading
 heard first [] = start
 heard first (a ∷ earlier) = after_word (heard first earlier) (last_word first (a ∷ earlier))

@@ -1,15 +1,16 @@
 -- Where the bytes held lie among the last three chunks taken in.
 use Rattle.std.specs.Prelude.{◌≡◌, ℕ, ◌+◌, ◌≤◌, ◌⊎◌, List, [], ◌∷◌, length}
 
--- three chunks; the first `given` bytes of them were given
+-- the last three chunks, of whose bytes the first `given` were given
 pub record AreKept (a b c : List ℕ) (given : ℕ) : Type 0 where
-  -- the oldest chunk is given
+  -- all bytes of the oldest chunk are given
   pub oldest : length a ≤ given
   pub there : given ≤ length a + (length b + length c)
   pub few : (length b ≤ 2352) × (length c ≤ 2352)
-  -- no chunk but the first came alone
+  -- the second chunk is empty, or the third one is a whole chunk
   pub whole : (length b ≡ 0) ⊎ (2346 ≤ length c)
 
+-- these are the last three chunks, of whose bytes the first `given` were given
 abbrev pub IsKept : List (List ℕ) → ℕ → Type 0
 IsKept (a ∷ b ∷ c ∷ []) given = AreKept a b c given
 IsKept chunks given = ⊥

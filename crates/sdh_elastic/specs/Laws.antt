@@ -6,7 +6,7 @@ use Rattle.sdh_elastic.specs.Turns.{next_action, IsChunk}
 use Rattle.sdh_elastic.specs.Lengths.{is_steady}
 use Rattle.sdh_elastic.specs.History.{actions, fill, lasts, lengths, taken_in, held, given_in_all, last_word, heard}
 
--- the bytes given are the front of the bytes taken in, and the rest is held
+-- the bytes given so far are the first ones of all bytes taken in, in their order, and the rest is held
 abbrev pub GivenIsAFront : Type 0
 GivenIsAFront = (past : List (List ℕ)) → lasts (lengths past) ≡ true → given_in_all past ++ held past ≡ taken_in past
 
@@ -16,7 +16,7 @@ SteadyRunsLast =
     (past : List (List ℕ)) → All (λ (chunk : List ℕ). IsChunk (length chunk)) past → is_steady (lengths past) ≡ true
     → lasts (lengths past) ≡ true
 
--- an interpreter that has read the words of all turns so far answers the next word by what its turn does
+-- an interpreter that has read the words of all turns so far answers the next word with what its turn does
 abbrev pub WordsTellActions : Type 0
 WordsTellActions =
     (first n : ℕ) (earlier : List ℕ) → first ≤ 782

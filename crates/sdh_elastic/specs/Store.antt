@@ -16,7 +16,7 @@ use Rattle.sdh_elastic.specs.History as history
 pub record Store : Type 0 where
   -- the bytes held, the first to be given first
   pub held : List ℕ
-  -- which turn is next, or how many ran after turn 2 and the last justification
+  -- which turn is next, or how many ran since the last one that was turn 2 or a justification
   pub stage : Stage
   -- the pointer value
   pub value : ℕ
@@ -33,7 +33,7 @@ empty value = record { held = []; stage = First; value = value; word = 0xFFFF; l
 
 -- ---- stages
 
--- which stage follows turns that did this
+-- the stage after turns with these actions
 abbrev pub stage_of : List Action → Stage
 stage_of [] = First
 stage_of (a ∷ []) = Second
@@ -49,7 +49,7 @@ action_in OneLater fill = action.Normal
 action_in TwoLater fill = action.Normal
 action_in Free fill = justified fill
 
--- the stage after it
+-- the stage after a turn with this action
 abbrev pub stage_after : Stage → Action → Stage
 stage_after First a = Second
 stage_after Second a = Moved
@@ -60,6 +60,7 @@ stage_after Free a = if moves a then Moved else Free
 
 -- ---- a turn
 
+-- what the next turn of a store does
 abbrev pub action_at : Store → Action
 action_at s = action_in s.stage (length s.held)
 
@@ -67,10 +68,11 @@ action_at s = action_in s.stage (length s.held)
 abbrev pub fill_after : Store → ℕ → ℕ
 fill_after s n = length s.held + n - given (action_at s)
 
--- the bytes that it gives, and what is held then
+-- the bytes that the next turn gives, where it takes this chunk in
 abbrev pub given_at : Store → List ℕ → List ℕ
 given_at s input = take (given (action_at s)) (s.held ++ input)
 
+-- the store after the next turn, where it takes this chunk in
 unfoldable pub after_turn : Store → List ℕ → Store
 after_turn s input = record {
   held = drop (given (action_at s)) (s.held ++ input);
@@ -83,7 +85,7 @@ after_turn s input = record {
 
 -- ---- histories
 
--- what is kept of a history, from the first pointer value
+-- what a store keeps of a history, from the first pointer value on
 unfoldable pub store_of : ℕ → List (List ℕ) → Store
 store_of first past = record {
   held = history.held past;
@@ -94,12 +96,12 @@ store_of first past = record {
   steady = is_steady (history.lengths past);
 }
 
--- a store has come to this by a history without drifts
+-- a store keeps this after a history without drifts, from the first pointer value on
 pub record CameBy (first : ℕ) (past : List (List ℕ)) (s : Store) : Type 0 where
   pub lasts : history.lasts (history.lengths past) ≡ true
   pub kept : s ≡ store_of first past
 
--- a turn that took this chunk in is the next one of a history: it gave these bytes and did this
+-- a turn that took this chunk in goes on with a history: it gave the bytes `out` and did `a`
 pub record GoesOn (first : ℕ) (past : List (List ℕ)) (chunk out : List ℕ) (a : Action) (s : Store) : Type 0 where
   pub store : CameBy first (chunk ∷ past) s
   pub bytes : out ≡ history.last_given (chunk ∷ past)
@@ -107,6 +109,7 @@ pub record GoesOn (first : ℕ) (past : List (List ℕ)) (chunk out : List ℕ) 
 
 -- ---- what an interpreter keeps that has read all words so far
 
+-- what an interpreter that has read all words so far keeps in this stage
 unfoldable pub reading_in : Stage → ℕ → Reading
 reading_in First value = start
 reading_in Second value = start
@@ -115,21 +118,22 @@ reading_in OneLater value = settled mode.Norm value 1
 reading_in TwoLater value = settled mode.Norm value 2
 reading_in Free value = settled mode.Norm value 3
 
+-- what an interpreter that has read all words of a store so far keeps
 abbrev pub reading_of : Store → Reading
 reading_of s = reading_in s.stage s.value
 
 -- ---- bounds
 
--- Every chunk of the last three is one.
+-- each of the last lengths is that of a chunk
 abbrev pub AreChunks : Lengths → Type 0
 AreChunks Empty = Unit {0}
 AreChunks (One a) = IsChunk a
 AreChunks (Two a b) = IsChunk a × IsChunk b
 AreChunks (Three a b c) = IsChunk a × IsChunk b × IsChunk c
 
--- how far the fill of a steady run can be from a frame's bytes. After turn 2 and each justification it is the length of the
--- last chunk, three more or fewer; the next three turns add what their chunks have more or fewer than a frame; and after
--- four turns in a row these are three at most.
+-- How far the fill of a steady run can be from a frame's 2349 bytes. After turn 2, and after a justification, it is at
+-- most three bytes from the length of the last chunk. In the next turns each chunk moves it by as much as its length
+-- differs from 2349. Over four turns in a row these differences come to three bytes at most.
 abbrev pub IsNear : Stage → Lengths → ℕ → Type 0
 IsNear First Empty fill = fill ≡ 0
 IsNear Second (One a) fill = fill ≡ a
@@ -140,7 +144,7 @@ IsNear TwoLater (Three a b c) fill = (fill + 4698 ≤ a + b + c + 3) × (a + b +
 IsNear Free (Three a b c) fill = (2343 ≤ fill) × (fill ≤ 2355)
 IsNear stage lengths fill = ⊥
 
--- how many lengths there are in a stage, and the bytes held
+-- what holds in a stage: how many lengths are kept, and how many bytes are held
 abbrev pub IsAt : Stage → Lengths → ℕ → Type 0
 IsAt First Empty fill = fill ≡ 0
 IsAt Second (One a) fill = fill ≡ a
@@ -151,6 +155,7 @@ IsAt TwoLater (Three a b c) fill = (2340 ≤ fill) × (fill ≤ 2358)
 IsAt Free (Three a b c) fill = (2340 ≤ fill) × (fill ≤ 2358)
 IsAt stage lengths fill = ⊥
 
+-- what is true of every store
 pub record IsBounded (s : Store) : Type 0 where
   pub at : IsAt s.stage s.lengths (length s.held)
   pub chunks : AreChunks s.lengths

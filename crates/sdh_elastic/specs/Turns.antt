@@ -10,8 +10,8 @@ use Rattle.sdh_pointer.specs.Words.{word_of, one_up, one_down}
 abbrev pub IsChunk : ℕ → Type 0
 IsChunk length = (2346 ≤ length) × (length ≤ 2352)
 
--- how many bytes a turn gives: none in turn 1, then a frame's payload; three fewer at a positive justification, three
--- more at a negative one
+-- how many bytes a turn with this action gives: none in turn 1, then a frame's payload; three fewer at a positive
+-- justification, three more at a negative one
 abbrev pub given : Action → ℕ
 given Ais = 0
 given New = 2349
@@ -19,7 +19,8 @@ given Normal = 2349
 given Up = 2346
 given Down = 2352
 
--- turn 2 and justifications, after which three turns must pass before the next justification
+-- whether a turn with this action is turn 2 or a justification; three turns must pass after it before the next
+-- justification
 abbrev pub moves : Action → Bool
 moves New = true
 moves Up = true

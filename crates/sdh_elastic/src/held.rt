@@ -11,7 +11,8 @@ use std::marker::Model;
 /// The number of chunks that are kept: two whose bytes are held, and the one whose room the next chunk takes.
 const KEPT: usize = 3;
 
-/// The bytes held, the first to be given first. They lie in the last chunks that were taken in, so that bytes come and go in runs.
+/// The bytes held, those to be given first at the front. They lie in the last three chunks that were taken in, so that
+/// they are copied in runs.
 #[derive(Debug, Drop)]
 pub(crate) struct Held {
     chunks: HeapCircularBuffer<Cells>,
@@ -57,8 +58,8 @@ fn chunk_at(chunks: &HeapCircularBuffer<Cells>, index: usize) -> &[u8]
     chunks.get(index).unwrap().as_slice()
 }
 
-// Adds up to `left` bytes of a chunk after its first `skip`. Returns how many bytes of later chunks are still to be
-// passed over, and to be given.
+// Adds to `out` up to `left` bytes of a chunk, after its first `skip`. Returns how many bytes of the later chunks are
+// still to be skipped, and how many are still to be given.
 fn give_part(chunk: &[u8], skip: usize, left: usize, out: &mut Cells) -> (usize, usize)
     requires few { length out.old + left ≤ 2352 }
     ensures given { out.new ≡ out.old ++ take left (drop skip chunk.now) }
@@ -114,7 +115,7 @@ impl Held {
         self.len
     }
 
-    /// Takes a chunk in, and moves the first bytes to `out`.
+    /// Takes a chunk in, and moves the first `count` bytes held to `out`, in place of what that held.
     pub(crate) fn take_and_give(&mut self, input: &[u8], count: usize, out: &mut Cells)
         requires least { 2346 ≤ length input.now }
         requires most { length input.now ≤ 2352 }

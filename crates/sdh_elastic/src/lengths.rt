@@ -18,7 +18,7 @@ pub enum Lengths {
 }
 
 impl Lengths {
-    /// Returns the last three, after one more chunk of this length.
+    /// Returns the lengths of the last three chunks after one more chunk of this length.
     pub(crate) fn with(self, length: u16) -> Lengths
         ensures { result ≡ with_length length self }
     {

@@ -5,16 +5,16 @@ ghost use Rattle.sdh_elastic.specs.Store.{action_in, stage_after};
 
 use sdh_pointer::{Action, Form, Word, word_of};
 
-/// The bytes of a frame's payload.
+/// The number of bytes of an AU-4's payload in a frame.
 const FRAME: usize = 2349;
 
-/// The bytes of a step of the pointer.
+/// The number of bytes of a step of the pointer.
 const STEP: usize = 3;
 
 /// The number of pointer values.
 const VALUES: u16 = 783;
 
-/// Which turn of a store is next, or how many turns ran after turn 2 and the last justification.
+/// Which turn of a store is next, or how many turns ran since the last one that was turn 2 or a justification.
 #[derive(Clone, Copy, Debug, PartialEq, Eq)]
 pub enum Stage {
     /// Turn 1 is next.
@@ -23,15 +23,16 @@ pub enum Stage {
     Second,
     /// The last turn was turn 2 or a justification.
     Moved,
-    /// One turn ran after turn 2 and the last justification.
+    /// One turn ran since the last one that was turn 2 or a justification.
     OneLater,
-    /// Two turns did.
+    /// Two turns ran since the last one that was turn 2 or a justification.
     TwoLater,
-    /// At least three did, and the next turn may justify.
+    /// At least three turns ran since the last one that was turn 2 or a justification, and the next turn may justify.
     Free,
 }
 
-// Returns what a turn that may justify does: it gives more where much is held, and less where little is.
+// Returns what a turn that may justify does, by the number of bytes held before it. From 2352 on it gives three bytes
+// more (Down), up to 2346 it gives three fewer (Up), and otherwise it doesn't justify.
 fn justified(fill: usize) -> Action
     ensures { result ≡ justified fill }
 {
@@ -57,7 +58,7 @@ impl Stage {
         }
     }
 
-    /// Returns the stage after a turn that did this.
+    /// Returns the stage after a turn with this action.
     pub(crate) fn after(self, action: Action) -> Stage
         ensures { result ≡ stage_after self action }
     {
@@ -73,7 +74,7 @@ impl Stage {
     }
 }
 
-/// Returns how many bytes a turn gives.
+/// Returns how many bytes a turn with this action gives.
 pub(crate) fn given(action: Action) -> usize
     ensures count { result ≡ given action }
     ensures few { result ≤ 2352 }
@@ -86,7 +87,7 @@ pub(crate) fn given(action: Action) -> usize
     }
 }
 
-/// Returns the pointer value after a turn.
+/// Returns the pointer value after a turn with this action, by the value before it.
 #[tactic(auto, unfolding(crate::specs::Turns::value_after))]
 pub(crate) fn value_after(action: Action, value: u16) -> u16
     requires { value ≤ 782 }
@@ -100,7 +101,7 @@ pub(crate) fn value_after(action: Action, value: u16) -> u16
     }
 }
 
-/// Returns the pointer word of a turn, by the value before it.
+/// Returns the pointer word of a turn with this action, by the value before it.
 #[tactic(auto, unfolding(crate::specs::Turns::word_for))]
 pub(crate) fn word_for(action: Action, value: u16) -> Word
     requires { value ≤ 782 }

@@ -22,7 +22,7 @@ const LEAST: usize = 2340;
 
 const MOST: usize = 2358;
 
-/// Fewer or more bytes would be held after a turn than a store holds.
+/// After the turn fewer than 2340 or more than 2358 bytes would be held. The turn was refused.
 #[derive(Clone, Copy, Debug, PartialEq, Eq, Error)]
 #[error("the elastic store would hold fewer than 2340 or more than 2358 bytes")]
 pub struct Drift;
@@ -59,8 +59,8 @@ impl Course {
     }
 }
 
-/// A store that takes a chunk in each turn and gives a frame's bytes from the second on. Its value in clauses is what it
-/// keeps of its history.
+/// An elastic store. In each turn it takes in one chunk, and from the second turn on it gives the bytes of a frame. In
+/// clauses its value is what it keeps of its history.
 #[derive(Debug, Drop)]
 pub struct Elastic {
     held: Held,
@@ -95,8 +95,9 @@ impl Elastic {
         Ok(Elastic { held, course })
     }
 
-    /// Takes a chunk in, and gives the bytes of a frame to `out`, in place of what that held: none in turn 1, and then
-    /// 2346, 2349 or 2352. The answer is what the turn does to the pointer.
+    /// Takes in a chunk of 2346 to 2352 bytes, and puts the bytes of a frame into `out`, in place of what that held:
+    /// none in turn 1, and then 2346, 2349 or 2352. Returns what the turn does to the pointer. With `Drift` the store
+    /// and `out` stay as they were.
     pub fn turn(&mut self, input: &[u8], out: &mut Cells) -> Result<Action, Drift>
         requires { IsChunk (length input.now) }
         // What a turn does, by what is kept and by the whole history.
@@ -108,7 +109,7 @@ impl Elastic {
         ensures heard { IfOk result (λ a. (action_on (reading_of self.old) self.new.word ≡ a)
             × (after_word (reading_of self.old) self.new.word ≡ reading_of self.new)) }
 
-        // When it is a drift.
+        // When a turn is a drift.
         ensures drift { IsErr result ↔ ((fill_after self.old (length input.now) < 2340) ⊎ (2358 < fill_after self.old (length input.now))) }
         ensures err { OnErr result ((self.new ≡ self.old) × (out.new ≡ out.old)) }
         ensures history_err { OnErr result
@@ -144,7 +145,7 @@ impl Elastic {
         self.held.len()
     }
 
-    /// Returns whether each four turns in a row so far took in between 9393 and 9399 bytes.
+    /// Returns whether each four turns in a row so far took in 9393 to 9399 bytes.
     pub fn is_steady(&self) -> bool
         ensures kept { result ≡ self.now.steady }
         ensures history { (first : ℕ) (past : List (List ℕ)) → CameBy first past self.now → result ≡ is_steady (lengths past) }

@@ -1,5 +1,5 @@
--- A frame that is put together: the payload of each AU-4 is another AU-4's, is a port's, or is ones, and its pointer bytes
--- are given.
+-- A frame that is put together. The payload of each AU-4 is that of another AU-4 or of a port, or is ones. Its pointer
+-- bytes are given.
 use Rattle.std.specs.Prelude.{ℕ, ◌≡◌, ◌*◌, ◌-◌, List, [], length, take, drop, slice_range, slice_index_or, replicate}
 use Rattle.sdh_terms.specs.declared.Rate.{Rate}
 use Rattle.sdh_basics.specs.Indexed.{map_from}

@@ -9,7 +9,8 @@ use Rattle.sdh_frame.specs.Aus.{Au, au_of, with_aus, ones}
 abbrev pub payload_in : ℕ → List (List ℕ) → List ℕ
 payload_in k own = slice_index_or own (k - 1) []
 
--- the AU-4 that a source stands for: one of the first frame, one of the second, a payload with pointer bytes of zeros, or ones
+-- the AU-4 that a source stands for: one of the first frame, one of the second, a payload with pointer bytes of zeros,
+-- or ones
 abbrev pub au_from : ℕ → List ℕ → List ℕ → List (List ℕ) → Source → Au
 au_from n first second own (First au) = au_of n au first
 au_from n first second own (Second au) = au_of n au second
@@ -40,14 +41,14 @@ own_byte n own i =
     if nat_le (9 * n) (i % (270 * n)) then slice_index (slice_index_or own (i % n) []) (261 * (i / (270 * n)) + (i % (270 * n) - 9 * n) / n)
     else 0
 
--- byte i of an AU-4 from a source
+-- byte i of a frame, where it is of an AU-4 from this source
 abbrev pub picked : ℕ → Source → List ℕ → List ℕ → List (List ℕ) → ℕ → ℕ
 picked n (First au) first second own i = slice_index first (i - i % n + (au - 1))
 picked n (Second au) first second own i = slice_index second (i - i % n + (au - 1))
 picked n (Own k) first second own i = own_byte n own (i - i % n + (k - 1))
 picked n Ones first second own i = 0xFF
 
--- a byte of a row by the sources of all AU-4s
+-- byte i of a frame, where it is of an AU-4, by the sources of all AU-4s
 abbrev pub picked_at : ℕ → List Source → List ℕ → List ℕ → List (List ℕ) → ℕ → ℕ
 picked_at n sources first second own i = picked n (slice_index_or sources (i % n) Ones) first second own i
 

@@ -5,7 +5,8 @@ use Rattle.sdh_interchange.specs.declared.choose.Source.TheVariants.{First, Seco
 use Rattle.sdh_interchange.specs.declared.lanes.Lanes.{Lanes}
 use Rattle.sdh_interchange.specs.Choosing.{own_byte, picked_at}
 
--- lane j reads the first frame at lane a, the second at b, where 128 is none, keeps the bits c of the payloads' lane, and adds o
+-- Lane j reads lane a of the first frame and lane b of the second, where 128 is none. It keeps the bits c of its own
+-- lane of the payloads, and sets the bits o itself.
 abbrev pub IsLane : ℕ → Source → ℕ → ℕ → ℕ → ℕ → ℕ → Type 0
 IsLane n (First au) j a b c o = (a ≡ j - j % n + (au - 1)) × (a < 16) × (b ≡ 128) × (c ≡ 0) × (o ≡ 0)
 IsLane n (Second au) j a b c o = (b ≡ j - j % n + (au - 1)) × (b < 16) × (a ≡ 128) × (c ≡ 0) × (o ≡ 0)
@@ -23,26 +24,26 @@ pub record AreLanes (n : ℕ) (sources : List Source) (lanes : Lanes) : Type 0 w
   pub few : (2 * lanes.upto ≡ n) ⊎ (lanes.upto ≡ n)
   pub below : (j : ℕ) → j < 16 → 1 ≤ slice_index lanes.own j → j % n < lanes.upto
 
--- what byte i gets besides the bytes of the two frames
+-- x is what byte i gets besides the bytes of the two frames
 abbrev pub IsExtra : ℕ → Source → List (List ℕ) → ℕ → ℕ → Type 0
 IsExtra n (First au) own i x = x ≡ 0
 IsExtra n (Second au) own i x = x ≡ 0
 IsExtra n (Own k) own i x = x ≡ own_byte n own (i - i % n + (k - 1))
 IsExtra n Ones own i x = x ≡ 0xFF
 
--- a vector of it for the sixteen bytes from a place on
+-- a vector of what the sixteen bytes from place `at` on get besides the bytes of the two frames
 pub record AreExtra (n : ℕ) (sources : List Source) (own : List (List ℕ)) (at : ℕ) (extra : List ℕ) : Type 0 where
   pub long : length extra ≡ 16
   pub each : (j : ℕ) → j < 16 → IsExtra n (slice_index_or sources (j % n) Ones) own (at + j) (slice_index extra j)
 
--- no payload is wanted at this byte, or its byte is zero
+-- byte i is of no own payload, or the byte of an own AU-4 there is zero
 abbrev pub IsPlain : ℕ → Source → List (List ℕ) → ℕ → Type 0
 IsPlain n (First au) own i = Unit {0}
 IsPlain n (Second au) own i = Unit {0}
 IsPlain n (Own k) own i = own_byte n own (i - i % n + (k - 1)) ≡ 0
 IsPlain n Ones own i = Unit {0}
 
--- a vector of the bytes from a place on, by their sources
+-- a vector of the sixteen bytes from place `at` on, by their sources
 pub record ArePicked (n : ℕ) (sources : List Source) (first second : List ℕ) (own : List (List ℕ)) (at : ℕ) (all : List ℕ) : Type 0 where
   pub long : length all ≡ 16
   pub each : (j : ℕ) → j < 16 → slice_index all j ≡ picked_at n sources first second own (at + j)

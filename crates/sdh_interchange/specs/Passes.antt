@@ -6,7 +6,8 @@ use Rattle.sdh_interchange.specs.Choosing.{AreSources, is_passed, is_own, own_by
 use Rattle.sdh_interchange.specs.Lanes.{AreLanes}
 use Rattle.sdh_interchange.specs.Tables.{cell}
 
--- two whole frames of N AU-4s, a source for each AU-4, and what was worked out of those
+-- what is true of every pass: it has two whole frames of N AU-4s, a source for each AU-4, and what was worked out of
+-- the sources
 pub record IsPass (n : ℕ) (pass : Pass n) : Type 0 where
   pub rate : (n ≡ 4) ⊎ (n ≡ 16)
   pub first : length pass.inputs.now.first.now ≡ 2430 * n
@@ -20,7 +21,7 @@ pub record IsPass (n : ℕ) (pass : Pass n) : Type 0 where
 abbrev pub byte_by_source : (n : ℕ) → Pass n → ℕ → ℕ
 byte_by_source n pass i = picked_at n pass.sources.now pass.inputs.now.first.now pass.inputs.now.second.now pass.inputs.now.own.now i
 
--- the bytes from a place on, up to another, are by their sources, and all others stay
+-- the bytes from `from` on and before `to` are by their sources, and all others stay
 pub record HasPassed (n : ℕ) (pass : Pass n) (from to : ℕ) (old new : List ℕ) : Type 0 where
   pub before : (i : ℕ) → i < from → slice_index new i ≡ slice_index old i
   pub inside : (i : ℕ) → from ≤ i → i < to → slice_index new i ≡ byte_by_source n pass i

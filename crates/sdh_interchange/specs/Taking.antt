@@ -20,7 +20,8 @@ pub record KeepsOthers (from count : ℕ) (old new : List (List ℕ)) : Type 0 w
   pub lengths : (a : ℕ) → length (slice_index_or new a []) ≡ length (slice_index_or old a [])
   pub others : (a : ℕ) → (a < from) ⊎ (from + count ≤ a) → slice_index_or new a [] ≡ slice_index_or old a []
 
--- the bytes of half of the payloads from one on, up to another, have been taken out of a frame of N AU-4s, and none before
+-- Of the N / 2 payloads after the first `base`, the bytes from `from` on and before `to` have been taken out of a frame
+-- of N AU-4s. Their bytes before `from`, and all other cells, are as they were.
 pub record HasTaken (n base from to : ℕ) (bytes : List ℕ) (old new : List (List ℕ)) : Type 0 where
   pub before : (a j : ℕ) → a < n / 2 → j < from → cell new (base + a) j ≡ cell old (base + a) j
   pub inside : (a j : ℕ) → a < n / 2 → from ≤ j → j < to → cell new (base + a) j
@@ -30,21 +31,21 @@ pub record HasTaken (n base from to : ℕ) (bytes : List ℕ) (old new : List (L
 -- ---- what has been taken
 
 pub record Held : Type 0 where
-  -- N / 2
+  -- N / 2, the number of AU-4s in a half
   pub half : ℕ
-  -- by the number of the AU-4, less one: whether its payload stands here, and the bytes
+  -- by the number of the AU-4, less one: whether its payload is held, and the bytes
   pub here : List Bool
   pub payloads : List (List ℕ)
 
--- before the first frame: no payload stands here, and no bytes
+-- what is held before the first frame: no payload
 abbrev pub none_taken : Held
 none_taken = record { half = 0; here = replicate 16 false; payloads = replicate 16 [] }
 
--- whether the payload of an AU-4 stands here
+-- whether the payload of an AU-4 is held
 abbrev pub has : Held → ℕ → Bool
 has held au = slice_index_or held.here (au - 1) false
 
--- what stands here is this frame's
+-- the payloads that are held are this frame's
 pub record IsOf (frame : Frame) (held : Held) : Type 0 where
   pub rate : 2 * held.half ≡ n_of frame.rate
   pub each : (au : ℕ) → 1 ≤ au → au ≤ 2 * held.half → has held au ≡ true

@@ -1,4 +1,4 @@
-//! A frame is put together, row by row, from the AU-4s of two others and from payloads of its own.
+//! Putting a frame together, row by row, from the AU-4s of two other frames and from payloads of a node's own ports.
 ghost use Rattle.std.specs.Prelude.{◌≡◌, ℕ, ◌+◌, ◌%◌, ◌<◌, ◌≤◌, [], length, slice_index, slice_index_or};
 ghost use Rattle.sdh_frame.specs.Sizes.{size_of};
 ghost use Rattle.sdh_terms.specs.Rates.{n_of};
@@ -10,7 +10,7 @@ use crate::own::Payloads;
 use crate::pass::Inputs;
 use sdh_frame::FrameBuf;
 
-// Sets the pointer bytes of all AU-4s.
+// Sets the pointer bytes of all AU-4s, in the order of their numbers.
 fn point_all(frame: &mut FrameBuf, pointers: &[[u8; 9]])
     requires len { length pointers.now ≡ n_of frame.old.rate }
     requires few { n_of frame.old.rate ≤ 16 }
@@ -25,8 +25,8 @@ fn point_all(frame: &mut FrameBuf, pointers: &[[u8; 9]])
     }
 }
 
-/// Sets a row, 1 to 9, of all AU-4s to the payloads of its sources, and row 4 to these pointer bytes too. Overhead and
-/// all other rows stay.
+/// Sets a row, 1 to 9, of the payloads of all AU-4s to that of their sources. In row 4 it sets the pointer bytes too.
+/// Overhead and all other rows stay.
 pub fn assemble_row(
     frame: &mut FrameBuf,
     row: u16,
@@ -47,7 +47,7 @@ pub fn assemble_row(
         (with_aus n 1 (assembled n first.now.bytes second.now.bytes own.now choice.now.sources pointers.now) frame.old.bytes)
         frame.old.bytes frame.new.bytes }
 {
-    // Reading it gives the proof what is true of every frame.
+    // Reading the rate gives the prover the frame's invariant.
     let _ = frame.rate();
     let r = row as usize - 1;
     let first = first.bytes();

@@ -14,7 +14,8 @@ use sdh_terms::Rate;
 use std::fmt;
 use std::marker::Model;
 
-/// Where the AU-4s of a frame come from, in the order of their numbers, with what the pass over each row needs of it.
+/// The sources of the AU-4s of a frame, in the order of their numbers, with what the pass over each row needs to know
+/// of them.
 #[derive(Drop)]
 pub struct Choice<'a> {
     rate: Rate,
@@ -50,7 +51,7 @@ impl<'a> fmt::Debug for Choice<'a> {
     }
 }
 
-// Returns the lanes: code of its own for each rate, in which N is a constant.
+// Returns the lanes, by the code that is compiled for the rate, with N as a constant.
 fn lanes_at(rate: Rate, sources: &[Source]) -> Lanes
     requires { AreSources (n_of rate) sources.now }
     ensures { AreLanes (n_of rate) sources.now result }
@@ -76,7 +77,7 @@ impl<'a> Choice<'a> {
         }
     }
 
-    // Returns the pass over these inputs.
+    // Returns the pass by this choice over these inputs.
     #[inline(always)]
     fn pass<'b, const N: usize>(&'b self, inputs: &'b Inputs<'b>) -> Pass<'b, N>
         requires rate { n_of self.now.rate ≡ N }
@@ -95,8 +96,8 @@ impl<'a> Choice<'a> {
         }
     }
 
-    // Sets a row of the AU-4s, counted from 0, to that of their sources; all else stays. Each rate has code of its own,
-    // in which N is a constant.
+    // Sets a row of the AU-4s, counted from 0, to that of their sources, and leaves all else. It runs the code that is
+    // compiled for the rate, with N as a constant.
     pub(crate) fn choose_row(&self, bytes: &mut [u8], r: usize, inputs: &Inputs<'_>)
         requires row { r < 9 }
         requires size { length bytes.old ≡ size_of self.now.rate }

@@ -10,9 +10,9 @@ pub enum Source {
     First(u16),
     /// The AU-4 of this number of the second frame.
     Second(u16),
-    /// The own payload for the AU-4 of this number, which is its place.
+    /// The payload of a node's own port for the AU-4 of this number, which has to be the AU-4's own number.
     Own(u16),
-    /// None: it becomes ones.
+    /// No source: the AU-4 becomes ones.
     Ones,
 }
 

@@ -1,4 +1,4 @@
-//! Columns of payloads: sixteen bytes of each become vectors over whole columns of a frame.
+//! Payloads as columns: sixteen bytes of each payload become vectors over whole columns of a frame.
 ghost use Rattle.std.specs.Prelude.{◌≡◌, ℕ, ◌+◌, ◌*◌, ◌/◌, ◌%◌, ◌<◌, ◌≤◌, ◌⊎◌};
 ghost use Rattle.sdh_interchange.specs.Tables.{cell, IsTable};
 
@@ -6,7 +6,8 @@ use crate::own::Payloads;
 use crate::table::{apart, spread, transpose, transpose4, transpose8};
 use std::simd::prelude::*;
 
-// Returns the first byte of a column, counted from 0 through all rows.
+// Returns the index in a frame of the first byte of a column. A column has N bytes, and columns are counted from 0
+// through all rows.
 #[inline(always)]
 pub(crate) fn byte_of<const N: usize>(column: usize) -> usize
     requires rate { (N ≡ 4) ⊎ (N ≡ 16) }
@@ -32,8 +33,8 @@ fn rows_of<const A: usize>(own: &Payloads, from: usize) -> [u8x16; A]
     rows
 }
 
-// Returns sixteen vectors of one column each at STM-16, as far as payloads below `upto` are read. The other lanes mean
-// nothing.
+// Returns, for STM-16, sixteen vectors of one column each, with the bytes of the first `upto` payloads. The lanes of
+// other payloads mean nothing.
 #[inline(always)]
 pub(crate) fn columns16(own: &Payloads, from: usize, upto: usize) -> [u8x16; 16]
     requires room { from + 16 ≤ 2349 }
@@ -48,7 +49,8 @@ pub(crate) fn columns16(own: &Payloads, from: usize, upto: usize) -> [u8x16; 16]
     }
 }
 
-// Returns four vectors of four columns each at STM-4.
+// Returns, for STM-4, four vectors of four columns each, with the bytes of the first `upto` payloads. The lanes of
+// other payloads mean nothing.
 #[inline(always)]
 pub(crate) fn columns4(own: &Payloads, from: usize, upto: usize) -> [u8x16; 4]
     requires room { from + 16 ≤ 2349 }

@@ -1,14 +1,15 @@
-//! Lanes of vectors over whole columns. The bytes of the N AU-4s of a frame take turns, so sixteen neighbouring bytes
-//! are one column of all AU-4s (STM-16) or four (STM-4). A lane of such a vector reads the same lane, or another one,
-//! of the vector at the same place in its source.
+//! Lanes of vectors over whole columns. The AU-4s of a frame are interleaved byte by byte, so sixteen neighbouring
+//! bytes are one column of all AU-4s (STM-16) or four columns (STM-4). A lane of such a vector reads the same lane, or
+//! another one, of the vector at the same place in its source.
 ghost use Rattle.std.specs.Prelude.{◌≡◌, ℕ, ◌+◌, ◌*◌, ◌%◌, ◌<◌, ◌≤◌, ◌⊎◌, length, slice_index};
 ghost use Rattle.sdh_interchange.specs.Choosing.{IsSource, AreSources};
 ghost use Rattle.sdh_interchange.specs.Lanes.{IsLane, AreLanes};
 
 use crate::choose::Source;
 
-// Which lane each lane reads in either frame, 128 for none, which bits of its own lane of the payloads it keeps, and
-// what it adds. None keeps any of the payloads after the first `upto`.
+// For each lane of a vector: the lanes that it reads in the first frame and in the second, 128 for none; the bits that
+// it keeps of the same lane of the payloads; and the bits that it sets itself. Lanes keep bits of the first `upto`
+// payloads alone.
 #[derive(Drop)]
 pub(crate) struct Lanes {
     pub(crate) first: [u8; 16],
@@ -18,7 +19,8 @@ pub(crate) struct Lanes {
     pub(crate) upto: usize,
 }
 
-// Returns one lane: where it reads, what it keeps, and what it adds.
+// Returns what lane j does for its source: the lanes that it reads in either frame, the bits that it keeps, and the
+// bits that it sets itself.
 #[inline(always)]
 fn lane_of<const N: usize>(j: usize, source: Source) -> (u8, u8, u8, u8)
     requires rate { (N ≡ 4) ⊎ (N ≡ 16) }
@@ -35,7 +37,7 @@ fn lane_of<const N: usize>(j: usize, source: Source) -> (u8, u8, u8, u8)
     }
 }
 
-// Returns how many payloads, half or all, have those that some lane keeps.
+// Returns how many of the first payloads are enough, N / 2 or N: lanes keep bits of no payload after these.
 #[inline(always)]
 fn upto_of<const N: usize>(own: &[u8; 16]) -> usize
     requires rate { (N ≡ 4) ⊎ (N ≡ 16) }
@@ -51,7 +53,7 @@ fn upto_of<const N: usize>(own: &[u8; 16]) -> usize
     N / 2
 }
 
-// Returns all lanes.
+// Returns all sixteen lanes for the sources of the AU-4s.
 #[inline(always)]
 pub(crate) fn lanes_of<const N: usize>(sources: &[Source]) -> Lanes
     requires rate { (N ≡ 4) ⊎ (N ≡ 16) }

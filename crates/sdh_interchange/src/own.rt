@@ -1,4 +1,4 @@
-//! Payloads that no frame brought.
+//! The payloads of a node's own ports.
 ghost use Rattle.std.specs.Prelude.{◌≡◌, ◌≢◌, ℕ, ◌+◌, ◌-◌, ◌<◌, ◌≤◌, [], length, replicate, slice_index, slice_index_or};
 ghost use Rattle.sdh_interchange.specs.Tables.{cell};
 
@@ -9,7 +9,8 @@ use std::simd::prelude::*;
 /// A payload of zeros.
 static ZEROS: [u8; 2349] = [0; 2349];
 
-/// The payloads of a node's own ports, each with the number of the AU-4 that it goes to, and zeros for the others.
+/// The payloads of a node's own ports, by the numbers of the AU-4s that they go to, 1 to 16. For all other numbers
+/// there are payloads of zeros.
 #[derive(Drop)]
 pub struct Payloads<'a> {
     pieces: [&'a [u8]; 16],
@@ -39,7 +40,7 @@ fn zeros<'a>() -> &'a [u8]
 }
 
 impl<'a> Payloads<'a> {
-    /// Returns zeros for all.
+    /// Returns payloads of zeros for all numbers.
     pub fn none() -> Payloads<'a>
         ensures zeros { result ≡ replicate 16 (replicate 2349 0) }
         ensures many { length result ≡ 16 }
@@ -59,7 +60,7 @@ impl<'a> Payloads<'a> {
         self.pieces[k as usize - 1] = payload;
     }
 
-    // Returns the one in this place.
+    // Returns the payload for AU-4 number `a` + 1.
     #[inline(always)]
     fn piece(&self, a: usize) -> &[u8]
         requires { a < 16 }
@@ -69,7 +70,7 @@ impl<'a> Payloads<'a> {
         self.pieces[a]
     }
 
-    /// Returns sixteen bytes of the own payload in this place, from byte 0 on.
+    /// Returns sixteen bytes of the payload for AU-4 number `a` + 1, from its byte `from` on, counted from 0.
     #[inline(always)]
     pub(crate) fn sixteen(&self, a: usize, from: usize) -> u8x16
         requires place { a < 16 }

@@ -14,7 +14,7 @@ use crate::own::Payloads;
 use crate::payloads::put;
 use std::simd::prelude::*;
 
-/// What the AU-4s of a frame come from: two other frames, and payloads.
+/// What the AU-4s of a frame come from: two other frames, and payloads of a node's own ports.
 #[derive(Drop)]
 pub(crate) struct Inputs<'a> {
     pub(crate) first: &'a [u8],
@@ -22,7 +22,9 @@ pub(crate) struct Inputs<'a> {
     pub(crate) own: &'a Payloads<'a>,
 }
 
-/// What a pass over a frame of N AU-4s reads: its inputs, which of them each AU-4 comes from, and what was worked out of that.
+/// What a pass over a row of a frame of N AU-4s reads: its inputs, the source of each AU-4, and what was worked out of
+/// the sources. `passed` says whether an AU-4 comes from one of the two frames, and `owned` whether one has an own
+/// payload.
 #[derive(Drop)]
 pub(crate) struct Pass<'a, const N: usize> {
     pub(crate) inputs: &'a Inputs<'a>,
@@ -32,7 +34,7 @@ pub(crate) struct Pass<'a, const N: usize> {
     pub(crate) owned: bool,
 }
 
-// Returns sixteen bytes from `at` on: what two frames give by these lanes, and the rest as it was.
+// Returns the sixteen bytes from `at` on: what two frames give there by these lanes, with the bits of `extra` set too.
 #[inline(always)]
 fn merged(first: &[u8], second: &[u8], at: usize, lanes: &Lanes, extra: u8x16) -> u8x16
     requires first { at + 16 ≤ length first.now }
@@ -47,9 +49,9 @@ fn merged(first: &[u8], second: &[u8], at: usize, lanes: &Lanes, extra: u8x16) -
     from_first | from_second | extra
 }
 
-// READS says whether the two frames are read: they must be where an AU-4 comes from them.
+// `READS` says whether the two frames are read. They have to be read where an AU-4 comes from one of them.
 impl<'a, const N: usize> Pass<'a, N> {
-    // Puts sixteen bytes from `at` on: what the frames give, and what they don't.
+    // Puts the sixteen bytes from `at` on: what the two frames give there, with the bits of `extra` set too.
     #[inline(always)]
     fn store<const READS: bool>(&self, bytes: &mut [u8], at: usize, extra: u8x16)
         requires pass { IsPass N self.now }
@@ -69,8 +71,8 @@ impl<'a, const N: usize> Pass<'a, N> {
         }
     }
 
-    // Returns what a vector of columns gets besides the bytes of the two frames, where its lanes hold the bytes of
-    // payloads. Where no frame is read, each lane that no payload goes to is ones.
+    // Returns what the sixteen bytes from `at` on get besides the bytes of the two frames, where `column` has the bytes
+    // of the payloads there. Where no frame is read, each lane that has no own payload is ones.
     #[inline(always)]
     fn extra<const READS: bool>(&self, at: usize, column: u8x16) -> u8x16
         requires pass { IsPass N self.now }
@@ -88,7 +90,8 @@ impl<'a, const N: usize> Pass<'a, N> {
         column | u8x16::from_array(lanes.more)
     }
 
-    // Puts the bytes from `from` up to `to`, where no payload is wanted.
+    // Puts the bytes from `from` on and before `to`. They are of no own payload, or the byte of an own AU-4 there is
+    // zero.
     fn plain<const READS: bool>(&self, bytes: &mut [u8], from: usize, to: usize)
         requires pass { IsPass N self.now }
         requires reads { (READS ≡ true) ⊎ (self.now.passed ≡ false) }
@@ -108,7 +111,7 @@ impl<'a, const N: usize> Pass<'a, N> {
         self.store::<READS>(bytes, to - 16, more);
     }
 
-    // Puts sixteen columns from `at` on. These vectors hold the bytes of payloads for them.
+    // Puts sixteen columns from byte `at` on. The vectors `columns` have the bytes of the payloads there.
     #[inline(always)]
     fn put<const READS: bool>(&self, bytes: &mut [u8], at: usize, columns: &[u8x16])
         requires pass { IsPass N self.now }
@@ -147,7 +150,7 @@ impl<'a, const N: usize> Pass<'a, N> {
         }
     }
 
-    // Puts the payloads of row r. Some of them are own ones.
+    // Puts row r of the payloads. Some of them are own payloads.
     fn blocks<const READS: bool>(&self, bytes: &mut [u8], r: usize)
         requires pass { IsPass N self.now }
         requires reads { (READS ≡ true) ⊎ (self.now.passed ≡ false) }
@@ -161,7 +164,7 @@ impl<'a, const N: usize> Pass<'a, N> {
         self.block::<READS>(bytes, r, 245);
     }
 
-    // Puts the payloads of row r.
+    // Puts row r of the payloads.
     fn row<const READS: bool>(&self, bytes: &mut [u8], r: usize)
         requires pass { IsPass N self.now }
         requires reads { (READS ≡ true) ⊎ (self.now.passed ≡ false) }
@@ -178,7 +181,7 @@ impl<'a, const N: usize> Pass<'a, N> {
         }
     }
 
-    // Passes over a row, and reads no frame where no AU-4 comes from one.
+    // Puts row r of the payloads. It reads the two frames only where an AU-4 comes from one of them.
     fn any_row(&self, bytes: &mut [u8], r: usize)
         requires pass { IsPass N self.now }
         requires size { length bytes.old ≡ 2430 * N }
@@ -192,7 +195,7 @@ impl<'a, const N: usize> Pass<'a, N> {
         }
     }
 
-    // Puts the pointers, in row 3.
+    // Puts the pointers, which are in row 3, counted from 0.
     fn pointers(&self, bytes: &mut [u8])
         requires pass { IsPass N self.now }
         requires size { length bytes.old ≡ 2430 * N }
@@ -203,7 +206,7 @@ impl<'a, const N: usize> Pass<'a, N> {
         self.plain::<true>(bytes, from, to);
     }
 
-    // Puts row r of all AU-4s, with the pointers in row 3.
+    // Puts row r of all AU-4s, counted from 0, and in row 3 the pointers too.
     pub(crate) fn choose_row(&self, bytes: &mut [u8], r: usize)
         requires pass { IsPass N self.now }
         requires size { length bytes.old ≡ 2430 * N }

@@ -1,4 +1,5 @@
-//! The payloads of half of the AU-4s of a frame at once, sixteen columns at a time, each into cells of its own.
+//! Taking the payloads of half of the AU-4s out of a frame at once, sixteen columns at a time, each into cells of its
+//! own.
 ghost use Rattle.std.specs.Prelude.{◌≡◌, ℕ, ◌+◌, ◌*◌, ◌-◌, ◌/◌, ◌<◌, ◌≤◌, ◌⊎◌, [], length, slice_index, slice_index_or};
 ghost use Rattle.sdh_frame.specs.Sizes.{size_of};
 ghost use Rattle.sdh_terms.specs.Rates.{n_of};
@@ -69,7 +70,7 @@ fn put_all(out: &mut [Cells], base: usize, at: usize, payloads: &[u8x16])
     }
 }
 
-// Takes sixteen columns of row r, from payload column c on.
+// Takes sixteen columns of row r, from payload column c on, of the AU-4s after the first `base`.
 #[inline(always)]
 fn take_block<const N: usize>(bytes: &[u8], base: usize, r: usize, c: usize, out: &mut [Cells])
     requires rate { (N ≡ 4) ⊎ (N ≡ 16) }
@@ -82,7 +83,7 @@ fn take_block<const N: usize>(bytes: &[u8], base: usize, r: usize, c: usize, out
 {
     let at = byte_of::<N>(270 * r + (9 + c));
     if N == 4 {
-        // Lanes `base` and the one after it are the last two of each four from here on.
+        // From `here` on, lane `base` and the one after it are the last two lanes of each four.
         let here = at + base - 2;
         let payloads = last_two(load::<4>(bytes, here));
         put_all(out, base, 261 * r + c, &payloads);
@@ -120,7 +121,7 @@ fn take_rows<const N: usize>(bytes: &[u8], base: usize, out: &mut [Cells])
     }
 }
 
-// Takes the lower or the upper half. Each has code of its own, in which the lanes are constants.
+// Takes the payloads of the lower or the upper half of the AU-4s. Each half is compiled with its lanes as constants.
 fn take_half<const N: usize>(bytes: &[u8], base: usize, out: &mut [Cells])
     requires rate { (N ≡ 4) ⊎ (N ≡ 16) }
     requires base { (base ≡ 0) ⊎ (2 * base ≡ N) }
@@ -135,7 +136,7 @@ fn take_half<const N: usize>(bytes: &[u8], base: usize, out: &mut [Cells])
     }
 }
 
-// Takes the payloads of half of the AU-4s, those after the first `base`, each into the cells in its place.
+// Takes the payloads of half of the AU-4s, those after the first `base`. Each goes into the cells at its AU-4's place.
 pub(crate) fn take(rate: Rate, bytes: &[u8], base: usize, out: &mut [Cells])
     requires base { (base ≡ 0) ⊎ (2 * base ≡ n_of rate) }
     requires size { length bytes.now ≡ size_of rate }

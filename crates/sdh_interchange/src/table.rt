@@ -1,10 +1,12 @@
-//! Payloads of several AU-4s that change places with the columns of a frame, sixteen columns at a time.
+//! Tables that turn payloads of several AU-4s into columns of a frame, and back, sixteen columns at a time. A table is
+//! a list of rows, each a vector of sixteen lanes.
 ghost use Rattle.std.specs.Prelude.{◌≡◌, ℕ, ◌+◌, ◌*◌, ◌/◌, ◌%◌, ◌<◌, ◌⊎◌, ◌==◌, length, slice_index};
 ghost use Rattle.sdh_interchange.specs.Tables.{IsTable, cell};
 
 use std::simd::prelude::*;
 
-// Moves every element to the place that its row and lane, as one number of eight bits, give when rotated by one.
+// Moves every element to another place. Row and lane of that place, as one number of eight bits, are those of the old
+// one rotated left by one bit.
 #[inline(always)]
 fn turn(v: [u8x16; 16]) -> [u8x16; 16]
     requires { IsTable 16 v }
@@ -20,7 +22,7 @@ fn turn(v: [u8x16; 16]) -> [u8x16; 16]
     out
 }
 
-// Returns the table with rows as lanes.
+// Returns the table transposed: its rows become lanes.
 #[inline(always)]
 pub(crate) fn transpose(v: [u8x16; 16]) -> [u8x16; 16]
     requires { IsTable 16 v }
@@ -30,8 +32,8 @@ pub(crate) fn transpose(v: [u8x16; 16]) -> [u8x16; 16]
     turn(turn(turn(turn(v))))
 }
 
-// Moves every element of eight rows to the place that its row and lane, as one number of seven bits, give when rotated
-// by one.
+// Moves every element of eight rows to another place. Row and lane of that place, as one number of seven bits, are
+// those of the old one rotated left by one bit.
 #[inline(always)]
 fn turn8(v: [u8x16; 8]) -> [u8x16; 8]
     requires { IsTable 8 v }
@@ -47,7 +49,8 @@ fn turn8(v: [u8x16; 8]) -> [u8x16; 8]
     out
 }
 
-// Returns eight rows as eight lanes, two of the columns in each vector.
+// Returns a table of eight rows transposed. Each of its sixteen columns has eight bytes, and two of them share a
+// vector.
 #[inline(always)]
 pub(crate) fn transpose8(v: [u8x16; 8]) -> [u8x16; 8]
     requires { IsTable 8 v }
@@ -57,7 +60,7 @@ pub(crate) fn transpose8(v: [u8x16; 8]) -> [u8x16; 8]
     turn8(turn8(turn8(v)))
 }
 
-// Returns the two columns of each vector as vectors of their own. Only the first eight lanes of each count.
+// Returns the two columns that share each vector as vectors of their own. Only the first eight lanes of each count.
 #[inline(always)]
 pub(crate) fn apart(v: [u8x16; 8]) -> [u8x16; 16]
     requires { IsTable 8 v }
@@ -73,7 +76,7 @@ pub(crate) fn apart(v: [u8x16; 8]) -> [u8x16; 16]
     out
 }
 
-// Returns the first eight lanes of sixteen rows: those of rows i and i + 8 take turns.
+// Returns the first eight lanes of sixteen rows. Row i of the result interleaves those of rows i and i + 8.
 #[inline(always)]
 fn lower(v: [u8x16; 16]) -> [u8x16; 8]
     requires { IsTable 16 v }
@@ -88,7 +91,7 @@ fn lower(v: [u8x16; 16]) -> [u8x16; 8]
     out
 }
 
-// Returns the last eight lanes.
+// Returns the last eight lanes of sixteen rows. Row i of the result interleaves those of rows i and i + 8.
 #[inline(always)]
 fn upper(v: [u8x16; 16]) -> [u8x16; 8]
     requires { IsTable 16 v }
@@ -118,8 +121,8 @@ pub(crate) fn lanes_from(v: [u8x16; 16], base: usize) -> [u8x16; 8]
     }
 }
 
-// Moves every element of four rows to the place that its row and lane, as one number of six bits, give when rotated by
-// one.
+// Moves every element of four rows to another place. Row and lane of that place, as one number of six bits, are those
+// of the old one rotated left by one bit.
 #[inline(always)]
 fn turn4(v: [u8x16; 4]) -> [u8x16; 4]
     requires { IsTable 4 v }
@@ -131,7 +134,7 @@ fn turn4(v: [u8x16; 4]) -> [u8x16; 4]
     [a, b, c, d]
 }
 
-// Returns the bytes of four rows interleaved.
+// Returns the bytes of four rows, interleaved byte by byte.
 #[inline(always)]
 pub(crate) fn transpose4(v: [u8x16; 4]) -> [u8x16; 4]
     requires { IsTable 4 v }
@@ -161,7 +164,8 @@ fn high_twice(v: u8x16) -> u8x16
     v.swizzle([8, 9, 8, 9, 10, 11, 10, 11, 12, 13, 12, 13, 14, 15, 14, 15])
 }
 
-// Returns the bytes of two rows interleaved, as the first two of each four.
+// Returns the bytes of two rows, interleaved byte by byte, in the first two lanes of each four. The other lanes mean
+// nothing.
 #[inline(always)]
 pub(crate) fn spread(v: [u8x16; 2]) -> [u8x16; 4]
     requires { IsTable 2 v }
@@ -177,7 +181,7 @@ pub(crate) fn spread(v: [u8x16; 2]) -> [u8x16; 4]
     ]
 }
 
-// Returns the last two of each four lanes of two rows.
+// Returns the last two of each four lanes of two rows, those of the first row before those of the second.
 #[inline(always)]
 fn last_pairs(a: u8x16, b: u8x16) -> u8x16
     requires a { length a ≡ 16 }
@@ -192,7 +196,7 @@ fn last_pairs(a: u8x16, b: u8x16) -> u8x16
     )
 }
 
-// Returns the last two of each four lanes of four rows, as a row each.
+// Returns two rows: the third of each four lanes of four rows, and the fourth of each.
 #[inline(always)]
 pub(crate) fn last_two(v: [u8x16; 4]) -> [u8x16; 2]
     requires { IsTable 4 v }

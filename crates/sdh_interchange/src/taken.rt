@@ -1,4 +1,4 @@
-//! Payloads that are taken out of a frame half of the AU-4s at a time, when one of them is asked for.
+//! Payloads that are taken out of a frame when they are asked for, those of half of the AU-4s at a time.
 ghost use Rattle.std.specs.Prelude.{◌≡◌, ℕ, ◌+◌, ◌*◌, ◌-◌, ◌<◌, ◌≤◌, ◌⊎◌, true, false, IfOk, [], length, replicate, slice_index_or};
 ghost use Rattle.sdh_terms.specs.Rates.{n_of};
 ghost use Rattle.sdh_frame.specs.Aus.{payload_of};
@@ -11,7 +11,7 @@ use std::alloc::{AllocError, Global};
 use std::fmt;
 use std::marker::Model;
 
-/// The payloads of a frame that have been taken out of it and not been given away.
+/// The payloads of a frame that have been taken out of it and have not been given away since.
 #[derive(Drop)]
 pub struct Taken {
     half: usize,
@@ -77,7 +77,7 @@ fn mark(here: &mut [bool], from: usize, count: usize)
 }
 
 impl Taken {
-    /// Returns a store from which nothing was taken. All its memory is taken here, and is enough for each rate.
+    /// Returns a store that holds no payloads. It takes all its memory here, enough for either rate.
     pub fn try_new(alloc: Global) -> Result<Taken, AllocError>
         ensures { IfOk result (λ taken. taken ≡ none_taken) }
     {
@@ -88,7 +88,7 @@ impl Taken {
         })
     }
 
-    /// Begins with a frame. Nothing of it has been taken.
+    /// Begins with a new frame, and holds none of its payloads yet.
     pub fn begin(&mut self, frame: &FrameBuf)
         ensures { IsOf frame.now self.new }
     {
@@ -114,7 +114,7 @@ impl Taken {
         mark(&mut self.here, base, self.half);
     }
 
-    // Has the payload of an AU-4 taken out, with those of half of the AU-4s.
+    // Takes the payload of an AU-4 out of the frame, with those of its half of the AU-4s, unless it is held already.
     fn provide(&mut self, frame: &FrameBuf, au: usize)
         requires held { IsOf frame.now self.old }
         requires first { 1 ≤ au }
@@ -130,8 +130,9 @@ impl Taken {
         self.take(frame, base);
     }
 
-    /// Gives the payload of an AU-4 of the frame, 1 to N, in place of the bytes in `out`, without a copy. It is taken out of the
-    /// frame with those of half of the AU-4s where it doesn't stand here.
+    /// Gives the payload of an AU-4 of the frame, 1 to N, to `out` in place of its bytes, without a copy. Where the
+    /// payload isn't held it is first taken out of the frame, with those of its half of the AU-4s. Afterwards it isn't
+    /// held any more.
     pub fn give(&mut self, frame: &FrameBuf, au: u16, out: &mut Cells)
         requires held { IsOf frame.now self.old }
         requires first { 1 ≤ au }

@@ -16,7 +16,7 @@ pub record HeldSource : Type 0 where
 pub record HeldSink : Type 0 where
   -- the bytes written
   pub bytes : List ℕ
-  -- the number of bytes that it still takes
+  -- the number of bytes that the sink still takes
   pub room : ℕ
   -- the most bytes that a write takes
   pub piece : ℕ

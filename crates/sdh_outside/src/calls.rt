@@ -1,4 +1,4 @@
-//! Numbers of calls that are to fail.
+//! The numbers of the calls that are to fail.
 ghost use Rattle.std.specs.Prelude.{◌↔◌, IsTrue, Contains};
 
 /// Returns whether the call of this number, counted from 1, is one of those that fail.

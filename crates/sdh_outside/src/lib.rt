@@ -1,6 +1,6 @@
-//! The outside of the programs: sources and sinks of bytes that count their faults, the calls that read
-//! a source to its end and write a text whole, objects in memory that fail by a list, and the adapters
-//! of standard input and output.
+//! The outside of the programs. Sources and sinks of bytes count their faults. Calls read a source to its end, and
+//! write a text whole. There are sources and sinks in memory that fail by a list, and adapters of standard input and
+//! output.
 #![tactic(auto)]
 
 mod calls;

@@ -11,8 +11,8 @@ use std::alloc::{AllocError, Global};
 use std::fmt;
 use std::marker::Model;
 
-/// A buffer of fixed room that takes at most `piece` bytes a call. It fails the calls that its list names, and a write
-/// of a non-empty piece once its room is used up, and no other.
+/// A buffer of fixed room that takes at most `piece` bytes a call. A call fails where the list has its number, or where
+/// there are bytes to write and no room is left. No other call fails.
 #[derive(Drop)]
 pub struct MemSink {
     bytes: Vec<u8>,
@@ -46,8 +46,8 @@ impl fmt::Debug for MemSink {
 }
 
 impl MemSink {
-    /// Returns an empty sink with room for `room` bytes. `failing` holds the numbers of the calls that fail, counted
-    /// from 1.
+    /// Returns an empty sink with room for `room` bytes, which takes at most `piece` bytes a call. `failing` holds the
+    /// numbers of the calls that fail, counted from 1.
     pub fn new(
         alloc: Global,
         room: usize,

@@ -10,7 +10,8 @@ use std::alloc::{AllocError, Global};
 use std::fmt;
 use std::marker::Model;
 
-/// Bytes in memory that are given out at most `piece` a call. It fails the calls that its list names, and no other.
+/// A source of bytes in memory that gives at most `piece` of them a call. A call fails where the list has its number,
+/// and no other call fails.
 #[derive(Drop)]
 pub struct MemSource {
     bytes: Vec<u8>,
@@ -39,8 +40,8 @@ impl fmt::Debug for MemSource {
 }
 
 impl MemSource {
-    /// Returns a source of these bytes, with none given out yet. `failing` holds the numbers of the calls that fail,
-    /// counted from 1.
+    /// Returns a source of these bytes, with none given out yet, which gives at most `piece` bytes a call. `failing`
+    /// holds the numbers of the calls that fail, counted from 1.
     pub fn new(
         alloc: Global,
         bytes: &[u8],

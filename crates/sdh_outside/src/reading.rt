@@ -51,8 +51,8 @@ fn fill<R: Source>(source: &mut R, buf: &mut [u8]) -> Result<usize, Failed>
     Ok(taken)
 }
 
-/// Returns all bytes that the source has left. It reserves room for `READ_MAX` + 1 bytes before the first read, takes
-/// at least one byte each turn, and stops when the room is full.
+/// Returns all bytes that the source has left, if they are at most `READ_MAX`. It reserves room for `READ_MAX` + 1
+/// bytes before the first read. It stops when the source ends, a read fails or the room is full.
 pub fn read_all<R: Source>(alloc: Global, source: &mut R) -> Result<Vec<u8>, ReadAllError>
     ensures all { IfOk result (λ bytes. Consumes (R.left source.old) (R.left source.new) bytes.items) }
     ensures end { OnOk result (IsAtEnd (R.left source.new)) }
@@ -63,12 +63,12 @@ pub fn read_all<R: Source>(alloc: Global, source: &mut R) -> Result<Vec<u8>, Rea
     ensures too_long { IsErrOf result ReadAllError.TooLong → TakesCount (R.left source.old) (R.left source.new) (READ_MAX + 1) }
     ensures memory { IsErrOf result ReadAllError.Memory → source.new ≡ source.old }
 
-    // With at most `READ_MAX` bytes left and no fault the answer is Ok, or memory ran out.
+    // Where the source shows at most `READ_MAX` bytes left and no read fails, the result is Ok, or memory ran out.
     ensures complete { TellsAtMost (R.left source.old) READ_MAX → ¬ (Rose (R.faults source.old) (R.faults source.new))
         → IsOk result ⊎ IsErrOf result ReadAllError.Memory }
     ensures later { R.faults source.old ≤ R.faults source.new }
 
-    // Where the count is exact, one read failed if the answer is a fault, and none otherwise.
+    // Where the source's count of faults is exact, one read failed if the result is `ReadFault`, and none otherwise.
     ensures counted { IsCounted R.exact (IsErrOf result ReadAllError.ReadFault) (R.faults source.old) (R.faults source.new) }
 {
     let Ok(mut bytes) = zeros(alloc, READ_MAX + 1) else {

@@ -14,13 +14,14 @@ pub trait Sink {
     /// The bytes written so far, where the sink shows them.
     ghost written: { Self → Option (List ℕ) };
 
-    /// The number of calls that failed. It never falls, and it stays at the last value of its type.
+    /// A count of failed calls. It rises with each of them, but not above the last value of a `u64`, and never falls.
     ghost faults: { Self → ℕ };
 
-    /// Whether the count rises by one with each failed call and with nothing else.
+    /// Whether `faults` rises by one with each failed call and stays with each other one.
     ghost exact: { Bool };
 
-    /// Takes some bytes from the front of `buf` and returns their number: at least one where `buf` is not empty.
+    /// Takes some bytes from the start of `buf` and returns their number: at least one where `buf` is not empty. A call
+    /// that fails takes none.
     fn write(&mut self, buf: &[u8]) -> Result<usize, Failed>
         ensures bound { WritesAtMost result buf.now }
         ensures some { IfOk result (λ n. 0 < length buf.now → 0 < n) }
@@ -57,7 +58,7 @@ impl<T: Write + Drop> Model for StdSink<T> {
 }
 
 impl<T: Write + Drop> StdSink<T> {
-    /// Returns a sink without faults. It takes no memory.
+    /// Returns a sink over this writer, with no faults counted yet. It takes no memory.
     pub fn new(writer: T) -> StdSink<T>
         ensures { result ≡ record { known = T.contents writer; faults = 0 } }
     {

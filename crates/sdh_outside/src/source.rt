@@ -9,7 +9,7 @@ use std::io::Read;
 use std::marker::Model;
 use thiserror::Error;
 
-/// A call of a source or a sink failed: the object counted one fault and moved no bytes.
+/// A call of a source or a sink failed: its count of faults rose, and no bytes were moved.
 #[derive(Clone, Copy, Debug, PartialEq, Eq, Error)]
 #[error("a call of a source or a sink failed")]
 pub struct Failed;
@@ -19,14 +19,14 @@ pub trait Source {
     /// The bytes left, where the source shows them.
     ghost left: { Self → Option (List ℕ) };
 
-    /// The number of calls that failed. It never falls, and it stays at the last value of its type.
+    /// A count of failed calls. It rises with each of them, but not above the last value of a `u64`, and never falls.
     ghost faults: { Self → ℕ };
 
-    /// Whether the count rises by one with each failed call and with nothing else.
+    /// Whether `faults` rises by one with each failed call and stays with each other one.
     ghost exact: { Bool };
 
-    /// Puts some of the bytes left at the front of `buf` and returns their number. 0 for a non-empty buffer means the
-    /// end.
+    /// Puts some of the bytes left at the start of `buf` and returns their number. For a non-empty buffer 0 means that
+    /// no bytes are left. A call that fails takes no bytes from the source.
     fn read(&mut self, buf: &mut [u8]) -> Result<usize, Failed>
         ensures bound { ReadsAtMost result buf.new }
         ensures bytes { ReadConsumes (left self.old) (left self.new) result buf.new }
@@ -58,7 +58,7 @@ impl<T: Read + Drop> Model for StdSource<T> {
 }
 
 impl<T: Read + Drop> StdSource<T> {
-    /// Returns a source without faults. It takes no memory.
+    /// Returns a source over this reader, with no faults counted yet. It takes no memory.
     pub fn new(reader: T) -> StdSource<T>
         ensures { result ≡ record { known = T.remaining reader; faults = 0 } }
     {

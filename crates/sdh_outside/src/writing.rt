@@ -13,7 +13,8 @@ use thiserror::Error;
 #[error("a write failed")]
 pub struct WriteFault;
 
-/// Appends the whole text, at least one byte each turn. It takes no memory.
+/// Appends the whole text to the sink, or the beginning of it where a write fails. Each write takes at least one byte.
+/// It takes no memory.
 pub fn write_text<W: Sink>(sink: &mut W, text: &[u8]) -> Result<(), WriteFault>
     ensures ok { OnOk result (Appends (W.written sink.old) (W.written sink.new) text.now) }
     ensures fault { OnErr result (Rose (W.faults sink.old) (W.faults sink.new)) }
@@ -21,7 +22,7 @@ pub fn write_text<W: Sink>(sink: &mut W, text: &[u8]) -> Result<(), WriteFault>
     ensures empty { text.now ≡ [] → IsOk result × (sink.new ≡ sink.old) }
     ensures later { W.faults sink.old ≤ W.faults sink.new }
 
-    // Where the count is exact, one write failed if the answer is a fault, and none with Ok.
+    // Where the sink's count of faults is exact, one write failed if the result is an error, and none if it is Ok.
     ensures counted { IsCounted W.exact (IsErr result) (W.faults sink.old) (W.faults sink.new) }
 {
     let mut sent = 0;

@@ -1,17 +1,17 @@
--- Frames that landed: descrambled on their way, with both parities summed.
+-- Frames that are descrambled, and whose parities are taken, while they land.
 use Rattle.std.specs.Prelude.{ℕ, ◌≡◌, ◌*◌, Bool, true, false, Option, Some, None, List, take}
 use Rattle.sdh_terms.specs.declared.Rate.{Rate}
 use Rattle.sdh_parity.specs.Scrambling.{scrambled}
 use Rattle.sdh_overhead.specs.Sections.{parities_of}
 
--- the rate of the frames that there is room for, the bytes of the one that landed last, as they arrived, and those that the
--- buffer holds: where a frame landed they are its descrambled ones
+-- Room for frames of a rate. `landed` has the bytes of the frame that has landed, as they arrived, or none. `buffer`
+-- has the bytes that the room holds: where a frame has landed, its descrambled ones.
 pub record LandedFrame : Type 0 where
   pub rate : Rate
   pub landed : Option (List ℕ)
   pub buffer : List ℕ
 
--- the bytes that arrived, where the buffer has them descrambled; none where no frame is there
+-- the bytes that arrived, given the descrambled ones of the buffer; none where no frame is there
 abbrev pub landed_of : ℕ → Bool → List ℕ → Option (List ℕ)
 landed_of n true clear = Some (scrambled (9 * n) clear)
 landed_of n false clear = None
@@ -20,7 +20,7 @@ landed_of n false clear = None
 abbrev pub emptied : Rate → List ℕ → LandedFrame
 emptied rate bytes = record { rate = rate; landed = None; buffer = bytes }
 
--- these are the parities of the frame that is there: B1 of the bytes that arrived, B2 of the descrambled ones
+-- where a frame is there, these are its parities: B1 over the bytes that arrived, B2 over the descrambled ones
 abbrev pub AreSummed : ℕ → Bool → ℕ → List ℕ → List ℕ → Type 0
 AreSummed n true b1 b2 clear = record { b1 = b1; b2 = take (3 * n) b2 } ≡ parities_of n clear (scrambled (9 * n) clear)
 AreSummed n false b1 b2 clear = Unit {0}

@@ -36,7 +36,7 @@ pub record HasFraming (rate : Rate) (bytes : List ℕ) : Type 0 where
   pub a1 : (place : Place) → IsInFrame rate place → field_of rate place ≡ A1 → byte_of rate bytes place ≡ 0xF6
   pub a2 : (place : Place) → IsInFrame rate place → field_of rate place ≡ A2 → byte_of rate bytes place ≡ 0x28
 
--- what a receiving section looks at are the bytes of these fields, and all of them
+-- what a receiving section looks at are exactly the bytes of the fields A1, A2, B1, B2, K1 and K2
 pub record LooksAtFields (rate : Rate) (bytes : List ℕ) : Type 0 where
   pub framing : (is_framed (n_of rate) bytes ≡ true) ↔ HasFraming rate bytes
   pub b1 : (place : Place) → IsInFrame rate place → field_of rate place ≡ B1 → byte_of rate bytes place ≡ byte_in (n_of rate) bytes 2 1
@@ -47,6 +47,6 @@ pub record LooksAtFields (rate : Rate) (bytes : List ℕ) : Type 0 where
   pub k2 : (place : Place) → IsInFrame rate place → field_of rate place ≡ K2
       → byte_of rate bytes place ≡ byte_in (n_of rate) bytes 5 (6 * n_of rate + 1)
 
--- at either rate
+-- the fields are found in every frame, at either rate
 abbrev pub FieldsAreFound : Type 0
 FieldsAreFound = (rate : Rate) (bytes : List ℕ) → length bytes ≡ size_of rate → LooksAtFields rate bytes

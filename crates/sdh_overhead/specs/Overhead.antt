@@ -1,19 +1,19 @@
--- The section overhead of a sent frame (ITU-T G.707 clause 9.2). The values of J0 and of the other unscrambled bytes, and
--- zeros in all overhead that isn't used, are this project's own.
+-- The section overhead of a sent frame (ITU-T G.707 clause 9.2). The values of J0 and of the other unscrambled bytes,
+-- and zeros in all overhead that isn't used, are this project's own.
 use Rattle.std.specs.Prelude.{ℕ, ◌+◌, ◌*◌, ◌/◌, ◌%◌, List, slice_index}
 use Rattle.sdh_basics.specs.Indexed.{map_from}
 use Rattle.sdh_frame.specs.declared.Field as field
 use Rattle.sdh_frame.specs.declared.Field.TheVariants.{A1, A2, J0, Fixed, B1, B2, K1, K2, Unused, Pointer, Payload}
 use Rattle.sdh_frame.specs.Fields.{field_at}
 
--- what differs from frame to frame
+-- the overhead bytes that differ from frame to frame
 pub record Added : Type 0 where
   pub k1 : ℕ
   pub k2 : ℕ
   pub b1 : ℕ
   pub b2 : List ℕ
 
--- the byte of a field that was x before: pointers and payload stay
+-- the byte that a field has once the overhead is written, where it was x before; pointers and payload stay
 abbrev pub written : Added → field.Field → ℕ → ℕ
 written a A1 x = 0xF6
 written a A2 x = 0x28
@@ -27,7 +27,7 @@ written a Unused x = 0
 written a (Pointer au i) x = x
 written a (Payload au) x = x
 
--- byte i of the frame, which was x before
+-- byte i of a frame once the overhead is written, where it was x before
 abbrev pub byte_at : ℕ → Added → ℕ → ℕ → ℕ
 byte_at n a i x = written a (field_at n (i / (270 * n) + 1) (i % (270 * n) + 1)) x
 

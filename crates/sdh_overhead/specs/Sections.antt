@@ -18,26 +18,26 @@ pub record Parities : Type 0 where
   pub b1 : ℕ
   pub b2 : List ℕ
 
--- B1 is over the whole frame on the line, B2 over the frame without scrambling
+-- the parities of a frame: B1 over all its bytes on the line, B2 over those of `section_bytes` without scrambling
 unfoldable pub parities_of : ℕ → List ℕ → List ℕ → Parities
 parities_of n clear line = record { b1 = bip8 line; b2 = section_parity n clear }
 
 -- what is kept of the rows that have passed, of a frame that is written or read row by row
 pub record UnderWay : Type 0 where
   pub rows : ℕ
-  -- BIP-8 of their bytes on the line, and BIP-24N of those without scrambling that B2 is over
+  -- BIP-8 of the rows' bytes on the line, and BIP-24N of those bytes, without scrambling, that B2 covers
   pub line : ℕ
   pub clear : Running
-  -- whether they are of a frame that is written, and not of one that is read
+  -- whether the rows are of a frame that is written, and not of one that is read
   pub written : Bool
-  -- of a received frame: whether it is framed, its K bytes, and the bits in which B1 and B2 differ
+  -- of a received frame: whether it is framed, its K bytes, and the number of bits in which B1 and B2 differ
   pub framed : Bool
   pub k1 : ℕ
   pub k2 : ℕ
   pub b1 : ℕ
   pub b2 : ℕ
 
--- a section keeps the parities of the last frame, or none, and a frame that is under way
+-- what a section keeps: the parities of the last frame, or none, and a frame that is under way, if there is one
 pub record SectionKept : Type 0 where
   pub rate : Rate
   pub last : Option Parities
@@ -47,11 +47,12 @@ pub record SectionKept : Type 0 where
 abbrev pub holding : Rate → Option Parities → SectionKept
 holding rate last = record { rate = rate; last = last; under_way = None }
 
--- the parities in a frame after a frame with these: zeros where there was none
+-- the bytes B1 and B2 that are sent after a frame with these parities: zeros where there was no such frame
 abbrev pub placed_after : ℕ → Option Parities → Parities
 placed_after n None = record { b1 = 0; b2 = replicate (3 * n) 0 }
 placed_after n (Some last) = last
 
+-- the overhead bytes of a frame that is sent with these K bytes after a frame with these parities
 abbrev pub added_after : ℕ → Option Parities → ℕ → ℕ → Added
 added_after n last k1 k2 = record { k1 = k1; k2 = k2; b1 = (placed_after n last).b1; b2 = (placed_after n last).b2 }
 
@@ -59,7 +60,7 @@ added_after n last k1 k2 = record { k1 = k1; k2 = k2; b1 = (placed_after n last)
 unfoldable pub clear_frame : ℕ → Option Parities → ℕ → ℕ → List ℕ → List ℕ
 clear_frame n last k1 k2 bytes = with_overhead n (added_after n last k1 k2) bytes
 
--- the frame on the line
+-- the frame with all its overhead, as it is on the line
 abbrev pub line_frame : ℕ → Option Parities → ℕ → ℕ → List ℕ → List ℕ
 line_frame n last k1 k2 bytes = scrambled (9 * n) (clear_frame n last k1 k2 bytes)
 
@@ -75,29 +76,30 @@ byte_in n bytes row column = slice_index bytes (index_of n (record { row = row; 
 abbrev pub b2_in : ℕ → List ℕ → List ℕ
 b2_in n bytes = slice_range bytes (1080 * n) (1083 * n)
 
--- the bits in which B1 and B2 of a frame differ from the parities of the frame before
+-- the number of bits in which B1 of a frame differs from the parities of the frame before; 0 where these are not known
 abbrev pub b1_violations : ℕ → Option Parities → List ℕ → ℕ
 b1_violations n None clear = 0
 b1_violations n (Some last) clear = differing_bits last.b1 (byte_in n clear 2 1)
 
+-- the number of bits in which B2 of a frame differs from the parities of the frame before; 0 where these are not known
 abbrev pub b2_violations : ℕ → Option Parities → List ℕ → ℕ
 b2_violations n None clear = 0
 b2_violations n (Some last) clear = violations_of last.b2 (b2_in n clear)
 
--- what a framed frame says, without scrambling
+-- what a framed frame says, by its descrambled bytes
 unfoldable pub found_in : ℕ → Option Parities → List ℕ → Received
 found_in n last clear =
     Framed (byte_in n clear 5 (3 * n + 1)) (byte_in n clear 5 (6 * n + 1)) (b1_violations n last clear) (b2_violations n last clear)
 
--- what a frame on the line says
+-- what a received frame says, by its bytes on the line
 unfoldable pub received_in : ℕ → Option Parities → List ℕ → Received
 received_in n last line = if is_framed n line then found_in n last (scrambled (9 * n) line) else Unframed
 
--- the parities after it: an unframed frame leaves none
+-- the parities that are kept after a received frame: none where it is unframed
 unfoldable pub kept_after : ℕ → List ℕ → Option Parities
 kept_after n line = if is_framed n line then Some (parities_of n (scrambled (9 * n) line) line) else None
 
--- the frame after it: descrambled where it is framed
+-- a received frame after it was read: descrambled where it is framed
 unfoldable pub opened : ℕ → List ℕ → List ℕ
 opened n line = if is_framed n line then scrambled (9 * n) line else line
 

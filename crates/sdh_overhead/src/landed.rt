@@ -1,4 +1,5 @@
-//! Frames that are descrambled and summed as they land, so that a section reads them without going over them again.
+//! Frames that are descrambled, and whose parities are taken, while they land. A section then reads them without going
+//! over their bytes again.
 ghost use Rattle.std.specs.Prelude.{◌≡◌, ◌≢◌, ℕ, ◌+◌, ◌*◌, ◌-◌, ◌⊎◌, List, Some, None, IfOk, length, replicate};
 ghost use Rattle.sdh_basics.specs.Parity.{bip8 as parity_of};
 ghost use Rattle.sdh_frame.specs.Sizes.{size_of};
@@ -17,7 +18,8 @@ use sdh_terms::Rate;
 use std::alloc::{AllocError, Global};
 use std::marker::Model;
 
-/// A frame that landed: descrambled on its way, with both parities summed.
+/// Room for an arriving frame, which is descrambled while it lands. Its parities, BIP-8 on the line and BIP-24N of the
+/// clear bytes, are kept with it.
 #[derive(Debug, Drop)]
 pub struct Landed {
     frame: FrameBuf,
@@ -43,7 +45,8 @@ impl Model for Landed {
     } };
 }
 
-// Descrambles the nine rows of a frame from one slice to another, and returns what they say with their parities.
+// Descrambles the nine rows of a frame from one slice to another. Returns what is kept of these rows, with both
+// parities.
 fn open_frame(n: usize, from: &[u8], to: &mut [u8]) -> Rows
     requires rate { (n ≡ 4) ⊎ (n ≡ 16) }
     requires from { length from.now ≡ 2430 * n }
@@ -65,7 +68,8 @@ fn open_frame(n: usize, from: &[u8], to: &mut [u8]) -> Rows
 }
 
 impl Landed {
-    /// Returns room for a frame, in which nothing has landed. It takes all the memory that frames need.
+    /// Returns room for a frame of this rate, in which nothing has landed. All memory is taken here: frames that land
+    /// take none.
     pub fn try_new(alloc: Global, rate: Rate) -> Result<Landed, AllocError>
         ensures { IfOk result (λ l. l ≡ emptied rate (replicate (size_of rate) 0)) }
     {
@@ -79,7 +83,8 @@ impl Landed {
         })
     }
 
-    /// Gives what the buffer holds in exchange for another frame: the descrambled frame, where one landed. Nothing has landed then.
+    /// Exchanges the buffer for another frame of the same rate. Where a frame has landed, `frame` then is that one,
+    /// descrambled. Afterwards nothing has landed.
     pub fn swap_frame(&mut self, frame: &mut FrameBuf)
         requires { frame.old.rate ≡ self.old.rate }
         ensures rate { frame.new.rate ≡ frame.old.rate }
@@ -114,8 +119,9 @@ impl Landing for Landed {
     }
 }
 
-/// Reads the overhead of the frame that landed against the parities of the frame read before, without going over its bytes
-/// again. An unframed frame makes the section forget. Rows of a frame that is under way are forgotten.
+/// Returns what the overhead of the frame that landed says, against the parities of the frame read before. It does not
+/// go over all bytes of the frame again. Afterwards the section keeps the parities of this frame, or none where it is
+/// unframed, and forgets the rows of a frame that is under way.
 pub fn read_landed(section: &mut Section, landed: &Landed) -> Received
     requires rate { landed.now.rate ≡ section.old.rate }
     requires landed { landed.now.landed ≢ None }

@@ -5,7 +5,7 @@ ghost use Rattle.sdh_overhead.specs.Laws.{ComesBack, FieldsAreFound};
 use crate::Section;
 use sdh_frame::FrameBuf;
 
-/// A receiving section with the sending section's parities, or none, reads what was written: K bytes, pointers and
+/// A receiving section that has the sending section's parities, or none, reads what was written. K bytes, pointers and
 /// payload come back, there is no violation, and both sections then hold the same parities.
 pub fn what_is_written_is_read(
     sending: &Section,

@@ -14,8 +14,9 @@ pub use section::{Section, read_row, read_section, write_row, write_section};
 /// What the overhead of a received frame says.
 #[derive(Clone, Copy, Debug, PartialEq, Eq)]
 pub enum Received {
-    /// The K bytes, and the bits in which B1 and B2 differ from the parities of the frame before: 0 where there was none.
+    /// K1 and K2, and in `b1` and `b2` the number of bits in which B1 and B2 differ from the parities of the frame
+    /// before. Both are 0 where those parities are not known.
     Framed { k1: u8, k2: u8, b1: u32, b2: u32 },
-    /// A byte A1 or A2 differs.
+    /// A byte A1 isn't F6, or a byte A2 isn't 28.
     Unframed,
 }

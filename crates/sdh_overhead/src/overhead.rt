@@ -3,7 +3,7 @@ ghost use Rattle.std.specs.Prelude.{◌≡◌, ℕ, ◌+◌, ◌*◌, ◌<◌, �
 ghost use Rattle.sdh_frame.specs.Fields.{field_at};
 ghost use Rattle.sdh_overhead.specs.Overhead.{written};
 
-// Writes one byte from a place up to another.
+// Writes `value` to the places from `from` on and before `to`.
 #[inline(always)]
 fn fill_part(bytes: &mut [u8], from: usize, to: usize, value: u8)
     requires order { from ≤ to }
@@ -34,7 +34,7 @@ fn write_framing(n: usize, head: &mut [u8])
     head[6 * n] = 1;
 }
 
-// Writes the first 9N bytes of row 5: B2, K1 and K2.
+// Writes the first 9N bytes of row 5: B2, K1 and K2, and zeros in the others.
 #[inline(always)]
 fn write_multiplex(n: usize, k1: u8, k2: u8, b2: &[u8], head: &mut [u8])
     requires few { n ≤ 16 }
@@ -55,7 +55,8 @@ fn write_multiplex(n: usize, k1: u8, k2: u8, b2: &[u8], head: &mut [u8])
     head[6 * n] = k2;
 }
 
-/// Writes the first 9N bytes of a row.
+/// Writes the section overhead in the first 9N bytes of a row, counted from 1. In row 4 these are the pointers, which
+/// stay.
 #[inline(always)]
 pub fn write_head(n: usize, row: usize, k1: u8, k2: u8, b1: u8, b2: &[u8], head: &mut [u8])
     requires few { n ≤ 16 }

@@ -1,4 +1,5 @@
-//! The rows of a frame that is under way: the scrambler and the parities run along, and what a received row says is kept.
+//! The rows of a frame that is written or read row by row: the scrambler and the parities so far, and what the rows
+//! that were read say.
 ghost use Rattle.std.specs.Prelude.{◌≡◌, ℕ, ◌+◌, ◌*◌, ◌-◌, ◌≤◌, ◌⊎◌, ◌==◌, true, false, List, [], ◌++◌, length, take, drop};
 ghost use Rattle.std.specs.Prelude.{if◌then◌else◌};
 ghost use Rattle.sdh_basics.specs.Parity.{bip8 as parity_of};
@@ -18,14 +19,15 @@ fn head_len(n: usize, row: u16) -> usize
     if row <= 3 { 9 * n } else { 0 }
 }
 
-/// What is kept of the rows of a frame so far.
+/// What is kept of the rows of a frame so far: their number `passed`, the scrambler, the parities of the bytes on the
+/// line and of the clear bytes, and of a frame that is read what its rows say.
 #[derive(Debug, Drop)]
 pub struct Rows {
     pub passed: u16,
     pub scrambler: Scrambler,
     pub line: Bip8,
     pub clear: BipSection,
-    /// Whether the frame is written, and not read.
+    /// Whether the frame is one that is written, and not one that is read.
     pub written: bool,
     pub framed: bool,
     pub k1: u8,
@@ -112,8 +114,8 @@ impl Rows {
         self.written = false;
     }
 
-    /// Takes one or several rows after row 3 of a received frame, framed or not, from one slice to another: adds them
-    /// to B1, descrambles them, and adds them to B2.
+    /// Takes the next rows of a received frame, framed or not, from one slice to another: one row, or several from row
+    /// 4 on. Adds them to B1, descrambles them, and adds them to B2.
     pub fn open(&mut self, n: usize, row: u16, rows: u16, from: &[u8], to: &mut [u8])
         requires few { n ≤ 16 }
         requires rate { self.old.clear.n ≡ n }
@@ -178,14 +180,15 @@ pub fn parity_of_rows(n: usize, clear: &BipSection) -> [u8; 48]
     parity
 }
 
-/// Returns a K byte after a row: row 5 has it, and the others leave it.
+/// Returns a K byte as known after a row: `byte` after row 5, which carries it, and `before` after any other row.
 pub fn k_after(row: u16, before: u8, byte: u8) -> u8
     ensures { result ≡ (if row == 5 then byte else before) }
 {
     if row == 5 { byte } else { before }
 }
 
-/// Returns the number of bits in which B1 differs, after a row: row 2 has it.
+/// Returns the number of bits in which B1 differs, as known after a row. After row 2, which carries B1, it counts the
+/// bits in which `byte` differs from `b1`, or is 0 where no parities are known. After any other row it is `before`.
 pub fn b1_after(row: u16, before: u32, known: bool, b1: u8, byte: u8) -> u32
     ensures { result ≡ (if row == 2 then (if known then differing_bits b1 byte else 0) else before) }
 {
@@ -195,7 +198,8 @@ pub fn b1_after(row: u16, before: u32, known: bool, b1: u8, byte: u8) -> u32
     if known { violations(&[b1], &[byte]) } else { 0 }
 }
 
-/// Returns the number of bits in which B2 differs, after a row: row 5 has it.
+/// Returns the number of bits in which B2 differs, as known after a row. After row 5, which carries B2, it counts the
+/// bits in which `bytes` differ from `b2`, or is 0 where no parities are known. After any other row it is `before`.
 pub fn b2_after(row: u16, before: u32, known: bool, b2: &[u8], bytes: &[u8]) -> u32
     requires same_length { length b2.now ≡ length bytes.now }
     requires few { length b2.now ≤ 48 }

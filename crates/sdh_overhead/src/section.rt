@@ -79,7 +79,7 @@ impl Section {
         }
     }
 
-    /// Forgets the parities. No frame is under way then.
+    /// Forgets the parities of the last frame, and the rows of a frame that is under way.
     pub fn forget(&mut self)
         ensures { self.new ≡ holding self.old.rate None }
     {
@@ -89,7 +89,7 @@ impl Section {
         self.rows = Rows::new(self.rate.n());
     }
 
-    // Begins a frame: none is under way.
+    // Forgets the rows of a frame that is under way, so that the next row is row 1.
     fn begin(&mut self)
         ensures { self.new ≡ record self.old { under_way = None } }
     {
@@ -104,12 +104,13 @@ impl Section {
         self.rows.passed + 1
     }
 
-    // Every section keeps none, or whole parities: the function does nothing, and its contract is the law.
+    // Every section keeps no parities, or a byte B1 and 3N bytes B2. The function does nothing: its contract is the
+    // law.
     #[tactic(auto, using(crate::proofs::Trips::kept_whole))]
     pub(crate) fn parities_are_whole(&self)
         ensures { AreParities (n_of self.now.rate) self.now.last }
     {
-        // A field that is looked at opens the section, of whose fields the law is true.
+        // Looking at a field gives the prover the section's invariant, from which the law follows.
         let _ = &self.known;
     }
 
@@ -126,8 +127,7 @@ impl Section {
         write_head(n, row as usize, k1, k2, self.b1, b2, &mut bytes[..9 * n]);
     }
 
-    // Writes the overhead of a row with the parities of the frame before. Each rate has code of its own, in which N is
-    // a constant.
+    // Writes the overhead of a row with the parities of the frame before, by the code that is compiled for the rate.
     fn place(&self, row: u16, k1: u8, k2: u8, bytes: &mut [u8])
         requires first { 1 ≤ row }
         requires last { row ≤ 9 }
@@ -243,7 +243,7 @@ impl Section {
         }
     }
 
-    // Keeps these parities, as those of a frame.
+    // Keeps these parities as those of the last frame.
     pub(crate) fn keep(&mut self, b1: u8, b2: [u8; 48])
         requires { length b2 ≡ 48 }
         ensures { self.new ≡ holding self.old.rate (Some (record { b1 = b1; b2 = take (3 * n_of self.old.rate) b2 })) }
@@ -254,7 +254,7 @@ impl Section {
         self.rows = Rows::new(self.rate.n());
     }
 
-    // Keeps the parities of the rows so far as those of a frame.
+    // Ends the frame that is under way: the parities of its rows become those of the last frame.
     fn end(&mut self)
         ensures rate { self.new.rate ≡ self.old.rate }
         ensures under_way { self.new.under_way ≡ None }
@@ -268,8 +268,8 @@ impl Section {
         self.rows = Rows::new(n);
     }
 
-    /// Returns what a received frame says after its ninth row, against the parities of the frame read before. The
-    /// section then keeps the parities of this frame; an unframed frame makes it forget.
+    /// Returns what a received frame says, once its ninth row is read, against the parities of the frame read before.
+    /// The section then keeps the parities of this frame, or none where it is unframed.
     pub fn finish_read(&mut self) -> Received
         requires { next_of self.old.under_way ≡ 10 }
         ensures read { (line : List ℕ) → AreRead (n_of self.old.rate) self.old.last line self.old.under_way
@@ -288,9 +288,9 @@ impl Section {
     }
 }
 
-/// Sets the section overhead of a row of a frame, with the parities of the frame written before, and scrambles it in
-/// place. Pointers and payload stay. After the ninth row the section keeps the parities of the frame. No row is written
-/// after rows that were read.
+/// Sets the section overhead of the next row of a frame, with the parities of the frame written before, and leaves
+/// pointers and payload as they are. Then it scrambles the row in place. After the ninth row the section keeps the
+/// parities of the frame. While a frame is read row by row no row can be written.
 pub fn write_row(section: &mut Section, row: u16, k1: u8, k2: u8, bytes: &mut [u8])
     requires next { row ≡ next_of section.old.under_way }
     requires way { MayWrite section.old.under_way }
@@ -329,8 +329,9 @@ fn write_rows(section: &mut Section, k1: u8, k2: u8, bytes: &mut [u8])
     }
 }
 
-/// Sets all section overhead of a frame, with the parities of the frame written before, and scrambles it in place.
-/// Pointers and payload stay. In a first frame B1 and B2 are zero. Rows of a frame that is under way are forgotten.
+/// Sets all section overhead of a frame, with the parities of the frame written before, and leaves pointers and payload
+/// as they are. Where no parities are known B1 and B2 are zeros. Then it scrambles the frame in place. The rows of a
+/// frame that is under way are forgotten.
 pub fn write_section(section: &mut Section, k1: u8, k2: u8, frame: &mut FrameBuf)
     requires { frame.old.rate ≡ section.old.rate }
     ensures frame { frame.new ≡ record frame.old { bytes = line_frame (n_of section.old.rate) section.old.last k1 k2 frame.old.bytes } }
@@ -344,7 +345,8 @@ pub fn write_section(section: &mut Section, k1: u8, k2: u8, frame: &mut FrameBuf
 }
 
 /// Reads the next row of a received frame, and descrambles it in place. The rows of an unframed frame stay as they
-/// came. After the ninth row comes `finish_read`. No row is read after rows that were written.
+/// came. After the ninth row `finish_read` returns what the frame says. While a frame is written row by row no row can
+/// be read.
 pub fn read_row(section: &mut Section, row: u16, bytes: &mut [u8])
     requires next { row ≡ next_of section.old.under_way }
     requires way { MayRead section.old.under_way }
@@ -384,8 +386,8 @@ fn read_rows(section: &mut Section, bytes: &mut [u8])
 }
 
 /// Reads the overhead of a received frame against the parities of the frame read before, descrambles it in place, and
-/// returns what it says. An unframed frame stays as it came, and the section forgets. Rows of an unfinished frame are
-/// forgotten.
+/// returns what it says. An unframed frame stays as it came, and the section then keeps no parities. The rows of a
+/// frame that is under way are forgotten.
 pub fn read_section(section: &mut Section, frame: &mut FrameBuf) -> Received
     requires { frame.old.rate ≡ section.old.rate }
     ensures result { result ≡ received_in (n_of section.old.rate) section.old.last frame.old.bytes }

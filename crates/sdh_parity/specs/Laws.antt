@@ -6,6 +6,6 @@ use Rattle.sdh_parity.specs.Scrambling.{scrambled}
 abbrev pub ScramblingIsUndone : Type 0
 ScramblingIsUndone = (clear : ℕ) (bytes : List ℕ) → scrambled clear (scrambled clear bytes) ≡ bytes
 
--- scrambling leaves the first bytes as they are
+-- scrambling leaves the first `clear` bytes as they are
 abbrev pub ScramblingLeavesClear : Type 0
 ScramblingLeavesClear = (clear : ℕ) (bytes : List ℕ) → take clear (scrambled clear bytes) ≡ take clear bytes

@@ -16,16 +16,16 @@ lane m i bytes = lane_from m i 0 bytes
 unfoldable pub bip_lanes : ℕ → List ℕ → List ℕ
 bip_lanes m bytes = cells (λ i. bip8 (lane m i bytes)) m
 
--- the bytes of a frame that the section parity is over, row by row: all but the first 9 N columns of the first three rows
+-- the bytes of a frame over which BIP-24N is taken, row by row: all but columns 1 to 9N of rows 1 to 3
 unfoldable pub section_bytes : ℕ → List ℕ → List ℕ
 section_bytes n bytes =
     slice_range bytes (9 * n) (270 * n) ++ slice_range bytes (279 * n) (540 * n) ++ slice_range bytes (549 * n) (810 * n)
     ++ drop (810 * n) bytes
 
--- BIP-24N of those bytes
+-- the BIP-24N of a frame, 3N bytes: BIP of the bytes of `section_bytes`
 unfoldable pub section_parity : ℕ → List ℕ → List ℕ
 section_parity n bytes = bip_lanes (3 * n) (section_bytes n bytes)
 
--- the bytes at a place, one stride after it, and so on
+-- the `count` bytes at place `at`, one stride after it, and so on
 abbrev pub every : ℕ → ℕ → ℕ → List ℕ → List ℕ
 every at stride count bytes = cells (λ r. slice_index bytes (at + r * stride)) count

@@ -3,7 +3,8 @@ use Rattle.std.specs.Prelude.{ℕ, zero, suc, ◌+◌, ◌*◌, ◌-◌, ◌%◌
 use Rattle.sdh_basics.specs.Indexed.{map_from}
 use Rattle.sdh_basics.specs.Parity.{from_bits}
 
--- bit i of the scrambling sequence: seven ones, and then each bit is the sum modulo 2 of the bits six and seven places before it
+-- Bit i of the scrambling sequence. The first seven bits are ones. Each later bit is the sum modulo 2 of the bits six
+-- and seven places before it.
 unfoldable pub scrambling_bit : ℕ → ℕ
 scrambling_bit zero = 1
 scrambling_bit (suc zero) = 1
@@ -22,6 +23,6 @@ scrambling_byte k = from_bits (λ j. scrambling_bit (8 * k + (7 - j))) 8
 unfoldable pub scrambled_byte : ℕ → ℕ → ℕ → ℕ
 scrambled_byte clear i x = if nat_lt i clear then x else bit_xor x (scrambling_byte (i - clear))
 
--- the bytes on the line: the sequence is added to all but the first ones
+-- a frame once scrambled: the sequence is added to all but its first `clear` bytes
 unfoldable pub scrambled : ℕ → List ℕ → List ℕ
 scrambled clear bytes = map_from (scrambled_byte clear) 0 bytes

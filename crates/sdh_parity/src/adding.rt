@@ -1,4 +1,4 @@
-//! The bytes of BIP-24N, as pieces of any length are added to them.
+//! Adding pieces of any length to the 3N bytes of BIP-24N. Bytes are added modulo 2, bit by bit (XOR).
 ghost use Rattle.std.specs.Prelude.{◌≡◌, ℕ, List, ◌++◌, ◌+◌, ◌*◌, ◌%◌, ◌^◌, ◌<◌, ◌≤◌, ◌⊎◌, length, slice_index, bit_xor};
 ghost use Rattle.sdh_basics.specs.Parity.{bip8 as parity_of};
 ghost use Rattle.sdh_parity.specs.Parity.{every};
@@ -7,7 +7,8 @@ ghost use Rattle.sdh_parity.specs.Pieces.{HasLanes};
 use crate::through::add_to;
 use std::simd::prelude::*;
 
-// Returns the parities of sixteen neighbouring columns of a table with rows of 12 bytes, from byte `at` on.
+// Returns sixteen parities. Number k is that of the bytes at `at` + k, at `at` + k + 12 and so on, one in each of
+// `rows` rows of 12 bytes.
 fn columns12(bytes: &[u8], at: usize, rows: usize) -> u8x16
     requires { at + 12 * rows + 4 ≤ length bytes.now }
     ensures len { length result ≡ 16 }
@@ -20,7 +21,7 @@ fn columns12(bytes: &[u8], at: usize, rows: usize) -> u8x16
     all
 }
 
-// Returns the parities of sixteen neighbouring columns, a third of all, of a table with rows of 48 bytes.
+// Returns the parities of sixteen neighbouring columns, from place `at` on, of a table with rows of 48 bytes.
 fn columns48(bytes: &[u8], at: usize, rows: usize) -> u8x16
     requires { at + 48 * rows ≤ length bytes.now + 32 }
     ensures len { length result ≡ 16 }
@@ -33,7 +34,7 @@ fn columns48(bytes: &[u8], at: usize, rows: usize) -> u8x16
     all
 }
 
-// Adds sixteen parities to those from `at` on.
+// Adds sixteen parities to those in `sums` from place `at` on.
 fn add_vector(sums: &mut [u8], at: usize, more: u8x16)
     requires room { at + 16 ≤ length sums.old }
     requires more { length more ≡ 16 }
@@ -45,7 +46,7 @@ fn add_vector(sums: &mut [u8], at: usize, more: u8x16)
     all.copy_to_slice(&mut sums[at..]);
 }
 
-// Adds whole rows of 48 bytes.
+// Adds `rows` whole rows of 48 bytes to the 48 parities.
 fn add_rows48(sums: &mut [u8], bytes: &[u8], rows: usize)
     requires sums { length sums.old ≡ 48 }
     requires rows { length bytes.now ≡ 48 * rows }
@@ -56,7 +57,8 @@ fn add_rows48(sums: &mut [u8], bytes: &[u8], rows: usize)
     add_vector(sums, 32, columns48(bytes, 32, rows));
 }
 
-// Adds whole rows of 12 bytes. The bytes of the last row are added singly, since no vector begins there.
+// Adds `rows` + 1 whole rows of 12 bytes to the first 12 parities. The bytes of the last row are added singly, since a
+// vector of sixteen bytes would reach beyond them.
 fn add_rows12(sums: &mut [u8], bytes: &[u8], rows: usize)
     requires sums { length sums.old ≡ 48 }
     requires rows { length bytes.now ≡ 12 * (rows + 1) }
@@ -69,7 +71,7 @@ fn add_rows12(sums: &mut [u8], bytes: &[u8], rows: usize)
     }
 }
 
-// Returns the lane after this one.
+// Returns the lane of the byte after one in `lane`: the next lane, or lane 0 after the last one.
 fn after(lane: usize, width: usize) -> usize
     requires { lane < width }
     ensures next { result ≡ (lane + 1) % width }
@@ -95,7 +97,7 @@ fn add_bytes(width: usize, next: usize, sums: &mut [u8], bytes: &[u8]) -> usize
     lane
 }
 
-// Adds whole rows of 3N bytes.
+// Adds `rows` whole rows of 3N bytes to the first 3N parities.
 fn add_rows(n: usize, sums: &mut [u8], bytes: &[u8], rows: usize)
     requires rate { (n ≡ 4) ⊎ (n ≡ 16) }
     requires sums { length sums.old ≡ 48 }
@@ -109,7 +111,8 @@ fn add_rows(n: usize, sums: &mut [u8], bytes: &[u8], rows: usize)
     }
 }
 
-// Adds a piece of any length, by whole rows where it begins with one, and returns the lane of the byte after it.
+// Adds a piece of any length, and returns the lane of the byte after it. A piece that begins in lane 0 is added by
+// whole rows, as far as these reach.
 pub fn add_piece(n: usize, next: usize, sums: &mut [u8], bytes: &[u8]) -> usize
     requires rate { (n ≡ 4) ⊎ (n ≡ 16) }
     requires next { next < 3 * n }
@@ -128,7 +131,7 @@ pub fn add_piece(n: usize, next: usize, sums: &mut [u8], bytes: &[u8]) -> usize
     add_bytes(width, 0, sums, rest)
 }
 
-// Adds BIP of 48 bytes to BIP of 12: four lanes to each.
+// Adds 48 parities to the first 12 of `sums`, four to each.
 fn add_folded(sums: &mut [u8], lanes: &[u8])
     requires sums { length sums.old ≡ 48 }
     requires lanes { length lanes.now ≡ 48 }
@@ -141,7 +144,7 @@ fn add_folded(sums: &mut [u8], lanes: &[u8])
     }
 }
 
-/// Adds a piece by its BIP of 48 bytes, where the bytes before it are whole rows of 3N.
+/// Adds a piece that is given by its BIP of 48 bytes. The bytes that were added before it are whole rows of 3N.
 pub fn add_lanes(n: usize, sums: &mut [u8], lanes: &[u8])
     requires rate { (n ≡ 4) ⊎ (n ≡ 16) }
     requires sums { length sums.old ≡ 48 }

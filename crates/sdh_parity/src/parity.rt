@@ -5,7 +5,7 @@ ghost use Rattle.sdh_parity.specs.Parity.{section_parity};
 
 use crate::pieces::BipSection;
 
-/// Returns BIP-8: its bit j makes the number of ones of bit j, over the bytes and itself, even.
+/// Returns the BIP-8 of the bytes: each bit is set in an even number of these bytes and the BIP-8 together.
 pub fn bip8(bytes: &[u8]) -> u8
     ensures { result ≡ parity_of bytes.now }
 {
@@ -16,7 +16,8 @@ pub fn bip8(bytes: &[u8]) -> u8
     parity
 }
 
-/// Puts BIP-24N of a whole frame of the rate N, 4 or 16, without columns 1 to 9N of rows 1 to 3, into 3N bytes.
+/// Writes BIP-24N of a whole frame, 3N bytes, to `out`. N is the rate, 4 or 16. Columns 1 to 9N of rows 1 to 3 don't
+/// count (ITU-T G.707 clause 9.2).
 pub fn bip_section(n: usize, bytes: &[u8], out: &mut [u8])
     requires rate { (n ≡ 4) ⊎ (n ≡ 16) }
     requires frame { length bytes.now ≡ 2430 * n }

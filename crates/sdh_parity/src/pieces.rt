@@ -1,4 +1,5 @@
-//! The scrambler and the parities over the pieces of a frame. However the frame is cut, the results are equal.
+//! The scrambler and the parities over the pieces of a frame. However the frame is cut into pieces, the results are the
+//! same.
 ghost use Rattle.std.specs.Prelude.{◌≡◌, ℕ, ◌+◌, ◌-◌, ◌*◌, ◌%◌, ◌^◌, ◌<◌, ◌≤◌, ◌⊎◌, ◌==◌, nat_le, if◌then◌else◌, List, [], ◌++◌, length};
 ghost use Rattle.std.specs.Prelude.{slice_index, bit_xor};
 ghost use Rattle.sdh_basics.specs.Parity.{bip8 as parity_of};
@@ -11,7 +12,7 @@ use crate::scrambler::{Rate9, add_sequence, sequence};
 use crate::through::{Passed, open, pass};
 use std::marker::Model;
 
-// Adds the bytes of the sequence from byte s on.
+// Adds the scrambling sequence, from its byte s on, to the bytes of a part.
 #[inline(always)]
 fn add_within(part: &mut [u8], s: usize)
     requires { s + length part.old ≤ 1016 }
@@ -33,7 +34,7 @@ fn first_block(s: usize, len: usize) -> usize
     if len < 1016 - s { len } else { 1016 - s }
 }
 
-// Adds the sequence from its byte p on.
+// Adds the scrambling sequence, from its byte p on, to the bytes.
 fn add_from(bytes: &mut [u8], p: usize)
     ensures { (k : ℕ) → k < length bytes.old → slice_index bytes.new k ≡ bit_xor (slice_index bytes.old k) (scrambling_byte (p + k)) }
 {
@@ -93,15 +94,15 @@ impl Scrambler {
         self.at += bytes.len();
     }
 
-    // Returns whether the next bytes are scrambled ones.
+    // Returns whether the next bytes are to be scrambled: all bytes that stay clear have passed.
     fn is_behind(&self) -> bool
         ensures { result ≡ nat_le self.now.clear self.now.at }
     {
         self.clear <= self.at
     }
 
-    // Scrambles the next piece, or descrambles it to clear bytes, and adds it to the parities on the way. It lies after
-    // the first bytes, which are never scrambled.
+    // Scrambles the next piece, or descrambles it where `clear_after` holds, and returns the parities of its bytes, in
+    // one pass. The piece lies after the first bytes of the frame, which are never scrambled.
     #[inline(always)]
     fn pass(&mut self, bytes: &mut [u8], clear_after: bool) -> Passed
         requires behind { self.old.clear ≤ self.old.at }
@@ -118,8 +119,8 @@ impl Scrambler {
         passed
     }
 
-    // Descrambles the next piece from one slice to another, and adds it to the parities on the way. It lies after the
-    // first bytes, which are never scrambled.
+    // Descrambles the next piece from one slice to another, and returns the parities of its bytes, in one pass. The
+    // piece lies after the first bytes of the frame, which are never scrambled.
     #[inline(always)]
     fn open(&mut self, from: &[u8], to: &mut [u8]) -> Passed
         requires behind { self.old.clear ≤ self.old.at }
@@ -136,7 +137,7 @@ impl Scrambler {
         passed
     }
 
-    /// Passes over `count` bytes that are not scrambled.
+    /// Moves past the next `count` bytes of the frame without scrambling them.
     pub fn skip(&mut self, count: usize)
         requires { self.old.at + count ≤ 38880 }
         ensures { self.new ≡ record self.old { at = self.old.at + count } }
@@ -145,7 +146,7 @@ impl Scrambler {
     }
 }
 
-/// BIP-8 of what was added so far.
+/// The BIP-8 of the bytes that were added so far.
 #[derive(Debug, Drop)]
 pub struct Bip8 {
     value: u8,
@@ -174,7 +175,7 @@ impl Bip8 {
         self.value ^= bip8(bytes);
     }
 
-    // Adds the next piece by its parity.
+    // Adds the next piece, which is given by its BIP-8.
     fn add_parity(&mut self, parity: u8)
         ensures { (before bytes : List ℕ) → self.old ≡ parity_of before → parity ≡ parity_of bytes
             → self.new ≡ parity_of (before ++ bytes) }
@@ -190,7 +191,7 @@ impl Bip8 {
     }
 }
 
-/// BIP-24N of what was added so far.
+/// The BIP-24N of the bytes that were added so far.
 #[derive(Debug, Drop)]
 pub struct BipSection {
     n: usize,
@@ -239,7 +240,7 @@ impl BipSection {
         self.next == 0
     }
 
-    // Adds the next piece by its length and its BIP of 48 bytes.
+    // Adds the next piece, which is given by its length and its BIP of 48 bytes. The bytes so far are whole rows of 3N.
     fn add_lanes(&mut self, len: usize, lanes: &[u8; 48])
         requires whole { self.old.next ≡ 0 }
         requires lanes { length lanes.now ≡ 48 }
@@ -260,8 +261,9 @@ impl BipSection {
     }
 }
 
-/// Sends the next piece: it is added to the parity of the bytes without scrambling, scrambled, and added to that of the
-/// bytes on the line, in one pass.
+/// Sends the next piece of a frame: adds it to `clear`, the BIP-24N of the bytes before scrambling; scrambles it; and
+/// adds it to `line`, the BIP-8 of the bytes on the line. Where the piece begins a row of 3N bytes, after the bytes
+/// that stay clear, that takes one pass.
 pub fn send_piece(
     clear: &mut BipSection,
     scrambler: &mut Scrambler,
@@ -287,8 +289,9 @@ pub fn send_piece(
     line.add_parity(passed.line);
 }
 
-/// Receives the next piece: it is added to the parity of the bytes on the line, descrambled, and added to that of the
-/// bytes without scrambling, in one pass.
+/// Receives the next piece of a frame: adds it to `line`, the BIP-8 of the bytes on the line; descrambles it; and adds
+/// it to `clear`, the BIP-24N of the descrambled bytes. Where the piece begins a row of 3N bytes, after the bytes that
+/// stay clear, that takes one pass.
 pub fn receive_piece(
     line: &mut Bip8,
     scrambler: &mut Scrambler,
@@ -314,7 +317,8 @@ pub fn receive_piece(
     clear.add_lanes(bytes.len(), &passed.lanes);
 }
 
-/// Receives the next piece from one slice to another: as `receive_piece`, but the source keeps its bytes.
+/// Receives the next piece of a frame as `receive_piece` does, but puts the descrambled bytes into `to`, and leaves
+/// those in `from` as they are.
 pub fn open_piece(
     line: &mut Bip8,
     scrambler: &mut Scrambler,
@@ -341,7 +345,7 @@ pub fn open_piece(
     clear.add_lanes(from.len(), &passed.lanes);
 }
 
-/// However a frame is cut, its pieces make what the whole makes.
+/// However a frame is cut into pieces, scrambling the pieces gives what scrambling the whole frame gives.
 pub fn pieces_make_the_whole()
     ensures { InPieces }
 {}

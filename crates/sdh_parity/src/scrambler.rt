@@ -1,4 +1,4 @@
-//! The scrambler.
+//! The frame-synchronous scrambler. Its sequence is added to the bytes modulo 2, bit by bit (XOR).
 ghost use Rattle.std.specs.Prelude.{◌≡◌, ℕ, ◌+◌, ◌-◌, ◌*◌, ◌/◌, ◌<◌, ◌≤◌, length, slice_index, bit_xor};
 ghost use Rattle.sdh_basics.specs.Cells.{cells};
 ghost use Rattle.sdh_basics.specs.Parity.{bip8 as parity_of};
@@ -10,8 +10,8 @@ use std::simd::prelude::*;
 #[derive(Clone, Copy, Debug, PartialEq, Eq)]
 pub struct Rate9(pub usize);
 
-// The first 1064 bytes of the sequence: it repeats after 127 bits, so after 127 bytes. 1016 is eight times that, and 48 more
-// bytes let a vector begin anywhere in them.
+// The first 1064 bytes of the scrambling sequence. It repeats after 127 bits, and so after 127 bytes. 1016 is eight
+// times 127; the 48 more bytes let a row of 48 begin at any of the first 1016.
 #[rattlefmt::skip]
 static SEQUENCE: [u8; 1064] = [
     0xFE, 0x04, 0x18, 0x51, 0xE4, 0x59, 0xD4, 0xFA, 0x1C, 0x49, 0xB5, 0xBD, 0x8D, 0x2E, 0xE6, 0x55,
@@ -83,7 +83,8 @@ static SEQUENCE: [u8; 1064] = [
     0x71, 0x26, 0xD6, 0xF6, 0x34, 0xBB, 0x99, 0x57,
 ];
 
-// The parities of its first bytes: of none, of one and so on. That of 1016 bytes is 0, so they repeat after 1016.
+// The BIP-8 of the first bytes of the scrambling sequence: of none, of one and so on. That of the first 1016 bytes is
+// 0, so the values repeat after 1016.
 #[rattlefmt::skip]
 static PARITIES: [u8; 1016] = [
     0x00, 0xFE, 0xFA, 0xE2, 0xB3, 0x57, 0x0E, 0xDA, 0x20, 0x3C, 0x75, 0xC0, 0x7D, 0xF0, 0xDE, 0x38,
@@ -195,7 +196,7 @@ pub(crate) fn key(i: usize) -> u8x16
     u8x16::from_slice(&table()[i..])
 }
 
-// Adds the first bytes of the sequence.
+// Adds the sequence, from its start, to at most 1016 bytes.
 #[inline(always)]
 fn add_part(part: &mut [u8])
     requires { length part.old ≤ 1016 }
@@ -206,7 +207,7 @@ fn add_part(part: &mut [u8])
     }
 }
 
-// Adds the sequence from its start.
+// Adds the sequence, from its start, to bytes of any number.
 pub(crate) fn add_sequence(bytes: &mut [u8])
     ensures { (k : ℕ) → k < length bytes.old → slice_index bytes.new k ≡ bit_xor (slice_index bytes.old k) (scrambling_byte k) }
 {
@@ -218,7 +219,7 @@ pub(crate) fn add_sequence(bytes: &mut [u8])
     add_part(&mut bytes[blocks * 1016..]);
 }
 
-/// Scrambles or descrambles a whole frame in place: the first 9N bytes stay.
+/// Scrambles or descrambles a whole frame in place. The first 9N bytes stay as they are.
 pub fn scramble(rate: Rate9, bytes: &mut [u8])
     requires { length bytes.old ≡ 270 * rate.0 }
     ensures { bytes.new ≡ scrambled rate.0 bytes.old }

@@ -1,6 +1,6 @@
-//! The scrambler and both parities in one pass over the bytes of a piece. Only the clear bytes are summed: as they are after
-//! the pass where `clear_after` holds, as they were before it otherwise. The parity of the other bytes, those on the line, is
-//! the clear bytes' with that of the sequence added.
+//! The scrambler and both parities in one pass over the bytes of a piece. Only the clear bytes are summed. They are the
+//! bytes after the pass where `clear_after` holds, and those before it otherwise. The parity of the other bytes, those
+//! on the line, is that of the clear bytes with that of the sequence added.
 ghost use Rattle.std.specs.Prelude.{◌≡◌, ℕ, ◌+◌, ◌*◌, ◌%◌, ◌<◌, ◌≤◌, if◌then◌else◌, length, slice_index, bit_xor};
 ghost use Rattle.sdh_basics.specs.Parity.{bip8 as parity_of};
 ghost use Rattle.sdh_parity.specs.Parity.{every};
@@ -11,7 +11,7 @@ use crate::parity::bip8;
 use crate::scrambler::{key, sequence, sequence_parity};
 use std::simd::prelude::*;
 
-// Returns sixteen bytes with the sequence added from its byte k on.
+// Returns sixteen bytes to which the sequence, from its byte k on, is added.
 #[inline(always)]
 fn keyed(old: u8x16, k: usize) -> u8x16
     requires long { length old ≡ 16 }
@@ -22,7 +22,8 @@ fn keyed(old: u8x16, k: usize) -> u8x16
     old ^ key(k)
 }
 
-// Adds the sequence from its byte k on to sixteen bytes from i on, and returns the sum with the clear ones added.
+// Adds the sequence, from its byte k on, to the sixteen bytes from place i on. Returns `sum` with these bytes added as
+// they are when clear: after the step where `clear_after` holds, and before it otherwise.
 #[inline(always)]
 fn step(bytes: &mut [u8], i: usize, k: usize, sum: u8x16, clear_after: bool) -> u8x16
     requires room { i + 16 ≤ length bytes.old }
@@ -41,8 +42,8 @@ fn step(bytes: &mut [u8], i: usize, k: usize, sum: u8x16, clear_after: bool) -> 
     sum ^ (if clear_after { new } else { old })
 }
 
-// Copies sixteen bytes from i on with the sequence added from its byte k on, and returns the sum with the copied, clear
-// ones added.
+// Copies the sixteen bytes from place i on, and adds the sequence, from its byte k on, to the copies. Returns `sum`
+// with the copies added, which are clear.
 #[inline(always)]
 fn open_step(from: &[u8], to: &mut [u8], i: usize, k: usize, sum: u8x16) -> u8x16
     requires room { i + 16 ≤ length from.now }
@@ -59,7 +60,7 @@ fn open_step(from: &[u8], to: &mut [u8], i: usize, k: usize, sum: u8x16) -> u8x1
     sum ^ new
 }
 
-// Returns the place in the sequence 48 bytes on, modulo 1016.
+// Returns the place in the sequence 48 bytes after place k, modulo 1016.
 #[inline(always)]
 fn after_row(k: usize) -> usize
     requires { k < 1016 }
@@ -72,7 +73,7 @@ fn after_row(k: usize) -> usize
     }
 }
 
-// The sums of 48 columns.
+// The parities of 48 columns: of the first sixteen, the next sixteen and the last sixteen.
 #[derive(Drop)]
 struct Sums {
     a: u8x16,
@@ -80,7 +81,8 @@ struct Sums {
     c: u8x16,
 }
 
-// Adds the sequence from its byte `at` on to whole rows of 48 bytes, and returns the sums of the clear bytes.
+// Adds the sequence, from its byte `at` on, to whole rows of 48 bytes. Returns the parities of the columns of clear
+// bytes.
 #[inline(always)]
 fn mix(bytes: &mut [u8], at: usize, rows: usize, clear_after: bool) -> Sums
     requires rows { length bytes.old ≡ 48 * rows }
@@ -105,8 +107,8 @@ fn mix(bytes: &mut [u8], at: usize, rows: usize, clear_after: bool) -> Sums
     Sums { a, b, c }
 }
 
-// Copies whole rows of 48 bytes with the sequence added from its byte `at` on, and returns the sums of the copied
-// bytes.
+// Copies whole rows of 48 bytes, and adds the sequence, from its byte `at` on, to the copies. Returns the parities of
+// the columns of the copies.
 #[inline(always)]
 fn open_rows(from: &[u8], to: &mut [u8], at: usize, rows: usize) -> Sums
     requires rows { length from.now ≡ 48 * rows }
@@ -130,7 +132,7 @@ fn open_rows(from: &[u8], to: &mut [u8], at: usize, rows: usize) -> Sums
     Sums { a, b, c }
 }
 
-// Three vectors one after the other.
+// Puts three vectors, one after the other, into the 48 bytes of `all`.
 fn join(a: u8x16, b: u8x16, c: u8x16, all: &mut [u8])
     requires a { length a ≡ 16 }
     requires b { length b ≡ 16 }
@@ -145,7 +147,7 @@ fn join(a: u8x16, b: u8x16, c: u8x16, all: &mut [u8])
     c.copy_to_slice(&mut all[32..]);
 }
 
-/// Adds bytes to the first of the sums.
+/// Adds `len` bytes to the first `len` of the sums.
 #[inline(always)]
 pub fn add_to(sums: &mut [u8], bytes: &[u8], len: usize)
     requires bytes { length bytes.now ≡ len }
@@ -158,7 +160,7 @@ pub fn add_to(sums: &mut [u8], bytes: &[u8], len: usize)
     }
 }
 
-// Adds the sequence from its byte k on.
+// Adds the sequence, from its byte k on, to `len` bytes.
 #[inline(always)]
 fn add_key(bytes: &mut [u8], len: usize, k: usize)
     requires bytes { length bytes.old ≡ len }
@@ -170,8 +172,8 @@ fn add_key(bytes: &mut [u8], len: usize, k: usize)
     }
 }
 
-// Adds the sequence to part of a row of 48 bytes, and the part's bytes to the lanes: those after it where `clear_after`
-// holds, and else those before.
+// Adds the sequence, from its byte k on, to a part of a row of 48 bytes, and adds the part's clear bytes to the first
+// lanes. They are the part's bytes after the sequence is added where `clear_after` holds, and before it otherwise.
 #[inline(always)]
 fn pass_part(bytes: &mut [u8], len: usize, k: usize, lanes: &mut [u8], clear_after: bool)
     requires bytes { length bytes.old ≡ len }
@@ -192,8 +194,9 @@ fn pass_part(bytes: &mut [u8], len: usize, k: usize, lanes: &mut [u8], clear_aft
     }
 }
 
-// Adds the sequence to the bytes after the last whole row of 48. An STM-4 row has 24 of them, and without its overhead
-// 36: each of these lengths has code of its own, in which it is a constant and the short loops are unrolled.
+// Adds the sequence, from its byte k on, to the bytes after the last whole row of 48, and adds their clear bytes to the
+// lanes. A row of an STM-4 frame leaves 24 such bytes, and 36 without its overhead. Each of these lengths is compiled
+// as a constant, so that the short loops are unrolled.
 fn pass_rest(bytes: &mut [u8], k: usize, lanes: &mut [u8], clear_after: bool)
     requires few { length bytes.old ≤ 48 }
     requires key { k + length bytes.old ≤ 1064 }
@@ -217,7 +220,8 @@ pub struct Passed {
     pub line: u8,
 }
 
-/// Adds the sequence from its byte `at` on to a piece, and returns the parities of its bytes.
+/// Adds the sequence, from its byte `at` on, to a piece, and returns the parities of its bytes. Its bytes are clear
+/// after that where `clear_after` holds, and before it otherwise.
 #[inline(always)]
 pub fn pass(bytes: &mut [u8], at: usize, clear_after: bool) -> Passed
     requires { at + length bytes.old ≤ 38880 }
@@ -238,7 +242,8 @@ pub fn pass(bytes: &mut [u8], at: usize, clear_after: bool) -> Passed
     Passed { lanes, line }
 }
 
-/// Copies a piece with the sequence added from its byte `at` on, and returns the parities of the copied, clear bytes.
+/// Copies a piece, and adds the sequence, from its byte `at` on, to the copy. Returns the parities of the copy, which
+/// is clear, and of the bytes on the line.
 #[inline(always)]
 pub fn open(from: &[u8], to: &mut [u8], at: usize) -> Passed
     requires few { at + length from.now ≤ 38880 }

@@ -12,20 +12,20 @@ goes_on value [] = false
 goes_on value (Ais ∷ earlier) = false
 goes_on value (Chunk bytes last ∷ earlier) = last == value
 
--- the chunks since the watch began anew, one after the other. A chunk with another value begins anew with this chunk, and AIS
--- without one.
+-- The bytes of the chunks since the watch began anew, one after the other. A chunk that doesn't go on begins anew with
+-- itself; AIS begins anew with no chunk.
 abbrev pub bytes_of : List Given → List ℕ
 bytes_of [] = []
 bytes_of (Ais ∷ earlier) = []
 bytes_of (Chunk bytes value ∷ earlier) = if goes_on value earlier then bytes_of earlier ++ bytes else bytes
 
--- how many they are
+-- the number of chunks since the watch began anew
 abbrev pub count_of : List Given → ℕ
 count_of [] = 0
 count_of (Ais ∷ earlier) = 0
 count_of (Chunk bytes value ∷ earlier) = if goes_on value earlier then count_of earlier + 1 else 1
 
--- the pointer value of the chunks given last, and 0 where there are none
+-- the pointer value of the chunks since the watch began anew, and 0 where there are none
 abbrev pub given_value : List Given → ℕ
 given_value [] = 0
 given_value (Ais ∷ earlier) = 0

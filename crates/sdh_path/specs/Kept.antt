@@ -8,8 +8,8 @@ use Rattle.sdh_path.specs.PathReports.{b3, c2, vc4_in, b3_violations, label_viol
 
 -- ---- a run of bytes that begins with a VC-4
 
--- What is kept of it: the sums over its whole VC-4s, the parity of the last of them, and of the bytes after that one
--- how many they are, their parity, and B3 and C2 where they are among them.
+-- What is kept of a run of bytes that begins with a VC-4: the counts over its whole VC-4s, and the parity of the last
+-- one. Of the bytes after that one their number and their parity are kept, and B3 and C2 where these have come.
 pub record IsTallyOf (run : List ℕ) (t : Tally) : Type 0 where
   pub long : length run ≡ 2349 * t.vcs + t.index
   pub within : t.index ≤ 2349
@@ -20,7 +20,7 @@ pub record IsTallyOf (run : List ℕ) (t : Tally) : Type 0 where
   pub b3_byte_is : t.b3_byte ≡ b3 (drop (2349 * t.vcs) run)
   pub label_byte_is : t.label_byte ≡ c2 (drop (2349 * t.vcs) run)
 
--- the sums are no larger than the number of VC-4s allows
+-- the counts are no larger than the number of VC-4s allows, and the unfinished VC-4 isn't whole
 pub record IsSmall (t : Tally) : Type 0 where
   pub b3_few : t.b3 ≤ 8 * t.vcs
   pub label_few : t.label ≤ t.vcs
@@ -34,7 +34,7 @@ pub record Kept : Type 0 where
   -- the pointer value of the last chunk, and how many chunks came since the watch began anew
   pub value : ℕ
   pub chunks : ℕ
-  -- what is kept of their bytes from the first VC-4 on
+  -- what is kept of the bytes of these chunks, from the first VC-4 on
   pub tally : Tally
   -- the bytes J1 of the last 64 chunks, that of chunk i at place i modulo 64
   pub last : List ℕ
@@ -50,7 +50,7 @@ pub record IsKept (k : Kept) : Type 0 where
   pub begins : k.chunks ≡ 0 → k.tally.index ≡ 0
   pub goes : 0 < k.chunks → k.tally.index ≡ (2349 - phase_of k.value) % 2349
 
--- a watch that expects this trace has come to this by what it was given
+-- a watch that expects this trace keeps this after it was given `past`
 pub record CameBy (trace : List ℕ) (past : List Given) (k : Kept) : Type 0 where
   pub trace_is : k.trace ≡ padded trace
   pub value_is : k.value ≡ given_value past

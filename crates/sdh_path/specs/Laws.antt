@@ -33,13 +33,14 @@ abbrev pub chunks_from : Customer → ℕ → ℕ → ℕ → List Given
 chunks_from port p value zero = []
 chunks_from port p value (suc k) = Chunk (stream_from port (p + 2349 * k) 2349) value ∷ chunks_from port p value k
 
--- watches that were given nothing but clean chunks since they began anew report no fault
+-- a watch that expects a port's trace, and was given n chunks of the port's stream, one after the other, reports no
+-- fault
 abbrev pub ChunksAreClean : Type 0
 ChunksAreClean =
     (port : Customer) (p n value : ℕ) → 1 ≤ n → value ≤ 782 → BeginsAt port.offset p value
     → path_report_of port.trace (chunks_from port p value n) ≡ clean_report n value
 
--- the byte to which a clock has come is in step with its pointer value, however it slips
+-- the place in the stream to which a clock has come is in step with its pointer value, however the clock slips
 pub record ClocksAreInStep : Type 0 where
   pub first : (offset : ℕ) → offset ≤ 782 → BeginsAt offset (new_clock offset).sent (new_clock offset).value
   pub told : (offset : ℕ) (turn : Turn) (count : ℕ) (c : Clock) → BeginsAt offset c.sent c.value

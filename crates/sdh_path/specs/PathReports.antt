@@ -1,5 +1,5 @@
--- What a watch reports of the chunks that it was given: the VC-4s in them, by the first three bytes of the path overhead, J1, B3 and C2
--- (ITU-T G.707 clause 9.3). The words and the numbers are this project's own.
+-- What a watch reports of the chunks that it was given. It looks at the first three path overhead bytes, J1, B3 and C2,
+-- of the VC-4s in them (ITU-T G.707 clause 9.3). The report itself is this project's own.
 use Rattle.std.specs.Prelude.{ℕ, zero, suc, ◌+◌, ◌-◌, ◌*◌, ◌/◌, ◌%◌, Bool, ◌==◌, nat_lt, if◌then◌else◌, List, length, take, drop}
 use Rattle.std.specs.Prelude.{slice_index, bytes_eq}
 use Rattle.std.specs.List.{list_any, range_with_len}
@@ -28,16 +28,17 @@ c2 vc4 = slice_index vc4 522
 unfoldable pub vc4_in : List ℕ → ℕ → ℕ → List ℕ
 vc4_in bytes first i = take 2349 (drop (first + 2349 * i) bytes)
 
--- how many are there whole
+-- the number of VC-4s that are whole
 abbrev pub vcs_in : List ℕ → ℕ → ℕ
 vcs_in bytes first = (length bytes - first) / 2349
 
--- in how many bits B3 of number i differs from the parity of the VC-4 before it. Number 0 has none before it.
+-- the number of bits in which B3 of VC-4 number i differs from the parity of the VC-4 before it; 0 for number 0, which
+-- has none before it
 abbrev pub b3_violations_at : List ℕ → ℕ → ℕ → ℕ
 b3_violations_at bytes first zero = 0
 b3_violations_at bytes first (suc i) = differing_bits (b3 (vc4_in bytes first (suc i))) (bip8 (vc4_in bytes first i))
 
--- over the first k of them
+-- the number of bits in which B3 differs from the parity of the VC-4 before, over the first k VC-4s
 unfoldable pub b3_violations : List ℕ → ℕ → ℕ → ℕ
 b3_violations bytes first zero = 0
 b3_violations bytes first (suc i) = b3_violations bytes first i + b3_violations_at bytes first i
@@ -47,7 +48,7 @@ unfoldable pub label_violations : List ℕ → ℕ → ℕ → ℕ
 label_violations bytes first zero = 0
 label_violations bytes first (suc i) = label_violations bytes first i + (if c2 (vc4_in bytes first i) == 1 then 0 else 1)
 
--- all bytes J1, with which the VC-4s begin, also that of a last one that isn't whole
+-- the bytes J1 of all VC-4s, each of which begins with one; also that of a last VC-4 that isn't whole
 unfoldable pub j1_bytes : List ℕ → ℕ → List ℕ
 j1_bytes bytes first = cells (λ i. slice_index bytes (first + 2349 * i)) ((length bytes + 2348 - first) / 2349)
 
@@ -57,11 +58,12 @@ j1_bytes bytes first = cells (λ i. slice_index bytes (first + 2349 * i)) ((leng
 abbrev pub rotated : ℕ → List ℕ → List ℕ
 rotated r trace = cells (λ i. slice_index trace ((r + i) % 64)) 64
 
--- some bytes are such 64, wherever they begin
+-- the bytes are a rotation of the trace
 unfoldable pub is_rotation : List ℕ → List ℕ → Bool
 is_rotation bytes trace = list_any (λ r. bytes_eq bytes (rotated r trace)) (range_with_len 0 64)
 
--- what is said of these bytes J1, where this trace is expected: the last 64 of them are it, or not, or there are fewer
+-- the verdict on these bytes J1 where this trace is expected: the last 64 of them are a rotation of it, or not, or
+-- there are fewer than 64
 abbrev pub trace_word : List ℕ → List ℕ → TraceWord
 trace_word trace all =
     if nat_lt (length all) 64 then Short else

@@ -1,11 +1,11 @@
-//! The VC-4s of a run of bytes, which is given in pieces.
+//! Counts over the VC-4s of a run of bytes that is given in pieces.
 ghost use Rattle.std.specs.Prelude.{◌≡◌, ℕ, ◌+◌, ◌*◌, ◌/◌, ◌%◌, ◌<◌, ◌≤◌, ◌==◌, if◌then◌else◌, List, [], ◌++◌, length, slice_index};
 ghost use Rattle.sdh_parity.specs.Violations.{differing_bits};
 ghost use Rattle.sdh_path.specs.Kept.{IsTallyOf, IsSmall};
 
 use sdh_parity::{bip8, differing_bits};
 
-/// The bytes of a VC-4.
+/// The number of bytes of a VC-4.
 pub(crate) const VC4_LEN: usize = 2349;
 
 /// The place of B3 in a VC-4.
@@ -22,21 +22,24 @@ const EQUIPPED: u8 = 1;
 pub struct Tally {
     /// The number of whole VC-4s.
     pub vcs: u32,
-    /// The number of bits in which their B3 differ from the parities of the VC-4s before them.
+    /// The number of bits in which B3 of these VC-4s differs from the parity of the VC-4 before each.
     pub b3: u32,
-    /// The number of VC-4s that aren't labelled as equipped.
+    /// The number of these VC-4s whose signal label C2 isn't 1, equipped.
     pub label: u32,
-    /// The parity of the last of them.
+    /// The BIP-8 of the last whole VC-4, with which B3 of the next one is compared.
     pub due: u8,
-    /// The number of bytes after the last whole VC-4, and their parity.
+    /// The number of bytes after the last whole VC-4, which are those of an unfinished one.
     pub index: usize,
+    /// The BIP-8 of the bytes of the unfinished VC-4.
     pub parity: u8,
-    /// B3 and C2 among these, and 0 where they haven't come.
+    /// B3 of the unfinished VC-4, and 0 where it hasn't come.
     pub b3_byte: u8,
+    /// C2 of the unfinished VC-4, and 0 where it hasn't come.
     pub label_byte: u8,
 }
 
-// Returns the byte at a place of a VC-4, where `kept` is that of its first `index` bytes and a piece comes after these.
+// Returns the byte at a place of an unfinished VC-4, to which a piece is added after its first `index` bytes: the byte
+// of the piece there, or else `kept`, which was known before.
 fn byte_with(kept: u8, index: usize, piece: &[u8], place: usize) -> u8
     ensures { (part : List ℕ) → length part ≡ index → kept ≡ slice_index part place → result ≡ slice_index (part ++ piece.now) place }
 {
@@ -47,7 +50,7 @@ fn byte_with(kept: u8, index: usize, piece: &[u8], place: usize) -> u8
     }
 }
 
-// Returns whether a signal label isn't that of an equipped path, as a number.
+// Returns 0 for the signal label of an equipped path, and 1 for any other.
 fn label_violations(label: u8) -> u32
     ensures value { result ≡ (if label == 1 then 0 else 1) }
     ensures few { result ≤ 1 }
@@ -93,7 +96,8 @@ impl Tally {
         }
     }
 
-    // Returns in how many bits B3 of the VC-4 that is whole now differs from the parity of the one before it.
+    // Returns the number of bits in which B3 of the VC-4 that is now whole differs from the parity of the one before
+    // it, and 0 for the first one.
     fn b3_violations(self) -> u32
         ensures first { self.vcs ≡ 0 → result ≡ 0 }
         ensures later { 0 < self.vcs → result ≡ differing_bits self.b3_byte self.due }
@@ -106,7 +110,7 @@ impl Tally {
         }
     }
 
-    // Returns the counts once the unfinished VC-4 is whole: it is counted then.
+    // Returns the counts with the unfinished VC-4 counted, if it is whole, and as they are if it isn't.
     fn closed(self) -> Tally
         requires b3 { self.b3 ≤ 8 * self.vcs }
         requires label { self.label ≤ self.vcs }

@@ -5,10 +5,10 @@ ghost use Rattle.sdh_path.specs.PathReports.{rotated, is_rotation};
 
 use sdh_payload::trace_byte;
 
-/// The bytes of a trace.
+/// The number of bytes of a trace.
 pub(crate) const TRACE_LEN: usize = 64;
 
-/// Returns a trace padded with spaces.
+/// Returns a trace padded with spaces to 64 bytes.
 pub(crate) fn padded(trace: &[u8]) -> [u8; TRACE_LEN]
     requires { length trace.now ≤ 64 }
     ensures { result ≡ padded trace.now }
@@ -20,7 +20,7 @@ pub(crate) fn padded(trace: &[u8]) -> [u8; TRACE_LEN]
     all
 }
 
-/// Returns a trace that begins at its byte `from` and goes on round its end.
+/// Returns a trace rotated so that it begins with its byte `from`, modulo 64.
 pub(crate) fn begun_at(from: usize, trace: &[u8; TRACE_LEN]) -> [u8; TRACE_LEN]
     requires { from ≤ 1000000 }
     ensures { result ≡ rotated (from % 64) trace.now }
@@ -32,7 +32,7 @@ pub(crate) fn begun_at(from: usize, trace: &[u8; TRACE_LEN]) -> [u8; TRACE_LEN]
     all
 }
 
-// Returns whether some bytes are a trace, begun at its byte `from`.
+// Returns whether the bytes are the trace rotated so that it begins with its byte `from`.
 fn is_begun_at(from: usize, bytes: &[u8; TRACE_LEN], trace: &[u8; TRACE_LEN]) -> bool
     requires { from < 64 }
     ensures { result ≡ bytes_eq bytes.now (rotated from trace.now) }
@@ -40,7 +40,7 @@ fn is_begun_at(from: usize, bytes: &[u8; TRACE_LEN], trace: &[u8; TRACE_LEN]) ->
     *bytes == begun_at(from, trace)
 }
 
-/// Returns whether some bytes are a trace, begun somewhere.
+/// Returns whether the bytes are a rotation of the trace.
 #[tactic(auto, unfolding(crate::specs::PathReports::is_rotation))]
 pub(crate) fn is_rotation(bytes: &[u8; TRACE_LEN], trace: &[u8; TRACE_LEN]) -> bool
     ensures { result ≡ is_rotation bytes.now trace.now }

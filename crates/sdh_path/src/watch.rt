@@ -18,14 +18,14 @@ use thiserror::Error;
 #[error("the trace isn't 1 to 64 bytes, each from 0x20 to 0x7E")]
 pub struct BadTrace;
 
-/// What is said of the last 64 bytes J1.
+/// The verdict on the last 64 bytes J1.
 #[derive(Clone, Copy, Debug, PartialEq, Eq)]
 pub enum TraceWord {
     /// The 64 bytes of J1 are a rotation of the expected trace.
     Ok,
     /// The 64 bytes of J1 are no rotation of the expected trace.
     Mismatch,
-    /// There are fewer than 64.
+    /// Fewer than 64 bytes J1 have come.
     Short,
 }
 
@@ -34,11 +34,11 @@ pub enum TraceWord {
 pub struct PathReport {
     /// The number of whole VC-4s in these chunks.
     pub vcs: u32,
-    /// The number of bits in which B3 differs from the parity of the VC-4 before.
+    /// The number of bits in which B3 of these VC-4s differs from the parity of the VC-4 before each.
     pub b3: u32,
-    /// The number of VC-4s that aren't labelled as equipped.
+    /// The number of these VC-4s whose signal label C2 isn't 1, equipped.
     pub label: u32,
-    /// What is said of their path trace.
+    /// The verdict on their path trace.
     pub trace: TraceWord,
 }
 
@@ -62,7 +62,7 @@ impl Model for Watch {
     ghost invariant = { λ w. IsKept (record { trace = w.trace; value = w.value; chunks = w.chunks; tally = w.tally; last = w.last }) };
 }
 
-// Returns the byte of a chunk with which a VC-4 begins.
+// Returns the index in a chunk of the byte with which a VC-4 begins, by the pointer value.
 fn first_index(value: u16) -> usize
     requires { value ≤ 782 }
     ensures index { result ≡ phase_of value }
@@ -71,8 +71,8 @@ fn first_index(value: u16) -> usize
     (783 + 3 * usize::from(value)) % VC4_LEN
 }
 
-// Returns what is kept after a chunk in which a VC-4 begins at `start`. Where it doesn't go on with the chunks before
-// it, the bytes before that are of no VC-4.
+// Returns the counts after a chunk in which a VC-4 begins at index `start`. Where the chunk doesn't go on with those
+// before it, the counts begin with that VC-4, and the bytes before it don't count.
 fn tally_with(tally: Tally, goes_on: bool, start: usize, bytes: &[u8]) -> Tally
     requires small { IsSmall tally }
     requires start { start < 2349 }
@@ -114,7 +114,8 @@ impl Watch {
         })
     }
 
-    // Returns whether a chunk with this value goes on with the last one.
+    // Returns whether a chunk with this pointer value goes on with the last one: there is one, and it came with the
+    // same value.
     fn goes_on(&self, value: u16) -> bool
         ensures history { (trace : List ℕ) (past : List Given) → CameBy trace past self.now → result ≡ goes_on value past }
         ensures some { result ≡ true → 0 < self.now.chunks }
@@ -123,8 +124,9 @@ impl Watch {
         self.chunks > 0 && self.value == value
     }
 
-    /// Looks at the 2349 bytes that the port delivered in a round, with the pointer value with which they came. A value
-    /// other than that of the last chunk begins anew with this one.
+    /// Looks at the 2349 bytes that the port delivered in a round, with the pointer value with which they came. Where
+    /// the value isn't that of the last chunk, the watch begins anew with this chunk. At most 1,000,000 chunks may come
+    /// before it begins anew.
     pub fn chunk(&mut self, bytes: &[u8], value: u16)
         requires bytes { length bytes.now ≡ 2349 }
         requires value { value ≤ 782 }
@@ -142,7 +144,7 @@ impl Watch {
         self.chunks = before + 1;
     }
 
-    /// Looks at AIS, with which the watch begins anew.
+    /// Looks at a round in which the port delivered AIS. The watch begins anew with the next chunk.
     pub fn ais(&mut self)
         ensures history { (trace : List ℕ) (past : List Given) → CameBy trace past self.old → CameBy trace (Ais ∷ past) self.new }
         ensures none { self.new.chunks ≡ 0 }
@@ -152,7 +154,7 @@ impl Watch {
         self.tally = Tally::new();
     }
 
-    // Returns what is said of the last 64 bytes J1.
+    // Returns the verdict on the last 64 bytes J1.
     fn trace_word(&self) -> TraceWord
         ensures history { (trace : List ℕ) (past : List Given) → CameBy trace past self.now → result ≡ (path_report_of trace past).trace }
     {

@@ -1,7 +1,7 @@
 -- A customer's clock, which may run fast or slow against the ring's: its port then justifies the AU-4 pointer (ITU-T
--- G.707 clause 8.1). That it slips when it is ordered to, and when, is this project's own. A clock here is a few
--- numbers and a round of them; `History` states the rule by what happened alone, and that every clock goes by it is the
--- law `clocks_go_by_history`.
+-- G.707 clause 8.1). When a clock slips, and when its port justifies, are rules of this project. Here a clock is a few
+-- numbers that each round changes. `History` states the same rules by what happened alone; the law
+-- `clocks_go_by_history` says that every clock goes by them.
 use Rattle.std.specs.Prelude.{◌≡◌, ℕ, zero, suc, ◌+◌, ◌-◌, ◌*◌, ◌%◌, ◌≤◌, nat_le, if◌then◌else◌}
 use Rattle.sdh_payload.specs.declared.chunk.ChunkForm.{ChunkForm}
 use Rattle.sdh_payload.specs.declared.chunk.ChunkForm.TheVariants.{Plain, Short, Long}
@@ -10,18 +10,19 @@ use Rattle.sdh_payload.specs.declared.clock.Turn.TheVariants.{Up, Down}
 use Rattle.sdh_payload.specs.Chunk.{taken_len}
 
 pub record Clock : Type 0 where
-  -- how many rounds it has run
+  -- the number of rounds that it has run
   pub rounds : ℕ
-  -- how many slips wait: positive justifications, each with three bytes less in its round, and negative ones, with three more
+  -- the numbers of slips that wait: ups, each for a positive justification with three bytes fewer in its round, and
+  -- downs, each for a negative one with three more
   pub ups : ℕ
   pub downs : ℕ
-  -- how many rounds come before one that may justify: the first four of all, and three after each justification
+  -- the number of rounds to come before one that may justify: at first four, and three after each justification
   pub rest : ℕ
-  -- how many bytes of the stream it has sent
+  -- the number of bytes of the stream that it has sent
   pub sent : ℕ
   -- the pointer value, which counts steps of three bytes
   pub value : ℕ
-  -- what it sent in the last round, and `Plain` before the first
+  -- the form of what it sent in the last round, and `Plain` before the first
   pub form : ChunkForm
 
 -- the clock of a port with this offset, before round 0
@@ -36,7 +37,7 @@ pub record IsClock (offset rounds : ℕ) (c : Clock) : Type 0 where
 
 -- ---- between rounds
 
--- all slips that wait
+-- the number of all slips that wait
 abbrev pub waiting : Clock → ℕ
 waiting c = c.ups + c.downs
 
@@ -47,14 +48,15 @@ with_waiting Down count c = record c { downs = c.downs + count }
 
 -- ---- a round
 
--- what it sends in the next round: one slip is used up where one may be and one waits, ups before downs
+-- the form of what is sent in the next round: it uses up one slip where one waits and the round may justify, ups before
+-- downs
 abbrev pub next_form : Clock → ChunkForm
 next_form c =
     if nat_le 1 c.rest then Plain else
     if nat_le 1 c.ups then Short else
     if nat_le 1 c.downs then Long else Plain
 
--- after a round in which it sent this; 782 steps forward are one step back
+-- a clock after a round in which a chunk of this form was sent; modulo 783 adding 782 is taking away 1
 abbrev pub after_form : ChunkForm → Clock → Clock
 after_form Plain c = record c { rounds = c.rounds + 1; rest = c.rest - 1; sent = c.sent + 2349; form = Plain }
 after_form Short c =
@@ -62,7 +64,7 @@ after_form Short c =
 after_form Long c =
     record c { rounds = c.rounds + 1; downs = c.downs - 1; rest = 3; sent = c.sent + 2352; value = (c.value + 782) % 783; form = Long }
 
--- after the next round
+-- a clock after the next round
 unfoldable pub ticked : Clock → Clock
 ticked c = after_form (next_form c) c
 
@@ -71,11 +73,12 @@ unfoldable pub ticks : ℕ → Clock → Clock
 ticks zero c = c
 ticks (suc k) c = ticked (ticks k c)
 
--- where the bytes of the last round begin in the stream
+-- the place in the stream at which the bytes of the last round begin
 abbrev pub last_from : Clock → ℕ
 last_from c = c.sent - taken_len c.form
 
--- what is true of every clock: its value is one of a pointer, at most 16 slips wait, and it went on by about 2349 bytes a round
+-- what is true of every clock: its value is one of a pointer, at most 16 slips wait, and it sent at most 2352 bytes a
+-- round
 pub record IsKept (c : Clock) : Type 0 where
   pub value_small : c.value ≤ 782
   pub rest_few : c.rest ≤ 4

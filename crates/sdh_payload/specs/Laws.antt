@@ -18,16 +18,17 @@ abbrev pub ChunksAreTheStream : Type 0
 ChunksAreTheStream =
     (port : Customer) (c : Clock) (n : ℕ) → sent_in_rounds port c n ≡ stream_from port c.sent (length (sent_in_rounds port c n))
 
--- what is laid out in an AU-4 is what is taken from it
+-- what is laid out in an AU-4 is what a port takes from it at the same justification
 abbrev pub WhatIsLaidIsTaken : Type 0
 WhatIsLaidIsTaken =
     (form : ChunkForm) (bytes : List ℕ) → length bytes ≡ taken_len form → taken form (laid_payload form bytes) (laid_h3 form bytes) ≡ bytes
 
--- the VC-4 that begins in chunk j: the next one, unless the stream begins with a whole one
+-- the number of the VC-4 that begins in chunk j: j where the stream begins with a whole VC-4, and otherwise j + 1
 abbrev pub begun_in : Customer → ℕ → ℕ
 begun_in port j = if phase_of port.offset == 0 then j else j + 1
 
--- a VC-4 begins, with J1, at the payload index that the offset gives (ITU-T G.707 clause 8.1)
+-- in each chunk of a clock that never slipped a VC-4 begins, with J1, at the payload index that the offset gives (ITU-T
+-- G.707 clause 8.1)
 abbrev pub BeginsAtTheOffset : Type 0
 BeginsAtTheOffset =
     (port : Customer) (j : ℕ) → slice_index (chunk_of port j) (phase_of port.offset)
@@ -35,15 +36,15 @@ BeginsAtTheOffset =
 
 -- ---- clocks and their histories
 
--- the clock of a port with this offset, after what happened. These are the steps of its feed: `Feed::new`, `wait`, and `next_form` or
--- `next`
+-- the clock of a port with this offset, after what happened; its steps are those of the port's feed: `Feed::new`,
+-- `wait`, and `next_form` or `next`
 abbrev pub clock_by : ℕ → List Happening → Clock
 clock_by offset [] = new_clock offset
 clock_by offset (told turn count ∷ earlier) = with_waiting turn count (clock_by offset earlier)
 clock_by offset (went ∷ earlier) = ticked (clock_by offset earlier)
 
--- a clock shows what its history says: how many rounds went by, the slips that wait, what was sent in the last round
--- and is sent in the next, with which byte of the stream that begins, and the pointer value
+-- A clock shows what its history says. That is the number of rounds, the slips that wait, the forms of the chunks sent
+-- in the last round and in the next, the byte of the stream with which the next round begins, and the pointer value.
 pub record GoesBy (offset : ℕ) (history : List Happening) (c : Clock) : Type 0 where
   pub rounds_are : c.rounds ≡ rounds history
   pub ups_wait : c.ups ≡ ups_waiting history
@@ -57,7 +58,8 @@ pub record GoesBy (offset : ℕ) (history : List Happening) (c : Clock) : Type 0
 abbrev pub ClocksGoByHistory : Type 0
 ClocksGoByHistory = (offset : ℕ) (history : List Happening) → offset ≤ 782 → GoesBy offset history (clock_by offset history)
 
--- in each round the bytes from the one with which it begins to the one with which the next begins are sent
+-- in each round a port sends the bytes of its stream from the one with which this round begins, up to the one before
+-- that with which the next begins
 abbrev pub RoundsFollowEachOther : Type 0
 RoundsFollowEachOther =
     (port : Customer) (history : List Happening) →

@@ -10,17 +10,17 @@ use Rattle.sdh_payload.specs.Customer.{Customer}
 unfoldable pub padded : List ℕ → List ℕ
 padded trace = trace ++ replicate (64 - length trace) 0x20
 
--- the first column of VC-4 number v, the path overhead, from the top: J1 (a byte of the trace in each VC-4), B3, C2, G1, F2,
--- H4, F3, K3, N1
+-- the first column of VC-4 number v, the path overhead, from the top: J1 (a byte of the trace in each VC-4), B3, C2,
+-- G1, F2, H4, F3, K3, N1
 abbrev pub path_overhead : List ℕ → ℕ → ℕ → List ℕ
 path_overhead trace b3 v = slice_index (padded trace) (v % 64) ∷ b3 ∷ 1 ∷ 0 ∷ 0 ∷ 0 ∷ 0 ∷ 0 ∷ 0 ∷ []
 
--- where the text byte in this row and column of VC-4 number v stands, where the text is repeated without end: 2340 bytes a VC-4
+-- the place, in the text repeated without end, of the byte in this row and column of VC-4 number v: 2340 bytes a VC-4
 -- and 260 a row, without the first column
 abbrev pub text_place : ℕ → ℕ → ℕ → ℕ
 text_place v row column = 2340 * v + 260 * row + column - 1
 
--- the byte of a row and a column of VC-4 number v, where b3 is its B3
+-- the byte in this row and column, both counted from 0, of VC-4 number v, where b3 is its B3
 abbrev pub vc4_byte_at : Customer → ℕ → ℕ → ℕ → ℕ → ℕ
 vc4_byte_at port b3 v row column =
     if column == 0 then slice_index (path_overhead port.trace b3 v) row
@@ -43,7 +43,8 @@ b3_of port (suc v) = bip8 (vc4_front port (b3_of port v) v 2349)
 unfoldable pub container_byte : Customer → ℕ → ℕ
 container_byte port q = let v = q / 2349 in vc4_byte port (b3_of port v) v (q % 2349)
 
--- the payload index at which a VC-4 begins: the byte after the last H3 byte, index 783, and three bytes a step of the offset
+-- the payload index at which a VC-4 begins: index 783, of the byte after the last H3 byte, and three more a step of the
+-- offset
 abbrev pub phase_of : ℕ → ℕ
 phase_of offset = (783 + 3 * offset) % 2349
 

@@ -11,7 +11,7 @@ use std::marker::Model;
 /// The most bytes of a chunk: the 2349 bytes of an AU-4's payload, and the three H3 bytes.
 const MOST: usize = 2352;
 
-/// At most 2352 bytes, whose memory was taken when it was made.
+/// A list of at most 2352 bytes, with memory for all of them from the start.
 #[derive(Drop)]
 pub struct Cells {
     bytes: Vec<u8>,
@@ -74,7 +74,8 @@ impl Cells {
         self.bytes.extend_from_slice(bytes).unwrap();
     }
 
-    /// Makes `count` bytes to be written over: the first bytes as they were, and zeros after them. It takes no memory.
+    /// Makes the list `count` bytes long, so that they can be written over. It keeps its first bytes, and zeros follow
+    /// where it was shorter. It takes no memory.
     pub fn make_room(&mut self, count: usize)
         requires { count ≤ 2352 }
         ensures bytes { self.new ≡ take count self.old ++ replicate (count - length self.old) 0 }
@@ -83,7 +84,8 @@ impl Cells {
         self.bytes.resize(count, 0).unwrap();
     }
 
-    /// Returns room for the 2349 bytes of a payload, made as `make_room` makes it. It takes no memory.
+    /// Returns room for the 2349 bytes of a payload, to be written in place. The list is made that long as by
+    /// `make_room`. It takes no memory.
     pub fn lend_payload(&mut self) -> &mut [u8]
         ensures* lends { sem 𝓛 (LendsRoom self.entry result) }
         ensures bytes { result.now ≡ take 2349 self.old ++ replicate (2349 - length self.old) 0 }
@@ -101,7 +103,7 @@ impl Cells {
         self.bytes.as_mut_slice()
     }
 
-    /// Puts other bytes in place of those from one place up to another. It takes no memory.
+    /// Replaces the bytes from place `front` on and before place `back` with `middle`. It takes no memory.
     pub fn splice(&mut self, front: usize, back: usize, middle: &[u8])
         requires ordered { front ≤ back }
         requires inside { back ≤ length self.old }

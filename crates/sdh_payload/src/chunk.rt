@@ -1,4 +1,4 @@
-//! What a port takes from an AU-4 that arrived, and how it fills one of its own.
+//! The bytes that a port takes from an AU-4 that arrived, and the AU-4 that it fills with the bytes that it sends.
 ghost use Rattle.std.specs.Prelude.{◌≡◌, length};
 ghost use Rattle.sdh_payload.specs.Chunk.{taken, taken_len, laid_payload, laid_h3};
 
@@ -10,14 +10,14 @@ use crate::cells::Cells;
 pub enum ChunkForm {
     /// The 2349 bytes of the payload.
     Plain,
-    /// Without the three stuffed bytes of a positive justification, 2346 bytes.
+    /// The payload without the three stuffed bytes of a positive justification, 2346 bytes.
     Short,
-    /// A chunk with the three H3 bytes of a negative justification, 2352 bytes.
+    /// The payload with the three H3 bytes of a negative justification, 2352 bytes.
     Long,
 }
 
-/// Puts what a port delivers of an AU-4 in the place of the bytes in `out`. The bytes come from the 2349 bytes of the
-/// payload and the three H3 bytes. Takes no memory.
+/// Puts the bytes that a port delivers of an AU-4 into `out`, in place of what it held. They come from the 2349 bytes
+/// of the payload and the three H3 bytes. It takes no memory.
 #[tactic(auto, using(crate::proofs::Splicing::written_whole))]
 pub fn take_chunk(payload: &[u8], h3: &[u8], form: ChunkForm, out: &mut Cells)
     requires payload { length payload.now ≡ 2349 }
@@ -43,9 +43,9 @@ pub fn take_chunk_in_place(h3: &[u8], form: ChunkForm, out: &mut Cells)
     }
 }
 
-/// Lays the bytes that a port sends in a round out in an AU-4: the payload takes their place in `out`, and the three H3
-/// bytes are returned. The bytes at the stuffing place of a positive justification are zeros, and so are the H3 bytes
-/// except at a negative one. It takes no memory.
+/// Lays out in an AU-4 the bytes that a port sends in a round. They are given in `out`, where the AU-4's payload
+/// replaces them; the three H3 bytes are returned. At a positive justification the three stuffed bytes are zeros. The
+/// H3 bytes are zeros except at a negative one. It takes no memory.
 pub fn lay_chunk_in_place(form: ChunkForm, out: &mut Cells) -> [u8; 3]
     requires { length out.old ≡ taken_len form }
     ensures payload { out.new ≡ laid_payload form out.old }

@@ -12,19 +12,21 @@ const VALUES: u16 = 783;
 /// (ITU-T G.707 clause 8.1).
 #[derive(Clone, Copy, Debug, PartialEq, Eq)]
 pub enum Turn {
-    /// The clock is slow: in a round of a positive justification three bytes fewer are sent, and the pointer value grows by one.
+    /// The clock is slow: in a round of a positive justification three bytes fewer are sent, and the pointer value
+    /// grows by one.
     Up,
-    /// The clock is fast: in a round of a negative justification three bytes more are sent, and the pointer value falls by one.
+    /// The clock is fast: in a round of a negative justification three bytes more are sent, and the pointer value falls
+    /// by one.
     Down,
 }
 
-/// A port's clock: how far it has come, and the slips that wait.
+/// A port's clock: how many rounds it has run, how many bytes it has sent, its pointer value, and the slips that wait.
 #[derive(Debug, Drop)]
 pub struct Clock {
     rounds: u64,
     ups: u8,
     downs: u8,
-    // The number of rounds still to come before one that may slip.
+    // The number of rounds still to come before one that may justify.
     rest: u8,
     sent: u64,
     value: u16,
@@ -59,7 +61,7 @@ impl Clock {
         }
     }
 
-    // Returns what is sent in the next round.
+    // Returns the form of the chunk that is sent in the next round.
     fn next_form(&self) -> ChunkForm
         ensures { result ≡ next_form self.now }
     {
@@ -74,7 +76,7 @@ impl Clock {
         }
     }
 
-    /// Runs the clock for one round, and returns the form of the chunk sent in it.
+    /// Runs the clock for one round, and returns the form of the chunk that is sent in it.
     #[tactic(auto, unfolding(crate::specs::Clock::ticked))]
     pub fn tick(&mut self) -> ChunkForm
         requires { self.old.rounds < 2 ^ 32 }
@@ -106,7 +108,7 @@ impl Clock {
         form
     }
 
-    /// Adds `count` pending slips.
+    /// Adds `count` pending slips. At most 16 may wait in all.
     pub fn wait(&mut self, turn: Turn, count: u8)
         requires { waiting self.old + count ≤ 16 }
         ensures { self.new ≡ with_waiting turn count self.old }
@@ -125,14 +127,14 @@ impl Clock {
         self.value
     }
 
-    /// Returns what was sent in the last round, and `Plain` before the first.
+    /// Returns the form of the chunk that was sent in the last round, and `Plain` before the first.
     pub fn form(&self) -> ChunkForm
         ensures { result ≡ self.now.form }
     {
         self.form
     }
 
-    /// Returns the number of pending slips.
+    /// Returns the number of pending slips, at most 16.
     pub fn waiting(&self) -> u8
         ensures waiting { result ≡ waiting self.now }
         ensures few { result ≤ 16 }

@@ -1,7 +1,7 @@
 //! What a port delivers in a round.
 use crate::cells::Cells;
 
-/// AIS, or the bytes of the AU-4 in which the port's circuit came in.
+/// AIS, or the bytes that the port takes from the AU-4 in which its circuit arrives.
 #[derive(Debug, Drop)]
 pub enum Delivered {
     Ais,

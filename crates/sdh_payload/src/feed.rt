@@ -12,8 +12,8 @@ use crate::port::Port;
 use crate::walk::Walk;
 use std::marker::Model;
 
-/// The stream of a port. Each round sends 2349 bytes of it, or three fewer or more where the port's clock slips. It
-/// keeps a copy of the port and takes no memory.
+/// The stream of a port. Each round sends 2349 bytes of it, or three fewer or more where the port justifies. It keeps a
+/// copy of the port and takes no memory.
 #[derive(Debug, Drop)]
 pub struct Feed {
     walk: Walk,
@@ -43,8 +43,8 @@ impl Feed {
 
     /// Puts the bytes that the port sends in the next round into `out`, in place of what it held, and returns their
     /// form: 2346 bytes where the port justifies upwards, 2352 where downwards, and otherwise 2349. A justification
-    /// uses up one pending slip. The clock may slip in none of the first four rounds and in none of the three after a
-    /// slip; ups come before downs.
+    /// uses up one pending slip, ups before downs. The port justifies in none of the first four rounds, and in none of
+    /// the three after a justification.
     pub fn next_form(&mut self, out: &mut Cells) -> ChunkForm
         requires { self.old.clock.rounds < 2 ^ 32 }
         ensures form { result ≡ next_form self.old.clock }
@@ -69,7 +69,7 @@ impl Feed {
         self.next_form(out);
     }
 
-    /// Adds `count` pending slips.
+    /// Adds `count` pending slips. At most 16 may wait in all.
     pub fn wait(&mut self, turn: Turn, count: u8)
         requires { waiting self.old.clock + count ≤ 16 }
         ensures { self.new ≡ record self.old { clock = with_waiting turn count self.old.clock } }
@@ -85,14 +85,14 @@ impl Feed {
         self.clock.value()
     }
 
-    /// Returns what was sent in the last round, and `Plain` before the first.
+    /// Returns the form of the chunk that was sent in the last round, and `Plain` before the first.
     pub fn form(&self) -> ChunkForm
         ensures { result ≡ self.now.clock.form }
     {
         self.clock.form()
     }
 
-    /// Returns the number of pending slips.
+    /// Returns the number of pending slips, at most 16.
     pub fn waiting(&self) -> u8
         ensures waiting { result ≡ waiting self.now.clock }
         ensures few { result ≤ 16 }

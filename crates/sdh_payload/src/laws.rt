@@ -12,7 +12,8 @@ pub fn what_is_laid_is_taken()
     ensures { WhatIsLaidIsTaken }
 {}
 
-/// In each chunk a VC-4 begins, with J1, at the payload index given by the port's offset.
+/// Where a port's clock never slips, a VC-4 begins in each chunk, with J1, at the payload index that the port's offset
+/// gives.
 pub fn begins_at_the_offset()
     ensures { BeginsAtTheOffset }
 {}
@@ -23,8 +24,8 @@ pub fn clocks_go_by_history()
     ensures { ClocksGoByHistory }
 {}
 
-/// In each round a port sends the bytes of its stream from the one with which its history says that the round begins to the one before
-/// the next round's first.
+/// In each round a port sends the bytes of its stream from the one with which, by its history, this round begins, up to
+/// the one before that with which the next round begins.
 pub fn rounds_follow_each_other()
     ensures { RoundsFollowEachOther }
 {}

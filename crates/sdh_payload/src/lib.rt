@@ -1,4 +1,5 @@
-//! Ports, what a customer sends there round by round, by a clock that may slip, and what a port takes from an AU-4 that arrived.
+//! The ports of circuits: what a customer sends there round by round, by a clock that may slip, and what a port takes
+//! from an AU-4 that arrived.
 #![tactic(auto)]
 
 pub mod cells;

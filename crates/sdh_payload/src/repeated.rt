@@ -6,17 +6,18 @@ ghost use Rattle.sdh_payload.specs.Walk.{repeated_from, AreFrontParities};
 use std::fmt;
 use std::marker::Model;
 
-/// The text bytes in a row of a VC-4.
+/// The number of text bytes in a row of a VC-4, which has 261 columns: all but the first.
 pub const ROW: usize = 260;
 
-/// A place in the longest text, and a row after it.
+/// The number of bytes that are kept: enough for a row from any place in the longest text, 64 bytes.
 const ROOM: usize = 64 + ROW;
 
-/// A text of 1 to 64 bytes. From each place in it a row's text bytes stand in one piece, whose parity is known.
+/// A text of 1 to 64 bytes, repeated. From each place in it the text bytes of a row stand in one piece, whose parity is
+/// found without going over it.
 #[derive(Drop)]
 pub struct Repeated {
     bytes: [u8; ROOM],
-    // The parities of the first bytes: of none, of one and so on.
+    // The BIP-8 of the first bytes: of none, of one and so on.
     parities: [u8; ROOM + 1],
     len: usize,
     // The place after a row from place 0 on.
@@ -44,7 +45,7 @@ impl fmt::Debug for Repeated {
     }
 }
 
-// Returns the parities of the first bytes.
+// Returns the BIP-8 of the first bytes: of none, of one and so on, up to all.
 fn front_parities(bytes: &[u8; ROOM]) -> [u8; ROOM + 1]
     requires { length bytes.now ≡ 324 }
     ensures { AreFrontParities bytes.now result }
@@ -57,6 +58,7 @@ fn front_parities(bytes: &[u8; ROOM]) -> [u8; ROOM + 1]
 }
 
 impl Repeated {
+    /// Returns this text, repeated. It has 1 to 64 bytes.
     pub fn new(text: &[u8]) -> Repeated
         requires some { 0 < length text.now }
         requires few { length text.now ≤ 64 }
@@ -76,6 +78,7 @@ impl Repeated {
         }
     }
 
+    /// Returns the number of bytes of the text, 1 to 64.
     pub fn len(&self) -> usize
         ensures len { result ≡ length self.now }
         ensures some { 0 < result }
@@ -84,7 +87,7 @@ impl Repeated {
         self.len
     }
 
-    /// Returns the bytes from a place on, at most a row of them.
+    /// Returns `count` bytes from a place in the text on, at most those of a row.
     pub fn from(&self, place: usize, count: usize) -> &[u8]
         requires place { place < length self.now }
         requires count { count ≤ 260 }
@@ -95,7 +98,7 @@ impl Repeated {
         &rest[..count]
     }
 
-    /// Returns the parity of these bytes.
+    /// Returns the BIP-8 of the `count` bytes from a place in the text on.
     pub fn parity(&self, place: usize, count: usize) -> u8
         requires place { place < length self.now }
         requires count { count ≤ 260 }
@@ -104,7 +107,7 @@ impl Repeated {
         self.parities[place] ^ self.parities[place + count]
     }
 
-    /// Returns the place after these bytes.
+    /// Returns the place in the text after the `count` bytes from a place on.
     pub fn behind(&self, place: usize, count: usize) -> usize
         requires place { place < length self.now }
         requires count { count ≤ 260 }

@@ -1,4 +1,4 @@
-//! Up to 64 bytes in place, without memory of their own.
+//! Up to 64 bytes that are kept in place, without memory of their own.
 ghost use Rattle.std.specs.Prelude.{◌≡◌, ◌≤◌, length};
 
 use std::fmt;
@@ -31,6 +31,7 @@ impl fmt::Debug for ShortText {
 }
 
 impl ShortText {
+    /// Returns a copy of these bytes, at most 64.
     pub fn new(bytes: &[u8]) -> ShortText
         requires { length bytes.now ≤ 64 }
         ensures { result ≡ bytes.now }
@@ -43,6 +44,7 @@ impl ShortText {
         }
     }
 
+    /// Returns an equal text.
     pub fn copy(&self) -> ShortText
         ensures { result ≡ self.now }
     {
@@ -52,6 +54,7 @@ impl ShortText {
         }
     }
 
+    /// Returns the bytes, at most 64.
     pub fn as_slice(&self) -> &[u8]
         ensures bytes { result.now ≡ self.now }
         ensures few { length self.now ≤ 64 }

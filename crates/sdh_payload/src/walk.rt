@@ -9,7 +9,7 @@ use crate::port::Port;
 use crate::repeated::{ROW, Repeated};
 use std::marker::Model;
 
-/// The bytes of a VC-4.
+/// The number of bytes of a VC-4: nine rows of 261.
 const VC4_LEN: usize = 2349;
 
 /// The number of columns of a VC-4. The first is the path overhead.
@@ -21,8 +21,8 @@ const SPACE: u8 = 0x20;
 /// The signal label C2, equipped and non-specific (ITU-T G.707 clause 9.3).
 const EQUIPPED: u8 = 1;
 
-/// The place of the next byte, with what is kept of the bytes after it: the VC-4's B3, the parity of its bytes so far,
-/// and the place of the next text byte in the text.
+/// A place in a port's VC-4s, which is that of the next byte. With it are kept B3 of the VC-4, the parity of the VC-4's
+/// bytes so far, and the place in the text of the next text byte.
 #[derive(Debug, Drop)]
 pub struct Walk {
     port: Port,
@@ -82,7 +82,7 @@ fn first_byte(port: &Port, index: usize) -> u8
     text[(ROW * row + column - 1) % text.len()]
 }
 
-// Returns the parity of the first bytes of VC-4 number 0.
+// Returns the BIP-8 of the first `count` bytes of VC-4 number 0.
 fn first_parity(port: &Port, count: usize) -> u8
     ensures { result ≡ bip8 (vc4_front port.now 0 0 count) }
 {
@@ -93,7 +93,7 @@ fn first_parity(port: &Port, count: usize) -> u8
     parity
 }
 
-// Returns the byte of VC-4 number 0 with which a stream begins.
+// Returns the index in VC-4 number 0 of the byte with which a stream begins.
 fn start_index(offset: u16) -> usize
     requires { offset ≤ 782 }
     ensures start { result ≡ start_of offset }
@@ -103,7 +103,7 @@ fn start_index(offset: u16) -> usize
     (VC4_LEN - phase) % VC4_LEN
 }
 
-// Returns the place in a text of the next text byte from a byte of VC-4 number 0 on.
+// Returns the place, in a text of `len` bytes, of the first text byte that is not before byte `index` of VC-4 number 0.
 fn first_place(index: usize, len: usize) -> usize
     requires some { 0 < len }
     requires within { index < 2349 }
@@ -114,7 +114,7 @@ fn first_place(index: usize, len: usize) -> usize
 }
 
 impl Walk {
-    /// Returns the first byte's place in a port's stream. It takes no memory.
+    /// Returns the place at which a port's stream begins. It takes no memory.
     pub fn new(port: &Port) -> Walk
         ensures { result ≡ record { port = port.now; at = start_of port.now.offset } }
     {
@@ -132,7 +132,7 @@ impl Walk {
         }
     }
 
-    // Puts the path overhead byte at the start of a row.
+    // Puts the next byte, which is the path overhead byte of a row, at place `done` of `out`.
     fn put_overhead(&mut self, out: &mut [u8], done: usize)
         requires start { self.old.at % 261 ≡ 0 }
         requires room { done < length out.old }
@@ -151,7 +151,7 @@ impl Walk {
         self.index += 1;
     }
 
-    // Puts the next `count` text bytes of one row.
+    // Puts the next `count` text bytes, which are of one row, at place `done` of `out`.
     fn put_text(&mut self, count: usize, out: &mut [u8], done: usize)
         requires inside { 0 < self.old.at % 261 }
         requires fits { self.old.at % 261 + count ≤ 261 }
@@ -174,8 +174,8 @@ impl Walk {
         }
     }
 
-    /// Puts the next bytes of one row after the first `done` of `out`, at least one and at most as many as fit, and
-    /// returns their number.
+    /// Puts the next bytes, which are of one row, after the first `done` bytes of `out`: at least one, and at most as
+    /// many as fit. Returns their number.
     pub fn put_some(&mut self, out: &mut [u8], done: usize) -> usize
         requires some { done < length out.old }
         requires few { self.old.at < 2 ^ 60 }
@@ -195,7 +195,7 @@ impl Walk {
         count
     }
 
-    // Puts the next bytes, as many as there is room for.
+    // Fills `out` with the next bytes.
     fn fill_all(&mut self, out: &mut [u8])
         requires room { length out.old ≤ 2352 }
         requires few { self.old.at < 2 ^ 59 }

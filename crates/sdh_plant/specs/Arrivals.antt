@@ -12,16 +12,16 @@ use Rattle.sdh_plant.specs.declared.plant.Arrived.TheVariants as arrived
 use Rattle.sdh_plant.specs.Fibres.{Arrival, Fibres}
 use Rattle.sdh_terms.specs.Fibres.{fibre_to}
 
--- a fibre that is degraded by k columns inverts the top bit of the byte at this row and column, both counted from 1: row 6,
--- columns 1 to k. They are section overhead below the bytes B2
+-- A fibre that is degraded by k columns inverts the top bit of the byte at this row and column, both counted from 1.
+-- These are columns 1 to k of row 6, section overhead below the bytes B2.
 abbrev pub is_inverted : ℕ → ℕ → ℕ → Bool
 is_inverted k row column = (row == 6) && nat_le column k
 
--- byte i of a frame after such a fibre, where x was sent; a row has 270 N bytes
+-- byte i of a frame after a fibre that is degraded by k columns, where x was sent; a row has 270 N bytes
 unfoldable pub degraded_byte : ℕ → ℕ → ℕ → ℕ → ℕ
 degraded_byte n k i x = if is_inverted k (i / (270 * n) + 1) (i % (270 * n) + 1) then bit_xor x 0x80 else x
 
--- a frame after such a fibre
+-- a frame after a fibre that is degraded by k columns
 unfoldable pub degraded : ℕ → ℕ → List ℕ → List ℕ
 degraded n k bytes = map_from (degraded_byte n k) 0 bytes
 
@@ -31,10 +31,11 @@ through n Clear carried = carried
 through n Cut carried = None
 through n (Degraded k) carried = option_map (degraded n k) carried
 
--- what fibre i carries, and its condition
+-- what fibre i carries
 abbrev pub carried_on : Fibres → ℕ → Arrival
 carried_on f i = slice_index_or f.carried i None
 
+-- the condition of fibre i
 abbrev pub condition_of : Fibres → ℕ → Condition
 condition_of f i = slice_index_or f.conditions i Clear
 
@@ -51,16 +52,16 @@ next_told (a ∷ later) = a
 abbrev pub arrival : Fibres → ℕ → Side → Arrival
 arrival f p d = option_map_or next_told f.told (honest_arrival f p d)
 
--- the arrivals are known
+-- the arrivals are known: the fibres are honest, or the arrivals are told
 abbrev pub Knows : Fibres → Type 0
 Knows f = (f.honest ≡ true) ⊎ (f.told ≢ None)
 
--- what a call answered and left in the frame that it was given
+-- what arrived, by the answer of a call and the bytes that it left in the frame that it was given
 abbrev pub as_arrival : Arrived → List ℕ → Arrival
 as_arrival arrived.Frame bytes = Some bytes
 as_arrival arrived.Dark bytes = None
 
--- what a call answered, and what landed where a frame arrived
+-- what arrived, by the answer of a call and what landed where a frame arrived
 abbrev pub arrived_in : Arrived → Option (List ℕ) → Arrival
 arrived_in arrived.Frame landed = landed
 arrived_in arrived.Dark landed = None

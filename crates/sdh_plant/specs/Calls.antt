@@ -1,4 +1,4 @@
--- The fibres after each call that was answered with Ok. A call that wasn't leaves them as they were.
+-- The fibres after each call that ended with Ok. A call that ended otherwise leaves them as they were.
 use Rattle.std.specs.Prelude.{ℕ, ◌≡◌, ◌⊎◌, ◌*◌, ◌==◌, Bool, true, if◌then◌else◌, Some, None, List, [], ◌∷◌, ◌++◌, length, drop, replicate}
 use Rattle.std.specs.Prelude.{slice_set, option_map}
 use Rattle.std.specs.List.{list_all}
@@ -11,7 +11,7 @@ use Rattle.sdh_terms.specs.declared.Condition.TheVariants.{Clear}
 use Rattle.sdh_plant.specs.Fibres.{Arrival, Fibres}
 use Rattle.sdh_terms.specs.Fibres.{fibre}
 
--- an arrival is no frame of another rate; a frame's rate is seen by its size
+-- an arrival is nothing, or a frame of this rate, which its size shows
 abbrev pub is_at : Rate → Arrival → Bool
 is_at rate a = option_map_or (λ bytes. length bytes == size_of rate) a true
 
@@ -19,7 +19,7 @@ is_at rate a = option_map_or (λ bytes. length bytes == size_of rate) a true
 abbrev pub told_at_rate : Rate → List Arrival → List Arrival
 told_at_rate rate told = if list_all (is_at rate) told then told else []
 
--- two fibres for each of n spans, each clear and without a frame
+-- two fibres for each of n spans, each clear and without a frame, and the told arrivals that are left for the rate
 abbrev pub prepared : Rate → ℕ → Fibres → Fibres
 prepared rate n f =
     record f {
@@ -30,20 +30,21 @@ prepared rate n f =
       told = option_map (told_at_rate rate) f.told;
     }
 
--- the fibre that leaves position p on that side is in this condition
+-- the fibres once the fibre that leaves position p on that side has this condition
 abbrev pub after_apply : Fibres → ℕ → Side → Condition → Fibres
 after_apply f p d condition = record f { conditions = slice_set f.conditions (fibre p d) condition }
 
--- the fibre that leaves position p on that side carries this frame
+-- the fibres once the fibre that leaves position p on that side carries this frame
 abbrev pub after_send : Fibres → ℕ → Side → List ℕ → Fibres
 after_send f p d bytes =
     record f { carried = slice_set f.carried (fibre p d) (Some bytes); sent = option_map (λ sent. sent ++ bytes ∷ []) f.sent }
 
--- what comes back for a frame that was sent in exchange, over a fibre that carried this before: the frame itself, or that which
--- the fibre carried, and where it carried none one of zeros
+-- the frame that a fibre carried before, given back for one that was sent in exchange; where it carried none, one of
+-- zeros
 abbrev pub carried_or_zeros : Arrival → Frame → Frame
 carried_or_zeros carried frame = record frame { bytes = option_map_or (λ bytes. bytes) carried (replicate (size_of frame.rate) 0) }
 
+-- what comes back for a frame that was sent in exchange: the frame itself, or the one that the fibre carried before
 abbrev pub IsExchanged : Arrival → Frame → Frame → Type 0
 IsExchanged carried old new = (new ≡ old) ⊎ (new ≡ carried_or_zeros carried old)
 

@@ -1,5 +1,5 @@
--- What a plant means: the fibres of a ring, and what it shows of the frames to come and of those that were sent. This
--- project's own; each span has two fibres, one each way, as in a two-fibre ring of ITU-T G.841.
+-- What a plant means: the fibres of a ring, and what it shows of the frames to come and of those that were sent. All of
+-- it is this project's own. Each span has two fibres, one each way, as in a two-fibre ring of ITU-T G.841.
 use Rattle.std.specs.Prelude.{ℕ, ◌≡◌, ◌*◌, ◌≤◌, true, Bool, Option, None, List, length, All}
 use Rattle.sdh_terms.specs.declared.Rate.{Rate}
 use Rattle.sdh_terms.specs.declared.Condition.{Condition}
@@ -9,9 +9,10 @@ use Rattle.sdh_terms.specs.Fibres.{IsConditionAt}
 abbrev pub Arrival : Type 0
 Arrival = Option (List ℕ)
 
--- a fibre is named by the position and side that it leaves: fibre 2 p leaves position p westwards, fibre 2 p + 1 eastwards
+-- The fibres of a ring. A fibre is named by the position and side that it leaves: fibre 2 p leaves position p
+-- westwards, fibre 2 p + 1 eastwards.
 pub record Fibres : Type 0 where
-  -- how many positions the ring has, and 0 before there are fibres
+  -- the number of the ring's positions, and 0 before there are fibres
   pub nodes : ℕ
   -- the rate of the frames, once there are fibres
   pub rate : Rate
@@ -19,11 +20,11 @@ pub record Fibres : Type 0 where
   pub conditions : List Condition
   -- the last frame sent on each fibre, or nothing where none was sent
   pub carried : List Arrival
-  -- where the plant shows them, all arrivals that it will give, the next one first
+  -- the told arrivals: where the plant shows in advance what it will give, all arrivals to come, the next one first
   pub told : Option (List Arrival)
   -- where the plant shows them, all frames that were sent, the first one first
   pub sent : Option (List (List ℕ))
-  -- what comes out of a fibre is what was sent into it, as its condition lets it through
+  -- whether what comes out of a fibre is what was sent into it, as its condition lets it through
   pub honest : Bool
 
 -- there are no fibres yet

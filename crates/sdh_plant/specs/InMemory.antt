@@ -9,13 +9,14 @@ use Rattle.sdh_plant.specs.declared.failing_plant.PlantCall.{PlantCall}
 use Rattle.sdh_plant.specs.declared.failing_plant.PlantCall.TheVariants.{Prepare, Apply, Send, Receive}
 use Rattle.sdh_plant.specs.Fibres.{Arrival, Fibres}
 
--- honest fibres that show nothing
+-- honest fibres that show neither arrivals in advance nor the frames that were sent
 pub record HeldFibres : Type 0 where
   pub nodes : ℕ
   pub rate : Rate
   pub conditions : List Condition
   pub carried : List Arrival
 
+-- what these honest fibres mean
 abbrev pub fibres_of : HeldFibres → Fibres
 fibres_of h = record {
   nodes = h.nodes;
@@ -31,7 +32,7 @@ fibres_of h = record {
 abbrev pub clear_fibres : Rate → ℕ → HeldFibres
 clear_fibres rate n = record { nodes = n; rate = rate; conditions = replicate (2 * n) Clear; carried = replicate (2 * n) None }
 
--- fibres with the list of frames that were sent, and room for this number in all
+-- fibres with the list of frames that were sent, with room for this number of frames in all
 pub record HeldRecording : Type 0 where
   pub fibres : HeldFibres
   pub sent : List Frame
@@ -41,6 +42,7 @@ pub record HeldRecording : Type 0 where
 abbrev pub bytes_of : Frame → List ℕ
 bytes_of frame = frame.bytes
 
+-- what these fibres mean, with the frames that were sent
 abbrev pub recorded_of : HeldRecording → Fibres
 recorded_of h = record (fibres_of h.fibres) { sent = Some (map bytes_of h.sent) }
 
@@ -49,10 +51,11 @@ pub record HeldTold : Type 0 where
   pub fibres : HeldFibres
   pub told : List Arrival
 
+-- what these fibres mean, with the told arrivals
 abbrev pub told_of : HeldTold → Fibres
 told_of h = record (fibres_of h.fibres) { told = Some h.told; honest = false }
 
--- how many calls of each kind were made
+-- the number of calls of each kind so far
 pub record CallsMade : Type 0 where
   pub prepares : ℕ
   pub applies : ℕ
@@ -71,23 +74,23 @@ with_one_more Apply c = record c { applies = one_more c.applies }
 with_one_more Send c = record c { sends = one_more c.sends }
 with_one_more Receive c = record c { receives = one_more c.receives }
 
--- fibres with some calls that fail
+-- fibres, with the calls that are to fail and those that were made
 pub record HeldFailing : Type 0 where
   pub fibres : HeldFibres
   -- the calls that fail, by their kind and by their number among those of the kind, counted from 1
   pub failing : List (PlantCall × ℕ)
   pub calls : CallsMade
-  -- how many of the calls failed
+  -- the number of calls that failed
   pub faults : ℕ
 
 -- the next call of this kind is one of those that fail
 abbrev pub IsFailing : PlantCall → HeldFailing → Type 0
 IsFailing call h = Contains h.failing (call, one_more (made call h.calls))
 
--- a call of this kind was made, and it did nothing
+-- a call of this kind was counted, and nothing else has changed
 abbrev pub called : PlantCall → HeldFailing → HeldFailing
 called call h = record h { calls = with_one_more call h.calls }
 
--- the call failed
+-- a call of this kind was counted, and it failed
 abbrev pub refused : PlantCall → HeldFailing → HeldFailing
 refused call h = record (called call h) { faults = one_more h.faults }

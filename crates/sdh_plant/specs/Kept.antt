@@ -14,11 +14,12 @@ use Rattle.sdh_terms.specs.Fibres.{IsConditionAt}
 use Rattle.sdh_plant.specs.Calls.{is_at}
 use Rattle.sdh_plant.specs.InMemory.{HeldFibres}
 
--- a list whose memory may not be taken yet
+-- the items of a list, or none where its memory isn't taken yet
 abbrev pub items_of : {X : Type 0} → Option (Vec X) → List X
 items_of None = []
 items_of (Some v) = v.items
 
+-- the frame that a fibre carries, if it carries one
 abbrev pub carried_by : Fibre → Arrival
 carried_by x = if x.carries then Some x.frame.bytes else None
 
@@ -31,12 +32,14 @@ carried xs = map carried_by xs
 abbrev pub held : ℕ → Rate → List Fibre → HeldFibres
 held n rate xs = record { nodes = n; rate = rate; conditions = conditions xs; carried = carried xs }
 
--- the fibre's frame has the plant's rate, and is of zeros where the fibre carries none; its condition is one of that rate
+-- The fibre's frame has the plant's rate, and is one of zeros where the fibre carries none. Its condition is one of
+-- that rate.
 pub record IsFibre (rate : Rate) (x : Fibre) : Type 0 where
   pub frame : x.frame.rate ≡ rate
   pub blank : x.carries ≡ false → x.frame.bytes ≡ replicate (size_of rate) 0
   pub condition : IsConditionAt rate x.condition
 
+-- what is true of the fibres of n spans
 pub record AreFibres (n : ℕ) (rate : Rate) (xs : List Fibre) : Type 0 where
   pub count : length xs ≡ 2 * n
   pub few : n ≤ 16
@@ -50,11 +53,12 @@ pub record AreFrames (fibres : HeldFibres) (room count : ℕ) (frames : List Fra
   pub within : count ≤ length frames
   pub rates : All (λ f. f.rate ≡ fibres.rate) frames
 
+-- an arrival of the list: the bytes of a frame, or nothing
 abbrev pub arrival_of : Told → Arrival
 arrival_of told.Dark = None
 arrival_of (told.Frame frame) = Some frame.bytes
 
--- the arrival is no frame of another rate
+-- the arrival is nothing, or a frame of this rate
 abbrev pub IsToldAt : Rate → Told → Type 0
 IsToldAt rate told.Dark = Unit {0}
 IsToldAt rate (told.Frame frame) = frame.rate ≡ rate

@@ -1,4 +1,4 @@
--- Laws of the calls.
+-- Laws of the calls of a plant.
 use Rattle.std.specs.Prelude.{ℕ, ◌≡◌, ◌<◌, ◌≤◌, Some, None, List}
 use Rattle.sdh_terms.specs.declared.Rate.{Rate}
 use Rattle.sdh_terms.specs.Rates.{n_of}
@@ -16,11 +16,11 @@ abbrev pub SentComes : Type 0
 SentComes = (rate : Rate) (n : ℕ) (f : Fibres) (p : ℕ) (d : Side) (bytes : List ℕ) → IsPrepared rate n f → f.told ≡ None → p < n
     → arrival (after_send f p d bytes) (neighbour n p d) (opposite d) ≡ through (n_of rate) (condition_of f (fibre p d)) (Some bytes)
 
--- right after prepare nothing comes out of any fibre where there are no told arrivals
+-- where there are no told arrivals, nothing comes out of any fibre right after `prepare`
 abbrev pub NewIsDark : Type 0
 NewIsDark = (rate : Rate) (n : ℕ) (f : Fibres) (p : ℕ) (d : Side) → f.told ≡ None → arrival (prepared rate n f) p d ≡ None
 
--- prepare gives fibres for its rate and number of positions, and the other calls keep them
+-- `prepare` makes fibres for its rate and number of positions, and the other calls keep them so
 pub record StayPrepared : Type 0 where
   pub prepared : (rate : Rate) (n : ℕ) (f : Fibres) → 2 ≤ n → n ≤ 16 → IsPrepared rate n (prepared rate n f)
   pub apply : (rate : Rate) (n : ℕ) (f : Fibres) (p : ℕ) (d : Side) (condition : Condition) → IsConditionAt rate condition

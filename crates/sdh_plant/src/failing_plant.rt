@@ -27,7 +27,7 @@ pub enum PlantCall {
     Receive,
 }
 
-/// Fibres as those of a `FibrePlant`. The calls of a list fail, and no others.
+/// Honest fibres in memory, as a `FibrePlant` has them. The calls that a list names fail, and no others.
 #[derive(Debug, Drop)]
 pub struct FailingPlant {
     plant: FibrePlant,
@@ -57,7 +57,8 @@ fn is_among(failing: &[(PlantCall, u32)], call: PlantCall, number: u64) -> bool
 }
 
 impl FailingPlant {
-    /// Returns a plant without fibres. These of its calls fail, each kind counted from 1.
+    /// Returns a plant without fibres. `calls` names the calls that fail, by their kind and by their number among those
+    /// of the kind, counted from 1.
     pub fn new(alloc: Global, calls: &[(PlantCall, u32)]) -> Result<FailingPlant, AllocError>
         ensures { IfOk result (λ plant. plant ≡ record {
           fibres = clear_fibres plant.fibres.rate 0;
@@ -114,7 +115,7 @@ impl FailingPlant {
         }
     }
 
-    // Counts a call, which fails where it is one of the list.
+    // Counts a call, which fails where the list names it.
     fn call(&mut self, call: PlantCall) -> Result<(), Failed>
         ensures fails { IsErr result ↔ IsFailing call self.old }
         ensures ok { OnOk result (self.new ≡ called call self.old) }

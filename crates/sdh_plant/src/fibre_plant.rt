@@ -27,12 +27,12 @@ struct Fibre {
     frame: FrameBuf,
 }
 
-/// Fibres in memory, which give what was sent and never fail.
+/// Honest fibres in memory: what comes out is what was sent, as the fibre's condition lets it through. No call fails.
 #[derive(Debug, Drop)]
 pub struct FibrePlant {
     nodes: usize,
     rate: Rate,
-    // By the fibre's number, once there are any.
+    // The fibres by their numbers, once they are made.
     fibres: Option<Vec<Fibre>>,
 }
 
@@ -174,7 +174,7 @@ impl FibrePlant {
         }
     }
 
-    // Takes the memory of all fibres.
+    // Makes two fibres for each of `nodes` spans, clear and without a frame. All their memory is taken here.
     pub(crate) fn lay(&mut self, alloc: Global, rate: Rate, nodes: usize) -> Result<(), AllocError>
         requires { nodes ≤ 16 }
         ensures ok { OnOk result (self.new ≡ clear_fibres rate nodes) }
@@ -186,7 +186,7 @@ impl FibrePlant {
         Ok(())
     }
 
-    // Sets the condition of a fibre.
+    // Sets the condition of the fibre that an event names.
     pub(crate) fn change(&mut self, event: FibreEvent)
         requires at { event.at.0 < self.old.nodes }
         requires condition { IsConditionAt self.old.rate event.condition }
@@ -198,7 +198,7 @@ impl FibrePlant {
         set_condition(fibres, fibre_at(event.at, event.side), event.condition);
     }
 
-    // Puts a frame on a fibre.
+    // Puts a frame on the fibre that leaves a position on a side.
     pub(crate) fn carry(&mut self, at: Pos, side: Side, frame: &FrameBuf)
         requires at { at.0 < self.old.nodes }
         requires rate { frame.now.rate ≡ self.old.rate }
@@ -210,7 +210,7 @@ impl FibrePlant {
         store(fibres, fibre_at(at, side), frame);
     }
 
-    // Puts a frame on a fibre, in exchange for the one that the fibre carried.
+    // Puts a frame on the fibre that leaves a position on a side, in exchange for the one that the fibre carried.
     fn carry_in_exchange(&mut self, at: Pos, side: Side, frame: &mut FrameBuf)
         requires at { at.0 < self.old.nodes }
         requires rate { frame.old.rate ≡ self.old.rate }
@@ -224,7 +224,7 @@ impl FibrePlant {
         store_in_exchange(fibres, fibre_at(at, side), frame);
     }
 
-    // Lands the frame that leaves a fibre.
+    // Lands what comes out of the fibre that ends at a position on a side.
     pub(crate) fn give<L: Landing>(&mut self, at: Pos, side: Side, into: &mut L) -> Arrived
         requires at { at.0 < self.old.nodes }
         requires rate { L.rate into.old ≡ self.old.rate }

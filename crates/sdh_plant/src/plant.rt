@@ -12,12 +12,12 @@ use sdh_terms::{FibreEvent, Rate};
 use std::alloc::{AllocError, Global};
 use thiserror::Error;
 
-/// A call of a plant failed, and the plant counted a fault. It changed nothing that the plant means.
+/// A call of a plant failed: its count of faults rose, and its fibres are as they were.
 #[derive(Clone, Copy, Debug, PartialEq, Eq, Error)]
 #[error("a call of a plant failed")]
 pub struct Failed;
 
-/// What came out of a fibre.
+/// What came out of a fibre: a frame, or nothing (dark).
 #[derive(Clone, Copy, Debug, PartialEq, Eq)]
 pub enum Arrived {
     Frame,
@@ -27,10 +27,10 @@ pub enum Arrived {
 /// Why there are no fibres.
 #[derive(Clone, Copy, Debug, PartialEq, Eq, Error)]
 pub enum PrepareError {
-    /// There was no memory.
+    /// Memory ran out.
     #[error("no memory")]
     Memory,
-    /// The plant failed, and counted a fault.
+    /// The call failed, and the plant's count of faults rose.
     #[error("the plant failed")]
     Failed,
 }
@@ -45,19 +45,20 @@ impl From<AllocError> for PrepareError {
     }
 }
 
-/// The fibres of a ring. A plant without fibres has no positions, so each other call comes after `prepare` answered Ok.
+/// The fibres of a ring. Before `prepare` has ended with Ok a plant has no positions, so all other calls come after
+/// that.
 pub trait Plant {
     /// The fibres, with the arrivals to come and the frames sent, as far as the plant shows them.
     ghost fibres: { Self → Fibres };
 
-    /// The number of calls that have failed. It never falls, and stands still at its type's end.
+    /// A count of failed calls. It rises with each of them, but not above the last value of a `u64`, and never falls.
     ghost faults: { Self → ℕ };
 
-    /// The count rises by one with each call that fails, and with nothing else.
+    /// Whether `faults` rises by one with each failed call and stays with each other one.
     ghost exact: { Bool };
 
-    /// Gives two fibres for each span, all clear and without a frame. All memory of the plant is taken here. Without memory, or
-    /// after a failure, there are no fibres, and the call may be made again.
+    /// Makes two fibres for each span of a ring of `nodes` nodes, 2 to 16, all clear and without a frame. All memory of
+    /// the plant is taken here. After an error there are no fibres, and the call may be made again.
     fn prepare(&mut self, alloc: Global, rate: Rate, nodes: usize) -> Result<(), PrepareError>
         requires fresh { HasNoFibres (fibres self.old) }
         requires enough { 2 ≤ nodes }
@@ -84,8 +85,8 @@ pub trait Plant {
         ensures err { OnErr result (fibres self.new ≡ fibres self.old) }
         ensures cause { HasCause exact (faults self.old) (faults self.new) result };
 
-    /// Sends a frame as `send` does, and may keep it: then the one that the fibre carried comes back in its place, or one of zeros
-    /// where the fibre carried none.
+    /// Sends a frame as `send` does, and may keep its buffer. Then `frame` becomes the frame that the fibre carried, or
+    /// one of zeros where it carried none.
     fn exchange(&mut self, at: Pos, side: Side, frame: &mut FrameBuf) -> Result<(), Failed>
         requires at { at.0 < (fibres self.old).nodes }
         requires rate { frame.old.rate ≡ (fibres self.old).rate }
@@ -99,7 +100,8 @@ pub trait Plant {
         self.send(at, side, frame)
     }
 
-    /// Receives at a position on a side what comes out of the fibre that ends there. The fibre carries it still.
+    /// Receives at a position on a side what comes out of the fibre that ends there. The fibre still carries it
+    /// afterwards.
     fn receive<L: Landing>(&mut self, at: Pos, side: Side, into: &mut L) -> Result<Arrived, Failed>
         requires at { at.0 < (fibres self.old).nodes }
         requires rate { L.rate into.old ≡ (fibres self.old).rate }

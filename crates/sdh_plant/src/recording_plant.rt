@@ -16,7 +16,8 @@ use sdh_terms::{FibreEvent, Rate};
 use std::alloc::{AllocError, Global};
 use std::marker::Model;
 
-/// Fibres as those of a `FibrePlant`, with the list of the frames sent. A `send` or `exchange` past its room fails, and no other call.
+/// Honest fibres in memory, as a `FibrePlant` has them, with a list of the frames that were sent. A `send` or
+/// `exchange` fails where the list is full, and no other call fails.
 #[derive(Debug, Drop)]
 pub struct RecordingPlant {
     plant: FibrePlant,

@@ -26,8 +26,8 @@ pub enum Told {
     Frame(FrameBuf),
 }
 
-/// Fibres that take what is sent, and give the arrivals of a list in their order whatever was sent, and darkness past its end.
-/// No call of theirs fails.
+/// Fibres in memory that give the arrivals of a list in their order, whatever was sent, and nothing after the last one.
+/// No call fails.
 #[derive(Debug, Drop)]
 pub struct ToldPlant {
     plant: FibrePlant,
@@ -48,7 +48,7 @@ impl Model for ToldPlant {
     ghost invariant = { λ a. AreTold a.plant a.next a.arrivals.items };
 }
 
-// Returns whether an arrival is no frame of another rate.
+// Returns whether an arrival is nothing, or a frame of this rate.
 fn is_told_at(told: &Told, rate: Rate) -> bool
     ensures { result ≡ is_at rate (arrival_of told.now) }
 {
@@ -58,14 +58,14 @@ fn is_told_at(told: &Told, rate: Rate) -> bool
     }
 }
 
-// Returns whether none of the arrivals is a frame of another rate.
+// Returns whether each arrival is nothing, or a frame of this rate.
 fn are_told_at(arrivals: &[Told], rate: Rate) -> bool
     ensures { result ≡ list_all (λ told. is_at rate (arrival_of told)) arrivals.now }
 {
     arrivals.iter().all(|told| is_told_at(told, rate))
 }
 
-// Lands a given arrival.
+// Lands an arrival of the list, if it is a frame.
 #[tactic(auto, using(crate::proofs::Telling::rate_of_size))]
 fn tell<L: Landing>(told: &Told, into: &mut L) -> Arrived
     requires { is_at (L.rate into.old) (arrival_of told.now) ≡ true }
@@ -85,8 +85,8 @@ fn tell<L: Landing>(told: &Told, into: &mut L) -> Arrived
 }
 
 impl ToldPlant {
-    /// Returns a plant without fibres that will give these arrivals, where it is prepared for the rate of their frames.
-    /// It takes no memory.
+    /// Returns a plant without fibres that will give these arrivals, if it is prepared for the rate of their frames,
+    /// and none otherwise. It takes no memory.
     pub fn new(rate: Rate, arrivals: Vec<Told>) -> ToldPlant
         requires { All (IsToldAt rate) arrivals.items }
         ensures { result ≡ record { fibres = clear_fibres rate 0; told = map arrival_of arrivals.items } }
@@ -98,7 +98,7 @@ impl ToldPlant {
         }
     }
 
-    // Returns the next given arrival, if there is one.
+    // Takes the next arrival off the list, if there is one, and lands it, if it is a frame.
     fn give_next<L: Landing>(&mut self, into: &mut L) -> Arrived
         requires fibres { 0 < self.old.fibres.nodes }
         requires rate { L.rate into.old ≡ self.old.fibres.rate }

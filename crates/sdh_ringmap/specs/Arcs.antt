@@ -9,8 +9,8 @@ pub record Arc : Type 0 where
   pub start : ℕ
   pub spans : ℕ
 
--- In a ring of n nodes, the arc holds span s: s is a span of the ring, and the number of spans from the arc's start to
--- the west end of s is less than the arc's number of spans.
+-- In a ring of n nodes the arc holds span s. That is so where s is a span of the ring, and the number of spans from the
+-- arc's start to the west end of s is less than the arc's number of spans.
 unfoldable pub holds_span : ℕ → Arc → ℕ → Bool
 holds_span n arc s = nat_lt s n && nat_lt (eastwards n arc.start s) arc.spans
 
@@ -40,6 +40,6 @@ is_clear n applied arc = none_of (λ i. applied (arc_span n arc i)) 0 arc.spans
 unfoldable pub is_joined : ℕ → (ℕ → Bool) → Arc → Bool
 is_joined n applied arc = is_clear n applied arc || is_clear n applied (opposite_arc n arc)
 
--- span s is one of these
+-- span s is one of the spans of the list
 abbrev pub is_among : List Span → ℕ → Bool
 is_among spans s = list_any (λ x. x.0 == s) spans

@@ -7,7 +7,7 @@ use Rattle.std.specs.Ordering.{int_eq}
 use Rattle.sdh_ringmap.specs.declared.MapError.{MapError}
 use Rattle.sdh_ringmap.specs.declared.MapError.TheVariants.{NodeCount, NodeId, Repeat}
 
--- a ring has 2 to 16 nodes
+-- a ring may have this number of nodes: 2 to 16
 abbrev pub is_ring_size : ℕ → Bool
 is_ring_size n = nat_le 2 n && nat_le n 16
 
@@ -16,7 +16,7 @@ abbrev pub is_id : ℤ → Bool
 is_id (pos n) = nat_le n 15
 is_id (negsuc n) = false
 
--- the absolute value of a number
+-- the absolute value of an integer
 abbrev pub magnitude : ℤ → ℕ
 magnitude (pos n) = n
 magnitude (negsuc n) = n + 1

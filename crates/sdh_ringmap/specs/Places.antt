@@ -11,12 +11,12 @@ abbrev pub opposite : Side → Side
 opposite West = East
 opposite East = West
 
--- the position on that side of position p, in a ring of n
+-- the position next to position p on a side, in a ring of n
 abbrev pub neighbour : ℕ → ℕ → Side → ℕ
 neighbour n p East = (p + 1) % n
 neighbour n p West = (p + (n - 1)) % n
 
--- the span on that side of position p
+-- the span on a side of position p, in a ring of n
 abbrev pub span_at : ℕ → ℕ → Side → ℕ
 span_at n p East = p
 span_at n p West = (p + (n - 1)) % n
@@ -34,6 +34,6 @@ in_chain n chain p = nat_lt (eastwards n chain.first.0 p) chain.count
 abbrev pub found_at : List ℕ → ℕ → Option Pos
 found_at ids id = option_map (λ p. record { 0 = p }) (position (λ x. x == id) ids)
 
--- the position of this index
+-- position p, as a value of its type
 abbrev pub position_of : ℕ → Pos
 position_of p = record { 0 = p }

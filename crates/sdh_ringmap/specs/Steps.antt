@@ -1,4 +1,4 @@
--- Positions reached from one of them in steps towards one side, round the ring as often as needed.
+-- Positions reached from a position by steps towards one side, round the ring as often as needed.
 use Rattle.std.specs.Prelude.{ℕ, ◌+◌, ◌-◌, ◌*◌, ◌%◌}
 use Rattle.sdh_ringmap.specs.Places.{span_at}
 use Rattle.sdh_ringmap.specs.declared.Side.{Side}

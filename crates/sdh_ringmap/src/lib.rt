@@ -211,7 +211,7 @@ impl RingMap {
         (span.0 as usize) < self.len() && self.distance(from, Pos(span.0)) < self.distance(from, to)
     }
 
-    // Returns whether the arc that leads eastwards from `from` to `to` holds none of the spans, by a look at each.
+    // Returns whether the arc that leads eastwards from `from` to `to` holds none of the spans. It looks at each span.
     fn holds_none(&self, from: Pos, to: Pos, spans: &[Span]) -> bool
         requires from { from.0 < length self.now }
         requires to { to.0 < length self.now }
@@ -234,8 +234,8 @@ impl RingMap {
         self.holds_none(from, to, spans)
     }
 
-    /// Returns whether two positions are joined under applied spans: at least one of the two arcs between them holds
-    /// none of the spans. No arc holds a span whose number is not in the ring.
+    /// Returns whether two different positions are joined under applied spans: at least one of the two arcs between
+    /// them holds none of these spans. A span whose number is not below n is in no arc.
     #[tactic(auto, using(crate::proofs::Around::opposite_between), unfolding(crate::specs::Arcs::is_joined))]
     pub fn joined(&self, from: Pos, to: Pos, applied: &[Span]) -> bool
         requires from { from.0 < length self.now }

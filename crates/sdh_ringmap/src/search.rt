@@ -1,10 +1,10 @@
-//! Lists of identifiers: first places, and identifiers as bytes.
+//! Searches in lists of identifiers, and identifiers as bytes.
 ghost use Rattle.std.specs.Prelude.{◌≡◌, ◌<◌, ◌≤◌, true, All, map, ◌==◌, length, IfSome, position};
 ghost use Rattle.sdh_ringmap.specs.Numbering.{is_id, magnitude, stood_before, first_unfit, first_repeat};
 
 use arrayvec::ArrayVec;
 
-// Returns the place of an identifier.
+// Returns the first place of an identifier, counted from 0, or `None` where the list doesn't have it.
 pub(crate) fn index_of(ids: &[u8], id: u8) -> Option<usize>
     ensures index { result ≡ position (λ x. x == id) ids.now }
     ensures within { IfSome result (λ i. i < length ids.now) }
@@ -19,7 +19,7 @@ fn is_id(number: i64) -> bool
     0 <= number && number <= 15
 }
 
-// Returns the first place whose number is no identifier.
+// Returns the first place whose number is no identifier, or `None` where all are.
 pub(crate) fn first_unfit(ids: &[i64]) -> Option<usize>
     ensures index { result ≡ first_unfit ids.now }
     ensures within { IfSome result (λ i. i < length ids.now) }
@@ -35,7 +35,7 @@ fn stood_before(ids: &[i64], i: usize) -> bool
     ids[..i].contains(&ids[i])
 }
 
-// Returns the first place whose number stands at an earlier place too.
+// Returns the first place whose number stands at an earlier place too, or `None` where no two are alike.
 pub(crate) fn first_repeat(ids: &[i64]) -> Option<usize>
     ensures index { result ≡ first_repeat ids.now }
     ensures within { IfSome result (λ i. i < length ids.now) }

@@ -1,4 +1,5 @@
--- What the programs' calls are asked for by, and how a script ends that was run. The words are this project's own.
+-- The words of a command line by which programs are called, and how a script that was run ends. The words are this
+-- project's own.
 use Rattle.std.specs.Prelude.{◌≡◌, ℕ, Bool, true, false, if◌then◌else◌, List, [], ◌∷◌, codes, map, Option, Some, None, String, string_bytes}
 use Rattle.std.specs.Str.{bytes_eq}
 use Rattle.std.specs.declared.alloc.Global.{Global}
@@ -16,20 +17,21 @@ abbrev pub is_run : List (List ℕ) → Bool
 is_run (word ∷ []) = bytes_eq word (codes "run")
 is_run words = false
 
+-- the words are the one word `run`
 abbrev pub AreRun : List (List ℕ) → Type 0
 AreRun words = is_run words ≡ true
 
--- what a program is asked for that is asked for one thing, with the word `run`
+-- what is asked of a program that does one thing alone, by the word `run`
 abbrev pub asked_to_run : List (List ℕ) → Option (Unit {0})
 asked_to_run words = if is_run words then Some tt else None
 
--- the end that a letter names
+-- the end of a circuit that a letter names
 abbrev pub end_lettered : List ℕ → Option End
 end_lettered letter = if bytes_eq letter (codes "a") then Some A else if bytes_eq letter (codes "b") then Some B else None
 
 -- ---- endings
 
--- the script came to an end: it is done, or a settle step was unsettled, or a plant's call failed
+-- a script that was run may end so: it is done, or a settle step was unsettled, or a plant's call failed
 abbrev pub HasRun : Status → Type 0
 HasRun status.Ok = Unit {0}
 HasRun (status.Unsettled k) = Unit {0}

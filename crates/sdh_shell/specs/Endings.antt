@@ -6,9 +6,9 @@ use Rattle.sdh_report.specs.Statuses.{number_of, last_line}
 
 -- the endings of a program
 pub record Endings (E : Type 0) : Type 0 where
-  -- the ending that a shared status is
+  -- the ending that stands for a shared status
   pub of : Status → E
-  -- the shared status that an ending is; one of the program's own is none
+  -- the shared status for which an ending stands; none for an ending of the program's own
   pub shared : E → Option Status
   pub shared_of : (s : Status) → shared (of s) ≡ Some s
   -- the number of an ending
@@ -20,11 +20,13 @@ pub record Endings (E : Type 0) : Type 0 where
 abbrev pub statuses : Endings Status
 statuses = record { of = λ s. s; shared = λ s. Some s; shared_of = λ s i. Some s; number = number_of; line = last_line }
 
--- a plan may be refused with it before it runs: it is one of the program's own, or there is no such port
+-- a plan may be refused before it runs with an ending that stands for this shared status, or for none: with one of the
+-- program's own, or because there is no such port
 abbrev pub refuses_plan : Option Status → Type 0
 refuses_plan None = Unit {0}
 refuses_plan (Some status.NoSuchPort) = Unit {0}
 refuses_plan (Some how) = ⊥
 
+-- a plan may be refused with this ending before it runs
 abbrev pub RefusesPlan : {E : Type 0} → Endings E → E → Type 0
 RefusesPlan endings how = refuses_plan (endings.shared how)

@@ -6,7 +6,7 @@ use Rattle.sdh_report.specs.declared.status.Status.{Status}
 use Rattle.sdh_report.specs.declared.status.Status.TheVariants as status
 use Rattle.sdh_shell.specs.Endings.{Endings, statuses}
 
--- how often calls of an object had failed, before and after
+-- the count of failed calls of a source or a plant, before and after a call of the program
 pub record Counts : Type 0 where
   pub before : ℕ
   pub after : ℕ
@@ -15,28 +15,30 @@ pub record Counts : Type 0 where
 abbrev pub HaveFailed : Counts → Type 0
 HaveFailed counts = Rose counts.before counts.after
 
--- a read fault and a plant fault have their causes
+-- a read fault has its cause in a read that failed, and a plant fault in a call of the plant that failed
 abbrev pub HasCause : Counts → Counts → Status → Type 0
 HasCause reads calls status.ReadFault = HaveFailed reads
 HasCause reads calls status.PlantFault = HaveFailed calls
 HasCause reads calls how = Unit {0}
 
+-- the status, if there is one, has its cause if it is a fault
 abbrev pub cause_of : Counts → Counts → Option Status → Type 0
 cause_of reads calls None = Unit {0}
 cause_of reads calls (Some how) = HasCause reads calls how
 
--- the shared endings have their cause in any program; an ending of a program's own needs none
+-- an ending that stands for a shared status has its cause; one of the program's own needs none
 abbrev pub EndsWithCause : {E : Type 0} → Endings E → Counts → Counts → E → Type 0
 EndsWithCause endings reads calls how = cause_of reads calls (endings.shared how)
 
 -- What a source had come to when something was to be reported: a read fault, too many bytes or neither. Where its count
--- is exact, one read failed with a read fault, and none without it. With too many bytes, one more than are read was
--- taken.
+-- is exact, one read failed with a read fault, and none without it. With too many bytes, one byte more than a plan may
+-- have was taken.
 pub record CameOfSource (exact : Bool) (reads : Counts) (left now : Option (List ℕ)) (ReadFault TooLong : Type 0) : Type 0 where
   pub counted : IsCounted exact ReadFault reads.before reads.after
   pub too_long : TooLong → TakesCount left now 1048577
 
--- What a plant had come to: where its count is exact, one call of it failed with a plant fault, and none without it.
+-- What a source and a plant had come to when something was to be reported. Where the plant's count is exact, one of its
+-- calls failed with a plant fault, and none without it.
 pub record CameToFaults (source_exact plant_exact : Bool) (reads calls : Counts) (left now : Option (List ℕ))
     (ReadFault PlantFault TooLong : Type 0) : Type 0 where
   pub source : CameOfSource source_exact reads left now ReadFault TooLong
@@ -48,6 +50,6 @@ CameToEnding endings source_exact plant_exact reads calls left now how =
     CameToFaults source_exact plant_exact reads calls left now (how ≡ endings.of status.ReadFault) (how ≡ endings.of status.PlantFault)
     (how ≡ endings.of status.TooLong)
 
--- this status
+-- what source and plant had come to when this status was to be reported
 abbrev pub CameTo : Bool → Bool → Counts → Counts → Option (List ℕ) → Option (List ℕ) → Status → Type 0
 CameTo = CameToEnding statuses

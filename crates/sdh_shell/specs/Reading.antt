@@ -11,12 +11,12 @@ use Rattle.sdh_report.specs.declared.status.Status.TheVariants as status
 use Rattle.sdh_shell.specs.declared.reading.NoPlan.{NoPlan}
 use Rattle.sdh_shell.specs.declared.reading.NoPlan.TheVariants as none
 
--- the source has no more bytes than a plan may have
+-- there are no more bytes than a plan may have, 1,048,576
 abbrev pub IsShort : List ℕ → Type 0
 IsShort bytes = length bytes ≤ 1048576
 
--- why there is no plan: a read failed; there are too many bytes; they are no document; or they are one, and the first of its
--- checks that fails has a reason of this number, and this place
+-- Why there is no plan: a read failed; there are too many bytes; they are no document; or they are a document, and the
+-- first of its checks that fails has a reason of this number and this place.
 abbrev pub HasNoPlan : List ℕ → Status → Type 0
 HasNoPlan bytes status.ReadFault = Unit {0}
 HasNoPlan bytes status.TooLong = 1048576 < length bytes
@@ -31,7 +31,7 @@ HasNoPlan bytes status.PlantFault = ⊥
 HasNoPlan bytes status.NoSuchPort = ⊥
 HasNoPlan bytes status.Memory = ⊥
 
--- these bytes are those of this plan
+-- these bytes are those of this plan, and no more than a plan may have
 abbrev pub TellsPlan : List ℕ → Planned → Type 0
 TellsPlan bytes plan = IsShort bytes × IsPlanOf bytes plan
 
@@ -40,12 +40,12 @@ abbrev pub HasPlan : Option (List ℕ) → Type 0
 HasPlan None = ⊥
 HasPlan (Some bytes) = (plan : Planned) × TellsPlan bytes plan
 
--- an answer without a plan has its reason in the bytes; a lack of memory needs none
+-- a result without a plan has its reason in the bytes, except a lack of memory, which needs none
 abbrev pub IsWhyNone : List ℕ → NoPlan → Type 0
 IsWhyNone bytes none.Memory = Unit {0}
 IsWhyNone bytes (none.Refused how) = HasNoPlan bytes how
 
--- a refusal of a plan ends with one of these statuses
+-- a plan is refused with this status
 abbrev pub Refuses : Status → Type 0
 Refuses status.ReadFault = Unit {0}
 Refuses status.TooLong = Unit {0}
@@ -53,6 +53,7 @@ Refuses status.NotToml = Unit {0}
 Refuses (status.BadPlan number place) = Unit {0}
 Refuses how = ⊥
 
+-- there is no plan because memory ran out, or because of one of the statuses with which a plan is refused
 abbrev pub IsRefusal : NoPlan → Type 0
 IsRefusal none.Memory = Unit {0}
 IsRefusal (none.Refused how) = Refuses how

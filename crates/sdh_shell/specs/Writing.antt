@@ -1,4 +1,4 @@
--- What is written: of a text in pieces, and with which ending of a call.
+-- What is written: of a text in pieces, and with each ending of a program's call.
 use Rattle.std.specs.Prelude.{◌≡◌, ℕ, ◌≤◌, Bool, List, Option, Some, None, Result, IsErr, OnOk, OnErr}
 use Rattle.std.specs.Io.KnownBytes.{Appends, Keeps}
 use Rattle.sdh_basics.specs.Causes.{Rose, IsCounted}
@@ -9,8 +9,8 @@ use Rattle.sdh_shell.specs.Endings.{Endings}
 
 -- ---- a text, in pieces
 
--- The whole text was appended; or a write failed, which the count of faults shows, and the front of it was. Where the
--- count is exact, one write failed with a fault, and none without.
+-- The whole text was appended; or a write failed, which the count of faults shows, and only a beginning of the text was
+-- appended. Where the count is exact, one write failed if the result is an error, and none if it is Ok.
 pub record Wrote {T E : Type 0} (exact : Bool) (old new : Option (List ℕ)) (before after : ℕ) (text : List ℕ)
     (result : Result T E) : Type 0 where
   pub ok : OnOk result (Appends old new text)
@@ -25,42 +25,43 @@ pub record Wrote {T E : Type 0} (exact : Bool) (old new : Option (List ℕ)) (be
 abbrev pub Says : {F : Type 0} → List ℕ → List ℕ → F → F → Type 0
 Says line text f left = (text ≡ line) × (left ≡ f)
 
--- with an ending goes the whole text of an outcome; a front of one, where a write failed; or nothing, where memory ran
--- out
+-- how much of an outcome's text goes with an ending: the whole text; only a beginning of it, where a write failed; or
+-- nothing, where memory ran out
 pub data Telling : Type 0 where
   Whole : Telling
   Front : Telling
   Nothing : Telling
 
--- What was written when a call ended so, where `may` says which endings go with which texts: the outcome's whole text;
--- with a write fault fewer bytes, from the front of an outcome's text; where memory ran out, nothing.
+-- What was written when a call ended with `how`, where `may` says which endings go with which texts: the whole text of
+-- the outcome; where a write failed, only a beginning of an outcome's text; where memory ran out, nothing.
 abbrev pub WritesAs : {S : Type 0} → Telling → (S → List ℕ → Type 0) → S → Option (List ℕ) → Option (List ℕ) → Type 0
 WritesAs {S} Front may how old new = (told : S) × (text : List ℕ) × may told text × AppendsFewer old new text
 WritesAs Nothing may how old new = Keeps old new
 WritesAs Whole may how old new = (text : List ℕ) × may how text × Appends old new text
 
--- with what text a status goes
+-- how much of an outcome's text goes with a status
 abbrev pub telling_of : Status → Telling
 telling_of status.WriteFault = Front
 telling_of status.Memory = Nothing
 telling_of how = Whole
 
--- what was written when this status was answered
+-- what was written when a call ended with this status
 abbrev pub Writes : (Status → List ℕ → Type 0) → Status → Option (List ℕ) → Option (List ℕ) → Type 0
 Writes may how old new = WritesAs (telling_of how) may how old new
 
+-- how much of an outcome's text goes with a shared status; the whole text where there is none
 abbrev pub telling_if : Option Status → Telling
 telling_if None = Whole
 telling_if (Some how) = telling_of how
 
--- with what text an ending goes: one of the program's own with its whole text
+-- how much of an outcome's text goes with an ending; with one of the program's own the whole text
 abbrev pub telling_in : {E : Type 0} → Endings E → E → Telling
 telling_in endings how = telling_if (endings.shared how)
 
--- what was written when this ending was answered
+-- what was written when a call ended with this ending
 abbrev pub WritesWith : {E : Type 0} → Endings E → (E → List ℕ → Type 0) → E → Option (List ℕ) → Option (List ℕ) → Type 0
 WritesWith endings may how old new = WritesAs (telling_in endings how) may how old new
 
--- something is to be written with this ending: no writing has failed, and there was memory
+-- the whole text of an outcome goes with this ending: no write failed, and memory did not run out
 abbrev pub IsShown : {E : Type 0} → Endings E → E → Type 0
 IsShown endings how = telling_in endings how ≡ Whole

@@ -12,7 +12,7 @@ pub struct EndedText<E> {
     pub text: Text,
 }
 
-/// Returns a text with its last line.
+/// Returns a text with the last line of an ending added, for which it has room.
 pub fn ended<E: Ends>(ending: E, mut text: Text) -> EndedText<E>
     requires room { 96 ≤ text.room }
     ensures ending { result.ending ≡ ending }
@@ -22,7 +22,7 @@ pub fn ended<E: Ends>(ending: E, mut text: Text) -> EndedText<E>
     EndedText { ending, text }
 }
 
-/// Returns the report of one line.
+/// Returns a text that is the last line of an ending alone.
 pub fn ended_line<E: Ends>(alloc: Global, ending: E) -> Result<EndedText<E>, AllocError>
     ensures { IfOk result (λ report. (report.ending ≡ ending) × (report.text.bytes ≡ E.endings.line ending)) }
 {

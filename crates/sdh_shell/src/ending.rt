@@ -10,11 +10,11 @@ pub trait Ends: Copy {
     /// The endings of a program, as its definitions give them.
     ghost endings: { Endings Self };
 
-    /// Returns the ending that a shared status is.
+    /// Returns the ending that stands for a shared status.
     fn of(status: Status) -> Self
         ensures { result ≡ endings.of status };
 
-    /// Appends the last line of the text that goes with an ending.
+    /// Appends the last line of the text that goes with an ending. The text has room for 96 bytes more.
     fn put_line(&self, text: &mut Text)
         requires room { 96 ≤ text.old.room }
         ensures bytes { text.new.bytes ≡ text.old.bytes ++ endings.line self.now };

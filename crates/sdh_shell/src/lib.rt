@@ -1,11 +1,11 @@
-//! What the programs' calls share: whether the words are the word `run`, the end that a letter names, a plan that is
-//! read or refused, the endings of a program, and calls that failed and are counted. Texts are written to a sink as
-//! they come, or to memory.
+//! What the programs' calls share: whether the words are the one word `run`, the end that a letter names, a plan that
+//! is read or refused, the endings of a program, and counts of calls that failed. Texts are written to a sink as they
+//! come, or to memory.
 //!
 //! How a plan is refused is `HasNoPlan` in `specs/Reading.antt`. How a script that was run may end is `HasRun` in
-//! `specs/Calls.antt`. What the endings of a program are is `Endings` in `specs/Endings.antt`, and which failures an
-//! ending shows is `CameToEnding` in `specs/Failing.antt`. What is written is in `specs/Writing.antt`: with which
-//! ending it is `WritesAs`, and of a text that is written in pieces it is `Wrote`.
+//! `specs/Calls.antt`. The endings of a program are `Endings` in `specs/Endings.antt`, and the failures that an ending
+//! shows are `CameToEnding` in `specs/Failing.antt`. What is written is in `specs/Writing.antt`: `WritesAs` has the
+//! texts that go with an ending, and `Wrote` what was written of a text in pieces.
 #![tactic(auto)]
 
 mod ended_text;

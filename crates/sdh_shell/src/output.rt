@@ -15,19 +15,19 @@ pub trait Output {
     /// The number of times that writing a piece has failed.
     ghost faults: { Self → ℕ };
 
-    /// The count rises by one with each piece that wasn't written whole, and with nothing else.
+    /// Whether `faults` rises by one with each piece that wasn't written whole, and with nothing else.
     ghost exact: { Bool };
 
     /// The output takes at least this number of bytes more.
     ghost Takes: { ℕ → Self → Type 0 };
 
-    /// Appends a piece whole; or, where writing fails, a front of it.
+    /// Appends a whole piece, or only a beginning of it where writing fails.
     fn put(&mut self, piece: &[u8]) -> Result<(), WriteFault>
         requires room { Takes (length piece.now) self.old }
         ensures wrote { Wrote exact (written self.old) (written self.new) (faults self.old) (faults self.new) piece.now result }
         ensures room { (more : ℕ) → Takes (length piece.now + more) self.old → Takes more self.new };
 
-    /// What takes many bytes takes fewer.
+    /// An output that takes a number of bytes takes any smaller number too.
     ghost fewer: { (few many : ℕ) (o : Self) → few ≤ many → Takes many o → Takes few o };
 }
 
@@ -54,7 +54,7 @@ pub struct Kept {
 }
 
 impl Kept {
-    /// Returns an empty one with so much room, in bytes.
+    /// Returns an empty text with room for `room` bytes.
     pub fn try_new(alloc: Global, room: usize) -> Result<Kept, AllocError>
         ensures { IfOk result (λ kept. kept.text ≡ record { bytes = []; room = room }) }
     {

@@ -13,13 +13,13 @@ use std::alloc::Global;
 /// Why there is no plan.
 #[derive(Clone, Copy, Debug, PartialEq, Eq)]
 pub enum NoPlan {
-    /// There was no memory.
+    /// Memory ran out.
     Memory,
     /// The plan was refused with this status: `ReadFault`, `TooLong`, `NotToml` or `BadPlan`.
     Refused(Status),
 }
 
-/// Returns the plan that a source has, which is read to its end.
+/// Reads a source to its end, and returns the plan that its bytes are.
 pub fn plan_in<R: Source>(alloc: Global, source: &mut R) -> Result<Plan, NoPlan>
     ensures plan { IfOk result (λ plan. IfSome (R.left source.old) (λ bytes. TellsPlan bytes plan)) }
     ensures end { OnOk result (IsAtEnd (R.left source.new)) }
@@ -28,12 +28,12 @@ pub fn plan_in<R: Source>(alloc: Global, source: &mut R) -> Result<Plan, NoPlan>
     ensures fault { result ≡ Err (NoPlan.Refused Status.ReadFault) → Rose (R.faults source.old) (R.faults source.new) }
     ensures too_long { result ≡ Err (NoPlan.Refused Status.TooLong) → TakesCount (R.left source.old) (R.left source.new) 1048577 }
 
-    // The bytes of a plan and no fault: there is a plan, or no memory.
+    // Where the source shows the bytes of a plan and no read fails, the plan is returned, or memory ran out.
     ensures complete { HasPlan (R.left source.old) → ¬ (Rose (R.faults source.old) (R.faults source.new))
         → IsOk result ⊎ (result ≡ Err NoPlan.Memory) }
     ensures later { R.faults source.old ≤ R.faults source.new }
 
-    // Where the count is exact: one read failed with a read fault, and none with any other answer.
+    // Where the source's count of faults is exact, one read failed if the result is `ReadFault`, and none otherwise.
     ensures counted { IsCounted R.exact (result ≡ Err (NoPlan.Refused Status.ReadFault)) (R.faults source.old) (R.faults source.new) }
 {
     let bytes = match read_all(alloc, source) {

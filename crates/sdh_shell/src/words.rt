@@ -14,7 +14,7 @@ pub fn is_run(words: &[String]) -> bool
     }
 }
 
-/// Returns the end that a letter names.
+/// Returns the end of a circuit that a letter names, `a` or `b`, and `None` for any other text.
 pub fn end_lettered(letter: &str) -> Option<End>
     ensures { result ≡ end_lettered letter.now }
 {

@@ -1,4 +1,4 @@
--- The numbers of a ring's fibres, and their conditions. This project's own; a span has two fibres, one in each
+-- The numbers of a ring's fibres, and their conditions. Both are this project's own. A span has two fibres, one in each
 -- direction, as in a two-fibre ring of ITU-T G.841.
 use Rattle.std.specs.Prelude.{ℕ, ◌+◌, ◌*◌, ◌≤◌, true, false, Bool}
 use Rattle.sdh_ringmap.specs.declared.Side.{Side}
@@ -18,7 +18,7 @@ fibre p East = 2 * p + 1
 abbrev pub fibre_to : ℕ → ℕ → Side → ℕ
 fibre_to n p d = fibre (neighbour n p d) (opposite d)
 
--- a degradation affects 1 to 3 N columns
+-- a fibre may have this condition at this rate: a degradation affects 1 to 3N columns
 abbrev pub IsConditionAt : Rate → Condition → Type 0
 IsConditionAt rate Clear = Unit {0}
 IsConditionAt rate Cut = Unit {0}
@@ -30,7 +30,8 @@ is_cut Cut = true
 is_cut Clear = false
 is_cut (Degraded k) = false
 
--- the number of bits of a frame that a fibre in this condition inverts, all of them in overhead that carries nothing
+-- the number of bits of a frame that a fibre in this condition inverts, all of them in section overhead that carries
+-- nothing
 abbrev pub degraded_by : Condition → ℕ
 degraded_by (Degraded k) = k
 degraded_by Clear = 0

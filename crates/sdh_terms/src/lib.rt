@@ -46,7 +46,7 @@ pub enum Code {
     Nr,
     /// Reverse request: the answer to a neighbour's request.
     Rr,
-    /// Wait to restore: a defect ended a short time ago.
+    /// Wait to restore: a defect ended less than the waiting time ago.
     Wtr,
     /// Manual switch.
     Ms,
@@ -82,7 +82,8 @@ pub enum Condition {
     Clear,
     /// Nothing arrives.
     Cut,
-    /// Frames arrive with the top bit of this number of bytes of row 6 inverted, 1 to 3 N.
+    /// Frames arrive with the top bit inverted in this number of bytes of row 6, from column 1 on. The number is 1 to
+    /// 3N.
     Degraded(u16),
 }
 
