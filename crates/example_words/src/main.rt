@@ -1,5 +1,6 @@
-//! The first twenty rounds of a ring of four nodes at STM-4 whose span between nodes 2 and 3 is cut: K1 and K2 that each node
-//! sends on each side, and then the first bytes of a frame on a fibre.
+//! Prints the first twenty rounds of a ring of four nodes at STM-4, whose span between nodes 2 and 3 is cut. Of each
+//! round it prints the bytes K1 and K2 that each node sends on each side. Then it prints the first bytes of a frame on
+//! a fibre.
 #![tactic(auto)]
 
 ghost use Rattle.std.specs.Prelude.{◌≡◌, ◌<◌, IfOk, OnOk, false, length};
@@ -17,7 +18,7 @@ use std::alloc::{AllocError, Global};
 use std::io;
 use thiserror::Error;
 
-/// The rounds of the settle step, in each of which eight frames are sent.
+/// The most rounds of the settle step. In each of them eight frames are sent.
 const ROUNDS: u32 = 129;
 
 /// Why the program stops.
@@ -90,7 +91,7 @@ fn print_words(rt: &HostRuntime, ring: &Ring) -> io::Result<()> {
     Ok(())
 }
 
-/// Prints the words of the first rounds that it sees.
+/// Prints the words of the first `left` rounds that it sees.
 #[derive(Drop)]
 struct Printer<'a> {
     rt: &'a HostRuntime,

@@ -48,7 +48,8 @@ pub extern "C" fn sdh_bench_write_sections(
     true
 }
 
-// Returns what a section found, as a number.
+// Returns what a section found in a frame as a number: 0 for an unframed one, else 1 more than K1, K2 and the
+// violations of B1 and B2 together.
 fn number_of(received: Received) -> u64 {
     match received {
         Received::Framed { k1, k2, b1, b2 } => {
@@ -58,7 +59,8 @@ fn number_of(received: Received) -> u64 {
     }
 }
 
-/// Reads a frame `rounds` times, and returns a sum of what was found, or 0 where memory runs out.
+/// Reads a frame `rounds` times. Returns the sum of what was found each time, as `number_of` counts it, or 0 where
+/// memory runs out.
 #[unsafe(no_mangle)]
 pub extern "C" fn sdh_bench_read_sections(
     alloc: Global,
@@ -108,7 +110,7 @@ pub extern "C" fn sdh_bench_copy_payloads(
     true
 }
 
-// Copies the payload of each AU-4 to the one after it, and of the last to the first.
+// Copies the payload of each AU-4 to the AU-4 after it, and that of the last one to the first.
 fn copy_all(to: &mut FrameBuf, from: &FrameBuf)
     requires { to.old.rate ≡ from.now.rate }
     ensures { to.new.rate ≡ to.old.rate }

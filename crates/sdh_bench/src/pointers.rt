@@ -3,7 +3,7 @@ ghost use Rattle.std.specs.Prelude.{◌≡◌, length};
 
 use sdh_pointer::{Gen, Interp, Word};
 
-/// Reads pointer words with one interpreter, and writes the words of the generator after it.
+/// Reads pointer words with one interpreter, and writes to `out` the words of the generator that follows it.
 #[unsafe(no_mangle)]
 pub extern "C" fn sdh_bench_pointers(words: &[u16], out: &mut [u16])
     requires { length words.now ≡ length out.old }

@@ -13,7 +13,8 @@ fn part(bytes: &[u8], from: usize, count: usize) -> &[u8]
     &bytes[from..from + count]
 }
 
-// Returns the chunk of a turn. Four of them are the input, the first with 2346 bytes and the others with 2349.
+// Returns the chunk of a turn. Four chunks in a row are the whole input: the first has 2346 bytes, the others have
+// 2349.
 fn chunk_in(input: &[u8], turn: u32) -> &[u8]
     requires { length input.now ≡ 9393 }
     ensures least { 2346 ≤ length result.now }
@@ -27,8 +28,8 @@ fn chunk_in(input: &[u8], turn: u32) -> &[u8]
     }
 }
 
-/// Runs an elastic store for `turns` turns over the input, again and again, puts the bytes of the last turn into `out`,
-/// and returns their number, or 0 where memory runs out or `turns` is 0.
+/// Runs an elastic store for `turns` turns over the input, again and again. Puts the bytes that the last turn gives
+/// into `out`, and returns their number. Returns 0 where memory runs out, a turn is a drift, or `turns` is 0.
 #[unsafe(no_mangle)]
 pub extern "C" fn sdh_bench_turns(alloc: Global, input: &[u8], turns: u32, out: &mut [u8]) -> usize
     requires input { length input.now ≡ 9393 }

@@ -1,4 +1,5 @@
-//! Rounds of whole rings over fibres in memory, which `bench/ring` measures and `bench/strangers` looks at. No other crate uses this one.
+//! Rounds of whole rings over fibres in memory, which `bench/ring` measures and `bench/strangers` checks. No other
+//! crate uses this one.
 #![tactic(auto)]
 
 ghost use Rattle.std.specs.Prelude.{◌≡◌, ◌≤◌, ◌<◌, ◌+◌, ◌*◌, ◌/◌, ◌^◌, ◌⊎◌, ℕ, IfOk, OnOk, false, length};
@@ -23,7 +24,7 @@ fn rate_of(n: usize) -> Rate
     if n == 4 { Rate::Four } else { Rate::Sixteen }
 }
 
-// Returns the name of a circuit: four letters.
+// Returns the name of a circuit, which is four letters, or an empty one where there are too few letters.
 fn name_at(names: &str, number: usize) -> &str
     requires { number < 128 }
 {
@@ -33,8 +34,8 @@ fn name_at(names: &str, number: usize) -> &str
     }
 }
 
-// Returns `count` circuits: the first ones leave each node eastwards for the next in slot 1, those after them in slot
-// 2, and so on.
+// Returns `count` circuits. The first ones lead from each node eastwards to the next one, in slot 1. Those after them
+// do so in slot 2, and so on.
 fn circuits_of(
     alloc: Global,
     rate: Rate,
@@ -69,8 +70,8 @@ fn circuits_of(
     Ok(circuits)
 }
 
-// Returns the ring of these nodes and circuits, with the plant prepared for it. A refusal counts as a lack of memory
-// here.
+// Returns the ring of these nodes and circuits, with the plant prepared for it. A refusal is returned as `AllocError`,
+// too.
 pub(crate) fn made<P: Plant>(
     alloc: Global,
     plant: &mut P,
@@ -93,7 +94,8 @@ pub(crate) fn made<P: Plant>(
     Ok(Ring::try_new(alloc, settings, map, circuits)?)
 }
 
-// Returns the ring of these nodes with `count` circuits.
+// Returns the ring of these nodes with `count` circuits, with the plant prepared for it. A refusal is returned as
+// `AllocError`, too.
 fn laid<P: Plant>(
     alloc: Global,
     plant: &mut P,
@@ -118,7 +120,7 @@ fn laid<P: Plant>(
     made(alloc, plant, settings, map, circuits)
 }
 
-// Cuts the fibre that leaves a position on a side.
+// Cuts the fibre that leaves the node at a position on a side.
 fn cut<P: Plant>(plant: &mut P, at: usize, side: Side)
     requires at { at < (P.fibres plant.old).nodes }
     requires few { at < 16 }
@@ -132,7 +134,7 @@ fn cut<P: Plant>(plant: &mut P, at: usize, side: Side)
     let _ = plant.apply(event);
 }
 
-// Cuts `count` spans in both directions, five nodes apart.
+// Cuts `count` spans both ways, from the one at position 0 on, five nodes apart.
 fn cut_spans<P: Plant>(ring: &Ring, plant: &mut P, count: usize)
     requires prepared { IsPrepared ring.now.settings.rate (length ring.now.ids) (P.fibres plant.old) }
     requires count { count ≤ 3 }
@@ -170,7 +172,7 @@ fn is_chunk(ring: &Ring, port: PortId) -> bool
     }
 }
 
-// Returns how many ports delivered a chunk in the last round.
+// Returns the number of ports that delivered a chunk in the last round.
 fn chunks_in(ring: &Ring) -> u32
     ensures { result ≤ 256 }
 {
@@ -186,8 +188,9 @@ fn chunks_in(ring: &Ring) -> u32
     chunks.min(256)
 }
 
-/// Makes a ring of these nodes with `circuits` circuits and `cuts` cut spans, and runs `rounds` rounds. Returns how
-/// many ports delivered a chunk in the last round, or 1,000 where there is no such ring or no memory.
+/// Makes a ring of these nodes at the rate n, 4 or 16, with `circuits` circuits and `cuts` cut spans, and runs `rounds`
+/// rounds. Each circuit takes four letters of `names` as its name. Returns the number of ports that delivered a chunk
+/// in the last round, or 1,000 where there is no such ring, memory runs out, or a call of the plant fails.
 #[unsafe(no_mangle)]
 pub extern "C" fn sdh_bench_ring(
     alloc: Global,

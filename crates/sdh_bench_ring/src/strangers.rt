@@ -1,4 +1,5 @@
-//! An episode: a ring to which things happen in any rounds, and what each port delivers in each round, for `bench/strangers`.
+//! An episode, for `bench/strangers`: a ring to which things happen between any rounds, and what each port delivers in
+//! each round.
 ghost use Rattle.std.specs.Prelude.{◌≡◌, ◌≤◌, ◌<◌, ◌/◌, ℕ, IfOk, false, length};
 ghost use Rattle.sdh_terms.specs.Rates.{n_of};
 ghost use Rattle.sdh_circuits.specs.Kept.{KeepsRing};
@@ -14,13 +15,14 @@ use sdh_ringmap::{Pos, RingMap, Side};
 use sdh_terms::{Condition, FibreEvent, Rate};
 use std::alloc::{AllocError, Global};
 
-/// What is written of a port in a round: how many bytes it delivered, in two bytes, and they; none where it delivers AIS.
+/// The size of what is written of a port in a round: in two bytes, how many bytes the port delivered, and then those
+/// bytes, at most 2352. Nothing is written where it delivers AIS.
 const PORT_SIZE: usize = 2354;
 
-/// The most ports whose state of a round is written.
+/// The most ports of which it is written what they deliver.
 const PORTS: usize = 32;
 
-// Returns one byte, and 0 after the last.
+// Returns the byte at a place, and 0 after the last byte.
 fn byte_at(bytes: &[u8], at: usize) -> u8 {
     match bytes.get(at) {
         Some(byte) => *byte,
@@ -28,7 +30,7 @@ fn byte_at(bytes: &[u8], at: usize) -> u8 {
     }
 }
 
-// Returns the letter of a port, and none after the last.
+// Returns the letter of a port, and no letter after the last one.
 fn letter_at(letters: &str, port: usize) -> &str
     requires { port ≤ 1000 }
 {
@@ -38,8 +40,8 @@ fn letter_at(letters: &str, port: usize) -> &str
     }
 }
 
-// Returns the circuits that are asked for, in three bytes each: the nodes from and to which each leads eastwards, and
-// its slot. Its text is one letter at each end, and its name the first of them.
+// Returns the circuits that are asked for, in three bytes each: the node from which the circuit leads eastwards, the
+// node to which it leads, and its slot. Each end has one letter as its text, and end A's letter is the circuit's name.
 fn asked_for(
     alloc: Global,
     map: &RingMap,
@@ -69,7 +71,7 @@ fn asked_for(
     Ok(circuits)
 }
 
-// Returns the ring, with the plant prepared for it. A refusal counts as a lack of memory here.
+// Returns the ring, with the plant prepared for it. A refusal is returned as `AllocError`, too.
 fn laid<P: Plant>(
     alloc: Global,
     plant: &mut P,
@@ -93,7 +95,8 @@ fn laid<P: Plant>(
     made(alloc, plant, settings, map, circuits)
 }
 
-// What happens between rounds, or the next round: its kind, where, and two numbers more.
+// What happens: a round (`kind` 0), or a change between rounds. A change has the kind 1 for a fibre, 2 for a command, 3
+// for slips, 4 for a hold and 5 for the moment, the place where it happens, and a number `count`.
 #[derive(Clone, Copy)]
 struct Event {
     kind: u8,
@@ -102,7 +105,7 @@ struct Event {
     count: u8,
 }
 
-// Returns the event of this number: four bytes each.
+// Returns event number `number`; each event has four bytes.
 fn event_at(events: &[u8], number: usize) -> Event
     requires { number ≤ 100000 }
 {
@@ -119,7 +122,8 @@ fn event_at(events: &[u8], number: usize) -> Event
     }
 }
 
-// Gives the fibre that leaves a node on a side a condition: clear, cut, or degraded by a number of bits.
+// Gives a condition to the fibre that leaves a node on a side: clear for 0, degraded by 1 to 12 bytes, or cut for a
+// larger number.
 fn bring<P: Plant>(ring: &Ring, plant: &mut P, event: Event)
     requires prepared { IsPrepared ring.now.settings.rate (length ring.now.ids) (P.fibres plant.old) }
     ensures prepared { IsPrepared ring.now.settings.rate (length ring.now.ids) (P.fibres plant.new) }
@@ -138,7 +142,7 @@ fn bring<P: Plant>(ring: &Ring, plant: &mut P, event: Event)
     }
 }
 
-// Gives a side of a node a command.
+// Gives a command to a side of a node.
 fn order(ring: &mut Ring, event: Event)
     ensures prepared { (n : ℕ) (f : _) → IsPrepared ring.old.settings.rate n f → IsPrepared ring.new.settings.rate n f }
     ensures ids { ring.new.ids ≡ ring.old.ids }
@@ -155,7 +159,7 @@ fn order(ring: &mut Ring, event: Event)
     }
 }
 
-// Adds pending slips at a port of a circuit.
+// Adds four pending slips at a port of a circuit, where at most 12 wait.
 fn slip(ring: &mut Ring, event: Event)
     ensures prepared { (n : ℕ) (f : _) → IsPrepared ring.old.settings.rate n f → IsPrepared ring.new.settings.rate n f }
     ensures ids { ring.new.ids ≡ ring.old.ids }
@@ -180,7 +184,7 @@ fn slip(ring: &mut Ring, event: Event)
     }
 }
 
-// Lets the controller of a node miss a number of turns.
+// Holds the controller of a node for 1 to 100 rounds. Another number does nothing.
 fn hold(ring: &mut Ring, event: Event)
     ensures prepared { (n : ℕ) (f : _) → IsPrepared ring.old.settings.rate n f → IsPrepared ring.new.settings.rate n f }
     ensures ids { ring.new.ids ≡ ring.old.ids }
@@ -192,7 +196,7 @@ fn hold(ring: &mut Ring, event: Event)
     }
 }
 
-// Moves the present moment on, and returns it.
+// Moves the present moment on by a number, unless it is above 1,000,000. Returns the moment.
 fn tell(ring: &mut Ring, moment: u64, event: Event) -> u64
     requires moment { ring.old.moment ≡ moment }
     ensures moment { ring.new.moment ≡ result }
@@ -208,7 +212,7 @@ fn tell(ring: &mut Ring, moment: u64, event: Event) -> u64
     now
 }
 
-// Does what happens between rounds, and returns the moment after it.
+// Makes a change between rounds, and returns the moment after it.
 fn happens<P: Plant>(ring: &mut Ring, plant: &mut P, moment: u64, event: Event) -> u64
     requires prepared { IsPrepared ring.old.settings.rate (length ring.old.ids) (P.fibres plant.old) }
     requires whole { ring.old.broken ≡ false }
@@ -228,7 +232,7 @@ fn happens<P: Plant>(ring: &mut Ring, plant: &mut P, moment: u64, event: Event) 
     moment
 }
 
-// Writes what a port delivered.
+// Writes how many bytes a port delivered in the last round, and those bytes. Writes nothing where it delivered AIS.
 fn write_port(ring: &Ring, port: PortId, place: &mut [u8])
     requires { port.circuit < length ring.now.circuits.circuits }
 {
@@ -264,7 +268,7 @@ fn write_ports(ring: &Ring, place: &mut [u8]) {
     }
 }
 
-// Does all that happens, and writes what the ports deliver in each round. Returns how many rounds ran.
+// Runs all events, and writes what the ports deliver in each round. Returns the number of rounds that ran.
 fn episode<P: Plant>(
     ring: &mut Ring,
     plant: &mut P,
@@ -297,8 +301,9 @@ fn episode<P: Plant>(
     Ok(rounds as u32)
 }
 
-/// Makes a ring of these nodes and circuits at STM-4, lets all of this happen to it, and writes what each port delivers
-/// in each round. Returns how many rounds ran, or 1,000,000 where there is no such ring or no memory.
+/// Makes a ring of these nodes and circuits at STM-4, runs all events over it, and writes what each port delivers in
+/// each round. Returns the number of rounds that ran, or 1,000,000 where there is no such ring, memory runs out, a call
+/// of the plant fails, or the events have more than 10,000 rounds.
 #[unsafe(no_mangle)]
 pub extern "C" fn sdh_bench_strangers(
     alloc: Global,

@@ -6,7 +6,7 @@
 ghost use Rattle.sdh_laws.specs.Carrying.Laws.{ASpanCarries, FailuresAreApplied, QuietRingsDeliverWhatIsDue, SettledRingsAreRestored};
 ghost use Rattle.sdh_laws.specs.Carrying.Laws.{SettledRingsRestore, RingsHaveCircuits};
 
-/// A span carries what was sent on it.
+/// Over a span that didn't fail, an AU-4 brings in a calm round what the neighbour sent in it in the calm round before.
 pub fn a_span_carries()
     ensures { ASpanCarries }
 {}
@@ -21,14 +21,16 @@ pub fn quiet_rings_deliver_what_is_due()
     ensures { QuietRingsDeliverWhatIsDue }
 {}
 
-/// Once a settle step answered, the nodes are in the settled states and each port has delivered what it is owed.
+/// After a settle step that ended with a quiet window, the nodes are in the settled states and each port has delivered
+/// what it is owed.
 pub fn settled_rings_are_restored()
     ensures { SettledRingsAreRestored }
 {
     sdh_signal::still_rings_are_settled();
 }
 
-/// Where a quiet window ends a stretch, the ring is restored under the requests of the histories.
+/// Where a stretch ends with a quiet window, the ring is restored under the requests that the histories give for its
+/// last round.
 pub fn settled_rings_restore()
     ensures { SettledRingsRestore }
 {

@@ -8,7 +8,7 @@ ghost use Rattle.sdh_laws.specs.Converging.Healthy.{HealthyRoundsAreCalm, Health
 ghost use Rattle.sdh_laws.specs.Converging.Healthy.{HealthyStepsDeliver};
 ghost use Rattle.sdh_laws.specs.Converging.Rings.{ARingOccurs};
 
-/// Over a span what is steady stays so, nine rounds later.
+/// An AU-4 that is steady where it is sent over a span is steady nine rounds later where it is received.
 pub fn a_span_is_steady()
     ensures { ASpanIsSteady }
 {}
@@ -18,26 +18,26 @@ pub fn pointers_rest()
     ensures { PointersRest }
 {}
 
-/// Where all rounds are calm a window ends soon.
+/// Where all rounds are calm from one on, a window ends at most 3n + 128 rounds later.
 pub fn calm_ends_windows()
     ensures { CalmEndsWindows }
 {}
 
-/// Where nothing happens but rounds, they are calm from some round on.
+/// Where nothing happens but rounds, all rounds are calm from the (31n + 128)-th on.
 pub fn rounds_get_calm()
     ensures { RoundsGetCalm }
 {
     sdh_signal::rings_settle();
 }
 
-/// From every whole ring on a quiet window ends within 34n + 256 rounds.
+/// From every whole ring on, a quiet window ends within 34n + 256 rounds.
 pub fn windows_come_soon()
     ensures { WindowsComeSoon }
 {
     sdh_signal::rings_settle();
 }
 
-/// In every whole ring in which nothing but rounds happens a quiet window ends.
+/// In every whole ring in which nothing but rounds happens, a quiet window ends.
 pub fn rings_converge()
     ensures { RingsConverge }
 {
@@ -80,7 +80,7 @@ pub fn healthy_steps_deliver()
     sdh_signal::still_rings_are_settled();
 }
 
-/// A ring of three nodes, with cut and degraded fibres, for which the laws hold.
+/// There is a ring of three nodes, with cut and degraded fibres, for which the laws hold.
 pub fn a_ring_occurs()
     ensures { ARingOccurs }
 {

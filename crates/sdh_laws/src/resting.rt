@@ -1,19 +1,19 @@
-//! Rest after a quiet window: over honest fibres, and where nothing but rounds happens, rounds stay calm once six of
-//! them were, and each port delivers in each of them what it is owed. `specs/Resting/Rest.antt` says what a ring at
+//! Rest after a quiet window. Over honest fibres, and where nothing but rounds happens, all rounds are calm once six in
+//! a row were, and each port delivers in each of them what it is owed. `specs/Resting/Rest.antt` says what a ring at
 //! rest is.
 //!
 //! Each function here is a law: it does nothing, and its contract is the law, whose words are in `specs/`.
 
 ghost use Rattle.sdh_laws.specs.Resting.Laws.{CalmGoesOn, StepsLeaveAtRest, RestGoesOn};
 
-/// Where six rounds are calm, all later ones are.
+/// Where six rounds in a row are calm, all later ones are.
 pub fn calm_goes_on()
     ensures { CalmGoesOn }
 {
     sdh_signal::still_rings_are_settled();
 }
 
-/// Once a settle step answered, ring and fibres are at rest.
+/// After a settle step that ended with a quiet window, ring and fibres are at rest.
 pub fn steps_leave_at_rest()
     ensures { StepsLeaveAtRest }
 {

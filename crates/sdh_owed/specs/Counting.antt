@@ -15,8 +15,8 @@ abbrev pub ran_by : ℕ → List Report → ℕ
 ran_by ran [] = ran
 ran_by ran (r ∷ reports) = ran_by (r.round + 1) reports
 
--- The reports pin the rounds of a course: where the script came to its end 2n frames were sent in each round up to the
--- last report's, and no more. So whoever runs fewer rounds than it reports, or more, has no course.
+-- The reports fix the rounds of a course. Where the script came to its end, 2n frames were sent in each round up to the
+-- last report's, and none after it. So a run of fewer rounds than it reports, or of more, has no course.
 abbrev pub CoursesCountFrames : Type 0
 CoursesCountFrames =
     (s : Settings) (ids : List ℕ) (circuits : Provisioning) (f : Fibres) (ring : Ring) (limit : ℕ) (steps : List Step)

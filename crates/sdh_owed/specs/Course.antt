@@ -1,4 +1,5 @@
--- The course of a script over honest fibres: what happened in it, stretch by stretch, and what holds in its rounds, settled or not.
+-- The course of a script over honest fibres: what happened in it, stretch by stretch, and what holds in its rounds,
+-- settled or not.
 use Rattle.std.specs.Prelude.{ℕ, ◌≡◌, ◌⊎◌, ◌+◌, ◌-◌, ◌*◌, ◌<◌, ◌≤◌, List, [], ◌∷◌, ◌++◌, length}
 use Rattle.sdh_circuits.specs.Provisioning.{Provisioning}
 use Rattle.sdh_plant.specs.Fibres.{Fibres, HasNoFibres}
@@ -49,10 +50,10 @@ IsLeftOff limit ran changes status.PlantFault ss =
     ((ss ≡ []) × ((ran ≡ 0) ⊎ HaveCondition changes)) ⊎ ((rounds : ℕ) × (rounds < limit) × (ss ≡ stretch changes rounds ∷ []))
 IsLeftOff limit ran changes end ss = ⊥
 
--- These stretches are what happened in a script over a ring of n that gave these reports and ended so, where `ran`
--- rounds had run before and these are the changes before each settle step. With each report come its changes, and the
--- rounds from there to its own, which may be the last one of a step. After them comes what ran of the step that has
--- none. There is no report but of these steps.
+-- What happened in a script over a ring of n that gave these reports and ended so, as stretches. `ran` rounds had run
+-- before, and these are the changes before each settle step. The stretch of a report has the changes of its step, and
+-- the rounds up to the report's own, which may be the last one of a step. After them comes what ran of the step that
+-- has no report. There are no other reports.
 abbrev pub WentThrough : ℕ → ℕ → ℕ → List (List Change) → List Report → Status → List Stretch → Type 0
 WentThrough n limit ran [] reports end ss = (reports ≡ []) × (ss ≡ [])
 WentThrough n limit ran (changes ∷ later) [] end ss = IsLeftOff limit ran changes end ss
@@ -60,13 +61,14 @@ WentThrough n limit ran (changes ∷ later) (r ∷ reports) end ss =
     (rest : List Stretch) × IsLast n limit ran r.round × (ss ≡ stretch changes (r.round + 1 - ran) ∷ rest)
     × WentThrough n limit (r.round + 1) later reports end rest
 
--- both fibres carry equal frames, and equal frames were sent on both in all
+-- two sets of fibres carry equal frames, and equal frames were sent on them in all
 pub record AreSentAlike (f g : Fibres) : Type 0 where
   pub carried : f.carried ≡ g.carried
   pub sent : f.sent ≡ g.sent
 
--- All that was sent, and all that is under way, is what the rounds of these stretches sent; or a fault broke the round
--- after them off, or the plant made no fibres, so that none ran.
+-- All frames that were sent, and all that are under way, are those that the rounds of these stretches sent. After a
+-- plant fault two more cases may be: the round after the stretches was broken off, or the plant made no fibres, so that
+-- no round ran.
 abbrev pub HasSent : World → List Stretch → Status → Fibres → Type 0
 HasSent w ss end left =
     AreSentAlike left (after_stretches ss w).fibres ⊎ ((end ≡ status.PlantFault)
@@ -74,10 +76,10 @@ HasSent w ss end left =
 
 -- ---- whose bytes come
 
--- In no round of a settle step a port meets a stranger, unless the changes of that very step hold a controller of a
--- node that passes traffic through: it delivers AIS, or ones, or what its circuit's other port put into its AU-4 in one
--- round before. What was held before earlier steps doesn't count. Which nodes pass traffic through follows from the
--- requests of the round before, and in a new ring none does.
+-- In no round of a settle step does a port meet a stranger, unless the changes of that very step hold a controller of a
+-- node that passes traffic through. The port delivers AIS, ones, or what its circuit's other port put into its AU-4 in
+-- some earlier round. What was held before earlier steps doesn't count. Which nodes pass traffic through follows from
+-- the requests of the round before; in a new ring none does.
 abbrev pub NoneEverMeetsAStranger : World → Ring → List Stretch → Type 0
 NoneEverMeetsAStranger w ring ss =
     (earlier later : List Stretch) (last : Stretch) → ss ≡ earlier ++ last ∷ later
@@ -85,14 +87,14 @@ NoneEverMeetsAStranger w ring ss =
     → (let now = earlier ++ last ∷ [] in NoneMeetsAStranger (clocks_by ring.circuits now)
     (round (world_in now w (rounds_in earlier + t))).ring)
 
--- ---- how soon they come
+-- ---- how soon each port has what it is owed
 
 -- the ring after these stretches shows every port with what it is owed, as a report would
 abbrev pub ShowsWhatIsOwed : World → Ring → List Stretch → Type 0
 ShowsWhatIsOwed w ring ss =
     (let r = report_of 0 (after_stretches ss w).ring in IsOwed ring.nodes (requests_by ring ss r.round) (happened ss) ring.circuits (ports_of r))
 
--- a change gives no port slips
+-- a change adds no slips at any port
 abbrev pub SlipsNone : Change → Type 0
 SlipsNone (Fibre p d condition) = Unit {0}
 SlipsNone (Order p d command) = Unit {0}
@@ -100,22 +102,24 @@ SlipsNone (Hold p turns) = Unit {0}
 SlipsNone (Slip port turn count) = count ≡ 0
 SlipsNone (Now t) = Unit {0}
 
+-- none of these changes adds slips at a port
 abbrev pub SlipNone : List Change → Type 0
 SlipNone [] = Unit {0}
 SlipNone (c ∷ cs) = SlipsNone c × SlipNone cs
 
--- `k` rounds after these changes are enough in a ring of n: 12n + 2 where they hold no controller and give no port
--- slips; the larger of 12n + 2 and 8n + 61 where they hold none and give some; and whatever they are 12n + 102.
+-- `k` rounds after these changes are enough in a ring of n. The bound is 12n + 2 where they hold no controller and add
+-- no slips. It is the larger of 12n + 2 and 8n + 61 where they hold none and add slips. A bound of 12n + 102 holds
+-- whatever they are.
 abbrev pub IsLate : ℕ → List Change → ℕ → Type 0
 IsLate n changes k = (HoldNone changes × (12 * n + 2 ≤ k) × (SlipNone changes ⊎ (8 * n + 61 ≤ k))) ⊎ (12 * n + 102 ≤ k)
 
--- none of these changes anything
+-- none of these stretches has a change
 abbrev pub ChangeNothing : List Stretch → Type 0
 ChangeNothing [] = Unit {0}
 ChangeNothing (s ∷ ss) = (s.changes ≡ []) × ChangeNothing ss
 
--- From round `k` after the last changes on each port has what it is owed: in each round of the settle step, and of
--- those after it that change nothing, whether they are settled or not.
+-- Each port has what it is owed from round `k` after the last changes on. That holds in each round of their settle
+-- step, and of later steps without changes, whether they are settled or not.
 abbrev pub AllIsOwedSoon : World → Ring → List Stretch → Type 0
 AllIsOwedSoon w ring ss =
     (earlier same later : List Stretch) (last : Stretch) → ss ≡ earlier ++ last ∷ (same ++ later) → ChangeNothing same → (k : ℕ)
@@ -124,8 +128,8 @@ AllIsOwedSoon w ring ss =
 
 -- ---- the course
 
--- what is so of each round of a script from a new ring over new honest fibres, which gave these reports, ended so, and
--- left these fibres
+-- What holds in each round of a script from a new ring over new honest fibres, which gave these reports, ended so, and
+-- left these fibres.
 pub record HasCourse (w : World) (ring : Ring) (limit : ℕ) (steps : List Step) (reports : List Report) (end : Status)
     (left : Fibres) : Type 0 where
   pub stretches : List Stretch
@@ -135,6 +139,7 @@ pub record HasCourse (w : World) (ring : Ring) (limit : ℕ) (steps : List Step)
   pub recent : NoneEverMeetsOldBytes w ring stretches
   pub soon : AllIsOwedSoon w ring stretches
 
+-- every script that may be run from a new ring over new honest fibres has a course
 abbrev pub CoursesAreTold : Type 0
 CoursesAreTold =
     (s : Settings) (ids : List ℕ) (circuits : Provisioning) (f : Fibres) → MayStart s ids f

@@ -1,4 +1,4 @@
--- A ring of three for which the promise of every round is worked out: after slips, a cut span and a held controller.
+-- A ring of three for which the promise of every round is worked out: after slips, after a cut span, and after a hold.
 use Rattle.std.specs.Prelude.{ℕ, ◌+◌, ◌-◌, ◌<◌, ◌≤◌, List, [], ◌∷◌, ◌++◌, length}
 use Rattle.sdh_ringmap.specs.declared.Side.TheVariants.{West, East}
 use Rattle.sdh_terms.specs.declared.Condition.TheVariants.{Clear, Cut}
@@ -19,13 +19,15 @@ use Rattle.sdh_owed.specs.Laws.{ring_by}
 use Rattle.sdh_owed.specs.Course.{stretch, IsLate, ShowsWhatIsOwed}
 use Rattle.sdh_owed.specs.Strangers.{NoneMeetsAStrangerSince, IsOldest}
 
--- a customer's clock slips three times; a span is cut both ways; a controller misses seven turns
+-- the clock of a customer slips three times
 abbrev pub slipping : List Change
 slipping = Slip (record { circuit = 0; end = A }) Up 3 ∷ []
 
+-- a span is cut both ways
 abbrev pub cutting : List Change
 cutting = Fibre 0 East Cut ∷ Fibre 1 West Cut ∷ []
 
+-- a controller misses seven rounds
 abbrev pub holding : List Change
 holding = Hold 2 7 ∷ []
 
@@ -35,14 +37,14 @@ ring_of_three = ring_by settings (length three) one_circuit.circuits
 abbrev pub three_over : Fibres → World
 three_over f = new_world settings three one_circuit f
 
--- these changes may happen to the ring before its first round, `k` rounds are enough after them, and then each port
--- shows what it is owed
+-- These changes may happen to the ring before its first round, and `k` rounds are enough after them. Then each port
+-- shows what it is owed.
 pub record IsOwedBehind (f : Fibres) (changes : List Change) (k : ℕ) : Type 0 where
   pub happens : MayHappen (three_over f) (stretch changes k ∷ [])
   pub late : IsLate (length three) changes k
   pub shows : ShowsWhatIsOwed (three_over f) ring_of_three (stretch changes k ∷ [])
 
--- 8n + 61 rounds after the slips, 12n + 2 after the cut, and 12n + 102 after the hold
+-- each port shows what it is owed 8n + 61 rounds after the slips, 12n + 2 after the cut, and 12n + 102 after the hold
 pub record ThreeAreOwed (f : Fibres) : Type 0 where
   pub slips : IsOwedBehind f slipping 85
   pub cut : IsOwedBehind f cutting 38
@@ -53,17 +55,18 @@ ThreeAreOwedSoon = (f : Fibres) → IsHonest f → ThreeAreOwed f
 
 -- ---- whose bytes come while a controller is held
 
--- a customer's clock slips and a span is cut, while the node that is to pass its traffic through misses twenty turns
+-- A customer's clock slips and a span is cut, while the controller of the node that is to pass its traffic through
+-- misses twenty rounds.
 abbrev pub cutting_held : List Change
 cutting_held = Slip (record { circuit = 0; end = A }) Up 3 ∷ Fibre 0 East Cut ∷ Fibre 1 West Cut ∷ Hold 2 20 ∷ []
 
--- the span is mended, while the first node, which is switched away from it, misses twenty turns
+-- the span is mended, while the controller of the first node, which is switched away from it, misses twenty rounds
 abbrev pub mending_held : List Change
 mending_held = Hold 0 20 ∷ Fibre 0 East Clear ∷ Fibre 1 West Clear ∷ []
 
--- These stretches may happen to the ring, and each but the last ends with a quiet window. The last one's changes hold
--- no node that passes traffic through, and by these no bytes of its round t are older than `age`. So in this round no
--- port meets a stranger, nor older bytes.
+-- These stretches may happen to the ring, and each but the last ends with a quiet window. The changes of the last one
+-- hold no node that passes traffic through, and `age` is the bound for its round t. So in this round no port meets a
+-- stranger, nor bytes that are older than `age` rounds.
 pub record GetsItsOwn (f : Fibres) (earlier : List Stretch) (last : Stretch) (t age : ℕ) : Type 0 where
   pub happens : MayHappen (three_over f) (earlier ++ last ∷ [])
   pub quiet : EndQuietly (three_over f) (earlier ++ last ∷ [])
@@ -75,8 +78,9 @@ pub record GetsItsOwn (f : Fibres) (earlier : List Stretch) (last : Stretch) (t 
       NoneMeetsAStrangerSince (rounds_in earlier + t - age) (clocks_by ring_of_three.circuits now)
       (round (world_in now (three_over f) (rounds_in earlier + t))).ring)
 
--- In 64 rounds after the span is cut in a new ring, and in 64 after it is mended after a quiet window: 41 rounds are n
--- (n + 1), 3n and the hold, and from round 32 on 12 are enough.
+-- Each port gets its own bytes in the 64 rounds after the span is cut in a new ring. It does so too in the 64 rounds
+-- after the span is mended, where a quiet window came before. The bytes are at most 41 rounds old: n(n + 1), 3n and the
+-- hold. From round 32 on they are at most 12 rounds old, which is n(n + 1).
 pub record ThreeGetTheirOwn (f : Fibres) : Type 0 where
   pub cut : (t : ℕ) → t < 64 → GetsItsOwn f [] (stretch cutting_held 64) t 41
   pub cut_later : (t : ℕ) → 32 ≤ t → t < 64 → GetsItsOwn f [] (stretch cutting_held 64) t 12

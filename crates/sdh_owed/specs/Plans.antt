@@ -1,4 +1,4 @@
--- The ring of a plan whose fibres aren't made yet.
+-- The ring of a plan, and what it becomes over fibres.
 use Rattle.sdh_plant.specs.Fibres.{Fibres}
 use Rattle.sdh_world.specs.Held.{HeldRing, new_ring}
 use Rattle.sdh_world.specs.Rounds.{World}
@@ -9,6 +9,6 @@ use Rattle.sdh_plan.specs.Planned.{Planned, provisioning_of}
 abbrev pub new_ring_of : Planned → HeldRing
 new_ring_of plan = new_ring plan.settings plan.nodes (provisioning_of plan)
 
--- over fibres that were just prepared for it
+-- the ring of a plan over fibres that were just prepared for it
 abbrev pub world_of : Planned → Fibres → World
 world_of plan f = new_world plan.settings plan.nodes (provisioning_of plan) f

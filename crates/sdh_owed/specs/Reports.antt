@@ -16,7 +16,7 @@ use Rattle.sdh_report.specs.declared.node_line.WordBytes.{WordBytes}
 use Rattle.sdh_report.specs.Reports.{PortLine, Report}
 use Rattle.sdh_scripts.specs.Ports.{of_ports}
 
--- a node's state
+-- the word that a report has for a node's state
 abbrev pub state_word : NodeState → StateWord
 state_word (state.Idle x) = word.Idle
 state_word (state.PassThrough x) = word.Pass
@@ -24,11 +24,11 @@ state_word (state.SwitchWest far) = word.SwitchWest
 state_word (state.SwitchEast far) = word.SwitchEast
 state_word (state.Isolated x) = word.Isolated
 
--- the bytes of a word that it sent
+-- the bytes K1 and K2 of a word that a node sent
 abbrev pub bytes_told : K → WordBytes
 bytes_told k = record { first = first_byte k; second = second_byte k }
 
--- a node's identifier, its state, and the words that it sent in the last round
+-- the line of a node: its identifier, its state, and the words that it sent in the last round
 abbrev pub node_told : ℕ → Node → NodeLine
 node_told id n = record { id = id; state = state_word n.state; west = bytes_told n.west_out.word; east = bytes_told n.east_out.word }
 
@@ -39,11 +39,11 @@ told_at r p = node_told (get_or r.ids p 0) (node_at r.nodes p)
 abbrev pub nodes_told : HeldRing → List NodeLine
 nodes_told r = cells (told_at r) (length r.ids)
 
--- what the port at an end of the circuit of this number delivered
+-- the line of the port at an end of circuit number `index`, with what it delivered
 abbrev pub port_told : HeldRing → ℕ → Provisioned → End → PortLine
 port_told r index c e = record { name = c.name; end = e; outlet = outlet_at r (record { circuit = index; end = e }) }
 
--- the ports of these circuits, which are counted from `index`
+-- the lines of the ports of these circuits, which are counted from `index`
 abbrev pub ports_from : HeldRing → ℕ → List Provisioned → List PortLine
 ports_from r = of_ports (port_told r)
 

@@ -6,13 +6,13 @@ use Rattle.sdh_world.specs.Steps.{past_of}
 use Rattle.sdh_plan.specs.declared.step.Step.{Step}
 use Rattle.sdh_plan.specs.Scripts.{AreSteps}
 
--- no round has run, or the number of the last one of a settle step is a multiple of 128
+-- no round has run, or the last round that ran has a number that is a multiple of 128
 abbrev pub BeginsAtAMultiple : HeldRing → Type 0
 BeginsAtAMultiple r = (r.rounds ≡ 0) ⊎ ((r.rounds - 1) % 128 ≡ 0)
 
--- These steps may be run over a ring and fibres after `before` settle steps that have ended: the ring isn't broken, the
--- fibres are prepared for it, the steps are those of a plan, and no settle step had more than `each` rounds with those
--- after it.
+-- These steps may be run over a ring and fibres after `before` settle steps that have ended. The ring isn't broken, the
+-- fibres are prepared for it, and the steps are those of a plan. No settle step took more than `each` rounds, with
+-- those that ran after it.
 pub record MayRun (each before : ℕ) (steps : List Step) (r : HeldRing) (f : Fibres) : Type 0 where
   pub whole : r.broken ≡ false
   pub prepared : IsPrepared r.settings.rate (length r.ids) f

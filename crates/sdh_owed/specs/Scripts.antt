@@ -1,4 +1,4 @@
--- What comes of a script over a ring of add-drop multiplexers. Each settle step that ends has a report.
+-- What a script over a ring of add-drop multiplexers comes to. Each settle step that ends with a window has a report.
 use Rattle.std.specs.Prelude.{ℕ, List}
 use Rattle.sdh_node.specs.Node.{Node}
 use Rattle.sdh_node.specs.Stations.{adm}
@@ -14,8 +14,8 @@ use Rattle.sdh_owed.specs.Reports.{report_of}
 abbrev pub adm_walk : Walk Node Report
 adm_walk = reporting adm after_step report_of
 
--- the steps from a world, after a number of settle steps that have ended, with this limit of rounds a settle step: they
--- give these reports, end so, and leave that world
+-- A script from a world on, where each settle step may run at most this number of rounds, and this number of settle
+-- steps have ended before. The steps give these reports, end so, and leave that world.
 abbrev pub Runs : ℕ → ℕ → List Step → World → List Report → Status → World → Type 0
 Runs = scripts.Runs adm_walk
 

@@ -1,8 +1,8 @@
 //! A script over a ring and its fibres, over definitions alone. `specs/Reports.antt` says what a report shows of a
-//! ring. `specs/Scripts.antt` says what comes of a script, and `specs/Healthy.antt` what comes of one of settle steps
-//! alone. `specs/Course.antt` says through which stretches of rounds a script went and what holds in them, and
-//! `specs/Counting.antt` what that says of the frames sent. `specs/Occurring.antt` works it out for one ring, and
-//! `specs/Laws.antt` has the laws of reports. Each function here has a law as its contract and no work to do.
+//! ring. `specs/Scripts.antt` says what a script comes to, and `specs/Healthy.antt` what one of settle steps alone
+//! comes to. `specs/Course.antt` says through which stretches of rounds a script went and what holds in them.
+//! `specs/Counting.antt` says what that means for the frames sent. `specs/Occurring.antt` works it out for one ring,
+//! and `specs/Laws.antt` has the laws of reports. Each function here has a law as its contract and no work to do.
 #![tactic(auto)]
 
 ghost use Rattle.sdh_owed.specs.Laws.{ReportsAreOwed, ScriptsSettle, HealthyScripts};
@@ -32,9 +32,9 @@ pub fn healthy_scripts()
     sdh_laws::converging::healthy_steps_deliver();
 }
 
-/// Whatever a script comes to from a new ring on, it has a course: no port meets a stranger, nor bytes of long ago, in a
-/// settle step before which no controller was held of a node that passes traffic through, or once none is held any more;
-/// and soon after the last changes all ports have what they are owed.
+/// Whatever a script comes to from a new ring on, it has a course. No port meets a stranger, nor bytes of long ago, in
+/// a settle step right before which no controller of a node that passes traffic through is held, or once no controller
+/// is held any more. Soon after the last changes all ports have what they are owed.
 pub fn courses_are_told()
     ensures { CoursesAreTold }
 {
@@ -50,7 +50,7 @@ pub fn courses_count_frames()
     ensures { CoursesCountFrames }
 {}
 
-/// In a ring of three each port shows what it is owed after slips, a cut span and a held controller.
+/// In a ring of three each port shows what it is owed after slips, after a cut span, and after a hold.
 pub fn three_are_owed_soon()
     ensures { ThreeAreOwedSoon }
 {
@@ -60,8 +60,8 @@ pub fn three_are_owed_soon()
     sdh_laws::restoring::unslipped_rings_are_restored_soon();
 }
 
-/// In a ring of three no port meets a stranger, nor bytes of long ago, while a span is cut or mended and the controller of
-/// a node is held.
+/// In a ring of three no port meets a stranger, nor bytes of long ago, while a span is cut or mended and the controller
+/// of a node is held.
 pub fn three_meet_no_strangers()
     ensures { ThreeMeetNoStrangers }
 {

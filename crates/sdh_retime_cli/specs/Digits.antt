@@ -6,7 +6,7 @@ use Rattle.std.specs.List.{All}
 abbrev pub IsDigit : ℕ → Type 0
 IsDigit byte = (48 ≤ byte) × (byte ≤ 54)
 
--- 1 to 64 of them
+-- a word of 1 to 64 digits
 pub record IsDigits (word : List ℕ) : Type 0 where
   pub some : 1 ≤ length word
   pub few : length word ≤ 64
@@ -16,11 +16,11 @@ pub record IsDigits (word : List ℕ) : Type 0 where
 abbrev pub AreDigits : List (List ℕ) → Type 0
 AreDigits words = (word : List ℕ) × (words ≡ word ∷ []) × IsDigits word
 
--- how many bytes chunk number k has, counted from 0: digit g means 2346 + g, and the digits repeat
+-- the number of bytes of chunk k, counted from 0: digit g means 2346 + g, and the digits repeat
 abbrev pub size_at : List ℕ → ℕ → ℕ
 size_at digits k = 2346 + (get_or digits (k % length digits) 48 - 48)
 
--- how many bytes there are before it
+-- the number of bytes before chunk k
 unfoldable pub offset_at : List ℕ → ℕ → ℕ
 offset_at digits zero = 0
 offset_at digits (suc k) = offset_at digits k + size_at digits k

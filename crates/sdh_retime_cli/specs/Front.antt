@@ -1,4 +1,4 @@
--- What a run gives, as its lines show it: the bytes given in all turns, one after the other, are the front of the bytes
+-- What a run gives, as its lines show it. The bytes given in all turns, one after the other, are the front of the bytes
 -- taken in.
 use Rattle.std.specs.Prelude.{◌≡◌, ◌⊎◌, ℕ, suc, List, [], ◌∷◌, ◌++◌, length, Option}
 use Rattle.std.specs.Io.KnownBytes.{Appends}
@@ -6,7 +6,7 @@ use Rattle.sdh_pointer.specs.declared.reading.Action.{Action}
 use Rattle.sdh_pointer.specs.declared.reading.Action.TheVariants.{Normal, New, Up, Down, Ais}
 use Rattle.sdh_retime_cli.specs.Lines.{turn_line, given_line, left_line, drift_line}
 
--- what the lines of a turn show: what it did, how many bytes were held then, and the bytes given
+-- what the lines of a turn show: its action, the number of bytes held after it, and the bytes that it gave
 pub record TurnTold : Type 0 where
   pub action : Action
   pub fill : ℕ
@@ -35,7 +35,7 @@ all_shown (t ∷ earlier) = all_shown earlier ++ shown_with t.action t.given
 abbrev pub IsLastLine : List ℕ → Type 0
 IsLastLine line = ((n : ℕ) × (line ≡ left_line n)) ⊎ ((turn : ℕ) × (line ≡ drift_line turn))
 
--- a text is that of turns and a last line, and all bytes that it shows are the front of these
+-- a text is made of the lines of turns and a last line, and all bytes that it shows are the front of `bytes`
 pub record TellsFront (bytes text : List ℕ) : Type 0 where
   pub turns : List TurnTold
   pub last : List ℕ

@@ -1,4 +1,4 @@
--- The lines of a run: for each turn what an interpreter reads of it and how many bytes are held then, and the bytes
+-- The lines of a run: for each turn what an interpreter reads of it and how many bytes are held after it, and the bytes
 -- given. The texts are this project's own.
 use Rattle.std.specs.Prelude.{ℕ, List, [], ◌∷◌, ◌++◌, codes, decimal, length}
 use Rattle.sdh_basics.specs.Hexadecimal.{hex_of}
@@ -29,14 +29,15 @@ given_line Down bytes = hex_of bytes ++ codes "\n"
 abbrev pub last_lines : List (List ℕ) → List ℕ
 last_lines past = turn_line (length past) (last_action past) (fill (lengths past)) ++ given_line (last_action past) (last_given past)
 
--- the lines of all its turns
+-- the lines of all turns of a history
 abbrev pub lines_of : List (List ℕ) → List ℕ
 lines_of [] = []
 lines_of (chunk ∷ earlier) = lines_of earlier ++ last_lines (chunk ∷ earlier)
 
--- the last line: n bytes were left, too few for a chunk, or this turn is a drift
+-- the last line of a run in which n bytes were left, too few for a chunk
 abbrev pub left_line : ℕ → List ℕ
 left_line n = codes "left " ++ decimal n ++ codes "\n"
 
+-- the last line of a run in which this turn is a drift
 abbrev pub drift_line : ℕ → List ℕ
 drift_line number = codes "drift " ++ decimal number ++ codes "\n"

@@ -1,4 +1,4 @@
--- How a call of the program ends: each status, when it is answered, and the text that goes with it.
+-- How a call of the program ends: each status, when it comes, and the text that goes with it.
 use Rattle.std.specs.Prelude.{◌≡◌, ℕ, suc, ◌+◌, ◌-◌, ◌<◌, ◌≤◌, ◌⊎◌, Bool, true, false, List, [], ◌∷◌, ◌++◌, length, codes, Option}
 use Rattle.sdh_report.specs.Lines.{own_line}
 use Rattle.sdh_elastic.specs.History.{lasts, lengths}
@@ -20,7 +20,7 @@ number_of status.TooLong = 9
 number_of (status.Drift turn) = 12
 number_of status.Memory = 70
 
--- the first k chunks are there, and none of their turns is a drift
+-- the bytes of the first k chunks are there, and none of the turns that take them in is a drift
 pub record Runs (digits bytes : List ℕ) (k : ℕ) : Type 0 where
   pub there : offset_at digits k ≤ length bytes
   pub lasts : lasts (lengths (chunks digits bytes k)) ≡ true
@@ -51,8 +51,8 @@ pub record IsRead (words : List (List ℕ)) (bytes digits : List ℕ) : Type 0 w
   pub form : IsDigits digits
   pub short : length bytes ≤ 1048576
 
--- the words and the bytes of the source come to this status, with this text. No outcome has a write fault or a lack of
--- memory: they may stand in place of an outcome
+-- What the words and the bytes of the source come to: this status, with this text. `WriteFault` and `Memory` are no
+-- outcomes: they may stand in place of one.
 abbrev pub IsOutcome : List (List ℕ) → List ℕ → Status → List ℕ → Type 0
 IsOutcome words bytes status.Usage text = (¬ AreDigits words) × (text ≡ own_line (codes "usage: sdhretime DIGITS"))
 IsOutcome words bytes status.ReadFault text = AreDigits words × (text ≡ own_line (codes "read fault"))
@@ -63,43 +63,46 @@ IsOutcome words bytes (status.Drift turn) text =
 IsOutcome words bytes status.WriteFault text = ⊥
 IsOutcome words bytes status.Memory text = ⊥
 
--- a read fault has its cause
+-- a read fault has its cause in a call of the source that failed
 abbrev pub HasCause : Counts → Status → Type 0
 HasCause reads status.ReadFault = HaveFailed reads
 HasCause reads how = Unit {0}
 
--- an outcome that these failures allow
+-- an outcome that has its cause, if it is a read fault, in a call that failed
 abbrev pub MayEnd : List (List ℕ) → List ℕ → Counts → Status → List ℕ → Type 0
 MayEnd words bytes reads how text = IsOutcome words bytes how text × HasCause reads how
 
--- with what text a status goes
+-- what is written with a status: with a write fault a front of a text, nothing where memory ran out, and else a whole
+-- text
 abbrev pub telling_of : Status → Telling
 telling_of status.WriteFault = Front
 telling_of status.Memory = Nothing
 telling_of how = Whole
 
--- what was written when this status was answered
+-- what was written when a call ended with this status
 abbrev pub Writes : List (List ℕ) → List ℕ → Counts → Status → Option (List ℕ) → Option (List ℕ) → Type 0
 Writes words bytes reads how old new = WritesAs (telling_of how) (λ how text. MayEnd words bytes reads how text) how old new
 
--- what was written when this number was answered
+-- what was written when a call returned this number
 pub record Answers (words : List (List ℕ)) (bytes : List ℕ) (reads : Counts) (number : ℕ) (old new : Option (List ℕ)) : Type 0 where
   pub status : Status
   pub numbered : number ≡ number_of status
   pub writes : Writes words bytes reads status old new
 
--- what the source had come to when this was to be reported
+-- How many reads failed, and how many bytes were taken, where this status was to be reported. Where the count of faults
+-- is exact, one read failed with a read fault, and none with any other status. With `TooLong`, one byte more than the
+-- program reads was taken.
 abbrev pub CameTo : Bool → ℕ → ℕ → Option (List ℕ) → Option (List ℕ) → Status → Type 0
 CameTo exact before after left now how =
     CameOfSource exact (record { before = before; after = after }) left now (how ≡ status.ReadFault) (how ≡ status.TooLong)
 
--- the source was read to its end and the run came to an end
+-- a status with which the source was read to its end, and the run came to an end
 abbrev pub HasRun : Status → Type 0
 HasRun status.Ok = Unit {0}
 HasRun (status.Drift turn) = Unit {0}
 HasRun _ = ⊥
 
--- four chunks in a row, up to this turn, have fewer than 9393 or more than 9399 bytes
+-- four chunks in a row, up to this turn, have together fewer than 9393 or more than 9399 bytes: they are unsteady
 pub record UnsteadyBy (digits : List ℕ) (turn : ℕ) : Type 0 where
   pub first : ℕ
   pub within : first + 4 ≤ turn
@@ -113,15 +116,16 @@ pub record TellsUnsteady (digits : List ℕ) (turn : ℕ) (text : List ℕ) : Ty
   pub lines : List ℕ
   pub text_is : text ≡ lines ++ drift_line turn
 
--- the words are one word of digits, and the text names an unsteady turn of them
+-- the words are one word of digits, and the last line of the text names a turn up to which four of its chunks are
+-- unsteady
 abbrev pub AreUnsteady : List (List ℕ) → ℕ → List ℕ → Type 0
 AreUnsteady words turn text = (digits : List ℕ) × (words ≡ digits ∷ []) × TellsUnsteady digits turn text
 
--- a text that names an unsteady turn was appended
+-- a text was appended whose last line names a turn up to which four chunks in a row are unsteady
 abbrev pub WritesUnsteady : List (List ℕ) → ℕ → Option (List ℕ) → Option (List ℕ) → Type 0
 WritesUnsteady words turn old new = (text : List ℕ) × AreUnsteady words turn text × Appends old new text
 
--- a run of digits ends with a drift only where four chunks in a row, up to its turn, aren't steady
+-- a run of digits ends with a drift only where four chunks in a row, up to the turn that is the drift, are unsteady
 abbrev pub DriftsAreUnsteady : Type 0
 DriftsAreUnsteady =
     (digits bytes : List ℕ) (k turn : ℕ) (text : List ℕ) → IsDigits digits → IsDrift digits bytes k turn text → UnsteadyBy digits turn

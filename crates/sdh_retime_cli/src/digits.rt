@@ -20,7 +20,7 @@ fn is_digits(word: &[u8]) -> bool
     word.iter().all(|digit| b'0' <= *digit && *digit <= b'6')
 }
 
-/// Returns the digits, where the words are one word of them.
+/// Returns the digits, or `None` where the words aren't one word of 1 to 64 digits from 0 to 6.
 pub fn digits_of(words: &[String]) -> Option<&[u8]>
     ensures { MatchOption result (¬ AreDigits (words_of words.now))
         (λ digits. (words_of words.now ≡ digits.now ∷ []) × IsDigits digits.now) }
@@ -31,7 +31,7 @@ pub fn digits_of(words: &[String]) -> Option<&[u8]>
     }
 }
 
-/// Returns how many bytes a chunk has, by its number, counted from 0.
+/// Returns the number of bytes of a chunk, 2346 to 2352, by the chunk's number, counted from 0.
 pub fn size_at(digits: &[u8], number: usize) -> usize
     requires { IsDigits digits.now }
     ensures size { result ≡ size_at digits.now number }

@@ -1,5 +1,6 @@
-//! The call of the program that gives frames at a clock of its own: from the words and a source of bytes to a number and
-//! a text.
+//! The call of the program `sdhretime`, which takes a customer's bytes into an elastic store and gives them at a pace
+//! of its own: from the words and a source of bytes to a number and a text. In a turn the store takes one chunk in, and
+//! gives the bytes of one frame.
 #![tactic(auto)]
 
 mod digits;

@@ -19,17 +19,17 @@ use sdh_pointer::{Action, Interp};
 use sdh_report::{LINE_MAX, Text};
 use std::alloc::{AllocError, Global};
 
-/// Room for the lines of a turn: a short one, and one of the 2352 bytes that it gives at most.
+/// Room for the lines of a turn: a short one, and one with at most 2352 bytes in hexadecimal.
 const TURN_ROOM: usize = 4801;
 
-/// What is to be written, and how the program ends then.
+/// What is to be written, and the status with which the program then ends.
 #[derive(Debug, Drop)]
 pub struct Outcome {
     pub status: Status,
     pub text: Text,
 }
 
-// A store, and an interpreter that reads each of its words.
+// A store, and an interpreter that reads each pointer word of the store.
 #[derive(Drop)]
 struct Retiming {
     store: Elastic,
@@ -51,7 +51,7 @@ fn put_action(text: &mut Text, action: Action)
     }
 }
 
-// Appends the line of what a turn did and left.
+// Appends the line of turn `number`: its action, and the number of bytes held after it.
 fn put_turn_line(text: &mut Text, number: usize, action: Action, fill: usize)
     requires { length (turn_line number action fill) ≤ text.old.room }
     ensures { text.new ≡ with_part text.old (turn_line number action fill) }
@@ -99,7 +99,7 @@ fn put_drift(text: &mut Text, number: usize)
 }
 
 impl Retiming {
-    // Returns an empty store with pointer value 0.
+    // Returns an empty store with pointer value 0, and an interpreter that has read nothing.
     fn try_new(alloc: Global) -> Result<Retiming, AllocError>
         ensures came { IfOk result (λ retiming. CameBy 0 [] retiming.store) }
         ensures reads { IfOk result (λ retiming. retiming.interp.reading ≡ reading_of retiming.store) }
@@ -111,7 +111,7 @@ impl Retiming {
         })
     }
 
-    // Takes a chunk in and writes the lines of the turn.
+    // Takes a chunk in and writes the lines of the turn. Where the turn is a drift, nothing is written.
     fn turn(&mut self, number: usize, input: &[u8], text: &mut Text) -> Result<(), Drift>
         requires chunk { IsChunk (length input.now) }
         requires room { 4801 ≤ text.old.room }
@@ -131,7 +131,8 @@ impl Retiming {
         Ok(())
     }
 
-    // Takes all whole chunks in, up to a drift, and writes the lines of all turns and the last line.
+    // Takes all whole chunks in, up to a drift. Writes the lines of all turns and the last line. Returns how the run
+    // ended.
     fn take_all(&mut self, digits: &[u8], bytes: &[u8], text: &mut Text) -> Status
         requires digits { IsDigits digits.now }
         requires few { length bytes.now ≤ READ_MAX }

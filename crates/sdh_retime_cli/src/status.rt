@@ -17,7 +17,7 @@ pub enum Status {
     TooLong,
     /// This turn, counted from 1, is a drift.
     Drift(usize),
-    /// There was no memory. Nothing was written.
+    /// Memory ran out. Nothing was written.
     Memory,
 }
 

@@ -29,7 +29,7 @@ fn with_line(mut text: Text, status: Status, line: &[u8]) -> Outcome
     Outcome { status, text }
 }
 
-// Returns what the words and the source come to.
+// Returns the outcome of the words and the source: a status, and the text that goes with it.
 fn outcome_of<R: Source>(
     alloc: Global,
     words: &[String],
@@ -114,16 +114,16 @@ fn answer<R: Source, W: Sink>(
 
 /// Does all that the program does, and returns the number with which it ends. With one word of 1 to 64 digits from 0 to
 /// 6 it reads all bytes of the source and takes them into a store chunk by chunk. Digit g means a chunk of 2346 + g
-/// bytes, and the digits repeat. It writes the lines of every turn, and what is left or the turn that is a drift. The
-/// text is written once, at the end.
+/// bytes, and the digits repeat. It writes the lines of every turn, and then how many bytes were left, or which turn is
+/// a drift. The text is written once, at the end.
 pub fn retime<R: Source, W: Sink>(
     alloc: Global,
     words: &[String],
     source: &mut R,
     sink: &mut W,
 ) -> u8
-    // The number and the text that is written, for a source that shows its bytes and a sink that shows what was
-    // written; with other words over every source, which is left alone.
+    // The number and the text that is written. It is said where the bytes of the source are known, and where the sink
+    // shows what was written. With other words it is said over every source, which is left alone.
     ensures outcome { let reads : Counts = record { before = R.faults source.old; after = R.faults source.new } in
         IfSome (R.left source.old)
         (λ bytes. Answers (words_of words.now) bytes reads result (W.written sink.old) (W.written sink.new)) }
@@ -132,29 +132,31 @@ pub fn retime<R: Source, W: Sink>(
         → Answers (words_of words.now) [] reads result (W.written sink.old) (W.written sink.new) }
     ensures alone { (¬ AreDigits (words_of words.now)) → source.new ≡ source.old }
 
-    // All bytes given, turn after turn, are the front of those that were read. A drift comes only where four chunks in a row, up to
-    // the turn that the last line names, have fewer than 9393 or more than 9399 bytes.
+    // All bytes given, turn after turn, are the front of those that were read. A drift comes only where four chunks in
+    // a row have together fewer than 9393 or more than 9399 bytes. They come no later than the turn that the last line
+    // names.
     ensures front { (result ≡ 0) ⊎ (result ≡ 12)
         → IfSome (R.left source.old) (λ bytes. WritesFront bytes (W.written sink.old) (W.written sink.new)) }
     ensures unsteady { result ≡ 12
         → (turn : ℕ) × WritesUnsteady (words_of words.now) turn (W.written sink.old) (W.written sink.new) }
 
-    // Over every source and sink.
+    // These clauses hold over every source and sink.
     ensures usage { result ≡ 2 → ¬ AreDigits (words_of words.now) }
     ensures usage_only { (¬ AreDigits (words_of words.now)) → (result ≡ 2) ⊎ (result ≡ 4) ⊎ (result ≡ 70) }
     ensures read_fault { result ≡ 3 → Rose (R.faults source.old) (R.faults source.new) }
     ensures write_fault { result ≡ 4 → Rose (W.faults sink.old) (W.faults sink.new) }
     ensures memory { result ≡ 70 → sink.new ≡ sink.old }
 
-    // Where an object's count is exact, each failed call is reported as its fault, and none is tried again; a write
-    // fault may stand in place of what was to be reported. With 9 one byte more than the program reads was taken.
+    // Where the count of faults of the source or the sink is exact, each of its calls that failed is reported by its
+    // fault, and none is tried again. A write fault may stand in place of what was to be reported. With 9, one byte
+    // more than the program reads was taken.
     ensures came { (how : Status) × ((result ≡ number_of how) ⊎ (result ≡ 4))
         × CameTo R.exact (R.faults source.old) (R.faults source.new) (R.left source.old) (R.left source.new) how }
     ensures writes { IsCounted W.exact (result ≡ 4) (W.faults sink.old) (W.faults sink.new) }
     ensures read_whole { (result ≡ 0) ⊎ (result ≡ 12) → IsAtEnd (R.left source.new) }
     ensures later { (R.faults source.old ≤ R.faults source.new) × (W.faults sink.old ≤ W.faults sink.new) }
 
-    // Digits, at most 1,048,576 bytes, and no fault: the run comes to its end, or there is no memory.
+    // With digits, at most 1,048,576 bytes, and no call that fails, the run comes to its end, or memory runs out.
     ensures complete { AreDigits (words_of words.now) → TellsAtMost (R.left source.old) 1048576
         → ¬ (Rose (R.faults source.old) (R.faults source.new)) → ¬ (Rose (W.faults sink.old) (W.faults sink.new))
         → (result ≡ 0) ⊎ (result ≡ 12) ⊎ (result ≡ 70) }

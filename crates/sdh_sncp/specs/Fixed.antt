@@ -1,4 +1,4 @@
--- What a path ring's calls never change of a node, and what is true of every path ring.
+-- The part of a node that a path ring's calls never change, and what is true of every path ring.
 use Rattle.std.specs.Prelude.{ℕ, ◌≡◌, ◌/◌, false, Some, List, length, map, All, slice_get}
 use Rattle.sdh_terms.specs.declared.Rate.{Rate}
 use Rattle.sdh_terms.specs.Rates.{n_of}
@@ -12,7 +12,7 @@ use Rattle.sdh_sncp.specs.Ring.{HeldPath, new_nodes}
 use Rattle.sdh_sncp.specs.Placed.{IsPlacedRing}
 use Rattle.sdh_terminal.specs.Fixed.{FixedPort, fixed_port}
 
--- what a node is, whatever it receives and sends
+-- the part of a node that stays, whatever it receives and sends
 pub record Fixed : Type 0 where
   pub threshold : ℕ
   pub rate : Rate
@@ -30,8 +30,8 @@ AreAlone circuits =
 abbrev pub HaveRun : ℕ → List PathNode → Type 0
 HaveRun rounds ns = All (λ (n : PathNode). n.rounds ≡ rounds) ns
 
--- each node is that of a new ring, but for what calls change; and all have run the ring's rounds and are where they belong, but where
--- one was broken off
+-- What is true of every path ring. Each node is that of a new ring, except for what calls change. Unless a round was
+-- broken off, all nodes are in their places and have run the ring's rounds.
 pub record IsRing (r : HeldPath) : Type 0 where
   pub ids : AreIds r.ids
   pub circuits : IsProvisioning r.circuits

@@ -1,4 +1,4 @@
--- A path ring and its fibres that are paired, and the laws of such rings.
+-- When a path ring and its fibres are paired, and the laws of such rings.
 use Rattle.std.specs.Prelude.{ℕ, ◌≡◌, ◌<◌, ◌≤◌, ◌+◌, ◌-◌, ◌*◌, ◌/◌, Bool, true, Some, List, length, slice_get}
 use Rattle.std.specs.Prelude.{slice_index_or, not, ◌≢◌, Result, Err, OnOk}
 use Rattle.std.specs.Option.{is_some}
@@ -33,21 +33,22 @@ use Rattle.sdh_sncp.specs.Due.{due_path}
 
 -- ---- what the fibres carry
 
--- nothing before round 0, and then frames that say the word of a node that asks for nothing
+-- A ring and its fibres that are paired: the fibres are honest, prepared for the ring, and carry what the nodes sent.
+-- That is nothing before round 0, and then frames whose K bytes have the word of a node that asks for nothing.
 pub record IsPaired (w : World) : Type 0 where
   pub honest : IsHonest w.fibres
   pub prepared : IsPrepared w.ring.settings.rate (length w.ring.ids) w.fibres
   pub carried : (p : ℕ) → p < length w.ring.nodes → AreCarried w.ring.settings.rate w.fibres w.ring.rounds p
       (λ d. first_word w.ring.ids p d)
 
--- a ring whose nodes are in their places, and whose fibres carry what they sent
+-- a whole ring: its nodes are in their places, and its fibres carry what they sent
 pub record IsWhole (w : World) : Type 0 where
   pub placed : IsPlaced w
   pub paired : IsPaired w
 
 -- ---- what stays
 
--- each node stays where it belongs, whatever arrives
+-- each node stays in its place, whatever arrives
 pub record StayPlaced : Type 0 where
   pub new : (s : Settings) (ids : List ℕ) (circuits : Provisioning) → AreIds ids → IsPlacedRing (new_ring s ids circuits)
   pub round : (arrivals : List Arrival) (w : World) → IsPlaced w → IsPlaced (round_with arrivals w)
@@ -75,14 +76,15 @@ pub record HasCircuits (r : HeldPath) : Type 0 where
   pub are : AreCircuits (length r.ids) (n_of r.settings.rate / 2) r.circuits.circuits
   pub alone : AreAlone r.circuits.circuits
 
--- the condition of the fibre that ends at position p on a side, and whether it is cut
+-- the condition of the fibre that ends at position p on a side
 abbrev pub condition_to : World → ℕ → Side → Condition
 condition_to w p d = condition_of w.fibres (fibre_to (length w.ring.ids) p d)
 
+-- whether the fibre is cut that ends at position p on a side
 abbrev pub cut_in : World → ℕ → Side → Bool
 cut_in w p d = is_cut (condition_to w p d)
 
--- each port has delivered in the last round what it is owed in it
+-- each port delivered in the last round what it is owed in that round
 abbrev pub DeliversWhatIsDue : World → Type 0
 DeliversWhatIsDue w = (index : ℕ) (c : Provisioned) → slice_get w.ring.circuits.circuits index ≡ Some c → (e : End)
     → outlet_at w.ring (record { circuit = index; end = e }) ≡ due_path (length w.ring.ids) (cut_in w) c e (w.ring.rounds - 1)
@@ -90,24 +92,25 @@ DeliversWhatIsDue w = (index : ℕ) (c : Provisioned) → slice_get w.ring.circu
 abbrev pub QuietRingsDeliver : Type 0
 QuietRingsDeliver = (w : World) (k : ℕ) → IsWhole w → HasCircuits w.ring → EndsWindow (course w) k → DeliversWhatIsDue (run k w)
 
--- where a settle step answered, all ports deliver what they are owed
+-- after a settle step that ended with a quiet window, each port has delivered what it is owed
 abbrev pub StepsDeliver : Type 0
 StepsDeliver = (w left : World) (limit : ℕ) → HasCircuits w.ring → Settles w limit left → IsWhole w → DeliversWhatIsDue left
 
 -- ---- a quiet window always comes
 
--- all rounds are calm from number 9 n + 20 of a step on
+-- from the (9n + 20)-th round of a step on, all rounds are calm
 abbrev pub RoundsGetCalm : Type 0
 RoundsGetCalm =
     (w : World) → IsWhole w → HasCircuits w.ring → (j : ℕ) → 9 * length w.ring.ids + 20 ≤ j → is_calm (run j w).ring.nodes ≡ true
 
--- with a limit that is enough no settle step is unsettled
+-- no settle step is unsettled if its limit is large enough
 abbrev pub StepsAnswer : Type 0
 StepsAnswer =
     (w left : World) (limit : ℕ) → HasCircuits w.ring → IsWhole w → enough_for (length w.ring.ids) ≤ limit → Unsettles w limit left → ⊥
 
--- what every settle step keeps where ring and fibres are paired: they stay so; where one ended all ports have delivered what they are
--- due, by the fibres' conditions alone; and no step with a large limit is unsettled
+-- What every settle step keeps where ring and fibres are paired. They stay paired, unless a fault ends the step. After
+-- a step that ended with a window all ports have delivered what they are owed, by the conditions of the fibres alone.
+-- No step with a large limit is unsettled.
 pub record KeepsPromises (w : World) (limit : ℕ) (result : Result (Unit {0}) SettleError) (left : World) : Type 0 where
   pub owed : OnOk result (IsPaired w → DeliversWhatIsDue left)
   pub paired : result ≢ Err PlantFault → IsPaired w → IsPaired left

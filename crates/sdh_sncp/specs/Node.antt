@@ -1,5 +1,5 @@
--- A node of a path ring, and its round: ports are sent both ways round, and each is delivered from the way on which its circuit
--- comes with a pointer.
+-- A node of a path ring, and its round. What a port sends goes both ways round, and each port takes the way on which
+-- its circuit comes with a pointer.
 use Rattle.std.specs.Prelude.{◌≡◌, ℕ, ◌+◌, ◌-◌, ◌/◌, Bool, false, not, ◌&&◌, nat_le, if◌then◌else◌, List, slice_index_or, All, length}
 use Rattle.sdh_terms.specs.declared.Rate.{Rate}
 use Rattle.sdh_frame.specs.Sizes.{Frame}
@@ -37,7 +37,7 @@ pub record PathNode : Type 0 where
   pub threshold : ℕ
   -- what is done with AU-4s 1 to N
   pub uses : List Use
-  -- how many rounds it has run
+  -- the number of rounds that the node has run
   pub rounds : ℕ
   -- both sides that receive
   pub west : Inlet
@@ -61,7 +61,7 @@ new_cross rate circuits at = record {
   east_in = new_intake rate;
 }
 
--- a new node, which says on both sides what a node says that asks for nothing
+-- a new node, which sends on both sides the word that asks its neighbour for nothing
 unfoldable pub new_node : Settings → List ℕ → List Provisioned → Pos → PathNode
 new_node s ids circuits at = record {
   threshold = s.threshold;
@@ -103,7 +103,8 @@ lines_of x = record {
   east = record { readings = x.east.readings; intake = x.east_in };
 }
 
--- what feeds AU-4 number au that leaves on a side: a port at the node sends on both sides, and what comes in is passed on
+-- What feeds AU-4 number au that leaves on a side, by what is done with its slot. A port at the node sends on both
+-- sides; a slot that is passed on comes from the opposite side.
 abbrev pub fed_for : Use → Side → ℕ → Feeder
 fed_for Unused side au = feeder.Ais
 fed_for Passed side au = feeder.Received (opposite side) au
@@ -116,8 +117,9 @@ leads x side au = fed_for (slice_index_or x.uses (au - 1) Unused) side au
 abbrev pub comes : Input → Bool
 comes i = not (is_ais_action i.action)
 
--- a port takes the AU-4 from the side on which its circuit's arc comes in, where it comes with a pointer; else that from the other
--- side, where that one does; else AIS
+-- What is dropped to the port whose circuit leaves on a side in slot m. It is the AU-4 from that side, on which the
+-- circuit's arc comes in, where it comes with a pointer; else the one from the other side, where that one does; else
+-- AIS.
 unfoldable pub drops : PathCross → Side → ℕ → Feeder
 drops x side m =
     if comes (received (lines_of x) side m) then feeder.Received side m else
@@ -133,17 +135,18 @@ crossing n = record {
   east_in = taken_in n.threshold n.east;
 }
 
--- what is dropped to a port, and what goes into an AU-4
+-- what is dropped to a port
 abbrev pub dropped_to : PathCross → Tributary → Input
 dropped_to x t = dropped_by (lines_of x) (drops x t.side t.slot.0)
 
+-- what goes into each AU-4 that leaves on a side
 abbrev pub input_at : PathCross → List Tributary → Side → ℕ → Input
 input_at x ports side = all_fed_by (lines_of x) (added_by ports) (leads x side)
 
 unfoldable pub ports_after : PathCross → List Tributary → List Tributary
 ports_after x ports = all_fed (all_delivered_with (dropped_to x) ports)
 
--- what is compared with the round before is what interpreters and generators keep
+-- interpreters and generators keep what they kept before the round; nothing else is compared
 abbrev pub unchanged : PathNode → PathNode → Bool
 unchanged new old =
     same_readings new.west.readings old.west.readings && same_readings new.east.readings old.east.readings
@@ -159,7 +162,7 @@ after_crossing x n = record n {
   east_out = after_sending (input_at x n.ports East) n.east_out;
 }
 
--- the frames of both sides
+-- the frames that a node sends on both sides
 pub record Frames : Type 0 where
   pub west : Frame
   pub east : Frame
@@ -198,7 +201,7 @@ pub record IsNode (n : PathNode) : Type 0 where
   pub east_out_rate : n.east_out.section.rate ≡ n.west.section.rate
   pub ports : All (IsTributary (n_of n.west.section.rate / 2) n.rounds) n.ports
 
--- what a round leaves for the next one
+-- what a round leaves for the next one: the same rate, and one round more
 pub record GoesOn (old new : PathNode) : Type 0 where
   pub rate : new.west.section.rate ≡ old.west.section.rate
   pub rounds : new.rounds ≡ old.rounds + 1

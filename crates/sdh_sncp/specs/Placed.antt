@@ -21,7 +21,7 @@ pub record HasPlace (r : HeldPath) (p : ℕ) (n : PathNode) : Type 0 where
   pub senders : (d : Side) → IsSenderAt r.settings.rate (sending_on d n)
   pub words : (d : Side) → (sending_on d n).word ≡ first_word r.ids p d
 
--- a port's clock after this number of rounds, which never slips
+-- a port's clock that never slipped, after this number of rounds
 pub record IsUnslipped (rounds : ℕ) (feed : Fed) : Type 0 where
   pub ups : feed.clock.ups ≡ 0
   pub downs : feed.clock.downs ≡ 0
@@ -33,12 +33,13 @@ pub record HasRun (rounds : ℕ) (n : PathNode) : Type 0 where
   pub ran : n.rounds ≡ rounds
   pub clocks : All (λ (t : Tributary). IsUnslipped rounds t.feed) n.ports
 
--- between rounds nothing has arrived on a side since the last one
+-- a node between two rounds: it and its ports' clocks have run this number of rounds, and nothing has arrived on a side
+-- since the last one
 pub record IsBetween (rounds : ℕ) (n : PathNode) : Type 0 where
   pub run : HasRun rounds n
   pub fresh : (d : Side) → (inlet_on d n).arrived ≡ None
 
--- each node of the ring is where it belongs
+-- each node of the ring is in its place, and between two rounds
 pub record IsPlacedRing (r : HeldPath) : Type 0 where
   pub ids : AreIds r.ids
   pub size : length r.nodes ≡ length r.ids

@@ -17,7 +17,7 @@ use Rattle.sdh_sncp.specs.Stations.{path_node}
 abbrev pub HeldPath : Type 0
 HeldPath = held.HeldRing PathNode
 
--- a ring in which no round has run: each node is new
+-- the nodes of a ring in which no round has run: each is new
 unfoldable pub new_nodes : Settings → List ℕ → List Provisioned → ℕ → List PathNode
 new_nodes = held.new_nodes path_node
 
@@ -28,7 +28,7 @@ new_ring settings ids circuits = held.ring_of settings ids circuits (new_nodes s
 unfoldable pub outlet_at : HeldPath → PortId → Outlet
 outlet_at = held.outlet_at path_node
 
--- a node of no ring
+-- a node of no ring, which `node_at` gives at a position that the ring doesn't have
 unfoldable pub nowhere : PathNode
 nowhere = held.nowhere path_node
 
@@ -66,10 +66,11 @@ all_with_arrivals = rounds.all_with_arrivals path_node
 abbrev pub nodes_with : List Arrival → World → List PathNode
 nodes_with = rounds.nodes_with path_node
 
--- a node after its round, and the frame that it sends on a side
+-- a node after its round
 abbrev pub node_after : PathNode → PathNode
 node_after n = (node_round n).0
 
+-- the frame that a node sends on a side in its round
 abbrev pub sent_on : Side → PathNode → List ℕ
 sent_on d n = path_node.sends 0 d n
 
@@ -115,6 +116,6 @@ EndsWindow = quiet.EndsWindow path_node
 abbrev pub Settles : World → ℕ → World → Type 0
 Settles = quiet.Settles path_node
 
--- a settle step ran as many rounds as it might, and none ended a window
+-- a settle step ran all the rounds of its limit, and none ended a window
 abbrev pub Unsettles : World → ℕ → World → Type 0
 Unsettles = quiet.Unsettles path_node

@@ -28,10 +28,11 @@ slot_at circuits i = option_map_or (λ c. c.slot.0) (slice_get circuits i) 0
 unfoldable pub share : List Provisioned → ℕ → ℕ → Bool
 share circuits j i = slot_at circuits i == slot_at circuits j
 
--- the first circuit before number j that shares its slot
+-- the first circuit before number j that shares a slot with it
 unfoldable pub first_before : List Provisioned → ℕ → Option ℕ
 first_before circuits j = find (share circuits j) (range_with_len 0 j)
 
+-- whether a circuit before number j shares a slot with it
 unfoldable pub has_before : List Provisioned → ℕ → Bool
 has_before circuits j = is_some (first_before circuits j)
 

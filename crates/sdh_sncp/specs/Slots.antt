@@ -6,13 +6,15 @@ use Rattle.sdh_circuits.specs.Provisioned.{Provisioned}
 use Rattle.sdh_sncp.specs.declared.slots.Use.{Use}
 use Rattle.sdh_sncp.specs.declared.slots.Use.TheVariants.{Unused, Passed, Ended}
 
--- where circuit number i has the slot: at its ends its ports are added and dropped, and every other node passes it on both ways
+-- What the node at a position does with the slot of circuit number i. At the circuit's ends its port is added and
+-- dropped. Every other node passes the slot on, both ways.
 abbrev pub use_by : ℕ → ℕ → Provisioned → Use
 use_by at i c =
     if c.from.0 == at then Ended (record { circuit = i; end = A }) else
     if c.to.0 == at then Ended (record { circuit = i; end = B }) else Passed
 
--- what the node at a position does with slot m, where circuits are numbered from i on: a slot without a circuit is unused
+-- What the node at a position does with slot m, where circuits are numbered from i on. A slot without a circuit is
+-- unused.
 abbrev pub use_from : ℕ → ℕ → ℕ → List Provisioned → Use
 use_from at m i [] = Unused
 use_from at m i (c ∷ cs) = if c.slot.0 == m then use_by at i c else use_from at m (i + 1) cs

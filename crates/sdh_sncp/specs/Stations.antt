@@ -1,4 +1,4 @@
--- A node of a path ring as a node that runs in rounds. It does not depend on the moment.
+-- A node of a path ring as a node that runs in rounds. Its rounds don't depend on the moment.
 use Rattle.std.specs.Prelude.{◌≡◌, ℕ, ◌<◌, ◌^◌, refl}
 use Rattle.sdh_frame.specs.Sizes.{Frame}
 use Rattle.sdh_ringmap.specs.declared.Side.{Side}
@@ -26,7 +26,7 @@ path_node = record {
 abbrev pub MayRun : ℕ → PathNode → Type 0
 MayRun now n = n.rounds < 2 ^ 32
 
--- ---- what arrives changes neither its rate nor whether it may run
+-- ---- what arrives at a node changes neither its rate nor whether it may run
 
 pub told_rate : (side : Side) (a : Arrival) (n : PathNode) → (path_node.told side a n).west.section.rate ≡ n.west.section.rate
 told_rate West a n = refl

@@ -1,4 +1,4 @@
-//! Both sides that receive, and where what comes in on them leads.
+//! Both sides that receive, and where the AU-4s that come in on them lead.
 ghost use Rattle.std.specs.Prelude.{◌≡◌, ◌≢◌, ◌&&◌, ◌≤◌, None, IfOk, length};
 ghost use Rattle.sdh_terms.specs.Rates.{n_of};
 ghost use Rattle.sdh_plant.specs.Arrivals.{arrived_in};
@@ -70,7 +70,8 @@ impl PathCross {
         })
     }
 
-    /// Keeps what arrived on a side, and takes what landed in exchange for another buffer. What was taken in before isn't kept.
+    /// Keeps what arrived on a side, but without a copy: the buffer in which the frame landed is exchanged for the
+    /// side's own. What was in that one isn't kept.
     pub fn receive_landed(&mut self, side: Side, arrived: Arrived, inbox: &mut Landed)
         requires rate { inbox.old.rate ≡ self.old.west.section.rate }
         requires here { arrived ≡ Arrived.Frame → inbox.old.landed ≢ None }
@@ -87,7 +88,7 @@ impl PathCross {
     }
 
     /// Lets both sides take what arrived, and the interpreters read. Returns whether the interpreters keep what they
-    /// kept.
+    /// kept before.
     #[tactic(auto, unfolding(crate::specs::Node::after_taken))]
     pub fn take(&mut self, threshold: u16) -> bool
         ensures cross { self.new ≡ after_taken threshold self.old }

@@ -2,12 +2,12 @@
 ghost use Rattle.sdh_sncp.specs.Laws.{StayPlaced, NewWorldsAreWhole, NewRingsAreSilent, StayWhole, QuietRingsDeliver, StepsDeliver};
 ghost use Rattle.sdh_sncp.specs.Laws.{RoundsGetCalm, StepsAnswer, ComesIsNorm};
 
-/// Each node stays where it belongs, whatever arrives.
+/// Each node stays in its place, whatever arrives.
 pub fn stay_placed()
     ensures { StayPlaced }
 {}
 
-/// A new ring over a prepared plant is whole.
+/// A new ring over new honest fibres is whole: its nodes are in their places, and the fibres carry what they sent.
 pub fn new_worlds_are_whole()
     ensures { NewWorldsAreWhole }
 {}
@@ -17,22 +17,22 @@ pub fn new_rings_are_silent()
     ensures { NewRingsAreSilent }
 {}
 
-/// No call ends that.
+/// A whole ring stays whole over every round, and over every change of a fibre's condition.
 pub fn stay_whole()
     ensures { StayWhole }
 {}
 
-/// At the end of a quiet window all ports deliver what they are due.
+/// At the end of a quiet window all ports deliver what they are owed.
 pub fn quiet_rings_deliver()
     ensures { QuietRingsDeliver }
 {}
 
-/// After every settle step that ended, all ports deliver what they are owed.
+/// After every settle step that ended with a window, all ports deliver what they are owed.
 pub fn steps_deliver()
     ensures { StepsDeliver }
 {}
 
-/// From round number 9n + 20 on all rounds are calm.
+/// From the (9n + 20)-th round of a step on, all rounds are calm.
 pub fn rounds_get_calm()
     ensures { RoundsGetCalm }
 {}
@@ -42,7 +42,7 @@ pub fn steps_answer()
     ensures { StepsAnswer }
 {}
 
-/// What a port takes comes from an interpreter whose mode is Norm.
+/// An AU-4 comes with a pointer exactly where its interpreter's mode is Norm.
 pub fn comes_is_norm()
     ensures { ComesIsNorm }
 {}

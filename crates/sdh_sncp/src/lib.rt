@@ -1,8 +1,8 @@
-//! Path protection over a ring of fibres: circuits are sent both ways round, and each port takes the way on which its circuit comes
-//! with a pointer. (After SNC/I of ITU-T G.841; the rules are this project's own.)
+//! Path protection over a ring of fibres: what a port sends goes both ways round, and each port takes the way on which
+//! its circuit comes with a pointer. (After SNC/I of ITU-T G.841; the rules are this project's own.)
 //!
-//! A node's round is `node_round` in `specs/Node.antt`, the ring's rounds are those of `sdh_rounds`, and what a port is owed is
-//! `due_path` in `specs/Due.antt`.
+//! A node's round is `node_round` in `specs/Node.antt`. The ring's rounds are those of `sdh_rounds`. What a port is
+//! owed is `due_path` in `specs/Due.antt`.
 #![tactic(auto)]
 
 mod cross;

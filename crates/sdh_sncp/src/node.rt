@@ -1,4 +1,4 @@
-//! One node.
+//! One node of a path ring.
 ghost use Rattle.std.specs.Prelude.{◌≡◌, ◌≢◌, ◌&&◌, nat_le, ◌+◌, ◌/◌, ◌^◌, ◌<◌, ◌≤◌, None, IfOk, length};
 ghost use Rattle.sdh_terms.specs.Rates.{n_of};
 ghost use Rattle.sdh_plant.specs.Arrivals.{arrived_in};
@@ -67,7 +67,8 @@ impl PathNode {
         })
     }
 
-    /// Keeps what arrived on a side for the next round, in exchange for another buffer of the same rate.
+    /// Keeps what arrived on a side for the next round, but without a copy: the buffer in which the frame landed is
+    /// exchanged for another one of the same rate.
     pub fn receive_landed(&mut self, side: Side, arrived: Arrived, inbox: &mut Landed)
         requires rate { inbox.old.rate ≡ self.old.west.section.rate }
         requires here { arrived ≡ Arrived.Frame → inbox.old.landed ≢ None }
@@ -79,7 +80,7 @@ impl PathNode {
         self.cross.receive_landed(side, arrived, inbox);
     }
 
-    /// Returns what a port of the node delivered in the last round, and AIS before the first.
+    /// Returns what a port of the node delivered in the last round. Before the first round it is AIS.
     pub fn delivered(&self, port: PortId) -> &Delivered
         requires { HasPort self.now.ports port }
         ensures { result.now ≡ (outlet_of port self.now.ports).delivered }
@@ -87,7 +88,8 @@ impl PathNode {
         self.ports.outlet(port).delivered()
     }
 
-    /// Returns the value of the interpreter through which a port's chunk came, and 0 where it delivers AIS.
+    /// Returns the pointer value of the interpreter through which a port's bytes came, and 0 where the port delivers
+    /// AIS.
     pub fn value(&self, port: PortId) -> u16
         requires { HasPort self.now.ports port }
         ensures value { result ≡ (outlet_of port self.now.ports).value }
@@ -146,8 +148,8 @@ fn has_run(rounds: u64) -> bool
     rounds >= 1
 }
 
-// What decides whether a round was calm: whether one ran before it, and for each of its calls whether what it compares
-// is as before.
+// The signs by which a round is calm. `ran` says whether a round ran before it. Each other sign says of one call
+// whether what it compares is as before.
 #[derive(Drop)]
 struct Signs {
     ran: bool,

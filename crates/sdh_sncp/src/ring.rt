@@ -34,7 +34,7 @@ use thiserror::Error;
 /// Why there is no path ring.
 #[derive(Clone, Copy, Debug, PartialEq, Eq, Error)]
 pub enum PathError {
-    /// There was no memory.
+    /// Memory ran out.
     #[error("no memory")]
     Memory,
     /// These two circuits share a slot.
@@ -82,7 +82,8 @@ impl PathRing {
         requires kept { KeepsRing circuits map }
         ensures ring { IfOk result (λ ring. ring ≡ new_ring settings map circuits) }
 
-        // Over fibres that were just prepared for it, what is carried is what was sent.
+        // Over honest fibres that were just prepared for the ring, the fibres carry what the nodes sent, which is
+        // nothing yet.
         ensures paired { IfOk result (λ ring. (f : Fibres) → IsHonest f → IsPaired (world ring (prepared settings.rate (length map) f))) }
 
         // Before the first round every port delivers AIS.
@@ -113,7 +114,7 @@ impl PathRing {
         ensures ok { OnOk result (IsRound (world self.old (P.fibres plant.old)) (world self.new (P.fibres plant.new))) }
         ensures prepared { OnOk result (IsPrepared self.old.settings.rate (length self.old.ids) (P.fibres plant.new)) }
 
-        // Where the fibres carry what was sent, they do so after the round.
+        // Where the fibres carry what was sent before the round, they do so after it, too.
         ensures paired { OnOk result (IsPaired (world self.old (P.fibres plant.old)) → IsPaired (world self.new (P.fibres plant.new))) }
         ensures err { OnErr result (IsBrokenOff (world self.old (P.fibres plant.old)) (P.fibres plant.new)) }
         ensures broken { OnErr result (self.new.broken ≡ true) }
@@ -122,22 +123,23 @@ impl PathRing {
         ensures later { P.faults plant.old ≤ P.faults plant.new }
         ensures failed { OnErr result (Rose (P.faults plant.old) (P.faults plant.new)) }
 
-        // Where the plant's count is exact: one call failed with a fault, and none with Ok.
+        // Where the plant's count of faults is exact, one call failed if the round ends with a fault, and none if it
+        // ends with Ok.
         ensures counted { IsCounted P.exact (IsErr result) (P.faults plant.old) (P.faults plant.new) }
     {
         self.ring.round(plant)
     }
 
-    // The circuits are circuits of its size and rate, and no two share a slot: the function does nothing, and its
-    // contract is the law.
+    // The circuits fit the ring's size and rate, and no two share a slot: the function does nothing, and its contract
+    // is the law.
     fn circuits_fit(&self)
         ensures { HasCircuits self.now }
     {
-        // A field that is looked at opens the ring, of whose fields the law is true.
+        // Looking at a field gives the prover the ring's invariant, from which the law follows.
         let _ = &self.ring;
     }
 
-    // Each node is where it belongs: the function does nothing, and its contract is the law.
+    // Each node is in its place: the function does nothing, and its contract is the law.
     fn nodes_are_placed(&self)
         requires { self.now.broken ≡ false }
         ensures { IsPlacedRing self.now }
@@ -145,8 +147,8 @@ impl PathRing {
         let _ = &self.ring;
     }
 
-    /// Runs rounds until one ends a quiet window, which is `3 * n` calm rounds of this step whose last number is a multiple
-    /// of 128, at most `limit` of them. It takes no memory.
+    /// Runs rounds, at most `limit`, until one ends a quiet window. That is `3 * n` calm rounds of this step, the last
+    /// of which has a number that is a multiple of 128. It takes no memory.
     pub fn settle<P: Plant>(&mut self, plant: &mut P, limit: u32) -> Result<(), SettleError>
         requires prepared { IsPrepared self.old.settings.rate (length self.old.ids) (P.fibres plant.old) }
         requires whole { self.old.broken ≡ false }
@@ -156,7 +158,7 @@ impl PathRing {
         ensures step { IsStep path_node P.exact (world self.old (P.fibres plant.old)) limit result (world self.new (P.fibres plant.new))
             (P.faults plant.old) (P.faults plant.new) }
 
-        // All ports deliver what they are due, and a step that may be long enough ends.
+        // All ports deliver what they are owed, and a step whose limit is large enough ends with a window.
         ensures laws { KeepsPromises (world self.old (P.fibres plant.old)) limit result (world self.new (P.fibres plant.new)) }
     {
         self.settle_with(plant, limit, &mut Nobody)
@@ -179,7 +181,8 @@ impl PathRing {
             (P.faults plant.old) (P.faults plant.new) }
         ensures laws { KeepsPromises (world self.old (P.fibres plant.old)) limit result (world self.new (P.fibres plant.new)) }
 
-        // What the observer keeps of a step that ended is what it is to keep of all its rounds, and of no other.
+        // What the observer keeps after a step that ended is what it should keep of all rounds of that step, and of no
+        // others.
         ensures heard { OnOk result (Hears path_node (λ at k. O.Heard at k observer.new) (world self.old (P.fibres plant.old)) limit
             (world self.new (P.fibres plant.new))) }
     {
@@ -214,7 +217,7 @@ impl PathRing {
         self.ring.node_of(port)
     }
 
-    /// Returns what a port of a circuit delivered in the last round, and AIS before the first.
+    /// Returns what a port of a circuit delivered in the last round. Before the first round it is AIS.
     pub fn port(&self, port: PortId) -> &Delivered
         requires { port.circuit < length self.now.circuits.circuits }
         ensures { result.now ≡ (outlet_at self.now port).delivered }
@@ -222,7 +225,8 @@ impl PathRing {
         self.node_of(port).delivered(port)
     }
 
-    /// Returns the value of the interpreter through which a port's chunk came, and 0 where it delivers AIS.
+    /// Returns the pointer value of the interpreter through which a port's bytes came, and 0 where the port delivers
+    /// AIS.
     pub fn value(&self, port: PortId) -> u16
         requires { port.circuit < length self.now.circuits.circuits }
         ensures value { result ≡ (outlet_at self.now port).value }
@@ -231,7 +235,7 @@ impl PathRing {
         self.node_of(port).value(port)
     }
 
-    /// Returns how many rounds have run, so that the last one has the number before it.
+    /// Returns how many rounds have run. They are numbered from 0, so the last one has a number one below that.
     pub fn rounds(&self) -> u64
         ensures { result ≡ self.now.rounds }
     {

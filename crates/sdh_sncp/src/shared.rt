@@ -25,7 +25,7 @@ fn share(circuits: &CircuitMap, second: usize, first: usize) -> bool
     slot_at(circuits, first) == slot_at(circuits, second)
 }
 
-// Returns the first circuit before this one that shares its slot.
+// Returns the first circuit before this one that shares a slot with it.
 #[tactic(auto, unfolding(crate::specs::Sharing::first_before))]
 fn first_before(circuits: &CircuitMap, second: usize) -> Option<usize>
     requires { second < length circuits.now.circuits }
@@ -52,7 +52,8 @@ fn first_second(circuits: &CircuitMap) -> Option<usize>
     (0..circuits.len()).find(|second| has_before(circuits, *second))
 }
 
-/// Returns the first two circuits that share a slot: the least second one, and its least first one.
+/// Returns the first two circuits that share a slot, or `None` where no two do. The second one is the first circuit
+/// that shares its slot with an earlier one, and the first is the first of these earlier ones.
 #[tactic(auto, using(crate::proofs::Sharing::alone_if, crate::proofs::Sharing::some_before))]
 pub fn first_shared(circuits: &CircuitMap) -> Option<(u8, u8)>
     ensures some { IfSome result (λ two. AreFirstToShare circuits.now.circuits two.0 two.1) }

@@ -14,7 +14,7 @@ pub enum Use {
     Ended(PortId),
 }
 
-// Returns where a circuit has the slot.
+// Returns what the node at a position does with the slot of a circuit.
 fn use_by(at: Pos, number: u8, circuit: &Circuit) -> Use
     ensures { result ≡ use_by at.0 number circuit.now }
 {

@@ -12,7 +12,7 @@ number_of (ending.NoSuchStep step) = 14
 number_of (ending.SameSlot first second) = 13
 number_of (ending.Shared how) = status.number_of how
 
--- circuits are counted from 1 in the text
+-- the last line for two circuits that share a slot; the text counts circuits from 1
 abbrev pub same_slot_line : ℕ → ℕ → List ℕ
 same_slot_line first second = codes "same slot " ++ decimal (first + 1) ++ codes " " ++ decimal (second + 1) ++ codes "\n"
 
@@ -25,7 +25,7 @@ line_of (ending.NoSuchStep step) = no_such_step_line step
 line_of (ending.SameSlot first second) = same_slot_line first second
 line_of (ending.Shared how) = status.last_line how
 
--- the shared status that an ending is
+-- the status that an ending shares with other programs; none where the ending is this program's own
 abbrev pub shared : Ending → Option Status
 shared (ending.NoSuchStep step) = None
 shared (ending.SameSlot first second) = None

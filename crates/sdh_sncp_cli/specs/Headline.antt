@@ -17,43 +17,46 @@ use Rattle.sdh_sncp_cli.specs.Promise.{OwesAll}
 use Rattle.sdh_sncp_cli.specs.Plans.{world_of, ran_of, MaySettle}
 use Rattle.sdh_shell.specs.Calls.{AreRun}
 
--- the words ask for a run, and these are the bytes of this plan, whose steps are a path ring's and of whose circuits no two share a slot
+-- The words ask for a run, and these are the bytes of this plan. All its steps are those of a path ring, and no two of
+-- its circuits share a slot.
 pub record IsRunPlan (words : List (List ℕ)) (bytes : List ℕ) (plan : Planned) : Type 0 where
   pub words_are : AreRun words
   pub tells : TellsPlan bytes plan
   pub known : AreKnown plan.steps
   pub alone : AreAlone plan.circuits
 
--- a number of a script that came to an end: it is done, or a settle step was unsettled, or a plant's call failed; and how it did
+-- The number with which the program ends where the script came to an end so: 0 where it is done, 7 where a settle step
+-- was unsettled, and 8 where a call of the plant failed.
 abbrev pub RanTo : ℕ → Status → Type 0
 RanTo number status.Ok = number ≡ 0
 RanTo number (status.Unsettled k) = number ≡ 7
 RanTo number status.PlantFault = number ≡ 8
 RanTo number how = ⊥
 
+-- the number is one with which the program ends where a script was run
 abbrev pub HasRun : ℕ → Type 0
 HasRun number = (number ≡ 0) ⊎ ((number ≡ 7) ⊎ (number ≡ 8))
 
--- What was written is the text of reports, and the last line; and the reports show for every port what it is owed by the fibres that the
--- script cut.
+-- What was written is the text of reports and the last line. The reports show for every port what it is owed by the
+-- conditions of the fibres that the script gives.
 abbrev pub Delivers : List (List ℕ) → List ℕ → ℕ → Option (List ℕ) → Option (List ℕ) → Type 0
 Delivers words bytes number old new = (plan : Planned) → IsRunPlan words bytes plan → HasRun number
     → (how : Status) × (reports : List Report) × RanTo number how × Appends old new (text_of listing.Reports reports ++ last_line how)
     × OwesAll plan reports how
 
--- the program ends as the script does where the arrivals are known, and the text says so: unsettled at exactly the step
--- in which no quiet window comes within the limit; or a plant's call failed
+-- Where the arrivals are known, the program ends as the script does: unsettled at exactly the step in which no quiet
+-- window comes within the limit. Or a call of the plant failed.
 abbrev pub EndsAsItRuns : List (List ℕ) → List ℕ → Fibres → ℕ → Type 0
 EndsAsItRuns words bytes f number =
     (plan : Planned) → IsRunPlan words bytes plan → HasRun number → Knows (world_of plan f).fibres
     → RanTo number (ran_of plan f).ending ⊎ (number ≡ 8)
 
--- with a limit that is enough no settle step is unsettled
+-- no settle step is unsettled if the limit is large enough
 abbrev pub AlwaysSettles : List (List ℕ) → List ℕ → ℕ → Type 0
 AlwaysSettles words bytes number = (plan : Planned) → IsRunPlan words bytes plan → enough_for (length plan.nodes) ≤ plan.limit → number ≢ 7
 
--- the words ask for a run, and the source shows the bytes of a plan with which all is given: a script that settles, as
--- it does over honest fibres where the limit is large
+-- The words ask for a run, the bytes of the source are known and are those of a plan, and its script settles. Over
+-- honest fibres it does so where the limit is large.
 abbrev pub MayBeDone : List (List ℕ) → Option (List ℕ) → Fibres → Type 0
 MayBeDone words None f = ⊥
 MayBeDone words (Some bytes) f = (plan : Planned) × IsRunPlan words bytes plan × MaySettle plan f

@@ -16,8 +16,8 @@ use Rattle.sdh_sncp_cli.specs.Endings.{path_endings}
 use Rattle.sdh_sncp_cli.specs.declared.ending.Ending.{Ending}
 use Rattle.sdh_sncp_cli.specs.declared.ending.Ending.TheVariants as ending
 
--- What is done with a plan: its first step that is none of a path ring's is named; or it has none, and the first two circuits that share
--- a slot are named; or none do, and it is run.
+-- What is done with a plan. If a step is none of a path ring's, the first such step is refused by its number. Else, if
+-- two circuits share a slot, the first two are refused. Else the plan is run.
 abbrev pub Does : Planned → Deed (Unit {0}) Ending → Type 0
 Does plan (Refuses (ending.NoSuchStep step)) = first_strange plan.steps ≡ Some step
 Does plan (Refuses (ending.SameSlot first second)) = AreKnown plan.steps × AreFirstToShare plan.circuits first second
@@ -38,14 +38,14 @@ pathing = record {
   MaySettle = MaySettle;
 }
 
--- what has to be known of a source: its bytes, or nothing where it isn't read
+-- what must be known of a source: its bytes, or nothing where it isn't read
 abbrev pub told : List (List ℕ) → Option (List ℕ) → Option (List ℕ)
 told words left = outcome.told pathing (asked_to_run words) left
 
--- what was written when this number was answered
+-- what was written when a call returned this number
 abbrev pub Answers : List (List ℕ) → List ℕ → Fibres → Fibres → Counts → Counts → ℕ → Option (List ℕ) → Option (List ℕ) → Type 0
 Answers words = outcome.Answers pathing (asked_to_run words)
 
--- what source and plant had come to when this was to be reported
+-- How many calls of source and plant failed, and how many bytes were taken, where this ending was to be reported.
 abbrev pub CameTo : Bool → Bool → Counts → Counts → Option (List ℕ) → Option (List ℕ) → Ending → Type 0
 CameTo = CameToEnding path_endings

@@ -1,4 +1,4 @@
--- What comes of a plan over a path ring and fibres that aren't there yet.
+-- What a plan comes to over a path ring and fibres that aren't made yet.
 use Rattle.std.specs.Prelude.{ℕ, List}
 use Rattle.sdh_plant.specs.Fibres.{Fibres}
 use Rattle.sdh_plan.specs.Planned.{Planned, provisioning_of}
@@ -27,16 +27,16 @@ Owes plan f reports end left = OwesAll plan reports end
 abbrev pub world_of : Planned → Fibres → World
 world_of = plans.world_of path_account
 
--- what its script comes to there, where the arrivals are known
+-- what the script of a plan comes to over fibres that were just prepared, where the arrivals are known
 abbrev pub ran_of : Planned → Fibres → Ran PathNode Report
 ran_of = plans.ran_of path_account
 
--- a script that settles: where the arrivals are known each settle step has a quiet window within the limit; or the fibres are honest and
--- the limit is large
+-- A script that settles. Where the arrivals are known each settle step has a quiet window within the limit; or the
+-- fibres are honest and the limit is large.
 abbrev pub MaySettle : Planned → Fibres → Type 0
 MaySettle = plans.MaySettle path_account
 
--- what is so of one list of reports: over every plant, where the arrivals are known, and over honest fibres
+-- what holds of one list of reports: over every plant, where the arrivals are known, and over honest fibres
 abbrev pub IsRunOf : Planned → Fibres → List Report → Status → Fibres → Type 0
 IsRunOf = plans.IsRunOf path_account Owes
 

@@ -1,5 +1,5 @@
--- What each report of a script over a path ring owes, by the fibres' conditions that the script gives and in customers'
--- bytes.
+-- What each report of a script over a path ring owes, in customers' bytes and by the conditions that the script gives
+-- the fibres.
 use Rattle.std.specs.Prelude.{ℕ, ◌≡◌, ◌⊎◌, ◌+◌, Bool, List, [], ◌∷◌, ◌++◌, length}
 use Rattle.sdh_ringmap.specs.declared.Side.{Side}
 use Rattle.sdh_terms.specs.Fibres.{is_cut}

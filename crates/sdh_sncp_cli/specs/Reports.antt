@@ -1,4 +1,4 @@
--- What the report of a settle step shows of the path ring that it left. No node has a line.
+-- What the report of a settle step shows of the path ring that it left. No node has a line in it.
 use Rattle.std.specs.Prelude.{ℕ, ◌-◌, List, []}
 use Rattle.sdh_payload.specs.Outlet.{Outlet}
 use Rattle.sdh_circuits.specs.declared.End.{End}
@@ -7,7 +7,7 @@ use Rattle.sdh_report.specs.Reports.{PortLine, Report}
 use Rattle.sdh_scripts.specs.Ports.{lines_from}
 use Rattle.sdh_sncp.specs.Ring.{HeldPath, outlet_at}
 
--- what the port at an end of the circuit of this number delivered
+-- what the port at an end of circuit number `index` delivered
 abbrev pub end_outlet : HeldPath → ℕ → Provisioned → End → Outlet
 end_outlet r index c e = outlet_at r (record { circuit = index; end = e })
 

@@ -5,8 +5,8 @@ use Rattle.sdh_plan.specs.declared.step.Step.{Step}
 use Rattle.sdh_sncp.specs.Ring.{HeldPath}
 use Rattle.sdh_sncp_cli.specs.Steps.{MayDo}
 
--- These steps may be run over a ring and fibres after `before` settle steps that have ended: the ring isn't broken, the fibres are
--- prepared for it, the steps are those of a plan, and no settle step had more than 65,536 rounds.
+-- These steps may be run over a ring and fibres after `before` settle steps that have ended. The ring isn't broken, the
+-- fibres are prepared for it, and the steps are those of a plan. No settle step had more than 65,536 rounds.
 pub record MayRun (before : ℕ) (steps : List Step) (r : HeldPath) (f : Fibres) : Type 0 where
   pub whole : r.broken ≡ false
   pub prepared : IsPrepared r.settings.rate (length r.ids) f

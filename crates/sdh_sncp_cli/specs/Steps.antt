@@ -5,7 +5,7 @@ use Rattle.sdh_terms.specs.Fibres.{IsConditionAt}
 use Rattle.sdh_plan.specs.declared.step.Step.{Step}
 use Rattle.sdh_plan.specs.declared.step.Step.TheVariants as step
 
--- a step is none of a path ring's, which are a fibre's conditions and settle steps
+-- a step is none of a path ring's: a path ring's steps give a fibre a condition, or settle
 abbrev pub is_strange : Step → Bool
 is_strange (step.Fibre e) = false
 is_strange (step.Order p d c) = true
@@ -14,15 +14,15 @@ is_strange (step.Hold p turns) = true
 is_strange (step.Slip port turn count) = true
 is_strange step.Settle = false
 
--- the first such step, counted from 1
+-- the first step that is none of a path ring's, counted from 1
 unfoldable pub first_strange : List Step → Option ℕ
 first_strange steps = option_map (λ i. i + 1) (position is_strange steps)
 
--- no step is strange to a path ring
+-- all steps are a path ring's
 abbrev pub AreKnown : List Step → Type 0
 AreKnown steps = first_strange steps ≡ None
 
--- the steps can be done in a path ring of `size` nodes, after `before` settle steps of 64
+-- the steps can be done in a path ring of `size` nodes, after `before` settle steps; a script has at most 64 of them
 abbrev pub MayDo : Rate → ℕ → ℕ → List Step → Type 0
 MayDo rate size before [] = Unit {0}
 MayDo rate size before (step.Fibre e ∷ later) = (e.at.0 < size) × IsConditionAt rate e.condition × MayDo rate size before later

@@ -9,7 +9,7 @@ use Rattle.sdh_sncp.specs.Stations.{path_node}
 use Rattle.sdh_sncp.specs.Ring.{World}
 use Rattle.sdh_sncp_cli.specs.Reports.{report_of}
 
--- a fibre comes into a condition; no other step that runs no round is one of a path ring's
+-- what a step does that runs no round: it gives a fibre a condition; no other such step is a path ring's
 abbrev pub does : Step → World → World
 does (step.Fibre e) w = record w { fibres = after_apply w.fibres e.at.0 e.side e.condition }
 does s w = w

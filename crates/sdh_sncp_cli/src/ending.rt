@@ -13,7 +13,7 @@ pub enum Ending {
     NoSuchStep(u32),
     /// These two circuits, counted from 0, are the first that share a slot.
     SameSlot { first: u8, second: u8 },
-    /// An ending that the program of a shared ring has too: `Ok`, `Usage`, `ReadFault`, `WriteFault`, `NotToml`,
+    /// An ending that the other programs that run plans have too: `Ok`, `Usage`, `ReadFault`, `WriteFault`, `NotToml`,
     /// `BadPlan`, `Unsettled`, `PlantFault`, `TooLong` or `Memory`.
     Shared(Status),
 }
@@ -31,20 +31,22 @@ impl Ending {
     }
 }
 
-// Numbers of these sizes have few digits.
+// The last line for a step has at most 96 bytes, since a number of this size has few digits: the function does nothing,
+// and its contract is the law.
 fn short_step(step: u32)
     ensures { length (no_such_step_line step) ≤ 96 }
 {
     let _ = step;
 }
 
+// The last line for two circuits has at most 96 bytes: the function does nothing, and its contract is the law.
 fn short_slot(first: u8, second: u8)
     ensures { length (same_slot_line first second) ≤ 96 }
 {
     let _ = (first, second);
 }
 
-// Appends the last line of two circuits that share a slot.
+// Appends the last line for two circuits that share a slot.
 fn put_same_slot(text: &mut Text, first: u8, second: u8)
     requires { length (same_slot_line first second) ≤ text.old.room }
     ensures { text.new ≡ with_part text.old (same_slot_line first second) }
@@ -56,7 +58,7 @@ fn put_same_slot(text: &mut Text, first: u8, second: u8)
     text.put(b"\n");
 }
 
-// Appends the last line of a step that is none of a path ring's.
+// Appends the last line for a step that is none of a path ring's.
 fn put_no_such_step(text: &mut Text, step: u32)
     requires { length (no_such_step_line step) ≤ text.old.room }
     ensures { text.new ≡ with_part text.old (no_such_step_line step) }

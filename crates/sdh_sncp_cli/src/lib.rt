@@ -1,8 +1,8 @@
-//! The call of the program that runs a path ring: from the words, a source of bytes and a plant to a number and a text. A
-//! plan's script is run step by step over a path ring and its fibres, and the report of each settle step is appended to a
-//! text.
+//! The call of the program `sdhpath`, which runs a path ring: from the words, a source of bytes and a plant to a number
+//! and a text. A plan's script is run step by step over a path ring and its fibres, and the report of each settle step
+//! is appended to a text.
 //!
-//! What comes of a script is `Runs` in `sdh_scripts`, and what its reports owe to each port is `OwesAll` in
+//! What a script comes to is `Runs` in `sdh_scripts`. What its reports owe to each port is `OwesAll` in
 //! `specs/Promise.antt`.
 #![tactic(auto)]
 

@@ -26,7 +26,8 @@ use std::alloc::{AllocError, Global};
 #[derive(Clone, Copy, Debug)]
 pub struct Pathing;
 
-// Returns a plan whose steps are a path ring's, run if no two circuits share a slot.
+// Runs a plan whose steps are a path ring's, if no two of its circuits share a slot. Returns the text and how the run
+// ended, or the refusal of the first two circuits that share one.
 fn ended_run<P: Plant>(
     alloc: Global,
     plan: Plan,

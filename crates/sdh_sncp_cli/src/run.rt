@@ -48,8 +48,8 @@ pub fn run_plan<P: Plant>(alloc: Global, plan: Plan, plant: &mut P) -> Result<Ru
     requires fresh { HasNoFibres (P.fibres plant.old) }
     requires known { AreKnown plan.steps }
 
-    // The text is that of one list of reports, which is given over every plant, where the arrivals are known, and over
-    // honest fibres.
+    // The text is that of one list of reports. Of these it is said what holds over every plant, what holds where the
+    // arrivals are known, and what holds over honest fibres.
     ensures came { IfOk result (λ run. Tells plan (P.fibres plant.old) run.text.bytes run.status (P.fibres plant.new)) }
 
     // The first two circuits that share a slot are refused.
@@ -59,10 +59,11 @@ pub fn run_plan<P: Plant>(alloc: Global, plan: Plan, plant: &mut P) -> Result<Ru
     // Where two circuits share a slot the plant stays as it is.
     ensures unmoved { ¬ (AreAlone plan.circuits) → plant.new ≡ plant.old }
 
-    // A fault has a cause, and without one a script that settles is done.
+    // A plant fault has its cause in a call that failed. Where no call fails, a script that settles is done.
     ensures failed { IfOk result (λ run. run.status ≡ Status.PlantFault → Rose (P.faults plant.old) (P.faults plant.new)) }
 
-    // Where the plant's count is exact: one call failed with a fault, and none with any other ending, nor without memory.
+    // Where the plant's count of faults is exact, one call failed if the run ended with a plant fault. None failed with
+    // any other ending, and none where the plan wasn't run.
     ensures counted { IfOk result (λ run. IsCounted P.exact (run.status ≡ Status.PlantFault) (P.faults plant.old) (P.faults plant.new)) }
     ensures uncounted { OnErr result (P.exact ≡ true → P.faults plant.new ≡ P.faults plant.old) }
     ensures complete { IfOk result
@@ -70,7 +71,7 @@ pub fn run_plan<P: Plant>(alloc: Global, plan: Plan, plant: &mut P) -> Result<Ru
     ensures later { P.faults plant.old ≤ P.faults plant.new }
     ensures room { IfOk result (λ run. 96 ≤ run.text.room) }
 
-    // Without a run no fibre was made, and no round has run.
+    // Where the plan wasn't run, no fibre was made, and no round has run.
     ensures unsent { OnErr result (P.fibres plant.new ≡ P.fibres plant.old) }
 {
     crate::laws::reports_are_due();

@@ -1,4 +1,4 @@
-//! A path ring that a script is run over.
+//! A path ring over which a script is run.
 ghost use Rattle.std.specs.Prelude.{length};
 ghost use Rattle.sdh_report.specs.Reports.{Report, report_text};
 ghost use Rattle.sdh_scripts.specs.Ports.{lines_room};

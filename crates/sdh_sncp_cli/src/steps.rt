@@ -11,7 +11,7 @@ fn is_strange(step: &Step) -> bool
     !matches!(step, Step::Fibre(_) | Step::Settle)
 }
 
-// Returns the place of the first such step.
+// Returns the place of the first step that is none of a path ring's, or `None` where all are.
 fn strange_place(steps: &[Step]) -> Option<usize>
     ensures place { result ≡ position is_strange steps.now }
     ensures within { IfSome result (λ i. i < length steps.now) }
@@ -19,8 +19,8 @@ fn strange_place(steps: &[Step]) -> Option<usize>
     steps.iter().position(|step| is_strange(step))
 }
 
-/// Returns the first step that is none of a path ring's, counted from 1: the steps of a path ring are a fibre's
-/// conditions and settle steps.
+/// Returns the first step that is none of a path ring's, counted from 1, or `None` where all are a path ring's. Those
+/// give a fibre a condition, or settle.
 #[tactic(auto, unfolding(crate::specs::Steps::first_strange))]
 pub fn first_strange(steps: &[Step]) -> Option<u32>
     requires few { length steps.now ≤ 1000 }

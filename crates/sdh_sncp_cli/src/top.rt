@@ -17,8 +17,8 @@ use sdh_scripts::call;
 use std::alloc::Global;
 
 /// Does all that the program does, and returns the number with which it ends. With the word `run` it reads a plan from
-/// the source, runs a path ring of it over the plant, and writes the report of every settle step: its line and that of
-/// each port. The last line says how it ended. All is written once, at the end.
+/// the source, runs its path ring over the plant, and writes the report of every settle step: a line of the step and
+/// one of each port. The last line says how the run ended. The text is written once, at the end.
 pub fn sdhpath<R: Source, W: Sink, P: Plant>(
     alloc: Global,
     words: &[String],
@@ -28,15 +28,16 @@ pub fn sdhpath<R: Source, W: Sink, P: Plant>(
 ) -> u8
     requires fresh { HasNoFibres (P.fibres plant.old) }
 
-    // The number and the text that is written, for a source that shows its bytes, where it is read, and a sink that
-    // shows what was written. Over every plant the frames sent are those of the run, and where arrivals are known all
-    // of them are known.
+    // The number and the text that is written. It is said where the bytes of a source that is read are known, and where
+    // the sink shows what was written. Over every plant the frames sent are those of the run. Where the arrivals are
+    // known, all of these frames are known.
     ensures outcome { let reads : Counts = record { before = R.faults source.old; after = R.faults source.new } in
         let calls : Counts = record { before = P.faults plant.old; after = P.faults plant.new } in
         IfSome (told (words_of words.now) (R.left source.old)) (λ bytes. Answers (words_of words.now) bytes (P.fibres plant.old)
         (P.fibres plant.new) reads calls result (W.written sink.old) (W.written sink.new)) }
 
-    // Over honest fibres the reports show for every port what it is owed, and with a large limit no settle step is unsettled.
+    // Over honest fibres the reports show for every port what it is owed, and with a large limit no settle step is
+    // unsettled.
     ensures owed { (P.fibres plant.old).honest ≡ true
         → IfSome (R.left source.old) (λ bytes. Delivers (words_of words.now) bytes result (W.written sink.old) (W.written sink.new)) }
     ensures settles { (P.fibres plant.old).honest ≡ true
@@ -45,7 +46,7 @@ pub fn sdhpath<R: Source, W: Sink, P: Plant>(
     // Where arrivals are known, unsettled comes exactly where a settle step has no quiet window within the limit.
     ensures unsettled { IfSome (R.left source.old) (λ bytes. EndsAsItRuns (words_of words.now) bytes (P.fibres plant.old) result) }
 
-    // Over every source, sink and plant.
+    // These clauses hold over every source, sink and plant.
     ensures usage { result ≡ 2 → is_run (words_of words.now) ≡ false }
     ensures usage_only { is_run (words_of words.now) ≡ false → (result ≡ 2) ⊎ (result ≡ 4) ⊎ (result ≡ 70) }
     ensures unasked { is_run (words_of words.now) ≡ false → (source.new ≡ source.old) × (plant.new ≡ plant.old) }
@@ -53,8 +54,9 @@ pub fn sdhpath<R: Source, W: Sink, P: Plant>(
     ensures plant_fault { result ≡ 8 → Rose (P.faults plant.old) (P.faults plant.new) }
     ensures write_fault { result ≡ 4 → Rose (W.faults sink.old) (W.faults sink.new) }
 
-    // Where an object's count is exact, each failed call is reported as its fault, and none is tried again; a write
-    // fault may stand in place of what was to be reported. With 9 one byte more than a plan may have was taken.
+    // Where the count of faults of a source, sink or plant is exact, each of its calls that failed is reported by its
+    // fault, and none is tried again. A write fault may stand in place of what was to be reported. With 9, one byte
+    // more than a plan may have was taken.
     ensures came { let reads : Counts = record { before = R.faults source.old; after = R.faults source.new } in
         let calls : Counts = record { before = P.faults plant.old; after = P.faults plant.new } in
         (how : Ending) × ((result ≡ number_of how) ⊎ (result ≡ 4))
@@ -65,7 +67,7 @@ pub fn sdhpath<R: Source, W: Sink, P: Plant>(
     ensures later { (R.faults source.old ≤ R.faults source.new) × (W.faults sink.old ≤ W.faults sink.new)
         × (P.faults plant.old ≤ P.faults plant.new) }
 
-    // With all that a run needs, and no fault, everything is done, or there is no memory.
+    // Where all that a run needs is given and no call fails, everything is done, or memory runs out.
     ensures complete { MayBeDone (words_of words.now) (R.left source.old) (P.fibres plant.old)
         → ¬ (Rose (R.faults source.old) (R.faults source.new)) → ¬ (Rose (W.faults sink.old) (W.faults sink.new))
         → ¬ (Rose (P.faults plant.old) (P.faults plant.new)) → (result ≡ 0) ⊎ (result ≡ 70) }

@@ -1,4 +1,4 @@
--- What of a port no round changes.
+-- The part of a port that no round changes.
 use Rattle.sdh_ringmap.specs.declared.Side.{Side}
 use Rattle.sdh_circuits.specs.declared.Slot.{Slot}
 use Rattle.sdh_circuits.specs.declared.PortId.{PortId}

@@ -36,7 +36,7 @@ received l side au = record {
   au = au_of (n_of (line_on l side).intake.frame.rate) au (line_on l side).intake.frame.bytes;
 }
 
--- what an AU-4 is fed with, where ports add this
+-- what an AU-4 is fed with by this feeder, where `added` says what each port adds
 abbrev pub fed_by : Lines → (PortId → Input) → Feeder → Input
 fed_by l added (feeder.Port port) = added port
 fed_by l added (feeder.Received side au) = received l side au
@@ -46,13 +46,13 @@ fed_by l added feeder.Ais = no_input
 abbrev pub all_fed_by : Lines → (PortId → Input) → (ℕ → Feeder) → ℕ → Input
 all_fed_by l added leads au = fed_by l added (leads au)
 
--- what is dropped from there; what a port adds isn't dropped
+-- what is dropped from this feeder to a port: the AU-4 that a side received, or AIS; what a port adds isn't dropped
 abbrev pub dropped_by : Lines → Feeder → Input
 dropped_by l (feeder.Port port) = no_input
 dropped_by l (feeder.Received side au) = received l side au
 dropped_by l feeder.Ais = no_input
 
--- an AU-4 that is received is one of N
+-- a feeder at a rate with n AU-4s: an AU-4 that a side received has a number from 1 to n
 abbrev pub IsFeeder : ℕ → Feeder → Type 0
 IsFeeder n (feeder.Port port) = Unit {0}
 IsFeeder n (feeder.Received side au) = (1 ≤ au) × (au ≤ n)

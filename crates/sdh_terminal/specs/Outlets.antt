@@ -1,4 +1,4 @@
--- What a port delivers of the AU-4 that its circuit comes in.
+-- What a port delivers of the AU-4 that brings its circuit.
 use Rattle.std.specs.Prelude.{Option, IsSome}
 use Rattle.sdh_payload.specs.declared.chunk.ChunkForm.{ChunkForm}
 use Rattle.sdh_payload.specs.declared.chunk.ChunkForm.TheVariants.{Plain, Short, Long}
@@ -10,7 +10,8 @@ use Rattle.sdh_pointer.specs.declared.reading.Action.{Action}
 use Rattle.sdh_pointer.specs.declared.reading.Action.TheVariants as action
 use Rattle.sdh_terminal.specs.Passing.{Input, h3_of}
 
--- three bytes fewer at a positive justification, and three more at a negative one
+-- the form of the chunk that comes with an action: three bytes fewer at a positive justification, and three more at a
+-- negative one
 abbrev pub chunk_form : Action → ChunkForm
 chunk_form action.Normal = Plain
 chunk_form action.New = Plain
@@ -28,11 +29,11 @@ delivered_by action.New i = chunk_from i
 delivered_by action.Up i = chunk_from i
 delivered_by action.Down i = chunk_from i
 
--- AIS, or the bytes of the AU-4
+-- what a port delivers of an AU-4 that is dropped to it: AIS, or the chunk that the AU-4 carries
 unfoldable pub delivered_from : Input → Outlet
 delivered_from i = delivered_by i.action i
 
--- there is memory for a chunk: that of the one that is delivered, or what is kept beside AIS
+-- there is memory for a chunk: that of the chunk that is delivered, or spare memory while AIS is delivered
 abbrev pub HasRoom : {Memory : Type 0} → Delivered → Option Memory → Type 0
 HasRoom (Chunk c) spare = Unit {0}
 HasRoom Ais spare = IsSome spare

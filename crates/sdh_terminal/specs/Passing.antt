@@ -10,17 +10,17 @@ use Rattle.sdh_pointer.specs.declared.word.Form.TheVariants as form
 use Rattle.sdh_pointer.specs.Sending.{Generator, form_sent, word_sent, next_sending}
 
 pub record Input : Type 0 where
-  -- what the generator is asked for, and the value after it
+  -- the action that the generator is asked for, and the pointer value after it
   pub action : Action
   pub value : ℕ
   -- the AU-4 as it came
   pub au : Au
 
--- AIS
+-- the input of an AU-4 that is AIS
 abbrev pub no_input : Input
 no_input = record { action = action.Ais; value = 0; au = ones }
 
--- the three bytes H3
+-- the three bytes H3 of the nine pointer bytes
 abbrev pub h3_of : List ℕ → List ℕ
 h3_of pointers = slice_index pointers 6 ∷ slice_index pointers 7 ∷ slice_index pointers 8 ∷ []
 
@@ -57,9 +57,10 @@ au_sent s i = au_for i.action (form_sent s i.action i.value) (word_sent s i.acti
 abbrev pub states_of : List Generator → List (Option ℕ)
 states_of generators = map (λ (g : Generator). g.sending) generators
 
--- all AU-4s of a side, by the states of its generators, and these states after them; AU-4s are numbered from 1
+-- all AU-4s that a side sends, by the input of each and the states of its generators; AU-4s are numbered from 1
 unfoldable pub aus_sent : (ℕ → Input) → List (Option ℕ) → List Au
 aus_sent input states = map_from (λ k s. au_sent s (input (k + 1))) 0 states
 
+-- the states of a side's generators after they were given these inputs
 unfoldable pub after_inputs : (ℕ → Input) → List (Option ℕ) → List (Option ℕ)
 after_inputs input states = map_from (λ k s. next_sending s (input (k + 1)).action (input (k + 1)).value) 0 states

@@ -1,5 +1,5 @@
--- One side of a node that receives, as far as frames and pointers go: what the section overhead of a frame says, and what
--- the pointer interpreters make of the AU-4s.
+-- One side of a node that receives, as far as frames and pointers go: what the section overhead of a frame says, and
+-- what the pointer interpreters make of the AU-4s.
 use Rattle.std.specs.Prelude.{◌≡◌, ℕ, ◌+◌, ◌*◌, ◌%◌, Bool, ◌==◌, nat_le, if◌then◌else◌, Option, Some, None, List, length, map, slice_index}
 use Rattle.std.specs.Prelude.{replicate}
 use Rattle.std.specs.Option.{is_some}
@@ -34,14 +34,14 @@ pub record Inlet : Type 0 where
 abbrev pub new_inlet : Rate → Inlet
 new_inlet rate = record { arrived = None; section = holding rate None; readings = replicate (n_of rate) start }
 
--- in place of what arrived since the last round
+-- a side on which this arrived, in place of what arrived since the last round
 abbrev pub inlet_told : Arrival → Inlet → Inlet
 inlet_told a i = record i { arrived = Some a }
 
 -- ---- what arrived
 
--- what a side makes of it: its defect, the word that it brings, the frame without scrambling, and the parities for the
--- next frame
+-- What a side makes of what arrived: its defect, the word that it brings, the frame without scrambling, and the
+-- parities for the next frame.
 pub record Reception : Type 0 where
   pub defect : Defect
   pub word : Option K
@@ -55,8 +55,8 @@ all_ones rate = replicate (size_of rate) 0xFF
 abbrev pub failure : Rate → Option Parities → Reception
 failure rate last = record { defect = defect.Sf; word = None; bytes = all_ones rate; last = last }
 
--- a framed frame: AIS of the multiplex section, whose low three bits of K2 are ones, is a failure; else the side is
--- degraded where B2 has at least `threshold` violations
+-- A framed frame. Where the low three bits of K2 are ones, it is AIS of the multiplex section, and the side fails.
+-- Otherwise the side is degraded where B2 has at least `threshold` violations.
 abbrev pub framed_reception : Rate → ℕ → List ℕ → Option Parities → ℕ → ℕ → ℕ → Reception
 framed_reception rate threshold clear last k1 k2 b2 =
     if k2 % 8 == 7 then failure rate last else
@@ -67,8 +67,8 @@ abbrev pub frame_reception : Rate → ℕ → List ℕ → Option Parities → R
 frame_reception rate threshold clear last Unframed = failure rate last
 frame_reception rate threshold clear last (Framed k1 k2 b1 b2) = framed_reception rate threshold clear last k1 k2 b2
 
--- A frame; darkness, which is a failure; or nothing was received: then the side has no defect, brings no word, and its
--- frame counts as ones. Where there is no frame the section forgets.
+-- What a side makes of what arrived: a frame, darkness, which is a failure, or nothing. Where nothing was received the
+-- side has no defect, brings no word, and its frame counts as ones. Where no frame arrived, the parities are forgotten.
 abbrev pub reception_of : Option Arrival → Rate → ℕ → Option Parities → Reception
 reception_of None rate threshold last = record { defect = defect.None; word = None; bytes = all_ones rate; last = None }
 reception_of (Some None) rate threshold last = failure rate None
@@ -89,10 +89,11 @@ pointer_word_at n bytes au = pointer_word (pointers_of n au bytes)
 abbrev pub readings_of : List Interpreter → List Reading
 readings_of interps = map (λ (i : Interpreter). i.reading) interps
 
--- what interpreters keep after they read a frame, and their actions
+-- what interpreters keep after they read a frame
 unfoldable pub after_frame : ℕ → List ℕ → List Reading → List Reading
 after_frame n bytes readings = map_from (λ k r. after_word r (pointer_word_at n bytes (k + 1))) 0 readings
 
+-- the actions of interpreters that read a frame
 unfoldable pub actions_in : ℕ → List ℕ → List Reading → List Action
 actions_in n bytes readings = map_from (λ k r. action_on r (pointer_word_at n bytes (k + 1))) 0 readings
 
@@ -104,15 +105,15 @@ pub record Intake : Type 0 where
   pub frame : Frame
   pub actions : List Action
 
--- before the first round
+-- what a side has taken in before the first round: every AU-4 counts as AIS
 abbrev pub new_intake : Rate → Intake
 new_intake rate = record { frame = record { rate = rate; bytes = replicate (size_of rate) 0 }; actions = replicate (n_of rate) action.Ais }
 
--- interpreters read where something was received; where nothing was, they keep what they kept, and every AU-4 counts as
--- AIS
+-- what interpreters keep: where something was received they read it, and else they keep what they kept
 abbrev pub readings_by : Bool → ℕ → List ℕ → List Reading → List Reading
 readings_by told n bytes readings = if told then after_frame n bytes readings else readings
 
+-- the actions of interpreters: where something was received they read it, and else every AU-4 counts as AIS
 abbrev pub actions_by : Bool → ℕ → List ℕ → List Reading → List Action
 actions_by told n bytes readings = if told then actions_in n bytes readings else replicate n action.Ais
 
@@ -120,14 +121,14 @@ actions_by told n bytes readings = if told then actions_in n bytes readings else
 abbrev pub found : ℕ → Inlet → Reception
 found threshold i = reception_of i.arrived i.section.rate threshold i.section.last
 
--- what it takes in
+-- what a side takes in
 unfoldable pub taken_in : ℕ → Inlet → Intake
 taken_in threshold i = record {
   frame = record { rate = i.section.rate; bytes = (found threshold i).bytes };
   actions = actions_by (is_some i.arrived) (n_of i.section.rate) (found threshold i).bytes i.readings;
 }
 
--- the side after it took what arrived
+-- a side after it took in what arrived
 unfoldable pub after_taking : ℕ → Inlet → Inlet
 after_taking threshold i = record {
   arrived = None;

@@ -1,4 +1,5 @@
--- One side of a node that sends: its pointer generators, and the section overhead of its frames (ITU-T G.707 clause 9.2).
+-- One side of a node that sends: its pointer generators, and the section overhead of its frames (ITU-T G.707 clause
+-- 9.2).
 use Rattle.std.specs.Prelude.{◌≡◌, ℕ, Option, Some, None, List, length, replicate}
 use Rattle.sdh_terms.specs.declared.Rate.{Rate}
 use Rattle.sdh_frame.specs.Sizes.{Frame, size_of}
@@ -35,14 +36,14 @@ filled input s = with_aus (n_of s.section.rate) 1 (aus_sent input s.generators) 
 unfoldable pub clear_frame_from : (ℕ → Input) → Sending → List ℕ
 clear_frame_from input s = clear_frame (n_of s.section.rate) s.section.last (first_byte s.word) (second_byte s.word) (filled input s)
 
--- the frame on the line
+-- the frame on the line, scrambled
 unfoldable pub line_frame_from : (ℕ → Input) → Sending → List ℕ
 line_frame_from input s = line_frame (n_of s.section.rate) s.section.last (first_byte s.word) (second_byte s.word) (filled input s)
 
 abbrev pub frame_from : (ℕ → Input) → Sending → Frame
 frame_from input s = record { rate = s.section.rate; bytes = line_frame_from input s }
 
--- the side after it
+-- the side after it sent a frame
 unfoldable pub after_sending : (ℕ → Input) → Sending → Sending
 after_sending input s = record s {
   section = holding s.section.rate (Some (parities_of (n_of s.section.rate) (clear_frame_from input s) (line_frame_from input s)));

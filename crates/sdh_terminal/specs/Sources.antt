@@ -8,11 +8,12 @@ use Rattle.sdh_ringmap.specs.declared.Side.{Side}
 use Rattle.sdh_ringmap.specs.declared.Side.TheVariants.{West, East}
 use Rattle.sdh_terminal.specs.Lines.{Lines}
 
--- the payload that a source stands for: first is the frame from the west, second that from the east, and own ones are those of ports
+-- The payload that a source stands for. The first frame is the one from the west, the second the one from the east, and
+-- the own payloads are those of ports.
 abbrev pub payload_by : Lines → List (List ℕ) → Source → List ℕ
 payload_by l own source = payload_from (n_of l.rate) l.west.intake.frame.bytes l.east.intake.frame.bytes own source
 
--- the bytes from a side
+-- the bytes from this side, of those from the west and those from the east
 abbrev pub bytes_on : Side → List ℕ → List ℕ → List ℕ
 bytes_on West west east = west
 bytes_on East west east = east

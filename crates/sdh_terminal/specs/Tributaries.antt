@@ -26,12 +26,12 @@ use Rattle.sdh_terminal.specs.Outlets.{delivered_from}
 
 pub record Tributary : Type 0 where
   pub port : PortId
-  -- the side on which its circuit leaves the node, and its working slot there
+  -- the side on which the port's circuit leaves the node, and the circuit's working slot
   pub side : Side
   pub slot : Slot
   -- the port's stream; bytes of it are taken in each round
   pub feed : Fed
-  -- what it delivered in the last round
+  -- what the port delivered in the last round
   pub outlet : Outlet
 
 -- ---- the ports at a node
@@ -46,7 +46,8 @@ new_tributary circuit end side slot customer = record {
   outlet = silent;
 }
 
--- the ports of circuit number i at a position: where its arc starts port A, on the east side, and where it ends port B, on the west side
+-- The ports of circuit number i at a position. Port A is where the circuit's arc starts, and the circuit leaves it on
+-- the east side. Port B is where the arc ends, and the circuit leaves it on the west side.
 abbrev pub tributaries_of : Pos → ℕ → Provisioned → List Tributary
 tributaries_of at i c =
     (if c.from.0 == at.0 then new_tributary i A East c.slot c.a ∷ [] else [])
@@ -60,7 +61,7 @@ tributaries_from at i (c ∷ cs) = tributaries_of at i c ++ tributaries_from at 
 unfoldable pub tributaries_at : Pos → List Provisioned → List Tributary
 tributaries_at at circuits = tributaries_from at 0 circuits
 
--- ---- a port among them
+-- ---- a port among those of a node
 
 abbrev pub is_port : PortId → Tributary → Bool
 is_port id t = same_port t.port id
@@ -69,15 +70,15 @@ is_port id t = same_port t.port id
 unfoldable pub port_of : PortId → List Tributary → Option Tributary
 port_of id ports = find (is_port id) ports
 
--- the port is at the node
+-- one of these ports has this name
 abbrev pub HasPort : List Tributary → PortId → Type 0
 HasPort ports id = IsSome (port_of id ports)
 
--- what it delivered
+-- what the port with this name delivered in the last round, and AIS where it isn't one of these
 abbrev pub outlet_of : PortId → List Tributary → Outlet
 outlet_of id ports = option_map_or (λ t. t.outlet) (port_of id ports) silent
 
--- how many slips wait at it
+-- the number of slips that wait at the port with this name, and 0 where it isn't one of these
 abbrev pub waiting_of : PortId → List Tributary → ℕ
 waiting_of id ports = option_map_or (λ t. waiting t.feed.clock) (port_of id ports) 0
 
@@ -87,31 +88,32 @@ waiting_of id ports = option_map_or (λ t. waiting t.feed.clock) (port_of id por
 abbrev pub slipped : Turn → ℕ → Tributary → Tributary
 slipped turn count t = record t { feed = record t.feed { clock = with_waiting turn count t.feed.clock } }
 
--- at the port with this name
+-- these ports, with `count` more pending slips at the port with this name
 unfoldable pub with_slips : PortId → Turn → ℕ → List Tributary → List Tributary
 with_slips id turn count [] = []
 with_slips id turn count (t ∷ ports) = if is_port id t then slipped turn count t ∷ ports else t ∷ with_slips id turn count ports
 
--- ---- what it sends
+-- ---- what a port sends
 
--- the payload of its AU-4 and its H3 bytes, what the pointer generator is asked for, and the pointer value after it
+-- What a port adds in a round: the payload of its AU-4 and the three H3 bytes, the action that its pointer generator is
+-- asked for, and the pointer value after that action.
 pub record AddedPayload : Type 0 where
   pub payload : List ℕ
   pub h3 : List ℕ
   pub action : Action
   pub value : ℕ
 
--- a port that sends fewer or more bytes justifies its pointer
+-- the action for a chunk of this form: a port that sends three bytes fewer or more justifies its pointer
 abbrev pub action_of : ChunkForm → Action
 action_of Plain = action.Normal
 action_of Short = action.Up
 action_of Long = action.Down
 
--- the bytes of its stream in the last round
+-- the bytes of its stream that a port sent in the last round
 abbrev pub last_sent : Fed → List ℕ
 last_sent feed = stream_from feed.port (last_from feed.clock) (taken_len feed.clock.form)
 
--- in the round that leaves its feed like this
+-- what a port adds in the round that leaves its feed like this
 unfoldable pub sent_by : Fed → AddedPayload
 sent_by feed = record {
   payload = laid_payload feed.clock.form (last_sent feed);
@@ -120,35 +122,37 @@ sent_by feed = record {
   value = feed.clock.value;
 }
 
--- in the round that finds its feed like this
+-- what a port adds in the round that finds its feed like this
 abbrev pub sent_in : Fed → AddedPayload
 sent_in feed = sent_by (next_feed feed)
 
--- what goes into its AU-4
+-- The input of a port's AU-4, by what the port adds. The pointer bytes before H3 are zeros here: the generator's word
+-- takes their place.
 abbrev pub input_by : AddedPayload → Input
 input_by a = record { action = a.action; value = a.value; au = record { pointers = 0 ∷ 0 ∷ 0 ∷ 0 ∷ 0 ∷ 0 ∷ a.h3; payload = a.payload } }
 
--- what the port of this name adds, of ports as a round finds them
+-- what the port with this name adds in a round that finds the ports like this, and AIS where it isn't one of these
 abbrev pub added_by : List Tributary → PortId → Input
 added_by ports id = option_map_or (λ t. input_by (sent_in t.feed)) (port_of id ports) no_input
 
--- what a port adds, as the round leaves it
+-- what a port adds in the round that leaves it like this
 abbrev pub own_input : Tributary → Input
 own_input t = input_by (sent_by t.feed)
 
+-- what the port with this name adds in the round that leaves the ports like this, and AIS where it isn't one of these
 abbrev pub added_last : List Tributary → PortId → Input
 added_last ports id = option_map_or own_input (port_of id ports) no_input
 
--- the port after a round
+-- a port that has sent in a round; what it delivered stays
 abbrev pub fed : Tributary → Tributary
 fed t = record t { feed = next_feed t.feed }
 
 unfoldable pub all_fed : List Tributary → List Tributary
 all_fed ports = map_from (λ i t. fed t) 0 ports
 
--- ---- what it delivers
+-- ---- what a port delivers
 
--- a port with what it delivers of what is dropped to it
+-- a port after it has delivered what is dropped to it
 abbrev pub delivered_with : (Tributary → Input) → Tributary → Tributary
 delivered_with dropped t = record t { outlet = delivered_from (dropped t) }
 

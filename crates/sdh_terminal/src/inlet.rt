@@ -22,8 +22,8 @@ use sdh_terms::Rate;
 use std::alloc::{AllocError, Global};
 use std::marker::Model;
 
-/// One side that receives: what arrived, the section and the interpreters. What landed counts only where a frame arrived since the
-/// last round.
+/// One side that receives: what arrived, the section and the interpreters. The frame in the inbox counts only where one
+/// arrived since the last round.
 #[derive(Debug, Drop)]
 pub struct Inlet {
     arrived: Option<Arrived>,
@@ -76,8 +76,8 @@ impl Inlet {
         }
     }
 
-    /// Keeps what arrived for the next round as `receive` does, and takes what landed in exchange for the buffer that was taken in
-    /// before, so that few buffers go round. Where no frame arrived, nothing is exchanged.
+    /// Keeps what arrived for the next round as `receive` does, but without a copy: the buffer in which the frame
+    /// landed is exchanged for the one that was taken in before. Where no frame arrived, nothing is exchanged.
     pub fn receive_landed(&mut self, arrived: Arrived, inbox: &mut Landed, intake: &mut Intake)
         requires rate { inbox.old.rate ≡ self.old.section.rate }
         requires here { arrived ≡ Arrived.Frame → inbox.old.landed ≢ None }
@@ -99,7 +99,7 @@ impl Inlet {
         }
     }
 
-    // Returns whether something was received, be it darkness.
+    // Returns whether something was received since the last round: a frame or darkness.
     fn is_told(&self) -> bool
         ensures { result ≡ is_some self.now.arrived }
     {
@@ -109,7 +109,8 @@ impl Inlet {
         }
     }
 
-    // Finds in what arrived the defect and the word that it brings.
+    // Takes the frame of what arrived into the intake. Returns the side's defect, and the word that what arrived
+    // brings.
     fn find(&mut self, threshold: u16, intake: &mut Intake) -> (Defect, Option<K>)
         requires { intake.old.frame.rate ≡ self.old.section.rate }
         ensures side { self.new ≡ record self.old {
@@ -141,8 +142,8 @@ impl Inlet {
         }
     }
 
-    // Lets all interpreters read the frame, where something was received; where nothing was they do not, and every AU-4
-    // counts as AIS. Returns whether they keep what they kept.
+    // Lets all interpreters read the frame where something was received. Otherwise none of them reads, and every AU-4
+    // counts as AIS. Returns whether the interpreters keep what they kept before.
     fn interpret(&mut self, told: bool, intake: &mut Intake) -> bool
         requires { intake.old.frame.rate ≡ self.old.section.rate }
         ensures side { self.new ≡ record self.old {
@@ -161,8 +162,8 @@ impl Inlet {
         }
     }
 
-    /// Takes what arrived, and the interpreters read. The defect and the word that it brings, and whether the interpreters keep what
-    /// they kept.
+    /// Takes what arrived, and lets the interpreters read. Returns the side's defect, the word that what arrived
+    /// brings, and whether the interpreters keep what they kept before.
     #[tactic(auto, unfolding(crate::specs::Receiving::taken_in, crate::specs::Receiving::after_taking))]
     pub fn take(&mut self, threshold: u16, intake: &mut Intake) -> (Defect, Option<K>, bool)
         requires { intake.old.frame.rate ≡ self.old.section.rate }
@@ -182,7 +183,7 @@ impl Inlet {
         (defect, word, same)
     }
 
-    /// Returns the value of the interpreter of an AU-4.
+    /// Returns the pointer value, 0 to 782, of the interpreter of AU-4 number `au`, 1 to N.
     pub fn value(&self, au: u16) -> u16
         requires first { 1 ≤ au }
         requires last { au ≤ n_of self.now.section.rate }
@@ -197,7 +198,7 @@ impl Inlet {
     pub fn readings_are_whole(&self)
         ensures { length self.now.readings ≡ n_of self.now.section.rate }
     {
-        // A field that is looked at opens the side, of whose fields the law is true.
+        // Looking at a field gives the prover the side's invariant, from which the law follows.
         let _ = &self.arrived;
     }
 }

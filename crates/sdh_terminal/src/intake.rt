@@ -67,7 +67,7 @@ impl Intake {
         &self.frame
     }
 
-    /// Returns the action of the interpreter of an AU-4.
+    /// Returns the action of the interpreter of AU-4 number `au`, 1 to N.
     pub fn action(&self, au: u16) -> Action
         requires first { 1 ≤ au }
         requires last { au ≤ n_of self.now.frame.rate }
@@ -76,7 +76,8 @@ impl Intake {
         self.actions[au as usize - 1]
     }
 
-    /// Gives the buffer of its frame, which has been read, in exchange for that of a frame that doesn't count any more.
+    /// Exchanges the buffer of the frame, which has been read, for the one in the inbox, whose frame doesn't count any
+    /// more.
     pub fn swap_frame(&mut self, inbox: &mut Landed)
         requires { inbox.old.rate ≡ self.old.frame.rate }
         ensures intake { self.new ≡ record self.old { frame = record { rate = self.old.frame.rate; bytes = inbox.old.buffer } } }
@@ -86,14 +87,15 @@ impl Intake {
         inbox.swap_frame(&mut self.frame);
     }
 
-    /// Makes the frame one of ones.
+    /// Fills the frame with ones.
     pub fn fill_ones(&mut self)
         ensures { self.new ≡ record self.old { frame = record { rate = self.old.frame.rate; bytes = all_ones self.old.frame.rate } } }
     {
         self.frame.fill(0xFF);
     }
 
-    /// Takes the frame that landed, in exchange for its own, and finds in it the defect and the word that it brings.
+    /// Takes the frame that landed, in exchange for the intake's own buffer. Returns the side's defect, and the word
+    /// that the frame brings. The side is degraded where B2 has at least `threshold` violations.
     pub fn find(
         &mut self,
         threshold: u16,
@@ -122,7 +124,7 @@ impl Intake {
         find_frame(threshold, received, &mut self.frame)
     }
 
-    /// Lets all interpreters read the frame. Returns whether they keep what they kept.
+    /// Lets all interpreters read the frame. Returns whether they keep what they kept before.
     pub fn read(&mut self, interps: &mut Vec<Interp>) -> bool
         requires { length interps.old.items ≡ n_of self.old.frame.rate }
         ensures intake { self.new ≡ record self.old {
@@ -144,8 +146,8 @@ impl Intake {
     }
 }
 
-// Returns what an opened frame is to a side by what it says, where B2 may have fewer violations than the threshold: the
-// defect, and the word heard. A frame that fails becomes ones.
+// Returns the side's defect and the word that an opened frame brings, by what its section overhead said. A frame by
+// which the side fails becomes ones. The side is degraded where B2 has at least `threshold` violations.
 fn find_frame(threshold: u16, received: Received, frame: &mut FrameBuf) -> (Defect, Option<K>)
     ensures frame { (last : Option Parities)
         → frame.new ≡ record frame.old { bytes = (frame_reception frame.old.rate threshold frame.old.bytes last received).bytes } }
@@ -174,7 +176,7 @@ fn find_frame(threshold: u16, received: Received, frame: &mut FrameBuf) -> (Defe
     }
 }
 
-// Returns the three bytes H3 of an AU-4.
+/// Returns the three bytes H3 of AU-4 number `au`, 1 to N.
 pub fn h3_at(frame: &FrameBuf, au: u16) -> [u8; 3]
     requires first { 1 ≤ au }
     requires last { au ≤ n_of frame.now.rate }
@@ -196,7 +198,7 @@ fn word_at(frame: &FrameBuf, au: u16) -> Word
     read_word(&[frame.pointer(au, 0), frame.pointer(au, 3)])
 }
 
-// Lets all interpreters read the frame. Returns whether they keep what they kept.
+// Lets all interpreters read the frame. Returns whether they keep what they kept before.
 fn read_all(frame: &FrameBuf, interps: &mut Vec<Interp>, actions: &mut Vec<Action>) -> bool
     requires few { n_of frame.now.rate ≤ 16 }
     requires interps { length interps.old.items ≡ n_of frame.now.rate }
@@ -215,7 +217,7 @@ fn read_all(frame: &FrameBuf, interps: &mut Vec<Interp>, actions: &mut Vec<Actio
     !any_moved(interps)
 }
 
-// Returns whether the last step of one of these moved it.
+// Returns whether one of these interpreters changed what it keeps in its last step.
 fn any_moved(interps: &[Interp]) -> bool
     ensures { result ≡ list_any (λ (i : Interpreter). i.moved) interps.now }
 {

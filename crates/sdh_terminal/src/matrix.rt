@@ -18,7 +18,8 @@ pub enum Feeder {
     Ais,
 }
 
-/// Both sides of a node in a round, and where what comes in on them leads. (A connection matrix, in the terms of ITU-T G.783.)
+/// Both sides of a node in a round, and where the AU-4s that they received lead. (A connection matrix, in the terms of
+/// ITU-T G.783.)
 pub trait Matrix {
     /// What both sides took in, and what their interpreters keep.
     ghost lines: { Self → Lines };
@@ -38,21 +39,21 @@ pub trait Matrix {
         ensures intake { result.now ≡ (line_on (lines self.now) side).intake }
         ensures rate { result.now.frame.rate ≡ (lines self.now).rate };
 
-    /// Returns the value of the interpreter of an AU-4.
+    /// Returns the pointer value, 0 to 782, of the interpreter on a side of AU-4 number `au`, 1 to N.
     fn value(&self, side: Side, au: u16) -> u16
         requires first { 1 ≤ au }
         requires last { au ≤ n_of (lines self.now).rate }
         ensures value { result ≡ (received (lines self.now) side au).value }
         ensures small { result ≤ 782 };
 
-    /// Returns what feeds an AU-4 that leaves on a side.
+    /// Returns what feeds AU-4 number `au`, 1 to N, that leaves on a side.
     fn leaving(&self, side: Side, au: u16) -> Feeder
         requires first { 1 ≤ au }
         requires last { au ≤ n_of (lines self.now).rate }
         ensures feeder { result ≡ leads self.now side au }
         ensures inside { IsFeeder (n_of (lines self.now).rate) result };
 
-    /// Returns what is dropped to a port.
+    /// Returns what is dropped to the port whose circuit leaves on a side in a working slot, 1 to N / 2.
     fn dropped(&self, side: Side, slot: Slot) -> Feeder
         requires first { 1 ≤ slot.0 }
         requires last { 2 * slot.0 ≤ n_of (lines self.now).rate }

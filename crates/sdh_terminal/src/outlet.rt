@@ -19,7 +19,7 @@ use sdh_ringmap::Side;
 use std::alloc::{AllocError, Global};
 use std::marker::Model;
 
-/// What a port delivers, and the value of the interpreter through which it came.
+/// What a port delivers, and the pointer value of the interpreter through which it came.
 #[derive(Debug, Drop)]
 pub struct Outlet {
     delivered: Delivered,
@@ -59,7 +59,7 @@ impl Outlet {
         &self.delivered
     }
 
-    /// Returns the value of the interpreter through which it came, 0 with AIS.
+    /// Returns the pointer value of the interpreter through which the chunk came, 0 to 782, and 0 with AIS.
     pub fn value(&self) -> u16
         ensures value { result ≡ self.now.value }
         ensures small { result ≤ 782 }
@@ -77,7 +77,8 @@ impl Outlet {
         self.value = 0;
     }
 
-    /// Delivers an AU-4 of a frame. Some payloads have been taken out of the frame.
+    /// Delivers the chunk that AU-4 number `au` of a frame carries, in this form and with this pointer value.
+    /// `payloads` has what was already taken out of the frame.
     pub fn deliver_au(
         &mut self,
         frame: &FrameBuf,
@@ -101,7 +102,8 @@ impl Outlet {
     }
 }
 
-// Returns the memory of a chunk, wherever it is. The outlet delivers AIS from then on.
+// Returns the memory of a chunk, be it that of the delivered chunk or the spare memory. The outlet delivers AIS from
+// then on.
 fn take_cells(delivered: &mut Delivered, spare: &mut Option<Cells>) -> Cells
     requires { HasRoom delivered.old spare.old }
     ensures { delivered.new ≡ Delivered.Ais }
@@ -180,7 +182,8 @@ fn deliver_received<X: Matrix>(
     }
 }
 
-/// Delivers what is dropped. Payloads may have been taken out of both frames.
+/// Delivers what this feeder drops. `west` and `east` have the payloads that were already taken out of the frames of
+/// both sides.
 #[tactic(auto, unfolding(crate::specs::Outlets::delivered_from))]
 pub fn deliver_dropped<X: Matrix>(
     cross: &X,

@@ -1,4 +1,4 @@
-//! What the AU-4s of a sent frame are.
+//! What the AU-4s of a sent frame are: where each payload comes from, and the pointer bytes.
 ghost use Rattle.std.specs.Prelude.{◌≡◌, ◌≢◌, ℕ, List, ◌+◌, ◌<◌, ◌≤◌, IfOk, length};
 ghost use Rattle.sdh_terms.specs.Rates.{n_of};
 ghost use Rattle.sdh_frame.specs.Aus.{au_of};
@@ -25,7 +25,7 @@ use sdh_ringmap::Side;
 use std::alloc::{AllocError, Global};
 use std::fmt;
 
-// Returns the nine pointer bytes with a word.
+// Returns the nine pointer bytes of an AU-4, with a pointer word and three H3 bytes.
 fn pointers_with(word: Word, h3: [u8; 3]) -> [u8; 9]
     ensures { result ≡ pointers_with word.0 h3 }
 {
@@ -34,7 +34,7 @@ fn pointers_with(word: Word, h3: [u8; 3]) -> [u8; 9]
     [h[0], 0x9B, 0x9B, h[1], 0xFF, 0xFF, h3[0], h3[1], h3[2]]
 }
 
-// Returns the three bytes H3 that go with a word of this form, where these came.
+// Returns the three H3 bytes to send with a word of this form: those that came at a negative justification, else zeros.
 fn h3_sent(form: Form, h3: [u8; 3]) -> [u8; 3]
     ensures { (pointers : List ℕ) → h3 ≡ h3_of pointers → result ≡ h3_sent form pointers }
 {
@@ -58,7 +58,7 @@ fn pointers_for(action: Action, form: Form, word: Word, frame: &FrameBuf, au: u1
     }
 }
 
-// Returns where the payload of an AU-4 comes from that a side received.
+// Returns the source of the payload of an AU-4 that a side received, for this action of its interpreter.
 fn source_for(action: Action, side: Side, au: u16) -> Source
     requires { 1 ≤ au }
     ensures source { (n to : ℕ) → au ≤ n → IsSource n to result }
@@ -87,7 +87,7 @@ fn send_ais(generator: &mut Gen) -> (Source, [u8; 9])
     (Source::Ones, [0xFF; 9])
 }
 
-// Returns an AU-4 that a side received.
+// Steps a generator with an AU-4 that a side received. Returns where the payload comes from, and the pointer bytes.
 #[tactic(auto, unfolding(crate::specs::Passing::au_sent, sdh_pointer::specs::Sending::after_action))]
 fn pass_on<X: Matrix>(cross: &X, side: Side, au: u16, generator: &mut Gen) -> (Source, [u8; 9])
     requires first { 1 ≤ au }
@@ -106,7 +106,8 @@ fn pass_on<X: Matrix>(cross: &X, side: Side, au: u16, generator: &mut Gen) -> (S
     (source_for(action, side, au), pointers)
 }
 
-// Returns what a port sends.
+// Steps a generator with what a port sends, and puts the port's payload at place `to` among the own payloads. Returns
+// where the payload comes from, and the pointer bytes.
 #[tactic(auto, unfolding(crate::specs::Passing::au_sent, sdh_pointer::specs::Sending::after_action))]
 fn send_own<'a>(
     port: &'a Tributary,
@@ -129,7 +130,8 @@ fn send_own<'a>(
     (Source::Own(to), pointers_with(generator.word(), h3))
 }
 
-// Returns what the port with this name sends, if it is there.
+// Steps a generator with what the port with this name sends, or with AIS where the port isn't at the node. Returns
+// where the payload comes from, and the pointer bytes.
 fn add<'a>(
     id: PortId,
     ports: &'a Tributaries,
@@ -152,8 +154,8 @@ fn add<'a>(
     }
 }
 
-// Returns what one AU-4 is: where its payload comes from, and its pointer bytes. A port's payload goes to the place of
-// the AU-4 among the own ones.
+// Steps the generator of AU-4 number `to` with what feeds it. Returns where the payload comes from, and the pointer
+// bytes. A port's payload is put at place `to` among the own payloads.
 fn send_one<'a, X: Matrix>(
     cross: &X,
     ports: &'a Tributaries,
@@ -180,15 +182,15 @@ fn send_one<'a, X: Matrix>(
     }
 }
 
-// Returns whether the last step of one of these moved it.
+// Returns whether one of these generators changed its state in its last step.
 fn any_moved(generators: &[Gen]) -> bool
     ensures { result ≡ list_any (λ (g : Generator). g.moved) generators.now }
 {
     generators.iter().any(|generator| generator.moved())
 }
 
-// Steps all generators of a side, and sets what the AU-4s are. Returns whether they are in the states in which they
-// were.
+// Steps all generators of a side, and sets the sources and the pointer bytes of the AU-4s that leave there. Returns
+// whether all generators are in the states in which they were.
 fn plan_all<'a, X: Matrix>(
     cross: &X,
     ports: &'a Tributaries,
@@ -223,7 +225,8 @@ fn plan_all<'a, X: Matrix>(
     !any_moved(generators)
 }
 
-/// What the AU-4s of a frame are before it is put together: where the payload of each comes from, and its pointer bytes.
+/// What the AU-4s of a frame are before it is put together: where the payload of each comes from, and its pointer
+/// bytes.
 #[derive(Drop)]
 pub struct Assembly {
     pub sources: Vec<Source>,
@@ -237,7 +240,7 @@ impl fmt::Debug for Assembly {
 }
 
 impl Assembly {
-    /// Returns room for `count` AU-4s. All its memory is taken here.
+    /// Returns room for `n` AU-4s, at most 16. All its memory is taken here.
     pub fn try_new(alloc: Global, n: usize) -> Result<Assembly, AllocError>
         requires { n ≤ 16 }
         ensures sources { IfOk result (λ a. length a.sources.items ≡ n) }
@@ -249,8 +252,8 @@ impl Assembly {
         })
     }
 
-    /// Steps all generators of a side, and sets what the AU-4s of its next frame are. Returns whether they are in the
-    /// states in which they were.
+    /// Steps all generators of a side, and sets what the AU-4s of its next frame are. Returns whether the generators
+    /// are in the states in which they were.
     pub fn plan<'a, X: Matrix>(
         &mut self,
         cross: &X,

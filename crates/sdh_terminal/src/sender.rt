@@ -68,7 +68,7 @@ impl Sender {
         })
     }
 
-    /// Takes the word of the next frame. Whether it is the word before.
+    /// Sets the word of the next frame. Returns whether it is the same as the word before.
     pub fn say(&mut self, word: K) -> bool
         requires { IsSpellable word }
         ensures sender { self.new ≡ with_word word self.old }
@@ -79,7 +79,7 @@ impl Sender {
         same
     }
 
-    /// Returns the word of the last frame.
+    /// Returns the word that was set last: that of the last frame, until `say` sets the next one.
     pub fn word(&self) -> K
         ensures word { result ≡ self.now.word }
         ensures spellable { IsSpellable result }
@@ -88,7 +88,8 @@ impl Sender {
     }
 }
 
-// What one side's next frame is made of: the AU-4s' sources and pointer bytes, the payloads of its ports, and the K bytes.
+// What one side's next frame is made of: the AU-4s' sources and pointer bytes, the payloads of its ports, and the K
+// bytes.
 #[derive(Drop)]
 struct Content<'a, 'b> {
     choice: Choice<'a>,

@@ -62,7 +62,7 @@ fn port_numbered(number: usize) -> PortId
     }
 }
 
-// Returns the places of `count` ports of a ring's circuits.
+// Returns for each of the first `count` ports of a ring's circuits its place among `ports`.
 fn places_in(
     alloc: Global,
     ports: &[Tributary],
@@ -121,7 +121,7 @@ impl Tributaries {
         }
     }
 
-    /// Returns what a port delivers.
+    /// Returns what a port delivered in the last round.
     pub fn outlet(&self, id: PortId) -> &Outlet
         requires { HasPort self.now id }
         ensures { result.now ≡ outlet_of id self.now }
@@ -132,7 +132,7 @@ impl Tributaries {
         port.outlet()
     }
 
-    /// Returns how many slips wait at a port.
+    /// Returns the number of slips that wait at a port, 0 to 16.
     pub fn waiting(&self, id: PortId) -> u8
         requires { HasPort self.now id }
         ensures waiting { result ≡ waiting_of id self.now }
@@ -144,7 +144,7 @@ impl Tributaries {
         port.waiting()
     }
 
-    /// Adds `count` pending slips at a port.
+    /// Adds `count` pending slips at a port. At most 16 may wait.
     #[tactic(auto, using(crate::proofs::Slips::slips_stay, crate::proofs::Slips::slips_placed, crate::proofs::Slips::waiting_here, crate::proofs::Ports::place_within))]
     pub fn slip(&mut self, id: PortId, turn: Turn, count: u8)
         requires there { HasPort self.old id }

@@ -43,8 +43,8 @@ impl Model for Tributary {
     ghost invariant = { λ t. IsFed t.feed t.payload t.h3 };
 }
 
-// Returns the bytes of a port's first round, in which no slip is used up. What a port sends is defined for each of its
-// states, and so for the one before that round too.
+// Returns the bytes of a port's first round, in which no slip is used up. A new port keeps them as those that it sent
+// last, since what it sent last is defined for a port that has sent nothing, too.
 fn first_payload(alloc: Global, port: &Port) -> Result<Cells, AllocError>
     ensures bytes { IfOk result (λ cells. cells ≡ stream_from port.now 0 2349) }
     ensures full { IfOk result (λ cells. length cells ≡ 2349) }
@@ -78,14 +78,14 @@ impl Tributary {
         })
     }
 
-    // Returns whether it is this port.
+    // Returns whether the port has this name.
     fn is(&self, id: PortId) -> bool
         ensures { result ≡ is_port id self.now }
     {
         self.port.circuit == id.circuit && same_end(self.port.end, id.end)
     }
 
-    /// Takes the next bytes of its stream.
+    /// Takes the next bytes of the port's stream.
     pub fn feed(&mut self)
         requires { self.old.feed.clock.rounds < 2 ^ 32 }
         ensures { self.new ≡ fed self.old }
@@ -94,7 +94,7 @@ impl Tributary {
         self.h3 = lay_chunk_in_place(form, &mut self.payload);
     }
 
-    /// Adds `count` pending slips of its customer's clock.
+    /// Adds `count` pending slips to the clock of the port's customer. At most 16 may wait.
     pub fn slip(&mut self, turn: Turn, count: u8)
         requires { waiting self.old.feed.clock + count ≤ 16 }
         ensures { self.new ≡ slipped turn count self.old }
@@ -102,7 +102,7 @@ impl Tributary {
         self.feed.wait(turn, count);
     }
 
-    /// Returns how many slips wait.
+    /// Returns the number of slips that wait, 0 to 16.
     pub fn waiting(&self) -> u8
         ensures waiting { result ≡ waiting self.now.feed.clock }
         ensures few { result ≤ 16 }
@@ -110,7 +110,7 @@ impl Tributary {
         self.feed.waiting()
     }
 
-    /// Returns what its pointer generator is asked for in the round.
+    /// Returns the action that the port asks of its pointer generator in the round.
     #[tactic(auto, unfolding(crate::specs::Tributaries::sent_by))]
     pub fn action(&self) -> Action
         ensures { result ≡ (sent_by self.now.feed).action }
@@ -118,7 +118,7 @@ impl Tributary {
         action_of(self.feed.form())
     }
 
-    /// Returns the pointer value after it.
+    /// Returns the pointer value after the action of the round, 0 to 782.
     #[tactic(auto, unfolding(crate::specs::Tributaries::sent_by))]
     pub fn value(&self) -> u16
         ensures value { result ≡ (sent_by self.now.feed).value }
@@ -127,7 +127,7 @@ impl Tributary {
         self.feed.value()
     }
 
-    /// Returns the payload of its AU-4.
+    /// Returns the payload of the port's AU-4, 2349 bytes.
     pub fn payload(&self) -> &[u8]
         ensures bytes { result.now ≡ (sent_by self.now.feed).payload }
         ensures full { length result.now ≡ 2349 }
@@ -135,21 +135,22 @@ impl Tributary {
         self.payload.as_slice()
     }
 
-    /// Returns the three H3 bytes of its AU-4.
+    /// Returns the three H3 bytes of the port's AU-4.
     pub fn h3(&self) -> [u8; 3]
         ensures { result ≡ (sent_by self.now.feed).h3 }
     {
         self.h3
     }
 
-    /// Returns what it delivers.
+    /// Returns what the port delivered in the last round.
     pub fn outlet(&self) -> &Outlet
         ensures { result.now ≡ self.now.outlet }
     {
         &self.outlet
     }
 
-    /// Delivers what is dropped to it. Payloads may have been taken out of both frames.
+    /// Delivers what is dropped to the port. `west` and `east` have the payloads that were already taken out of the
+    /// frames of both sides.
     pub fn deliver<X: Matrix>(&mut self, cross: &X, west: &mut Taken, east: &mut Taken)
         requires first { 1 ≤ self.old.slot.0 }
         requires last { 2 * self.old.slot.0 ≤ n_of (X.lines cross.now).rate }
@@ -175,7 +176,7 @@ fn action_of(form: ChunkForm) -> Action
     }
 }
 
-/// Returns the place of a port among those of a node.
+/// Returns the place of a port among those of a node, or `None` where it isn't one of them.
 pub fn place_of(ports: &[Tributary], id: PortId) -> Option<usize>
     ensures place { result ≡ position (is_port id) ports.now }
     ensures within { IfSome result (λ i. i < length ports.now) }

@@ -1,4 +1,4 @@
-//! The call over objects in memory.
+//! A call of `sdhring` over a source and a sink in memory.
 ghost use Rattle.std.specs.Prelude.{◌<◌};
 ghost use Rattle.sdh_plant.specs.Fibres.{HasNoFibres};
 
@@ -7,8 +7,8 @@ use sdh_outside::{MemSink, MemSource};
 use sdh_plant::Plant;
 use std::alloc::{AllocError, Global};
 
-/// The number of bytes that a source and a sink give and take at a time, and the numbers of the read and the write that
-/// fail, 0 for none.
+/// How a source and a sink behave: how many bytes they give and take at a time, and the numbers of the read and of the
+/// write that fail, counted from 1, or 0 where none fails.
 #[derive(Clone, Copy)]
 pub struct Failing {
     pub piece: usize,
@@ -34,7 +34,8 @@ fn listed(alloc: Global, words: &[&str]) -> Result<Vec<String>, AllocError> {
     Ok(list)
 }
 
-// Returns the words of a command by its number: `run`, `check`, `drop c1 a`, and no words.
+// Returns the words of a command by its number: `run` for 0, `check` for 1, `drop c1 a` for 2, and no words for any
+// other.
 fn words_of(alloc: Global, command: u8) -> Result<Vec<String>, AllocError> {
     match command {
         0 => listed(alloc, &["run"]),
@@ -44,7 +45,8 @@ fn words_of(alloc: Global, command: u8) -> Result<Vec<String>, AllocError> {
     }
 }
 
-/// Returns the status, and the sink with what was written.
+/// Calls `sdhring` with the words of a command, over a document, a sink with room for `room` bytes and a plant. Returns
+/// the status, and the sink with what was written.
 pub fn call_over<P: Plant>(
     alloc: Global,
     command: u8,

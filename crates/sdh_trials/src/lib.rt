@@ -1,6 +1,6 @@
-//! The program's call over objects in memory, for the drivers in `bench/trials`: one call of source, sink or fibres
-//! fails at any place, or any bytes arrive. No other crate uses this one. Its functions say nothing of their own: the
-//! call's contract says what comes of it, and the drivers compare it.
+//! Calls of `sdhring` over objects in memory, for the drivers in `bench/trials`: one call of source, sink or fibres
+//! fails at any place, or any bytes arrive. No other crate uses this one. Its functions have no clauses of their own:
+//! the call's contract says what comes of it, and the drivers compare it.
 #![tactic(auto)]
 
 mod call;
@@ -17,7 +17,7 @@ use sdh_plant::{FailingPlant, PlantCall};
 use sdh_terms::Rate;
 use std::alloc::Global;
 
-// What is answered where there was no memory for the objects themselves.
+// The number that is returned where memory ran out for the objects themselves, so that the program wasn't called.
 const NOT_CALLED: u8 = 255;
 
 fn kind_of(kind: u8) -> PlantCall {
@@ -29,22 +29,23 @@ fn kind_of(kind: u8) -> PlantCall {
     }
 }
 
-// Copies as much as there is room for.
+// Copies as many bytes as there is room for.
 fn copy_front(from: &[u8], to: &mut [u8]) {
     let count = from.len().min(to.len());
     to[..count].copy_from_slice(&from[..count]);
 }
 
-// Copies the front of what was written, and returns how much was.
+// Copies the front of what was written, and returns the number of bytes that were written.
 fn show(sink: &MemSink, text: &mut [u8]) -> u64 {
     copy_front(sink.bytes(), text);
     sink.bytes().len() as u64
 }
 
-/// Runs a command over a document, in pieces of a length. The read and the write of these numbers fail, and the plant's
-/// call of this kind and number, each counted from 1, and none at 0. Returns the status's number, or 255 where nothing
-/// was called because memory ran out, and shows how many bytes were written and how many calls of `prepare`, `apply`,
-/// `send` and `receive` there were.
+/// Runs a command over a document, which the source gives `piece` bytes at a time. Three calls fail: the read and the
+/// write of these numbers, and the plant's call of this kind and number. They are counted from 1, and none fails at 0.
+/// Returns the number of the status, or 255 where memory ran out before the program was called. `text` gets the front
+/// of what was written. `told` gets the number of bytes written, and the numbers of calls of `prepare`, `apply`, `send`
+/// and `receive`.
 #[unsafe(no_mangle)]
 pub extern "C" fn sdh_trials_call(
     alloc: Global,
@@ -77,8 +78,10 @@ pub extern "C" fn sdh_trials_call(
     status.number()
 }
 
-/// Runs a plan over told arrivals. Each is a byte, 0 where nothing comes, and the bytes of a frame. Returns how many
-/// bytes were written and how many bytes of frames were sent; `sent` gets the front of all frames, one after the other.
+/// Runs a plan over told arrivals. Each arrival is a byte, 0 where nothing comes, and the bytes of a frame. Returns the
+/// number of the status, or 255 where memory ran out before the program was called. `text` gets the front of what was
+/// written, and `sent` the front of all frames sent, one after the other. `told` gets the number of bytes written, and
+/// the number of bytes of frames sent.
 #[unsafe(no_mangle)]
 pub extern "C" fn sdh_trials_told(
     alloc: Global,

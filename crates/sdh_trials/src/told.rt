@@ -1,4 +1,4 @@
-//! Arrivals out of bytes.
+//! Told arrivals, made from bytes.
 ghost use Rattle.std.specs.Prelude.{◌≡◌, ◌+◌, ◌*◌, All, IfOk, length};
 ghost use Rattle.sdh_terms.specs.Rates.{n_of};
 ghost use Rattle.sdh_plant.specs.Kept.{IsToldAt};
@@ -8,7 +8,7 @@ use sdh_plant::Told;
 use sdh_terms::Rate;
 use std::alloc::{AllocError, Global};
 
-// Returns an arrival: of a byte that is 0 where nothing comes, and the bytes of a frame.
+// Returns an arrival from its bytes: a byte that is 0 where nothing comes, and then the bytes of a frame.
 fn arrival_of(alloc: Global, rate: Rate, bytes: &[u8]) -> Result<Told, AllocError>
     requires { length bytes.now ≡ 1 + 2430 * n_of rate }
     ensures { IfOk result (λ told. IsToldAt rate told) }
@@ -21,7 +21,7 @@ fn arrival_of(alloc: Global, rate: Rate, bytes: &[u8]) -> Result<Told, AllocErro
     Ok(Told::Frame(frame))
 }
 
-/// Returns the arrivals of these bytes.
+/// Returns the arrivals of these bytes, one after the other.
 pub fn arrivals_of(alloc: Global, rate: Rate, bytes: &[u8]) -> Result<Vec<Told>, AllocError>
     ensures { IfOk result (λ told. All (IsToldAt rate) told.items) }
 {

@@ -1,4 +1,4 @@
-//! Fibres with told arrivals, and with the bytes of all frames sent.
+//! Fibres with told arrivals that also keep the bytes of all frames sent.
 ghost use Rattle.std.specs.Prelude.{◌≡◌, ◌≢◌, ◌≤◌, ◌<◌, true, false, None, Ok, OnOk, OnErr, IfOk, IsErrOf, All, map};
 ghost use Rattle.std.proofs.lemmas.Bool.{false≢true};
 ghost use Rattle.sdh_basics.specs.Causes.{Rose, IsCounted, HasCause};
@@ -32,7 +32,7 @@ impl Model for Watched {
 }
 
 impl Watched {
-    /// Returns a plant without fibres that will give these arrivals.
+    /// Returns a plant without fibres, which will give these arrivals.
     pub fn new(alloc: Global, rate: Rate, arrivals: Vec<Told>) -> Watched
         requires { All (IsToldAt rate) arrivals.items }
         ensures { result ≡ record { fibres = clear_fibres rate 0; told = map arrival_of arrivals.items } }
@@ -43,7 +43,7 @@ impl Watched {
         }
     }
 
-    /// Returns the frames that were sent, one after the other.
+    /// Returns the bytes of the frames that were sent, one after the other.
     pub fn sent(&self) -> &[u8] {
         &self.sent
     }

@@ -13,7 +13,7 @@ use Rattle.sdh_watch.specs.Shows.{Watched}
 use Rattle.sdh_watch.specs.Lines.{text_of}
 use Rattle.sdh_watch.specs.Plans.{IsRunOf, ran_of, MaySettle}
 
--- what the words ask for: one thing, with the word `run`
+-- what the words ask for: one thing, with the word `run` alone
 abbrev pub asked : List (List ℕ) → Option (Unit {0})
 asked = asked_to_run
 
@@ -30,11 +30,11 @@ watching = record {
   MaySettle = MaySettle;
 }
 
--- the number is that of a status for which this is so
+-- the number is that of a status for which `Is` holds
 abbrev pub IsNumberOf : ℕ → (Status → Type 0) → Type 0
 IsNumberOf number Is = (how : Status) × (number ≡ number_of how) × Is how
 
--- the program ends as the script does where the arrivals are known: unsettled at exactly the step in which no quiet
--- window comes within the limit; or a plant's call failed
+-- Where the arrivals are known, the program ends as the script does: unsettled at exactly the step in which no quiet
+-- window comes within the limit. Or a call of the plant failed.
 abbrev pub EndsAsItRuns : List ℕ → Fibres → Status → Type 0
 EndsAsItRuns bytes f how = EndsAs (λ plan. Knows (world_of plan f).fibres) (λ plan. (ran_of plan f).ending) bytes how

@@ -1,4 +1,5 @@
--- What the watches of a script are to show, in customers' bytes and by the script alone. No frame occurs in it.
+-- What the watches of a script should show, in customers' bytes and by the script alone. No frame occurs in these
+-- definitions.
 use Rattle.std.specs.Prelude.{ℕ, ◌≡◌, ◌⊎◌, ◌+◌, ◌-◌, List, [], ◌∷◌, ◌++◌, map}
 use Rattle.sdh_circuits.specs.declared.End.{End}
 use Rattle.sdh_payload.specs.Outlet.{Outlet}
@@ -19,10 +20,10 @@ clean_watch name end o = record { name = name; end = end; shows = shown o.delive
 abbrev pub owed_watch : PortLine → WatchLine
 owed_watch p = clean_watch p.name p.end p.outlet
 
--- What is reported of each settle step is what is owed in the last of its 128 rounds, under the requests of the history
--- and by what happened at the ports. `earlier` had happened before, a number of settle steps had ended, and these are
--- the changes before each step to come. The settle step itself ends as one does without watches. A settle step without
--- a report is where the script ended, unsettled or by a fault.
+-- What is reported of each settle step is what is owed in the last of the 128 rounds after it, under the requests of
+-- the history and by what happened at the ports. `earlier` had happened before, `before` settle steps had ended, and
+-- these are the changes before each step to come. The settle step itself ends as one without watches does. A settle
+-- step without a report is where the script ended, unsettled or by a fault.
 abbrev pub AreClean : Ring → ℕ → List Stretch → ℕ → List (List Change) → List Watched → Status → Type 0
 AreClean ring limit earlier before [] reports end = (reports ≡ []) × ((end ≡ status.Ok) ⊎ (end ≡ status.PlantFault))
 AreClean ring limit earlier before (changes ∷ later) [] end = (end ≡ status.Unsettled (before + 1)) ⊎ (end ≡ status.PlantFault)

@@ -1,4 +1,4 @@
--- What comes of a plan with watches, over fibres that aren't there yet.
+-- What a plan with watches comes to, over fibres that aren't made yet.
 use Rattle.std.specs.Prelude.{ℕ, List, []}
 use Rattle.sdh_plant.specs.Fibres.{Fibres}
 use Rattle.sdh_node.specs.Node.{Node}
@@ -21,7 +21,7 @@ ShowsClean plan reports end = AreClean (ring_of plan) plan.limit [] 0 (scenes []
 abbrev pub watch_account : Account Node Watched
 watch_account = record { walk = watch_walk; new_ring = new_ring_of }
 
--- the lines of a plan owe that over honest fibres each watch shows what its port is owed
+-- what the lines of a plan owe over honest fibres: each watch shows what its port is owed
 abbrev pub Owes : ReportsOwe Watched
 Owes plan f reports end left = ShowsClean plan reports end
 
@@ -29,15 +29,15 @@ Owes plan f reports end left = ShowsClean plan reports end
 abbrev pub ran_of : Planned → Fibres → Ran
 ran_of = plans.ran_of watch_account
 
--- where the arrivals are known each settle step has a quiet window within the limit; or the fibres are honest and the
--- limit is large
+-- A script that settles. Where the arrivals are known each settle step has a quiet window within the limit; or the
+-- fibres are honest and the limit is large.
 abbrev pub MaySettle : Planned → Fibres → Type 0
 MaySettle = plans.MaySettle watch_account
 
--- what is so of one list of settle steps: over every plant, where the arrivals are known, and over honest fibres
+-- what holds of one list of reports: over every plant, where the arrivals are known, and over honest fibres
 abbrev pub IsRunOf : Planned → Fibres → List Watched → Status → Fibres → Type 0
 IsRunOf = plans.IsRunOf watch_account Owes
 
--- the text is that of the lines of a run
+-- the text is that of the reports of a run
 abbrev pub Tells : Planned → Fibres → List ℕ → Status → Fibres → Type 0
 Tells = plans.Tells watch_account Owes watched_text

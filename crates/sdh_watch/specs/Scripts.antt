@@ -1,5 +1,5 @@
--- What comes of a script with watches: after a settle step that ends 128 more rounds are run, in which a new watch looks at
--- each port.
+-- What a script with watches comes to. After each settle step that ended with a window, 128 more rounds are run, in
+-- which a new watch looks at each port.
 use Rattle.std.specs.Prelude.{ℕ, List}
 use Rattle.sdh_node.specs.Node.{Node}
 use Rattle.sdh_node.specs.Stations.{adm}
@@ -21,8 +21,8 @@ watch_walk = record {
   last = λ (r : Watched). r.round;
 }
 
--- what the steps come to from a world, after a number of settle steps that have ended, with a limit of rounds a settle
--- step: this is reported, they end so, and leave that world
+-- A script with watches from a world on, where each settle step may run at most this number of rounds, and this number
+-- of settle steps have ended before. The steps give these reports, end so, and leave that world.
 abbrev pub Watches : ℕ → ℕ → List Step → World → List Watched → Status → World → Type 0
 Watches = scripts.Runs watch_walk
 

@@ -5,7 +5,7 @@ use Rattle.sdh_payload.specs.declared.delivered.Delivered.{Delivered}
 use Rattle.sdh_payload.specs.declared.delivered.Delivered.TheVariants.{Ais, Chunk}
 use Rattle.sdh_path.specs.declared.watch.PathReport.{PathReport}
 
--- what a watch with this report shows, by what its port delivered last: nothing with AIS
+-- what a watch with this report shows, by what its port delivered last: nothing where that is AIS
 abbrev pub shown : Delivered → PathReport → Option PathReport
 shown Ais r = None
 shown (Chunk bytes) r = Some r

@@ -48,10 +48,10 @@ pub record BreaksAmong (k : ℕ) (w : World) (left : Fibres) : Type 0 where
   pub rounds : Lead ran w last heard
   pub off : IsBrokenOff last left
 
--- ---- what is reported of them
+-- ---- what is reported of the watches
 
--- the watch on the port at an end of the circuit of this number, where this was given to each watch: the trace is to be
--- that of the circuit's other port
+-- What the watch on the port at an end of circuit number `index` shows, where `heard` is what was given to each watch.
+-- The trace should be that of the circuit's other port.
 abbrev pub port_watched : HeldRing → (PortId → List Given) → ℕ → Provisioned → End → WatchLine
 port_watched r heard index c e = (let port : PortId = record { circuit = index; end = e } in
     record {
@@ -61,11 +61,12 @@ port_watched r heard index c e = (let port : PortId = record { circuit = index; 
           (path_report_of (customer_at c (other_end e)).trace (heard port));
     })
 
--- the watches on the ports of these circuits, which are counted from `index`
+-- what the watches on the ports of these circuits show, which are counted from `index`
 abbrev pub ports_watched : HeldRing → (PortId → List Given) → ℕ → List Provisioned → List WatchLine
 ports_watched r heard = of_ports (port_watched r heard)
 
--- what is reported of settle step `number`, which ended with the first of these rings, and the rounds to the second
+-- what is reported of settle step `number`, which left the first of these rings, and of the rounds from there to the
+-- second
 abbrev pub watched : ℕ → HeldRing → HeldRing → (PortId → List Given) → Watched
 watched number mid left heard = record {
   number = number;
@@ -73,6 +74,6 @@ watched number mid left heard = record {
   watches = ports_watched left heard 0 left.circuits.circuits;
 }
 
--- what is reported of settle step `number`, which ended with the k-th round of a course, and the 128 rounds after it
+-- what is reported of settle step `number`, which ended with the k-th round of a course, and of the 128 rounds after it
 abbrev pub watched_in : ℕ → (ℕ → World) → ℕ → Watched
 watched_in number at k = watched number (at k).ring (at (k + 128)).ring (heard_in 128 (λ j. at (k + j)))

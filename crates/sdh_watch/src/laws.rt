@@ -1,5 +1,5 @@
-//! Watches on the ports of a ring that runs a script, over definitions alone: `specs/Watching.antt` says what rounds
-//! show to them, `specs/Scripts.antt` what comes of a script, `specs/Owed.antt` what its watches are to show, and
+//! Watches on the ports of a ring that runs a script, over definitions alone. `specs/Watching.antt` says what rounds
+//! show to them, and `specs/Scripts.antt` what a script comes to. `specs/Owed.antt` says what its watches should show.
 //! `specs/Laws.antt` has the laws. Each function here has a law as its contract and no work to do.
 ghost use Rattle.sdh_watch.specs.Laws.{WatchesAreClean, ScriptsSettle};
 

@@ -9,7 +9,7 @@ use sdh_path::{PathReport, TraceWord};
 use sdh_payload::Delivered;
 use sdh_report::Text;
 
-// Returns what is said of a trace.
+// Returns the word of a line for a trace.
 fn letters(word: TraceWord) -> &'static [u8]
     ensures { result.now ≡ trace_word_text word }
 {
@@ -20,7 +20,7 @@ fn letters(word: TraceWord) -> &'static [u8]
     }
 }
 
-// Appends the port that is watched.
+// Appends the start of the line of a watch: the word `watch`, and the name and end of the port that it is on.
 fn put_named(text: &mut Text, name: &Name, end: End)
     requires { length (watch_named name.now end) ≤ text.old.room }
     ensures { text.new ≡ with_part text.old (watch_named name.now end) }
@@ -31,7 +31,7 @@ fn put_named(text: &mut Text, name: &Name, end: End)
     text.put_end(end);
 }
 
-// Appends how many VC-4s there were, and in how many bits their B3 differ.
+// Appends the number of VC-4s, and the number of bits in which their bytes B3 differ from the parities.
 fn put_counts(text: &mut Text, report: &PathReport)
     requires { length (path_counts_text report.now) ≤ text.old.room }
     ensures { text.new ≡ with_part text.old (path_counts_text report.now) }
@@ -42,7 +42,7 @@ fn put_counts(text: &mut Text, report: &PathReport)
     text.put_number(u64::from(report.b3));
 }
 
-// Appends what is reported of the port.
+// Appends the rest of the line of a watch on a port that delivers bytes.
 fn put_report(text: &mut Text, report: &PathReport)
     requires { length (path_report_text report.now) ≤ text.old.room }
     ensures { text.new ≡ with_part text.old (path_report_text report.now) }

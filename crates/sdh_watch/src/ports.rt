@@ -138,7 +138,8 @@ fn look_all(ring: &Ring, watches: &mut Vec<WatchPair>)
     }
 }
 
-/// Lets the watches begin anew and look at what the ports deliver in the next rounds. Takes no memory.
+/// Lets the watches begin anew, and runs 128 rounds, after each of which they are given what the ports delivered. Takes
+/// no memory.
 pub fn watch_rounds<P: Plant>(
     ring: &mut Ring,
     plant: &mut P,

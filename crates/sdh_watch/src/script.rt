@@ -1,4 +1,4 @@
-//! A ring that a script is run over with watches.
+//! A ring with watches on its ports, over which a script is run.
 ghost use Rattle.std.specs.Prelude.{◌≡◌, ◌+◌, ◌≤◌, ◌++◌, List, length};
 ghost use Rattle.sdh_circuits.specs.declared.PortId.{PortId};
 ghost use Rattle.sdh_node.specs.Node.{Node as AddDrop};
@@ -26,7 +26,8 @@ pub struct WatchRun {
     pub watches: Vec<WatchPair>,
 }
 
-// Appends the line of a settle step that left a ring after `rounds` rounds, and those of its watches.
+// Appends the line of settle step `number`, which ended after `rounds` rounds of the ring, and the lines of its
+// watches.
 fn put_step(text: &mut Text, ring: &Ring, number: u32, rounds: u64, watches: &Vec<WatchPair>)
     requires ran { 1 ≤ rounds }
     requires many { length watches.now.items ≡ length ring.now.circuits.circuits }

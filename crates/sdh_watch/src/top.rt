@@ -19,9 +19,9 @@ use sdh_scripts::call;
 use std::alloc::Global;
 
 /// Does all that the program does, and returns the number with which it ends. With the word `run` it reads a plan from
-/// the source and runs its ring over the plant; after each settle step that ends, a new watch looks at what each port
-/// delivers in 128 more rounds, and the lines of all watches are written after that of the step. The last line says how
-/// it ended. All is written once, at the end.
+/// the source and runs its ring over the plant. After each settle step that ends with a window, a new watch looks at
+/// what each port delivers in 128 more rounds. The lines of all watches come after the line of the step. The last line
+/// says how the run ended. The text is written once, at the end.
 pub fn sdhwatch<R: Source, W: Sink, P: Plant>(
     alloc: Global,
     words: &[String],
@@ -31,8 +31,8 @@ pub fn sdhwatch<R: Source, W: Sink, P: Plant>(
 ) -> u8
     requires fresh { HasNoFibres (P.fibres plant.old) }
 
-    // The number and the text that is written, for a source that shows its bytes, where it is read, and a sink that
-    // shows what was written.
+    // The number and the text that is written. It is said where the bytes of a source that is read are known, and where
+    // the sink shows what was written.
     ensures outcome { let ask = asked (words_of words.now) in
         let reads : Counts = record { before = R.faults source.old; after = R.faults source.new } in
         let calls : Counts = record { before = P.faults plant.old; after = P.faults plant.new } in
@@ -50,7 +50,7 @@ pub fn sdhwatch<R: Source, W: Sink, P: Plant>(
     ensures unsettled { is_run (words_of words.now) ≡ true
         → IfSome (R.left source.old) (λ bytes. IsNumberOf result (λ how. EndsAsItRuns bytes (P.fibres plant.old) how)) }
 
-    // Over every source, sink and plant.
+    // These clauses hold over every source, sink and plant.
     ensures usage { result ≡ 2 → is_run (words_of words.now) ≡ false }
     ensures usage_only { is_run (words_of words.now) ≡ false → (result ≡ 2) ⊎ (result ≡ 4) ⊎ (result ≡ 70) }
     ensures alone { is_run (words_of words.now) ≡ false → (source.new ≡ source.old) × (plant.new ≡ plant.old) }
@@ -58,8 +58,9 @@ pub fn sdhwatch<R: Source, W: Sink, P: Plant>(
     ensures plant_fault { result ≡ 8 → Rose (P.faults plant.old) (P.faults plant.new) }
     ensures write_fault { result ≡ 4 → Rose (W.faults sink.old) (W.faults sink.new) }
 
-    // Where an object's count is exact, each failed call is reported as its fault, and none is tried again; a write
-    // fault may stand in place of what was to be reported. With 9 one byte more than a plan may have was taken.
+    // Where the count of faults of a source, sink or plant is exact, each of its calls that failed is reported by its
+    // fault, and none is tried again. A write fault may stand in place of what was to be reported. With 9, one byte
+    // more than a plan may have was taken.
     ensures came { let reads : Counts = record { before = R.faults source.old; after = R.faults source.new } in
         let calls : Counts = record { before = P.faults plant.old; after = P.faults plant.new } in
         (how : Status) × ((result ≡ number_of how) ⊎ (result ≡ 4))
@@ -71,7 +72,7 @@ pub fn sdhwatch<R: Source, W: Sink, P: Plant>(
     ensures later { (R.faults source.old ≤ R.faults source.new) × (W.faults sink.old ≤ W.faults sink.new)
         × (P.faults plant.old ≤ P.faults plant.new) }
 
-    // With all that a run needs, and no fault, everything is done, or there is no memory.
+    // Where all that a run needs is given and no call fails, everything is done, or memory runs out.
     ensures complete { is_run (words_of words.now) ≡ true → MayBeDone watching tt (R.left source.old) (P.fibres plant.old)
         → ¬ (Rose (R.faults source.old) (R.faults source.new)) → ¬ (Rose (W.faults sink.old) (W.faults sink.new))
         → ¬ (Rose (P.faults plant.old) (P.faults plant.new)) → (result ≡ 0) ⊎ (result ≡ 70) }

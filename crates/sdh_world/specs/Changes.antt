@@ -11,7 +11,7 @@ use Rattle.sdh_request.specs.declared.settings.Settings.{Settings}
 use Rattle.sdh_circuits.specs.Provisioning.{Provisioning}
 use Rattle.sdh_plant.specs.Fibres.{Fibres}
 
--- what a change does
+-- a ring and its fibres after a change
 unfoldable pub changed : Change → World → World
 changed (Fibre p d condition) w = record w { fibres = after_apply w.fibres p d condition }
 changed (Order p d command) w =

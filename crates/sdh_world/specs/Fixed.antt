@@ -1,4 +1,4 @@
--- What a ring's calls never change of a node, and what is true of every ring.
+-- The part of a node that a ring's calls never change, and what is true of every ring.
 use Rattle.std.specs.Prelude.{ℕ, ◌≡◌, ◌≤◌, ◌/◌, false, List, length, map, All}
 use Rattle.sdh_terms.specs.Rates.{n_of}
 use Rattle.sdh_ringmap.specs.Ids.{AreIds}
@@ -24,7 +24,7 @@ pub record Fixed : Type 0 where
   pub circuits : List Provisioned
   pub ports : List FixedPort
 
--- what a node is, whatever it receives, sends and is ordered
+-- the part of a node that stays, whatever it receives, sends and is ordered
 unfoldable pub fixed : Node → Fixed
 fixed n = record {
   settings = n.settings;
@@ -36,18 +36,19 @@ fixed n = record {
   ports = map fixed_port n.ports;
 }
 
--- a clock at which at most 16 slips wait, and which may slip within four rounds
+-- a clock at which at most 16 slips wait, and at most four rounds come before one that may justify
 pub record IsRested (c : Clock) : Type 0 where
   pub few : waiting c ≤ 16
   pub rest_few : c.rest ≤ 4
 
--- a node that has run `rounds` rounds, the last of them not after that moment
+-- a node that has run `rounds` rounds, the last of them at `moment` or before, and whose ports' clocks are rested
 pub record IsOn (rounds moment : ℕ) (n : Node) : Type 0 where
   pub rounds_are : n.rounds ≡ rounds
   pub early : moment_of n ≤ moment
   pub clocks : All (λ (t : Tributary). IsRested t.feed.clock) n.ports
 
--- each node is that of a new ring, but for what calls change; and all have run the ring's rounds, but where one was broken off
+-- What is true of every ring. Each node is that of a new ring, except for what calls change. Unless a round was broken
+-- off, all nodes have run the ring's rounds.
 pub record IsRing (r : HeldRing) : Type 0 where
   pub ids : AreIds r.ids
   pub circuits : IsProvisioning r.circuits

@@ -12,10 +12,11 @@ use Rattle.sdh_rounds.specs.Held as held
 abbrev pub HeldRing : Type 0
 HeldRing = held.HeldRing Node
 
--- a ring in which no round has run, at moment 0: each node is new
+-- the nodes of a ring in which no round has run: each is new
 unfoldable pub new_nodes : Settings → List ℕ → List Provisioned → ℕ → List Node
 new_nodes = held.new_nodes adm
 
+-- a ring in which no round has run, at moment 0
 abbrev pub new_ring : Settings → List ℕ → Provisioning → HeldRing
 new_ring settings ids circuits = held.ring_of settings ids circuits (new_nodes settings ids circuits.circuits (length ids))
 
@@ -23,7 +24,7 @@ new_ring settings ids circuits = held.ring_of settings ids circuits (new_nodes s
 abbrev pub at_place : ℕ → (Node → Node) → List Node → List Node
 at_place = held.at_place
 
--- the position of the node where a port of a circuit is, and none of the ring where there is no such circuit
+-- the position of the node where a port of a circuit is; where there is no such circuit, the number of nodes
 unfoldable pub place_of_port : HeldRing → PortId → ℕ
 place_of_port = held.place_of_port
 
@@ -31,7 +32,7 @@ place_of_port = held.place_of_port
 unfoldable pub outlet_at : HeldRing → PortId → Outlet
 outlet_at = held.outlet_at adm
 
--- a node of no ring
+-- a node of no ring, which `node_at` gives at a position that the ring doesn't have
 unfoldable pub nowhere : Node
 nowhere = held.nowhere adm
 

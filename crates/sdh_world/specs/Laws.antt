@@ -32,7 +32,7 @@ use Rattle.sdh_world.specs.Runs.{run_with}
 abbrev pub ChangesKeepHonest : Type 0
 ChangesKeepHonest = (w : World) (c : Change) → IsHonest w.fibres → IsHonest (changed c w).fibres
 
--- what the calls do is a change
+-- what each call between rounds does to a ring or its fibres is a change
 pub record CallsChange : Type 0 where
   pub command : (r : HeldRing) (f : Fibres) (p : ℕ) (d : Side) (c : Command)
       → world (record r { nodes = at_place p (at_receiving d (commanded_by c)) r.nodes }) f ≡ changed (Order p d c) (world r f)
@@ -45,8 +45,8 @@ pub record CallsChange : Type 0 where
   pub apply : (r : HeldRing) (f : Fibres) (p : ℕ) (d : Side) (c : Condition)
       → world r (after_apply f p d c) ≡ changed (Fibre p d c) (world r f)
 
--- a condition that a change gives a fibre is one of the rate, a controller misses at most 100 turns, and at most 16 slips wait at a
--- port then
+-- A change that may happen. The condition that it gives a fibre is one of the rate; a controller that it holds misses
+-- at most 100 rounds; and at most 16 slips wait at a port after it.
 abbrev pub IsChangeOf : World → Change → Type 0
 IsChangeOf w (Fibre p d c) = IsConditionAt w.ring.settings.rate c
 IsChangeOf w (Order p d c) = Unit {0}
@@ -70,13 +70,13 @@ ChangesKeepPrepared =
     (n : ℕ) (w : World) (c : Change) → IsChangeOf w c → IsPrepared w.ring.settings.rate n w.fibres
     → IsPrepared w.ring.settings.rate n (changed c w).fibres
 
--- in a new ring over new fibres nothing holds
+-- in a new ring over new fibres each side has the first holding: a clear fibre, no command, and moment 0
 abbrev pub NewHolds : Type 0
 NewHolds =
     (s : Settings) (ids : List ℕ) (circuits : Provisioning) (rate : Rate) (f : Fibres) (p : ℕ) (d : Side) → p < length ids
     → holding_of (length ids) p d (world (new_ring s ids circuits) (prepared rate (length ids) f)) ≡ new_holding
 
--- what holds when round t of some stretches begins follows from their history
+-- what holds on a side when round t of some stretches begins follows from their history
 abbrev pub HistoriesHold : Type 0
 HistoriesHold =
     (n p : ℕ) (d : Side) (ss : List Stretch) (w : World) (t : ℕ) → Fits n w → p < n
@@ -84,9 +84,9 @@ HistoriesHold =
 
 -- ---- clocks
 
--- The clock of each port that is in a ring starts with the offset of its customer, goes on by each round, whatever
--- arrives, and is changed between rounds by slips of its own alone; so it is that of its history before each round of
--- some stretches, and after the last one.
+-- The clock of each port that is in a ring starts with the offset of its customer. It goes on by each round, whatever
+-- arrives, and between rounds only slips at its own port change it. So before each round of some stretches, and after
+-- the last one, it is the clock by their history.
 pub record ClocksGoOn : Type 0 where
   pub new : (s : Settings) (ids : List ℕ) (circuits : Provisioning) (port : PortId) → HasPortIn (new_ring s ids circuits) port
       → clock_at (new_ring s ids circuits) port ≡ first_clock circuits.circuits port
@@ -98,11 +98,11 @@ pub record ClocksGoOn : Type 0 where
       → clock_at (world_in ss w t).ring port ≡ clock_in port ss (clock_at w.ring port) t
   pub behind : (ss : List Stretch) (w : World) (port : PortId) → HasPortIn w.ring port
       → clock_at (after_stretches ss w).ring port ≡ clock_in port ss (clock_at w.ring port) (rounds_in ss)
-  -- 68 rounds use up 16 slips: four at the start, and four with each
+  -- 68 rounds use up 16 slips: four rounds at the start, and four with each slip
   pub run_out : (rounds : List (List Arrival)) (w : World) (port : PortId) → HasPortIn w.ring port → (clock_at w.ring port).rest ≤ 4
       → waiting_at w.ring port ≤ 16 → 68 ≤ length rounds → waiting_at (run_with rounds w).ring port ≡ 0
 
--- the clock by a history of stretches is that of what happened at the port, which goes by the rule of `sdh_payload`
+-- the clock by a history of stretches is the clock by what happened at the port, for which `sdh_payload` has the rule
 abbrev pub ClocksTellWhatHappened : Type 0
 ClocksTellWhatHappened =
     (circuits : List Provisioned) (ss : List Stretch) (port : PortId) (t : ℕ)

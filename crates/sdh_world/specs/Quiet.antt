@@ -26,7 +26,8 @@ SettlesAt = quiet.SettlesAt adm
 abbrev pub NeverSettles : (ℕ → World) → ℕ → Type 0
 NeverSettles = quiet.NeverSettles adm
 
--- in how many rounds a step from w ends, where arrivals are known
+-- after how many rounds of a step from this world the first window ends, if one does within a limit, where arrivals are
+-- known
 abbrev pub settles_in : World → ℕ → Option ℕ
 settles_in = quiet.settles_in adm
 
@@ -36,10 +37,10 @@ settles_in = quiet.settles_in adm
 abbrev pub Settles : World → ℕ → World → Type 0
 Settles = quiet.Settles adm
 
--- as many rounds ran as it might run, and none ended a window
+-- a settle step ran all the rounds of its limit, and none ended a window
 abbrev pub Unsettles : World → ℕ → World → Type 0
 Unsettles = quiet.Unsettles adm
 
--- a fault broke a round off, before any ended a window
+-- a fault broke a round of a settle step off, before any round ended a window
 abbrev pub BreaksOff : World → ℕ → Fibres → Type 0
 BreaksOff = quiet.BreaksOff adm

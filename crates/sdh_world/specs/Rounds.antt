@@ -38,10 +38,11 @@ all_with_arrivals = rounds.all_with_arrivals adm
 
 -- ---- the nodes send
 
--- a node after its round at a moment, and the frames that it sends
+-- a node after its round at a moment
 abbrev pub node_after : ℕ → Node → Node
 node_after now n = (node_round now n).0
 
+-- the frames that a node sends in its round at a moment, to the west and to the east
 abbrev pub west_frame : ℕ → Node → List ℕ
 west_frame now n = adm.sends now West n
 

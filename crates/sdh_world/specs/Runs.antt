@@ -29,7 +29,7 @@ run_with = runs.run_with adm
 abbrev pub ArriveIn : List (List Arrival) → World → Type 0
 ArriveIn = runs.ArriveIn adm
 
--- the course of such a run: the world after each number of rounds
+-- the course of a run with these arrivals: the world after each number of rounds
 abbrev pub course_with : List (List Arrival) → World → ℕ → World
 course_with = runs.course_with adm
 

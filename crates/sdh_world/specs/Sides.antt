@@ -1,4 +1,4 @@
--- What holds on the sides of a world's nodes.
+-- What holds on the sides of a world's nodes: the conditions of fibres, the commands and the moment.
 use Rattle.std.specs.Prelude.{ℕ, ◌≡◌, ◌*◌, ◌-◌, nat_lt, if◌then◌else◌, List, [], ◌∷◌, map, length, slice_index_or}
 use Rattle.sdh_ringmap.specs.declared.Side.{Side}
 use Rattle.sdh_request.specs.declared.Command.{Command}
@@ -29,7 +29,7 @@ abbrev pub world_in : List Stretch → World → ℕ → World
 world_in [] w t = w
 world_in (s ∷ ss) w t = if nat_lt t s.rounds then run t (all_changed s.changes w) else world_in ss (after_stretch s w) (t - s.rounds)
 
--- a world of n positions
+-- a world whose ring and fibres have n positions
 pub record Fits (n : ℕ) (w : World) : Type 0 where
   pub conditions : length w.fibres.conditions ≡ 2 * n
   pub nodes : length w.ring.nodes ≡ n

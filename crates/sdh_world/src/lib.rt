@@ -1,5 +1,6 @@
-//! A ring of add-drop multiplexers and its fibres, over definitions alone: its rounds and settle steps are those of `sdh_rounds`, and
-//! what happens between rounds is in `specs/Changes.antt`. Each function here has a law as its contract and no work to do.
+//! A ring of add-drop multiplexers and its fibres, over definitions alone. Its rounds and settle steps are those of
+//! `sdh_rounds`, and what happens between rounds is in `specs/Changes.antt`. Each function here has a law as its
+//! contract and no work to do.
 #![tactic(auto)]
 
 ghost use Rattle.sdh_world.specs.Laws.{ChangesKeepHonest, CallsChange, ChangesKeepPrepared, NewHolds, HistoriesHold, ClocksGoOn};
@@ -10,7 +11,7 @@ pub fn changes_keep_honest()
     ensures { ChangesKeepHonest }
 {}
 
-/// What the calls between rounds do is a change.
+/// What each call between rounds does to a ring or its fibres is a change.
 #[tactic(auto, using(crate::proofs::Histories::calls_change))]
 pub fn calls_change()
     ensures { CallsChange }
@@ -21,7 +22,7 @@ pub fn changes_keep_prepared()
     ensures { ChangesKeepPrepared }
 {}
 
-/// In a new ring over new fibres nothing holds on any side.
+/// In a new ring over new fibres every side has a clear fibre and no command, at moment 0.
 #[tactic(auto, using(crate::proofs::Histories::new_holds))]
 pub fn new_holds()
     ensures { NewHolds }
@@ -33,15 +34,15 @@ pub fn histories_hold()
     ensures { HistoriesHold }
 {}
 
-/// A port's clock goes on by each round, whatever arrives, and is changed between rounds by slips of its own alone; where none
-/// come, 68 rounds use up all that wait.
+/// A port's clock goes on by each round, whatever arrives, and between rounds only slips at its own port change it.
+/// Where no slips are added, 68 rounds use up all that wait.
 #[tactic(auto, using(crate::proofs::Clocks::clocks_go_on))]
 pub fn clocks_go_on()
     ensures { ClocksGoOn }
 {}
 
-/// A port's clock by the history of the ring is that of what happened at the port: the slips ordered there, and the
-/// rounds.
+/// A port's clock by the history of the ring is its clock by what happened at the port: the slips ordered there, and
+/// the rounds.
 #[tactic(auto, using(crate::proofs::Happened::clocks_tell))]
 pub fn clocks_tell_what_happened()
     ensures { ClocksTellWhatHappened }

@@ -1,4 +1,4 @@
--- The laws on what is carried.
+-- The laws of what spans carry and ports deliver in calm rounds.
 use Rattle.std.specs.Prelude.{ℕ, Bool, ◌≡◌, ◌+◌, ◌-◌, ◌*◌, ◌<◌, ◌≤◌, ◌/◌, true, false, Some, List, length, slice_get, [], ◌∷◌, ◌++◌}
 use Rattle.sdh_terms.specs.Rates.{n_of}
 use Rattle.sdh_ringmap.specs.Places.{opposite, neighbour}
@@ -33,7 +33,7 @@ use Rattle.sdh_laws.specs.Hearing.Laws.{IsWhole, MayStart}
 use Rattle.sdh_spans.specs.Brought.{Brings, HasValue, plainly}
 use Rattle.sdh_laws.specs.Carrying.Windows.{layout_in, layout_of, HasCircuits, sent_at, requests_of, FailOnApplied, IsQuiet}
 
--- over a span that didn't fail an AU-4 brings in a calm round what the neighbour sent in it in the calm round before
+-- Over a span that didn't fail, an AU-4 brings in a calm round what the neighbour sent in it in the calm round before.
 abbrev pub ASpanCarries : Type 0
 ASpanCarries = (w : World) → IsWhole w → is_calm (round w).ring.nodes ≡ true → is_calm (round (round w)).ring.nodes ≡ true
     → (p : ℕ) (d : Side) (au : ℕ) (b : Outlet) → p < length w.ring.ids → 1 ≤ au → au ≤ n_of w.ring.settings.rate → HasValue b
@@ -48,14 +48,14 @@ FailuresAreApplied = (w : World) → IsWhole w → FailOnApplied (length w.ring.
 abbrev pub due_by_clocks : ℕ → (ℕ → Bool) → Provisioned → End → (ℕ → Clock) → ℕ → Outlet
 due_by_clocks n applied c e clocks t = due n applied c (λ k. plainly (customer_at c (other_end e)) (clocks k)) t
 
--- the port of a circuit has delivered in the last round what it is owed under these requests of spans, where these are the ports'
--- clocks before each round
+-- the port of a circuit delivered in the last round what it is owed under these requests of spans, where these are the
+-- ports' clocks before each round
 abbrev pub DeliversItsDue : (PortId → ℕ → Clock) → World → List ℕ → Provisioned → ℕ → End → Type 0
 DeliversItsDue clocks w rs c index e =
     outlet_at w.ring (record { circuit = index; end = e }) ≡ due_by_clocks (length w.ring.ids) (is_applied rs) c e
     (clocks (record { circuit = index; end = other_end e })) (w.ring.rounds - 1)
 
--- each port has
+-- each port of a ring delivered in the last round what it is owed under these requests of spans
 abbrev pub DeliversWhatIsDue : (PortId → ℕ → Clock) → World → List ℕ → Type 0
 DeliversWhatIsDue clocks w rs =
     (index : ℕ) (c : Provisioned) → slice_get w.ring.circuits.circuits index ≡ Some c → (e : End) → DeliversItsDue clocks w rs c index e
@@ -66,21 +66,22 @@ QuietRingsDeliverWhatIsDue = (w : World) → IsWhole w → HasCircuits (layout_o
     → (rs : List ℕ) (first last : ℕ) → IsQuiet (length w.ring.ids) rs w first last → 1 ≤ first → first + 2 * length w.ring.ids ≤ last
     → DeliversWhatIsDue (clocks_from w) (run last w) rs
 
--- each node is in the settled state of these requests of spans, and each port has delivered what it is owed under them
+-- A restored ring: each node is in the settled state of these requests of spans, and each port has delivered what it is
+-- owed under them.
 pub record IsRestored (clocks : PortId → ℕ → Clock) (w : World) (rs : List ℕ) : Type 0 where
   pub states : (signals_of w).states ≡ settled_states rs
   pub ports : DeliversWhatIsDue clocks w rs
 
--- what is left of a whole world by rounds alone is restored under the requests of the last round
+-- what rounds alone leave of a whole world is restored under the requests of the last round
 abbrev pub Restores : World → World → Type 0
 Restores w left = IsWhole w → IsRestored (clocks_from w) left (requests_of left)
 
--- where a settle step answered, the ring is restored
+-- after a settle step that ended with a quiet window the ring is restored
 abbrev pub SettledRingsAreRestored : Type 0
 SettledRingsAreRestored = (w left : World) (limit : ℕ) → HasCircuits (layout_of w) → Settles w limit left → Restores w left
 
--- where a quiet window ends with the last of some stretches, the ring is restored under the requests of the histories in its
--- last round
+-- Where the last of some stretches ends with a quiet window, the ring is restored under the requests that the histories
+-- give for the window's last round.
 abbrev pub SettledRingsRestore : Type 0
 SettledRingsRestore =
     (s : Settings) (ids : List ℕ) (circuits : Provisioning) (f : Fibres) (earlier : List Stretch) (last : Stretch) (t : ℕ)

@@ -1,4 +1,4 @@
--- A number of calm rounds in settled states, and what their origins bring.
+-- A number of calm rounds in settled states, and what the origins of AU-4s bring in them.
 use Rattle.std.specs.Prelude.{ℕ, ◌≡◌, ◌<◌, ◌≤◌, ◌/◌, true, List, length}
 use Rattle.sdh_terms.specs.Rates.{n_of}
 use Rattle.sdh_ringmap.specs.Places.{span_at}
@@ -22,7 +22,7 @@ use Rattle.sdh_world.specs.Runs.{run, course}
 use Rattle.sdh_world.specs.Quiet.{IsCalm}
 use Rattle.sdh_laws.specs.Hearing.Signalling.{crossing_at, lines_at, needs_in}
 
--- what no round changes: the settings, the identifiers by position, and the circuits
+-- what no round changes of a ring: the settings, the identifiers by position, and the circuits
 pub record Layout : Type 0 where
   pub settings : Settings
   pub ids : List ℕ
@@ -34,10 +34,11 @@ layout_in r = record { settings = r.settings; ids = r.ids; circuits = r.circuits
 abbrev pub layout_of : World → Layout
 layout_of w = layout_in w.ring
 
--- the number of positions, and of working slots
+-- the number of positions of a ring
 abbrev pub size_of : Layout → ℕ
 size_of l = length l.ids
 
+-- the number of working slots of a ring
 abbrev pub slots_of : Layout → ℕ
 slots_of l = n_of l.settings.rate / 2
 
@@ -51,7 +52,7 @@ HasCircuits l = AreCircuits (size_of l) (slots_of l) l.circuits
 abbrev pub fed_at : World → ℕ → Feeder → Input
 fed_at w p f = fed_by (lines_at w p) (added_by (node_at w.ring.nodes p).ports) f
 
--- what an origin in slot m brings there
+-- what an origin in slot m brings at position p
 abbrev pub value_at : World → ℕ → ℕ → Origin → Input
 value_at w p m o = fed_at w p (feeder_of (crossing_at w p) m o)
 
@@ -61,7 +62,7 @@ sent_at w p d au = fed_at w p (leads (crossing_at w p) d au)
 
 -- ---- after a round
 
--- the requests of all spans in it
+-- the requests of all spans in the round that left this world
 abbrev pub requests_of : World → List ℕ
 requests_of w = requests_in (needs_in w)
 
@@ -69,7 +70,7 @@ requests_of w = requests_in (needs_in w)
 abbrev pub AreSettled : ℕ → List ℕ → World → Type 0
 AreSettled n rs w = (p : ℕ) → p < n → (node_at w.ring.nodes p).state ≡ settled rs p
 
--- a side that failed in it is on an applied span
+-- a side that failed in the round that left this world is on an applied span
 abbrev pub FailOnApplied : ℕ → List ℕ → World → Type 0
 FailOnApplied n rs w =
     (p : ℕ) (d : Side) → p < n → is_failed (receiving_on d (node_at w.ring.nodes p)).local.defect ≡ true

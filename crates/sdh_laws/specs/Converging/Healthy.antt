@@ -18,8 +18,9 @@ use Rattle.sdh_world.specs.Changes.{after_stretches, new_world}
 use Rattle.sdh_laws.specs.Hearing.Laws.{MayStart}
 use Rattle.sdh_laws.specs.Carrying.Windows.{layout_of, HasCircuits, requests_of}
 
--- Each round from number n + 4 on is calm. Rounds are numbered from 0, and counted from 1 here: an interpreter h spans from a
--- port enters Norm in round number h, counts three rounds more, and isn't moved from round number h + 4 on.
+-- Each round from number n + 4 on is calm. (`IsCalm` counts rounds from 1, but they are numbered from 0.) An
+-- interpreter h spans from a port enters Norm in round number h, counts three rounds more, and doesn't change from
+-- round number h + 4 on.
 abbrev pub HealthyRoundsAreCalm : Type 0
 HealthyRoundsAreCalm =
     (s : Settings) (ids : List ℕ) (circuits : Provisioning) (f : Fibres) → MayStart s ids f
@@ -31,8 +32,8 @@ abbrev pub healthy_steps : ℕ → List Stretch
 healthy_steps zero = []
 healthy_steps (suc later) = record { changes = []; rounds = 129 } ∷ replicate later (record { changes = []; rounds = 128 })
 
--- The first step ends with round number 128 where its limit is at least 129, and is unsettled where it isn't; each later one ends
--- 128 rounds later, so that the last round of the K-th has number 128 K.
+-- The first settle step ends with round number 128 where its limit is at least 129, and is unsettled where the limit is
+-- smaller. Each later step ends 128 rounds later. So the last round of the K-th step has number 128 K.
 pub record HealthySteps (w : World) : Type 0 where
   pub short : (limit : ℕ) → limit ≤ 128 → settles_in w limit ≡ None
   pub first : (limit : ℕ) → 129 ≤ limit → settles_in w limit ≡ Some 129
@@ -45,12 +46,13 @@ HealthyStepsSettle =
     (s : Settings) (ids : List ℕ) (circuits : Provisioning) (f : Fibres) → MayStart s ids f
     → HasCircuits (layout_of (new_world s ids circuits f)) → HealthySteps (new_world s ids circuits f)
 
--- after each round no span is applied
+-- after each round of a healthy ring no span is applied
 abbrev pub HealthyRingsApplyNothing : Type 0
 HealthyRingsApplyNothing = (s : Settings) (ids : List ℕ) (circuits : Provisioning) (f : Fibres) → MayStart s ids f
     → (k span : ℕ) → 1 ≤ k → is_applied (requests_of (run k (new_world s ids circuits f))) span ≡ false
 
--- after each settle step each port has delivered what it is owed where nothing is applied, in the step's last round
+-- After each settle step of a healthy ring each port has delivered what it is owed in the step's last round, where no
+-- span is applied.
 abbrev pub HealthyStepsDeliver : Type 0
 HealthyStepsDeliver =
     (s : Settings) (ids : List ℕ) (circuits : Provisioning) (f : Fibres) → MayStart s ids f

@@ -1,4 +1,4 @@
--- The laws of rest. They are promised by the functions of this crate, which have no work to do.
+-- The laws of how a ring comes to rest. They are promised by the functions of this crate, which have no work to do.
 use Rattle.std.specs.Prelude.{ℕ, ◌≡◌, ◌<◌, ◌≤◌, ◌+◌, ◌*◌, Some, List, length}
 use Rattle.sdh_rounds.specs.Quiet.{enough_for}
 use Rattle.sdh_ringmap.specs.declared.Side.{Side}
@@ -18,33 +18,33 @@ use Rattle.sdh_laws.specs.Carrying.Windows.{layout_of, HasCircuits}
 use Rattle.sdh_spans.specs.Spans.{IsConstant}
 use Rattle.sdh_laws.specs.Converging.Steady.{went, came, StaysSettled, HasStillPointers}
 
--- What goes into an AU-4 with one action and one value from round k on comes out on the other side of the span with one
--- action and one value nine rounds later. AIS comes out where the fibre is cut. That is so whatever the AU-4's
+-- An AU-4 that leaves a node with one action and one value from round k on comes in at the other end of the span with
+-- one action and one value from round k + 9 on. Where the fibre is cut, AIS comes in. That is so whatever the AU-4's
 -- generator and interpreter kept.
 abbrev pub ASpanIsSteady : Type 0
 ASpanIsSteady = (w : World) → IsWhole w → (p : ℕ) (d : Side) (au k : ℕ) → p < length w.ring.ids → 1 ≤ au → au ≤ n_of w.ring.settings.rate
     → IsConstant (went w (neighbour (length w.ring.ids) p d) (opposite d) au) k → IsConstant (came w p d au) (k + 9)
 
--- Where the nodes stay in settled states, no pointer moves after 27n + 18 rounds: nine for each span of the longest walk, and
--- for one span more.
+-- Where the nodes stay in settled states, no pointer changes after 27n + 18 rounds: nine rounds for each span of the
+-- longest walk, and nine for one span more.
 abbrev pub PointersRest : Type 0
 PointersRest =
     (w : World) (rs : List ℕ) → IsWhole w → HasCircuits (layout_of w) → StaysSettled w rs → (j : ℕ) → 27 * length w.ring.ids + 18 ≤ j
     → HasStillPointers w j
 
--- a window ends with this round, which is at most so late
+-- a window ends within `most` rounds
 pub record WindowBy (w : World) (most : ℕ) : Type 0 where
   pub ends : ℕ
   pub soon : ends ≤ most
   pub window : EndsWindow (course w) ends
 
--- where all rounds from one on are calm, a window ends soon after it
+-- where all rounds from one on are calm, a window ends at most 3n + 128 rounds later
 abbrev pub CalmEndsWindows : Type 0
 CalmEndsWindows = (w : World) (first : ℕ) → ((j : ℕ) → first ≤ j → IsCalm (course w) j) → WindowBy w (first + 3 * length w.ring.ids + 128)
 
--- From every ring that is paired with its fibres, where nothing happens but rounds, all rounds are calm from some round
--- on. That is so whatever the nodes' interpreters, generators, parities, words, filters and held turns were, however
--- many slips wait at their ports, and whichever fibres are cut or degraded.
+-- From every whole ring on, where nothing happens but rounds, all rounds are calm from the (31n + 128)-th on.
+-- Interpreters, generators, parities, words and filters may be whatever they were before. Any controllers may be held,
+-- any slips may wait, and any fibres may be cut or degraded.
 abbrev pub RoundsGetCalm : Type 0
 RoundsGetCalm = (w : World) → IsWhole w → HasCircuits (layout_of w) → (j : ℕ) → 31 * length w.ring.ids + 128 ≤ j → IsCalm (course w) j
 
@@ -69,7 +69,7 @@ Answers w limit left = IsWhole w → enough_for (length w.ring.ids) ≤ limit �
 abbrev pub StepsAnswer : Type 0
 StepsAnswer = (w left : World) (limit : ℕ) → HasCircuits (layout_of w) → Answers w limit left
 
--- after any stretches of changes and rounds, from a new ring over new honest fibres on
+-- a window ends after any stretches of changes and rounds, from a new ring over new honest fibres on
 abbrev pub StretchesConverge : Type 0
 StretchesConverge =
     (s : Settings) (ids : List ℕ) (circuits : Provisioning) (f : Fibres) (ss : List Stretch) → MayStart s ids f

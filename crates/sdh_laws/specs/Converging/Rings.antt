@@ -1,4 +1,4 @@
--- A ring and what may happen to it, for which the laws hold.
+-- A ring, and changes that may happen to it, for which the laws hold.
 use Rattle.std.specs.Prelude.{ℕ, Some, List, [], ◌∷◌, replicate}
 use Rattle.sdh_terms.specs.declared.Rate.TheVariants.{Four}
 use Rattle.sdh_ringmap.specs.Places.{position_of}
@@ -37,14 +37,15 @@ c1 = record { name = 99 ∷ 49 ∷ []; from = position_of 0; to = position_of 2;
 abbrev pub one_circuit : Provisioning
 one_circuit = record { slots = 2; ring = Some three; circuits = c1 ∷ [] }
 
--- a customer's clock slips three times and a span is cut both ways; then a fibre is degraded, a switch is forced, and time passes
+-- A customer's clock slips three times and a span is cut both ways. Then a fibre is degraded, a switch is forced, and
+-- time passes.
 abbrev pub troubles : List Stretch
 troubles =
     record { changes = Slip (record { circuit = 0; end = A }) Up 3 ∷ Fibre 0 East Cut ∷ Fibre 1 West Cut ∷ []; rounds = 129 }
     ∷ record { changes = Fibre 1 East (Degraded 3) ∷ Order 2 West command.Forced ∷ Now 7 ∷ []; rounds = 40 } ∷ []
 
--- over every honest plant the ring may start, its circuit is one of its size, and the troubles may happen; so its settle steps
--- end with rounds 128, 256 and so on while it is healthy, and a window ends after the troubles
+-- Over every honest plant the ring may start, its circuit is one of its size, and the troubles may happen. So while it
+-- is healthy its settle steps end with rounds 128, 256 and so on, and a window ends after the troubles.
 pub record RingOccurs (f : Fibres) : Type 0 where
   pub may : MayStart settings three f
   pub circuits : HasCircuits (layout_of (new_world settings three one_circuit f))

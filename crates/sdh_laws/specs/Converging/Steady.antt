@@ -14,14 +14,15 @@ use Rattle.sdh_world.specs.Held.{node_at, AtEach}
 
 -- Round k of a run is the round that begins after k rounds.
 
--- what went into AU-4 number au that left position p on side d in round k, and what its interpreter made of the one that came there
+-- what goes into AU-4 number au that leaves position p on side d in round k
 abbrev pub went : World → ℕ → Side → ℕ → ℕ → Input
 went w p d au k = sent_at (run k w) p d au
 
+-- AU-4 number au that comes in at position p on side d in round k, with what its interpreter makes of it
 abbrev pub came : World → ℕ → Side → ℕ → ℕ → Input
 came w p d au k = received (lines_at (run k w) p) d au
 
--- what an origin in slot m brought there
+-- what an origin in slot m brings at position p in round k
 abbrev pub brought : World → ℕ → ℕ → Origin → ℕ → Input
 brought w p m o k = value_at (run k w) p m o
 

@@ -30,23 +30,23 @@ use Rattle.sdh_laws.specs.Hearing.Signalling.{Brings, CountsViolations, Reads, l
 
 -- ---- what stays
 
--- each node stays where it belongs, whatever arrives
+-- each node stays in its place, whatever arrives
 pub record StayPlaced : Type 0 where
   pub new : (s : Settings) (ids : List ℕ) (circuits : Provisioning) (f : Fibres) → AreIds ids → IsPlaced (world (new_ring s ids circuits) f)
   pub round : (arrivals : List Arrival) (w : World) → IsPlaced w → IsPlaced (round_with arrivals w)
   pub change : (c : Change) (w : World) → IsPlaced w → IsPlaced (changed c w)
 
--- a world whose nodes are in their places and whose fibres carry what they sent
+-- a whole world: its nodes are in their places, and its fibres carry what they sent
 pub record IsWhole (w : World) : Type 0 where
   pub placed : IsPlaced w
   pub paired : IsPaired w
 
--- is one, where the plant is honest
+-- a new ring over new honest fibres is a whole world
 abbrev pub NewWorldsAreWhole : Type 0
 NewWorldsAreWhole =
     (s : Settings) (ids : List ℕ) (circuits : Provisioning) (f : Fibres) → AreIds ids → IsHonest f → IsWhole (new_world s ids circuits f)
 
--- rounds, and what may happen between them, keep that
+-- rounds, and changes that may happen between them, leave a whole world whole
 pub record StayWhole : Type 0 where
   pub round : (w : World) → IsWhole w → IsWhole (round w)
   pub rounds : (w : World) (k : ℕ) → IsWhole w → IsWhole (run k w)
@@ -54,20 +54,20 @@ pub record StayWhole : Type 0 where
 
 -- ---- a round
 
--- what each side of each node brings
+-- what each side of each node makes of a round is what `Brings` says
 abbrev pub SidesBring : Type 0
 SidesBring =
     (w : World) (p : ℕ) (d : Side) → IsWhole w → p < length w.ring.nodes
     → Brings w p d (receiving_on d (node_at w.ring.nodes p)) (receiving_on d (node_at (round w).ring.nodes p))
 
--- what the interpreters on each side of each node read
+-- what the interpreters on each side of each node read in a round is what `Reads` says
 abbrev pub SidesRead : Type 0
 SidesRead = (w : World) (p : ℕ) (d : Side) → IsWhole w → p < length w.ring.nodes
     → Reads w p d (receiving_on d (node_at w.ring.nodes p)) (receiving_on d (node_at (round w).ring.nodes p))
     (line_on (lines_at w p) d).intake
 
--- From the second frame on the violations of B2 that a side counts in a round are those that its fibre's condition made in the
--- round before, when the frame before came; whatever parities the ring began with, and whatever changed between the rounds.
+-- From the second frame on, the violations of B2 that a side counts in a round are those that its fibre's condition
+-- made in the round before. That is so whatever parities the ring began with, and whatever changed between the rounds.
 abbrev pub ViolationsAreOfTheRoundBefore : Type 0
 ViolationsAreOfTheRoundBefore =
     (w : World) (first second : List Change) (p : ℕ) (d : Side) → IsWhole w → AreChangesOf (round w) first
@@ -75,12 +75,12 @@ ViolationsAreOfTheRoundBefore =
     → CountsViolations (all_changed second (round (all_changed first (round w)))) p d
     (shown_by (condition_to (all_changed first (round w)) p d))
 
--- no node says that nothing comes
+-- no node sends a word that is AIS of the multiplex section
 abbrev pub NoneSaysAis : Type 0
 NoneSaysAis =
     (w : World) (p : ℕ) (d : Side) → IsWhole w → p < length w.ring.nodes → (word_of d (node_at (round w).ring.nodes p)).mark ≢ mark.MsAis
 
--- the rounds of a ring with frames are rounds of a ring of signals, with what its nodes need, in which the same nodes are held
+-- a round of a ring with frames is a round of its ring of signals, with the same needs and the same held nodes
 pub record IsSignalRound (w : World) : Type 0 where
   pub may_go : MayGo (needs_in (round w)) (signals_of w)
   pub goes : signals_of (round w) ≡ signal.round (needs_in (round w)) (held_in w) (signals_of w)
@@ -88,9 +88,9 @@ pub record IsSignalRound (w : World) : Type 0 where
 abbrev pub RoundsAreSignalRounds : Type 0
 RoundsAreSignalRounds = (w : World) → IsWhole w → IsSignalRound w
 
--- What a round makes of a whole world, whichever plant ran it: the world stays whole. Its states, words and filters are
--- those of a ring of signals after a round with its needs and its held nodes, in which nothing comes in on a side that
--- fails.
+-- What a round makes of a whole world, whichever plant ran it. The world stays whole. Its states, words and filters are
+-- those of its ring of signals after a round with the same needs and held nodes. In that round nothing comes in on a
+-- side that fails.
 pub record GoesAsSignals (w after : World) : Type 0 where
   pub whole : IsWhole after
   pub may_go : MayGo (needs_in after) (signals_of w)
@@ -99,14 +99,14 @@ pub record GoesAsSignals (w after : World) : Type 0 where
 abbrev pub WholeRoundsGoAsSignals : Type 0
 WholeRoundsGoAsSignals = (w after : World) → IsWhole w → IsRound w after → GoesAsSignals w after
 
--- a step leaves a whole world whole, whether it ended with a window or ran all its rounds
+-- a settle step leaves a whole world whole, whether it ended with a window or ran all its rounds
 pub record StepsStayWhole : Type 0 where
   pub settled : (w left : World) (limit : ℕ) → IsWhole w → Settles w limit left → IsWhole left
   pub unsettled : (w left : World) (limit : ℕ) → IsWhole w → Unsettles w limit left → IsWhole left
 
 -- ---- quiet windows
 
--- a calm round isn't the ring's first one, holds no node, and leaves all that is compared
+-- a calm round isn't the ring's first one, holds no node, and leaves all that is compared as it was
 pub record IsStill (w : World) : Type 0 where
   pub later : 0 < w.ring.rounds
   pub free : AtEach (λ p n. is_held n ≡ false) w.ring.nodes
@@ -119,19 +119,20 @@ pub record IsStill (w : World) : Type 0 where
 abbrev pub CalmRoundsAreStill : Type 0
 CalmRoundsAreStill = (w : World) → IsWhole w → is_calm (round w).ring.nodes ≡ true → IsStill w
 
--- after three calm rounds, one after the other, each node is in the settled state of its position, under the requests of the last one
+-- after three calm rounds in a row, each node is in the settled state of its position, under the requests of the last
+-- of these rounds
 abbrev pub ThreeCalmRoundsAreSettled : Type 0
 ThreeCalmRoundsAreSettled =
     (w : World) → IsWhole w → IsCalm (course w) 1 → IsCalm (course w) 2 → IsCalm (course w) 3
     → (signals_of (run 3 w)).states ≡ settled_states (requests_in (needs_in (run 3 w)))
 
--- in each round of a quiet window all nodes are in the settled states, under the requests of its last round
+-- in each round of a quiet window all nodes are in the settled states, under the requests of the window's last round
 abbrev pub WindowsAreSettled : Type 0
 WindowsAreSettled =
     (w : World) (k j : ℕ) → IsWhole w → EndsWindow (course w) k → k < j + 3 * length w.ring.ids → j ≤ k
     → (signals_of (run j w)).states ≡ settled_states (requests_in (needs_in (run k w)))
 
--- what a step leaves that ended with a window
+-- what a settle step leaves that ended with a window: a whole world whose nodes are in the settled states
 pub record IsSettled (w : World) : Type 0 where
   pub whole : IsWhole w
   pub states : (signals_of w).states ≡ settled_states (requests_in (needs_in w))
@@ -141,7 +142,8 @@ StepsSettle = (w left : World) (limit : ℕ) → IsWhole w → Settles w limit l
 
 -- ---- from a new ring on
 
--- where at least one violation is a degradation
+-- a script may start with these: the identifiers are those of a ring, the fibres are honest, and the threshold of a
+-- degradation is at least one violation
 pub record MayStart (s : Settings) (ids : List ℕ) (f : Fibres) : Type 0 where
   pub ids_ok : AreIds ids
   pub honest : IsHonest f
@@ -159,8 +161,8 @@ RequestsAreTheHistorys =
     (s : Settings) (ids : List ℕ) (circuits : Provisioning) (f : Fibres) (ss : List Stretch) → MayStart s ids f
     → MayHappen (new_world s ids circuits f) ss → AreTheHistorys s (length ids) ss (new_world s ids circuits f)
 
--- where a quiet window ends with the last of some stretches, all nodes are in the settled states in each of its rounds, under the
--- requests of the histories in its last one
+-- Where the last of some stretches ends with a quiet window, all nodes are in the settled states in each round of that
+-- window. These are the settled states under the requests that the histories give for the window's last round.
 abbrev pub StretchesSettle : Type 0
 StretchesSettle =
     (s : Settings) (ids : List ℕ) (circuits : Provisioning) (f : Fibres) (earlier : List Stretch) (last : Stretch) (j t : ℕ)
@@ -176,8 +178,8 @@ StretchesSettle =
 abbrev pub NoneWait : List Tributary → Type 0
 NoneWait ports = All (λ (t : Tributary). waiting t.feed.clock ≡ 0) ports
 
--- where no node is held from round f on: what the nodes need stays from the third round after that on, and so their states settle, and
--- their words stay
+-- Where no node is held from round f on, counted from this world: what the nodes need stays from the third round after
+-- that on. So their states settle, and their words stay.
 pub record StillFrom (w : World) (f : ℕ) : Type 0 where
   pub needs : (k : ℕ) → f + 3 ≤ k → needs_in (run (suc k) w) ≡ needs_in (run k w)
   pub states : (k : ℕ) → 4 * length w.ring.ids + f + 10 ≤ k
@@ -188,8 +190,8 @@ abbrev pub FreeRunsGetStill : Type 0
 FreeRunsGetStill =
     (w : World) → IsWhole w → (f : ℕ) → ((k : ℕ) → f ≤ k → AtEach (λ p n. is_held n ≡ false) (run k w).ring.nodes) → StillFrom w f
 
--- no node is held from round 100 on, and no slip waits; what the nodes need stays from the third round after that on, and so their states settle, and
--- their words stay
+-- From round 100 on, counted from this world, no node is held and no slip waits. What the nodes need stays from the
+-- third round after that on. So their states settle, and their words stay.
 pub record GetsStill (w : World) : Type 0 where
   pub free : (k : ℕ) → 100 ≤ k → AtEach (λ p n. is_held n ≡ false) (run k w).ring.nodes
   pub slips : (k : ℕ) → 100 ≤ k → AtEach (λ p n. NoneWait n.ports) (run k w).ring.nodes

@@ -21,14 +21,14 @@ pub record HasSides (s : Settings) (n : Node) : Type 0 where
 abbrev pub HaveGone : ℕ → List Tributary → Type 0
 HaveGone rounds ports = All (λ (t : Tributary). IsClock t.feed.port.offset rounds t.feed.clock) ports
 
--- between rounds: the node and the clocks of its ports have run `rounds` rounds, and nothing has arrived on a side
+-- a node between two rounds: it and the clocks of its ports have run `rounds` rounds, and nothing has arrived on a side
 -- since the last one
 pub record IsBetween (rounds : ℕ) (n : Node) : Type 0 where
   pub ran : n.rounds ≡ rounds
   pub gone : HaveGone rounds n.ports
   pub fresh : (d : Side) → (receiving_on d n).arrived ≡ None
 
--- Each node of the ring is where it belongs: it is the new node of its position, but for what calls change.
+-- Each node of the ring is in its place: it is the new node of its position, except for what calls change.
 pub record IsPlacedRing (r : HeldRing) : Type 0 where
   pub ids : AreIds r.ids
   pub nodes : map fixed r.nodes ≡ map fixed (new_nodes r.settings r.ids r.circuits.circuits (length r.ids))

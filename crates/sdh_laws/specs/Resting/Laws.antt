@@ -10,22 +10,22 @@ use Rattle.sdh_laws.specs.Hearing.Laws.{IsWhole}
 use Rattle.sdh_laws.specs.Carrying.Windows.{layout_of, HasCircuits}
 use Rattle.sdh_laws.specs.Resting.Rest.{IsAtRest, StaysAtRest}
 
--- Where six rounds, one after the other, are calm, all later ones are, whichever fibres are cut or degraded: as long as nothing but
--- rounds happens. How far an AU-4 is carried doesn't matter: calm rounds leave each interpreter and each generator as it is, so that
--- what is known of one of them is known of it in all of them.
+-- Where six rounds in a row are calm and nothing but rounds happens, all later rounds are calm, whichever fibres are
+-- cut or degraded. Over how many spans an AU-4 is carried doesn't matter. Calm rounds leave each interpreter and each
+-- generator as it is, so what is known of one of them in one round is known of it in all of these rounds.
 abbrev pub CalmGoesOn : Type 0
 CalmGoesOn =
     (w : World) → IsWhole w → HasCircuits (layout_of w) → ((j : ℕ) → 1 ≤ j → j ≤ 6 → IsCalm (course w) j) → (j : ℕ) → 1 ≤ j
     → IsCalm (course w) j
 
--- what is left of a whole world by rounds alone is at rest, by the clocks that the ports had
+-- what rounds alone leave of a whole world is at rest, by the clocks that the ports had
 abbrev pub LeavesAtRest : World → World → Type 0
 LeavesAtRest w left = IsWhole w → IsAtRest (clocks_from w) left
 
--- where a settle step answered, the ring is at rest
+-- after a settle step that ended with a quiet window the ring is at rest
 abbrev pub StepsLeaveAtRest : Type 0
 StepsLeaveAtRest = (w left : World) (limit : ℕ) → HasCircuits (layout_of w) → Settles w limit left → LeavesAtRest w left
 
--- a round of a ring at rest is calm and delivers what is owed, and leaves it at rest
+-- a round of a ring at rest is calm, delivers what is owed, and leaves the ring at rest
 abbrev pub RestGoesOn : Type 0
 RestGoesOn = (w after : World) → IsRound w after → (clocks : PortId → ℕ → Clock) → IsAtRest clocks w → StaysAtRest clocks after

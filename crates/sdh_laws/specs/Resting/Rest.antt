@@ -1,4 +1,4 @@
--- A ring at rest: nothing but its customers' bytes changes any more, as long as nothing is set.
+-- A ring at rest. Nothing but its customers' bytes changes any more, as long as no call changes the ring or its fibres.
 use Rattle.std.specs.Prelude.{ℕ, ◌≡◌, ◌≤◌, true}
 use Rattle.sdh_payload.specs.Clock.{Clock}
 use Rattle.sdh_circuits.specs.declared.PortId.{PortId}
@@ -10,9 +10,9 @@ use Rattle.sdh_laws.specs.Hearing.Laws.{IsWhole}
 use Rattle.sdh_laws.specs.Carrying.Windows.{requests_of}
 use Rattle.sdh_laws.specs.Carrying.Laws.{DeliversWhatIsDue}
 
--- The ring and its fibres are paired, and no controller misses a turn. Every round that follows with nothing set
--- between is calm, and each port delivers what it is owed in it, under the requests of that round. These are the ports'
--- clocks before each round.
+-- The ring and its fibres are paired, and no controller is held. Every later round is calm as long as nothing but
+-- rounds happens, and each port delivers in it what it is owed under the requests of that round. `clocks` are the
+-- ports' clocks before each round.
 pub record IsAtRest (clocks : PortId → ℕ → Clock) (w : World) : Type 0 where
   pub whole : IsWhole w
   pub free : AtEach (λ p n. n.held ≡ 0) w.ring.nodes

@@ -1,4 +1,5 @@
--- How soon every port delivers what it is owed again, where nothing happens but rounds.
+-- How soon every port delivers what it is owed again, where nothing happens but rounds. Rounds are counted from the
+-- given world on.
 use Rattle.std.specs.Prelude.{ℕ, ◌≡◌, ◌+◌, ◌*◌, ◌/◌, ◌≤◌, true, false, Some, List, [], ◌∷◌, ◌++◌, length, slice_get}
 use Rattle.sdh_terms.specs.Rates.{n_of}
 use Rattle.sdh_circuits.specs.Provisioning.{Provisioning, AreCircuits}
@@ -25,26 +26,27 @@ use Rattle.sdh_laws.specs.Carrying.Windows.{layout_of, HasCircuits, requests_of}
 use Rattle.sdh_laws.specs.Carrying.Laws.{DeliversItsDue, IsRestored}
 use Rattle.sdh_laws.specs.Converging.Steady.{IsUnslipped}
 
--- no controller misses its next turn
+-- no controller misses the next round
 abbrev pub NoneHeld : World → Type 0
 NoneHeld w = AtEach (λ p n. is_held n ≡ false) w.ring.nodes
 
--- From every whole ring on, in each round from number 12n + 102 on, all nodes are in the settled states and every port
--- delivers what it is owed. That is so whatever the nodes' interpreters, generators, parities, words, filters and held
--- turns were, however many slips wait at their ports, and whichever fibres are cut or degraded. The number is 294 in a
--- ring of 16, so less than 400 rounds, in which 400 frames of 125 microseconds cross each span.
+-- From every whole ring on, all nodes are in the settled states and every port delivers what it is owed, in each round
+-- from number 12n + 102 on. Interpreters, generators, parities, words and filters may be whatever they were before. Any
+-- controllers may be held, any slips may wait, and any fibres may be cut or degraded. The number is 294 in a ring of
+-- 16. That is less than the 400 rounds of 125 microseconds in 50 milliseconds.
 abbrev pub RingsAreRestoredSoon : Type 0
 RingsAreRestoredSoon =
     (w : World) → IsWhole w → HasCircuits (layout_of w) → (k : ℕ) → 12 * length w.ring.ids + 102 ≤ k
     → IsRestored (clocks_from w) (run k w) (requests_of (run k w))
 
--- Where no controller misses a turn, traffic is restored from number 12n + 2 on, which is 194 in a ring of 16; where
--- slips wait, from 8n + 61 on too.
+-- Where no controller is held, traffic is restored from number 12n + 2 on, which is 194 in a ring of 16. Where slips
+-- wait, it is restored from the larger of 12n + 2 and 8n + 61 on.
 abbrev pub FreeRingsAreRestoredSoon : Type 0
 FreeRingsAreRestoredSoon =
     (w : World) → IsWhole w → HasCircuits (layout_of w) → NoneHeld w → (k : ℕ) → 12 * length w.ring.ids + 2 ≤ k
     → 8 * length w.ring.ids + 61 ≤ k → IsRestored (clocks_from w) (run k w) (requests_of (run k w))
 
+-- where no controller is held and no slip waits, traffic is restored from number 12n + 2 on
 abbrev pub UnslippedRingsAreRestoredSoon : Type 0
 UnslippedRingsAreRestoredSoon =
     (w : World) → IsWhole w → HasCircuits (layout_of w) → NoneHeld w → IsUnslipped w → (k : ℕ) → 12 * length w.ring.ids + 2 ≤ k
@@ -52,9 +54,9 @@ UnslippedRingsAreRestoredSoon =
 
 -- ---- each port by its own number
 
--- where connections are those of the settled states from round `base` on, and no slip waits: the port of a circuit
--- whose ends are joined over some number of hops delivers what it is owed four rounds a hop later, and every other port
--- three rounds a span of the ring later
+-- A port of a circuit whose ends are joined over h hops delivers what it is owed from round number `base` + 4h + 5 on.
+-- Every other port does so from number `base` + 3n - 2 on. The connections are those of the settled states from `base`
+-- on, and no slip waits then.
 pub record ArePortsOwedFrom (w : World) (base : ℕ) : Type 0 where
   pub joined : (k index : ℕ) (c : Provisioned) → slice_get w.ring.circuits.circuits index ≡ Some c → (e : End)
       → (let n = length w.ring.ids in let rs = requests_of (run k w) in
@@ -64,18 +66,19 @@ pub record ArePortsOwedFrom (w : World) (base : ℕ) : Type 0 where
       → (let n = length w.ring.ids in let rs = requests_of (run k w) in
       is_joined n (is_applied rs) (arc_of n c) ≡ false → base + 3 * n ≤ k + 2 → DeliversItsDue (clocks_from w) (run k w) rs c index e)
 
+-- in every whole ring ports have what comes over h hops from number 4n + 4h + 114 on, and AIS from number 7n + 107 on
 abbrev pub PortsAreOwedSoon : Type 0
 PortsAreOwedSoon = (w : World) → IsWhole w → HasCircuits (layout_of w) → ArePortsOwedFrom w (4 * length w.ring.ids + 109)
 
--- where no controller is held and no slip waits, ports are owed what comes over h hops from number 4n + 4h + 14 on, and
--- AIS from number 7n + 7 on
+-- where no controller is held and no slip waits, ports have what comes over h hops from number 4n + 4h + 14 on, and AIS
+-- from number 7n + 7 on
 abbrev pub UnslippedPortsAreOwedSoon : Type 0
 UnslippedPortsAreOwedSoon =
     (w : World) → IsWhole w → HasCircuits (layout_of w) → NoneHeld w → IsUnslipped w → ArePortsOwedFrom w (4 * length w.ring.ids + 9)
 
 -- ---- a settle step
 
--- A settle step of at least 12n + 102 rounds leaves the ring restored where it is unsettled too.
+-- A settle step of at least 12n + 102 rounds leaves the ring restored, even where it is unsettled.
 abbrev pub RestoresBy : World → ℕ → World → Type 0
 RestoresBy w limit left = IsWhole w → 12 * length w.ring.ids + 102 ≤ limit → IsRestored (clocks_from w) left (requests_of left)
 
@@ -84,8 +87,8 @@ UnsettledRingsAreRestored = (w left : World) (limit : ℕ) → HasCircuits (layo
 
 -- ---- from a new ring on
 
--- Where the last of some stretches has at least 12n + 102 rounds, the ring is restored under the requests of the histories in its last round, and what
--- is owed goes by the history of clocks.
+-- Where the last of some stretches has at least 12n + 102 rounds, the ring is restored under the requests that the
+-- histories give for its last round. What is owed goes by the history of clocks.
 abbrev pub StretchesAreRestoredSoon : Type 0
 StretchesAreRestoredSoon =
     (s : Settings) (ids : List ℕ) (circuits : Provisioning) (f : Fibres) (earlier : List Stretch) (last : Stretch) (t : ℕ)

@@ -1,5 +1,6 @@
--- No port ever delivers another customer's byte: the laws, for every round of a ring over honest fibres where only controllers of nodes
--- that stand aside miss their turns.
+-- No port ever delivers another customer's byte: the laws, for every round of a ring over honest fibres in which only
+-- controllers of certain nodes are held. These are nodes that stand aside, and after a quiet window all nodes but those
+-- that pass traffic through.
 use Rattle.std.specs.Prelude.{ℕ, ◌≡◌, ◌⊎◌, ◌+◌, ◌-◌, ◌*◌, ◌<◌, ◌≤◌, ◌/◌, List, [], ◌∷◌, ◌++◌, length}
 use Rattle.sdh_terms.specs.Rates.{n_of}
 use Rattle.sdh_nodestate.specs.declared.NodeState.{NodeState}
@@ -30,6 +31,7 @@ use Rattle.sdh_laws.specs.Strangers.Vouched.{IsAside, IsVouched}
 
 -- ---- no controller is held
 
+-- a change holds no controller
 abbrev pub HoldsNone : Change → Type 0
 HoldsNone (Fibre p d condition) = Unit {0}
 HoldsNone (Order p d command) = Unit {0}
@@ -37,17 +39,19 @@ HoldsNone (Hold p turns) = turns ≡ 0
 HoldsNone (Slip port turn count) = Unit {0}
 HoldsNone (Now t) = Unit {0}
 
+-- none of these changes holds a controller
 abbrev pub HoldNone : List Change → Type 0
 HoldNone [] = Unit {0}
 HoldNone (c ∷ cs) = HoldsNone c × HoldNone cs
 
+-- none of these stretches has a change that holds a controller
 abbrev pub NoneHolds : List Stretch → Type 0
 NoneHolds [] = Unit {0}
 NoneHolds (s ∷ ss) = HoldNone s.changes × NoneHolds ss
 
 -- ---- only controllers of nodes that stand aside are held
 
--- a change holds no controller, or that of a node that stands aside at that moment
+-- a change holds no controller, or that of a node that stands aside when the change comes
 abbrev pub HoldsAside : World → Change → Type 0
 HoldsAside w (Fibre p d condition) = Unit {0}
 HoldsAside w (Order p d command) = Unit {0}
@@ -55,20 +59,21 @@ HoldsAside w (Hold p turns) = (turns ≡ 0) ⊎ IsAside (node_at w.ring.nodes p)
 HoldsAside w (Slip port turn count) = Unit {0}
 HoldsAside w (Now t) = Unit {0}
 
--- each of some changes may be made, one after the other, by what is asked of one
+-- each of some changes may be made, one after the other, where `May` says which change may be made to a world
 abbrev pub EachMay : (World → Change → Type 0) → World → List Change → Type 0
 EachMay May w [] = Unit {0}
 EachMay May w (c ∷ cs) = May w c × EachMay May (changed c w) cs
 
--- each change of some stretches may be made, one after the other
+-- each change of some stretches may be made, one after the other, where `May` says which change may be made to a world
 abbrev pub AllMay : (World → Change → Type 0) → World → List Stretch → Type 0
 AllMay May w [] = Unit {0}
 AllMay May w (s ∷ ss) = EachMay May w s.changes × AllMay May (after_stretch s w) ss
 
+-- all controllers that these stretches hold are those of nodes that stand aside then
 abbrev pub HeldAside : World → List Stretch → Type 0
 HeldAside w ss = AllMay HoldsAside w ss
 
--- ---- no controller is held of a node that passes traffic through
+-- ---- only controllers of nodes that don't pass traffic through are held
 
 -- a node that doesn't pass traffic through
 abbrev pub IsNoPass : NodeState → Type 0
@@ -78,7 +83,7 @@ IsNoPass (state.PassThrough i) = ⊥
 IsNoPass (state.SwitchWest f) = Unit {0}
 IsNoPass (state.SwitchEast f) = Unit {0}
 
--- a change holds no controller, or that of a node that doesn't pass traffic through at that moment
+-- a change holds no controller, or that of a node that doesn't pass traffic through when the change comes
 abbrev pub HoldsNoPass : World → Change → Type 0
 HoldsNoPass w (Fibre p d condition) = Unit {0}
 HoldsNoPass w (Order p d command) = Unit {0}
@@ -86,8 +91,8 @@ HoldsNoPass w (Hold p turns) = (turns ≡ 0) ⊎ IsNoPass (node_at w.ring.nodes 
 HoldsNoPass w (Slip port turn count) = Unit {0}
 HoldsNoPass w (Now t) = Unit {0}
 
--- In each of the stretches only controllers of nodes that stand aside are held; or, where the stretch before it ended with a quiet
--- window, of nodes that don't pass traffic through.
+-- In each of the stretches only controllers of nodes that stand aside are held. Where the stretch before it ended with
+-- a quiet window, those of all nodes that don't pass traffic through may be held.
 abbrev pub HeldBesidePassing : Type 0 → World → List Stretch → Type 0
 HeldBesidePassing Quiet w [] = Unit {0}
 HeldBesidePassing Quiet w (s ∷ ss) =
@@ -96,12 +101,14 @@ HeldBesidePassing Quiet w (s ∷ ss) =
 
 -- ---- where requests follow from what happened
 
--- the requests of all spans in the last round of these stretches, from a new ring of n on, with this threshold and this wait
+-- the requests of all spans in the last round of these stretches, from a new ring of n on, with this threshold and this
+-- waiting time
 abbrev pub last_requests : ℕ → ℕ → ℕ → List Stretch → List ℕ
 last_requests threshold wait n ss = span_requests n (asked_in threshold wait n ss (rounds_in ss - 1))
 
--- After these stretches a change holds no controller, or that of a node that doesn't pass traffic through: in a new
--- ring none does, and in a quiet one the requests of the last round decide it.
+-- After these stretches a change holds no controller, or that of a node that doesn't pass traffic through. In a new
+-- ring no node passes traffic through. In a ring after a quiet window the requests of the last round decide which nodes
+-- do.
 abbrev pub HoldsNonePassing : ℕ → ℕ → ℕ → List Stretch → Change → Type 0
 HoldsNonePassing threshold wait n earlier (Fibre p d condition) = Unit {0}
 HoldsNonePassing threshold wait n earlier (Order p d command) = Unit {0}
@@ -110,6 +117,7 @@ HoldsNonePassing threshold wait n earlier (Hold p turns) =
 HoldsNonePassing threshold wait n earlier (Slip port turn count) = Unit {0}
 HoldsNonePassing threshold wait n earlier (Now t) = Unit {0}
 
+-- after these stretches none of these changes holds a controller of a node that passes traffic through
 abbrev pub HoldNonePassing : ℕ → ℕ → ℕ → List Stretch → List Change → Type 0
 HoldNonePassing threshold wait n earlier [] = Unit {0}
 HoldNonePassing threshold wait n earlier (c ∷ cs) =
@@ -123,20 +131,21 @@ EndQuietly w (s ∷ r ∷ ss) = EndsWindow (course (all_changed s.changes w)) s.
 
 -- ---- rings stay vouched for
 
--- what a round makes of a ring: where it is vouched for it stays so, and no port meets a stranger in the round; these are the
--- ports' clocks before each round
+-- What a round makes of a ring that is vouched for: it stays so, and no port meets a stranger in the round. These are
+-- the ports' clocks before each round.
 abbrev pub KeepsStrangersOut : World → World → Type 0
 KeepsStrangersOut w after =
     (clocks : PortId → ℕ → Clock) → IsVouched clocks w → AreClocksOf clocks w.ring
     → IsVouched clocks after × NoneMeetsAStranger clocks after.ring
 
--- what several rounds, and nothing else, make of it: no port meets a stranger in any of them
+-- what rounds alone make of a ring that is vouched for: it stays so, and no port meets a stranger in any of these
+-- rounds
 abbrev pub KeepsStrangersOutInAll : World → World → Type 0
 KeepsStrangersOutInAll w left = (clocks : PortId → ℕ → Clock) → IsVouched clocks w → AreClocksBetween clocks w left
     → IsVouched clocks left × ((j : ℕ) → 1 ≤ j → w.ring.rounds + j ≤ left.ring.rounds → NoneMeetsAStranger clocks (run j w).ring)
 
--- a new ring over honest fibres is vouched for, and every change keeps that but for one that holds the controller of a node that does not
--- stand aside
+-- A new ring over honest fibres is vouched for. It stays so over every change, except one that holds the controller of
+-- a node that does not stand aside.
 pub record VouchedRingsStay : Type 0 where
   pub new : (s : Settings) (ids : List ℕ) (circuits : Provisioning) (f : Fibres) (clocks : PortId → ℕ → Clock) → AreIds ids → IsHonest f
       → IsVouched clocks (new_world s ids circuits f)
@@ -154,7 +163,7 @@ pub record StepsKeepStrangersOut : Type 0 where
 
 -- ---- from a new ring on
 
--- in each round of the stretches, whatever happens between them, but for held controllers
+-- Where no controller is ever held, no port meets a stranger in any round of the stretches, whatever else happens.
 abbrev pub NoPortEverMeetsAStranger : Type 0
 NoPortEverMeetsAStranger =
     (s : Settings) (ids : List ℕ) (circuits : Provisioning) (f : Fibres) (ss : List Stretch) → AreIds ids → IsHonest f
@@ -163,8 +172,8 @@ NoPortEverMeetsAStranger =
     → (t : ℕ) → t < rounds_in ss → NoneMeetsAStranger (clocks_by circuits.circuits ss)
     (round (world_in ss (new_world s ids circuits f) t)).ring
 
--- No port meets a stranger where controllers are held, as long as each is one of a node that stands aside when it is
--- held, idle or isolated: whatever comes while it misses its turns.
+-- No port meets a stranger where each controller that is held is that of a node that stands aside, idle or isolated,
+-- when it is held. What arrives while the controller misses its rounds doesn't matter.
 abbrev pub NodesAsideMayBeHeld : Type 0
 NodesAsideMayBeHeld =
     (s : Settings) (ids : List ℕ) (circuits : Provisioning) (f : Fibres) (ss : List Stretch) → AreIds ids → IsHonest f
@@ -173,8 +182,8 @@ NodesAsideMayBeHeld =
     → (t : ℕ) → t < rounds_in ss → NoneMeetsAStranger (clocks_by circuits.circuits ss)
     (round (world_in ss (new_world s ids circuits f) t)).ring
 
--- Where a stretch before ended with a quiet window, controllers of nodes that are switched may be held as well: of all nodes but those
--- that pass traffic through.
+-- Where the stretch before ended with a quiet window, controllers of switched nodes may be held too: those of all nodes
+-- but those that pass traffic through.
 abbrev pub NodesThatDoNotPassMayBeHeld : Type 0
 NodesThatDoNotPassMayBeHeld =
     (s : Settings) (ids : List ℕ) (circuits : Provisioning) (f : Fibres) (ss : List Stretch) → AreIds ids → IsHonest f
@@ -185,15 +194,16 @@ NodesThatDoNotPassMayBeHeld =
 
 -- ---- after quiet windows
 
--- What a settle step leaves is vouched for, whatever the ring carried before it, and whichever controllers missed their turns.
+-- What a settle step leaves that ended with a window is vouched for, whatever the ring carried before, and whichever
+-- controllers were held.
 abbrev pub SettledRingsAreVouchedFor : Type 0
 SettledRingsAreVouchedFor =
     (w left : World) (limit : ℕ) (clocks : PortId → ℕ → Clock) → IsWhole w → HasCircuits (layout_of w) → Settles w limit left
     → AreClocksBetween clocks w left → IsVouched clocks left
 
--- A hold spoils its own step alone. From a new ring on, where each stretch but the last ends with a quiet window: in
--- every round of the last one, whatever was held before it, if its own changes hold no controller of a node that passes
--- traffic through.
+-- A hold spoils its own step alone. From a new ring on, each stretch but the last ends with a quiet window. No port
+-- meets a stranger in any round of the last stretch, if its own changes hold no controller of a node that passes
+-- traffic through. What was held before it doesn't matter.
 abbrev pub AHoldSpoilsItsOwnStepAlone : Type 0
 AHoldSpoilsItsOwnStepAlone =
     (s : Settings) (ids : List ℕ) (circuits : Provisioning) (f : Fibres) (earlier : List Stretch) (last : Stretch) → MayStart s ids f
@@ -205,8 +215,9 @@ AHoldSpoilsItsOwnStepAlone =
 
 -- ---- from every whole ring on
 
--- Whatever a ring carries, and whatever happens but for held controllers: it is vouched for once none misses its turns any more, which
--- takes `most` rounds, and n + 1 rounds more for each of the up to n spans of an arc.
+-- Whatever a ring carries, and whatever happens to it except further holds, it comes to be vouched for. That takes
+-- `most` rounds, in which the last controller stops missing rounds, and n + 1 rounds more for each of n spans, the most
+-- that an arc may have.
 abbrev pub RingsComeToBeVouchedFor : Type 0
 RingsComeToBeVouchedFor =
     (most : ℕ) (w : World) (ss : List Stretch) (clocks : PortId → ℕ → Clock) → IsWhole w → HasCircuits (layout_of w)

@@ -1,4 +1,4 @@
--- Whose bytes an AU-4 holds, and what a port delivers that meets no stranger.
+-- Whose bytes an AU-4 holds, and when a port meets no stranger: no bytes of another customer.
 use Rattle.std.specs.Prelude.{ℕ, ◌≡◌, ◌⊎◌, ◌<◌, ◌≤◌, ◌-◌, Some, List, [], ◌∷◌, slice_get}
 use Rattle.sdh_frame.specs.Aus.{Au, ones}
 use Rattle.sdh_circuits.specs.Provisioned.{Provisioned, customer_at}
@@ -20,25 +20,25 @@ use Rattle.sdh_world.specs.Rounds.{World}
 abbrev pub other_port : PortId → PortId
 other_port q = port_id q.circuit (other_end q.end)
 
--- what a port puts into its AU-4 in a round before which it has this clock: the bytes of its customer's stream to which the
--- clock has come
+-- What a port puts into its AU-4 in a round, where this is its clock before the round: the next bytes of its customer's
+-- stream from where the clock stands.
 abbrev pub put_by : Customer → Clock → Au
 put_by customer clock = (input_by (sent_in (record { port = customer; clock = clock }))).au
 
--- an AU-4 has its payload from another, and its three bytes H3 too, or zeros in place of these
+-- the second AU-4 has its payload from the first, and its three bytes H3 too, or zeros in place of these
 pub record HasBytesOf (from a : Au) : Type 0 where
   pub payload : a.payload ≡ from.payload
   pub h3 : (h3_of a.pointers ≡ h3_of from.pointers) ⊎ (h3_of a.pointers ≡ 0 ∷ 0 ∷ 0 ∷ [])
 
--- An AU-4 holds nobody's bytes, which are ones, or what this port put into its AU-4 in one of the rounds before round t, where
--- these are the ports' clocks before each round.
+-- An AU-4 holds ones, which are nobody's bytes, or what this port put into its AU-4 in some round before round t. These
+-- are the ports' clocks before each round.
 pub data Holds (circuits : List Provisioned) (clocks : PortId → ℕ → Clock) (t : ℕ) (port : PortId) (a : Au) : Type 0 where
   nobodys : HasBytesOf ones a → Holds circuits clocks t port a
   customers : (c : Provisioned) (r : ℕ) → slice_get circuits port.circuit ≡ Some c → r < t
       → HasBytesOf (put_by (customer_at c port.end) (clocks port r)) a → Holds circuits clocks t port a
 
--- In round t a port delivers AIS, or a chunk, with whatever pointer value, taken from an AU-4 that holds ones or what its
--- circuit's other port put into its AU-4 in one round before.
+-- In round t a port delivers AIS, or a chunk with any pointer value. The chunk is taken from an AU-4 that holds ones,
+-- or what the circuit's other port put into its AU-4 in some earlier round.
 pub data MeetsNoStranger (circuits : List Provisioned) (clocks : PortId → ℕ → Clock) (t : ℕ) (port : PortId) (o : Outlet) : Type 0 where
   ais_comes : o ≡ silent → MeetsNoStranger circuits clocks t port o
   bytes_come : (value : ℕ) (form : ChunkForm) (a : Au) → o ≡ delivering value (taken form a.payload (h3_of a.pointers))

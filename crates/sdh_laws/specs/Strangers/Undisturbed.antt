@@ -1,4 +1,4 @@
--- A circuit on whose arc nothing is ever asked delivers as if nothing happened elsewhere: the law.
+-- The law that a circuit on whose arc nothing is ever asked delivers as if nothing happened elsewhere.
 use Rattle.std.specs.Prelude.{ℕ, ◌≡◌, ◌<◌, ◌-◌, ◌/◌, true, nat_lt, if◌then◌else◌, Some, List, length, slice_get}
 use Rattle.sdh_terms.specs.Rates.{n_of}
 use Rattle.sdh_terms.specs.declared.Code.TheVariants.{Nr}
@@ -27,14 +27,15 @@ use Rattle.sdh_promise.specs.Owed.{asked_in}
 
 -- ---- the law
 
--- in none of the rounds anything is asked on either end of a span of the circuit's arc, by what happened there
+-- by what happened, neither end of a span of the circuit's arc asks for anything in any of these rounds
 abbrev pub NoneAsks : Settings → ℕ → List Stretch → Provisioned → Type 0
 NoneAsks s n ss c =
     (r p : ℕ) (d : Side) → r < rounds_in ss → p < n → holds_span n (arc_of n c) (span_at n p d) ≡ true
     → asked_in s.threshold s.wait n ss r p d ≡ Nr
 
--- AIS until the first bytes have come over all spans of the arc; then those that the other port sent as many rounds before: 2349, or
--- three fewer or more where its clock slipped in that round, with the pointer value that the clock had after it
+-- What a port delivers in round t straight over its circuit's arc. It is AIS until the first bytes have come over all
+-- spans. Then it is what the other port sent one round a span before: 2349 bytes, or three fewer or more where its
+-- clock slipped in that round, with the pointer value that the clock had after it.
 abbrev pub straight : ℕ → List Provisioned → List Stretch → ℕ → Provisioned → End → ℕ → Outlet
 straight n circuits ss i c e t =
     let far = other_end e in
@@ -43,6 +44,7 @@ straight n circuits ss i c e t =
     if nat_lt t spans then silent else delivering (ticked clock).value
     (stream_from (customer_at c far) clock.sent (taken_len (next_form clock)))
 
+-- where nothing is ever asked on a circuit's arc, each of its ports delivers straight over that arc in every round
 abbrev pub UndisturbedPortsDeliver : Type 0
 UndisturbedPortsDeliver =
     (s : Settings) (ids : List ℕ) (circuits : Provisioning) (f : Fibres) (ss : List Stretch) → MayStart s ids f

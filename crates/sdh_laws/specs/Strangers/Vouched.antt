@@ -1,4 +1,5 @@
--- When each frame that is under way vouches for its AU-4s: a property of a ring and its fibres between rounds.
+-- When a ring is vouched for: each frame that is under way holds only the bytes that may be in it. This is a property
+-- of a ring and its fibres between rounds.
 use Rattle.std.specs.Prelude.{ℕ, ◌≡◌, ◌⊎◌, ◌+◌, ◌*◌, ◌<◌, ◌≤◌, Option, Some, None, option_map, List, length}
 use Rattle.std.specs.Option.{option_and_then}
 use Rattle.sdh_terms.specs.Rates.{n_of}
@@ -30,27 +31,29 @@ use Rattle.sdh_laws.specs.Strangers.Owners.{HasBytesOf, Holds}
 
 -- ---- whose stream goes where
 
--- the end of a circuit whose stream goes along its arc to that side: port A is where the arc starts, and sends eastwards
+-- the end of a circuit whose stream goes along its arc to that side: port A is where the arc starts, and sends
+-- eastwards
 abbrev pub sender : Side → End
 sender East = A
 sender West = B
 
--- the port whose stream goes to a side along the arc of what is on a span; nobody where no circuit is
+-- the port whose stream goes to a side along the arc of the circuit on a span, or none where no circuit is there
 abbrev pub streams_to : Side → Option OnSpan → Option PortId
 streams_to d on = option_map (λ r. port_id r.circuit (sender d)) on
 
--- what a K word speaks of in slot m: what is in that slot on the span that the source of a long word has on a side; nothing
--- where the word isn't a long one that asks, or its source isn't in the ring
+-- the circuit in slot m on the span that this position has on a side, or none where there is no position
 abbrev pub told_of : List ℕ → List Provisioned → ℕ → Side → Option Pos → Option OnSpan
 told_of ids circuits m d None = None
 told_of ids circuits m d (Some source) = circuits_at (length ids) circuits source.0 m d
 
+-- The circuit that a K word speaks of in slot m: the one in that slot on the span that the source of a long word has on
+-- a side. It is none where the word isn't a long one with a request, or its source isn't in the ring.
 abbrev pub spoken_of : List ℕ → List Provisioned → ℕ → Side → K → Option OnSpan
 spoken_of ids circuits m d k = told_of ids circuits m d (option_and_then (λ k. found_at ids k.from) (long_word k))
 
--- ---- who may miss a turn
+-- ---- who may miss a round
 
--- a node that takes nothing from protection and puts nothing there
+-- a node that stands aside: it takes nothing from protection and puts nothing there
 abbrev pub IsAside : NodeState → Type 0
 IsAside (state.Idle i) = Unit {0}
 IsAside (state.Isolated i) = Unit {0}
@@ -58,13 +61,14 @@ IsAside (state.PassThrough i) = ⊥
 IsAside (state.SwitchWest f) = ⊥
 IsAside (state.SwitchEast f) = ⊥
 
--- a controller that misses no turn, or whose node stands aside
+-- a node whose controller misses no round, or which stands aside
 abbrev pub MissesAside : Node → Type 0
 MissesAside n = (n.held ≡ 0) ⊎ IsAside n.state
 
 -- ---- a ring that is vouched for
 
--- an AU-4 holds at most the bytes of a port: ones, or what the port put into its AU-4 in a round before; and nobody's are ones
+-- an AU-4 holds at most the bytes of a port: ones, or what the port put into its AU-4 in some earlier round; for no
+-- port, it holds ones
 abbrev pub HoldsAtMost : List Provisioned → (PortId → ℕ → Clock) → ℕ → Option PortId → Au → Type 0
 HoldsAtMost circuits clocks t None a = HasBytesOf ones a
 HoldsAtMost circuits clocks t (Some port) a = Holds circuits clocks t port a
@@ -73,9 +77,9 @@ HoldsAtMost circuits clocks t (Some port) a = Holds circuits clocks t port a
 abbrev pub au_in : World → ℕ → List ℕ → Au
 au_in w au line = au_of (n_of w.ring.settings.rate) au (scrambled (9 * n_of w.ring.settings.rate) line)
 
--- A whole ring in which only nodes that stand aside miss their turns, and whose frames vouch for what they hold. On
--- each fibre a working slot holds at most the bytes of the circuit that is in it on that span, going that way. And a
--- protection slot holds at most the bytes of the circuit that the K word in its frame speaks of, going the other way.
+-- A whole ring in which only controllers of nodes that stand aside miss rounds, and whose frames vouch for what they
+-- hold. On each fibre a working slot holds at most the bytes of the circuit that is in it on that span, going that way.
+-- A protection slot holds at most the bytes of the circuit that the K word in its frame speaks of, going the other way.
 pub record IsVouched (clocks : PortId → ℕ → Clock) (w : World) : Type 0 where
   pub whole : IsWhole w
   pub aside : AtEach (λ p n. MissesAside n) w.ring.nodes
