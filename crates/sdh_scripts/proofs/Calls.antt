@@ -13,7 +13,7 @@ use Rattle.sdh_shell.specs.Reading.{HasNoPlan, HasPlan, TellsPlan, IsWhyNone, Re
 use Rattle.sdh_shell.specs.declared.reading.NoPlan.{NoPlan}
 use Rattle.sdh_shell.specs.declared.reading.NoPlan.TheVariants as noplan
 use Rattle.sdh_shell.specs.Failing.{Counts, HaveFailed, HasCause, cause_of}
-use Rattle.sdh_shell.specs.Writing.{Telling, Whole, Front, Nothing, telling_of, telling_in, telling_if, TellsAs, TellsWith, WritesAs, WroteEnding}
+use Rattle.sdh_shell.specs.Writing.{Telling, Whole, Front, Nothing, telling_of, telling_in, telling_if, IsShown, TellsAs, TellsWith, WritesAs, WroteEnding}
 use Rattle.sdh_shell.proofs.Told.{told_all}
 use Rattle.sdh_shell.proofs.Failing.{counted_none, counted_as, came_of_none}
 use Rattle.sdh_shell.proofs.Endings.{one_status, no_read, no_long, no_usage, is_shown, with_cause}
@@ -247,7 +247,7 @@ module _ {A L T E : Type 0} (program : Program A L T E) (Cut : CutRun T) (ask : 
 
 -- ---- where no plan is run
 
-refusal_whole : (s : Status) → Refuses s → telling_of s ≡ Whole
+pub refusal_whole : (s : Status) → Refuses s → telling_of s ≡ Whole
 refusal_whole status.ReadFault h = refl
 refusal_whole status.TooLong h = refl
 refusal_whole status.NotToml h = refl
@@ -374,13 +374,35 @@ module _ (why : NoPlan) (s : Status) (is : why ≡ noplan.Refused s) where
       refused_memory : noplan.Refused s ≡ noplan.Memory → ⊥
       refused_memory h = grind arith
 
--- a line alone was to be written
-pub wrote_line : {E : Type 0} (endings : Endings E) (s : Status) (said : E) (text : List ℕ) (end : E) (old new : Option (List ℕ))
-    → said ≡ endings.of s → text ≡ [] ++ endings.line said → WroteEnding endings said text end old new
-    → WroteEnding endings (endings.of s) (endings.line (endings.of s)) end old new
-wrote_line {E} endings s said text end old new is line x =
-    subst (λ (h : E). WroteEnding endings h (endings.line h) end old new) is
-    (subst (λ (t : List ℕ). WroteEnding endings said t end old new) line x)
+-- ---- the endings of a program are those of its type
+
+module _ {E : Type 0} (own its : Endings E) (same : own ≡ its) where
+  -- an ending that goes with its whole text is shown
+  pub shown_as : (end : E) (s : Status) → end ≡ own.of s → telling_of s ≡ Whole → IsShown its end
+  shown_as end s is whole =
+      subst (λ (e : Endings E). IsShown e end) same
+      (ap (λ (h : E). telling_if (own.shared h)) is ∙ ap telling_if (own.shared_of s) ∙ whole)
+
+  pub fault_as : (end : E) → end ≡ own.of status.WriteFault → end ≡ its.of status.WriteFault
+  fault_as end e = e ∙ ap (λ (x : Endings E). x.of status.WriteFault) same
+
+  pub fault_back : (end : E) → end ≡ its.of status.WriteFault → end ≡ own.of status.WriteFault
+  fault_back end e = e ∙ ap (λ (x : Endings E). x.of status.WriteFault) (sym same)
+
+  pub wrote_as : (said how : E) (bytes text : List ℕ) (end : E) (old new : Option (List ℕ)) → said ≡ how → bytes ≡ text
+      → WroteEnding its said bytes end old new → WroteEnding own how text end old new
+  wrote_as said how bytes text end old new is line x =
+      subst (λ (e : Endings E). WroteEnding e how text end old new) (sym same)
+      (subst (λ (h : E). WroteEnding its h text end old new) is
+      (subst (λ (t : List ℕ). WroteEnding its said t end old new) line x))
+
+  -- a line alone was to be written
+  pub wrote_line : (s : Status) (said : E) (start text : List ℕ) (end : E) (old new : Option (List ℕ)) → said ≡ own.of s → start ≡ []
+      → text ≡ start ++ its.line said → WroteEnding its said text end old new
+      → WroteEnding own (own.of s) (own.line (own.of s)) end old new
+  wrote_line s said start text end old new is empty line x =
+      wrote_as said (own.of s) text (own.line (own.of s)) end old new is
+      (line ∙ ap (λ l. l ++ its.line said) empty ∙ ap (λ (e : Endings E). e.line said) (sym same) ∙ ap own.line is) x
 
 -- the words' answer is that of what they ask for
 pub asked_answer : {A L T E : Type 0} (program : Program A L T E) (Cut : CutRun T) (a b : Option A) (seen : Seen) (end : E)

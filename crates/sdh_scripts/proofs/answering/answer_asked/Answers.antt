@@ -1,9 +1,11 @@
-use Rattle.std.proofs.Common.{Err, ◌++◌, refl, ap, sym, ◌∙◌, rules}
+use Rattle.std.proofs.Common.{Err, refl, ap, sym, ◌∙◌}
 use Rattle.std.proofs.lemmas.Result.{IfOk-weaker}
+use Rattle.sdh_report.specs.Written.{Written}
 use Rattle.sdh_report.specs.declared.status.Status.TheVariants as status
 use Rattle.sdh_shell.proofs.Failing.{not_err, counted_as}
 use Rattle.sdh_scripts.specs.Calls.{Seen}
-use Rattle.sdh_scripts.proofs.Calls.{own_answer, read_answer, refused_answer, why_refuses, why_none, why_is, is_why, why_never, wrote_line}
+use Rattle.sdh_scripts.proofs.Calls.{own_answer, read_answer, refused_answer, why_refuses, why_none, why_is, is_why, why_never}
+use Rattle.sdh_scripts.proofs.Calls.{refusal_whole, shown_as, fault_as, fault_back, wrote_line}
 use Rattle.sdh_scripts.proofs.answering.answer_asked.Goals as goal
 
 pub returns-in-Some-clause-answer : goal.returns-in-Some-clause-answer
@@ -68,5 +70,27 @@ returns-in-Err-Refused-clause-answer g c =
     refused.ensures.counted)
     (λ e. refused.ensures.too_long (why_is why s is status.TooLong e))
     (λ has fine. why_never why s is (Err why) refl (refused.ensures.complete has fine))
-    (wrote_line m.program.endings s _ _ c.write_ended.result (g.W.Sink.written c.args.sink.now) (g.W.Sink.written c.write_ended.new.sink)
-    (c.ended-said.ensures.ending ∙ c.ending_of.ensures) (c.ended-said.ensures.text ∙ ap (λ l. l ++ m.program.endings.line c.ended-said.result.ending) (search rules)) c.write_ended.ensures.wrote)
+    (wrote_line m.program.endings _ g.met.M.StreamsPlans.same_endings s c.ended-said.result.ending _ c.ended-said.result.text.bytes
+    c.write_ended.result (g.W.Sink.written c.args.sink.now) (g.W.Sink.written c.write_ended.new.sink)
+    (c.ended-said.ensures.ending ∙ c.ending_of.ensures) (ap (λ (t : Written). t.bytes) c.in_ok-line.ensures) c.ended-said.ensures.text
+    c.write_ended.ensures.wrote)
+
+pub write_ended-requires : goal.write_ended-requires
+write_ended-requires g c =
+    let m = g.M.StreamsPlans in
+    let refused = c.in-Err-Refused in
+    shown_as m.program.endings _ g.met.M.StreamsPlans.same_endings c.ended-said.result.ending refused.how
+    (c.ended-said.ensures.ending ∙ c.ending_of.ensures)
+    (refusal_whole refused.how (why_refuses refused.field-0 refused.how refused.field-0-is refused.ensures.kind))
+
+pub returns-in-Err-Refused-clause-fault : goal.returns-in-Err-Refused-clause-fault
+returns-in-Err-Refused-clause-fault g c e =
+    c.write_ended.ensures.fault (fault_as g.M.StreamsPlans.program.endings _ g.met.M.StreamsPlans.same_endings c.write_ended.result e)
+
+pub returns-in-Err-Refused-clause-writes : goal.returns-in-Err-Refused-clause-writes
+returns-in-Err-Refused-clause-writes g c =
+    let own = g.M.StreamsPlans.program.endings in
+    let same = g.met.M.StreamsPlans.same_endings in
+    let end = c.write_ended.result in
+    counted_as g.W.Sink.exact (g.W.Sink.faults c.args.sink.now) (g.W.Sink.faults c.write_ended.new.sink) (fault_as own _ same end)
+    (fault_back own _ same end) c.write_ended.ensures.writes

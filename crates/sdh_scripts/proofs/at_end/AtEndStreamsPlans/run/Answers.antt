@@ -3,6 +3,9 @@ use Rattle.std.specs.Io.KnownBytes.{Appends}
 use Rattle.sdh_outside.specs.Writing.{AppendsFewer}
 use Rattle.sdh_report.specs.declared.status.Status.TheVariants as status
 use Rattle.sdh_shell.specs.Endings.{Endings}
+use Rattle.sdh_shell.proofs.Endings.{no_write}
+use Rattle.sdh_shell.proofs.Failing.{counted_none}
+use Rattle.sdh_scripts.proofs.Stages.{plan_ends}
 use Rattle.sdh_scripts.proofs.at_end.AtEndStreamsPlans.run.Goals as goal
 
 pub returns-in-Ok-clause-goes : goal.returns-in-Ok-clause-goes
@@ -38,3 +41,28 @@ returns-in-Err-clause-goes g c =
       counted = ran.ensures.calls;
       complete = ran.ensures.complete;
     })
+
+-- a run of a plan doesn't end with a write fault
+pub returns-in-Ok-clause-fault : goal.returns-in-Ok-clause-fault
+returns-in-Ok-clause-fault g c e =
+    let m = g.M.RunsPlans in
+    let means = g.P.Plant.fibres in
+    let report = c.in_ok-report.report in
+    absurd (no_write m.program.endings report.ending (plan_ends m.program c.args.plan (means c.args.plant.now) (means c.run-report.new.plant)
+    report.ending report.text.bytes (m.ask_of c.args.self.asked) c.in_ok-report.ensures.outcome) e)
+
+pub returns-in-Ok-clause-writes : goal.returns-in-Ok-clause-writes
+returns-in-Ok-clause-writes g c =
+    let m = g.M.RunsPlans in
+    let means = g.P.Plant.fibres in
+    let report = c.in_ok-report.report in
+    counted_none g.W.Sink.exact (g.W.Sink.faults c.args.sink.now) (g.W.Sink.faults c.write_text.new.sink)
+    (no_write m.program.endings report.ending (plan_ends m.program c.args.plan (means c.args.plant.now) (means c.run-report.new.plant)
+    report.ending report.text.bytes (m.ask_of c.args.self.asked) c.in_ok-report.ensures.outcome))
+    (λ e. c.in-Ok.ensures.counted.none e (λ x. cc))
+
+pub returns-in-Err-clause-writes : goal.returns-in-Err-clause-writes
+returns-in-Err-clause-writes g c = record {
+  one = λ e x. c.in-Err.ensures.counted.one e refl;
+  none = λ e no. absurd (no (c.of.ensures ∙ ap (λ (x : Endings g.M.RunsPlans.Ending). x.of status.WriteFault) (sym g.met.M.RunsPlans.same_endings)));
+}
