@@ -72,10 +72,10 @@ module _ {A L T E : Type 0} (program : Program A L T E) where
 
 module _ {A L T E : Type 0} (program : Program A L T E) (Cut : CutRun T) (asked : Option A) (seen : Seen) (end : E)
     (old new : Option (List ℕ)) where
-  May : List ℕ → E → List ℕ → Type 0
+  abbrev May : List ℕ → E → List ℕ → Type 0
   May bytes how text = MayEnd program asked bytes seen.fibres seen.reads seen.calls how text seen.fibres_left
 
-  Short : List ℕ → Type 0
+  abbrev Short : List ℕ → Type 0
   Short bytes = IsCutShort program Cut asked bytes seen.fibres old new seen.fibres_left
 
   pub answer_tells : IsAnswer program Cut asked seen end old new

@@ -15,7 +15,7 @@ use Rattle.sdh_scripts.specs.Streams.{LastTold, StoppedTold, CutTold}
 
 module _ {N T : Type 0} (walk : Walk N T) (limit : ℕ) (text_of begun_of : T → List ℕ) where
   -- the rounds are the same, whatever is written of them
-  unwritten : (number : ℕ) (w left : World N) (text : List ℕ) → Begun walk limit number begun_of w text left
+  abbrev unwritten : (number : ℕ) (w left : World N) (text : List ℕ) → Begun walk limit number begun_of w text left
       → Begun walk limit number (λ told. []) w [] left
   unwritten number w left text x = record { mid = x.mid; told = x.told; so_far = x.so_far; next = x.next; text_is = refl }
 
