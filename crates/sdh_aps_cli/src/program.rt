@@ -31,7 +31,7 @@ impl<'a, W: Sink> StreamsPlans<'a, W> for SignalListing {
 
     ghost ask_of = { λ listing. listing };
 
-    fn usage() -> &'static [u8]
+    fn usage() -> &'a [u8]
         ensures line { result.now ≡ signalling.usage }
         ensures short { length result.now ≤ 95 }
     {

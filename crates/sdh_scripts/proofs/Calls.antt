@@ -2,6 +2,7 @@
 use Rattle.std.proofs.Common.{◌≡◌, ◌≢◌, ℕ, Bool, true, None, Some, List, [], ◌++◌, refl, ap, sym, ◌∙◌, subst, inl, inr, arith}
 use Rattle.std.specs.Prelude.{◌⊎◌, Option, IfSome, Result, Ok, Err, IsOk}
 use Rattle.std.specs.Io.KnownBytes.{IsAtEnd}
+use Rattle.std.proofs.lemmas.Bool.{false≢true}
 use Rattle.sdh_basics.specs.Causes.{IsCounted}
 use Rattle.sdh_outside.specs.Reading.{TakesCount}
 use Rattle.sdh_plan.specs.Planned.{Planned}
@@ -365,7 +366,7 @@ module _ (why : NoPlan) (s : Status) (is : why ≡ noplan.Refused s) where
     where
       ok_err : ◌≡◌ {A = Result Planned NoPlan} (Ok plan) (Err why) → ⊥
       ok_err h = grind arith
-  why_never (Err w) e (inl x) = absurd x
+  why_never (Err w) e (inl x) = false≢true x
   why_never (Err w) e (inr x) = refused_memory (sym is ∙ err_same (sym e ∙ x))
     where
       err_same : ◌≡◌ {A = Result Planned NoPlan} (Err why) (Err noplan.Memory) → why ≡ noplan.Memory

@@ -23,6 +23,11 @@ pub fn ending_of<'a, W: Sink, M: StreamsPlans<'a, W>>(status: Status) -> M::Endi
     M::Ending::of(status)
 }
 
+// The endings of a program are those of its type.
+fn endings_agree<'a, W: Sink, M: StreamsPlans<'a, W>>()
+    ensures { M.program.endings ≡ M.Ending.endings }
+{}
+
 // Writes how the program is called, and returns that ending, or a write fault.
 fn answer_usage<'a, W: Sink, M: StreamsPlans<'a, W>>(
     alloc: Global,
@@ -36,6 +41,7 @@ fn answer_usage<'a, W: Sink, M: StreamsPlans<'a, W>>(
     ensures later { W.faults sink.old ≤ W.faults sink.new }
     ensures unwritten { OnErr result (sink.new ≡ sink.old) }
 {
+    endings_agree::<W, M>();
     let mut text = Text::try_new(alloc, LINE_MAX)?;
     text.own_line(M::usage());
     let ending = ending_of::<W, M>(Status::Usage);
@@ -74,6 +80,7 @@ fn answer_asked<'a, W: Sink, M: StreamsPlans<'a, W>, R: Source, P: Plant>(
     ensures unwritten { OnErr result (sink.new ≡ sink.old) }
     ensures unsent { OnErr result (P.fibres plant.new ≡ P.fibres plant.old) }
 {
+    endings_agree::<W, M>();
     if let Some(plan) = asked.own_plan(alloc)? {
         return asked.run(alloc, plan, sink, plant);
     }

@@ -1,5 +1,5 @@
 //! What is written at an end: of a settle step once it has ended, and of a plan once its run has ended.
-ghost use Rattle.std.specs.Prelude.{[], refl};
+ghost use Rattle.std.specs.Prelude.{◌≡◌, [], refl};
 
 use crate::program::RunsPlans;
 use crate::runner::Runner;
@@ -52,6 +52,11 @@ impl<R: Runner> crate::teller::Teller<Kept> for R {
     ghost few = { R.few };
 }
 
+// The endings of a program are those of its type.
+fn ends_agree<'a, M: RunsPlans<'a>>()
+    ensures { M.program.endings ≡ M.Ending.endings }
+{}
+
 /// What a program is asked for where it keeps its text in memory, and writes it once the run of a plan has ended.
 #[derive(Drop)]
 pub struct AtEnd<M> {
@@ -74,7 +79,7 @@ impl<'a, M: RunsPlans<'a>, W: Sink> StreamsPlans<'a, W> for AtEnd<M> {
 
     ghost ask_of = { λ a. M.ask_of a.asked };
 
-    fn usage() -> &'static [u8] {
+    fn usage() -> &'a [u8] {
         M::usage()
     }
 
@@ -96,6 +101,7 @@ impl<'a, M: RunsPlans<'a>, W: Sink> StreamsPlans<'a, W> for AtEnd<M> {
         sink: &mut W,
         plant: &mut P,
     ) -> Result<M::Ending, AllocError> {
+        ends_agree::<M>();
         let report = self.asked.run(alloc, plan, plant)?;
         match write_text(sink, report.text.bytes()) {
             Ok(()) => Ok(report.ending),

@@ -39,7 +39,7 @@ pub trait StreamsPlans<'a, W: Sink>: Drop {
     ghost ask_of: { Self → Ask };
 
     /// Returns the line that says how the program is called, of at most 95 bytes, without its newline byte.
-    fn usage() -> &'static [u8]
+    fn usage() -> &'a [u8]
         ensures line { result.now ≡ program.usage }
         ensures short { length result.now ≤ 95 };
 

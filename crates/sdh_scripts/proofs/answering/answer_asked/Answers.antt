@@ -45,8 +45,8 @@ returns-in-Ok-clause-answer g c =
     c.run-in-Ok.ensures.goes
 
 -- `refused_answer` has one part for each fact that `plan_in` gives of a refusal
-pub returns-in-Err-Refused-clause-answer : goal.returns-in-Err-Refused-clause-answer
-returns-in-Err-Refused-clause-answer g c =
+pub returns-clause-answer : goal.returns-clause-answer
+returns-clause-answer g c =
     let m = g.M.StreamsPlans in
     let refused = c.in-Err-Refused in
     let seen : Seen = record {
@@ -70,7 +70,7 @@ returns-in-Err-Refused-clause-answer g c =
     refused.ensures.counted)
     (λ e. refused.ensures.too_long (why_is why s is status.TooLong e))
     (λ has fine. why_never why s is (Err why) refl (refused.ensures.complete has fine))
-    (wrote_line m.program.endings _ g.met.M.StreamsPlans.same_endings s c.ended-said.result.ending _ c.ended-said.result.text.bytes
+    (wrote_line m.program.endings _ c.endings_agree.ensures s c.ended-said.result.ending _ c.ended-said.result.text.bytes
     c.write_ended.result (g.W.Sink.written c.args.sink.now) (g.W.Sink.written c.write_ended.new.sink)
     (c.ended-said.ensures.ending ∙ c.ending_of.ensures) (ap (λ (t : Written). t.bytes) c.in_ok-line.ensures) c.ended-said.ensures.text
     c.write_ended.ensures.wrote)
@@ -79,18 +79,18 @@ pub write_ended-requires : goal.write_ended-requires
 write_ended-requires g c =
     let m = g.M.StreamsPlans in
     let refused = c.in-Err-Refused in
-    shown_as m.program.endings _ g.met.M.StreamsPlans.same_endings c.ended-said.result.ending refused.how
+    shown_as m.program.endings _ c.endings_agree.ensures c.ended-said.result.ending refused.how
     (c.ended-said.ensures.ending ∙ c.ending_of.ensures)
     (refusal_whole refused.how (why_refuses refused.field-0 refused.how refused.field-0-is refused.ensures.kind))
 
-pub returns-in-Err-Refused-clause-fault : goal.returns-in-Err-Refused-clause-fault
-returns-in-Err-Refused-clause-fault g c e =
-    c.write_ended.ensures.fault (fault_as g.M.StreamsPlans.program.endings _ g.met.M.StreamsPlans.same_endings c.write_ended.result e)
+pub returns-clause-fault : goal.returns-clause-fault
+returns-clause-fault g c e =
+    c.write_ended.ensures.fault (fault_as g.M.StreamsPlans.program.endings _ c.endings_agree.ensures c.write_ended.result e)
 
-pub returns-in-Err-Refused-clause-writes : goal.returns-in-Err-Refused-clause-writes
-returns-in-Err-Refused-clause-writes g c =
+pub returns-clause-writes : goal.returns-clause-writes
+returns-clause-writes g c =
     let own = g.M.StreamsPlans.program.endings in
-    let same = g.met.M.StreamsPlans.same_endings in
+    let same = c.endings_agree.ensures in
     let end = c.write_ended.result in
     counted_as g.W.Sink.exact (g.W.Sink.faults c.args.sink.now) (g.W.Sink.faults c.write_ended.new.sink) (fault_as own _ same end)
     (fault_back own _ same end) c.write_ended.ensures.writes

@@ -19,7 +19,7 @@ returns-clause-came g c =
     let means = g.P.Plant.fibres in
     let run = c.args.new_run in
     let f = means c.args.plant.now in
-    let ran = c.start_over-status.new in
+    let ran = c.start_over.new in
     let wrote = c.in_ok-status.ensures.wrote
     (λ e. let rose = c.in_ok-status.ensures.cut e in absurd (omega (arith, rose))) in
     came_wrote r.walk run.limit (r.text_of run.runner) run.steps.items (with_fibres (r.ring run.runner) f) f

@@ -62,8 +62,8 @@ returns-in-Ok-clause-breaks g c fault =
     (subst (λ (l : List Step). WriteFailed t.walk script.limit (t.text_of runner) (t.begun_of runner) l
     (world (t.ring runner) (means c.prepare.new.self)) old new last) c.deref.ensures.value (c.run_script.ensures.fails fault))
 
-pub returns-in-Err-Failed-clause-wrote : goal.returns-in-Err-Failed-clause-wrote
-returns-in-Err-Failed-clause-wrote g c other =
+pub returns-clause-wrote : goal.returns-clause-wrote
+returns-clause-wrote g c other =
     let t = g.R.Teller in
     let script = c.args.script in
     let runner = c.args.runner.now in
@@ -72,7 +72,7 @@ returns-in-Err-Failed-clause-wrote g c other =
     (world (t.ring runner) (g.P.Plant.fibres c.prepare.new.self)) (g.O.Output.written c.args.output.now) c.in-Err-Failed.ensures.err
 
 -- room for all settle steps and a last line is room for the line
-pub returns-in-Err-Failed-clause-room : goal.returns-in-Err-Failed-clause-room
-returns-in-Err-Failed-clause-room g c =
+pub returns-clause-room : goal.returns-clause-room
+returns-clause-room g c =
     let each = g.R.Teller.room c.args.runner.now in
     g.met.O.Output.fewer 96 (room_for each 0) c.args.output.now (omega arith) c.requires.room

@@ -23,8 +23,8 @@ returns-in-Ok-clause-goes g c =
       complete = ran.ensures.complete;
     })
 
-pub returns-in-Err-clause-goes : goal.returns-in-Err-clause-goes
-returns-in-Err-clause-goes g c =
+pub returns-clause-goes : goal.returns-clause-goes
+returns-clause-goes g c =
     let ran = c.in_ok-report in
     let old = g.W.Sink.written c.args.sink.now in
     let new = g.W.Sink.written c.write_text.new.sink in
@@ -34,7 +34,7 @@ returns-in-Err-clause-goes g c =
       outcome = ran.ensures.outcome;
       wrote =
           inr (
-            c.of.ensures ∙ ap (λ (e : Endings g.M.RunsPlans.Ending). e.of status.WriteFault) (sym g.met.M.RunsPlans.same_endings),
+            c.of.ensures ∙ ap (λ (e : Endings g.M.RunsPlans.Ending). e.of status.WriteFault) (sym c.ends_agree.ensures),
             subst (AppendsFewer old new) c.bytes.ensures c.in-Err.ensures.front,
           );
       failed = ran.ensures.failed;
@@ -48,7 +48,7 @@ returns-in-Ok-clause-fault g c e =
     let m = g.M.RunsPlans in
     let means = g.P.Plant.fibres in
     let report = c.in_ok-report.report in
-    absurd (no_write m.program.endings report.ending (plan_ends m.program c.args.plan (means c.args.plant.now) (means c.run-report.new.plant)
+    absurd (no_write m.program.endings report.ending (plan_ends m.program c.args.plan (means c.args.plant.now) (means c.run.new.plant)
     report.ending report.text.bytes (m.ask_of c.args.self.asked) c.in_ok-report.ensures.outcome) e)
 
 pub returns-in-Ok-clause-writes : goal.returns-in-Ok-clause-writes
@@ -57,12 +57,12 @@ returns-in-Ok-clause-writes g c =
     let means = g.P.Plant.fibres in
     let report = c.in_ok-report.report in
     counted_none g.W.Sink.exact (g.W.Sink.faults c.args.sink.now) (g.W.Sink.faults c.write_text.new.sink)
-    (no_write m.program.endings report.ending (plan_ends m.program c.args.plan (means c.args.plant.now) (means c.run-report.new.plant)
+    (no_write m.program.endings report.ending (plan_ends m.program c.args.plan (means c.args.plant.now) (means c.run.new.plant)
     report.ending report.text.bytes (m.ask_of c.args.self.asked) c.in_ok-report.ensures.outcome))
     (λ e. c.in-Ok.ensures.counted.none e (λ x. cc))
 
-pub returns-in-Err-clause-writes : goal.returns-in-Err-clause-writes
-returns-in-Err-clause-writes g c = record {
+pub returns-clause-writes : goal.returns-clause-writes
+returns-clause-writes g c = record {
   one = λ e x. c.in-Err.ensures.counted.one e refl;
-  none = λ e no. absurd (no (c.of.ensures ∙ ap (λ (x : Endings g.M.RunsPlans.Ending). x.of status.WriteFault) (sym g.met.M.RunsPlans.same_endings)));
+  none = λ e no. absurd (no (c.of.ensures ∙ ap (λ (x : Endings g.M.RunsPlans.Ending). x.of status.WriteFault) (sym c.ends_agree.ensures)));
 }
