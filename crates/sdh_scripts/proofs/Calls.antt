@@ -5,6 +5,7 @@ use Rattle.std.specs.Io.KnownBytes.{IsAtEnd}
 use Rattle.std.proofs.lemmas.Bool.{false≢true}
 use Rattle.sdh_basics.specs.Causes.{IsCounted}
 use Rattle.sdh_outside.specs.Reading.{TakesCount}
+use Rattle.sdh_plant.specs.Fibres.{Fibres}
 use Rattle.sdh_plan.specs.Planned.{Planned}
 use Rattle.sdh_report.specs.Lines.{own_line}
 use Rattle.sdh_report.specs.declared.status.Status.{Status}
@@ -14,7 +15,7 @@ use Rattle.sdh_shell.specs.Reading.{HasNoPlan, HasPlan, TellsPlan, IsWhyNone, Re
 use Rattle.sdh_shell.specs.declared.reading.NoPlan.{NoPlan}
 use Rattle.sdh_shell.specs.declared.reading.NoPlan.TheVariants as noplan
 use Rattle.sdh_shell.specs.Failing.{Counts, HaveFailed, HasCause, cause_of}
-use Rattle.sdh_shell.specs.Writing.{Telling, Whole, Front, Nothing, telling_of, telling_in, telling_if, IsShown, TellsAs, TellsWith, WritesAs, WroteEnding}
+use Rattle.sdh_shell.specs.Writing.{Telling, Whole, Front, Nothing, telling_of, telling_in, telling_if, IsShown, TellsAs, TellsWith, WritesAs, WritesWith, WroteEnding}
 use Rattle.sdh_shell.proofs.Told.{told_all}
 use Rattle.sdh_shell.proofs.Failing.{counted_none, counted_as, came_of_none}
 use Rattle.sdh_shell.proofs.Endings.{one_status, no_read, no_long, no_usage, is_shown, with_cause}
@@ -51,7 +52,7 @@ module _ {E : Type 0} (endings : Endings E) where
   fault_front = ap telling_if (endings.shared_of status.WriteFault)
 
 -- where no run is cut off, what is written is written at an end
-pub writes_at_end : {S : Type 0} (telling : Telling) (may : S → List ℕ → Type 0) (cut : Type 0) (how : S) (old new : Option (List ℕ))
+writes_at_end : {S : Type 0} (telling : Telling) (may : S → List ℕ → Type 0) (cut : Type 0) (how : S) (old new : Option (List ℕ))
     → (cut → ⊥) → TellsAs telling may cut how old new → WritesAs telling may how old new
 writes_at_end Whole may cut how old new never x = x
 writes_at_end Nothing may cut how old new never x = x
@@ -60,7 +61,7 @@ writes_at_end Front may cut how old new never (inr x) = absurd (never x)
 
 module _ {A L T E : Type 0} (program : Program A L T E) where
   -- a program whose runs are never cut off is never cut short
-  pub never_cut : (asked : Option A) (bytes : List ℕ) (f : _) (old new : Option (List ℕ)) (left : _)
+  never_cut : (asked : Option A) (bytes : List ℕ) (f : Fibres) (old new : Option (List ℕ)) (left : Fibres)
       → IsCutShort program (λ plan g reports h. ⊥) asked bytes f old new left → ⊥
   never_cut None bytes f old new left x = x
   never_cut (Some ask) bytes f old new left x = by (program.own_plan ask) x
@@ -68,6 +69,19 @@ module _ {A L T E : Type 0} (program : Program A L T E) where
       by : (o : Option Planned) → breaks_own program (λ plan g reports h. ⊥) ask o bytes f old new left → ⊥
       by None y = y.2.3
       by (Some plan) y = y.3
+
+  -- and what it wrote is written at an end
+  pub wrote_at_end : (asked : Option A) (source : Option (List ℕ)) (f left : Fibres) (reads calls : Counts) (how : E) (old new : Option (List ℕ))
+      → IfSome (told program asked source) (λ bytes. TellsWith program.endings
+      (λ h text. MayEnd program asked bytes f reads calls h text left)
+      (IsCutShort program (λ plan g reports h. ⊥) asked bytes f old new left) how old new)
+      → IfSome (told program asked source) (λ bytes. WritesWith program.endings
+      (λ h text. MayEnd program asked bytes f reads calls h text left) how old new)
+  wrote_at_end asked source f left reads calls how old new x =
+      told_all (told program asked source) _
+      (λ (bytes : List ℕ). WritesWith program.endings (λ h text. MayEnd program asked bytes f reads calls h text left) how old new)
+      (λ bytes is. writes_at_end (telling_in program.endings how) (λ h text. MayEnd program asked bytes f reads calls h text left)
+      (IsCutShort program (λ plan g reports h. ⊥) asked bytes f old new left) how old new (never_cut asked bytes f old new left) is) x
 
 -- ---- what an answer says
 

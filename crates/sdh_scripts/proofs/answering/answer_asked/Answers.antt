@@ -72,16 +72,19 @@ returns-clause-answer g c =
     (λ has fine. why_never why s is (Err why) refl (refused.ensures.complete has fine))
     (wrote_line m.program.endings _ c.endings_agree.ensures s c.ended-said.result.ending _ c.ended-said.result.text.bytes
     c.write_ended.result (g.W.Sink.written c.args.sink.now) (g.W.Sink.written c.write_ended.new.sink)
-    (c.ended-said.ensures.ending ∙ c.ending_of.ensures) (ap (λ (t : Written). t.bytes) c.in_ok-line.ensures) c.ended-said.ensures.text
+    (c.ended-said.ensures.ending ∙ c.ending_of.ensures ∙ ap m.program.endings.of refused.how-is) (ap (λ (t : Written). t.bytes) c.in_ok-line.ensures) c.ended-said.ensures.text
     c.write_ended.ensures.wrote)
 
 pub write_ended-requires : goal.write_ended-requires
 write_ended-requires g c =
     let m = g.M.StreamsPlans in
     let refused = c.in-Err-Refused in
-    shown_as m.program.endings _ c.endings_agree.ensures c.ended-said.result.ending refused.how
-    (c.ended-said.ensures.ending ∙ c.ending_of.ensures)
-    (refusal_whole refused.how (why_refuses refused.field-0 refused.how refused.field-0-is refused.ensures.kind))
+    record {
+      shown =
+          shown_as m.program.endings _ c.endings_agree.ensures c.ended-said.result.ending refused.how
+          (c.ended-said.ensures.ending ∙ c.ending_of.ensures ∙ ap m.program.endings.of refused.how-is)
+          (refusal_whole refused.how (why_refuses refused.field-0 refused.how refused.field-0-is refused.ensures.kind));
+    }
 
 pub returns-clause-fault : goal.returns-clause-fault
 returns-clause-fault g c e =

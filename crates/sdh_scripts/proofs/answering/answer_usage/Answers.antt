@@ -1,5 +1,4 @@
 use Rattle.std.proofs.Common.{◌≡◌, refl, rules}
-use Rattle.std.specs.Prelude.{Result}
 use Rattle.sdh_report.specs.Lines.{own_line}
 use Rattle.sdh_report.specs.declared.status.Status.TheVariants as status
 use Rattle.sdh_shell.proofs.Failing.{counted_as}
@@ -9,7 +8,7 @@ use Rattle.sdh_scripts.proofs.answering.answer_usage.Goals as goal
 pub write_ended-requires : goal.write_ended-requires
 write_ended-requires g c =
     let m = g.M.StreamsPlans in
-    shown_as m.program.endings _ c.endings_agree.ensures c.ending_of-ending.result status.Usage c.ending_of-ending.ensures refl
+    record { shown = shown_as m.program.endings _ c.endings_agree.ensures c.ending_of-ending.result status.Usage c.ending_of-ending.ensures refl }
 
 pub returns-clause-wrote : goal.returns-clause-wrote
 returns-clause-wrote g c =

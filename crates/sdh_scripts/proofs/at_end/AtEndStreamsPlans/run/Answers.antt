@@ -1,11 +1,10 @@
-use Rattle.std.proofs.Common.{inl, inr, subst, refl, ap, sym, ◌∙◌}
+use Rattle.std.proofs.Common.{inl, inr, subst, refl}
 use Rattle.std.specs.Io.KnownBytes.{Appends}
 use Rattle.sdh_outside.specs.Writing.{AppendsFewer}
-use Rattle.sdh_report.specs.declared.status.Status.TheVariants as status
-use Rattle.sdh_shell.specs.Endings.{Endings}
 use Rattle.sdh_shell.proofs.Endings.{no_write}
 use Rattle.sdh_shell.proofs.Failing.{counted_none}
 use Rattle.sdh_scripts.proofs.Stages.{plan_ends}
+use Rattle.sdh_scripts.proofs.Calls.{fault_back}
 use Rattle.sdh_scripts.proofs.at_end.AtEndStreamsPlans.run.Goals as goal
 
 pub returns-in-Ok-clause-goes : goal.returns-in-Ok-clause-goes
@@ -34,7 +33,7 @@ returns-clause-goes g c =
       outcome = ran.ensures.outcome;
       wrote =
           inr (
-            c.of.ensures ∙ ap (λ (e : Endings g.M.RunsPlans.Ending). e.of status.WriteFault) (sym c.ends_agree.ensures),
+            fault_back g.M.RunsPlans.program.endings _ c.ends_agree.ensures c.of.result c.of.ensures,
             subst (AppendsFewer old new) c.bytes.ensures c.in-Err.ensures.front,
           );
       failed = ran.ensures.failed;
@@ -64,5 +63,5 @@ returns-in-Ok-clause-writes g c =
 pub returns-clause-writes : goal.returns-clause-writes
 returns-clause-writes g c = record {
   one = λ e x. c.in-Err.ensures.counted.one e refl;
-  none = λ e no. absurd (no (c.of.ensures ∙ ap (λ (x : Endings g.M.RunsPlans.Ending). x.of status.WriteFault) (sym c.ends_agree.ensures)));
+  none = λ e no. absurd (no (fault_back g.M.RunsPlans.program.endings _ c.ends_agree.ensures c.of.result c.of.ensures));
 }
