@@ -412,12 +412,12 @@ module _ {E : Type 0} (own its : Endings E) (same : own ≡ its) where
       (subst (λ (t : List ℕ). WroteEnding its said t end old new) line x))
 
   -- a line alone was to be written
-  pub wrote_line : (s : Status) (said : E) (start text : List ℕ) (end : E) (old new : Option (List ℕ)) → said ≡ own.of s → start ≡ []
-      → text ≡ start ++ its.line said → WroteEnding its said text end old new
+  pub wrote_line : (s : Status) (said given : E) (start text : List ℕ) (end : E) (old new : Option (List ℕ)) → said ≡ given → given ≡ own.of s
+      → start ≡ [] → text ≡ start ++ its.line given → WroteEnding its said text end old new
       → WroteEnding own (own.of s) (own.line (own.of s)) end old new
-  wrote_line s said start text end old new is empty line x =
-      wrote_as said (own.of s) text (own.line (own.of s)) end old new is
-      (line ∙ ap (λ l. l ++ its.line said) empty ∙ ap (λ (e : Endings E). e.line said) (sym same) ∙ ap own.line is) x
+  wrote_line s said given start text end old new as_given is empty line x =
+      wrote_as said (own.of s) text (own.line (own.of s)) end old new (as_given ∙ is)
+      (line ∙ ap (λ l. l ++ its.line given) empty ∙ ap (λ (e : Endings E). e.line given) (sym same) ∙ ap own.line is) x
 
 -- the words' answer is that of what they ask for
 pub asked_answer : {A L T E : Type 0} (program : Program A L T E) (Cut : CutRun T) (a b : Option A) (seen : Seen) (end : E)

@@ -70,9 +70,10 @@ returns-clause-answer g c =
     refused.ensures.counted)
     (λ e. refused.ensures.too_long (why_is why s is status.TooLong e))
     (λ has fine. why_never why s is (Err why) refl (refused.ensures.complete has fine))
-    (wrote_line m.program.endings _ c.endings_agree.ensures s c.ended-said.result.ending _ c.ended-said.result.text.bytes
+    (wrote_line m.program.endings _ c.endings_agree.ensures s c.ended-said.result.ending c.ending_of.result _ c.ended-said.result.text.bytes
     c.write_ended.result (g.W.Sink.written c.args.sink.now) (g.W.Sink.written c.write_ended.new.sink)
-    (c.ended-said.ensures.ending ∙ c.ending_of.ensures ∙ ap m.program.endings.of refused.how-is) (ap (λ (t : Written). t.bytes) c.in_ok-line.ensures) c.ended-said.ensures.text
+    c.ended-said.ensures.ending
+    (c.ending_of.ensures ∙ ap m.program.endings.of refused.how-is) (ap (λ (t : Written). t.bytes) c.in_ok-line.ensures) c.ended-said.ensures.text
     c.write_ended.ensures.wrote)
 
 pub write_ended-requires : goal.write_ended-requires
