@@ -3,4 +3,4 @@ pub mod Rounds
 pub mod Known
 pub mod Plans
 pub mod Steps
-pub mod Stages
+pub mod Goings

@@ -1,21 +1,26 @@
--- What is written of a plan that is run.
-use Rattle.std.proofs.Common.{◌≡◌, true, ℕ, List, [], ◌++◌, length, refl, ap, ap₂, sym, subst, ◌∙◌, inl, inr}
-use Rattle.std.specs.Prelude.{Option}
+-- What is reported of a plan that is run.
+use Rattle.std.proofs.Common.{◌≡◌, true, ℕ, List, [], ◌∷◌, ◌++◌, refl, ap, ap₂, sym, subst, ◌∙◌, inl, inr}
+use Rattle.std.specs.Prelude.{Option, map}
 use Rattle.std.specs.List.{flat_map}
 use Rattle.std.specs.Io.KnownBytes.{Appends}
-use Rattle.sdh_terms.specs.declared.Rate.{Rate}
+use Rattle.std.proofs.lemmas.Grind.{flat_map-append}
+use Rattle.sdh_outside.specs.Writing.{AppendsFewer}
 use Rattle.sdh_plant.specs.Fibres.{Fibres, IsHonest}
-use Rattle.sdh_plant.specs.Calls.{prepared}
 use Rattle.sdh_world.specs.Held.{HeldRing}
-use Rattle.sdh_world.specs.Rounds.{World, world}
+use Rattle.sdh_world.specs.Rounds.{World}
 use Rattle.sdh_plan.specs.Planned.{Planned, IsPlanned, provisioning_of}
 use Rattle.sdh_plan.specs.Steps.{new_past}
 use Rattle.sdh_plan.specs.declared.step.Step.{Step}
 use Rattle.sdh_report.specs.declared.status.Status.{Status}
 use Rattle.sdh_report.specs.declared.status.Status.TheVariants as status
-use Rattle.sdh_scripts.specs.Texts.{Lists, WriteFailed}
+use Rattle.sdh_shell.specs.Calls.{HasRun}
+use Rattle.sdh_shell.proofs.Endings.{has_run}
+use Rattle.sdh_scripts.specs.Outcomes.{with_fibres}
+use Rattle.sdh_scripts.specs.Texts.{WriteFailed}
+use Rattle.sdh_scripts.specs.Streams.{WroteSteps}
+use Rattle.sdh_scripts.proofs.Streams.{stopped_told, cut_told}
 use Rattle.sdh_scripts.specs.Plans.{Comes}
-use Rattle.sdh_scripts.proofs.Plans.{known_then, settles_then}
+use Rattle.sdh_scripts.proofs.Plans.{comes_of, known_then, settles_then, ends_of, done_of}
 use Rattle.sdh_scripts.proofs.Reporting.{reported}
 use Rattle.sdh_owed.specs.Laws.{ScriptsSettle}
 use Rattle.sdh_owed.specs.Reports.{report_of}
@@ -24,16 +29,28 @@ use Rattle.sdh_owed.proofs.Plans.{adm_new, may_start, circuits_fit}
 use Rattle.sdh_aps_cli.specs.Signalled.{Signalled}
 use Rattle.sdh_aps_cli.specs.Scripts.{signalling_walk}
 use Rattle.sdh_aps_cli.specs.Listing.{begun_text, ended_text}
-use Rattle.sdh_aps_cli.specs.Plans.{signalling_account, IsRunOf, IsTextOf, BreaksWriting}
+use Rattle.sdh_aps_cli.specs.Plans.{signalling_account, IsRunOf, MaySettle, Piece, Ended, Begun, piece_text, pieces_text, pieces_of, IsSignalledRun, IsCutRun}
 use Rattle.sdh_aps_cli.specs.declared.listing.SignalListing.{SignalListing}
 use Rattle.sdh_aps_cli.proofs.Known.{keeps_rounds}
 
--- the ring of a plan over fibres that were prepared for it
-pub world_is : (plan : Planned) (r : HeldRing) (rate : Rate) (n : ℕ) (made f : Fibres) → r ≡ new_ring_of plan → rate ≡ plan.settings.rate
-    → n ≡ length plan.nodes → made ≡ prepared rate n f → world r made ≡ world_of plan f
-world_is plan r rate n made f ring rates size is =
-    ap₂ (λ (x : HeldRing) (g : Fibres). world x g) ring
-    (is ∙ ap (λ (a : Rate). prepared a n f) rates ∙ ap (λ (k : ℕ). prepared plan.settings.rate k f) size)
+-- ---- the text of pieces
+
+module _ (listing : SignalListing) where
+  ended_pieces : (told : List Signalled) → pieces_text listing (map Ended told) ≡ flat_map (ended_text listing) told
+  ended_pieces [] = refl
+  ended_pieces (s ∷ told) = ap (λ l. ended_text listing s ++ l) (ended_pieces told)
+
+  begun_pieces : (told : List Signalled) → pieces_text listing (map Begun told) ≡ flat_map (begun_text listing) told
+  begun_pieces [] = refl
+  begun_pieces (s ∷ told) = ap (λ l. begun_text listing s ++ l) (begun_pieces told)
+
+  pub all_pieces : (ended begun : List Signalled)
+      → pieces_text listing (pieces_of ended begun) ≡ flat_map (ended_text listing) ended ++ flat_map (begun_text listing) begun
+  all_pieces ended begun =
+      flat_map-append (piece_text listing) (map Ended ended) (map Begun begun)
+      ∙ ap₂ (λ (l m : List ℕ). l ++ m) (ended_pieces ended) (begun_pieces begun)
+
+-- ---- a run
 
 module _ (settles : ScriptsSettle) (plan : Planned) (listing : SignalListing) (f : Fibres) (fits : IsPlanned plan)
     (honest : f.honest ≡ true → IsHonest f) where
@@ -52,53 +69,67 @@ module _ (settles : ScriptsSettle) (plan : Planned) (listing : SignalListing) (f
         reports came;
   }
 
-  -- no fibres were made
-  pub text_none : (left : Fibres) → left ≡ f → IsTextOf plan listing f [] status.PlantFault left
-  text_none left same = record {
-    reports = [];
-    came = run_of left [] status.PlantFault (inl (refl, refl, same));
-    tail = [];
-    tail_is = inl (refl, inr (refl, refl, same));
-    text_is = refl;
-  }
+  -- a run in which no write failed
+  pub signalled : (limit : ℕ) (steps : List Step) (r : HeldRing) (old new : Option (List ℕ)) (end : Status) (left : World)
+      → limit ≡ plan.limit → steps ≡ plan.steps → r ≡ new_ring_of plan
+      → WroteSteps signalling_walk limit (ended_text listing) (begun_text listing) steps (with_fibres r f) f old new end left
+      → (pieces : List Piece) × IsSignalledRun plan f pieces end left.fibres × Appends old new (pieces_text listing pieces)
+  signalled limit steps r old new end left limits same ring x =
+      by (subst (λ (v : HeldRing). WroteSteps signalling_walk plan.limit (ended_text listing) (begun_text listing) plan.steps (with_fibres v f) f
+      old new end left) ring
+      (subst (λ (l : List Step). WroteSteps signalling_walk plan.limit (ended_text listing) (begun_text listing) l (with_fibres r f) f old new
+      end left) same
+      (subst (λ (k : ℕ). WroteSteps signalling_walk k (ended_text listing) (begun_text listing) steps (with_fibres r f) f old new end left)
+      limits x)))
+    where
+      by : WroteSteps signalling_walk plan.limit (ended_text listing) (begun_text listing) plan.steps (world_of plan f) f old new end left
+          → (pieces : List Piece) × IsSignalledRun plan f pieces end left.fibres × Appends old new (pieces_text listing pieces)
+      by y =
+          let came = run_of left.fibres y.reports end
+          (comes_of signalling_walk plan.limit plan.steps (world_of plan f) f y.reports end left y.ran) in
+          elim y.tail_is [
+            | inl none ↦ (
+              pieces_of y.reports [],
+              record { reports = y.reports; came = came; begun = []; begun_is = inl (refl, none.1); pieces_are = refl },
+              subst (Appends old new)
+                  (ap (λ l. flat_map (ended_text listing) y.reports ++ l) none.0 ∙ sym (all_pieces listing y.reports [])) y.text,
+            )
+            | inr stopped ↦ (
+                let told = stopped_told signalling_walk plan.limit (ended_text listing) (begun_text listing) plan.steps (world_of plan f)
+                y.reports y.tail end left stopped in (
+                  pieces_of y.reports told.0,
+                  record { reports = y.reports; came = came; begun = told.0; begun_is = inr (left, refl, told.1); pieces_are = refl },
+                  subst (Appends old new)
+                      (ap (λ l. flat_map (ended_text listing) y.reports ++ l) told.2 ∙ sym (all_pieces listing y.reports told.0)) y.text,
+                ))
+          ]
 
-  -- the script ran
-  text_lists : (old new : Option (List ℕ)) (end : Status) (last : World)
-      → Lists signalling_walk plan.limit (ended_text listing) (begun_text listing) plan.steps (world_of plan f) old new end last
-      → (text : List ℕ) × IsTextOf plan listing f text end last.fibres × Appends old new text
-  text_lists old new end last x = (
-    flat_map (ended_text listing) x.reports ++ x.tail,
-    record {
-      reports = x.reports;
-      came = run_of last.fibres x.reports end (inr (last, refl, x.runs));
-      tail = x.tail;
-      tail_is = elim x.tail_is [
-        | inl done ↦ inl (done.1, inl done.0)
-        | inr y ↦ inr (last, refl, y)
-      ];
-      text_is = refl;
-    },
-    x.text,
-  )
+  -- a run in which a write failed
+  pub cut_run : (limit : ℕ) (steps : List Step) (r : HeldRing) (old new : Option (List ℕ)) (left : World)
+      → limit ≡ plan.limit → steps ≡ plan.steps → r ≡ new_ring_of plan
+      → WriteFailed signalling_walk limit (ended_text listing) (begun_text listing) steps (with_fibres r f) old new left
+      → (pieces : List Piece) × IsCutRun plan f pieces left.fibres × AppendsFewer old new (pieces_text listing pieces)
+  cut_run limit steps r old new left limits same ring x =
+      by (subst (λ (v : HeldRing). WriteFailed signalling_walk plan.limit (ended_text listing) (begun_text listing) plan.steps (with_fibres v f)
+      old new left) ring
+      (subst (λ (l : List Step). WriteFailed signalling_walk plan.limit (ended_text listing) (begun_text listing) l (with_fibres r f) old new
+      left) same
+      (subst (λ (k : ℕ). WriteFailed signalling_walk k (ended_text listing) (begun_text listing) steps (with_fibres r f) old new left)
+      limits x)))
+    where
+      by : WriteFailed signalling_walk plan.limit (ended_text listing) (begun_text listing) plan.steps (world_of plan f) old new left
+          → (pieces : List Piece) × IsCutRun plan f pieces left.fibres × AppendsFewer old new (pieces_text listing pieces)
+      by y =
+          let told = cut_told signalling_walk plan.limit (ended_text listing) (begun_text listing) plan.steps (world_of plan f) old new left y in (
+            pieces_of told.0 told.1,
+            record { ended = told.0; begun = told.1; last = left; last_is = refl; cut = told.2; pieces_are = refl },
+            subst (AppendsFewer old new) (sym (all_pieces listing told.0 told.1)) told.3,
+          )
 
-  module _ (limit : ℕ) (steps : List Step) (w : World) (limits : limit ≡ plan.limit) (same : steps ≡ plan.steps)
-      (is : w ≡ world_of plan f) (old new : Option (List ℕ)) where
-    pub text_ran : (end : Status) (last : World)
-        → Lists signalling_walk limit (ended_text listing) (begun_text listing) steps w old new end last
-        → (text : List ℕ) × IsTextOf plan listing f text end last.fibres × Appends old new text
-    text_ran end last x =
-        text_lists old new end last
-        (subst (λ (v : World). Lists signalling_walk plan.limit (ended_text listing) (begun_text listing) plan.steps v old new end last) is
-        (subst (λ (l : List Step). Lists signalling_walk plan.limit (ended_text listing) (begun_text listing) l w old new end last) same
-        (subst (λ (k : ℕ). Lists signalling_walk k (ended_text listing) (begun_text listing) steps w old new end last) limits x)))
+-- the ways in which it ends, and that one that settles is done
+pub run_ends : (plan : Planned) (f left : Fibres) (pieces : List Piece) (end : Status) → IsSignalledRun plan f pieces end left → HasRun end
+run_ends plan f left pieces end x = has_run end (ends_of signalling_account plan f left end x.reports x.came)
 
-    pub text_cut : (last : World)
-        → WriteFailed signalling_walk limit (ended_text listing) (begun_text listing) steps w old new last
-        → BreaksWriting plan listing f old new last.fibres
-    text_cut last x = (
-      last,
-      refl,
-      subst (λ (v : World). WriteFailed signalling_walk plan.limit (ended_text listing) (begun_text listing) plan.steps v old new last) is
-          (subst (λ (l : List Step). WriteFailed signalling_walk plan.limit (ended_text listing) (begun_text listing) l w old new last) same
-          (subst (λ (k : ℕ). WriteFailed signalling_walk k (ended_text listing) (begun_text listing) steps w old new last) limits x)),
-    )
+pub run_done : (plan : Planned) (f left : Fibres) (pieces : List Piece) (end : Status) → IsSignalledRun plan f pieces end left
+    → MaySettle plan f → (end ≡ status.PlantFault → ⊥) → end ≡ status.Ok
+run_done plan f left pieces end x may fine = done_of signalling_account plan f left end x.reports x.came may fine

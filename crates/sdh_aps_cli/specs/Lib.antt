@@ -6,4 +6,4 @@ pub mod Recording
 pub mod Keeping
 pub mod Scripts
 pub mod Plans
-pub mod Outcome
+pub mod Headline

@@ -1,5 +1,5 @@
 -- What is written of a plan whose signalling is shown, where its fibres aren't made yet.
-use Rattle.std.specs.Prelude.{ℕ, ◌≡◌, ◌⊎◌, List, [], ◌++◌, Option}
+use Rattle.std.specs.Prelude.{ℕ, ◌≡◌, ◌⊎◌, List, [], ◌++◌, map}
 use Rattle.std.specs.List.{flat_map}
 use Rattle.sdh_plant.specs.Fibres.{Fibres}
 use Rattle.sdh_node.specs.Node.{Node}
@@ -9,7 +9,7 @@ use Rattle.sdh_report.specs.declared.status.Status.{Status}
 use Rattle.sdh_report.specs.declared.status.Status.TheVariants as status
 use Rattle.sdh_scripts.specs.Plans.{Account, ReportsOwe}
 use Rattle.sdh_scripts.specs.Plans as plans
-use Rattle.sdh_scripts.specs.Texts.{Stopped, WriteFailed}
+use Rattle.sdh_scripts.specs.Streams.{StoppedTold, CutTold}
 use Rattle.sdh_owed.specs.Plans.{new_ring_of, world_of}
 use Rattle.sdh_aps_cli.specs.Signalled.{Signalled}
 use Rattle.sdh_aps_cli.specs.Scripts.{signalling_walk}
@@ -28,24 +28,50 @@ Owes plan f reports end left = Unit {0}
 abbrev pub IsRunOf : Planned → Fibres → List Signalled → Status → Fibres → Type 0
 IsRunOf = plans.IsRunOf signalling_account Owes
 
--- What is written after the settle steps that ended. The script was done, or the plant made no fibres, and it is nothing; or it is what is
--- written of the rounds that ran of the step with which the script ended.
-abbrev pub IsTail : Planned → SignalListing → Fibres → List Signalled → List ℕ → Status → Fibres → Type 0
-IsTail plan listing f reports tail end left =
-    ((tail ≡ []) × ((end ≡ status.Ok) ⊎ ((end ≡ status.PlantFault) × (reports ≡ []) × (left ≡ f))))
-    ⊎ ((last : World) × (last.fibres ≡ left)
-    × Stopped signalling_walk plan.limit (begun_text listing) plan.steps (world_of plan f) reports tail end last)
+-- what a run needs to come to its end: where the arrivals are known each settle step has a quiet window within the
+-- limit; or the fibres are honest and the limit is always enough
+abbrev pub MaySettle : Planned → Fibres → Type 0
+MaySettle = plans.MaySettle signalling_account
 
--- a plan was run over any plant, it ended so, and this is the text of the rounds that ran, step by step
-pub record IsTextOf (plan : Planned) (listing : SignalListing) (f : Fibres) (text : List ℕ) (end : Status) (left : Fibres) : Type 0 where
+-- ---- what is reported
+
+-- a piece of the report of a run: of a settle step that ended, or of the rounds that ran of one that didn't
+pub data Piece : Type 0 where
+  Ended : Signalled → Piece
+  Begun : Signalled → Piece
+
+abbrev pub piece_text : SignalListing → Piece → List ℕ
+piece_text listing (Ended s) = ended_text listing s
+piece_text listing (Begun s) = begun_text listing s
+
+abbrev pub pieces_text : SignalListing → List Piece → List ℕ
+pieces_text listing pieces = flat_map (piece_text listing) pieces
+
+-- the pieces of the settle steps that ended, and then those of a settle step that didn't
+abbrev pub pieces_of : List Signalled → List Signalled → List Piece
+pieces_of ended begun = map Ended ended ++ map Begun begun
+
+-- What is reported after the settle steps that ended. It is nothing where the script was done, or the plant made no
+-- fibres. Else it is of the rounds that ran of the step with which the script ended.
+abbrev pub IsLast : Planned → Fibres → List Signalled → List Signalled → Status → Fibres → Type 0
+IsLast plan f reports begun end left =
+    ((begun ≡ []) × ((end ≡ status.Ok) ⊎ ((end ≡ status.PlantFault) × (reports ≡ []) × (left ≡ f))))
+    ⊎ ((last : World) × (last.fibres ≡ left)
+    × StoppedTold signalling_walk plan.limit plan.steps (world_of plan f) reports begun end last)
+
+-- a plan was run over any plant, it ended so, and these pieces are reported of the rounds that ran, step by step
+pub record IsSignalledRun (plan : Planned) (f : Fibres) (pieces : List Piece) (end : Status) (left : Fibres) : Type 0 where
   pub reports : List Signalled
   pub came : IsRunOf plan f reports end left
-  pub tail : List ℕ
-  pub tail_is : IsTail plan listing f reports tail end left
-  pub text_is : text ≡ flat_map (ended_text listing) reports ++ tail
+  pub begun : List Signalled
+  pub begun_is : IsLast plan f reports begun end left
+  pub pieces_are : pieces ≡ pieces_of reports begun
 
--- a write failed while the plan ran: a front of the text was written, and no round ran after it
-abbrev pub BreaksWriting : Planned → SignalListing → Fibres → Option (List ℕ) → Option (List ℕ) → Fibres → Type 0
-BreaksWriting plan listing f old new left =
-    (last : World) × (last.fibres ≡ left)
-    × WriteFailed signalling_walk plan.limit (ended_text listing) (begun_text listing) plan.steps (world_of plan f) old new last
+-- a write failed while the plan ran, and no round ran after it: these pieces were to be written
+pub record IsCutRun (plan : Planned) (f : Fibres) (pieces : List Piece) (left : Fibres) : Type 0 where
+  pub ended : List Signalled
+  pub begun : List Signalled
+  pub last : World
+  pub last_is : last.fibres ≡ left
+  pub cut : CutTold signalling_walk plan.limit plan.steps (world_of plan f) ended begun last
+  pub pieces_are : pieces ≡ pieces_of ended begun

@@ -10,7 +10,7 @@ use Rattle.sdh_nodestate.specs.Filtering.{hears}
 use Rattle.sdh_node.specs.Node.{Node}
 use Rattle.sdh_world.specs.Held.{HeldRing, node_at}
 use Rattle.sdh_world.specs.Rounds.{World}
-use Rattle.sdh_owed.specs.Reports.{state_word, bytes_told}
+use Rattle.sdh_aps.specs.Told.{state_word, bytes_told}
 use Rattle.sdh_aps.specs.declared.shown.Shown.{Shown}
 use Rattle.sdh_aps.specs.Shown.{same_shown}
 

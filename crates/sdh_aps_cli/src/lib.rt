@@ -1,13 +1,14 @@
-//! The one call of the program `sdhaps`: from the words, a source of bytes and a plant to a status and a text. A plan is run
-//! over any plant, and how its ring signals is written round by round, while it runs: of each node that shows something
-//! else than in the round before, what it shows.
+//! The one call of the program `sdhaps`: from the words, a source of bytes and a plant to a status and a text. A plan
+//! is run over any plant, and how its ring signals is written round by round, while it runs: of each node that shows
+//! something else than in the round before, what it shows.
 //!
 //! What is shown of a settle step is `Signalled` in `specs/Signalled.antt`, what is listed of it is in
-//! `specs/Listing.antt`, and what a call comes to is `Tells` in `specs/Outcome.antt`.
+//! `specs/Listing.antt`, and what the program reports of a plan is `signalling` in `specs/Headline.antt`.
 #![tactic(auto)]
 
 mod ending;
 mod listing;
+mod program;
 mod recorder;
 mod recording;
 mod run;

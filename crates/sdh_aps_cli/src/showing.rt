@@ -1,39 +1,15 @@
 //! What a node shows.
-ghost use Rattle.std.specs.Prelude.{◌≡◌, ◌<◌, ◌≤◌, IfSome, option_map, length};
+ghost use Rattle.std.specs.Prelude.{◌≡◌, ◌<◌, IfSome, option_map, length};
 ghost use Rattle.sdh_kbytes.specs.KBytes.{IsSpellable};
-ghost use Rattle.sdh_owed.specs.Reports.{state_word, bytes_told};
+ghost use Rattle.sdh_aps.specs.Told.{bytes_told};
 ghost use Rattle.sdh_aps_cli.specs.Signalled.{shown_of, shown_at};
 
-use sdh_aps::{Shown, WordPair};
-use sdh_kbytes::{K, encode};
+use sdh_aps::{Shown, WordPair, bytes_told, state_told};
+use sdh_kbytes::K;
 use sdh_node::Adm;
-use sdh_nodestate::NodeState;
-use sdh_report::{StateWord, WordBytes};
+use sdh_report::WordBytes;
 use sdh_ring::Ring;
 use sdh_ringmap::{Pos, Side};
-
-// Returns the word of a state.
-fn state_told(state: &NodeState) -> StateWord
-    ensures { result ≡ state_word state.now }
-{
-    match state {
-        NodeState::Idle(_) => StateWord::Idle,
-        NodeState::PassThrough(_) => StateWord::Pass,
-        NodeState::SwitchWest(_) => StateWord::SwitchWest,
-        NodeState::SwitchEast(_) => StateWord::SwitchEast,
-        NodeState::Isolated(_) => StateWord::Isolated,
-    }
-}
-
-// Returns the bytes of a word.
-fn bytes_told(word: K) -> WordBytes
-    requires to { word.to ≤ 15 }
-    requires from { word.from ≤ 15 }
-    ensures { result ≡ bytes_told word }
-{
-    let (first, second) = encode(word);
-    WordBytes { first, second }
-}
 
 // Returns the bytes of a word that is heard.
 fn heard_told(word: Option<K>) -> Option<WordBytes>

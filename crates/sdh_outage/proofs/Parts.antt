@@ -1,13 +1,8 @@
 -- Parts of lines, put one after the other.
-use Rattle.std.proofs.Common.{◌≡◌, ℕ, ◌-◌, ◌*◌, ◌/◌, ◌%◌, List, ◌++◌, length, codes, decimal, ap, ap₂, ◌∙◌, arith, append_assoc}
-use Rattle.std.proofs.lemmas.List.{length-append}
+use Rattle.std.proofs.Common.{◌≡◌, ℕ, ◌*◌, ◌/◌, ◌%◌, List, ◌++◌, codes, decimal, ap, ap₂, ◌∙◌, arith}
 use Rattle.sdh_report.specs.Written.{Written, with_part}
+use Rattle.sdh_report.proofs.Parts.{two_parts}
 use Rattle.sdh_outage.specs.Lines.{three_digits, ms_text}
-
-pub two_parts : (w : Written) (a b : List ℕ) → with_part (with_part w a) b ≡ with_part w (a ++ b)
-two_parts w a b =
-    let room : w.room - length a - length b ≡ w.room - length (a ++ b) = omega (arith, length-append a b) in
-    ap₂ (λ l r. let x : Written = record { bytes = l; room = r } in x) (append_assoc w.bytes a b) room
 
 -- a text with one part more
 pub next_part : (w v u : Written) (a b : List ℕ) → v ≡ with_part w a → u ≡ with_part v b → u ≡ with_part w (a ++ b)

@@ -11,3 +11,5 @@ pub mod Ports
 pub mod Answered
 pub mod Lists
 pub mod Plans
+pub mod Calls
+pub mod Streams

@@ -1,7 +1,9 @@
 -- What is reported of a plan, by the laws of its ring.
 use Rattle.std.proofs.Common.{◌≡◌, true, ℕ, ◌≤◌, List, [], ◌++◌, length, refl, ap, sym, ◌∙◌, subst, arith, inl, inr, Some}
 use Rattle.std.proofs.Common.{append-nil}
+use Rattle.std.specs.Prelude.{◌⊎◌, Option}
 use Rattle.std.specs.List.{flat_map}
+use Rattle.std.proofs.KnownBytes.{Appends-nil}
 use Rattle.sdh_plant.specs.Fibres.{Fibres}
 use Rattle.sdh_plant.specs.Calls.{prepared}
 use Rattle.sdh_plant.specs.Arrivals.{Knows}
@@ -15,40 +17,86 @@ use Rattle.sdh_terms.specs.declared.Rate.{Rate}
 use Rattle.sdh_scripts.specs.Walks.{Walk}
 use Rattle.sdh_scripts.specs.Scripts.{Runs}
 use Rattle.sdh_scripts.specs.Texts.{HasRoom, Lists}
-use Rattle.sdh_scripts.specs.Outcomes.{with_fibres, Came, IsSettled, ComesOfKnownRun}
+use Rattle.sdh_scripts.specs.Streams.{NoneMade, WroteSteps}
+use Rattle.sdh_scripts.specs.Outcomes.{with_fibres, Came, ComesOfSteps, IsSettled, ComesOfKnownRun}
 use Rattle.sdh_scripts.specs.Laws.{KeepsRounds}
 use Rattle.sdh_scripts.specs.Plans.{Account, ReportsOwe, world_of, ran_of, Comes, ComesKnown, MaySettle, IsRunOf, Tells}
-use Rattle.sdh_scripts.specs.NewRuns.{MayBegin, IsOf}
+use Rattle.sdh_scripts.specs.NewRuns.{MayBegin, MayStart, IsOf}
 use Rattle.sdh_scripts.specs.declared.run.NewRun.{NewRun}
 use Rattle.sdh_scripts.proofs.Texts.{silent_tail}
 use Rattle.sdh_scripts.proofs.Outcomes.{EndsIn, comes_ends, known_comes, settled_done, known_done, settled_by, fault_settles}
 
 -- ---- what a run over new fibres came to
 
--- no fibres were made
-pub came_none : {N T : Type 0} (walk : Walk N T) (limit : ℕ) (text_of : T → List ℕ) (steps : List Step) (w : World N) (f left : Fibres)
-    (text : List ℕ) → text ≡ [] → left ≡ f → Came walk limit text_of steps w f text status.PlantFault left
-came_none walk limit text_of steps w f left text empty same = record { reports = []; text_is = empty; ran = inl (refl, refl, same) }
+module _ {N T : Type 0} (walk : Walk N T) (limit : ℕ) (text_of begun_of : T → List ℕ) (steps : List Step) where
+  -- no fibres were made
+  pub wrote_none : (w : World N) (f : Fibres) (left : World N) (old : Option (List ℕ)) → left.fibres ≡ f
+      → WroteSteps walk limit text_of begun_of steps w f old old status.PlantFault left
+  wrote_none w f left old same = record {
+    reports = [];
+    ran = inl (refl, refl, same);
+    tail = [];
+    tail_is = inl (refl, inr (refl, refl, same));
+    text = Appends-nil old;
+  }
 
--- the script ran over those that were prepared for the ring
-pub came_ran : {N T : Type 0} (walk : Walk N T) (limit : ℕ) (text_of : T → List ℕ) (steps : List Step) (r : HeldRing N) (rate : Rate)
-    (n : ℕ) (f made : Fibres) (last : World N) (old new : List ℕ) (end : Status)
-    → rate ≡ r.settings.rate → n ≡ length r.ids → made ≡ prepared rate n f → old ≡ []
-    → Lists walk limit text_of (λ told. []) steps (world r made) (Some old) (Some new) end last
-    → Came walk limit text_of steps (with_fibres r f) f new end last.fibres
-came_ran walk limit text_of steps r rate n f made last old new end rates nodes is empty x =
+  -- the script ran
+  pub wrote_ran : (w : World N) (f : Fibres) (left : World N) (old new : Option (List ℕ)) (end : Status)
+      → Lists walk limit text_of begun_of steps w old new end left → WroteSteps walk limit text_of begun_of steps w f old new end left
+  wrote_ran w f left old new end x = record {
+    reports = x.reports;
+    ran = inr x.runs;
+    tail = x.tail;
+    tail_is = elim x.tail_is [
+      | inl done ↦ inl (done.1, inl done.0)
+      | inr stopped ↦ inr stopped
+    ];
+    text = x.text;
+  }
+
+-- a ring over fibres that are those prepared for it
+pub laid_over : {N : Type 0} (r : HeldRing N) (rate : Rate) (n : ℕ) (f made : Fibres) → rate ≡ r.settings.rate → n ≡ length r.ids
+    → made ≡ prepared rate n f → world r made ≡ with_fibres r f
+laid_over r rate n f made rates nodes is =
+    ap (world r) (is ∙ ap (λ (a : Rate). prepared a n f) rates ∙ ap (λ (k : ℕ). prepared r.settings.rate k f) nodes)
+
+-- what a run over fibres wrote is of these reports, which came of its steps
+pub comes_of : {N T : Type 0} (walk : Walk N T) (limit : ℕ) (steps : List Step) (w : World N) (f : Fibres) (reports : List T) (end : Status)
+    (left : World N) → NoneMade f reports end left ⊎ Runs walk limit 0 steps w reports end left
+    → ComesOfSteps walk limit steps w f reports end left.fibres
+comes_of walk limit steps w f reports end left (inl none) = inl none
+comes_of walk limit steps w f reports end left (inr runs) = inr (left, refl, runs)
+
+-- a text in memory has nothing of a step that didn't end
+pub came_wrote : {N T : Type 0} (walk : Walk N T) (limit : ℕ) (text_of : T → List ℕ) (steps : List Step) (w : World N) (f : Fibres)
+    (left : World N) (old new : List ℕ) (end : Status) → old ≡ []
+    → WroteSteps walk limit text_of (λ told. []) steps w f (Some old) (Some new) end left
+    → Came walk limit text_of steps w f new end left.fibres
+came_wrote walk limit text_of steps w f left old new end empty x =
     let text = flat_map text_of x.reports in
     let all : new ≡ old ++ (text ++ x.tail) = x.text in
-    let laid : made ≡ prepared r.settings.rate (length r.ids) f =
-    is ∙ ap (λ (a : Rate). prepared a n f) rates ∙ ap (λ (k : ℕ). prepared r.settings.rate k f) nodes in
     record {
       reports = x.reports;
       text_is =
           all ∙ ap (λ (t : List ℕ). t ++ (text ++ x.tail)) empty
-          ∙ ap (λ (t : List ℕ). text ++ t) (silent_tail walk limit text_of steps (world r made) (Some old) (Some new) end last x)
+          ∙ ap (λ (t : List ℕ). text ++ t) (silent_tail walk limit steps w f x.reports x.tail end left x.tail_is)
           ∙ append-nil text;
-      ran = inr (last, refl, subst (λ (g : Fibres). Runs walk limit 0 steps (world r g) x.reports end last) laid x.runs);
+      ran = comes_of walk limit steps w f x.reports end left x.ran;
     }
+
+-- the script of a run that may begin may start
+pub starts : {N R : Type 0} (ring : R → HeldRing N) (room : R → ℕ) (MayRun : ℕ → List Step → R → Fibres → Type 0) (run : NewRun R)
+    → MayBegin ring room MayRun run
+    → MayStart ring MayRun run.runner (record { rate = run.rate; nodes = run.nodes; steps = run.steps; limit = run.limit })
+starts ring room MayRun run x = record {
+  rate = x.rate;
+  nodes = x.nodes;
+  enough = x.enough;
+  few = x.few;
+  may = x.may;
+  limit_from_1 = x.limit_from_1;
+  limit_small = x.limit_small;
+}
 
 -- ---- the run of a plan
 

@@ -6,6 +6,7 @@ use Rattle.std.specs.List.{flat_map}
 use Rattle.std.specs.Io.KnownBytes.{Appends}
 use Rattle.std.proofs.KnownBytes.{Appends-nil, Appends-trans}
 use Rattle.std.proofs.lemmas.Grind.{flat_map-append}
+use Rattle.sdh_plant.specs.Fibres.{Fibres}
 use Rattle.sdh_rounds.specs.Held.{World}
 use Rattle.sdh_rounds.specs.Quiet.{Unsettles}
 use Rattle.sdh_plan.specs.declared.step.Step.{Step}
@@ -16,6 +17,7 @@ use Rattle.sdh_shell.proofs.Pieces.{fewer_behind}
 use Rattle.sdh_scripts.specs.Walks.{Walk}
 use Rattle.sdh_scripts.specs.Scripts.{Breaks, Runs}
 use Rattle.sdh_scripts.specs.Texts.{room_for, HasRoom, Went, WritesLast, StopsAt, FailsAt, Lists, WriteFailed}
+use Rattle.sdh_scripts.specs.Streams.{IsTail}
 use Rattle.sdh_scripts.specs.Runners.{Refused, WroteStep}
 use Rattle.sdh_scripts.specs.Tellers.{WasToWrite, WroteBegun}
 use Rattle.sdh_scripts.specs.declared.teller.StepError.TheVariants as why
@@ -232,9 +234,7 @@ module _ {N T : Type 0} (walk : Walk N T) (limit : ℕ) where
   silent_last s before w text end left x = x.1
 
   -- no more is written than of the reports
-  pub silent_tail : (text_of : T → List ℕ) (steps : List Step) (w : World N) (old new : Option (List ℕ)) (end : Status) (left : World N)
-      → (x : Lists walk limit text_of (λ told. []) steps w old new end left) → x.tail ≡ []
-  silent_tail text_of steps w old new end left x = elim x.tail_is [
-    | inl done ↦ done.1
-    | inr y ↦ silent_last y.stops (length x.reports) y.mid x.tail end left y.writes
-  ]
+  pub silent_tail : (steps : List Step) (w : World N) (f : Fibres) (reports : List T) (tail : List ℕ) (end : Status) (left : World N)
+      → IsTail walk limit (λ told. []) steps w f reports tail end left → tail ≡ []
+  silent_tail steps w f reports tail end left (inl x) = x.0
+  silent_tail steps w f reports tail end left (inr y) = silent_last y.stops (length reports) y.mid tail end left y.writes

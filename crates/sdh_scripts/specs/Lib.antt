@@ -11,3 +11,5 @@ pub mod Outcomes
 pub mod Laws
 pub mod Plans
 pub mod NewRuns
+pub mod Streams
+pub mod Calls

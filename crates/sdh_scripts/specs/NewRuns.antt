@@ -8,6 +8,7 @@ use Rattle.sdh_plan.specs.declared.step.Step.{Step}
 use Rattle.sdh_scripts.specs.Texts.{HasRoom}
 use Rattle.sdh_scripts.specs.Plans.{Account}
 use Rattle.sdh_scripts.specs.declared.run.NewRun.{NewRun}
+use Rattle.sdh_scripts.specs.declared.run.NewScript.{NewScript}
 
 -- a run may begin: the rate and the number of nodes are those of its ring, its steps may be run over fibres that are
 -- prepared for these, and nothing is written yet
@@ -22,6 +23,18 @@ pub record MayBegin {N R : Type 0} (ring : R → HeldRing N) (room : R → ℕ) 
   pub limit_small : run.limit ≤ 65536
   pub has_room : HasRoom (room run.runner) 0 run.text.room
   pub empty : run.text.bytes ≡ []
+
+-- the rate and the number of nodes of the script are those of the ring that it is run over, and its steps may be run
+-- over fibres that are prepared for these
+pub record MayStart {N R : Type 0} (ring : R → HeldRing N) (MayRun : ℕ → List Step → R → Fibres → Type 0) (runner : R)
+    (script : NewScript) : Type 0 where
+  pub rate : script.rate ≡ (ring runner).settings.rate
+  pub nodes : script.nodes ≡ length (ring runner).ids
+  pub enough : 2 ≤ script.nodes
+  pub few : script.nodes ≤ 16
+  pub may : (f : Fibres) → MayRun 0 script.steps.items runner (prepared script.rate script.nodes f)
+  pub limit_from_1 : 1 ≤ script.limit
+  pub limit_small : script.limit ≤ 65536
 
 -- the run is of the script of a plan over the plan's ring
 pub record IsOf {N T R : Type 0} (ring : R → HeldRing N) (t : Account N T) (plan : Planned) (run : NewRun R) : Type 0 where

@@ -1,139 +1,135 @@
-//! From the words to an ending and a text.
-ghost use Rattle.std.specs.Prelude.{◌≡◌, ◌≢◌, ◌≤◌, ◌↔◌, true, false, [], None, Some, IfOk, OnErr, IfSome};
+//! From the words to an ending, and what is written.
+ghost use Rattle.std.specs.Prelude.{◌≡◌, ◌≤◌, true, false, Some, IfOk, OnErr};
 ghost use Rattle.sdh_basics.specs.Causes.{Rose, IsCounted};
-ghost use Rattle.sdh_outside.specs.Reading.{TakesCount};
 ghost use Rattle.sdh_plant.specs.Fibres.{HasNoFibres};
 ghost use Rattle.sdh_report.specs.Lines.{own_line};
 ghost use Rattle.sdh_report.specs.declared.status.Status.{Status};
 ghost use Rattle.sdh_shell.specs.Calls.{words_of};
-ghost use Rattle.sdh_shell.specs.Failing.{EndsWithCause};
-ghost use Rattle.sdh_shell.specs.Writing.{IsShown};
-ghost use Rattle.sdh_scripts.specs.Outcome.{IsOutcome, HasRead, LeavesPlant, reads_source, told};
-ghost use Rattle.sdh_scripts.specs.Headline.{MayBeDone};
+ghost use Rattle.sdh_shell.specs.Writing.{WroteEnding};
+ghost use Rattle.sdh_scripts.specs.Outcome.{LeavesPlant, reads_source};
+ghost use Rattle.sdh_scripts.specs.Calls.{Seen, IsAnswer};
 
-use crate::program::RunsPlans;
-use sdh_outside::Source;
+use crate::streaming::StreamsPlans;
+use sdh_outside::{Sink, Source};
 use sdh_plant::Plant;
 use sdh_report::{LINE_MAX, Status, Text};
-use sdh_shell::{EndedText, Ends, NoPlan, ended, plan_in};
+use sdh_shell::{EndedText, Ends, NoPlan, ended, plan_in, write_ended};
 use std::alloc::{AllocError, Global};
 
 /// Returns the ending that a shared status is.
-pub fn ending_of<'a, M: RunsPlans<'a>>(status: Status) -> M::Ending
+pub fn ending_of<'a, W: Sink, M: StreamsPlans<'a, W>>(status: Status) -> M::Ending
     ensures { result ≡ M.program.endings.of status }
 {
     M::Ending::of(status)
 }
 
-// Returns the line that says how the program is called.
-fn ended_usage<'a, M: RunsPlans<'a>>(alloc: Global) -> Result<EndedText<M::Ending>, AllocError>
-    ensures { IfOk result
-        (λ report. (report.ending ≡ M.program.endings.of Status.Usage) × (report.text.bytes ≡ own_line M.program.usage)) }
+// The endings of a program are those of its type.
+fn endings_agree<'a, W: Sink, M: StreamsPlans<'a, W>>()
+    ensures { M.program.endings ≡ M.Ending.endings }
+{}
+
+// Writes how the program is called, and returns that ending, or a write fault.
+fn answer_usage<'a, W: Sink, M: StreamsPlans<'a, W>>(
+    alloc: Global,
+    sink: &mut W,
+) -> Result<M::Ending, AllocError>
+    ensures wrote { IfOk result (λ end. WroteEnding M.program.endings (M.program.endings.of Status.Usage) (own_line M.program.usage) end
+        (W.written sink.old) (W.written sink.new)) }
+    ensures fault { IfOk result (λ end. end ≡ M.program.endings.of Status.WriteFault → Rose (W.faults sink.old) (W.faults sink.new)) }
+    ensures writes { IfOk result
+        (λ end. IsCounted W.exact (end ≡ M.program.endings.of Status.WriteFault) (W.faults sink.old) (W.faults sink.new)) }
+    ensures later { W.faults sink.old ≤ W.faults sink.new }
+    ensures unwritten { OnErr result (sink.new ≡ sink.old) }
 {
+    endings_agree::<W, M>();
     let mut text = Text::try_new(alloc, LINE_MAX)?;
     text.own_line(M::usage());
-    Ok(EndedText {
-        ending: ending_of::<M>(Status::Usage),
-        text,
-    })
+    let ending = ending_of::<W, M>(Status::Usage);
+    Ok(write_ended(sink, EndedText { ending, text }))
 }
 
-// Returns the last line of a status.
-fn ended_status<'a, M: RunsPlans<'a>>(status: Status, text: Text) -> EndedText<M::Ending>
-    requires room { 96 ≤ text.room }
-    requires empty { text.bytes ≡ [] }
-    ensures ending { result.ending ≡ M.program.endings.of status }
-    ensures text { result.text.bytes ≡ M.program.endings.line result.ending }
-{
-    ended(ending_of::<M>(status), text)
-}
-
-// Returns the ending and the text of what is asked, with the plan that it names by itself or the one that the source
-// has.
-fn ended_asked<'a, M: RunsPlans<'a>, R: Source, P: Plant>(
+// Does what is asked, with a plan of its own or the one that a source has, and writes what comes of it. Returns the
+// ending.
+fn answer_asked<'a, W: Sink, M: StreamsPlans<'a, W>, R: Source, P: Plant>(
     alloc: Global,
     asked: M,
     source: &mut R,
+    sink: &mut W,
     plant: &mut P,
-) -> Result<EndedText<M::Ending>, AllocError>
+) -> Result<M::Ending, AllocError>
     requires fresh { HasNoFibres (P.fibres plant.old) }
-    ensures outcome { IfOk result (λ report. let ask = Some (M.ask_of asked) in IfSome (told M.program ask (R.left source.old))
-        (λ bytes. IsOutcome M.program ask bytes (P.fibres plant.old) report.ending report.text.bytes (P.fibres plant.new))) }
-    ensures cause { IfOk result
-        (λ report. EndsWithCause M.program.endings (record { before = R.faults source.old; after = R.faults source.new })
-        (record { before = P.faults plant.old; after = P.faults plant.new }) report.ending) }
-    ensures reads { IfOk result (λ report.
-        IsCounted R.exact (report.ending ≡ M.program.endings.of Status.ReadFault) (R.faults source.old) (R.faults source.new)) }
-    ensures too_long { IfOk result (λ report. report.ending ≡ M.program.endings.of Status.TooLong
-        → TakesCount (R.left source.old) (R.left source.new) 1048577) }
-    ensures calls { IfOk result (λ report.
-        IsCounted P.exact (report.ending ≡ M.program.endings.of Status.PlantFault) (P.faults plant.old) (P.faults plant.new)) }
+    ensures answer { IfOk result (λ end. let seen : Seen = record {
+      reads = record { before = R.faults source.old; after = R.faults source.new };
+      calls = record { before = P.faults plant.old; after = P.faults plant.new };
+      reads_exact = R.exact;
+      calls_exact = P.exact;
+      source = R.left source.old;
+      source_left = R.left source.new;
+      fibres = P.fibres plant.old;
+      fibres_left = P.fibres plant.new;
+    } in IsAnswer M.program M.cut (Some (M.ask_of asked)) seen end (W.written sink.old) (W.written sink.new)) }
+    ensures fault { IfOk result (λ end. end ≡ M.program.endings.of Status.WriteFault → Rose (W.faults sink.old) (W.faults sink.new)) }
+    ensures writes { IfOk result
+        (λ end. IsCounted W.exact (end ≡ M.program.endings.of Status.WriteFault) (W.faults sink.old) (W.faults sink.new)) }
     ensures without { OnErr result
         ((R.exact ≡ true → R.faults source.new ≡ R.faults source.old) × (P.exact ≡ true → P.faults plant.new ≡ P.faults plant.old)) }
-    ensures own { IfOk result
-        (λ report. (report.ending ≢ M.program.endings.of Status.Usage) × IsShown M.program.endings report.ending) }
     ensures unread { reads_source M.program (Some (M.ask_of asked)) ≡ false → source.new ≡ source.old }
     ensures alone { LeavesPlant M.program (Some (M.ask_of asked)) → plant.new ≡ plant.old }
-    ensures read { IfOk result (λ report. report.ending ≡ M.program.endings.of Status.Ok
-        → HasRead (reads_source M.program (Some (M.ask_of asked))) (R.left source.new)) }
-    ensures complete { IfOk result (λ report. let ask = M.ask_of asked in
-        MayBeDone M.program ask (told M.program (Some ask) (R.left source.old)) (P.fibres plant.old)
-        → ¬ (Rose (R.faults source.old) (R.faults source.new)) → ¬ (Rose (P.faults plant.old) (P.faults plant.new))
-        → report.ending ≡ M.program.endings.of Status.Ok) }
-    ensures later { (R.faults source.old ≤ R.faults source.new) × (P.faults plant.old ≤ P.faults plant.new) }
+    ensures later { (R.faults source.old ≤ R.faults source.new) × (W.faults sink.old ≤ W.faults sink.new)
+        × (P.faults plant.old ≤ P.faults plant.new) }
+    ensures unwritten { OnErr result (sink.new ≡ sink.old) }
     ensures unsent { OnErr result (P.fibres plant.new ≡ P.fibres plant.old) }
 {
+    endings_agree::<W, M>();
     if let Some(plan) = asked.own_plan(alloc)? {
-        return asked.run(alloc, plan, plant);
+        return asked.run(alloc, plan, sink, plant);
     }
 
     // Room for the line is taken first, so that a read that fails is always reported.
     let line = Text::try_new(alloc, LINE_MAX)?;
     match plan_in(alloc, source) {
-        Ok(plan) => asked.run(alloc, plan, plant),
+        Ok(plan) => asked.run(alloc, plan, sink, plant),
         Err(NoPlan::Memory) => Err(AllocError),
-        Err(NoPlan::Refused(how)) => Ok(ended_status::<M>(how, line)),
+        Err(NoPlan::Refused(how)) => {
+            let said = ended(ending_of::<W, M>(how), line);
+            Ok(write_ended(sink, said))
+        }
     }
 }
 
-/// Returns the ending and the text to which the words, the source and the plant lead.
-pub fn ended_call<'a, M: RunsPlans<'a>, R: Source, P: Plant>(
+/// Writes what the words, the source and the plant come to, and returns the ending.
+pub fn answer<'a, W: Sink, M: StreamsPlans<'a, W>, R: Source, P: Plant>(
     alloc: Global,
     words: &'a [String],
     source: &mut R,
+    sink: &mut W,
     plant: &mut P,
-) -> Result<EndedText<M::Ending>, AllocError>
+) -> Result<M::Ending, AllocError>
     requires fresh { HasNoFibres (P.fibres plant.old) }
-    ensures outcome { IfOk result
-        (λ report. let ask = M.program.asked (words_of words.now) in IfSome (told M.program ask (R.left source.old))
-        (λ bytes. IsOutcome M.program ask bytes (P.fibres plant.old) report.ending report.text.bytes (P.fibres plant.new))) }
-    ensures cause { IfOk result
-        (λ report. EndsWithCause M.program.endings (record { before = R.faults source.old; after = R.faults source.new })
-        (record { before = P.faults plant.old; after = P.faults plant.new }) report.ending) }
-    ensures reads { IfOk result (λ report.
-        IsCounted R.exact (report.ending ≡ M.program.endings.of Status.ReadFault) (R.faults source.old) (R.faults source.new)) }
-    ensures too_long { IfOk result (λ report. report.ending ≡ M.program.endings.of Status.TooLong
-        → TakesCount (R.left source.old) (R.left source.new) 1048577) }
-    ensures calls { IfOk result (λ report.
-        IsCounted P.exact (report.ending ≡ M.program.endings.of Status.PlantFault) (P.faults plant.old) (P.faults plant.new)) }
+    ensures answer { IfOk result (λ end. let seen : Seen = record {
+      reads = record { before = R.faults source.old; after = R.faults source.new };
+      calls = record { before = P.faults plant.old; after = P.faults plant.new };
+      reads_exact = R.exact;
+      calls_exact = P.exact;
+      source = R.left source.old;
+      source_left = R.left source.new;
+      fibres = P.fibres plant.old;
+      fibres_left = P.fibres plant.new;
+    } in IsAnswer M.program M.cut (M.program.asked (words_of words.now)) seen end (W.written sink.old) (W.written sink.new)) }
+    ensures fault { IfOk result (λ end. end ≡ M.program.endings.of Status.WriteFault → Rose (W.faults sink.old) (W.faults sink.new)) }
+    ensures writes { IfOk result
+        (λ end. IsCounted W.exact (end ≡ M.program.endings.of Status.WriteFault) (W.faults sink.old) (W.faults sink.new)) }
     ensures without { OnErr result
         ((R.exact ≡ true → R.faults source.new ≡ R.faults source.old) × (P.exact ≡ true → P.faults plant.new ≡ P.faults plant.old)) }
-    ensures usage { IfOk result
-        (λ report. report.ending ≡ M.program.endings.of Status.Usage ↔ (M.program.asked (words_of words.now) ≡ None)) }
     ensures unread { reads_source M.program (M.program.asked (words_of words.now)) ≡ false → source.new ≡ source.old }
     ensures alone { LeavesPlant M.program (M.program.asked (words_of words.now)) → plant.new ≡ plant.old }
-    ensures read { IfOk result (λ report. report.ending ≡ M.program.endings.of Status.Ok
-        → HasRead (reads_source M.program (M.program.asked (words_of words.now))) (R.left source.new)) }
-    ensures complete { IfOk result (λ report. (ask : M.Ask) → M.program.asked (words_of words.now) ≡ Some ask
-        → MayBeDone M.program ask (told M.program (Some ask) (R.left source.old)) (P.fibres plant.old)
-        → ¬ (Rose (R.faults source.old) (R.faults source.new)) → ¬ (Rose (P.faults plant.old) (P.faults plant.new))
-        → report.ending ≡ M.program.endings.of Status.Ok) }
-    ensures own { IfOk result (λ report. IsShown M.program.endings report.ending) }
-    ensures later { (R.faults source.old ≤ R.faults source.new) × (P.faults plant.old ≤ P.faults plant.new) }
+    ensures later { (R.faults source.old ≤ R.faults source.new) × (W.faults sink.old ≤ W.faults sink.new)
+        × (P.faults plant.old ≤ P.faults plant.new) }
+    ensures unwritten { OnErr result (sink.new ≡ sink.old) }
     ensures unsent { OnErr result (P.fibres plant.new ≡ P.fibres plant.old) }
 {
     match M::asked(words) {
-        Some(asked) => ended_asked(alloc, asked, source, plant),
-        None => ended_usage::<M>(alloc),
+        Some(asked) => answer_asked::<W, M, R, P>(alloc, asked, source, sink, plant),
+        None => answer_usage::<W, M>(alloc, sink),
     }
 }

@@ -1,12 +1,17 @@
-//! What is written of a settle step once it has ended.
-ghost use Rattle.std.specs.Prelude.{[]};
+//! What is written at an end: of a settle step once it has ended, and of a plan once its run has ended.
+ghost use Rattle.std.specs.Prelude.{◌≡◌, [], refl};
 
+use crate::program::RunsPlans;
 use crate::runner::Runner;
+use crate::streaming::StreamsPlans;
 use crate::teller::StepError;
-use sdh_plan::Step;
+use sdh_outside::{Sink, write_text};
+use sdh_plan::{Plan, Step};
 use sdh_plant::Plant;
+use sdh_report::Status;
 use sdh_rounds::{PlantFault, SettleError};
-use sdh_shell::Kept;
+use sdh_shell::{Ends, Kept};
+use std::alloc::{AllocError, Global};
 
 // A `Runner` writes to memory alone, and writes nothing of a settle step that didn't end.
 impl<R: Runner> crate::teller::Teller<Kept> for R {
@@ -45,4 +50,64 @@ impl<R: Runner> crate::teller::Teller<Kept> for R {
     }
 
     ghost few = { R.few };
+}
+
+// The endings of a program are those of its type.
+fn ends_agree<'a, M: RunsPlans<'a>>()
+    ensures { M.program.endings ≡ M.Ending.endings }
+{}
+
+/// What a program is asked for where it keeps its text in memory, and writes it once the run of a plan has ended.
+#[derive(Drop)]
+pub struct AtEnd<M> {
+    pub asked: M,
+}
+
+impl<'a, M: RunsPlans<'a>, W: Sink> StreamsPlans<'a, W> for AtEnd<M> {
+    type Ending = M::Ending;
+
+    ghost Ask = { M.Ask };
+
+    ghost Listing = { M.Listing };
+
+    ghost Told = { M.Told };
+
+    ghost program = { M.program };
+
+    // The text is written once the run has ended, so that no write that fails cuts the run off.
+    ghost cut = { λ plan f reports left. ⊥ };
+
+    ghost ask_of = { λ a. M.ask_of a.asked };
+
+    fn usage() -> &'a [u8] {
+        M::usage()
+    }
+
+    fn asked(words: &'a [String]) -> Option<AtEnd<M>> {
+        match M::asked(words) {
+            Some(asked) => Some(AtEnd { asked }),
+            None => None,
+        }
+    }
+
+    fn own_plan(&self, alloc: Global) -> Result<Option<Plan>, AllocError> {
+        self.asked.own_plan(alloc)
+    }
+
+    fn run<P: Plant>(
+        self,
+        alloc: Global,
+        plan: Plan,
+        sink: &mut W,
+        plant: &mut P,
+    ) -> Result<M::Ending, AllocError> {
+        ends_agree::<M>();
+        let report = self.asked.run(alloc, plan, plant)?;
+        match write_text(sink, report.text.bytes()) {
+            Ok(()) => Ok(report.ending),
+            Err(_) => Ok(M::Ending::of(Status::WriteFault)),
+        }
+    }
+
+    ghost same_endings = { M.same_endings };
 }

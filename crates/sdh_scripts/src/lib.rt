@@ -3,11 +3,13 @@
 //!
 //! `run_script` runs a script over a `Teller`, which writes each report to an output while the rounds run. What was
 //! written, wherever the script stopped, is in `specs/Texts.antt`. A `Runner` reports a settle step once it has ended.
-//! `start` runs the script of a `Runner` over new fibres, with its text in memory. What that reports of a plan is
-//! `Tells` in `specs/Plans.antt`.
+//! `start_over` runs a script over new fibres and any output; what was written then is in `specs/Streams.antt`. `start`
+//! runs the script of a `Runner` with its text in memory; what that reports of a plan is `Tells` in `specs/Plans.antt`.
 //!
-//! What the words of a program ask for, and what it reports of a plan, is a `RunsPlans`. How its call ends is
-//! `IsOutcome` in `specs/Outcome.antt`, and what it may promise of a plan is in `specs/Headline.antt`.
+//! What the words of a program ask for, and what it reports of a plan, is a `RunsPlans`, or a `StreamsPlans` where the
+//! program writes while it runs. `call_over` is the call of such a program, and `call` is `call_over` with a text in
+//! memory. How a call ends is `IsOutcome` in `specs/Outcome.antt`, what was written where a write failed is in
+//! `specs/Calls.antt`, and what a program may promise of a plan is in `specs/Headline.antt`.
 #![tactic(auto)]
 
 ghost use Rattle.sdh_scripts.specs.Laws.{KeepsRounds, KnownScripts};
@@ -20,14 +22,16 @@ mod program;
 mod run;
 mod runner;
 mod script;
+mod streaming;
 mod teller;
 
-pub use calling::call;
+pub use calling::{call, call_over};
 pub use lines::{lines_room, put_settle};
 pub use program::RunsPlans;
-pub use run::{NewRun, Run, start, text_for};
+pub use run::{NewRun, NewScript, Run, start, start_over, text_for};
 pub use runner::Runner;
 pub use script::run_script;
+pub use streaming::StreamsPlans;
 pub use teller::{StepError, Teller};
 
 /// Where arrivals are known, what a script comes to is determined. After a fault it is the beginning of that.

@@ -1,18 +1,21 @@
 //! A whole run: the fibres of a script are made, and it runs.
-ghost use Rattle.std.specs.Prelude.{◌≡◌, ◌+◌, ◌*◌, ◌≤◌, ◌^◌, true, [], Some, IfOk, OnErr};
+ghost use Rattle.std.specs.Prelude.{◌≡◌, ◌≢◌, ◌+◌, ◌*◌, ◌≤◌, ◌^◌, true, [], IfOk, OnOk, OnErr};
 ghost use Rattle.sdh_basics.specs.Causes.{Rose, IsCounted};
 ghost use Rattle.sdh_plant.specs.Fibres.{HasNoFibres};
-ghost use Rattle.sdh_rounds.specs.Held.{HeldRing, world};
-ghost use Rattle.sdh_scripts.specs.Texts.{HasRoom, Lists};
+ghost use Rattle.sdh_report.specs.declared.status.Status.{Status};
+ghost use Rattle.sdh_rounds.specs.Held.{world};
+ghost use Rattle.sdh_scripts.specs.Texts.{HasRoom, room_for, WriteFailed};
 ghost use Rattle.sdh_scripts.specs.Outcomes.{with_fibres, Came};
-ghost use Rattle.sdh_scripts.specs.NewRuns.{MayBegin};
+ghost use Rattle.sdh_scripts.specs.Streams.{WroteSteps};
+ghost use Rattle.sdh_scripts.specs.NewRuns.{MayBegin, MayStart};
 
 use crate::runner::Runner;
 use crate::script::run_script;
+use crate::teller::Teller;
 use sdh_plan::Step;
 use sdh_plant::{Plant, PrepareError};
 use sdh_report::{LINE_MAX, Status, Text};
-use sdh_shell::Kept;
+use sdh_shell::{Kept, Output};
 use sdh_terms::Rate;
 use std::alloc::{AllocError, Global};
 
@@ -49,32 +52,58 @@ pub fn text_for(alloc: Global, each: usize) -> Result<Text, AllocError>
     Ok(text)
 }
 
-// Runs the script over a ring and its fibres. Returns what was written, and how the run ended.
-fn run_from<R: Runner + Drop, P: Plant>(new_run: NewRun<R>, plant: &mut P) -> Run
-    requires may { R.MayRun 0 new_run.steps.items new_run.runner (P.fibres plant.old) }
-    requires room { HasRoom (R.room new_run.runner) 0 new_run.text.room }
-    requires some { 1 ≤ new_run.limit }
-    requires few { new_run.limit ≤ 65536 }
-    ensures ran { (left : HeldRing R.Node) × Lists R.walk new_run.limit (R.text_of new_run.runner) (λ told. []) new_run.steps.items
-        (world (R.ring new_run.runner) (P.fibres plant.old)) (Some new_run.text.bytes) (Some result.text.bytes) result.status
-        (world left (P.fibres plant.new)) }
-    ensures room { 96 ≤ result.text.room }
-    ensures later { P.faults plant.old ≤ P.faults plant.new }
-    ensures failed { result.status ≡ Status.PlantFault → Rose (P.faults plant.old) (P.faults plant.new) }
-    ensures counted { IsCounted P.exact (result.status ≡ Status.PlantFault) (P.faults plant.old) (P.faults plant.new) }
+/// A script before its fibres are there: the rate and the number of the nodes of its ring, the steps, and the number of
+/// rounds that each settle step has at most.
+#[derive(Drop)]
+pub struct NewScript {
+    pub rate: Rate,
+    pub nodes: usize,
+    pub steps: Vec<Step>,
+    pub limit: u32,
+}
+
+/// Makes the fibres of a script, runs it over them, and writes what is reported of each settle step as it comes.
+/// Returns how the script ended: `Ok`, `Unsettled` or `PlantFault`; or `WriteFault`, where a write failed, and nothing
+/// more was run. The plant's memory is taken before the first round.
+pub fn start_over<O: Output, R: Teller<O>, P: Plant>(
+    alloc: Global,
+    plant: &mut P,
+    runner: &mut R,
+    script: NewScript,
+    output: &mut O,
+) -> Result<Status, AllocError>
+    requires fresh { HasNoFibres (P.fibres plant.old) }
+    requires ready { MayStart R.ring R.MayRun runner.old script }
+    requires room { O.Takes (room_for (R.room runner.old) 0) output.old }
+
+    // What was written is of one list of reports, which came over the fibres that were prepared for the ring, and of
+    // the step with which the script stopped before its end; or no fibres were made.
+    ensures wrote { IfOk result (λ end. end ≢ Status.WriteFault → WroteSteps R.walk script.limit (R.text_of runner.old)
+        (R.begun_of runner.old) script.steps.items (with_fibres (R.ring runner.old) (P.fibres plant.old)) (P.fibres plant.old)
+        (O.written output.old) (O.written output.new) end (world (R.ring runner.new) (P.fibres plant.new))) }
+    ensures breaks { IfOk result (λ end. end ≡ Status.WriteFault → WriteFailed R.walk script.limit (R.text_of runner.old)
+        (R.begun_of runner.old) script.steps.items (with_fibres (R.ring runner.old) (P.fibres plant.old))
+        (O.written output.old) (O.written output.new) (world (R.ring runner.new) (P.fibres plant.new))) }
+    ensures failed { IfOk result (λ end. end ≡ Status.PlantFault → Rose (P.faults plant.old) (P.faults plant.new)) }
+    ensures cut { IfOk result (λ end. end ≡ Status.WriteFault → Rose (O.faults output.old) (O.faults output.new)) }
+
+    // Where a count is exact: one call of the plant failed with a plant fault, one write with a write fault, and none
+    // with any other ending, nor without memory.
+    ensures counted { IfOk result (λ end. IsCounted P.exact (end ≡ Status.PlantFault) (P.faults plant.old) (P.faults plant.new)) }
+    ensures writes_counted { IfOk result (λ end. IsCounted O.exact (end ≡ Status.WriteFault) (O.faults output.old) (O.faults output.new)) }
+    ensures uncounted { OnErr result (P.exact ≡ true → P.faults plant.new ≡ P.faults plant.old) }
+    ensures later { (P.faults plant.old ≤ P.faults plant.new) × (O.faults output.old ≤ O.faults output.new) }
+    ensures room { OnOk result (O.Takes 96 output.new) }
+
+    // Without memory nothing was written, no fibre was made, and no round has run.
+    ensures unwritten { OnErr result (output.new ≡ output.old) }
+    ensures unsent { OnErr result (P.fibres plant.new ≡ P.fibres plant.old) }
 {
-    let NewRun {
-        mut runner,
-        rate: _,
-        nodes: _,
-        steps,
-        limit,
-        text,
-    } = new_run;
-    let mut kept = Kept { text };
-    let status = run_script(&mut runner, plant, &steps, limit, &mut kept);
-    let Kept { text } = kept;
-    Run { status, text }
+    match plant.prepare(alloc, script.rate, script.nodes) {
+        Ok(()) => Ok(run_script(runner, plant, &script.steps, script.limit, output)),
+        Err(PrepareError::Memory) => Err(AllocError),
+        Err(PrepareError::Failed) => Ok(Status::PlantFault),
+    }
 }
 
 /// Makes the fibres of a run, and runs its script over them. Returns what it wrote and how it ended. The plant's memory
@@ -103,12 +132,22 @@ pub fn start<R: Runner + Drop, P: Plant>(
     // Without memory no fibre was made, and no round has run.
     ensures unsent { OnErr result (P.fibres plant.new ≡ P.fibres plant.old) }
 {
-    match plant.prepare(alloc, new_run.rate, new_run.nodes) {
-        Ok(()) => Ok(run_from(new_run, plant)),
-        Err(PrepareError::Memory) => Err(AllocError),
-        Err(PrepareError::Failed) => Ok(Run {
-            status: Status::PlantFault,
-            text: new_run.text,
-        }),
-    }
+    let NewRun {
+        mut runner,
+        rate,
+        nodes,
+        steps,
+        limit,
+        text,
+    } = new_run;
+    let script = NewScript {
+        rate,
+        nodes,
+        steps,
+        limit,
+    };
+    let mut kept = Kept { text };
+    let status = start_over(alloc, plant, &mut runner, script, &mut kept)?;
+    let Kept { text } = kept;
+    Ok(Run { status, text })
 }

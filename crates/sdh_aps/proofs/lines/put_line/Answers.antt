@@ -1,7 +1,7 @@
 use Rattle.std.proofs.Common.{◌++◌, codes, ap, ◌∙◌}
 use Rattle.sdh_report.specs.Written.{Written, with_part}
 use Rattle.sdh_aps.specs.Lines.{sent_text, heard_and_asked_text, place_text}
-use Rattle.sdh_aps.proofs.Parts.{two_parts}
+use Rattle.sdh_report.proofs.Parts.{two_parts}
 use Rattle.sdh_aps.proofs.lines.put_line.Goals as goal
 
 pub returns : goal.returns

@@ -1,7 +1,8 @@
 use Rattle.std.proofs.Common.{◌*◌, ◌/◌, ◌%◌, ◌++◌, codes, decimal, ap, ◌∙◌}
 use Rattle.sdh_report.specs.Written.{Written, with_part}
 use Rattle.sdh_outage.specs.Lines.{three_digits}
-use Rattle.sdh_outage.proofs.Parts.{two_parts, ms_is}
+use Rattle.sdh_report.proofs.Parts.{two_parts}
+use Rattle.sdh_outage.proofs.Parts.{ms_is}
 use Rattle.sdh_outage.proofs.lines.put_ms.Goals as goal
 
 pub returns : goal.returns
