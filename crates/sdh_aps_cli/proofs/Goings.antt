@@ -26,6 +26,11 @@ use Rattle.sdh_aps_cli.specs.declared.ending.Ending.{Ending}
 use Rattle.sdh_aps_cli.specs.declared.ending.Ending.TheVariants as ending
 use Rattle.sdh_aps_cli.specs.declared.listing.SignalListing.{SignalListing}
 
+-- a plan that has the node is run
+pub runs : (listing : SignalListing) (plan : Planned) → has_node listing plan.nodes ≡ true
+    → Runs listing ≡ deed_with listing (has_node listing plan.nodes)
+runs listing plan has = sym (ap (deed_with listing) has)
+
 module _ (listing : SignalListing) (plan : Planned) (f : Fibres) (exact : Bool) where
   -- the plan doesn't have the node, and the line of that ending was to be written
   pub goes_none : (faults : ℕ) (end : Ending) (old new : Option (List ℕ)) → has_node listing plan.nodes ≡ false
@@ -47,9 +52,6 @@ module _ (listing : SignalListing) (plan : Planned) (f : Fibres) (exact : Bool) 
       own_shared s e = grind arith
 
   module _ (left : Fibres) (calls : Counts) (end : Ending) (old new : Option (List ℕ)) (has : has_node listing plan.nodes ≡ true) where
-    pub runs : Runs listing ≡ deed_with listing (has_node listing plan.nodes)
-    runs = sym (ap (deed_with listing) has)
-
     -- the plan was run, and the last line was to be written after what is reported of it
     pub goes_run : (s : Status) (pieces : List Piece) (mid : Option (List ℕ)) → HasRun s → IsSignalledRun plan f pieces s left
         → Appends old mid (pieces_text listing pieces)
@@ -66,7 +68,7 @@ module _ (listing : SignalListing) (plan : Planned) (f : Fibres) (exact : Bool) 
           text = first ++ line;
           outcome = (
             Runs listing,
-            runs,
+            runs listing plan has,
             record { status = s; how_is = refl; ends = ends; told = pieces; text_is = refl; came = ran },
           );
           wrote = elim wrote [
@@ -76,7 +78,7 @@ module _ (listing : SignalListing) (plan : Planned) (f : Fibres) (exact : Bool) 
           failed = λ e. failed (same status.PlantFault e);
           counted = counted_as exact calls.before calls.after (same status.PlantFault) (ap ending.Shared) counted;
           complete = λ may fine. ap ending.Shared
-              (complete (subst (λ d. may_do signalling d plan f) (may.1 ∙ sym runs) may.2) fine);
+              (complete (subst (λ d. may_do signalling d plan f) (may.1 ∙ sym (runs listing plan has)) may.2) fine);
         })
 
     -- a write failed while the plan ran
@@ -84,4 +86,4 @@ module _ (listing : SignalListing) (plan : Planned) (f : Fibres) (exact : Bool) 
         → AppendsFewer old new (pieces_text listing pieces) → (exact ≡ true → calls.after ≡ calls.before)
         → Goes signalling IsCutRun listing plan f left exact calls end old new
     goes_cut pieces is cut front none =
-        inr (record { end_is = is; breaks = (listing, runs, pieces, cut, front); none = none })
+        inr (record { end_is = is; breaks = (listing, runs listing plan has, pieces, cut, front); none = none })

@@ -63,14 +63,15 @@ returns-clause-ran g c =
     let ring_is : ring ≡ new_ring_of plan =
     c.in_ok-ring.ensures.ring ∙ (λ i. new_ring (c.settings-settings.ensures.settings i) (c.into_parts-map.ensures.ring i)
     (c.into_parts-map.ensures.circuits i)) in
+    let steps = c.into_parts-map.result.2.items in
     let old = g.W.Sink.written c.args.sink.now in
     let new = g.W.Sink.written c.start_over.new.output in
     let left = world c.start_over.new.runner.ring (means c.start_over.new.plant) in
     IfOk-weaker c.start_over.result _ _ (λ end wrote other. signalled c.scripts_settle.ensures plan c.args.listing f
     c.into_parts-map.ensures.form
     (λ (h : f.honest ≡ true). record { honest = h; tells_none = g.met.P.Plant.honest_tells_none c.args.plant.now h })
-    c.limit-limit.result _ ring old new end left c.limit-limit.ensures.limit c.into_parts-map.ensures.steps ring_is
-    (subst (λ (l : SignalListing). WroteSteps signalling_walk c.limit-limit.result (ended_text l) (begun_text l) _ (with_fibres ring f) f old new end
+    c.limit-limit.result steps ring old new end left c.limit-limit.ensures.limit c.into_parts-map.ensures.steps ring_is
+    (subst (λ (l : SignalListing). WroteSteps signalling_walk c.limit-limit.result (ended_text l) (begun_text l) steps (with_fibres ring f) f old new end
     left) c.in_ok-recorder.ensures.listing (wrote other))) c.start_over.ensures.wrote
 
 pub returns-clause-cut : goal.returns-clause-cut
@@ -82,14 +83,15 @@ returns-clause-cut g c =
     let ring_is : ring ≡ new_ring_of plan =
     c.in_ok-ring.ensures.ring ∙ (λ i. new_ring (c.settings-settings.ensures.settings i) (c.into_parts-map.ensures.ring i)
     (c.into_parts-map.ensures.circuits i)) in
+    let steps = c.into_parts-map.result.2.items in
     let old = g.W.Sink.written c.args.sink.now in
     let new = g.W.Sink.written c.start_over.new.output in
     let left = world c.start_over.new.runner.ring (means c.start_over.new.plant) in
     IfOk-weaker c.start_over.result _ _ (λ end breaks fault. cut_run c.scripts_settle.ensures plan c.args.listing f
     c.into_parts-map.ensures.form
     (λ (h : f.honest ≡ true). record { honest = h; tells_none = g.met.P.Plant.honest_tells_none c.args.plant.now h })
-    c.limit-limit.result _ ring old new left c.limit-limit.ensures.limit c.into_parts-map.ensures.steps ring_is
-    (subst (λ (l : SignalListing). WriteFailed signalling_walk c.limit-limit.result (ended_text l) (begun_text l) _ (with_fibres ring f) old new
+    c.limit-limit.result steps ring old new left c.limit-limit.ensures.limit c.into_parts-map.ensures.steps ring_is
+    (subst (λ (l : SignalListing). WriteFailed signalling_walk c.limit-limit.result (ended_text l) (begun_text l) steps (with_fibres ring f) old new
     left) c.in_ok-recorder.ensures.listing (breaks fault))) c.start_over.ensures.breaks
 
 pub returns-clause-ends : goal.returns-clause-ends

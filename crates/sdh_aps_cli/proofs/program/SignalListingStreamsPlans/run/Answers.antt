@@ -19,7 +19,7 @@ returns-in-WriteFault-clause-goes g c =
     let there : c.has_node.result ≡ true = grind arith in
     let has : has_node c.args.self c.args.plan.nodes ≡ true =
     ap (has_node c.args.self) (sym c.map.ensures) ∙ sym c.has_node.ensures ∙ there in
-    let ran = c.in_ok-run_plan.ensures in
+    let ran = c.in_ok-status.ensures in
     let cut = ran.cut refl in
     goes_cut c.args.self c.args.plan (g.P.Plant.fibres c.args.plant.now) g.P.Plant.exact (g.P.Plant.fibres c.run_plan.new.plant) _
     (ending.Shared status.WriteFault) (g.W.Sink.written c.args.sink.now) (g.W.Sink.written c.run_plan.new.sink) has cut.0 refl cut.1 cut.2
@@ -44,6 +44,18 @@ returns-in_default-clause-alone g c never =
     let there : c.has_node.result ≡ true = grind arith in
     let has : has_node c.args.self c.args.plan.nodes ≡ true =
     ap (has_node c.args.self) (sym c.map.ensures) ∙ sym c.has_node.ensures ∙ there in
-    absurd (never c.args.self (runs c.args.self c.args.plan (g.P.Plant.fibres c.args.plant.now) g.P.Plant.exact
-    (g.P.Plant.fibres c.run_plan.new.plant) _ (ending.Shared status.Ok) (g.W.Sink.written c.args.sink.now)
-    (g.W.Sink.written c.run_plan.new.sink) has))
+    absurd (never c.args.self (runs c.args.self c.args.plan has))
+
+pub returns-in-WriteFault-clause-alone : goal.returns-in-WriteFault-clause-alone
+returns-in-WriteFault-clause-alone g c never =
+    let there : c.has_node.result ≡ true = grind arith in
+    let has : has_node c.args.self c.args.plan.nodes ≡ true =
+    ap (has_node c.args.self) (sym c.map.ensures) ∙ sym c.has_node.ensures ∙ there in
+    absurd (never c.args.self (runs c.args.self c.args.plan has))
+
+pub returns-in_err-status-clause-alone : goal.returns-in_err-status-clause-alone
+returns-in_err-status-clause-alone g c never =
+    let there : c.has_node.result ≡ true = grind arith in
+    let has : has_node c.args.self c.args.plan.nodes ≡ true =
+    ap (has_node c.args.self) (sym c.map.ensures) ∙ sym c.has_node.ensures ∙ there in
+    absurd (never c.args.self (runs c.args.self c.args.plan has))
