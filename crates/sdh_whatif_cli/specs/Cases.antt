@@ -1,11 +1,14 @@
--- The cases that are told, in their order: nothing; each failure alone; each two; each three.
-use Rattle.std.specs.Prelude.{ℕ, zero, suc, ◌+◌, ◌-◌, ◌*◌, ◌/◌, ◌%◌, Bool, ◌==◌, ◌&&◌, ◌||◌, not, nat_lt, if◌then◌else◌, List, [], ◌∷◌, length, Option, Some, None}
+-- The cases that are told, in their order: nothing; each failure alone; each two; each three. A failure is one of the ring's, or one of the
+-- user's own: some of the ring's that come together. Of those there is a list, in their order.
+use Rattle.std.specs.Prelude.{ℕ, zero, suc, ◌+◌, ◌-◌, ◌*◌, ◌/◌, ◌%◌, Bool, ◌==◌, ◌&&◌, ◌||◌, not, nat_le, nat_lt, if◌then◌else◌, List, [], ◌∷◌, ◌++◌}
+use Rattle.std.specs.Prelude.{length, slice_index_or, Option, Some, None}
 use Rattle.sdh_plan.specs.Planned.{Planned}
 use Rattle.sdh_verdicts.specs.declared.failure.Failure.{Failure}
 use Rattle.sdh_verdicts.specs.declared.failure.Failure.TheVariants.{Degraded, Cut, Span, Node, Manual, Forced}
 use Rattle.sdh_verdicts.specs.Failures.{failure_at}
 use Rattle.sdh_verdicts.specs.Verdicts.{mends}
 use Rattle.sdh_whatif_cli.specs.declared.ask.Ask.{Ask}
+use Rattle.sdh_whatif_cli.specs.declared.forms.Digits.{Digits}
 use Rattle.sdh_whatif_cli.specs.declared.forms.Entry.{Entry}
 use Rattle.sdh_whatif_cli.specs.declared.ask.Kind.{Kind}
 use Rattle.sdh_whatif_cli.specs.declared.ask.Kind.TheVariants as kind
@@ -13,36 +16,46 @@ use Rattle.sdh_whatif_cli.specs.declared.ask.Depth.{Depth}
 use Rattle.sdh_whatif_cli.specs.declared.ask.Depth.TheVariants.{Single, Double, Triple}
 use Rattle.sdh_whatif_cli.specs.Words.{takes}
 
--- A case is a number of three digits, counted in so many: digit 0 is nothing, and digit d failure d - 1 of the ring's.
-abbrev pub base : ℕ → ℕ
-base n = 10 * n + 1
+-- A case is a number of three digits, counted in so many: digit 0 is nothing, digit d up to 10 n failure d - 1 of the ring's, and the
+-- digits behind those the user's own, of which there are so many.
+abbrev pub base : ℕ → ℕ → ℕ
+base n own = 10 * n + 1 + own
 
--- so many numbers there are
+-- so many numbers there are, counted in b
 abbrev pub numbers_of : ℕ → Depth → ℕ
-numbers_of n Single = base n
-numbers_of n Double = base n * base n
-numbers_of n Triple = base n * base n * base n
+numbers_of b Single = b
+numbers_of b Double = b * b
+numbers_of b Triple = b * b * b
 
+-- the digits of a number
 abbrev pub first : ℕ → ℕ → ℕ
-first n c = c / base n / base n % base n
+first b c = c / b / b % b
 
 abbrev pub second : ℕ → ℕ → ℕ
-second n c = c / base n % base n
+second b c = c / b % b
 
 abbrev pub third : ℕ → ℕ → ℕ
-third n c = c % base n
+third b c = c % b
+
+abbrev pub digits_of : ℕ → ℕ → Digits
+digits_of b c = record { first = first b c; second = second b c; third = third b c }
 
 -- one digit behind another: larger, or behind nothing
 abbrev pub goes_before : ℕ → ℕ → Bool
 goes_before d e = (d == 0) || nat_lt d e
 
--- the failures of a number whose digits grow
-abbrev pub failures_of : ℕ → ℕ → ℕ → ℕ → List Failure
-failures_of n d e f =
-    if f == 0 then [] else
-    if e == 0 then failure_at n (f - 1) ∷ [] else
-    if d == 0 then failure_at n (e - 1) ∷ failure_at n (f - 1) ∷ [] else
-    failure_at n (d - 1) ∷ failure_at n (e - 1) ∷ failure_at n (f - 1) ∷ []
+-- the digit is nothing, or one of the ring's failures
+abbrev pub is_of_ring : ℕ → ℕ → Bool
+is_of_ring n d = nat_le d (10 * n)
+
+-- the failures of a digit
+abbrev pub failures_at : ℕ → List (List Failure) → ℕ → List Failure
+failures_at n own d =
+    if d == 0 then [] else if is_of_ring n d then failure_at n (d - 1) ∷ [] else slice_index_or own (d - (10 * n + 1)) []
+
+-- those of three digits, one after the other
+abbrev pub failures_of : ℕ → List (List Failure) → Digits → List Failure
+failures_of n own ds = failures_at n own ds.first ++ (failures_at n own ds.second ++ failures_at n own ds.third)
 
 -- the kind of a failure
 abbrev pub kind_of : Failure → Kind
@@ -53,27 +66,42 @@ kind_of (Node at) = kind.Nodes
 kind_of (Manual at side) = kind.Manual
 kind_of (Forced at side) = kind.Forced
 
--- a digit is nothing, or its failure is of a kind that is taken and would mend nothing
+-- a failure of the ring is of a kind that is taken and would mend nothing
+abbrev pub is_ring_taken : Planned → Ask → Failure → Bool
+is_ring_taken plan ask failure = takes ask.kinds (kind_of failure) && not (mends plan failure)
+
+-- a digit is nothing, or such a failure; or it is one of the user's own, which are told also where one takes the place of what the script has
+-- set
 abbrev pub is_taken : Planned → Ask → ℕ → Bool
 is_taken plan ask d =
-    (d == 0) || (takes ask.kinds (kind_of (failure_at (length plan.nodes) (d - 1))) && not (mends plan (failure_at (length plan.nodes) (d - 1))))
+    (d == 0) || (if is_of_ring (length plan.nodes) d then is_ring_taken plan ask (failure_at (length plan.nodes) (d - 1))
+    else takes ask.kinds kind.Own)
 
 -- a number of these digits stands for a case, of which each has one, and it is told
-abbrev pub are_told : Planned → Ask → ℕ → ℕ → ℕ → Bool
-are_told plan ask d e f = goes_before d e && (goes_before e f && (is_taken plan ask d && (is_taken plan ask e && is_taken plan ask f)))
+abbrev pub are_told : Planned → Ask → Digits → Bool
+are_told plan ask ds =
+    goes_before ds.first ds.second && (goes_before ds.second ds.third
+    && (is_taken plan ask ds.first && (is_taken plan ask ds.second && is_taken plan ask ds.third)))
+
+-- in what the numbers of a plan's cases are counted, with these failures of the user's own
+abbrev pub base_of : Planned → List (List Failure) → ℕ
+base_of plan own = base (length plan.nodes) (length own)
+
+abbrev pub digits_at : Planned → List (List Failure) → ℕ → Digits
+digits_at plan own c = digits_of (base_of plan own) c
 
 -- the case of a number that stands for one
-abbrev pub case_at : Planned → ℕ → List Failure
-case_at plan c = (let n = length plan.nodes in failures_of n (first n c) (second n c) (third n c))
+abbrev pub case_at : Planned → List (List Failure) → ℕ → List Failure
+case_at plan own c = failures_of (length plan.nodes) own (digits_at plan own c)
 
 -- the number stands for a case that is told
-abbrev pub is_told : Planned → Ask → ℕ → Bool
-is_told plan ask c = (let n = length plan.nodes in are_told plan ask (first n c) (second n c) (third n c))
+abbrev pub is_told : Planned → List (List Failure) → Ask → ℕ → Bool
+is_told plan own ask c = are_told plan ask (digits_at plan own c)
 
 -- of the first c numbers so many do; so many cases stand before the one of number c
-abbrev pub told_below : Planned → Ask → ℕ → ℕ
-told_below plan ask zero = 0
-told_below plan ask (suc c) = told_below plan ask c + (if is_told plan ask c then 1 else 0)
+abbrev pub told_below : Planned → List (List Failure) → Ask → ℕ → ℕ
+told_below plan own ask zero = 0
+told_below plan own ask (suc c) = told_below plan own ask c + (if is_told plan own ask c then 1 else 0)
 
 -- the case that has this number among those that are told is in the part that is asked for
 abbrev pub is_in_part : Ask → ℕ → Bool
@@ -83,5 +111,5 @@ is_in_part ask number = number % ask.parts == ask.part - 1
 abbrev pub entry_of : Ask → Bool → ℕ → Option Entry
 entry_of ask told number = if told && is_in_part ask number then Some (record { form = ask.form; number = number }) else None
 
-abbrev pub entry_at : Planned → Ask → ℕ → Option Entry
-entry_at plan ask c = entry_of ask (is_told plan ask c) (told_below plan ask c)
+abbrev pub entry_at : Planned → List (List Failure) → Ask → ℕ → Option Entry
+entry_at plan own ask c = entry_of ask (is_told plan own ask c) (told_below plan own ask c)

@@ -3,6 +3,7 @@ pub mod Cases
 pub mod Counting
 pub mod Singles
 pub mod Lines
+pub mod Own
 pub mod Reading
 pub mod Laws
 pub mod Outcome
