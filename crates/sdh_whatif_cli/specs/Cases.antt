@@ -1,11 +1,11 @@
 -- The cases that are told, in their order: nothing; each failure alone; each two; each three. A failure is one of the ring's, or one of the
 -- user's own: some of the ring's that come together. Of those there is a list, in their order.
-use Rattle.std.specs.Prelude.{ℕ, zero, suc, ◌+◌, ◌-◌, ◌*◌, ◌/◌, ◌%◌, Bool, ◌==◌, ◌&&◌, ◌||◌, not, nat_le, nat_lt, if◌then◌else◌, List, [], ◌∷◌, ◌++◌}
-use Rattle.std.specs.Prelude.{length, slice_index_or, Option, Some, None}
+use Rattle.std.specs.Prelude.{ℕ, zero, suc, ◌≤◌, ◌+◌, ◌-◌, ◌*◌, ◌/◌, ◌%◌, Bool, ◌==◌, ◌&&◌, ◌||◌, not, nat_le, nat_lt, if◌then◌else◌, List, [], ◌∷◌, ◌++◌}
+use Rattle.std.specs.Prelude.{length, slice_index_or, All, Option, Some, None}
 use Rattle.sdh_plan.specs.Planned.{Planned}
 use Rattle.sdh_verdicts.specs.declared.failure.Failure.{Failure}
 use Rattle.sdh_verdicts.specs.declared.failure.Failure.TheVariants.{Degraded, Cut, Span, Node, Manual, Forced}
-use Rattle.sdh_verdicts.specs.Failures.{failure_at}
+use Rattle.sdh_verdicts.specs.Failures.{IsFailureIn, failure_at}
 use Rattle.sdh_verdicts.specs.Verdicts.{mends}
 use Rattle.sdh_whatif_cli.specs.declared.ask.Ask.{Ask}
 use Rattle.sdh_whatif_cli.specs.declared.forms.Digits.{Digits}
@@ -113,3 +113,20 @@ entry_of ask told number = if told && is_in_part ask number then Some (record { 
 
 abbrev pub entry_at : Planned → List (List Failure) → Ask → ℕ → Option Entry
 entry_at plan own ask c = entry_of ask (is_told plan own ask c) (told_below plan own ask c)
+
+-- ---- what the program keeps
+
+-- a digit stands for a failure where the user has up to 16 of his own
+abbrev pub IsSmall : ℕ → ℕ → Type 0
+IsSmall n d = d ≤ 10 * n + 16
+
+pub record AreSmall (n : ℕ) (ds : Digits) : Type 0 where
+  pub first : IsSmall n ds.first
+  pub second : IsSmall n ds.second
+  pub third : IsSmall n ds.third
+
+-- the user's own failures are up to 16, each of up to 16 failures of a ring of n
+pub record AreOwn (n : ℕ) (own : List (List Failure)) : Type 0 where
+  pub few : length own ≤ 16
+  pub short : All (λ failures. length failures ≤ 16) own
+  pub within : All (All (IsFailureIn n)) own

@@ -14,11 +14,10 @@ use Rattle.sdh_whatif_cli.specs.Own.{own_failures, first_unknown}
 
 -- the line of a refusal
 abbrev pub refusal : Status → List ℕ
-refusal status.Usage = own_line (codes "usage: sdhwhatif single, double, triple, with kinds, own FAILURES, part K N, head, json, summary")
+refusal status.Usage = own_line (codes "usage: sdhwhatif single, double, triple, with kinds, own NAMES, part K N, head, json, summary")
 refusal how = last_line how
 
--- Of a plan comes its table; or, where a text of the user's own failures has a name that is none of the ring's, the number of the first
--- that has.
+-- Of a plan comes its table; or, where a text of the user's own failures names none of the ring's, the place of the first that does.
 abbrev pub of_unknown : Option ℕ → Planned → List (List ℕ) → Ask → Status × List ℕ
 of_unknown None plan texts ask = (status.Ok, table_text plan (own_failures plan.nodes texts) ask)
 of_unknown (Some place) plan texts ask =
@@ -39,7 +38,7 @@ abbrev pub IsOutcome : Option Ask → List (List ℕ) → List ℕ → Status �
 IsOutcome None texts bytes how text = (how ≡ status.Usage) × (text ≡ refusal status.Usage)
 IsOutcome (Some ask) texts bytes how text = OfBytes ask texts bytes how text
 
--- the source tells the bytes of a plan, of whose ring every name in these texts is
+-- the source tells the bytes of a plan, and each of these texts names failures of its ring
 abbrev pub HasPlanFor : List (List ℕ) → Option (List ℕ) → Type 0
 HasPlanFor texts None = ⊥
 HasPlanFor texts (Some bytes) = (plan : Planned) × TellsPlan bytes plan × (first_unknown plan.nodes texts ≡ None)

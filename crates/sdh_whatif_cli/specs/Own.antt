@@ -1,12 +1,27 @@
 -- What the texts of the user's own failures name: failures of the ring, which come together.
-use Rattle.std.specs.Prelude.{ℕ, ◌+◌, ◌*◌, List, [], ◌∷◌, map, length, Option, Some, None, option_map, is_none, unwrap_or, slice_get, position}
+use Rattle.std.specs.Prelude.{ℕ, ◌≡◌, ◌+◌, ◌*◌, Bool, true, ◌==◌, ◌||◌, nat_lt, if◌then◌else◌, List, [], ◌∷◌, map, length, Option, Some, None, option_map}
+use Rattle.std.specs.Prelude.{is_none, unwrap_or, slice_get, position}
+use Rattle.std.specs.List.{slice_split}
 use Rattle.std.specs.Option.{option_and_then}
 use Rattle.std.specs.Str.{bytes_eq}
 use Rattle.sdh_basics.specs.Cells.{cells}
 use Rattle.sdh_verdicts.specs.declared.failure.Failure.{Failure}
 use Rattle.sdh_verdicts.specs.Failures.{failure_at}
+use Rattle.sdh_whatif_cli.specs.declared.own.OwnError.{OwnError}
+use Rattle.sdh_whatif_cli.specs.declared.own.OwnError.TheVariants as error
 use Rattle.sdh_whatif_cli.specs.Lines.{failure_text}
-use Rattle.sdh_whatif_cli.specs.Words.{names_in}
+
+-- a text without the space that it begins with, if it does
+abbrev pub unspaced : List ℕ → List ℕ
+unspaced [] = []
+unspaced (b ∷ more) = if b == 32 then more else b ∷ more
+
+abbrev pub is_semicolon : ℕ → Bool
+is_semicolon byte = byte == 59
+
+-- the names in the text of a failure of the user's own: semicolons part them, and a space may stand before each
+abbrev pub names_in : List ℕ → List (List ℕ)
+names_in text = map unspaced (slice_split is_semicolon text)
 
 -- all failures of a ring of n, in their order
 abbrev pub ring_failures : ℕ → List Failure
@@ -24,14 +39,32 @@ all_there [] = Some []
 all_there (None ∷ more) = None
 all_there (Some failure ∷ more) = option_map (λ others. failure ∷ others) (all_there more)
 
--- those that a text names, or nothing where it has a name that is none of the ring's
-abbrev pub together : List ℕ → List ℕ → Option (List Failure)
-together nodes text = all_there (map (failure_named nodes) (names_in text))
+-- those that a text names, or nothing where it has more than 16 names, or one that is none of the ring's
+unfoldable pub together : List ℕ → List ℕ → Option (List Failure)
+together nodes text = if nat_lt 16 (length (names_in text)) then None else all_there (map (failure_named nodes) (names_in text))
 
 -- the user's own failures, by their texts
 abbrev pub own_failures : List ℕ → List (List ℕ) → List (List Failure)
 own_failures nodes texts = map (λ text. unwrap_or (together nodes text) []) texts
 
--- the number of the first text with a name that is none of the ring's, counted from 1
+-- the place of the first text from this place on that names nothing so, or is the 17th or a later one
+abbrev pub unknown_from : List ℕ → ℕ → List (List ℕ) → Option ℕ
+unknown_from nodes place [] = None
+unknown_from nodes place (text ∷ more) =
+    if nat_lt 16 place || is_none (together nodes text) then Some place else unknown_from nodes (place + 1) more
+
+-- of these texts, counted from 1
 abbrev pub first_unknown : List ℕ → List (List ℕ) → Option ℕ
-first_unknown nodes texts = option_map (λ i. i + 1) (position (λ text. is_none (together nodes text)) texts)
+first_unknown nodes texts = unknown_from nodes 1 texts
+
+-- ---- what the program answers
+
+-- the place is this one; want of memory may come at any time
+abbrev pub IsUnknown : Option ℕ → OwnError → Type 0
+IsUnknown place error.Memory = Unit {0}
+IsUnknown place (error.Unknown at) = place ≡ Some at
+
+-- of the text at a place nothing comes
+abbrev pub IsNone : ℕ → Option (List Failure) → OwnError → Type 0
+IsNone place found error.Memory = Unit {0}
+IsNone place found (error.Unknown at) = (at ≡ place) × ((nat_lt 16 place || is_none found) ≡ true)

@@ -1,7 +1,6 @@
 -- What the words of a command line ask for. The words are this project's own.
-use Rattle.std.specs.Prelude.{ℕ, ◌≤◌, ◌+◌, ◌-◌, ◌^◌, Bool, true, false, ◌==◌, ◌&&◌, ◌||◌, not, nat_lt, List, [], ◌∷◌, length, map, codes}
+use Rattle.std.specs.Prelude.{ℕ, ◌≤◌, ◌-◌, ◌^◌, Bool, true, false, ◌&&◌, ◌||◌, not, List, [], ◌∷◌, codes}
 use Rattle.std.specs.Prelude.{Option, Some, None, option_map, if◌then◌else◌}
-use Rattle.std.specs.List.{slice_split}
 use Rattle.std.specs.Option.{option_and_then}
 use Rattle.std.specs.Str.{bytes_eq}
 use Rattle.sdh_plan.specs.Words.{numeral_in}
@@ -77,19 +76,6 @@ takes kinds k = has_kind kinds k || not (has_some kinds)
 
 -- ---- failures of the user's own
 
--- a text without the space that it begins with, if it does
-abbrev pub unspaced : List ℕ → List ℕ
-unspaced [] = []
-unspaced (b ∷ more) = if b == 32 then more else b ∷ more
-
--- the names in the text of a failure of the user's own: semicolons part them, and a space may stand before each
-abbrev pub names_in : List ℕ → List (List ℕ)
-names_in text = map unspaced (slice_split (λ byte. byte == 59) text)
-
--- there are at most 16
-unfoldable pub has_few_names : List ℕ → Bool
-has_few_names text = nat_lt (length (names_in text)) 17
-
 -- the texts that stand behind the word `own`; the first word is one where another stood before these
 abbrev pub texts_behind : Bool → List (List ℕ) → List (List ℕ)
 texts_behind behind [] = []
@@ -108,7 +94,7 @@ all_of depth = record { depth = depth; kinds = no_kinds; form = form.Table; part
 
 -- nothing but the depth was read
 abbrev pub begun : Depth → AskedSoFar
-begun depth = record { ask = all_of depth; awaited = awaited.Any; is_parted = false; own = 0 }
+begun depth = record { ask = all_of depth; awaited = awaited.Any; is_parted = false }
 
 -- the kind is asked for too, where it isn't yet
 abbrev pub ask_kind : Ask → Kind → Option Ask
@@ -150,18 +136,13 @@ read_any r word =
     if bytes_eq word (codes "part") then begin_part r else
     if bytes_eq word (codes "own") then Some (begin_own r) else option_map (with_ask r) (ask_word r.ask word)
 
--- with one failure of the user's own more, which is of a kind of its own
+-- with one failure of the user's own more, which is of a kind of its own; what its text names is read with the plan
 abbrev pub with_own : AskedSoFar → AskedSoFar
 with_own r = record {
   ask = record r.ask { kinds = with_kind r.ask.kinds kind.Own };
   awaited = awaited.Any;
   is_parted = r.is_parted;
-  own = r.own + 1;
 }
-
--- the text of one: there are at most 16, each of at most 16 names
-abbrev pub read_own : AskedSoFar → List ℕ → Option AskedSoFar
-read_own r text = if nat_lt r.own 16 && has_few_names text then Some (with_own r) else None
 
 abbrev pub with_part : Ask → ℕ → ℕ → Ask
 with_part ask part parts = record ask { part = part; parts = parts }
@@ -169,20 +150,20 @@ with_part ask part parts = record ask { part = part; parts = parts }
 -- which part
 abbrev pub read_part : AskedSoFar → List ℕ → Option AskedSoFar
 read_part r word =
-    option_map (λ k. record { ask = with_part r.ask k (2 ^ 32 - 1); awaited = awaited.Parts; is_parted = r.is_parted; own = r.own })
+    option_map (λ k. record { ask = with_part r.ask k (2 ^ 32 - 1); awaited = awaited.Parts; is_parted = r.is_parted })
     (numeral_in 1 (2 ^ 32 - 1) word)
 
 -- of how many: no fewer than its own number
 abbrev pub read_parts : AskedSoFar → List ℕ → Option AskedSoFar
 read_parts r word =
-    option_map (λ k. record { ask = with_part r.ask r.ask.part k; awaited = awaited.Any; is_parted = r.is_parted; own = r.own })
+    option_map (λ k. record { ask = with_part r.ask r.ask.part k; awaited = awaited.Any; is_parted = r.is_parted })
     (numeral_in r.ask.part (2 ^ 32 - 1) word)
 
 abbrev pub read_awaited : Awaited → AskedSoFar → List ℕ → Option AskedSoFar
 read_awaited awaited.Any r word = read_any r word
 read_awaited awaited.Part r word = read_part r word
 read_awaited awaited.Parts r word = read_parts r word
-read_awaited awaited.Own r word = read_own r word
+read_awaited awaited.Own r word = Some (with_own r)
 
 -- one word more
 abbrev pub read_word : AskedSoFar → List ℕ → Option AskedSoFar
@@ -211,8 +192,8 @@ may_be_parted form.Summary = false
 abbrev pub finished : AskedSoFar → Option Ask
 finished r = if is_whole r.awaited && (not r.is_parted || may_be_parted r.ask.form) then Some r.ask else None
 
--- What the words ask for: a depth; and behind it, in any order, kinds, up to 16 failures of the user's own, at most one form, and at most
--- once `part` with the number of a part and of how many.
+-- What the words ask for: a depth; and behind it, in any order, kinds, failures of the user's own, at most one form, and at most once
+-- `part` with the number of a part and of how many.
 unfoldable pub asked : List (List ℕ) → Option Ask
 asked [] = None
 asked (word ∷ others) = option_and_then (λ depth. option_and_then finished (read_words (begun depth) others)) (depth_named word)

@@ -1,5 +1,5 @@
 //! The table that tells which circuits survive each failure of a ring, by the restoration model alone: no round is run.
-//! `specs/Words.antt` has what words ask for, `specs/Cases.antt` the cases in their order, `specs/Lines.antt` the
+//! `specs/Words.antt` has what words ask for, `specs/Own.antt` what the user's own failures are, `specs/Cases.antt` the cases in their order, `specs/Lines.antt` the
 //! lines, `specs/Singles.antt` what each failure alone takes, and `specs/Laws.antt` that what a line says is so.
 #![tactic(auto)]
 
@@ -10,14 +10,18 @@ pub mod laws;
 mod line;
 mod lines;
 mod names;
+mod own;
+mod scene;
 mod singles;
 mod table;
 mod top;
 
 pub use ask::{Ask, AskedSoFar, Awaited, Depth, Form, Kind, Kinds, asked};
 pub use counting::{Counts, Fate};
-pub use forms::Entry;
+pub use forms::{Digits, Entry};
 pub use line::Line;
+pub use own::OwnFailures;
+pub use scene::Scene;
 pub use sdh_report::Status;
 pub use singles::Tally;
 pub use table::write_table;
