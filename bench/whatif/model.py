@@ -12,6 +12,7 @@ SIDES = "west", "east"
 DEPTHS = {"single": 1, "double": 2, "triple": 3}
 KINDS = "degraded", "fibres", "spans", "nodes", "manual", "forced"
 OWN = "own"  # failures of the ring that come together, as the words name them
+MOST = 16  # of the user's own, and of names in one
 COLUMNS = ["number", "failures", "steps", "applied", "kept", "impaired", "over", "lost", "hops"]
 
 
@@ -139,7 +140,7 @@ def own_failures(ring, texts):
         there.setdefault(failure.name, failure)  # in a ring of two nodes two fibres have one name, and the first is meant
     for number, text in enumerate(texts, 1):
         found = [there.get(name.removeprefix(" ")) for name in text.split(";")]
-        steps = None if None in found else [step for failure in found for step in failure.steps]
+        steps = None if None in found or len(found) > MOST or number > MOST else [step for failure in found for step in failure.steps]
         made.append(steps and Failure(OWN, f"own {number}", steps))
     return made
 
