@@ -214,7 +214,7 @@ fn write_entry<W: Sink>(
     let failures = failures_of(scene.plan.map().len(), scene.own, digits);
     let case = Case {
         digits,
-        failures: &failures,
+        failures: failures.as_slice(),
     };
     write_case(sink, line, scene.plan, scene.sides, entry, case)
 }
