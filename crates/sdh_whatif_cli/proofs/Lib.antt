@@ -1,6 +1,7 @@
 pub mod Short
 pub mod Parts
 pub mod Named
+pub mod Naming
 pub mod Unknown
 pub mod Below
 pub mod Told
