@@ -16,7 +16,10 @@ use Rattle.sdh_plan.proofs.Slipping.{first_at, none_at}
 use Rattle.sdh_verdicts.specs.declared.failure.Failure.{Failure}
 use Rattle.sdh_verdicts.specs.Failures.{failure_at}
 use Rattle.sdh_whatif_cli.specs.Lines.{failure_text}
-use Rattle.sdh_whatif_cli.specs.Own.{unspaced, is_semicolon, names_in, ring_failures, failure_named, all_there, together, own_failures, unknown_from}
+use Rattle.sdh_whatif_cli.specs.Own.{unspaced, is_semicolon, names_in, ring_failures, failure_named, all_there, together, own_failures}
+use Rattle.sdh_whatif_cli.specs.Own.{unknown_from, IsNone, IsUnknown}
+use Rattle.sdh_whatif_cli.specs.declared.own.OwnError.{OwnError}
+use Rattle.sdh_whatif_cli.specs.declared.own.OwnError.TheVariants as error
 
 -- ---- the failure with a name
 
@@ -167,6 +170,12 @@ module _ {X : Type 0} (f : X → List ℕ) (nodes : List ℕ) where
       ∙ before.all ∙ ap (λ (l : List Failure). Some l) (append-nil list)
 
 -- ---- text by text
+
+-- why nothing comes of a text, and of all
+pub why_unknown : (place : ℕ) (o : Option ℕ) (found : Option (List Failure)) (why : OwnError) → IsNone place found why
+    → ((nat_lt 16 place || is_none found) ≡ true → o ≡ Some place) → IsUnknown o why
+why_unknown place o found error.Memory none h = tt
+why_unknown place o found (error.Unknown at) none h = h none.1 ∙ ap (λ k. Some k) (sym none.0)
 
 module _ (nodes : List ℕ) (all : List (List ℕ)) where
   -- these lists are those of the texts so far, each of which names some; the others are left

@@ -172,9 +172,10 @@ fn next_own(
     if place > 16 {
         return Err(OwnError::Unknown(place));
     }
-    match together(alloc, line, map, text)? {
-        Some(list) => Ok(list),
-        None => Err(OwnError::Unknown(place)),
+    match together(alloc, line, map, text) {
+        Ok(Some(list)) => Ok(list),
+        Ok(None) => Err(OwnError::Unknown(place)),
+        Err(why) => Err(why),
     }
 }
 
@@ -195,8 +196,10 @@ pub fn own_failures(
     for word in words {
         if behind {
             let place = lists.len() as u32 + 1;
-            let list = next_own(alloc, line, map, place, word.as_bytes())?;
-            lists.push(list)?;
+            match next_own(alloc, line, map, place, word.as_bytes()) {
+                Ok(list) => lists.push(list)?,
+                Err(why) => return Err(why),
+            }
             behind = false;
         } else {
             behind = word.as_str() == "own";
