@@ -1,6 +1,7 @@
 //! The table that tells which circuits survive each failure of a ring, by the restoration model alone: no round is run.
-//! `specs/Words.antt` has what words ask for, `specs/Own.antt` what the user's own failures are, `specs/Cases.antt` the cases in their order, `specs/Lines.antt` the
-//! lines, `specs/Singles.antt` what each failure alone takes, and `specs/Laws.antt` that what a line says is so.
+//! `specs/Words.antt` has what words ask for, `specs/Cases.antt` the cases in their order, `specs/Lines.antt` the
+//! lines, `specs/Own.antt` what the user's own failures are, `specs/Singles.antt` what each failure alone takes, and
+//! `specs/Laws.antt` that what a line says is so.
 #![tactic(auto)]
 
 mod ask;

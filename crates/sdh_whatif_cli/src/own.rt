@@ -54,7 +54,7 @@ impl OwnFailures {
 }
 
 /// Why there are none.
-#[derive(Clone, Copy, Debug, PartialEq, Eq, Drop)]
+#[derive(Clone, Copy, Debug, PartialEq, Eq)]
 pub enum OwnError {
     /// There was no memory.
     Memory,

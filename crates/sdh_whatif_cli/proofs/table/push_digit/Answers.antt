@@ -30,6 +30,19 @@ returns-then-digit-le-clause-within c =
     (All-append Is c.args.case.now.items (c.failure_at.result ∷ []) c.requires.within
     (All-cons Is c.failure_at.result [] c.failure_at.ensures.within (All-nil Is)))
 
+-- there is room: one of the user's own has up to 16
+pub push-in-requires : goal.push-in-requires
+push-in-requires c =
+    let at = c.args.digit - (10 * c.args.nodes + 1) in
+    omega (
+      arith,
+      c.loop-failure.invariant.short,
+      c.requires.room,
+      ap (λ (l : List Failure). length l) c.list.ensures,
+      c.loop-failure-test.true,
+      own_short c.args.nodes c.args.own.now at c.requires.own,
+    )
+
 -- those of one of the user's own, one by one
 pub loop-failure-preserved : goal.loop-failure-preserved
 loop-failure-preserved c =
@@ -45,6 +58,12 @@ loop-failure-preserved c =
           ∙ append_assoc c.args.case.now.items (take i fs) (c.failure-item.item ∷ [])
           ∙ ap (λ (f : Failure). c.args.case.now.items ++ (take i fs ++ f ∷ [])) c.failure-item.is
           ∙ ap (λ (l : List Failure). c.args.case.now.items ++ l) (sym (take_more fs i some low));
+      short = omega (
+        arith,
+        ap (λ (l : List Failure). length l) c.push-in.ensures.items,
+        length-append c.loop-failure.case.items (c.failure-item.item ∷ []),
+        c.loop-failure.invariant.short,
+      );
       within = subst (All Is) (sym c.push-in.ensures.items)
           (All-append Is c.loop-failure.case.items (c.failure-item.item ∷ []) c.loop-failure.invariant.within
           (All-cons Is c.failure-item.item []
