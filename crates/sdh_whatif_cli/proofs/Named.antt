@@ -1,5 +1,5 @@
 -- The failures of digits, and names one behind the other.
-use Rattle.std.proofs.Common.{◌≡◌, ℕ, ◌+◌, ◌-◌, ◌*◌, ◌<◌, ◌≤◌, Bool, true, false, List, [], ◌∷◌, length, get_or, All, inl, inr, sym, ap, ◌∙◌, subst}
+use Rattle.std.proofs.Common.{◌≡◌, ℕ, ◌+◌, ◌-◌, ◌*◌, ◌<◌, ◌≤◌, Bool, true, false, List, [], ◌∷◌, ◌++◌, codes, decimal, length, get_or, All, inl, inr, sym, ap, ◌∙◌, subst}
 use Rattle.std.proofs.Common.{arith, eq-eqb, ne_eqb, le-leb}
 use Rattle.std.specs.Prelude.{nat_le, ◌==◌, if◌then◌else◌}
 use Rattle.std.proofs.lemmas.Bool.{cases_lt, false_from_ne_true, leb-true}
@@ -8,6 +8,7 @@ use Rattle.std.proofs.lemmas.List.Elements.{All-nil, All-get_or}
 use Rattle.sdh_verdicts.specs.declared.failure.Failure.{Failure}
 use Rattle.sdh_verdicts.specs.Failures.{IsFailureIn, failure_at}
 use Rattle.sdh_whatif_cli.specs.Cases.{AreOwn, failures_at}
+use Rattle.sdh_whatif_cli.specs.Lines.{failure_text, digit_text}
 
 module _ (n : ℕ) (own : List (List Failure)) (d : ℕ) where
   abbrev by : Bool → Bool → List Failure
@@ -36,3 +37,16 @@ module _ (n : ℕ) (own : List (List Failure)) (i : ℕ) (are : AreOwn n own) wh
     | inl low ↦ All-get_or (All (IsFailureIn n)) own i [] low are.within
     | inr past ↦ subst (All (IsFailureIn n)) (sym (get_or_past own i [] past)) (All-nil (IsFailureIn n))
   ]
+
+-- ---- names
+
+module _ (nodes : List ℕ) (d : ℕ) where
+  abbrev named_by : Bool → List ℕ
+  named_by ring = if ring then failure_text nodes (failure_at (length nodes) (d - 1)) else codes "own " ++ decimal (d - 10 * length nodes)
+
+  pub ring_text : d ≤ 10 * length nodes → digit_text nodes d ≡ failure_text nodes (failure_at (length nodes) (d - 1))
+  ring_text low = ap named_by (le-leb d (10 * length nodes) low)
+
+  pub own_text : (d ≤ 10 * length nodes → ⊥) → digit_text nodes d ≡ codes "own " ++ decimal (d - 10 * length nodes)
+  own_text high =
+      ap named_by (false_from_ne_true (nat_le d (10 * length nodes)) (λ e. high (leb-true d (10 * length nodes) e)))

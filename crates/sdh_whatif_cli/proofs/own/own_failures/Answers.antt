@@ -13,6 +13,15 @@ use Rattle.sdh_whatif_cli.specs.Own.{together, IsNone}
 use Rattle.sdh_whatif_cli.proofs.Naming.{OwnSoFar, none_yet, more_own, unknown_at, why_unknown, all_known, all_made}
 use Rattle.sdh_whatif_cli.proofs.own.own_failures.Goals as goal
 
+-- before the first word
+pub loop-word-start : goal.loop-word-start
+loop-word-start c = record {
+  made = none_yet c.args.map.now (own_texts (words_of c.args.words.now));
+  few = omega arith;
+  short = All-nil _;
+  within = All-nil _;
+}
+
 -- nothing comes of the text that stands behind `own`
 pub returns-in-Err-clause-unknown : goal.returns-in-Err-clause-unknown
 returns-in-Err-clause-unknown c =
