@@ -2,7 +2,6 @@
 use Rattle.std.proofs.Common.{◌≡◌, ℕ, List, Option, Some, None, sym, ap, ◌∙◌, subst}
 use Rattle.std.specs.Prelude.{IfSome}
 use Rattle.toml.specs.Data.{Members}
-use Rattle.toml.specs.Parse.{parse_document}
 use Rattle.sdh_plan.specs.Answers.{IsPlanOf}
 use Rattle.sdh_plan.specs.Planned.{Planned}
 use Rattle.sdh_plan.specs.Plans.{plan_of}

@@ -137,7 +137,6 @@ fn together(
     ensures is { IfOk result (λ found. option_map (λ list. list.items) found ≡ together map.now text.now) }
     ensures short { IfOk result (λ found. IfSome found (λ list. length list.items ≤ 16)) }
     ensures within { IfOk result (λ found. IfSome found (λ list. All (IsFailureIn (length map.now)) list.items)) }
-    ensures memory { IfErr result (λ why. why ≡ OwnError.Memory) }
 {
     let mut list = Vec::new(alloc);
     let mut rest = Some(text);
@@ -175,7 +174,7 @@ fn next_own(
     match together(alloc, line, map, text) {
         Ok(Some(list)) => Ok(list),
         Ok(None) => Err(OwnError::Unknown(place)),
-        Err(why) => Err(why),
+        Err(_) => Err(OwnError::Memory),
     }
 }
 

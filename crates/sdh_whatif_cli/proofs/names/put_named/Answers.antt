@@ -1,7 +1,7 @@
-use Rattle.std.proofs.Common.{◌≡◌, ◌∙◌, ◌++◌, ◌∷◌, [], ℕ, List, length, codes, sym, ap, arith, eq-eqb, ne_eqb}
+use Rattle.std.proofs.Common.{◌∙◌, ◌++◌, ◌∷◌, [], length, codes, sym, ap, arith, eq-eqb, ne_eqb}
 use Rattle.std.specs.Prelude.{◌==◌, if◌then◌else◌}
 use Rattle.std.proofs.lemmas.List.{append-nil}
-use Rattle.sdh_whatif_cli.specs.Lines.{joined, either, name_text, digit_names}
+use Rattle.sdh_whatif_cli.specs.Lines.{joined, either, name_text}
 use Rattle.sdh_whatif_cli.proofs.Parts.{join_by}
 use Rattle.sdh_whatif_cli.proofs.names.put_named.Goals as goal
 

@@ -1,9 +1,9 @@
-use Rattle.std.proofs.Common.{◌≡◌, ◌∙◌, ◌*◌, ◌<◌, ℕ, List, Some, length, sym, ap, subst, arith}
+use Rattle.std.proofs.Common.{◌≡◌, ◌∙◌, ◌*◌, ◌<◌, ℕ, List, Some, length, sym, ap, arith}
 use Rattle.std.specs.Str.{bytes_eq}
 use Rattle.sdh_verdicts.specs.declared.failure.Failure.{Failure}
 use Rattle.sdh_verdicts.specs.Failures.{failure_at}
 use Rattle.sdh_whatif_cli.specs.Lines.{failure_text}
-use Rattle.sdh_whatif_cli.proofs.Naming.{Others, named_here, named_later, named_none}
+use Rattle.sdh_whatif_cli.proofs.Naming.{named_here, named_later, named_none}
 use Rattle.sdh_whatif_cli.proofs.own.failure_named.Goals as goal
 
 pub returns-then-is_named-clause-is : goal.returns-then-is_named-clause-is

@@ -31,6 +31,14 @@ counts_of-requires c = record {
   );
 }
 
+pub with_case-tally-requires : goal.with_case-tally-requires
+with_case-tally-requires c = record {
+  few = (
+    omega (arith, c.loop-k.invariant.cases, c.loop-k-test.true, c.len-k-end.ensures, c.requires.scene.own.few),
+    omega (arith, c.loop-k.invariant.losing, c.loop-k-test.true, c.len-k-end.ensures, c.requires.scene.own.few),
+  );
+}
+
 pub loop-k-preserved : goal.loop-k-preserved
 loop-k-preserved c =
     let plan = c.args.scene.now.plan.now in

@@ -1,12 +1,10 @@
-use Rattle.std.proofs.Common.{◌≡◌, ◌∙◌, ◌+◌, ◌-◌, ◌*◌, ◌≤◌, ◌++◌, ◌∷◌, [], ℕ, Bool, true, false, List, All, length, take, get_or, sym, ap, arith}
-use Rattle.std.proofs.Common.{append_assoc, length-append, eq-eqb, subst}
-use Rattle.std.specs.Prelude.{nat_le, ◌==◌, if◌then◌else◌}
+use Rattle.std.proofs.Common.{◌∙◌, ◌+◌, ◌-◌, ◌*◌, ◌++◌, ◌∷◌, [], ℕ, true, false, List, All, length, take, get_or, sym, ap, arith}
+use Rattle.std.proofs.Common.{append_assoc, length-append, subst}
 use Rattle.std.proofs.lemmas.List.{take_more, take_all, append-nil}
 use Rattle.std.proofs.lemmas.List.Elements.{All-append, All-cons, All-nil, All-get_or}
 use Rattle.sdh_verdicts.specs.declared.failure.Failure.{Failure}
 use Rattle.sdh_verdicts.specs.declared.failure.Failure.TheVariants.{Span}
 use Rattle.sdh_verdicts.specs.Failures.{IsFailureIn, failure_at}
-use Rattle.sdh_whatif_cli.specs.Cases.{AreOwn, failures_at}
 use Rattle.sdh_whatif_cli.proofs.Named.{nothing_at, ring_at, own_at, own_short, own_within}
 use Rattle.sdh_whatif_cli.proofs.table.push_digit.Goals as goal
 

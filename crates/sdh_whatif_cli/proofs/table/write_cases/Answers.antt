@@ -3,7 +3,7 @@ use Rattle.std.specs.Prelude.{Option}
 use Rattle.std.specs.Option.{option_map_or}
 use Rattle.sdh_whatif_cli.specs.declared.forms.Digits.{Digits}
 use Rattle.sdh_whatif_cli.specs.declared.forms.Entry.{Entry}
-use Rattle.sdh_whatif_cli.specs.Cases.{base, base_of, digits_of, digits_at, numbers_of, failures_of, case_at, are_told, is_told, entry_of, entry_at}
+use Rattle.sdh_whatif_cli.specs.Cases.{base, base_of, digits_of, digits_at, numbers_of, failures_of, are_told, is_told, entry_of, entry_at}
 use Rattle.sdh_whatif_cli.specs.Lines.{line_text, line_at, lines_below}
 use Rattle.sdh_whatif_cli.proofs.Parts.{sides_long}
 use Rattle.sdh_whatif_cli.proofs.Below.{below_next, rest_of, told_next, few_next, byte_low}
