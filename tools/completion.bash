@@ -10,7 +10,7 @@ _sdhring_words() {
     sdhoutage:1:*) mapfile -t COMPREPLY < <(compgen -W "run trace $1" -- "$word") ;;
     sdhwatch:1:* | sdhpath:1:*) mapfile -t COMPREPLY < <(compgen -W "run $1" -- "$word") ;;
     sdhwhatif:1:*) mapfile -t COMPREPLY < <(compgen -W "single double triple $1" -- "$word") ;;
-    sdhwhatif:*) mapfile -t COMPREPLY < <(compgen -W "degraded fibres spans nodes manual forced part head json summary" -- "$word") ;;
+    sdhwhatif:*) mapfile -t COMPREPLY < <(compgen -W "degraded fibres spans nodes manual forced own part head json summary" -- "$word") ;;
     sdhaps:1:*) mapfile -t COMPREPLY < <(compgen -W "run node $1" -- "$word") ;;
     sdhretime:1:*) mapfile -t COMPREPLY < <(compgen -W "$1" -- "$word") ;;
     *:*:--install | *:*:--uninstall) compopt -o dirnames ;;
