@@ -33,7 +33,7 @@ _sdhring_tools() {
     sdhring-availability) words='--nodes --groups --cuts-per-1000-km --without-script --csv --json --causes --version --help' ;;
     sdhring-desk) words='--to --title --depth --spans --nodes --groups --cuts-per-1000-km --teller --version --help' ;;
     sdhring-view) words='--to --svg --outages --signalling --program --version --help' ;;
-    sdhring-whatif) words='--also --works --title --without-script --kinds --dir --program --jobs --shard --sshlogin --parallel --all --depth --frames --against --outages --require --teller --counter --anew --version --help' ;;
+    sdhring-whatif) words='--also --works --title --without-script --kinds --dir --program --jobs --shard --sshlogin --parallel --all --depth --frames --groups --against --outages --require --teller --counter --anew --version --help' ;;
   esac
   mapfile -t COMPREPLY < <(compgen -W "$words" -- "$word")
   [ "${#COMPREPLY[@]}" -ne 0 ] || compopt -o default
