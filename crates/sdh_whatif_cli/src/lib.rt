@@ -7,6 +7,7 @@
 mod ask;
 mod counting;
 mod forms;
+mod gathered;
 pub mod laws;
 mod line;
 mod lines;

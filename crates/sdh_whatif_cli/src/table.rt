@@ -14,12 +14,12 @@ ghost use Rattle.sdh_shell.specs.Writing.{Wrote};
 
 use crate::ask::{Ask, Depth, Form, Kind};
 use crate::forms::{Digits, Entry};
+use crate::gathered::Gathered;
 use crate::line::Line;
 use crate::lines::{Case, put_head, put_line};
 use crate::own::OwnFailures;
 use crate::scene::Scene;
 use crate::singles::put_singles;
-use arrayvec::ArrayVec;
 use sdh_outside::{Sink, WriteFault};
 use sdh_plan::Plan;
 use sdh_shell::Output;
@@ -159,14 +159,14 @@ fn write_case<W: Sink>(
 }
 
 // Appends the failures of a digit to those of a case.
-fn push_digit(case: &mut ArrayVec<Failure, 48>, nodes: usize, own: &OwnFailures, digit: usize)
+fn push_digit(case: &mut Gathered, nodes: usize, own: &OwnFailures, digit: usize)
     requires nodes { nodes ≤ 16 }
     requires own { AreOwn nodes own.now }
-    requires room { length case.old.items ≤ 32 }
-    requires within { All (IsFailureIn nodes) case.old.items }
-    ensures items { case.new.items ≡ case.old.items ++ failures_at nodes own.now digit }
-    ensures short { length case.new.items ≤ length case.old.items + 16 }
-    ensures within { All (IsFailureIn nodes) case.new.items }
+    requires room { length case.old ≤ 32 }
+    requires within { All (IsFailureIn nodes) case.old }
+    ensures failures { case.new ≡ case.old ++ failures_at nodes own.now digit }
+    ensures short { length case.new ≤ length case.old + 16 }
+    ensures within { All (IsFailureIn nodes) case.new }
 {
     if digit == 0 {
         return;
@@ -181,14 +181,14 @@ fn push_digit(case: &mut ArrayVec<Failure, 48>, nodes: usize, own: &OwnFailures,
 }
 
 // Returns the failures of three digits, one after the other.
-fn failures_of(nodes: usize, own: &OwnFailures, digits: Digits) -> ArrayVec<Failure, 48>
+fn failures_of(nodes: usize, own: &OwnFailures, digits: Digits) -> Gathered
     requires nodes { nodes ≤ 16 }
     requires own { AreOwn nodes own.now }
-    ensures items { result.items ≡ failures_of nodes own.now digits }
-    ensures short { length result.items ≤ 48 }
-    ensures within { All (IsFailureIn nodes) result.items }
+    ensures failures { result ≡ failures_of nodes own.now digits }
+    ensures short { length result ≤ 48 }
+    ensures within { All (IsFailureIn nodes) result }
 {
-    let mut case = ArrayVec::new();
+    let mut case = Gathered::new();
     push_digit(&mut case, nodes, own, digits.first);
     push_digit(&mut case, nodes, own, digits.second);
     push_digit(&mut case, nodes, own, digits.third);

@@ -26,4 +26,4 @@ returns-else-digit-le-clause-text c =
     c.put_small.ensures.text ∙ ap (λ (l : List ℕ). l ++ decimal c.from.result) c.put.ensures
     ∙ append_assoc old (codes "own ") (decimal c.from.result)
     ∙ ap (λ k. old ++ (codes "own " ++ decimal k)) number
-    ∙ ap (λ (t : List ℕ). old ++ t) (sym (own_text nodes d (λ low. c.if-digit-le.false (omega (arith, size, low)))))
+    ∙ ap (λ (t : List ℕ). old ++ t) (sym (own_text nodes d (λ low. omega (arith, size, low, c.if-digit-le.false))))

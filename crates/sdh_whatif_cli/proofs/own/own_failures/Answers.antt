@@ -14,8 +14,8 @@ use Rattle.sdh_whatif_cli.proofs.Naming.{OwnSoFar, none_yet, more_own, unknown_a
 use Rattle.sdh_whatif_cli.proofs.own.own_failures.Goals as goal
 
 -- before the first word
-pub loop-word-start : goal.loop-word-start
-loop-word-start c = record {
+pub loop-word-init : goal.loop-word-init
+loop-word-init c = record {
   made = none_yet c.args.map.now (own_texts (words_of c.args.words.now));
   few = omega arith;
   short = All-nil _;
@@ -60,22 +60,22 @@ loop-word-preserved-then-behind c =
     let named : together nodes text ≡ Some list.items = ap (together nodes) (sym c.as_bytes.ensures) ∙ sym c.in-Ok.ensures.is in
     let size : length lists ≡ length c.loop-word.lists.items = length-map c.loop-word.lists.items items in
     let low : length lists + 1 ≤ 16 = omega (arith, size, c.from-place.ensures, c.len.ensures, c.in-Ok.ensures.place) in
-    let grown : map items c.push.new.items ≡ lists ++ list.items ∷ [] =
-    ap (map items) c.push.ensures.items ∙ map-append items c.loop-word.lists.items (list ∷ []) in
+    let grown : map items c.in_ok-push-in-Ok.new.items ≡ lists ++ list.items ∷ [] =
+    ap (map items) c.in_ok-push-in-Ok.ensures.items ∙ map-append items c.loop-word.lists.items (list ∷ []) in
     record {
       made = subst (λ ls. OwnSoFar nodes (own_texts (words_of words)) more ls) (sym grown)
           (more_own nodes (own_texts (words_of words)) text _ more list.items lists c.loop-word.invariant.made is named low);
       few = omega (
         arith,
-        ap (λ (l : List (Vec Failure Global)). length l) c.push.ensures.items,
+        ap (λ (l : List (Vec Failure Global)). length l) c.in_ok-push-in-Ok.ensures.items,
         length-append c.loop-word.lists.items (list ∷ []),
         size,
         low,
       );
-      short = subst (All (λ (l : Vec Failure Global). length l.items ≤ 16)) (sym c.push.ensures.items)
+      short = subst (All (λ (l : Vec Failure Global). length l.items ≤ 16)) (sym c.in_ok-push-in-Ok.ensures.items)
           (All-append _ c.loop-word.lists.items (list ∷ []) c.loop-word.invariant.short
           (All-cons _ list [] c.in-Ok.ensures.short (All-nil _)));
-      within = subst (All (λ (l : Vec Failure Global). All (IsFailureIn (length nodes)) l.items)) (sym c.push.ensures.items)
+      within = subst (All (λ (l : Vec Failure Global). All (IsFailureIn (length nodes)) l.items)) (sym c.in_ok-push-in-Ok.ensures.items)
           (All-append _ c.loop-word.lists.items (list ∷ []) c.loop-word.invariant.within
           (All-cons _ list [] c.in-Ok.ensures.within (All-nil _)));
     }

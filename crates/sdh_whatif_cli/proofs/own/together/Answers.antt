@@ -6,8 +6,8 @@ use Rattle.sdh_whatif_cli.specs.Own.{failure_named, unspaced}
 use Rattle.sdh_whatif_cli.proofs.Naming.{Together, left, begun, cut_left, more_named, unnamed, too_many, all_named}
 use Rattle.sdh_whatif_cli.proofs.own.together.Goals as goal
 
-pub loop-rest-start : goal.loop-rest-start
-loop-rest-start c = record {
+pub loop-rest-init : goal.loop-rest-init
+loop-rest-init c = record {
   named = begun (λ (text : Bor (List ℕ)). text.now) c.args.map.now c.args.text c.args.text.now refl;
   short = omega arith;
   within = All-nil (IsFailureIn (length c.args.map.now));
@@ -43,19 +43,19 @@ loop-rest-preserved c =
     let some : failure_named nodes (unspaced c.cut.result.0.now) ≡ Some one =
     ap (failure_named nodes) (sym c.unspaced.ensures) ∙ sym c.failure_named.ensures.is ∙ c.in-Some-2.is in
     record {
-      named = subst (λ (l : List Failure). Together f nodes c.args.text.now l c.cut.result.1) (sym c.push.ensures.items)
+      named = subst (λ (l : List Failure). Together f nodes c.args.text.now l c.cut.result.1) (sym c.in_ok-push-in-Some.ensures.items)
           (more_named f nodes c.args.text.now c.loop-rest.list.items c.loop-rest.rest c.cut.result.1 one c.loop-rest.invariant.named
           (ap (left f nodes) c.in-Some.is ∙ cut_left f nodes c.in-Some.text c.cut.result.0.now c.cut.result.1 c.cut.ensures.cut
           ∙ ap (λ o. o ∷ left f nodes c.cut.result.1) some));
       short = omega (
         arith,
-        ap (λ (l : List Failure). length l) c.push.ensures.items,
+        ap (λ (l : List Failure). length l) c.in_ok-push-in-Some.ensures.items,
         length-append c.loop-rest.list.items (one ∷ []),
         c.len.ensures,
         c.if-len-eq16.false,
         c.loop-rest.invariant.short,
       );
-      within = subst (All Is) (sym c.push.ensures.items)
+      within = subst (All Is) (sym c.in_ok-push-in-Some.ensures.items)
           (All-append Is c.loop-rest.list.items (one ∷ []) c.loop-rest.invariant.within
           (All-cons Is one [] c.in-Some-2.ensures.within (All-nil Is)));
     }

@@ -3,29 +3,30 @@ use Rattle.std.proofs.Common.{append_assoc, length-append, subst}
 use Rattle.std.proofs.lemmas.List.{take_more, take_all, append-nil}
 use Rattle.std.proofs.lemmas.List.Elements.{All-append, All-cons, All-nil, All-get_or}
 use Rattle.sdh_verdicts.specs.declared.failure.Failure.{Failure}
-use Rattle.sdh_verdicts.specs.declared.failure.Failure.TheVariants.{Span}
+use Rattle.sdh_ringmap.specs.declared.Side.TheVariants.{West}
+use Rattle.sdh_verdicts.specs.declared.failure.Failure.TheVariants.{Degraded}
 use Rattle.sdh_verdicts.specs.Failures.{IsFailureIn, failure_at}
 use Rattle.sdh_whatif_cli.proofs.Named.{nothing_at, ring_at, own_at, own_short, own_within}
 use Rattle.sdh_whatif_cli.proofs.table.push_digit.Goals as goal
 
-pub returns-then-digit-eq0-clause-items : goal.returns-then-digit-eq0-clause-items
-returns-then-digit-eq0-clause-items c =
-    sym (append-nil c.args.case.now.items)
-    ∙ ap (λ (fs : List Failure). c.args.case.now.items ++ fs)
+pub returns-then-digit-eq0-clause-failures : goal.returns-then-digit-eq0-clause-failures
+returns-then-digit-eq0-clause-failures c =
+    sym (append-nil c.args.case.now)
+    ∙ ap (λ (fs : List Failure). c.args.case.now ++ fs)
     (sym (nothing_at c.args.nodes c.args.own.now c.args.digit c.if-digit-eq0.true))
 
 -- a failure of the ring
-pub returns-then-digit-le-clause-items : goal.returns-then-digit-le-clause-items
-returns-then-digit-le-clause-items c =
-    c.push.ensures.items ∙ ap (λ (f : Failure). c.args.case.now.items ++ f ∷ []) c.failure_at.ensures.is
-    ∙ ap (λ (fs : List Failure). c.args.case.now.items ++ fs)
+pub returns-then-digit-le-clause-failures : goal.returns-then-digit-le-clause-failures
+returns-then-digit-le-clause-failures c =
+    c.push.ensures ∙ ap (λ (f : Failure). c.args.case.now ++ f ∷ []) c.failure_at.ensures.is
+    ∙ ap (λ (fs : List Failure). c.args.case.now ++ fs)
     (sym (ring_at c.args.nodes c.args.own.now c.args.digit c.if-digit-eq0.false c.if-digit-le.true))
 
 pub returns-then-digit-le-clause-within : goal.returns-then-digit-le-clause-within
 returns-then-digit-le-clause-within c =
     let Is = IsFailureIn c.args.nodes in
-    subst (All Is) (sym c.push.ensures.items)
-    (All-append Is c.args.case.now.items (c.failure_at.result ∷ []) c.requires.within
+    subst (All Is) (sym c.push.ensures)
+    (All-append Is c.args.case.now (c.failure_at.result ∷ []) c.requires.within
     (All-cons Is c.failure_at.result [] c.failure_at.ensures.within (All-nil Is)))
 
 -- there is room: one of the user's own has up to 16 failures
@@ -48,35 +49,37 @@ loop-failure-preserved c =
     let at = c.args.digit - (10 * c.args.nodes + 1) in
     let fs = get_or c.args.own.now at [] in
     let i = c.loop-failure.failure-index in
-    let some = Span (record { 0 = 0 }) in
+    let some = Degraded (record { 0 = 0 }) West in
+    let one = get_or c.list.result.now i some in
     let low : i < length fs = omega (arith, ap (λ (l : List Failure). length l) c.list.ensures, c.loop-failure-test.true) in
     record {
-      items = c.push-in.ensures.items
-          ∙ ap (λ (l : List Failure). l ++ c.failure-item.item ∷ []) c.loop-failure.invariant.items
-          ∙ append_assoc c.args.case.now.items (take i fs) (c.failure-item.item ∷ [])
-          ∙ ap (λ (f : Failure). c.args.case.now.items ++ (take i fs ++ f ∷ [])) c.failure-item.is
-          ∙ ap (λ (l : List Failure). c.args.case.now.items ++ l) (sym (take_more fs i some low));
+      failures = c.push-in.ensures
+          ∙ ap (λ (l : List Failure). l ++ one ∷ []) c.loop-failure.invariant.failures
+          ∙ append_assoc c.args.case.now (take i fs) (one ∷ [])
+          ∙ ap (λ (l : List Failure). c.args.case.now ++ (take i fs ++ get_or l i some ∷ [])) c.list.ensures
+          ∙ ap (λ (l : List Failure). c.args.case.now ++ l) (sym (take_more fs i some low));
       short = omega (
         arith,
-        ap (λ (l : List Failure). length l) c.push-in.ensures.items,
-        length-append c.loop-failure.case.items (c.failure-item.item ∷ []),
+        ap (λ (l : List Failure). length l) c.push-in.ensures,
+        length-append c.loop-failure.case (one ∷ []),
         c.loop-failure.invariant.short,
       );
-      within = subst (All Is) (sym c.push-in.ensures.items)
-          (All-append Is c.loop-failure.case.items (c.failure-item.item ∷ []) c.loop-failure.invariant.within
-          (All-cons Is c.failure-item.item []
-          (subst Is (sym c.failure-item.is) (All-get_or Is fs i some low (own_within c.args.nodes c.args.own.now at c.requires.own)))
+      within = subst (All Is) (sym c.push-in.ensures)
+          (All-append Is c.loop-failure.case (one ∷ []) c.loop-failure.invariant.within
+          (All-cons Is one []
+          (subst (λ (l : List Failure). Is (get_or l i some)) (sym c.list.ensures)
+          (All-get_or Is fs i some low (own_within c.args.nodes c.args.own.now at c.requires.own)))
           (All-nil Is)));
     }
 
-pub returns-clause-items : goal.returns-clause-items
-returns-clause-items c =
+pub returns-clause-failures : goal.returns-clause-failures
+returns-clause-failures c =
     let at = c.args.digit - (10 * c.args.nodes + 1) in
     let fs = get_or c.args.own.now at [] in
-    c.loop-failure.invariant.items
-    ∙ ap (λ (l : List Failure). c.args.case.now.items ++ l)
+    c.loop-failure.invariant.failures
+    ∙ ap (λ (l : List Failure). c.args.case.now ++ l)
     (take_all c.loop-failure.failure-index fs (omega (arith, ap (λ (l : List Failure). length l) c.list.ensures, c.loop-failure-test.false))
-    ∙ sym (own_at c.args.nodes c.args.own.now c.args.digit c.if-digit-eq0.false c.if-digit-le.false))
+    ∙ sym (own_at c.args.nodes c.args.own.now c.args.digit c.if-digit-eq0.false (λ low. omega (arith, low, c.if-digit-le.false))))
 
 pub returns-clause-short : goal.returns-clause-short
 returns-clause-short c =
@@ -84,9 +87,9 @@ returns-clause-short c =
     let fs = get_or c.args.own.now at [] in
     omega (
       arith,
-      ap (λ (l : List Failure). length l) (c.loop-failure.invariant.items ∙ ap (λ (l : List Failure). c.args.case.now.items ++ l)
+      ap (λ (l : List Failure). length l) (c.loop-failure.invariant.failures ∙ ap (λ (l : List Failure). c.args.case.now ++ l)
           (take_all c.loop-failure.failure-index fs
           (omega (arith, ap (λ (l : List Failure). length l) c.list.ensures, c.loop-failure-test.false)))),
-      length-append c.args.case.now.items fs,
+      length-append c.args.case.now fs,
       own_short c.args.nodes c.args.own.now at c.requires.own,
     )

@@ -4,7 +4,7 @@ use Rattle.sdh_whatif_cli.proofs.table.push_digit.Given as goal
 
 abbrev pub invariant-loop-failure : goal.invariant-loop-failure
 invariant-loop-failure l = record {
-  items : l.case.items ≡ l.initial.case.items ++ take l.failure-index (get_or l.fn.own (l.fn.digit - (10 * l.fn.nodes + 1)) []);
-  short : length l.case.items ≤ length l.initial.case.items + l.failure-index;
-  within : All (IsFailureIn l.fn.nodes) l.case.items;
+  failures : l.case ≡ l.initial.case ++ take l.failure-index (get_or l.fn.own (l.fn.digit - (10 * l.fn.nodes + 1)) []);
+  short : length l.case ≤ length l.initial.case + l.failure-index;
+  within : All (IsFailureIn l.fn.nodes) l.case;
 }

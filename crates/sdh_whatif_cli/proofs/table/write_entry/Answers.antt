@@ -13,10 +13,10 @@ returns g c =
     let ds = c.args.digits in
     let own = scene.own.now in
     let size : c.len.result ≡ length plan.nodes = c.len.ensures.len ∙ ap (λ (l : List ℕ). length l) c.map.ensures in
-    let case : c.failures_of-failures.result.items ≡ failures_of (length plan.nodes) own ds =
-    c.failures_of-failures.ensures.items ∙ ap (λ n. failures_of n own ds) size in
+    let case : c.failures_of-failures.result ≡ failures_of (length plan.nodes) own ds =
+    c.failures_of-failures.ensures.failures ∙ ap (λ n. failures_of n own ds) size in
     as_text _ _ _ _ _ _ _ _
-    (ap (λ (fs : List Failure). line_text plan ds fs c.in-Some.entry) (c.as_slice.ensures.value ∙ case)
+    (ap (λ (fs : List Failure). line_text plan ds fs c.in-Some.entry) (c.as_slice.ensures ∙ case)
     ∙ ap (λ o. option_map_or (line_text plan ds (failures_of (length plan.nodes) own ds)) o []) (sym c.in-Some.is)) c.write_case.ensures
 
 pub returns-in_default : goal.returns-in_default
