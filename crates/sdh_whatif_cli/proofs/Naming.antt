@@ -129,7 +129,7 @@ module _ {X : Type 0} (f : X → List ℕ) (nodes : List ℕ) where
   pub begun : (x : X) (text : List ℕ) → text ≡ f x → Together text [] (Some x)
   begun x text is = record {
     all = ap (λ t. all_there (each t)) is ∙ none_before (all_there (each (f x)));
-    count = ap (λ t. length (each t)) is;
+    count = omega (arith, ap (λ t. length (each t)) is);
   }
     where
       none_before : (o : Option (List Failure)) → o ≡ option_map (λ more. [] ++ more) o

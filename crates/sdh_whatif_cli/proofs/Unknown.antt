@@ -1,7 +1,6 @@
 -- The plan that bytes are, and whether the user's own failures are failures of its ring.
 use Rattle.std.proofs.Common.{◌≡◌, ℕ, List, Option, Some, None, sym, ap, ◌∙◌, subst}
 use Rattle.std.specs.Prelude.{IfSome}
-use Rattle.toml.specs.Data.{Members}
 use Rattle.sdh_plan.specs.Answers.{IsPlanOf}
 use Rattle.sdh_plan.specs.Planned.{Planned}
 use Rattle.sdh_plan.specs.Plans.{plan_of}
@@ -9,7 +8,7 @@ use Rattle.sdh_shell.specs.Reading.{TellsPlan}
 use Rattle.sdh_whatif_cli.specs.Own.{first_unknown}
 use Rattle.sdh_whatif_cli.specs.Outcome.{HasPlanFor}
 
-one_document : (x y : Members) → ◌≡◌ {A = Option Members} (Some x) (Some y) → x ≡ y
+one_document : {X : Type 0} (x y : X) → ◌≡◌ {A = Option X} (Some x) (Some y) → x ≡ y
 one_document x y e = cc
 
 -- bytes are those of one plan

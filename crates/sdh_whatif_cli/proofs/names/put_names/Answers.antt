@@ -17,7 +17,7 @@ returns-clause-text c =
     let to1 : c.put_named-named.new.line ≡ start ++ joined sep one =
     c.put_named-named.ensures.text start [] refl (sym (append-nil start)) in
     let to2 : c.put_named-named-2.new.line ≡ start ++ joined sep (one ++ two) =
-    c.put_named-named-2.ensures.text start one (sym c.put_named-named.ensures.count) to1 in
+    c.put_named-named-2.ensures.text start one (omega (arith, c.put_named-named.ensures.count)) to1 in
     let many : length (one ++ two) ≡ c.put_named-named-2.result =
     omega (arith, length-append one two, c.put_named-named.ensures.count, c.put_named-named-2.ensures.count) in
     c.put_named.ensures.text start (one ++ two) many to2

@@ -12,14 +12,18 @@ use Rattle.sdh_whatif_cli.specs.Words.{texts_behind, own_texts}
 use Rattle.sdh_whatif_cli.specs.Own.{together, IsNone}
 use Rattle.sdh_whatif_cli.proofs.Naming.{OwnSoFar, none_yet, more_own, unknown_at, why_unknown, all_known, all_made}
 use Rattle.sdh_whatif_cli.proofs.own.own_failures.Goals as goal
+use Rattle.sdh_whatif_cli.proofs.own.own_failures.Goals.{then-behind+in-Ok+in_ok-push-in-Ok, else-behind}
 
 -- before the first word
 pub loop-word-init : goal.loop-word-init
 loop-word-init c = record {
-  made = none_yet c.args.map.now (own_texts (words_of c.args.words.now));
-  few = omega arith;
-  short = All-nil _;
-  within = All-nil _;
+  made = subst (λ (l : List (Vec Failure Global)). OwnSoFar c.args.map.now (own_texts (words_of c.args.words.now))
+      (own_texts (words_of c.args.words.now)) (map (λ list. list.items) l)) (sym c.new-lists.ensures.items)
+      (none_yet c.args.map.now (own_texts (words_of c.args.words.now)));
+  few = omega (arith, ap (λ (l : List (Vec Failure Global)). length l) c.new-lists.ensures.items);
+  short = subst (All (λ (l : Vec Failure Global). length l.items ≤ 16)) (sym c.new-lists.ensures.items) (All-nil _);
+  within = subst (All (λ (l : Vec Failure Global). All (IsFailureIn (length c.args.map.now)) l.items)) (sym c.new-lists.ensures.items)
+      (All-nil _);
 }
 
 -- nothing comes of the text that comes after `own`
@@ -29,7 +33,7 @@ returns-in-Err-clause-unknown c =
     let nodes = c.args.map.now in
     let i = c.loop-word.word-index in
     let lists = map (λ list. list.items) c.loop-word.lists.items in
-    let text = string_bytes c.word-item.item in
+    let text = string_bytes c.word-item.result in
     let more = texts_behind false (words_of (drop (i + 1) words)) in
     let is : texts_behind c.loop-word.behind (words_of (drop i words)) ≡ text ∷ more =
     ap (λ b. texts_behind b (words_of (drop i words))) c.if-behind.true
@@ -42,62 +46,66 @@ returns-in-Err-clause-unknown c =
     (subst (λ (t : List ℕ). IsNone (c.from-place.result + 1) (together nodes t) c.in-Err.why) c.as_bytes.ensures c.in-Err.ensures.unknown))
     (unknown_at nodes (own_texts (words_of words)) text _ more lists c.loop-word.invariant.made is)
 
--- one text more
-pub loop-word-preserved-then-behind : goal.loop-word-preserved-then-behind
-loop-word-preserved-then-behind c =
-    let words = c.args.words.now in
-    let nodes = c.args.map.now in
-    let i = c.loop-word.word-index in
-    let items = λ (list : Vec Failure Global). list.items in
-    let lists = map items c.loop-word.lists.items in
-    let list = c.in-Ok.list in
-    let text = string_bytes c.word-item.item in
-    let more = texts_behind false (words_of (drop (i + 1) words)) in
-    let is : texts_behind c.loop-word.behind (words_of (drop i words)) ≡ text ∷ more =
-    ap (λ b. texts_behind b (words_of (drop i words))) c.if-behind.true
-    ∙ at_drop_more (λ l. texts_behind true (words_of l)) words i _ c.loop-word-test.true
-    ∙ ap (λ (w : String Global). string_bytes w ∷ more) (sym c.word-item.is) in
-    let named : together nodes text ≡ Some list.items = ap (together nodes) (sym c.as_bytes.ensures) ∙ sym c.in-Ok.ensures.is in
-    let size : length lists ≡ length c.loop-word.lists.items = length-map c.loop-word.lists.items items in
-    let low : length lists + 1 ≤ 16 = omega (arith, size, c.from-place.ensures, c.len.ensures, c.in-Ok.ensures.place) in
-    let grown : map items c.in_ok-push-in-Ok.new.items ≡ lists ++ list.items ∷ [] =
-    ap (map items) c.in_ok-push-in-Ok.ensures.items ∙ map-append items c.loop-word.lists.items (list ∷ []) in
-    record {
-      made = subst (λ ls. OwnSoFar nodes (own_texts (words_of words)) more ls) (sym grown)
-          (more_own nodes (own_texts (words_of words)) text _ more list.items lists c.loop-word.invariant.made is named low);
-      few = omega (
-        arith,
-        ap (λ (l : List (Vec Failure Global)). length l) c.in_ok-push-in-Ok.ensures.items,
-        length-append c.loop-word.lists.items (list ∷ []),
-        size,
-        low,
-      );
-      short = subst (All (λ (l : Vec Failure Global). length l.items ≤ 16)) (sym c.in_ok-push-in-Ok.ensures.items)
-          (All-append _ c.loop-word.lists.items (list ∷ []) c.loop-word.invariant.short
-          (All-cons _ list [] c.in-Ok.ensures.short (All-nil _)));
-      within = subst (All (λ (l : Vec Failure Global). All (IsFailureIn (length nodes)) l.items)) (sym c.in_ok-push-in-Ok.ensures.items)
-          (All-append _ c.loop-word.lists.items (list ∷ []) c.loop-word.invariant.within
-          (All-cons _ list [] c.in-Ok.ensures.within (All-nil _)));
-    }
-
--- a word that is no text: the next word is a text where this word is `own`
+-- one text more; or a word that is no text: the next word is a text where this word is `own`
 pub loop-word-preserved : goal.loop-word-preserved
 loop-word-preserved c =
     let words = c.args.words.now in
     let nodes = c.args.map.now in
     let i = c.loop-word.word-index in
-    let lists = map (λ list. list.items) c.loop-word.lists.items in
-    let rest : texts_behind c.loop-word.behind (words_of (drop i words)) ≡ texts_behind c.eq-behind.result (words_of (drop (i + 1) words)) =
-    ap (λ b. texts_behind b (words_of (drop i words))) c.if-behind.false
-    ∙ at_drop_more (λ l. texts_behind false (words_of l)) words i _ c.loop-word-test.true
-    ∙ ap (λ (w : String Global). texts_behind (bytes_eq (string_bytes w) (codes "own")) (words_of (drop (i + 1) words))) (sym c.word-item.is)
-    ∙ ap (λ b. texts_behind b (words_of (drop (i + 1) words))) (sym c.eq-behind.ensures) in
-    record {
-      made = subst (λ ts. OwnSoFar nodes (own_texts (words_of words)) ts lists) rest c.loop-word.invariant.made;
-      few = c.loop-word.invariant.few;
-      short = c.loop-word.invariant.short;
-      within = c.loop-word.invariant.within;
-    }
+    let items = λ (list : Vec Failure Global). list.items in
+    let lists = map items c.loop-word.lists.items in
+    let all = own_texts (words_of words) in
+    elim c.if-behind.branch [
+      | then-behind+in-Ok+in_ok-push-in-Ok w ↦
+          (let list = w.in-Ok.list in
+          let text = string_bytes c.word-item.result in
+          let more = texts_behind false (words_of (drop (i + 1) words)) in
+          let is : texts_behind c.loop-word.behind (words_of (drop i words)) ≡ text ∷ more =
+          ap (λ b. texts_behind b (words_of (drop i words))) w.if-behind.true
+          ∙ at_drop_more (λ l. texts_behind true (words_of l)) words i _ c.loop-word-test.true
+          ∙ ap (λ (word : String Global). string_bytes word ∷ more) (sym c.word-item.is) in
+          let named : together nodes text ≡ Some list.items = ap (together nodes) (sym w.as_bytes.ensures) ∙ sym w.in-Ok.ensures.is in
+          let size : length lists ≡ length c.loop-word.lists.items = length-map c.loop-word.lists.items items in
+          let low : length lists + 1 ≤ 16 = omega (arith, size, w.from-place.ensures, w.len.ensures, w.in-Ok.ensures.place) in
+          let grown : c.if-behind.lists.items ≡ c.loop-word.lists.items ++ list ∷ [] =
+          ap (λ (v : Vec (Vec Failure Global) Global). v.items) w.lists-is ∙ w.in_ok-push-in-Ok.ensures.items in
+          let made : OwnSoFar nodes all (texts_behind false (words_of (drop (i + 1) words))) (map items c.if-behind.lists.items) =
+          subst (λ ls. OwnSoFar nodes all more ls)
+          (sym (ap (map items) grown ∙ map-append items c.loop-word.lists.items (list ∷ [])))
+          (more_own nodes all text _ more list.items lists c.loop-word.invariant.made is named low) in
+          record {
+            made = subst (λ b. OwnSoFar nodes all (texts_behind b (words_of (drop (i + 1) words))) (map items c.if-behind.lists.items))
+                (sym w.behind-is) made;
+            few = omega (
+              arith,
+              ap (λ (l : List (Vec Failure Global)). length l) grown,
+              length-append c.loop-word.lists.items (list ∷ []),
+              size,
+              low,
+            );
+            short = subst (All (λ (l : Vec Failure Global). length l.items ≤ 16)) (sym grown)
+                (All-append _ c.loop-word.lists.items (list ∷ []) c.loop-word.invariant.short
+                (All-cons _ list [] w.in-Ok.ensures.short (All-nil _)));
+            within = subst (All (λ (l : Vec Failure Global). All (IsFailureIn (length nodes)) l.items)) (sym grown)
+                (All-append _ c.loop-word.lists.items (list ∷ []) c.loop-word.invariant.within
+                (All-cons _ list [] w.in-Ok.ensures.within (All-nil _)));
+          })
+      | else-behind w ↦
+          (let rest : texts_behind c.loop-word.behind (words_of (drop i words)) ≡ texts_behind c.if-behind.behind (words_of (drop (i + 1) words)) =
+          ap (λ b. texts_behind b (words_of (drop i words))) w.if-behind.false
+          ∙ at_drop_more (λ l. texts_behind false (words_of l)) words i _ c.loop-word-test.true
+          ∙ ap (λ (word : String Global). texts_behind (bytes_eq (string_bytes word) (codes "own")) (words_of (drop (i + 1) words)))
+          (sym c.word-item.is)
+          ∙ ap (λ b. texts_behind b (words_of (drop (i + 1) words))) (sym (w.behind-is ∙ w.eq-behind.ensures ∙ ap (λ t. bytes_eq t (codes "own")) w.as_str.ensures)) in
+          let same : c.if-behind.lists.items ≡ c.loop-word.lists.items = ap (λ (v : Vec (Vec Failure Global) Global). v.items) w.lists-is in
+          record {
+            made = subst (λ (l : List (Vec Failure Global)). OwnSoFar nodes all (texts_behind c.if-behind.behind (words_of (drop (i + 1) words))) (map items l)) (sym same)
+                (subst (λ ts. OwnSoFar nodes all ts lists) rest c.loop-word.invariant.made);
+            few = omega (arith, ap (λ (l : List (Vec Failure Global)). length l) same, c.loop-word.invariant.few);
+            short = subst (All (λ (l : Vec Failure Global). length l.items ≤ 16)) (sym same) c.loop-word.invariant.short;
+            within = subst (All (λ (l : Vec Failure Global). All (IsFailureIn (length nodes)) l.items)) (sym same) c.loop-word.invariant.within;
+          })
+    ]
 
 -- the user's own failures are few, and failures of the ring
 pub returns-clause-own : goal.returns-clause-own

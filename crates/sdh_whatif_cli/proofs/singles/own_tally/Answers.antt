@@ -1,4 +1,5 @@
-use Rattle.std.proofs.Common.{◌≡◌, ◌∙◌, ◌+◌, [], ℕ, List, All, suc, get_or, length, sym, ap, subst, arith}
+use Rattle.std.specs.Prelude.{if◌then◌else◌, ◌==◌}
+use Rattle.std.proofs.Common.{◌≡◌, ◌∙◌, ◌+◌, ◌≤◌, Bool, true, false, [], ℕ, List, All, suc, get_or, length, sym, ap, subst, arith}
 use Rattle.sdh_verdicts.specs.declared.failure.Failure.{Failure}
 use Rattle.sdh_verdicts.specs.Failures.{IsFailureIn}
 use Rattle.sdh_whatif_cli.specs.declared.counting.Counts.{Counts}
@@ -8,6 +9,11 @@ use Rattle.sdh_whatif_cli.specs.Singles.{with_case, own_tally}
 use Rattle.sdh_whatif_cli.proofs.Named.{own_within}
 use Rattle.sdh_whatif_cli.proofs.Parts.{sides_long}
 use Rattle.sdh_whatif_cli.proofs.singles.own_tally.Goals as goal
+
+-- a case more is one in which circuits are lost, or isn't
+one_more : (none : Bool) → (if none then 0 else 1) ≤ 1
+one_more true = omega arith
+one_more false = omega arith
 
 pub spans-spans-requires-clause-sides : goal.spans-spans-requires-clause-sides
 spans-spans-requires-clause-sides c = sides_long c.args.scene.now.plan.now c.args.scene.now.sides.now c.requires.scene.sides
@@ -56,5 +62,5 @@ loop-k-preserved c =
       is = c.with_case-tally.ensures ∙ ap (λ x. with_case x c.loop-k.tally) lost
           ∙ ap (with_case (count_of plan (get_or own k []) Lost)) c.loop-k.invariant.is ∙ ap (own_tally plan own) next;
       cases = omega (arith, ap (λ t. t.cases) c.with_case-tally.ensures, c.loop-k.invariant.cases);
-      losing = omega (arith, ap (λ t. t.losing) c.with_case-tally.ensures, c.loop-k.invariant.losing);
+      losing = omega (arith, ap (λ t. t.losing) c.with_case-tally.ensures, c.loop-k.invariant.losing, one_more (c.counts_of.result.lost == 0));
     }
