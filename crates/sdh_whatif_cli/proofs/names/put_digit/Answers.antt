@@ -22,8 +22,8 @@ returns-else-digit-nodes-clause-text c =
     let d = c.args.digit in
     let old = c.args.line.now in
     let size : c.len-nodes.result ≡ length nodes = c.len-nodes.ensures.len in
-    let number : c.from.result ≡ d - 10 * length nodes = omega (arith, size, c.from.ensures) in
-    c.put_small.ensures.text ∙ ap (λ (l : List ℕ). l ++ decimal c.from.result) c.put.ensures
-    ∙ append_assoc old (codes "own ") (decimal c.from.result)
+    let number : d - 10 * c.len-nodes.result ≡ d - 10 * length nodes = ap (λ n. d - 10 * n) size in
+    c.put_small.ensures.text ∙ ap (λ (l : List ℕ). l ++ decimal (d - 10 * c.len-nodes.result)) c.put.ensures
+    ∙ append_assoc old (codes "own ") (decimal (d - 10 * c.len-nodes.result))
     ∙ ap (λ k. old ++ (codes "own " ++ decimal k)) number
     ∙ ap (λ (t : List ℕ). old ++ t) (sym (own_text nodes d (λ low. omega (arith, size, low, c.if-digit-nodes.false))))

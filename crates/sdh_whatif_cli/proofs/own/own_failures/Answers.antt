@@ -39,11 +39,11 @@ returns-in-Err-clause-unknown c =
     ap (λ b. texts_behind b (words_of (drop i words))) c.if-behind.true
     ∙ at_drop_more (λ l. texts_behind true (words_of l)) words i _ c.loop-word-test.true
     ∙ ap (λ (w : String Global). string_bytes w ∷ more) (sym c.word-item.is) in
-    let place : c.from-place.result + 1 ≡ length lists + 1 =
-    omega (arith, c.from-place.ensures, c.len.ensures, length-map c.loop-word.lists.items (λ list. list.items)) in
+    let place : c.len.result + 1 ≡ length lists + 1 =
+    omega (arith, c.loop-word.lists.ok.0, c.len.ensures, length-map c.loop-word.lists.items (λ list. list.items)) in
     why_unknown (length lists + 1) _ (together nodes text) c.in-Err.why
     (subst (λ k. IsNone k (together nodes text) c.in-Err.why) place
-    (subst (λ (t : List ℕ). IsNone (c.from-place.result + 1) (together nodes t) c.in-Err.why) c.as_bytes.ensures c.in-Err.ensures.unknown))
+    (subst (λ (t : List ℕ). IsNone (c.len.result + 1) (together nodes t) c.in-Err.why) c.as_bytes.ensures.value c.in-Err.ensures.unknown))
     (unknown_at nodes (own_texts (words_of words)) text _ more lists c.loop-word.invariant.made is)
 
 -- one text more; or a word that is no text: the next word is a text where this word is `own`
@@ -64,9 +64,9 @@ loop-word-preserved c =
           ap (λ b. texts_behind b (words_of (drop i words))) w.if-behind.true
           ∙ at_drop_more (λ l. texts_behind true (words_of l)) words i _ c.loop-word-test.true
           ∙ ap (λ (word : String Global). string_bytes word ∷ more) (sym c.word-item.is) in
-          let named : together nodes text ≡ Some list.items = ap (together nodes) (sym w.as_bytes.ensures) ∙ sym w.in-Ok.ensures.is in
+          let named : together nodes text ≡ Some list.items = ap (together nodes) (sym w.as_bytes.ensures.value) ∙ sym w.in-Ok.ensures.is in
           let size : length lists ≡ length c.loop-word.lists.items = length-map c.loop-word.lists.items items in
-          let low : length lists + 1 ≤ 16 = omega (arith, size, w.from-place.ensures, w.len.ensures, w.in-Ok.ensures.place) in
+          let low : length lists + 1 ≤ 16 = omega (arith, size, c.loop-word.lists.ok.0, w.len.ensures, w.in-Ok.ensures.place) in
           let grown : c.if-behind.lists.items ≡ c.loop-word.lists.items ++ list ∷ [] =
           ap (λ (v : Vec (Vec Failure Global) Global). v.items) w.lists-is ∙ w.in_ok-push-in-Ok.ensures.items in
           let made : OwnSoFar nodes all (texts_behind false (words_of (drop (i + 1) words))) (map items c.if-behind.lists.items) =
@@ -84,11 +84,11 @@ loop-word-preserved c =
               low,
             );
             short = subst (All (λ (l : Vec Failure Global). length l.items ≤ 16)) (sym grown)
-                (All-append _ c.loop-word.lists.items (list ∷ []) c.loop-word.invariant.short
-                (All-cons _ list [] w.in-Ok.ensures.short (All-nil _)));
+                (All-append (λ (l : Vec Failure Global). length l.items ≤ 16) c.loop-word.lists.items (list ∷ []) c.loop-word.invariant.short
+                (All-cons (λ (l : Vec Failure Global). length l.items ≤ 16) list [] w.in-Ok.ensures.short (All-nil _)));
             within = subst (All (λ (l : Vec Failure Global). All (IsFailureIn (length nodes)) l.items)) (sym grown)
-                (All-append _ c.loop-word.lists.items (list ∷ []) c.loop-word.invariant.within
-                (All-cons _ list [] w.in-Ok.ensures.within (All-nil _)));
+                (All-append (λ (l : Vec Failure Global). All (IsFailureIn (length nodes)) l.items) c.loop-word.lists.items (list ∷ []) c.loop-word.invariant.within
+                (All-cons (λ (l : Vec Failure Global). All (IsFailureIn (length nodes)) l.items) list [] w.in-Ok.ensures.within (All-nil _)));
           })
       | else-behind w ↦
           (let rest : texts_behind c.loop-word.behind (words_of (drop i words)) ≡ texts_behind c.if-behind.behind (words_of (drop (i + 1) words)) =
@@ -96,7 +96,7 @@ loop-word-preserved c =
           ∙ at_drop_more (λ l. texts_behind false (words_of l)) words i _ c.loop-word-test.true
           ∙ ap (λ (word : String Global). texts_behind (bytes_eq (string_bytes word) (codes "own")) (words_of (drop (i + 1) words)))
           (sym c.word-item.is)
-          ∙ ap (λ b. texts_behind b (words_of (drop (i + 1) words))) (sym (w.behind-is ∙ w.eq-behind.ensures ∙ ap (λ t. bytes_eq t (codes "own")) w.as_str.ensures)) in
+          ∙ ap (λ b. texts_behind b (words_of (drop (i + 1) words))) (sym (w.behind-is ∙ w.eq-behind.ensures ∙ ap (λ t. bytes_eq t (codes "own")) w.as_str.ensures.value)) in
           let same : c.if-behind.lists.items ≡ c.loop-word.lists.items = ap (λ (v : Vec (Vec Failure Global) Global). v.items) w.lists-is in
           record {
             made = subst (λ (l : List (Vec Failure Global)). OwnSoFar nodes all (texts_behind c.if-behind.behind (words_of (drop (i + 1) words))) (map items l)) (sym same)
