@@ -10,25 +10,25 @@ use Rattle.sdh_whatif_cli.specs.Outcome.{of_unknown}
 use Rattle.sdh_whatif_cli.proofs.top.tell.Goals as goal
 
 -- a text that names none of the ring's
-pub returns-in-Unknown-clause-status : goal.returns-in-Unknown-clause-status
-returns-in-Unknown-clause-status g c =
+pub returns-in-Err-Unknown-clause-status : goal.returns-in-Err-Unknown-clause-status
+returns-in-Err-Unknown-clause-status g c =
     let plan = c.args.plan.now in
     let texts = own_texts (words_of c.args.words.now) in
-    let first : first_unknown plan.nodes texts ≡ Some c.in-Unknown.place =
-    sym (ap (λ (nodes : List ℕ). first_unknown nodes texts) c.map.ensures) ∙ c.in-Unknown.ensures.unknown in
+    let first : first_unknown plan.nodes texts ≡ Some c.in-Err-Unknown.place =
+    sym (ap (λ (nodes : List ℕ). first_unknown nodes texts) c.map.ensures) ∙ c.in-Err-Unknown.ensures.unknown in
     c.refuse.ensures.status ∙ c.unknown.ensures ∙ sym (ap (λ o. (of_unknown o plan texts c.args.ask).0) first)
 
-pub returns-in-Unknown-clause-wrote : goal.returns-in-Unknown-clause-wrote
-returns-in-Unknown-clause-wrote g c =
+pub returns-in-Err-Unknown-clause-wrote : goal.returns-in-Err-Unknown-clause-wrote
+returns-in-Err-Unknown-clause-wrote g c =
     let plan = c.args.plan.now in
     let texts = own_texts (words_of c.args.words.now) in
-    let first : first_unknown plan.nodes texts ≡ Some c.in-Unknown.place =
-    sym (ap (λ (nodes : List ℕ). first_unknown nodes texts) c.map.ensures) ∙ c.in-Unknown.ensures.unknown in
+    let first : first_unknown plan.nodes texts ≡ Some c.in-Err-Unknown.place =
+    sym (ap (λ (nodes : List ℕ). first_unknown nodes texts) c.map.ensures) ∙ c.in-Err-Unknown.ensures.unknown in
     as_text _ _ _ _ _ _ _ _ (sym (ap (λ o. (of_unknown o plan texts c.args.ask).1) first)) c.refuse.ensures.wrote
 
 pub write_table-wrote-requires-clause-scene : goal.write_table-wrote-requires-clause-scene
 write_table-wrote-requires-clause-scene g c = record {
-  sides = c.try_new-sides.ensures;
+  sides = c.in_ok-sides.ensures;
   own = subst (λ (nodes : List ℕ). AreOwn (length nodes) c.in-Ok.own) c.map.ensures c.in-Ok.ensures.own;
 }
 
