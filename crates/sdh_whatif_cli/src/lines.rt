@@ -47,7 +47,7 @@ fn put_case(line: &mut Line, plan: &Plan, spans: &CaseSpans, entry: Entry, case:
     requires digits { AreSmall (length plan.now.nodes) case.digits }
     requires spans { AreSpansOf plan.now case.failures.now spans.now }
     requires room { length line.old + 12500 ≤ 20480 }
-    ensures text { line.new ≡ line.old ++ case_text entry.form plan.now entry.number case.entry.digits case.failures.now }
+    ensures text { line.new ≡ line.old ++ case_text entry.form plan.now entry.number case.entry.digits case.entry.failures.now }
     ensures short { length line.new ≤ length line.old + 12500 }
 {
     put_either(line, entry.form, b"{\"number\":", b"");
@@ -156,7 +156,7 @@ pub fn put_line(line: &mut Line, plan: &Plan, sides: &Sides<'_>, entry: Entry, c
     requires few { length case.failures.now ≤ 48 }
     requires digits { AreSmall (length plan.now.nodes) case.digits }
     requires empty { line.old ≡ [] }
-    ensures { line.new ≡ line_text plan.now case.entry.digits case.failures.now entry }
+    ensures { line.new ≡ line_text plan.now case.entry.digits case.entry.failures.now entry }
 {
     let spans = sides.spans(case.failures);
     put_case(line, plan, &spans, entry, case);

@@ -151,7 +151,7 @@ fn write_case<W: Sink>(
     requires few { length case.failures.now ≤ 48 }
     requires digits { AreSmall (length plan.now.nodes) case.digits }
     ensures { Wrote W.exact (W.written sink.old) (W.written sink.new) (W.faults sink.old) (W.faults sink.new)
-        (line_text plan.now case.entry.digits case.failures.now entry) result }
+        (line_text plan.now case.entry.digits case.entry.failures.now entry) result }
 {
     line.clear();
     put_line(line, plan, sides, entry, case);

@@ -5,7 +5,7 @@ use Rattle.sdh_shell.proofs.Pieces.{as_text}
 use Rattle.sdh_whatif_cli.specs.Words.{own_texts}
 use Rattle.sdh_whatif_cli.specs.Cases.{AreOwn}
 use Rattle.sdh_whatif_cli.specs.Lines.{table_text}
-use Rattle.sdh_whatif_cli.specs.Own.{own_failures, first_unknown}
+use Rattle.sdh_whatif_cli.specs.Own.{own_failures, first_unknown, IsUnknown}
 use Rattle.sdh_whatif_cli.specs.Outcome.{of_unknown}
 use Rattle.sdh_whatif_cli.proofs.top.tell.Goals as goal
 
@@ -15,7 +15,7 @@ returns-in-Err-Unknown-clause-status g c =
     let plan = c.args.plan.now in
     let texts = own_texts (words_of c.args.words.now) in
     let first : first_unknown plan.nodes texts ≡ Some c.in-Err-Unknown.place =
-    sym (ap (λ (nodes : List ℕ). first_unknown nodes texts) c.map.ensures) ∙ c.in-Err-Unknown.ensures.unknown in
+    sym (ap (λ (nodes : List ℕ). first_unknown nodes texts) c.map.ensures) ∙ subst (IsUnknown (first_unknown c.map.result.now texts)) c.in-Err-Unknown.field-0-is c.in-Err-Unknown.ensures.unknown in
     c.refuse.ensures.status ∙ c.unknown.ensures ∙ sym (ap (λ o. (of_unknown o plan texts c.args.ask).0) first)
 
 pub returns-in-Err-Unknown-clause-wrote : goal.returns-in-Err-Unknown-clause-wrote
@@ -23,7 +23,7 @@ returns-in-Err-Unknown-clause-wrote g c =
     let plan = c.args.plan.now in
     let texts = own_texts (words_of c.args.words.now) in
     let first : first_unknown plan.nodes texts ≡ Some c.in-Err-Unknown.place =
-    sym (ap (λ (nodes : List ℕ). first_unknown nodes texts) c.map.ensures) ∙ c.in-Err-Unknown.ensures.unknown in
+    sym (ap (λ (nodes : List ℕ). first_unknown nodes texts) c.map.ensures) ∙ subst (IsUnknown (first_unknown c.map.result.now texts)) c.in-Err-Unknown.field-0-is c.in-Err-Unknown.ensures.unknown in
     as_text _ _ _ _ _ _ _ _ (sym (ap (λ o. (of_unknown o plan texts c.args.ask).1) first)) c.refuse.ensures.wrote
 
 pub write_table-wrote-requires-clause-scene : goal.write_table-wrote-requires-clause-scene
