@@ -10,7 +10,6 @@ use Rattle.std.proofs.lemmas.Bool.{cases_eq, ltb-true, false_from_ne_true}
 use Rattle.std.proofs.lemmas.List.{append-nil, take_rest}
 use Rattle.std.proofs.lemmas.List.Splits.{slice_split_first}
 use Rattle.std.proofs.lemmas.Option.{slice_get-get_or}
-use Rattle.sdh_basics.specs.Cells.{cells}
 use Rattle.sdh_basics.proofs.CellsLaws.{length-cells, get_or-cells}
 use Rattle.sdh_plan.proofs.Slipping.{first_at, none_at}
 use Rattle.sdh_verdicts.specs.declared.failure.Failure.{Failure}

@@ -1,4 +1,4 @@
-use Rattle.std.proofs.Common.{◌∙◌, ◌++◌, [], ℕ, List, sym, ap, length}
+use Rattle.std.proofs.Common.{◌∙◌, ◌++◌, [], sym, ap, length}
 use Rattle.std.specs.Prelude.{if◌then◌else◌}
 use Rattle.sdh_whatif_cli.specs.declared.ask.Kind.TheVariants as kind
 use Rattle.sdh_whatif_cli.specs.declared.singles.Tally.{Tally}

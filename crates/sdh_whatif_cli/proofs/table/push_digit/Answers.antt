@@ -1,11 +1,11 @@
-use Rattle.std.proofs.Common.{◌∙◌, ◌+◌, ◌<◌, ◌-◌, ◌*◌, ◌++◌, ◌∷◌, [], ℕ, true, false, List, All, length, take, get_or, sym, ap, arith}
+use Rattle.std.proofs.Common.{◌∙◌, ◌+◌, ◌<◌, ◌-◌, ◌*◌, ◌++◌, ◌∷◌, [], List, All, length, take, get_or, sym, ap, arith}
 use Rattle.std.proofs.Common.{append_assoc, length-append, subst}
 use Rattle.std.proofs.lemmas.List.{take_more, take_all, append-nil}
 use Rattle.std.proofs.lemmas.List.Elements.{All-append, All-cons, All-nil, All-get_or}
 use Rattle.sdh_verdicts.specs.declared.failure.Failure.{Failure}
 use Rattle.sdh_ringmap.specs.declared.Side.TheVariants.{West}
 use Rattle.sdh_verdicts.specs.declared.failure.Failure.TheVariants.{Degraded}
-use Rattle.sdh_verdicts.specs.Failures.{IsFailureIn, failure_at}
+use Rattle.sdh_verdicts.specs.Failures.{IsFailureIn}
 use Rattle.sdh_whatif_cli.proofs.Named.{nothing_at, ring_at, own_at, own_short, own_within}
 use Rattle.sdh_whatif_cli.proofs.table.push_digit.Goals as goal
 
