@@ -10,7 +10,7 @@ _sdhring_words() {
     sdhoutage:1:*) mapfile -t COMPREPLY < <(compgen -W "run trace $1" -- "$word") ;;
     sdhwatch:1:* | sdhpath:1:*) mapfile -t COMPREPLY < <(compgen -W "run $1" -- "$word") ;;
     sdhwhatif:1:*) mapfile -t COMPREPLY < <(compgen -W "single double triple $1" -- "$word") ;;
-    sdhwhatif:*) mapfile -t COMPREPLY < <(compgen -W "degraded fibres spans nodes manual forced part head json summary" -- "$word") ;;
+    sdhwhatif:*) mapfile -t COMPREPLY < <(compgen -W "degraded fibres spans nodes manual forced own part head json summary" -- "$word") ;;
     sdhaps:1:*) mapfile -t COMPREPLY < <(compgen -W "run node $1" -- "$word") ;;
     sdhretime:1:*) mapfile -t COMPREPLY < <(compgen -W "$1" -- "$word") ;;
     *:*:--install | *:*:--uninstall) compopt -o dirnames ;;
@@ -33,7 +33,7 @@ _sdhring_tools() {
     sdhring-availability) words='--nodes --groups --cuts-per-1000-km --without-script --csv --json --causes --version --help' ;;
     sdhring-desk) words='--to --title --depth --spans --nodes --groups --cuts-per-1000-km --teller --version --help' ;;
     sdhring-view) words='--to --svg --outages --signalling --program --version --help' ;;
-    sdhring-whatif) words='--also --works --title --without-script --kinds --dir --program --jobs --shard --sshlogin --parallel --all --depth --frames --against --outages --require --teller --counter --anew --version --help' ;;
+    sdhring-whatif) words='--also --works --title --without-script --kinds --dir --program --jobs --shard --sshlogin --parallel --all --depth --frames --groups --against --outages --require --teller --counter --anew --version --help' ;;
   esac
   mapfile -t COMPREPLY < <(compgen -W "$words" -- "$word")
   [ "${#COMPREPLY[@]}" -ne 0 ] || compopt -o default

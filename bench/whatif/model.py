@@ -11,6 +11,8 @@ FORCED, FAIL, DEGRADE, MANUAL, WAIT = 13, 11, 8, 6, 5
 SIDES = "west", "east"
 DEPTHS = {"single": 1, "double": 2, "triple": 3}
 KINDS = "degraded", "fibres", "spans", "nodes", "manual", "forced"
+OWN = "own"  # failures of the ring that come together, as the words name them
+MOST = 16  # of the user's own, and of names in one
 COLUMNS = ["number", "failures", "steps", "applied", "kept", "impaired", "over", "lost", "hops"]
 
 
@@ -131,6 +133,18 @@ def failures(ring):
     return made + [Failure("forced", f"forced {to(*place)}", [step("forced", *place)]) for place in places]
 
 
+def own_failures(ring, texts):
+    """The user's own, each some failures of the ring that come together; None in place of one with a name that the ring hasn't."""
+    there, made = {}, []
+    for failure in failures(ring):
+        there.setdefault(failure.name, failure)  # in a ring of two nodes two fibres have one name, and the first is meant
+    for number, text in enumerate(texts, 1):
+        found = [there.get(name.removeprefix(" ")) for name in text.split(";")]
+        steps = None if None in found or len(found) > MOST or number > MOST else [step for failure in found for step in failure.steps]
+        made.append(steps and Failure(OWN, f"own {number}", steps))
+    return made
+
+
 def mends(state, taken):
     if taken is None:
         return False
@@ -178,14 +192,20 @@ class Asked:
     form: str = "table"  # head, json or summary
     part: int = 1
     parts: int = 1
+    own: tuple = ()  # a text for each failure of the user's own
 
     def takes(self, failure):
-        return failure.kind in self.kinds or not self.kinds
+        return failure.kind in self.kinds or not self.kinds and not self.own
+
+
+def taken(ring, asked):
+    """The failures that are taken, in their order: the ring's, and then the user's own."""
+    return [failure for failure in failures(ring) if asked.takes(failure)] + own_failures(ring, asked.own)
 
 
 def cases(ring, state, asked):
     """The failures of each case, in the order of the table."""
-    there = [failure for failure in failures(ring) if asked.takes(failure) and not mends(state, failure.taken)]
+    there = [failure for failure in taken(ring, asked) if not mends(state, failure.taken)]
     return [list(some) for count in range(asked.depth + 1) for some in itertools.combinations(there, count)]
 
 
@@ -213,8 +233,10 @@ def record(state, number, case, form):
 def summary(ring, state, asked):
     """What each failure alone takes, kind by kind."""
     text = "kind,cases,losing,most\r\n"
-    for kind in [kind for kind in KINDS if kind in (asked.kinds or KINDS)]:
-        made = [failure for failure in failures(ring) if failure.kind == kind and not mends(state, failure.taken)]
+    there = [failure for failure in taken(ring, asked) if not mends(state, failure.taken)]
+    named = [*asked.kinds, *[OWN][: len(asked.own)]] or KINDS
+    for kind in [kind for kind in (*KINDS, OWN) if kind in named]:
+        made = [failure for failure in there if failure.kind == kind]
         lost = [counts(fates(state.after([*failure.steps, "settle"]))[0])[3] for failure in made]
         text += f"{kind},{len(lost)},{sum(k > 0 for k in lost)},{max(lost, default=0)}\r\n"
     return text
@@ -222,6 +244,9 @@ def summary(ring, state, asked):
 
 def table(ring, asked):
     """All that is written for a ring with its script."""
+    own = own_failures(ring, asked.own)
+    if None in own:
+        return f"bad plan 24 at {own.index(None) + 1}\n"
     state = fresh(ring).after(ring.script)
     if asked.form == "summary":
         return summary(ring, state, asked)
@@ -233,11 +258,13 @@ def table(ring, asked):
 def asked_of(words):
     """What words ask for; they have one of the forms that there are."""
     first, *rest = words
-    found = {"depth": DEPTHS[first], "kinds": ()}
+    found = {"depth": DEPTHS[first], "kinds": (), "own": ()}
     while rest:
         word = rest.pop(0)
         if word in KINDS:
             found["kinds"] += (word,)
+        elif word == OWN:
+            found["own"] += (rest.pop(0),)
         elif word == "part":
             found["part"], found["parts"] = int(rest.pop(0)), int(rest.pop(0))
         else:

@@ -8,9 +8,10 @@ from .against import Against, cases_of_table, cases_of_told
 from .asking import DIFFERS, INTERRUPTED, Stop, folder_of, say, subject_of, warn_of
 from .casepage import draw_cases
 from .checks import SETTLES
-from .desktable import WHOLE, ToldProblem, merged, read_cases
+from .desktable import WHOLE, Reading, ToldProblem, merged, read_cases, words_for
 from .files import FileProblem
 from .framed import asked_of, machines_of, put_cases, run_cases, store_of
+from .groups import named_groups
 from .origin import TELLER, CannotRun, Origin, find_program, sum_of
 from .required import BROKEN, NOT_ASKED, depth_for, line_of, not_asked, records
 from .running import processors, tell_with_parallel
@@ -28,18 +29,27 @@ def teller_of(asked):
 
 def told_of(asked, subject, depth, part=WHOLE):
     """The cases of a plan, and the program that answered."""
-    program = teller_of(asked)
-    plan, places = subject.asked, subject.plan.places
+    program, reading = teller_of(asked), reading_of(asked, subject)
     try:
         if asked.sshlogin and part == WHOLE:
             begun, parts = time.monotonic(), PARTS[depth]
-            texts = tell_with_parallel(program, subject.document, depth, parts, machines_of(asked))
-            table = merged(plan, places, texts, depth, time.monotonic() - begun)
+            words = words_for(reading.failures, depth, ("{}", parts))
+            texts = tell_with_parallel(program, subject.document, words, parts, machines_of(asked))
+            table = merged(reading, texts, depth, time.monotonic() - begun)
         else:
-            table = read_cases(plan, places, program, subject.document, depth, part)
+            table = read_cases(reading, program, subject.document, depth, part)
     except ToldProblem as problem:
         raise Stop(f"{subject.name}: {shlex.join(program.words)} writes no table: {problem}") from None
-    return Told(plan, table), program
+    return Told(subject.asked, table), program
+
+
+def reading_of(asked, subject):
+    """What reads the table of a plan, with the groups of --groups."""
+    plan, places = subject.asked, subject.plan.places
+    try:
+        return Reading(plan, places, named_groups(asked.groups, plan, places))
+    except (FileProblem, TableProblem) as problem:
+        raise Stop(str(problem)) from None
 
 
 def against_of(asked, told, part):

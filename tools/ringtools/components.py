@@ -2,7 +2,7 @@
 
 from dataclasses import dataclass
 
-from .failures import node_case, span_fibres, span_named
+from .failures import cut_by, span_fibres, span_named
 from .tables import TableProblem, read_table
 
 HOURS = 8760.0  # of a year of 365 days
@@ -39,6 +39,14 @@ class Component:
         return self.rate * self.up
 
 
+@dataclass(frozen=True)
+class Group:
+    """A shared-risk group: what fails together, each by its kind, its position and its side."""
+
+    name: str
+    members: tuple
+
+
 class Finder:
     """The nodes and spans of a plan by what tables call them: identifiers, or names of places from the plan's comments."""
 
@@ -47,7 +55,7 @@ class Finder:
         self.nodes = places.positions(plan.ids)
         self.members = {}
         for one, here in self.nodes.items():
-            self.members[f"node {one}"] = self.node_fibres(here)
+            self.members[f"node {one}"] = ("node", here, "")
             for other, there in self.nodes.items():
                 self.put_between(one, here, other, there)
 
@@ -56,12 +64,13 @@ class Finder:
         if span is None or here == there:
             return
         for sign in "-–":
-            self.members[f"span {one}{sign}{other}"] = frozenset(span_fibres(self.plan, span))
+            self.members[f"span {one}{sign}{other}"] = ("span", span, "")
         side = "east" if (here, there) == (span, (span + 1) % self.plan.size) else "west"
-        self.members[f"fibre {one}>{other}"] = frozenset([(here, side)])
+        self.members[f"fibre {one}>{other}"] = ("fibre", here, side)
 
-    def node_fibres(self, at):
-        return frozenset(node_case(self.plan, at).fibres)
+    def fibres(self, *members):
+        """The fibres that these cut."""
+        return frozenset(fibre for member in members for fibre in cut_by(self.plan, *member))
 
     def node(self, row, column):
         """The position of the node that a cell names."""
@@ -82,10 +91,10 @@ class Finder:
         return "span " + self.places.span(*self.plan.ends(span))
 
     def member(self, row, words):
-        fibres = self.members.get(" ".join(words.casefold().split()))
-        if fibres is None:
+        member = self.members.get(" ".join(words.casefold().split()))
+        if member is None:
             raise row.problem(f"`{words.strip()}` is no span, node or fibre of the plan, as `span A-B`, `node A` or `fibre A>B`")
-        return fibres
+        return member
 
 
 def needed(row, column, wanted):
@@ -149,22 +158,29 @@ def read_nodes(name, finder):
         if at in found:
             raise row.problem(f"node {finder.places.node(finder.plan.ids[at])} stood before")
         rate, hours = needed(row, "failures", "the failures a year are wanted"), needed(row, "hours", REPAIR)
-        found[at] = Component(f"node {finder.places.place(finder.plan.ids[at])}", "node", finder.node_fibres(at), rate, hours, at)
+        found[at] = Component(f"node {finder.places.place(finder.plan.ids[at])}", "node", finder.fibres(("node", at, "")), rate, hours, at)
     complete(name, found, [f"node {finder.places.node(number)}" for number in finder.plan.ids])
     return [found[at] for at in range(finder.plan.size)]
 
 
-def read_groups(name, finder):
-    table, groups = read_table(name, GROUP_COLUMNS, GROUP_COLUMNS), []
+def groups_in(name, finder, wanted=("group", "members")):
+    """Each group of a table, beside its row."""
+    table, found = read_table(name, GROUP_COLUMNS, wanted), {}
     for row in table.rows:
         if not row["group"]:
             raise row.problem("`group` is empty, and a name is wanted")
-        if f"group {row['group']}" in [group.name for group in groups]:
+        if row["group"] in found:
             raise row.problem(f"the group {row['group']} stood before")
         words = [words for words in row["members"].split(";") if words.strip()]
         if not words:
             raise row.problem("`members` is empty; spans, nodes and fibres are wanted, separated by semicolons")
-        fibres = frozenset().union(*(finder.member(row, member) for member in words))
+        found[row["group"]] = row, Group(row["group"], tuple(dict.fromkeys(finder.member(row, member) for member in words)))
+    return list(found.values())
+
+
+def read_groups(name, finder):
+    groups = []
+    for row, group in groups_in(name, finder, GROUP_COLUMNS):
         rate, hours = needed(row, "failures", "the failures a year are wanted"), needed(row, "hours", REPAIR)
-        groups.append(Component(f"group {row['group']}", "group", fibres, rate, hours))
+        groups.append(Component(f"group {group.name}", "group", finder.fibres(*group.members), rate, hours))
     return groups

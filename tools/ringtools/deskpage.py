@@ -12,14 +12,14 @@ from .availability import PROTECTIONS, Seen
 from .availabilitytable import minutes_words, nines_words
 from .deskdrawing import DeskDrawing
 from .desktable import DEPTHS as TABLE_DEPTHS
-from .desktable import LOST, OVER
+from .desktable import GROUP, KINDS, LOST, OVER
 from .markup import count_of, folded, heads, listing, names, origin_list, table, unbroken, warning, whole
 from .pathrings import PathRing
 
 WORST = 10
-BREAKS = ("span", "node", "fibre", "degraded")  # failures; the other kinds are operators' switches
+BREAKS = ("span", "node", "fibre", "degraded", GROUP)  # failures; the other kinds are operators' switches
 DEPTHS = {1: "one failure", 2: "up to two failures", 3: "up to three failures"}
-TITLES = {"degraded": "fibres degraded", "fibre": "fibres cut", "span": "spans cut", "node": "nodes lost", "manual": "manual switches", "forced": "forced switches"}
+TITLES = {"degraded": "fibres degraded", "fibre": "fibres cut", "span": "spans cut", "node": "nodes lost", "manual": "manual switches", "forced": "forced switches", GROUP: "shared-risk groups"}
 FROM_TABLE = (
     "What becomes of each customer, the applied spans and the longest way are those of the table of <code>sdhwhatif</code>. The restoration model of these tools has them "
     "once more; each record of the table had to be the model's."
@@ -49,6 +49,10 @@ class Desk:
 
     def singles(self, kind):
         return self.table.singles(kind)
+
+    def kinds(self, *of):
+        """These kinds, and groups where there are some."""
+        return (*of, GROUP) if any(one.members for one in self.table.failures) else of
 
     def number(self, kind, at):
         return next(number for number, one in enumerate(self.table.failures) if (one.kind, one.at) == (kind, at))
@@ -82,7 +86,7 @@ def besides_words(desk):
 
 
 def summary(desk):
-    for kind in ("fibre", "span", "node"):
+    for kind in desk.kinds("fibre", "span", "node"):
         cases = list(desk.singles(kind))
         some = [case for case in cases if case.lost]
         most = f"in {len(some)} of {len(cases)}; at most {max((case.lost for case in some), default=0)}" if some else "in none"
@@ -142,9 +146,9 @@ CASE_HEADS = ["case", "kept", "kept, impaired", "over protection", "lost", "long
 
 
 def cases(desk):
-    for kind in TITLES:
+    for kind in desk.kinds(*KINDS):
         rows = [case_row(desk, case) for case in desk.singles(kind)]
-        yield folded(f"{TITLES[kind].capitalize()}, each alone ({len(rows)})", table(TITLES[kind].capitalize(), CASE_HEADS, rows), open=kind in ("span", "node"))
+        yield folded(f"{TITLES[kind].capitalize()}, each alone ({len(rows)})", table(TITLES[kind].capitalize(), CASE_HEADS, rows), open=kind in ("span", "node", GROUP))
 
 
 def packed(data):
@@ -194,7 +198,7 @@ def option(value, words):
 
 
 def failure_options(desk):
-    for kind in ("span", "node", "fibre", "degraded", "manual", "forced"):
+    for kind in desk.kinds("span", "node", "fibre", "degraded", "manual", "forced"):
         options = "".join(option(number, one.name) for number, one in enumerate(desk.table.failures) if one.kind == kind)
         yield f'<optgroup label="{TITLES[kind]}">{options}</optgroup>'
 
@@ -231,7 +235,7 @@ def origin_section(desk, origin):
     count = count_of(len(desk.table.cases), "case")
     words = f"<code>sdhwhatif {desk.table.depth}</code> answered about {count} of {DEPTHS[desk.depth]}. {LOOKED_UP}"
     files = listing(f"<code>{escape(name)}</code>, checksum <code>{sum_}</code>" for name, sum_ in desk.tables)
-    rates = f"<p>Rates and repair times:</p>{files}" if desk.tables else ""
+    rates = f"<p>{'Groups' if desk.components is None else 'Rates and repair times'}:</p>{files}" if desk.tables else ""
     return section("origin", "Where this comes from", f"<p>{words}</p>", note(FROM_TABLE), note(FROM_PATHS, desk.path.room()), rates, origin_list(origin))
 
 

@@ -18,8 +18,11 @@ from .reasons import REASONS
 from .report import BAD_PLAN
 
 KEPT, IMPAIRED, OVER, LOST = "k", "i", "o", "l"
+GROUP = "group"  # failures of the ring that come together, as `own` words name them
 RESULTS = {KEPT: "kept", IMPAIRED: "kept", OVER: "over", LOST: "lost"}  # as a run shows them
-KINDS = ("degraded", "fibre", "span", "node", "manual", "forced")
+KINDS = ("degraded", "fibre", "span", "node", "manual", "forced")  # of the ring's own failures
+ALL_KINDS = (*KINDS, GROUP)
+KIND_WORDS = ("degraded", "fibres", "spans", "nodes", "manual", "forced")  # as sdhwhatif calls these
 DEPTHS = {"single": 1, "double": 2, "triple": 3}
 WHOLE = (1, 1)  # the first part of one
 FIELDS = ("number", "failures", "steps", "applied", "kept", "impaired", "over", "lost", "hops")  # before those of the circuits
@@ -31,7 +34,7 @@ class ToldProblem(Exception):
 
 @dataclass(frozen=True)
 class Failure:
-    """One thing that fails or is switched: at a position, and of a side but for spans and nodes."""
+    """One thing that fails or is switched: at a position, and of a side but for spans and nodes. Or a group of these, at no position."""
 
     kind: str
     at: int
@@ -40,6 +43,12 @@ class Failure:
     label: str  # as `span 3-4`
     called: str  # so in sdhwhatif's table
     steps: tuple
+    members: tuple = ()  # of a group
+
+    @property
+    def parts(self):
+        """What fails: the members of a group, or this alone."""
+        return self.members or (self,)
 
 
 @dataclass(frozen=True, eq=False)
@@ -147,15 +156,24 @@ def steps_of(plan, kind, at, side):
     }[kind]
 
 
-def failures_of(plan, places):
-    """All failures by their numbers, as docs/WHATIF.md counts them from 1; here from 0."""
+def group_failure(number, group, ring):
+    """A group as one failure, with its members beside its name; `ring` has the ring's own by kind, position and side."""
+    members = tuple(ring[member] for member in group.members)
+    name, steps = f"group {group.name}", tuple(step for one in members for step in one.steps)
+    shown = f"{name} ({', '.join(one.name for one in members)})"
+    return Failure(GROUP, None, "", shown, name, f"own {number}", steps, members)
+
+
+def failures_of(plan, places, groups=()):
+    """All failures by their numbers, as docs/WHATIF.md counts them from 1; here from 0. Groups are the user's own."""
     namer, found = Namer(plan, places), []
     for kind in KINDS:
         for at in range(plan.size):
             for side in SIDES if kind not in ("span", "node") else ("",):
                 words = [name(kind, at, side) for name in (namer.name, namer.label, namer.called)]
                 found.append(Failure(kind, at, side, *words, steps_of(plan, kind, at, side)))
-    return tuple(found)
+    ring = {(one.kind, one.at, one.side): one for one in found}
+    return (*found, *(group_failure(number, group, ring) for number, group in enumerate(groups, 1)))
 
 
 def rounds_of(settles):
@@ -175,7 +193,7 @@ class Model:
     """
 
     LEVELS = (FAIL, DEGRADE, MANUAL, WAIT)
-    RAISES = {"degraded": DEGRADE, "fibre": FAIL, "span": FAIL, "node": FAIL, "manual": MANUAL, "forced": FORCED}
+    RAISES = {"degraded": DEGRADE, "fibre": FAIL, "span": FAIL, "node": FAIL, "manual": MANUAL, "forced": FORCED, GROUP: FAIL}
 
     def __init__(self, plan, failures):
         self.plan, self.last = plan, last_scene(plan)
@@ -192,6 +210,8 @@ class Model:
         return tuple(found.values())
 
     def spans_of(self, failure):
+        if failure.members:
+            return [span for one in failure.members for span in self.spans_of(one)]
         at, size = failure.at, self.plan.size
         if failure.kind in ("span", "node"):
             return [at] if failure.kind == "span" else [at, (at - 1) % size]
@@ -241,8 +261,8 @@ class Model:
 class Reading:
     """Reads the text of one plan's table, whole or a part of it."""
 
-    def __init__(self, plan, places):
-        self.plan, self.failures = plan, failures_of(plan, places)
+    def __init__(self, plan, places, groups=()):
+        self.plan, self.failures = plan, failures_of(plan, places, groups)
         self.model = Model(plan, self.failures)
         self.head = ",".join([*FIELDS, *(circuit.name for circuit in plan.circuits)])
         self.steps = ["".join(f'""{step}"", ' for step in failure.steps) for failure in self.failures]
@@ -306,15 +326,17 @@ def refused(text):
     return said + (f": {REASONS[int(found[1])].wrong}" if found and int(found[1]) in REASONS else "")
 
 
-def words_for(depth, part):
-    """The words that ask the program for a part of its table."""
-    return [depth, "head", *(() if part == WHOLE else ("part", *map(str, part)))]
+def words_for(failures, depth, part=WHOLE):
+    """The words that ask the program for a part of its table of these failures."""
+    own = ["; ".join(member.called for member in failure.members) for failure in failures if failure.members]
+    kinds = KIND_WORDS if own else ()  # where `own` stands the others have to be named
+    return [depth, "head", *kinds, *(word for text in own for word in ("own", text)), *(() if part == WHOLE else ("part", *map(str, part)))]
 
 
-def tell(program, document, depth, part):
-    """What the program writes of this part of its table."""
+def tell(program, document, words):
+    """What the program writes where it is given these words."""
     try:
-        ended = subprocess.run([*program.words, *words_for(depth, part)], input=document, stdout=subprocess.PIPE)
+        ended = subprocess.run([*program.words, *words], input=document, stdout=subprocess.PIPE)
     except OSError as error:
         raise CannotRun(f"{program.words[0]}: {error.strerror}") from None
     if ended.returncode:
@@ -322,15 +344,14 @@ def tell(program, document, depth, part):
     return ended.stdout
 
 
-def read_cases(plan, places, program, document, depth="double", part=WHOLE):
-    """The table of the program's answer about this plan."""
+def read_cases(reading, program, document, depth="double", part=WHOLE):
+    """The table of the program's answer about this document of the plan that is read."""
     begun = time.monotonic()
-    text = tell(program, document, depth, part)
-    seconds, reading = time.monotonic() - begun, Reading(plan, places)
+    text = tell(program, document, words_for(reading.failures, depth, part))
+    seconds = time.monotonic() - begun
     return Table(reading.failures, reading.cases([text], depth, part), depth, part, text, seconds)
 
 
-def merged(plan, places, texts, depth, seconds):
+def merged(reading, texts, depth, seconds):
     """The whole table of the texts of all its parts, the first part first."""
-    reading = Reading(plan, places)
     return Table(reading.failures, reading.cases(texts, depth), depth, WHOLE, b"".join(texts), seconds)

@@ -42,6 +42,14 @@ def span_fibres(plan, span):
     return (span, "east"), ((span + 1) % plan.size, "west")
 
 
+def cut_by(plan, kind, at, side=""):
+    """The fibres that are cut where a fibre, span or node of the ring fails; anything else cuts none."""
+    if kind == "fibre":
+        return ((at, side),)
+    spans = {"span": [at], "node": [(at - 1) % plan.size, at]}.get(kind, [])
+    return tuple(fibre for span in spans for fibre in span_fibres(plan, span))
+
+
 def span_slug(plan, span):
     return "{}-{}".format(*plan.ends(span))
 
@@ -63,8 +71,7 @@ def pair_case(plan, one, other):
 
 
 def node_case(plan, at):
-    fibres = span_fibres(plan, (at - 1) % plan.size) + span_fibres(plan, at)
-    return Case(f"node-{plan.ids[at]}", "node", f"node {plan.node_name(at)} lost", fibres)
+    return Case(f"node-{plan.ids[at]}", "node", f"node {plan.node_name(at)} lost", cut_by(plan, "node", at))
 
 
 def failures_of(plan):

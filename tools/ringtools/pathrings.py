@@ -2,7 +2,7 @@
 
 from .availability import lost_path, state_of
 from .desktable import last_scene
-from .failures import span_fibres
+from .failures import cut_by
 from .markup import count_of
 from .model import CUT, arc
 from .plan import SIDES
@@ -26,11 +26,7 @@ class PathRing:
         return sum(self.bits[fibre] for fibre in set(fibres))
 
     def fibres_of(self, failure):
-        at = failure.at
-        if failure.kind == "fibre":
-            return [(at, failure.side)]
-        spans = {"span": [at], "node": [at, (at - 1) % self.plan.size]}.get(failure.kind, [])
-        return [fibre for span in spans for fibre in span_fibres(self.plan, span)]
+        return [fibre for one in failure.parts for fibre in cut_by(self.plan, one.kind, one.at, one.side)]
 
     def parts_of(self, own):
         """The fibres eastwards and westwards on a circuit's arc and on the opposite one, each with its bit of a state."""

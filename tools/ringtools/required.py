@@ -2,7 +2,7 @@
 
     rule  := depth [kind {"," kind}] ":" most
     depth := "nothing" | "single" | "double" | "triple"
-    kind  := "fibre" | "span" | "node" | "degraded" | "manual" | "forced"
+    kind  := "fibre" | "span" | "node" | "degraded" | "manual" | "forced" | "group"
     most  := ("none lost" | "at most " NUMBER " lost" | name {"," name} " not lost") [" besides ends"]
 
 Without kinds a rule is about failures of all kinds; with some, each failure of a case is of one of them. `besides ends` leaves out, where
@@ -14,7 +14,7 @@ import io
 import re
 from dataclasses import dataclass
 
-from .desktable import DEPTHS, KINDS
+from .desktable import ALL_KINDS, DEPTHS, GROUP
 
 COUNTS = {"nothing": 0, **DEPTHS}
 RULE = re.compile(r"(?P<depth>\w+)(?: (?P<kinds>[\w, ]+))?: ?(?:(?P<none>none)|at most (?P<most>[0-9]+)|(?P<names>.+) not) lost(?P<besides> besides ends)?")
@@ -35,6 +35,9 @@ class Rule:
     names: tuple = ()  # of circuits, where it is about these alone
     besides_ends: bool = False
 
+    def names_groups(self):
+        return GROUP in self.kinds and self.kinds != set(ALL_KINDS)
+
     def is_about(self, kinds):
         return len(kinds) == self.depth and self.kinds.issuperset(kinds)
 
@@ -45,10 +48,10 @@ def read_rule(text):
     if not found or found["depth"] not in COUNTS:
         raise RuleProblem(f"`{text}` is no rule: `single span: none lost` is one, and `double: at most 2 lost`, and `single node: none lost besides ends`")
     kinds = [kind for kind in re.split("[, ]+", found["kinds"] or "") if kind]
-    if unknown := [kind for kind in kinds if kind not in KINDS]:
-        raise RuleProblem(f"`{text}`: `{unknown[0]}` is none of {', '.join(KINDS)}")
+    if unknown := [kind for kind in kinds if kind not in ALL_KINDS]:
+        raise RuleProblem(f"`{text}`: `{unknown[0]}` is none of {', '.join(ALL_KINDS)}")
     names = tuple(name.strip() for name in (found["names"] or "").split(",") if name.strip())
-    return Rule(text, COUNTS[found["depth"]], frozenset(kinds or KINDS), int(found["most"] or 0), names, bool(found["besides"]))
+    return Rule(text, COUNTS[found["depth"]], frozenset(kinds or ALL_KINDS), int(found["most"] or 0), names, bool(found["besides"]))
 
 
 def depth_for(rules):
@@ -67,6 +70,8 @@ def circuits_of(rule, told):
 
 def verdict_on(rule, told):
     """The cells of a record: whether the rule holds, how many cases it is about and how many break it, and the worst of these."""
+    if rule.names_groups() and not any(one.kind == GROUP for one in told.table.failures):
+        raise RuleProblem("there are no groups: --groups names them")
     wanted = circuits_of(rule, told)
     lost = lambda case: [name for name in (told.besides if rule.besides_ends else told.lost)(case) if not wanted or name in wanted]
     about = [(case, lost(case)) for case in told.all() if rule.is_about(told.table.kinds(case))]

@@ -56,6 +56,11 @@ class Answer:
     said: bytes  # on standard error
 
 
+def words_in(cell):
+    """The words of a row's cell, of which one in single quotes may have spaces."""
+    return [quoted or plain for quoted, plain in re.findall(r"'([^']*)'|(\S+)", cell)]
+
+
 def file_of(folder, name):
     """A name alone is a file beside the table, a path one from the top of the repository."""
     path = TOP / name if "/" in name else folder / name
@@ -89,7 +94,7 @@ def read_row(folder, cells):
     given = None if plan == FOLDER else changed(file_of(folder, plan) if plan else b"", change)
     is_file = text.endswith(".text") or text.startswith("crates/")
     wanted = None if text == FULL else file_of(folder, text) if is_file else text_of(text)
-    said = tuple(word.encode().replace(b"\\xff", b"\xff") for word in words.split())
+    said = tuple(word.encode().replace(b"\\xff", b"\xff") for word in words_in(words))
     return Row(name, said, given, int(status), wanted, change == SLOWLY)
 
 

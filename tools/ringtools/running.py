@@ -102,20 +102,23 @@ def processors():
     return len(os.sched_getaffinity(0))
 
 
-def tell_words(program, depth, parts, machines, stem):
+def tell_words(program, asking, machines, stem):
     """The command of GNU parallel that asks for the parts of a table whose numbers it reads from its input. Files have names that no other run has."""
-    words, ask = machines.words(), f"{shlex.join(program.words)} {depth} head part {{}} {parts} < {stem}.toml > {stem}-{{}}.text"
+    words, ask = machines.words(), f"{shlex.join([*program.words, *asking])} < {stem}.toml > {stem}-{{}}.text"
     is_here = all(login.rpartition("/")[2] == ":" for login in machines.logins)
     return [*words, *([] if is_here else ["--basefile", f"{stem}.toml", "--return", f"{stem}-{{}}.text", "--cleanup"]), ask]
 
 
-def tell_with_parallel(program, document, depth, parts, machines):
-    """What the program writes of each part of its table, over these machines. A part that failed ends in what it says."""
+def tell_with_parallel(program, document, asking, parts, machines):
+    """What the program writes of each part of its table, over these machines, where `asking` has its words with `{}` for a part's number.
+
+    A part that failed ends in what it says.
+    """
     with tempfile.TemporaryDirectory(prefix="sdhwhatif-") as name:
         folder = Path(name)
         (folder / f"{folder.name}.toml").write_bytes(document)
         numbers = [str(number) for number in range(1, parts + 1)]
-        words = tell_words(program, depth, parts, machines, folder.name)
+        words = tell_words(program, asking, machines, folder.name)
         try:
             subprocess.run(words, input="\n".join(numbers) + "\n", cwd=folder, text=True)
         except OSError as error:

@@ -68,8 +68,8 @@ class Told:
         return self.of(case, LOST)
 
     def lost_nodes(self, case):
-        failures = (self.table.failures[number] for number in case.failures)
-        return {failure.at for failure in failures if failure.kind == "node"}
+        parts = (one for number in case.failures for one in self.table.failures[number].parts)
+        return {one.at for one in parts if one.kind == "node"}
 
     def besides(self, case):
         """The circuits that are lost and end at no node that is."""
@@ -126,7 +126,8 @@ class Told:
     def write_json(self, path, question, program):
         """One object: what was asked and who answered, the circuits, and the cases, one in a line."""
         table = self.table
-        head = {**question.record(), **program.lines(), "depth": table.depth, "part": list(table.part), "circuits": self.names}
+        groups = {one.label: [member.label for member in one.members] for one in table.failures if one.members}
+        head = {**question.record(), **program.lines(), "depth": table.depth, "part": list(table.part), "groups": groups, "circuits": self.names}
         with open(path, "w", encoding="ascii") as file:
             file.write(json.dumps(head)[:-1] + ', "cases": [\n')
             for place, case in enumerate(self.all()):

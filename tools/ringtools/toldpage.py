@@ -4,13 +4,13 @@ from collections import Counter
 from html import escape
 
 from .against import GAINS, LOSES
-from .desktable import KINDS, WHOLE
+from .desktable import ALL_KINDS, WHOLE
 from .markup import count_of, folded, listing, names, origin_list, table, unbroken, warning, whole
 from .page import tools
 
 WORST = 60  # cases of several failures that are shown
-KIND_WORDS = {"degraded": "fibre degraded", "fibre": "fibre cut", "span": "span cut", "node": "node lost", "manual": "manual switch", "forced": "forced switch"}
-KIND_PLURALS = {"degraded": "fibres degraded", "fibre": "fibres cut", "span": "spans cut", "node": "nodes lost", "manual": "manual switches", "forced": "forced switches"}
+KIND_WORDS = {"degraded": "fibre degraded", "fibre": "fibre cut", "span": "span cut", "node": "node lost", "manual": "manual switch", "forced": "forced switch", "group": "group"}
+KIND_PLURALS = {"degraded": "fibres degraded", "fibre": "fibres cut", "span": "spans cut", "node": "nodes lost", "manual": "manual switches", "forced": "forced switches", "group": "groups"}
 DEPTH_WORDS = {1: "Each failure alone", 2: "Two failures", 3: "Three failures"}
 CASE_HEADS = ["failure", "kept", "kept, impaired", "over protection", "lost", "longest way in spans", "customers that are lost", "lost in a path ring", "run by frames too"]
 KIND_HEADS = ["failures", "cases", "customers are lost in", "at most", "besides ends of lost nodes in", "at most", "in a path ring in", "at most"]
@@ -110,7 +110,7 @@ def by_kinds(told, depth):
     found = {}
     for case in told.table.of_depth(depth):
         found.setdefault(told.table.kinds(case), []).append((case.lost, len(told.besides(case)), len(told.path_lost(case))))
-    order = lambda kinds: [KINDS.index(kind) for kind in kinds]
+    order = lambda kinds: [ALL_KINDS.index(kind) for kind in kinds]
     for kinds in sorted(found, key=order):
         columns = list(zip(*found[kinds]))
         yield [kinds_words(kinds), len(found[kinds]), *(cell for column in columns for cell in (sum(map(bool, column)), max(column)))]
@@ -163,7 +163,7 @@ def several(told, depth, checked):
 def alone(told, checked):
     parts = ['<section id="alone"><h2>Each failure alone</h2>', table("by kinds", KIND_HEADS, list(by_kinds(told, 1)))]
     parts.append(table("nothing more", CASE_HEADS, list(rows_of(told, told.table.of_depth(0), checked))))
-    for kind in KINDS:
+    for kind in ALL_KINDS:
         cases = list(told.table.singles(kind))
         if cases:
             parts.append(table(KIND_PLURALS[kind], CASE_HEADS, list(rows_of(told, cases, checked))))

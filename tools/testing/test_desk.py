@@ -21,7 +21,7 @@ from pages import BROWSER, PRINTS, Seen, browsed, printed
 from ringtools.deskdrawing import DeskDrawing
 from ringtools.deskindex import index_page
 from ringtools.deskpage import Desk, data_of, key_of
-from ringtools.desktable import Reading, ToldProblem, merged, read_cases, tell
+from ringtools.desktable import Reading, ToldProblem, merged, read_cases, tell, words_for
 from ringtools.origin import Program
 from ringtools.places import Places
 from ringtools.plan import read_plan
@@ -134,7 +134,7 @@ class Cases(unittest.TestCase):
         plans = [(PLAN.replace('["settle"]', json.dumps(script)), "double") for script in SCRIPTS] + [((RINGS / "two-nodes.toml").read_text(), "triple")]
         for document, depth in plans:
             plan = read_plan(document.encode())
-            table = read_cases(plan, Places(), program, document.encode(), depth)
+            table = read_cases(Reading(plan, Places()), program, document.encode(), depth)
             with self.subTest(plan=document):
                 self.assertGreater(len(table.cases), 10 * plan.size)
                 count = len(table.failures)
@@ -160,19 +160,20 @@ class Cases(unittest.TestCase):
     def test_parts_together_are_the_whole(self):
         document = (RINGS / "two-nodes.toml").read_bytes()
         plan, program = read_plan(document), Program((sys.executable, str(MODEL)), "")
-        whole = read_cases(plan, Places(), program, document, "triple")
+        reading = Reading(plan, Places())
+        whole = read_cases(reading, program, document, "triple")
         results = lambda table: [(numbers, sorted(case.outcome.applied), case.results) for numbers, case in table.cases.items()]
         for count in (2, 3, 21):  # 21 is the base of a case's number
-            texts = [tell(program, document, "triple", (number, count)) for number in range(1, count + 1)]
-            self.assertEqual(results(merged(plan, Places(), texts, "triple", 0)), results(whole))
+            texts = [tell(program, document, words_for(reading.failures, "triple", (number, count))) for number in range(1, count + 1)]
+            self.assertEqual(results(merged(reading, texts, "triple", 0)), results(whole))
             with self.assertRaises(ToldProblem):
-                merged(plan, Places(), texts[:-1] + texts[:1], "triple", 0)
+                merged(reading, texts[:-1] + texts[:1], "triple", 0)
 
     def test_packed_cases_are_the_table(self):
         """Each case of three failures is found at its place, with the spans and results that the table has for it."""
         document = (RINGS / "two-nodes.toml").read_bytes()
         plan = read_plan(document)
-        table = read_cases(plan, Places(), Program((sys.executable, str(MODEL)), ""), document, "triple")
+        table = read_cases(Reading(plan, Places()), Program((sys.executable, str(MODEL)), ""), document, "triple")
         data = data_of(Desk(plan, Places(), table), DeskDrawing(plan, Places(), table.failures))
         unpacked = {name: zlib.decompress(base64.b64decode(text)) for name, text in data["triples"].items()}
         outcomes = data["outcomes"] + json.loads(unpacked["outcomes"])
@@ -191,7 +192,7 @@ class Cases(unittest.TestCase):
                 script.write_text(f"#!/bin/sh\n{TELLER} \"$@\" | sed '{deed}'\n")
                 script.chmod(0o755)
                 with self.assertRaisesRegex(ToldProblem, said):
-                    read_cases(read_plan(PLAN.encode()), Places(), Program((str(script),), ""), PLAN.encode())
+                    read_cases(Reading(read_plan(PLAN.encode()), Places()), Program((str(script),), ""), PLAN.encode())
 
 
 class Pages(unittest.TestCase):
@@ -249,6 +250,38 @@ class Printed(unittest.TestCase):
             self.assertIn("pairs of spans", sheet)
 
 
+class Groups(unittest.TestCase):
+    def made(self, *words):
+        with tempfile.TemporaryDirectory() as folder:
+            groups = "group,members,failures,hours\nduct <1>,span Köln-2; span 9-0,0.01,48\nyard,node 9,0.02,10\n"
+            for name, text in (("plan.toml", PLAN), ("spans.csv", SPANS), ("groups.csv", groups)):
+                (Path(folder) / name).write_text(text, encoding="utf-8")
+            ended = call("sdhring-desk", "plan.toml", "--groups", "groups.csv", "--teller", TELLER, "--depth", "double", *words, cwd=folder)
+        self.assertEqual((ended.returncode, ended.stderr), (0, b""))
+        return ended.stdout.decode()
+
+    def test_each_group_is_a_failure_with_its_members_beside_it(self):
+        seen = Seen(self.made())
+        rows = seen.table_named("Shared-risk groups")
+        self.assertEqual([row["case"].replace("\u2060", "") for row in rows], ["group duct <1> (span Köln–Bad <Ems>, span 9–0)", "group yard (node 9)"])
+        self.assertEqual([(row["over protection"], row["lost"]) for row in rows], [("0", "2"), ("0", "1")])
+        self.assertIn("Shared-risk groups, one alone : customers are lost in 2 of 2; at most 2.", seen.text())
+        self.assertNotIn("min/year", seen.text())
+        self.assertIn("Groups: groups.csv , checksum", seen.text())
+        self.assertIn("min/year", self.made("--spans", "spans.csv"))
+        self.assertNotIn("roups", Seen(page()).text())
+
+    @unittest.skipUnless(BROWSER, "there is no chromium")
+    def test_a_group_is_chosen_from_the_list(self):
+        deeds = """
+const told = [], choose = document.getElementById("choose"), last = choose.querySelector("optgroup:last-child");
+told.push(last.label);
+choose.value = last.children[1].value;
+choose.dispatchEvent(new Event("change")); told.push(document.getElementById("told").textContent);
+"""
+        self.assertEqual(browsed(self.made(), deeds), ["shared-risk groups", "group yard (node 9). 1 lost: Far & wide. 0 over protection. 1 kept."])
+
+
 class Many(unittest.TestCase):
     def test_a_page_for_each_plan_and_an_index(self):
         with tempfile.TemporaryDirectory() as name:
@@ -300,10 +333,12 @@ class Refused(unittest.TestCase):
         with tempfile.TemporaryDirectory() as folder:
             (Path(folder) / "plan.toml").write_text(PLAN, encoding="utf-8")
             (Path(folder) / "spans.csv").write_text("from,to,hours\n", encoding="utf-8")
+            (Path(folder) / "groups.csv").write_text("group,members\nduct,span 5-9\n", encoding="utf-8")
             for status, said, words in (
                 (1, "sdhring-desk: plan.toml: the answer isn't a table of this plan: status 1", ("--teller", "false")),
                 (1, "sdhring-desk: spans.csv: span Köln–Bad <Ems>,", ("--spans", "spans.csv", "--teller", TELLER)),
-                (2, "--nodes and --groups go with --spans", ("--nodes", "n.csv")),
+                (2, "--nodes goes with --spans", ("--nodes", "n.csv")),
+                (1, "groups.csv:2: `span 5-9` is no span, node or fibre of the plan", ("--groups", "groups.csv", "--teller", TELLER)),
                 (2, "several plans, or a folder, go with --to", ("other.toml",)),
                 (2, "several plans, or a folder, go with --to", (".",)),
                 (1, "two plans have one name", ("--to", "pages", "below/plan.toml")),

@@ -24,7 +24,7 @@ class Rules(unittest.TestCase):
             ("  single:  c1,  North line not lost ", 1, None, 0, ("c1", "North line"), False),
         ):
             rule = read_rule(text)
-            everything = {"degraded", "fibre", "span", "node", "manual", "forced"}
+            everything = {"degraded", "fibre", "span", "node", "manual", "forced", "group"}
             self.assertEqual((rule.depth, rule.kinds, rule.most, rule.names, rule.besides_ends), (depth, kinds or everything, most, names, besides), text)
 
     def test_what_is_none(self):
@@ -82,6 +82,16 @@ class Required(Asking):
     def test_during_works(self):
         (row,) = self.require("plan.toml", "--works", "span 5-2", rules=["single span: none lost"], wanted=1)
         self.assertEqual((row["verdict"], row["worst"].split()[0]), ("broken", "span"))
+
+    def test_groups(self):
+        """A span of each arc in one duct loses `near`, which no span alone does; the group's name is where a failure's is."""
+        (self.top / "groups.csv").write_text("group,members,failures,hours\nduct,span 5-2;span 9-4,1,1\n")
+        rules = ["single span: none lost", "single group: none lost", "single: near not lost besides ends"]
+        rows = self.require("plan.toml", "--groups", "groups.csv", rules=rules, wanted=1)
+        found = [(row["verdict"], row["cases"], row["breaking"], row["worst"]) for row in rows]
+        self.assertEqual(found, [("holds", "4", "0", ""), ("broken", "1", "1", "group duct"), ("broken", "41", "1", "group duct")])
+        (row,) = self.require("plan.toml", rules=["single group: none lost"], wanted=1)
+        self.assertEqual((row["verdict"], row["problem"]), ("not asked", "there are no groups: --groups names them"))
 
     def test_refusals(self):
         for words, status, said in (

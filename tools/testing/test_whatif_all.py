@@ -8,7 +8,7 @@ import sys
 import tomllib
 import unittest
 
-from cases import CIRCUITS, IDS, Asking, document, expected, failures
+from cases import CIRCUITS, IDS, Asking, document, expected, failures, spans
 from common import STANDIN, TOOLS, ring
 from rules import Rules
 
@@ -173,6 +173,55 @@ class All(Asking):
         self.tell("--frames", "0", "--sshlogin", "2/:")
         self.assertEqual(self.lines(), whole)
 
+    def grouped(self, rows="bridge,span 2-5; fibre 9>4\nyard,node 2\n"):
+        groups = self.top / "groups.csv"
+        groups.write_text("group,members\n" + rows)
+        return "--groups", groups
+
+    def test_groups_fail_as_one(self):
+        """A group's case is that of its members' cuts, alone and with each other failure, and it has the group's name."""
+        self.plan.write_text("# node 2 is Köln\n" + document())
+        self.tell(*self.grouped("bridge,span Köln-5; fibre 9>4;span 5–2\nyard,node köln\n"), "--frames", "group bridge; group yard", "--frames", "3")
+        lines, bridge, yard = self.lines(), [*spans(0), (2, "east")], spans(0, 1)
+        self.assertEqual(len(lines), 1 + 42 + 42 * 41 // 2)
+        for label, cut in (("group bridge", bridge), ("group yard", yard), ("group bridge; group yard", bridge + yard), ("span 4-5; group bridge", spans(3) + bridge)):
+            cells = self.check_rows(["settle"], cut, [lines[label]])
+            ends = [circuit for circuit, start, end, _ in CIRCUITS if "yard" in label and 2 in (start, end)]
+            self.assertEqual(lines[label]["Besides ends"].split(), [circuit for circuit, cell in cells.items() if cell == "lost" and circuit not in ends], label)
+        row, pair = lines["group bridge"], lines["span 5-2; span 9-4"]
+        self.assertEqual((row["Kind"], row["Steps"]), ("group", "cut 5 east; cut 2 west; cut 9 east"))
+        self.assertEqual([row[name] for name in ("Applied", "Lost circuits")], [pair[name] for name in ("Applied", "Lost circuits")])
+        self.assertEqual(row["Path lost circuits"], lines["fibre 9>4; span 5-2"]["Path lost circuits"])
+        told = json.loads((self.top / "out" / "all.json").read_text())
+        self.assertEqual(told["groups"], {"group bridge": ["span 5-2", "fibre 9>4"], "group yard": ["node 2"]})
+        shown = [row["failure"].replace("\u2060", "") for row in self.page("all.html").table_named("groups")]
+        self.assertEqual(shown, ["group bridge (span 5–Köln, fibre 9>4 cut)", "group yard (node Köln)"])
+
+    @unittest.skipUnless(shutil.which("parallel"), "GNU parallel isn't installed")
+    def test_groups_in_parts(self):
+        self.tell(*self.grouped(), "--frames", "0")
+        whole = self.lines()
+        self.tell(*self.grouped(), "--frames", "0", "--sshlogin", "2/:")
+        self.assertEqual(self.lines(), whole)
+
+    def test_groups_that_cant_be_asked_about(self):
+        for rows, said in (
+            ("duct,span 5-9\n", "groups.csv:2: `span 5-9` is no span, node or fibre of the plan"),
+            ("duct; or bridge,node 5\n", "groups.csv:2: `group` is `duct; or bridge`, and semicolons separate failures"),
+            ("".join(f"g{number},node 5\n" for number in range(17)), "groups.csv:18: it is group 17, and sdhwhatif takes 16"),
+        ):
+            self.assertIn(said, self.tell(*self.grouped(rows), "--frames", "0", wanted=1).stderr.decode())
+        ids = [*IDS, 6]
+        self.plan.write_text(document().replace("9, 4]", "9, 4, 6]"))
+        names = [f"{form}{here}{sign}{there}" for here, there in zip(ids, ids[1:] + ids[:1]) for form, sign in (("span ", "-"), ("fibre ", ">"))]
+        members = [*names, *(f"node {node}" for node in ids), "fibre 2>5", "fibre 9>2"]
+        self.tell(*self.grouped(f"most,{';'.join(members[:16])}\n"), "--depth", "single", "--frames", "0")
+        said = self.tell(*self.grouped(f"many,{';'.join(members)}\n"), "--frames", "0", wanted=1).stderr.decode()
+        self.assertIn("groups.csv:2: the group many has 17 members, and sdhwhatif takes 16", said)
+        self.plan.write_text(ring("two-nodes")[0].read_text())
+        said = self.tell(*self.grouped("half,fibre 7>9\n"), "--frames", "0", wanted=1).stderr.decode()
+        self.assertIn("groups.csv:2: sdhwhatif has one name for both fibres of a node in a ring of two", said)
+
     def test_the_same_as_json(self):
         self.tell("--frames", "0")
         told = json.loads((self.top / "out" / "all.json").read_text())
@@ -286,6 +335,8 @@ class All(Asking):
         for words, said in (
             (("--frames", "3"), "--frames, --depth and --against go with --all"),
             (("--teller", TELLER), "--teller goes with --all or --require"),
+            (("--groups", "groups.csv"), "--groups goes with --all or --require"),
+            ((*teller, TELLER, "--groups", "groups.csv", self.plan), "--groups goes with one plan"),
             ((*teller, TELLER, "--kinds", "span"), "--all has all kinds"),
             ((*teller, TELLER, "--frames", "cut 6 east"), "no case has these steps or failures"),
             ((*teller, TELLER, "--against", "none.csv"), "none.csv: No such file"),

@@ -1,6 +1,8 @@
 pub mod Short
 pub mod Parts
-pub mod Digits
+pub mod Named
+pub mod Naming
+pub mod Unknown
 pub mod Below
 pub mod Told
 pub mod Splitting

@@ -63,10 +63,11 @@ snoc b u t us =
     ap (λ l. u ++ l) (flat_map-append g us (t ∷ []) ∙ ap (λ l. flat_map g us ++ l) (append-nil (b ++ t)))
     ∙ sym (append_assoc u (flat_map g us) (b ++ t))
 
-abbrev gap : Bool → List ℕ → List ℕ
+abbrev pub gap : Bool → List ℕ → List ℕ
 gap first b = if first then [] else b
 
-join_by : (b : List ℕ) (ts : List (List ℕ)) (t start line mid next : List ℕ) (first : Bool) → (length ts == 0) ≡ first
+-- one text more of those that have something between them
+pub join_by : (b : List ℕ) (ts : List (List ℕ)) (t start line mid next : List ℕ) (first : Bool) → (length ts == 0) ≡ first
     → line ≡ start ++ joined b ts → mid ≡ line ++ gap first b → next ≡ mid ++ t → next ≡ start ++ joined b (ts ++ t ∷ [])
 join_by b [] t start line mid next true is before between more =
     more ∙ ap (λ l. l ++ t) (between ∙ append-nil line ∙ before ∙ append-nil start) ∙ ap (λ l. start ++ l) (sym (append-nil t))

@@ -1,18 +1,20 @@
 -- What a line says is so.
-use Rattle.std.proofs.Common.{◌≡◌, ℕ, ◌-◌, ◌*◌, ◌/◌, ◌<◌, ◌≤◌, Bool, true, false, ◌==◌, nat_lt, List, [], ◌∷◌, ◌++◌, length, All, refl, sym, ap, ◌∙◌}
-use Rattle.std.proofs.Common.{arith, ltb-true}
-use Rattle.std.specs.Prelude.{◌&&◌, if◌then◌else◌, Option, Some, None}
+use Rattle.std.proofs.Common.{◌≡◌, ℕ, ◌+◌, ◌-◌, ◌*◌, ◌<◌, ◌≤◌, Bool, true, false, ◌==◌, nat_lt, List, [], ◌∷◌, ◌++◌, length, get_or, All, refl, sym}
+use Rattle.std.proofs.Common.{ap, ◌∙◌, subst, inl, inr, arith, ltb-true, eq-eqb}
+use Rattle.std.specs.Prelude.{◌&&◌, nat_le, if◌then◌else◌, Option, Some, None}
 use Rattle.std.specs.Option.{option_map_or}
-use Rattle.std.proofs.lemmas.List.Elements.{All-nil, All-cons}
-use Rattle.std.proofs.Math.Nat.{mod-lt}
+use Rattle.std.proofs.lemmas.Bool.{cases_lt, leb-true}
+use Rattle.std.proofs.lemmas.List.{get_or_past}
+use Rattle.std.proofs.lemmas.List.Elements.{All-nil, All-cons, All-append, All-get_or}
 use Rattle.sdh_plan.specs.Planned.{Planned, IsPlanned}
 use Rattle.sdh_verdicts.specs.declared.failure.Failure.{Failure}
 use Rattle.sdh_verdicts.specs.declared.failure.Failure.TheVariants.{Degraded, Cut, Span, Node, Manual, Forced}
 use Rattle.sdh_verdicts.specs.Failures.{IsFailureIn, failure_at, half, side_of}
 use Rattle.sdh_verdicts.specs.Laws.{LongerPlansArePlans, CasesAreShown}
 use Rattle.sdh_whatif_cli.specs.declared.ask.Ask.{Ask}
+use Rattle.sdh_whatif_cli.specs.declared.forms.Digits.{Digits}
 use Rattle.sdh_whatif_cli.specs.declared.forms.Entry.{Entry}
-use Rattle.sdh_whatif_cli.specs.Cases.{base, first, second, third, failures_of, case_at, is_told, told_below, is_in_part}
+use Rattle.sdh_whatif_cli.specs.Cases.{failures_at, failures_of, digits_at, case_at, is_told, told_below, is_in_part}
 use Rattle.sdh_whatif_cli.specs.Lines.{line_text}
 use Rattle.sdh_whatif_cli.specs.Laws.{IsTrueLine, LinesAreTrue}
 use Rattle.sdh_whatif_cli.proofs.Reading.{steps_back, texts_pass}
@@ -36,44 +38,43 @@ module _ (n i : ℕ) (low : i < 10 * n) where
   unfolding failure_at
   failure_in = by_kind (nat_lt i (2 * n)) (nat_lt i (4 * n)) (nat_lt i (5 * n)) (nat_lt i (6 * n)) (nat_lt i (8 * n)) refl refl refl refl refl
 
-module _ (n d e f : ℕ) (some : 1 ≤ n) (d_low : d < base n) (e_low : e < base n) (f_low : f < base n) where
+module _ (n : ℕ) (own : List (List Failure)) (within : All (All (IsFailureIn n)) own) where
   abbrev Is : Failure → Type 0
   Is = IsFailureIn n
 
-  abbrev one : ℕ → Failure
-  one k = failure_at n (k - 1)
+  own_in : (i : ℕ) → All Is (get_or own i [])
+  own_in i = elim (cases_lt i (length own)) [
+    | inl low ↦ All-get_or (All Is) own i [] low within
+    | inr past ↦ subst (All Is) (sym (get_or_past own i [] past)) (All-nil Is)
+  ]
 
-  one_in : (k : ℕ) → k < base n → Is (one k)
-  one_in k low = failure_in n (k - 1) (omega (arith, low, some))
+  one_in : (d : ℕ) → (d ≡ 0 → ⊥) → d ≤ 10 * n → All Is (failure_at n (d - 1) ∷ [])
+  one_in d some low = All-cons Is (failure_at n (d - 1)) [] (failure_in n (d - 1) (omega (arith, some, low))) (All-nil Is)
 
-  by_digits : (x y z : Bool)
-      → All Is (if x then [] else if y then one f ∷ [] else if z then one e ∷ one f ∷ [] else one d ∷ one e ∷ one f ∷ [])
-  by_digits true y z = All-nil Is
-  by_digits false true z = All-cons Is (one f) [] (one_in f f_low) (All-nil Is)
-  by_digits false false true = All-cons Is (one e) (one f ∷ []) (one_in e e_low) (All-cons Is (one f) [] (one_in f f_low) (All-nil Is))
-  by_digits false false false =
-      All-cons Is (one d) (one e ∷ one f ∷ []) (one_in d d_low)
-      (All-cons Is (one e) (one f ∷ []) (one_in e e_low) (All-cons Is (one f) [] (one_in f f_low) (All-nil Is)))
+  by_digit : (d : ℕ) (none ring : Bool) → (d == 0) ≡ none → nat_le d (10 * n) ≡ ring
+      → All Is (if none then [] else if ring then failure_at n (d - 1) ∷ [] else get_or own (d - (10 * n + 1)) [])
+  by_digit d true ring is low = All-nil Is
+  by_digit d false true is low =
+      one_in d (λ e. (let zero : (d == 0) ≡ true = eq-eqb d 0 e in absurd (grind (arith, zero, is)))) (leb-true d (10 * n) low)
+  by_digit d false false is low = own_in (d - (10 * n + 1))
 
-  failures_in : All Is (failures_of n d e f)
-  failures_in = by_digits (f == 0) (e == 0) (d == 0)
+  digit_in : (d : ℕ) → All Is (failures_at n own d)
+  digit_in d = by_digit d (d == 0) (nat_le d (10 * n)) refl refl
 
-case_in : (plan : Planned) (c : ℕ) → 1 ≤ length plan.nodes → All (IsFailureIn (length plan.nodes)) (case_at plan c)
-case_in plan c some =
-    let n = length plan.nodes in
-    let base_from_1 : 0 < base n = omega arith in
-    failures_in n (first n c) (second n c) (third n c) some (mod-lt (c / base n / base n) base_from_1) (mod-lt (c / base n) base_from_1)
-    (mod-lt c base_from_1)
+  pub failures_in : (ds : Digits) → All Is (failures_of n own ds)
+  failures_in ds =
+      All-append Is (failures_at n own ds.first) (failures_at n own ds.second ++ failures_at n own ds.third) (digit_in ds.first)
+      (All-append Is (failures_at n own ds.second) (failures_at n own ds.third) (digit_in ds.second) (digit_in ds.third))
 
 -- ---- lines
 
-true_line : LongerPlansArePlans → CasesAreShown → (plan : Planned) (ask : Ask) (c : ℕ) → IsPlanned plan → is_told plan ask c ≡ true
-    → IsTrueLine plan ask c
-true_line longer shown plan ask c fits told =
-    let case = case_at plan c in
-    let number = told_below plan ask c in
-    let all = case_in plan c (omega (arith, fits.nodes_fit.enough)) in
-    let line : Option Entry → List ℕ = λ e. option_map_or (line_text plan case) e [] in
+true_line : LongerPlansArePlans → CasesAreShown → (plan : Planned) (own : List (List Failure)) (ask : Ask) (c : ℕ) → IsPlanned plan
+    → All (All (IsFailureIn (length plan.nodes))) own → is_told plan own ask c ≡ true → IsTrueLine plan own ask c
+true_line longer shown plan own ask c fits within told =
+    let case = case_at plan own c in
+    let number = told_below plan own ask c in
+    let all = failures_in (length plan.nodes) own within (digits_at plan own c) in
+    let line : Option Entry → List ℕ = λ e. option_map_or (line_text plan (digits_at plan own c) case) e [] in
     record {
       line = λ inside. ap (λ b. line (if b && is_in_part ask number then Some (record { form = ask.form; number = number }) else None)) told
           ∙ ap (λ b. line (if b then Some (record { form = ask.form; number = number }) else None)) inside;
@@ -85,4 +86,4 @@ true_line longer shown plan ask c fits told =
 
 pub lines_are_true : LongerPlansArePlans → CasesAreShown → LinesAreTrue
 lines_are_true longer shown plan fits =
-    (λ ask c told. true_line longer shown plan ask c fits told, λ case. shown plan case fits)
+    (λ own ask c within told. true_line longer shown plan own ask c fits within told, λ case. shown plan case fits)

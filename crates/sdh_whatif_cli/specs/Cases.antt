@@ -1,11 +1,15 @@
--- The cases that are listed, in their order: nothing; each failure alone; each two; each three.
-use Rattle.std.specs.Prelude.{ℕ, zero, suc, ◌+◌, ◌-◌, ◌*◌, ◌/◌, ◌%◌, Bool, ◌==◌, ◌&&◌, ◌||◌, not, nat_lt, if◌then◌else◌, List, [], ◌∷◌, length, Option, Some, None}
+-- The cases that are listed, in their order: nothing; each failure alone; each two; each three. A failure is one of the
+-- ring's, or one of the user's own. One of the user's own is a list of failures of the ring that come together. The
+-- user's own come after the ring's, in the order of the words.
+use Rattle.std.specs.Prelude.{ℕ, zero, suc, ◌≤◌, ◌+◌, ◌-◌, ◌*◌, ◌/◌, ◌%◌, Bool, ◌==◌, ◌&&◌, ◌||◌, not, nat_le, nat_lt, if◌then◌else◌, List, [], ◌∷◌, ◌++◌}
+use Rattle.std.specs.Prelude.{length, slice_index_or, All, Option, Some, None}
 use Rattle.sdh_plan.specs.Planned.{Planned}
 use Rattle.sdh_verdicts.specs.declared.failure.Failure.{Failure}
 use Rattle.sdh_verdicts.specs.declared.failure.Failure.TheVariants.{Degraded, Cut, Span, Node, Manual, Forced}
-use Rattle.sdh_verdicts.specs.Failures.{failure_at}
+use Rattle.sdh_verdicts.specs.Failures.{IsFailureIn, failure_at}
 use Rattle.sdh_verdicts.specs.Verdicts.{mends}
 use Rattle.sdh_whatif_cli.specs.declared.ask.Ask.{Ask}
+use Rattle.sdh_whatif_cli.specs.declared.forms.Digits.{Digits}
 use Rattle.sdh_whatif_cli.specs.declared.forms.Entry.{Entry}
 use Rattle.sdh_whatif_cli.specs.declared.ask.Kind.{Kind}
 use Rattle.sdh_whatif_cli.specs.declared.ask.Kind.TheVariants as kind
@@ -13,37 +17,46 @@ use Rattle.sdh_whatif_cli.specs.declared.ask.Depth.{Depth}
 use Rattle.sdh_whatif_cli.specs.declared.ask.Depth.TheVariants.{Single, Double, Triple}
 use Rattle.sdh_whatif_cli.specs.Words.{takes}
 
--- A case is a number of three digits to this base, in a ring of n. Digit 0 is nothing, and digit d failure d - 1 of the
--- ring's.
-abbrev pub base : ℕ → ℕ
-base n = 10 * n + 1
+-- A case is a number of three digits to this base, in a ring of n with `own` failures of the user's own. Digit 0 is
+-- nothing, digit d up to 10 n failure d - 1 of the ring's, and each digit after those one of the user's own.
+abbrev pub base : ℕ → ℕ → ℕ
+base n own = 10 * n + 1 + own
 
--- the number of these numbers
+-- the number of these numbers, to the base b
 abbrev pub numbers_of : ℕ → Depth → ℕ
-numbers_of n Single = base n
-numbers_of n Double = base n * base n
-numbers_of n Triple = base n * base n * base n
+numbers_of b Single = b
+numbers_of b Double = b * b
+numbers_of b Triple = b * b * b
 
+-- the digits of a number to the base b
 abbrev pub first : ℕ → ℕ → ℕ
-first n c = c / base n / base n % base n
+first b c = c / b / b % b
 
 abbrev pub second : ℕ → ℕ → ℕ
-second n c = c / base n % base n
+second b c = c / b % b
 
 abbrev pub third : ℕ → ℕ → ℕ
-third n c = c % base n
+third b c = c % b
+
+abbrev pub digits_of : ℕ → ℕ → Digits
+digits_of b c = record { first = first b c; second = second b c; third = third b c }
 
 -- a digit may follow another: it is larger, or the other is nothing
 abbrev pub goes_before : ℕ → ℕ → Bool
 goes_before d e = (d == 0) || nat_lt d e
 
--- the failures of a number whose digits grow
-abbrev pub failures_of : ℕ → ℕ → ℕ → ℕ → List Failure
-failures_of n d e f =
-    if f == 0 then [] else
-    if e == 0 then failure_at n (f - 1) ∷ [] else
-    if d == 0 then failure_at n (e - 1) ∷ failure_at n (f - 1) ∷ [] else
-    failure_at n (d - 1) ∷ failure_at n (e - 1) ∷ failure_at n (f - 1) ∷ []
+-- the digit is nothing, or stands for one of the ring's failures
+abbrev pub is_of_ring : ℕ → ℕ → Bool
+is_of_ring n d = nat_le d (10 * n)
+
+-- the failures that a digit stands for, where the user's own failures are `own`
+abbrev pub failures_at : ℕ → List (List Failure) → ℕ → List Failure
+failures_at n own d =
+    if d == 0 then [] else if is_of_ring n d then failure_at n (d - 1) ∷ [] else slice_index_or own (d - (10 * n + 1)) []
+
+-- the failures of three digits, one after the other
+abbrev pub failures_of : ℕ → List (List Failure) → Digits → List Failure
+failures_of n own ds = failures_at n own ds.first ++ (failures_at n own ds.second ++ failures_at n own ds.third)
 
 -- the kind of a failure
 abbrev pub kind_of : Failure → Kind
@@ -54,27 +67,43 @@ kind_of (Node at) = kind.Nodes
 kind_of (Manual at side) = kind.Manual
 kind_of (Forced at side) = kind.Forced
 
--- a digit is nothing, or its failure is of a kind that is taken and would mend nothing that the script has set
+-- a failure of the ring is of a kind that is taken and would mend nothing that the script has set
+abbrev pub is_ring_taken : Planned → Ask → Failure → Bool
+is_ring_taken plan ask failure = takes ask.kinds (kind_of failure) && not (mends plan failure)
+
+-- A digit is nothing, or its failure is taken. One of the ring's is taken where its kind is and it would mend nothing
+-- that the script has set. The user's own are taken by their kind alone, also where one takes the place of what the
+-- script has set.
 abbrev pub is_taken : Planned → Ask → ℕ → Bool
 is_taken plan ask d =
-    (d == 0) || (takes ask.kinds (kind_of (failure_at (length plan.nodes) (d - 1))) && not (mends plan (failure_at (length plan.nodes) (d - 1))))
+    (d == 0) || (if is_of_ring (length plan.nodes) d then is_ring_taken plan ask (failure_at (length plan.nodes) (d - 1))
+    else takes ask.kinds kind.Own)
 
 -- a number of these digits stands for a case that is listed; each case has one such number
-abbrev pub are_told : Planned → Ask → ℕ → ℕ → ℕ → Bool
-are_told plan ask d e f = goes_before d e && (goes_before e f && (is_taken plan ask d && (is_taken plan ask e && is_taken plan ask f)))
+abbrev pub are_told : Planned → Ask → Digits → Bool
+are_told plan ask ds =
+    goes_before ds.first ds.second && (goes_before ds.second ds.third
+    && (is_taken plan ask ds.first && (is_taken plan ask ds.second && is_taken plan ask ds.third)))
+
+-- the base of the numbers of a plan's cases, with these failures of the user's own
+abbrev pub base_of : Planned → List (List Failure) → ℕ
+base_of plan own = base (length plan.nodes) (length own)
+
+abbrev pub digits_at : Planned → List (List Failure) → ℕ → Digits
+digits_at plan own c = digits_of (base_of plan own) c
 
 -- the case of a number that stands for one
-abbrev pub case_at : Planned → ℕ → List Failure
-case_at plan c = (let n = length plan.nodes in failures_of n (first n c) (second n c) (third n c))
+abbrev pub case_at : Planned → List (List Failure) → ℕ → List Failure
+case_at plan own c = failures_of (length plan.nodes) own (digits_at plan own c)
 
 -- the number stands for a case that is listed
-abbrev pub is_told : Planned → Ask → ℕ → Bool
-is_told plan ask c = (let n = length plan.nodes in are_told plan ask (first n c) (second n c) (third n c))
+abbrev pub is_told : Planned → List (List Failure) → Ask → ℕ → Bool
+is_told plan own ask c = are_told plan ask (digits_at plan own c)
 
 -- how many of the first c numbers stand for a case that is listed; as many cases come before the one of number c
-abbrev pub told_below : Planned → Ask → ℕ → ℕ
-told_below plan ask zero = 0
-told_below plan ask (suc c) = told_below plan ask c + (if is_told plan ask c then 1 else 0)
+abbrev pub told_below : Planned → List (List Failure) → Ask → ℕ → ℕ
+told_below plan own ask zero = 0
+told_below plan own ask (suc c) = told_below plan own ask c + (if is_told plan own ask c then 1 else 0)
 
 -- the case that has this number among those that are listed is in the part that is asked for
 abbrev pub is_in_part : Ask → ℕ → Bool
@@ -84,5 +113,22 @@ is_in_part ask number = number % ask.parts == ask.part - 1
 abbrev pub entry_of : Ask → Bool → ℕ → Option Entry
 entry_of ask told number = if told && is_in_part ask number then Some (record { form = ask.form; number = number }) else None
 
-abbrev pub entry_at : Planned → Ask → ℕ → Option Entry
-entry_at plan ask c = entry_of ask (is_told plan ask c) (told_below plan ask c)
+abbrev pub entry_at : Planned → List (List Failure) → Ask → ℕ → Option Entry
+entry_at plan own ask c = entry_of ask (is_told plan own ask c) (told_below plan own ask c)
+
+-- ---- what the program keeps
+
+-- the digit is nothing, or may stand for one of a ring's failures or for one of up to 16 of the user's own
+abbrev pub IsSmall : ℕ → ℕ → Type 0
+IsSmall n d = d ≤ 10 * n + 16
+
+pub record AreSmall (n : ℕ) (ds : Digits) : Type 0 where
+  pub first : IsSmall n ds.first
+  pub second : IsSmall n ds.second
+  pub third : IsSmall n ds.third
+
+-- the user's own failures are up to 16, each of up to 16 failures of a ring of n
+pub record AreOwn (n : ℕ) (own : List (List Failure)) : Type 0 where
+  pub few : length own ≤ 16
+  pub short : All (λ failures. length failures ≤ 16) own
+  pub within : All (All (IsFailureIn n)) own

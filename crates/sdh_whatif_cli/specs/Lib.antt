@@ -2,7 +2,9 @@ pub mod Words
 pub mod Cases
 pub mod Counting
 pub mod Singles
+pub mod Scenes
 pub mod Lines
+pub mod Own
 pub mod Reading
 pub mod Laws
 pub mod Outcome

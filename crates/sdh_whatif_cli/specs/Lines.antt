@@ -1,5 +1,6 @@
 -- The records of the table, and the lines of JSON. The texts are this project's own; those of the table are after RFC 4180.
-use Rattle.std.specs.Prelude.{ℕ, ◌<◌, zero, suc, Bool, true, false, List, [], ◌∷◌, ◌++◌, codes, decimal, length, map, slice_index, if◌then◌else◌}
+use Rattle.std.specs.Prelude.{ℕ, ◌<◌, ◌-◌, ◌*◌, zero, suc, Bool, true, false, ◌==◌, List, [], ◌∷◌, ◌++◌, codes, decimal, length, map}
+use Rattle.std.specs.Prelude.{slice_index, if◌then◌else◌}
 use Rattle.std.specs.List.{flat_map}
 use Rattle.std.specs.Option.{option_map_or}
 use Rattle.sdh_ringmap.specs.declared.Pos.{Pos}
@@ -18,7 +19,7 @@ use Rattle.sdh_plan.specs.declared.step.Step.{Step}
 use Rattle.sdh_plan.specs.declared.step.Step.TheVariants as step
 use Rattle.sdh_verdicts.specs.declared.failure.Failure.{Failure}
 use Rattle.sdh_verdicts.specs.declared.failure.Failure.TheVariants.{Degraded, Cut, Span, Node, Manual, Forced}
-use Rattle.sdh_verdicts.specs.Failures.{case_steps}
+use Rattle.sdh_verdicts.specs.Failures.{failure_at, case_steps}
 use Rattle.sdh_verdicts.specs.Verdicts.{requests_with, hops_of, places_below}
 use Rattle.sdh_whatif_cli.specs.declared.ask.Ask.{Ask}
 use Rattle.sdh_whatif_cli.specs.declared.ask.Form.{Form}
@@ -26,10 +27,11 @@ use Rattle.sdh_whatif_cli.specs.declared.ask.Form.TheVariants as form
 use Rattle.sdh_whatif_cli.specs.declared.counting.Counts.{Counts}
 use Rattle.sdh_whatif_cli.specs.declared.counting.Fate.{Fate}
 use Rattle.sdh_whatif_cli.specs.declared.counting.Fate.TheVariants as fate
+use Rattle.sdh_whatif_cli.specs.declared.forms.Digits.{Digits}
 use Rattle.sdh_whatif_cli.specs.declared.forms.Entry.{Entry}
 use Rattle.sdh_whatif_cli.specs.Counting.{fate_of, counts_of}
 use Rattle.sdh_whatif_cli.specs.Singles.{singles_text}
-use Rattle.sdh_whatif_cli.specs.Cases.{numbers_of, case_at, entry_at}
+use Rattle.sdh_whatif_cli.specs.Cases.{numbers_of, is_of_ring, base_of, digits_at, case_at, entry_at}
 
 -- texts, with this between each two of them
 abbrev pub joined : List ℕ → List (List ℕ) → List ℕ
@@ -106,11 +108,24 @@ step_text nodes s = []
 
 -- ---- the fields of a case
 
-abbrev pub name_text : Form → List ℕ → Failure → List ℕ
-name_text f nodes x = quote f ++ failure_text nodes x ++ quote f
+-- the name of a digit that isn't nothing: that of a failure of the ring, or `own` and the number of one of the user's
+-- own, counted from 1
+abbrev pub digit_text : List ℕ → ℕ → List ℕ
+digit_text nodes d =
+    if is_of_ring (length nodes) d then failure_text nodes (failure_at (length nodes) (d - 1)) else codes "own " ++ decimal (d - 10 * length nodes)
 
-abbrev pub names_text : Form → List ℕ → List Failure → List ℕ
-names_text f nodes case = joined (either f (codes ",") (codes " + ")) (map (name_text f nodes) case)
+abbrev pub name_text : Form → List ℕ → ℕ → List ℕ
+name_text f nodes d = quote f ++ digit_text nodes d ++ quote f
+
+-- the names of a digit: one, or none where the digit is nothing
+abbrev pub digit_names : Form → List ℕ → ℕ → List (List ℕ)
+digit_names f nodes d = if d == 0 then [] else name_text f nodes d ∷ []
+
+abbrev pub digits_in : Digits → List ℕ
+digits_in ds = ds.first ∷ ds.second ∷ ds.third ∷ []
+
+abbrev pub names_text : Form → List ℕ → Digits → List ℕ
+names_text f nodes ds = joined (either f (codes ",") (codes " + ")) (flat_map (digit_names f nodes) (digits_in ds))
 
 -- a step, and what parts it from the next
 abbrev pub step_part : Form → List ℕ → Step → List ℕ
@@ -132,9 +147,9 @@ spans_text f plan case =
     (map (span_part f plan.nodes) (places_below (is_applied (requests_with plan case)) (length plan.nodes)))
 
 -- the number of a case, its failures, its steps and the spans that are applied in it
-abbrev pub case_text : Form → Planned → ℕ → List Failure → List ℕ
-case_text f plan number case =
-    either f (codes "{\"number\":") [] ++ decimal number ++ either f (codes ",\"failures\":[") (codes ",") ++ names_text f plan.nodes case
+abbrev pub case_text : Form → Planned → ℕ → Digits → List Failure → List ℕ
+case_text f plan number ds case =
+    either f (codes "{\"number\":") [] ++ decimal number ++ either f (codes ",\"failures\":[") (codes ",") ++ names_text f plan.nodes ds
     ++ either f (codes "],\"steps\":[") (codes ",\"") ++ script_text f plan case ++ either f (codes "],\"applied\":[") (codes "\",")
     ++ spans_text f plan case ++ either f (codes "]") []
 
@@ -167,23 +182,23 @@ fates_text f plan case = joined (either f (codes ",") []) (map (fate_text f plan
 
 -- ---- lines
 
--- the line of a case, in a form and with the number that it has among those that are listed
-abbrev pub line_text : Planned → List Failure → Entry → List ℕ
-line_text plan case e =
-    case_text e.form plan e.number case ++ counts_text e.form (counts_of plan case) ++ either e.form (codes ",\"circuits\":{") []
+-- the line of a case that these digits name, in a form and with the number that it has among those that are listed
+abbrev pub line_text : Planned → Digits → List Failure → Entry → List ℕ
+line_text plan ds case e =
+    case_text e.form plan e.number ds case ++ counts_text e.form (counts_of plan case) ++ either e.form (codes ",\"circuits\":{") []
     ++ fates_text e.form plan case ++ either e.form (codes "}}\n") (codes "\r\n")
 
 -- the line of the c-th number of digits, where its case is listed in the part that is asked for
-abbrev pub line_at : Planned → Ask → ℕ → List ℕ
-line_at plan ask c = option_map_or (line_text plan (case_at plan c)) (entry_at plan ask c) []
+abbrev pub line_at : Planned → List (List Failure) → Ask → ℕ → List ℕ
+line_at plan own ask c = option_map_or (line_text plan (digits_at plan own c) (case_at plan own c)) (entry_at plan own ask c) []
 
 -- the lines of the first k numbers of digits
-abbrev pub lines_below : Planned → Ask → ℕ → List ℕ
-lines_below plan ask zero = []
-lines_below plan ask (suc k) = lines_below plan ask k ++ line_at plan ask k
+abbrev pub lines_below : Planned → List (List Failure) → Ask → ℕ → List ℕ
+lines_below plan own ask zero = []
+lines_below plan own ask (suc k) = lines_below plan own ask k ++ line_at plan own ask k
 
-abbrev pub cases_text : Planned → Ask → List ℕ
-cases_text plan ask = lines_below plan ask (numbers_of (length plan.nodes) ask.depth)
+abbrev pub cases_text : Planned → List (List Failure) → Ask → List ℕ
+cases_text plan own ask = lines_below plan own ask (numbers_of (base_of plan own) ask.depth)
 
 -- ---- all of it
 
@@ -192,11 +207,11 @@ abbrev pub head_record : Planned → List ℕ
 head_record plan =
     codes "number,failures,steps,applied,kept,impaired,over,lost,hops" ++ flat_map (λ c. codes "," ++ c.name) plan.circuits ++ codes "\r\n"
 
-abbrev pub table_of : Form → Planned → Ask → List ℕ
-table_of form.Table plan ask = cases_text plan ask
-table_of form.Headed plan ask = head_record plan ++ cases_text plan ask
-table_of form.Json plan ask = cases_text plan ask
-table_of form.Summary plan ask = singles_text plan ask.kinds
+abbrev pub table_of : Form → Planned → List (List Failure) → Ask → List ℕ
+table_of form.Table plan own ask = cases_text plan own ask
+table_of form.Headed plan own ask = head_record plan ++ cases_text plan own ask
+table_of form.Json plan own ask = cases_text plan own ask
+table_of form.Summary plan own ask = singles_text plan own ask.kinds
 
-abbrev pub table_text : Planned → Ask → List ℕ
-table_text plan ask = table_of ask.form plan ask
+abbrev pub table_text : Planned → List (List Failure) → Ask → List ℕ
+table_text plan own ask = table_of ask.form plan own ask

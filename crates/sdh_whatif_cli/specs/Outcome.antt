@@ -1,5 +1,7 @@
 -- How a call ends: each status, when it is answered, and the text that goes with it.
 use Rattle.std.specs.Prelude.{◌≡◌, ◌⊎◌, ℕ, List, [], Option, Some, None, codes}
+use Rattle.sdh_plan.specs.Reasons.{reason_number}
+use Rattle.sdh_plan.specs.declared.reason.Reason.TheVariants as reason
 use Rattle.sdh_plan.specs.Planned.{Planned}
 use Rattle.sdh_report.specs.declared.status.Status.{Status}
 use Rattle.sdh_report.specs.declared.status.Status.TheVariants as status
@@ -8,23 +10,41 @@ use Rattle.sdh_report.specs.Statuses.{last_line}
 use Rattle.sdh_shell.specs.Reading.{HasNoPlan, TellsPlan}
 use Rattle.sdh_whatif_cli.specs.declared.ask.Ask.{Ask}
 use Rattle.sdh_whatif_cli.specs.Lines.{table_text}
+use Rattle.sdh_whatif_cli.specs.Own.{own_failures, first_unknown}
 
 -- the line of a refusal
 abbrev pub refusal : Status → List ℕ
-refusal status.Usage = own_line (codes "usage: sdhwhatif single, double, triple, with kinds, part K N, head, json, summary")
+refusal status.Usage = own_line (codes "usage: sdhwhatif single, double, triple, with kinds, own NAMES, part K N, head, json, summary")
 refusal how = last_line how
 
--- there is no plan, or its table is written
-abbrev pub OfBytes : Ask → List ℕ → Status → List ℕ → Type 0
-OfBytes ask bytes how text =
-    (HasNoPlan bytes how × (text ≡ refusal how)) ⊎ ((plan : Planned) × TellsPlan bytes plan × (how ≡ status.Ok)
-    × (text ≡ table_text plan ask))
+-- What a plan comes to, by the place of the first text of the user's own failures that is unknown in its ring: the
+-- refusal with this place, or the plan's table where there is none.
+abbrev pub of_unknown : Option ℕ → Planned → List (List ℕ) → Ask → Status × List ℕ
+of_unknown None plan texts ask = (status.Ok, table_text plan (own_failures plan.nodes texts) ask)
+of_unknown (Some place) plan texts ask =
+    (status.BadPlan (reason_number reason.StepNode) place, refusal (status.BadPlan (reason_number reason.StepNode) place))
 
--- What is asked for comes to this status, with this text, where the source had these bytes left. Nothing comes to a
--- write fault or to a lack of memory: each may stand in place of an outcome.
-abbrev pub IsOutcome : Option Ask → List ℕ → Status → List ℕ → Type 0
-IsOutcome None bytes how text = (how ≡ status.Usage) × (text ≡ refusal status.Usage)
-IsOutcome (Some ask) bytes how text = OfBytes ask bytes how text
+abbrev pub of_plan : Planned → List (List ℕ) → Ask → Status × List ℕ
+of_plan plan texts ask = of_unknown (first_unknown plan.nodes texts) plan texts ask
+
+-- there is no plan, or it comes to this status and this text
+abbrev pub OfBytes : Ask → List (List ℕ) → List ℕ → Status → List ℕ → Type 0
+OfBytes ask texts bytes how text =
+    (HasNoPlan bytes how × (text ≡ refusal how)) ⊎ ((plan : Planned) × TellsPlan bytes plan × (how ≡ (of_plan plan texts ask).0)
+    × (text ≡ (of_plan plan texts ask).1))
+
+-- What is asked for, with these texts of the user's own failures, comes to this status, with this text, where the
+-- source had these bytes left. Nothing comes to a write fault or to a lack of memory: each may stand in place of an
+-- outcome.
+abbrev pub IsOutcome : Option Ask → List (List ℕ) → List ℕ → Status → List ℕ → Type 0
+IsOutcome None texts bytes how text = (how ≡ status.Usage) × (text ≡ refusal status.Usage)
+IsOutcome (Some ask) texts bytes how text = OfBytes ask texts bytes how text
+
+-- the bytes of the source are known and are those of a plan; there are up to 16 texts, and each names failures of its
+-- ring
+abbrev pub HasPlanFor : List (List ℕ) → Option (List ℕ) → Type 0
+HasPlanFor texts None = ⊥
+HasPlanFor texts (Some bytes) = (plan : Planned) × TellsPlan bytes plan × (first_unknown plan.nodes texts ≡ None)
 
 -- what must be known of a source: its bytes, or nothing where it isn't read
 abbrev pub told : Option Ask → Option (List ℕ) → Option (List ℕ)

@@ -1,6 +1,6 @@
 -- What the words of a command line ask for. The words are this project's own.
-use Rattle.std.specs.Prelude.{ℕ, ◌≤◌, ◌-◌, ◌^◌, Bool, true, false, ◌&&◌, ◌||◌, not, List, [], ◌∷◌, codes, Option, Some, None, option_map}
-use Rattle.std.specs.Prelude.{if◌then◌else◌}
+use Rattle.std.specs.Prelude.{ℕ, ◌≤◌, ◌-◌, ◌^◌, Bool, true, false, ◌&&◌, ◌||◌, not, List, [], ◌∷◌, codes}
+use Rattle.std.specs.Prelude.{Option, Some, None, option_map, if◌then◌else◌}
 use Rattle.std.specs.Option.{option_and_then}
 use Rattle.std.specs.Str.{bytes_eq}
 use Rattle.sdh_plan.specs.Words.{numeral_in}
@@ -44,7 +44,7 @@ form_named word =
 -- ---- kinds
 
 abbrev pub no_kinds : Kinds
-no_kinds = record { degraded = false; fibres = false; spans = false; nodes = false; manual = false; forced = false }
+no_kinds = record { degraded = false; fibres = false; spans = false; nodes = false; manual = false; forced = false; own = false }
 
 -- the kind is one of these
 abbrev pub has_kind : Kinds → Kind → Bool
@@ -54,6 +54,7 @@ has_kind kinds kind.Spans = kinds.spans
 has_kind kinds kind.Nodes = kinds.nodes
 has_kind kinds kind.Manual = kinds.manual
 has_kind kinds kind.Forced = kinds.forced
+has_kind kinds kind.Own = kinds.own
 
 -- these kinds with this one named too
 abbrev pub with_kind : Kinds → Kind → Kinds
@@ -63,14 +64,27 @@ with_kind kinds kind.Spans = record kinds { spans = true }
 with_kind kinds kind.Nodes = record kinds { nodes = true }
 with_kind kinds kind.Manual = record kinds { manual = true }
 with_kind kinds kind.Forced = record kinds { forced = true }
+with_kind kinds kind.Own = record kinds { own = true }
 
 -- some kind is named
 abbrev pub has_some : Kinds → Bool
-has_some kinds = kinds.degraded || kinds.fibres || kinds.spans || kinds.nodes || kinds.manual || kinds.forced
+has_some kinds = kinds.degraded || kinds.fibres || kinds.spans || kinds.nodes || kinds.manual || kinds.forced || kinds.own
 
 -- failures of the kind are taken: it is named, or none is
 abbrev pub takes : Kinds → Kind → Bool
 takes kinds k = has_kind kinds k || not (has_some kinds)
+
+-- ---- failures of the user's own
+
+-- the texts that come after a word `own`; the first of these words is such a text where `own` comes before it
+abbrev pub texts_behind : Bool → List (List ℕ) → List (List ℕ)
+texts_behind behind [] = []
+texts_behind true (text ∷ more) = text ∷ texts_behind false more
+texts_behind false (word ∷ more) = texts_behind (bytes_eq word (codes "own")) more
+
+-- the texts of the user's own failures, in their order
+abbrev pub own_texts : List (List ℕ) → List (List ℕ)
+own_texts words = texts_behind false words
 
 -- ---- words
 
@@ -112,9 +126,24 @@ with_ask r ask = record r { ask = ask }
 abbrev pub begin_part : AskedSoFar → Option AskedSoFar
 begin_part r = if r.is_parted then None else Some (record r { awaited = awaited.Part; is_parted = true })
 
--- a word that is none of those numbers
+-- a failure of the user's own is asked for; its text comes next
+abbrev pub begin_own : AskedSoFar → AskedSoFar
+begin_own r = record r { awaited = awaited.Own }
+
+-- a word that is no number of a part and no text of a failure of the user's own
 abbrev pub read_any : AskedSoFar → List ℕ → Option AskedSoFar
-read_any r word = if bytes_eq word (codes "part") then begin_part r else option_map (with_ask r) (ask_word r.ask word)
+read_any r word =
+    if bytes_eq word (codes "part") then begin_part r else
+    if bytes_eq word (codes "own") then Some (begin_own r) else option_map (with_ask r) (ask_word r.ask word)
+
+-- one more failure of the user's own is asked for, which is of a kind of its own; what its text names is read with the
+-- plan
+abbrev pub with_own : AskedSoFar → AskedSoFar
+with_own r = record {
+  ask = record r.ask { kinds = with_kind r.ask.kinds kind.Own };
+  awaited = awaited.Any;
+  is_parted = r.is_parted;
+}
 
 abbrev pub with_part : Ask → ℕ → ℕ → Ask
 with_part ask part parts = record ask { part = part; parts = parts }
@@ -135,6 +164,7 @@ abbrev pub read_awaited : Awaited → AskedSoFar → List ℕ → Option AskedSo
 read_awaited awaited.Any r word = read_any r word
 read_awaited awaited.Part r word = read_part r word
 read_awaited awaited.Parts r word = read_parts r word
+read_awaited awaited.Own r word = Some (with_own r)
 
 -- one word more
 abbrev pub read_word : AskedSoFar → List ℕ → Option AskedSoFar
@@ -145,11 +175,12 @@ abbrev pub read_words : AskedSoFar → List (List ℕ) → Option AskedSoFar
 read_words r [] = Some r
 read_words r (word ∷ more) = option_and_then (λ next. read_words next more) (read_word r word)
 
--- no number is missing
+-- no number and no text is missing
 abbrev pub is_whole : Awaited → Bool
 is_whole awaited.Any = true
 is_whole awaited.Part = false
 is_whole awaited.Parts = false
+is_whole awaited.Own = false
 
 -- what each failure alone takes comes in one piece
 abbrev pub may_be_parted : Form → Bool
@@ -162,8 +193,8 @@ may_be_parted form.Summary = false
 abbrev pub finished : AskedSoFar → Option Ask
 finished r = if is_whole r.awaited && (not r.is_parted || may_be_parted r.ask.form) then Some r.ask else None
 
--- What the words ask for: a depth; and after it, in any order, kinds, at most one form, and at most once `part` with
--- the number of a part and of how many.
+-- What the words ask for: a depth; and after it, in any order, kinds, failures of the user's own, at most one form, and
+-- at most once `part` with the number of a part and of how many.
 unfoldable pub asked : List (List ℕ) → Option Ask
 asked [] = None
 asked (word ∷ others) = option_and_then (λ depth. option_and_then finished (read_words (begun depth) others)) (depth_named word)

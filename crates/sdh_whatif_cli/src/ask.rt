@@ -4,6 +4,7 @@ ghost use Rattle.sdh_shell.specs.Calls.{words_of};
 ghost use Rattle.sdh_whatif_cli.specs.Words.{depth_named, kind_named, form_named, no_kinds, has_kind, with_kind, has_some, takes, all_of, begun};
 ghost use Rattle.sdh_whatif_cli.specs.Words.{ask_kind, is_plain, ask_form, ask_word, begin_part, read_any, with_part, read_part, read_parts};
 ghost use Rattle.sdh_whatif_cli.specs.Words.{read_word, read_words, is_whole, may_be_parted, finished, asked, IsPart};
+ghost use Rattle.sdh_whatif_cli.specs.Words.{begin_own, with_own};
 
 use sdh_plan::numeral_in;
 
@@ -30,6 +31,8 @@ pub enum Kind {
     Manual,
     /// A side has a forced switch.
     Forced,
+    /// Failures of the ring come together, as the user names them.
+    Own,
 }
 
 /// The kinds that are named.
@@ -41,6 +44,7 @@ pub struct Kinds {
     pub nodes: bool,
     pub manual: bool,
     pub forced: bool,
+    pub own: bool,
 }
 
 /// The form in which cases are listed.
@@ -70,12 +74,14 @@ pub struct Ask {
 /// What the next word is.
 #[derive(Clone, Copy, Debug, PartialEq, Eq)]
 pub enum Awaited {
-    /// A kind, a form, or `part`.
+    /// A kind, a form, `own` or `part`.
     Any,
     /// The number of the part.
     Part,
     /// The number of parts.
     Parts,
+    /// The text of a failure of the user's own.
+    Own,
 }
 
 /// What the words so far ask for.
@@ -94,11 +100,12 @@ const NO_KINDS: Kinds = Kinds {
     nodes: false,
     manual: false,
     forced: false,
+    own: false,
 };
 
 impl Kinds {
-    // Returns whether the kind is named.
-    fn has(self, kind: Kind) -> bool
+    /// Returns whether the kind is named.
+    pub fn has(self, kind: Kind) -> bool
         ensures { result ≡ has_kind self kind }
     {
         match kind {
@@ -108,6 +115,7 @@ impl Kinds {
             Kind::Nodes => self.nodes,
             Kind::Manual => self.manual,
             Kind::Forced => self.forced,
+            Kind::Own => self.own,
         }
     }
 
@@ -140,6 +148,7 @@ impl Kinds {
                 forced: true,
                 ..self
             },
+            Kind::Own => Kinds { own: true, ..self },
         }
     }
 
@@ -147,7 +156,13 @@ impl Kinds {
     fn has_some(self) -> bool
         ensures { result ≡ has_some self }
     {
-        self.degraded || self.fibres || self.spans || self.nodes || self.manual || self.forced
+        self.degraded
+            || self.fibres
+            || self.spans
+            || self.nodes
+            || self.manual
+            || self.forced
+            || self.own
     }
 
     /// Returns whether failures of the kind are taken: it is named, or none is.
@@ -276,7 +291,34 @@ fn begin_part(so_far: AskedSoFar) -> Option<AskedSoFar>
     })
 }
 
-// Returns what is asked for with a word that is no number of a part.
+// Returns what is asked for with `own`.
+fn begin_own(so_far: AskedSoFar) -> AskedSoFar
+    ensures is { result ≡ begin_own so_far }
+    ensures part { result.ask ≡ so_far.ask }
+{
+    AskedSoFar {
+        awaited: Awaited::Own,
+        ..so_far
+    }
+}
+
+// Returns what is asked for with one more failure of the user's own.
+fn with_own(so_far: AskedSoFar) -> AskedSoFar
+    requires part { IsPart so_far.ask }
+    ensures is { result ≡ with_own so_far }
+    ensures part { IsPart result.ask }
+{
+    AskedSoFar {
+        ask: Ask {
+            kinds: so_far.ask.kinds.with(Kind::Own),
+            ..so_far.ask
+        },
+        awaited: Awaited::Any,
+        is_parted: so_far.is_parted,
+    }
+}
+
+// Returns what is asked for with a word that is no number of a part and no text of a failure.
 fn read_any(so_far: AskedSoFar, word: &str) -> Option<AskedSoFar>
     requires part { IsPart so_far.ask }
     ensures is { result ≡ read_any so_far word.now }
@@ -284,6 +326,9 @@ fn read_any(so_far: AskedSoFar, word: &str) -> Option<AskedSoFar>
 {
     if word == "part" {
         return begin_part(so_far);
+    }
+    if word == "own" {
+        return Some(begin_own(so_far));
     }
     match ask_word(so_far.ask, word) {
         Some(ask) => Some(AskedSoFar { ask, ..so_far }),
@@ -335,6 +380,7 @@ fn read_word(so_far: AskedSoFar, word: &str) -> Option<AskedSoFar>
         Awaited::Any => read_any(so_far, word),
         Awaited::Part => read_part(so_far, word),
         Awaited::Parts => read_parts(so_far, word),
+        Awaited::Own => Some(with_own(so_far)),
     }
 }
 
@@ -354,13 +400,13 @@ fn read_words(start: AskedSoFar, words: &[String]) -> Option<AskedSoFar>
     Some(so_far)
 }
 
-// Returns whether no number is missing.
+// Returns whether no number and no text is missing.
 fn is_whole(awaited: Awaited) -> bool
     ensures { result ≡ is_whole awaited }
 {
     match awaited {
         Awaited::Any => true,
-        Awaited::Part | Awaited::Parts => false,
+        Awaited::Part | Awaited::Parts | Awaited::Own => false,
     }
 }
 

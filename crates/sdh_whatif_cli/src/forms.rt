@@ -12,6 +12,15 @@ pub struct Entry {
     pub number: usize,
 }
 
+/// The three digits of a case's number: 0 is nothing, and the others are failures, first those of the ring, then the
+/// user's own.
+#[derive(Clone, Copy, Debug, PartialEq, Eq)]
+pub struct Digits {
+    pub first: usize,
+    pub second: usize,
+    pub third: usize,
+}
+
 /// Returns whether cases are listed in lines of JSON, and not in records of the table.
 pub fn is_json(form: Form) -> bool
     ensures { result ≡ is_json form }
@@ -25,7 +34,7 @@ pub fn is_json(form: Form) -> bool
 /// Appends the one text in JSON, and the other in the table.
 pub fn put_either(line: &mut Line, form: Form, json: &[u8], table: &[u8])
     requires short { (length json.now ≤ 13) × (length table.now ≤ 13) }
-    requires room { length line.old + 13 ≤ 8192 }
+    requires room { length line.old + 13 ≤ 20480 }
     ensures text { line.new ≡ line.old ++ either form json.now table.now }
     ensures short { length line.new ≤ length line.old + 13 }
 {
@@ -39,7 +48,7 @@ pub fn put_either(line: &mut Line, form: Form, json: &[u8], table: &[u8])
 /// Appends what parts the text of this number from the one before it; nothing before the first.
 pub fn put_between(line: &mut Line, form: Form, json: &[u8], table: &[u8], i: usize)
     requires short { (length json.now ≤ 13) × (length table.now ≤ 13) }
-    requires room { length line.old + 13 ≤ 8192 }
+    requires room { length line.old + 13 ≤ 20480 }
     ensures text { line.new ≡ line.old ++ (if i == 0 then [] else either form json.now table.now) }
     ensures short { length line.new ≤ length line.old + 13 }
 {

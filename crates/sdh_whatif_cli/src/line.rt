@@ -6,7 +6,7 @@ use std::alloc::{AllocError, Global};
 use std::marker::Model;
 
 /// Room for any one line, in bytes.
-pub const LINE_ROOM: usize = 8192;
+pub const LINE_ROOM: usize = 20480;
 
 /// The bytes of a line. Its room is reserved when it is made, so no part of a line takes memory.
 #[derive(Drop)]
@@ -21,7 +21,7 @@ impl Model for Line {
 
     ghost view = { λ l. l.bytes.items };
 
-    ghost invariant = { λ l. 8192 ≤ vec_capacity l.bytes };
+    ghost invariant = { λ l. 20480 ≤ vec_capacity l.bytes };
 }
 
 impl Line {
@@ -50,7 +50,7 @@ impl Line {
 
     /// Appends a part.
     pub fn put(&mut self, part: &[u8])
-        requires { length self.old + length part.now ≤ 8192 }
+        requires { length self.old + length part.now ≤ 20480 }
         ensures { self.new ≡ self.old ++ part.now }
     {
         self.bytes.extend_from_slice(part).unwrap();
@@ -58,7 +58,7 @@ impl Line {
 
     /// Appends a number in decimal.
     pub fn put_number(&mut self, number: u64)
-        requires { length self.old + length (decimal number) ≤ 8192 }
+        requires { length self.old + length (decimal number) ≤ 20480 }
         ensures { self.new ≡ self.old ++ decimal number }
     {
         let mut buffer = Buffer::new();
@@ -67,7 +67,7 @@ impl Line {
 
     /// Appends a number of any size in decimal.
     pub fn put_long(&mut self, number: u64)
-        requires room { length self.old + 20 ≤ 8192 }
+        requires room { length self.old + 20 ≤ 20480 }
         ensures text { self.new ≡ self.old ++ decimal number }
         ensures short { length self.new ≤ length self.old + 20 }
     {
@@ -76,7 +76,7 @@ impl Line {
 
     /// Appends a small number in decimal.
     pub fn put_small(&mut self, number: u16)
-        requires room { length self.old + 5 ≤ 8192 }
+        requires room { length self.old + 5 ≤ 20480 }
         ensures text { self.new ≡ self.old ++ decimal number }
         ensures short { length self.new ≤ length self.old + 5 }
     {

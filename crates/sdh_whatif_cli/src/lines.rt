@@ -5,11 +5,12 @@ ghost use Rattle.sdh_verdicts.specs.declared.failure.Failure.{Failure};
 ghost use Rattle.sdh_verdicts.specs.Failures.{IsFailureIn};
 ghost use Rattle.sdh_verdicts.specs.Verdicts.{AreSidesOf};
 ghost use Rattle.sdh_whatif_cli.specs.Counting.{AreSpansOf};
+ghost use Rattle.sdh_whatif_cli.specs.Cases.{AreSmall};
 ghost use Rattle.sdh_whatif_cli.specs.Lines.{spans_text, case_text, counts_text, fate_cell, before_fate, fate_text, fates_text, line_text, head_record};
 
 use crate::ask::Form;
 use crate::counting::{Counts, Fate, counts_of, fate_of};
-use crate::forms::{Entry, is_json, put_between, put_either};
+use crate::forms::{Digits, Entry, is_json, put_between, put_either};
 use crate::line::Line;
 use crate::names::{put_names, put_script, put_span_name};
 use sdh_plan::Plan;
@@ -21,7 +22,7 @@ use sdh_verdicts::{CaseSpans, Failure, Sides, told_hops};
 // Appends the applied spans.
 fn put_spans(line: &mut Line, form: Form, plan: &Plan, spans: &CaseSpans)
     requires case { (case : List Failure) × AreSpansOf plan.now case spans.now }
-    requires room { length line.old + 704 ≤ 8192 }
+    requires room { length line.old + 704 ≤ 20480 }
     ensures text { (case : List Failure) → AreSpansOf plan.now case spans.now → line.new ≡ line.old ++ spans_text form plan.now case }
     ensures short { length line.new ≤ length line.old + 704 }
 {
@@ -32,26 +33,34 @@ fn put_spans(line: &mut Line, form: Form, plan: &Plan, spans: &CaseSpans)
     }
 }
 
+/// A case: the digits that name it, and its failures.
+#[derive(Clone, Copy)]
+pub struct Case<'a> {
+    pub digits: Digits,
+    pub failures: &'a [Failure],
+}
+
 // Appends the number of a case, its failures, its steps and its applied spans.
-fn put_case(line: &mut Line, plan: &Plan, spans: &CaseSpans, entry: Entry, case: &[Failure])
-    requires case { All (IsFailureIn (length plan.now.nodes)) case.now }
-    requires few { length case.now ≤ 3 }
-    requires spans { AreSpansOf plan.now case.now spans.now }
-    requires room { length line.old + 1700 ≤ 8192 }
-    ensures text { line.new ≡ line.old ++ case_text entry.form plan.now entry.number case.now }
-    ensures short { length line.new ≤ length line.old + 1700 }
+fn put_case(line: &mut Line, plan: &Plan, spans: &CaseSpans, entry: Entry, case: Case<'_>)
+    requires case { All (IsFailureIn (length plan.now.nodes)) case.failures.now }
+    requires few { length case.failures.now ≤ 48 }
+    requires digits { AreSmall (length plan.now.nodes) case.digits }
+    requires spans { AreSpansOf plan.now case.failures.now spans.now }
+    requires room { length line.old + 12500 ≤ 20480 }
+    ensures text { line.new ≡ line.old ++ case_text entry.form plan.now entry.number case.entry.digits case.entry.failures.now }
+    ensures short { length line.new ≤ length line.old + 12500 }
 {
     put_either(line, entry.form, b"{\"number\":", b"");
     line.put_long(entry.number as u64);
     put_either(line, entry.form, b",\"failures\":[", b",");
-    put_names(line, entry.form, plan.map(), case);
+    put_names(line, entry.form, plan.map(), case.digits);
     put_either(line, entry.form, b"],\"steps\":[", b",\"");
     put_script(
         line,
         entry.form,
         plan.map(),
         plan.settings().threshold,
-        case,
+        case.failures,
     );
     put_either(line, entry.form, b"],\"applied\":[", b"\",");
     put_spans(line, entry.form, plan, spans);
@@ -62,7 +71,7 @@ fn put_case(line: &mut Line, plan: &Plan, spans: &CaseSpans, entry: Entry, case:
 
 // Counts of circuits, and the longest way.
 fn put_counts(line: &mut Line, form: Form, counts: Counts)
-    requires room { length line.old + 90 ≤ 8192 }
+    requires room { length line.old + 90 ≤ 20480 }
     ensures text { line.new ≡ line.old ++ counts_text form counts }
     ensures short { length line.new ≤ length line.old + 90 }
 {
@@ -82,7 +91,7 @@ fn put_counts(line: &mut Line, form: Form, counts: Counts)
 
 // Appends what becomes of a circuit whose bytes go over `hops` spans.
 fn put_cell(line: &mut Line, form: Form, fate: Fate, hops: u8)
-    requires room { length line.old + 13 ≤ 8192 }
+    requires room { length line.old + 13 ≤ 20480 }
     ensures text { line.new ≡ line.old ++ fate_cell form fate hops }
     ensures short { length line.new ≤ length line.old + 13 }
 {
@@ -97,7 +106,7 @@ fn put_cell(line: &mut Line, form: Form, fate: Fate, hops: u8)
 // Appends what stands before the fate of a circuit, where the circuit has this name.
 fn put_before(line: &mut Line, form: Form, name: &[u8])
     requires name { length name.now ≤ 16 }
-    requires room { length line.old + 19 ≤ 8192 }
+    requires room { length line.old + 19 ≤ 20480 }
     ensures text { line.new ≡ line.old ++ before_fate form name.now }
     ensures short { length line.new ≤ length line.old + 19 }
 {
@@ -114,7 +123,7 @@ fn put_before(line: &mut Line, form: Form, name: &[u8])
 fn put_fate(line: &mut Line, form: Form, plan: &Plan, spans: &CaseSpans, number: u8)
     requires number { number < length plan.now.circuits }
     requires case { (case : List Failure) × AreSpansOf plan.now case spans.now }
-    requires room { length line.old + 32 ≤ 8192 }
+    requires room { length line.old + 32 ≤ 20480 }
     ensures text { (case : List Failure) (c : Provisioned) → AreSpansOf plan.now case spans.now
         → slice_get plan.now.circuits number ≡ Some c → line.new ≡ line.old ++ fate_text form plan.now case c }
     ensures short { length line.new ≤ length line.old + 32 }
@@ -128,7 +137,7 @@ fn put_fate(line: &mut Line, form: Form, plan: &Plan, spans: &CaseSpans, number:
 // Appends the fields of all circuits.
 fn put_fates(line: &mut Line, form: Form, plan: &Plan, spans: &CaseSpans)
     requires case { (case : List Failure) × AreSpansOf plan.now case spans.now }
-    requires room { length line.old + 5760 ≤ 8192 }
+    requires room { length line.old + 5760 ≤ 20480 }
     ensures text { (case : List Failure) → AreSpansOf plan.now case spans.now → line.new ≡ line.old ++ fates_text form plan.now case }
     ensures short { length line.new ≤ length line.old + 5760 }
 {
@@ -141,14 +150,15 @@ fn put_fates(line: &mut Line, form: Form, plan: &Plan, spans: &CaseSpans)
 // ---- lines
 
 /// Appends the line of a case, in a form and with the number that it has among those that are listed.
-pub fn put_line(line: &mut Line, plan: &Plan, sides: &Sides<'_>, entry: Entry, case: &[Failure])
+pub fn put_line(line: &mut Line, plan: &Plan, sides: &Sides<'_>, entry: Entry, case: Case<'_>)
     requires sides { AreSidesOf plan.now sides.now }
-    requires case { All (IsFailureIn (length plan.now.nodes)) case.now }
-    requires few { length case.now ≤ 3 }
+    requires case { All (IsFailureIn (length plan.now.nodes)) case.failures.now }
+    requires few { length case.failures.now ≤ 48 }
+    requires digits { AreSmall (length plan.now.nodes) case.digits }
     requires empty { line.old ≡ [] }
-    ensures { line.new ≡ line_text plan.now case.now entry }
+    ensures { line.new ≡ line_text plan.now case.entry.digits case.entry.failures.now entry }
 {
-    let spans = sides.spans(case);
+    let spans = sides.spans(case.failures);
     put_case(line, plan, &spans, entry, case);
     put_counts(line, entry.form, counts_of(plan, &spans));
     put_either(line, entry.form, b",\"circuits\":{", b"");
@@ -159,7 +169,7 @@ pub fn put_line(line: &mut Line, plan: &Plan, sides: &Sides<'_>, entry: Entry, c
 // Appends the name of a circuit, by its number, after a comma.
 fn put_circuit(line: &mut Line, plan: &Plan, number: u8)
     requires number { number < length plan.now.circuits }
-    requires room { length line.old + 17 ≤ 8192 }
+    requires room { length line.old + 17 ≤ 20480 }
     ensures text { (c : Provisioned) → slice_get plan.now.circuits number ≡ Some c → line.new ≡ line.old ++ (codes "," ++ c.name) }
     ensures short { length line.new ≤ length line.old + 17 }
 {

@@ -1,26 +1,28 @@
 //! Names of failures and spans, and steps.
-ghost use Rattle.std.specs.Prelude.{◌≡◌, ◌+◌, ◌<◌, ◌≤◌, ◌++◌, List, All, [], codes, length, slice_get};
+ghost use Rattle.std.specs.Prelude.{◌≡◌, ℕ, ◌+◌, ◌<◌, ◌≤◌, ◌++◌, List, All, [], codes, length, slice_get};
 ghost use Rattle.std.specs.List.{flat_map};
 ghost use Rattle.std.specs.Option.{option_map_or};
 ghost use Rattle.sdh_report.specs.Lines.{side_text};
 ghost use Rattle.sdh_verdicts.specs.declared.failure.Failure.{Failure};
 ghost use Rattle.sdh_verdicts.specs.Failures.{IsFailureIn, steps_of, case_steps};
+ghost use Rattle.sdh_whatif_cli.specs.Cases.{IsSmall, AreSmall};
 ghost use Rattle.sdh_whatif_cli.specs.Lines.{id_text, toward_text, span_text, failure_text, place_text, fibre_text, order_text, IsAt};
-ghost use Rattle.sdh_whatif_cli.specs.Lines.{step_text, step_quote, name_text, names_text, step_part, span_part};
+ghost use Rattle.sdh_whatif_cli.specs.Lines.{step_text, step_quote, either, joined, digit_text, name_text, digit_names, names_text, step_part};
+ghost use Rattle.sdh_whatif_cli.specs.Lines.{span_part};
 
 use crate::ask::Form;
-use crate::forms::{put_between, put_either};
+use crate::forms::{Digits, put_between, put_either};
 use crate::line::Line;
 use sdh_plan::Step;
 use sdh_request::Command;
 use sdh_ringmap::{Pos, RingMap, Side};
 use sdh_terms::Condition;
-use sdh_verdicts::{Failure, step_of};
+use sdh_verdicts::{Failure, failure_at, step_of};
 
 // Appends the identifier of a node.
 fn put_id(line: &mut Line, map: &RingMap, at: Pos)
     requires at { at.0 < length map.now }
-    requires room { length line.old + 2 ≤ 8192 }
+    requires room { length line.old + 2 ≤ 20480 }
     ensures text { line.new ≡ line.old ++ id_text map.now at.0 }
     ensures short { length line.new ≤ length line.old + 2 }
 {
@@ -29,7 +31,7 @@ fn put_id(line: &mut Line, map: &RingMap, at: Pos)
 
 // Appends a side.
 fn put_side(line: &mut Line, side: Side)
-    requires room { length line.old + 4 ≤ 8192 }
+    requires room { length line.old + 4 ≤ 20480 }
     ensures text { line.new ≡ line.old ++ side_text side }
     ensures short { length line.new ≤ length line.old + 4 }
 {
@@ -45,7 +47,7 @@ fn put_side(line: &mut Line, side: Side)
 fn put_toward(line: &mut Line, map: &RingMap, kind: &[u8], at: Pos, side: Side)
     requires at { at.0 < length map.now }
     requires kind { length kind.now ≤ 9 }
-    requires room { length line.old + 14 ≤ 8192 }
+    requires room { length line.old + 14 ≤ 20480 }
     ensures text { line.new ≡ line.old ++ kind.now ++ toward_text map.now at side }
     ensures short { length line.new ≤ length line.old + 14 }
 {
@@ -58,7 +60,7 @@ fn put_toward(line: &mut Line, map: &RingMap, kind: &[u8], at: Pos, side: Side)
 // Appends a span.
 fn put_span(line: &mut Line, map: &RingMap, at: Pos)
     requires at { at.0 < length map.now }
-    requires room { length line.old + 5 ≤ 8192 }
+    requires room { length line.old + 5 ≤ 20480 }
     ensures text { line.new ≡ line.old ++ span_text map.now at.0 }
     ensures short { length line.new ≤ length line.old + 5 }
 {
@@ -67,10 +69,10 @@ fn put_span(line: &mut Line, map: &RingMap, at: Pos)
     put_id(line, map, map.step(at, Side::East));
 }
 
-// Appends the name of a failure.
-fn put_failure_name(line: &mut Line, map: &RingMap, failure: Failure)
+/// Appends the name of a failure of the ring.
+pub fn put_failure_name(line: &mut Line, map: &RingMap, failure: Failure)
     requires failure { IsFailureIn (length map.now) failure }
-    requires room { length line.old + 14 ≤ 8192 }
+    requires room { length line.old + 14 ≤ 20480 }
     ensures text { line.new ≡ line.old ++ failure_text map.now failure }
     ensures short { length line.new ≤ length line.old + 14 }
 {
@@ -90,36 +92,73 @@ fn put_failure_name(line: &mut Line, map: &RingMap, failure: Failure)
     }
 }
 
-// Appends the name of a failure, with what stands around it.
-fn put_name(line: &mut Line, form: Form, map: &RingMap, failure: Failure)
-    requires failure { IsFailureIn (length map.now) failure }
-    requires room { length line.old + 40 ≤ 8192 }
-    ensures text { line.new ≡ line.old ++ name_text form map.now failure }
+// Appends the name of a digit that isn't nothing: that of a failure of the ring, or of one of the user's own.
+fn put_digit(line: &mut Line, map: &RingMap, digit: usize)
+    requires from_1 { 1 ≤ digit }
+    requires small { IsSmall (length map.now) digit }
+    requires room { length line.old + 14 ≤ 20480 }
+    ensures text { line.new ≡ line.old ++ digit_text map.now digit }
+    ensures short { length line.new ≤ length line.old + 14 }
+{
+    let nodes = map.len();
+    if digit <= 10 * nodes {
+        put_failure_name(line, map, failure_at(nodes, digit - 1));
+    } else {
+        line.put(b"own ");
+        line.put_small((digit - 10 * nodes) as u16);
+    }
+}
+
+// Appends the name of a digit, with what stands around it.
+fn put_name(line: &mut Line, form: Form, map: &RingMap, digit: usize)
+    requires from_1 { 1 ≤ digit }
+    requires small { IsSmall (length map.now) digit }
+    requires room { length line.old + 40 ≤ 20480 }
+    ensures text { line.new ≡ line.old ++ name_text form map.now digit }
     ensures short { length line.new ≤ length line.old + 40 }
 {
     put_either(line, form, b"\"", b"");
-    put_failure_name(line, map, failure);
+    put_digit(line, map, digit);
     put_either(line, form, b"\"", b"");
 }
 
 /// Appends the names of a case's failures.
-pub fn put_names(line: &mut Line, form: Form, map: &RingMap, case: &[Failure])
-    requires case { All (IsFailureIn (length map.now)) case.now }
-    requires few { length case.now ≤ 3 }
-    requires room { length line.old + 159 ≤ 8192 }
-    ensures text { line.new ≡ line.old ++ names_text form map.now case.now }
+pub fn put_names(line: &mut Line, form: Form, map: &RingMap, digits: Digits)
+    requires small { AreSmall (length map.now) digits }
+    requires room { length line.old + 159 ≤ 20480 }
+    ensures text { line.new ≡ line.old ++ names_text form map.now digits }
     ensures short { length line.new ≤ length line.old + 159 }
 {
-    for i in 0..case.len() {
-        put_between(line, form, b",", b" + ", i);
-        put_name(line, form, map, case[i]);
+    let named = put_named(line, form, map, digits.first, 0);
+    let named = put_named(line, form, map, digits.second, named);
+    put_named(line, form, map, digits.third, named);
+}
+
+// Appends the name of a digit after `named` others, or nothing where the digit is nothing, and returns how many names
+// there are then.
+fn put_named(line: &mut Line, form: Form, map: &RingMap, digit: usize, named: usize) -> usize
+    requires small { IsSmall (length map.now) digit }
+    requires few { named ≤ 2 }
+    requires room { length line.old + 53 ≤ 20480 }
+    ensures count { result ≡ named + length (digit_names form map.now digit) }
+    ensures few { result ≤ named + 1 }
+    ensures text { (start : List ℕ) (texts : List (List ℕ)) → length texts ≡ named
+        → line.old ≡ start ++ joined (either form (codes ",") (codes " + ")) texts
+        → line.new ≡ start ++ joined (either form (codes ",") (codes " + ")) (texts ++ digit_names form map.now digit) }
+    ensures short { length line.new ≤ length line.old + 53 }
+{
+    if digit == 0 {
+        return named;
     }
+    put_between(line, form, b",", b" + ", named);
+    put_name(line, form, map, digit);
+    named + 1
 }
 
 /// Appends a span, with what stands around it.
 pub fn put_span_name(line: &mut Line, form: Form, map: &RingMap, at: Pos)
     requires at { at.0 < length map.now }
-    requires room { length line.old + 31 ≤ 8192 }
+    requires room { length line.old + 31 ≤ 20480 }
     ensures text { line.new ≡ line.old ++ span_part form map.now at.0 }
     ensures short { length line.new ≤ length line.old + 31 }
 {
@@ -134,7 +173,7 @@ pub fn put_span_name(line: &mut Line, form: Form, map: &RingMap, at: Pos)
 fn put_place(line: &mut Line, map: &RingMap, verb: &[u8], at: Pos, side: Side)
     requires at { at.0 < length map.now }
     requires verb { length verb.now ≤ 8 }
-    requires room { length line.old + 15 ≤ 8192 }
+    requires room { length line.old + 15 ≤ 20480 }
     ensures text { line.new ≡ line.old ++ place_text map.now verb.now at side }
     ensures short { length line.new ≤ length line.old + 15 }
 {
@@ -147,7 +186,7 @@ fn put_place(line: &mut Line, map: &RingMap, verb: &[u8], at: Pos, side: Side)
 // Appends a condition of a fibre.
 fn put_fibre(line: &mut Line, map: &RingMap, at: Pos, side: Side, condition: Condition)
     requires at { at.0 < length map.now }
-    requires room { length line.old + 21 ≤ 8192 }
+    requires room { length line.old + 21 ≤ 20480 }
     ensures text { line.new ≡ line.old ++ fibre_text map.now at side condition }
     ensures short { length line.new ≤ length line.old + 21 }
 {
@@ -165,7 +204,7 @@ fn put_fibre(line: &mut Line, map: &RingMap, at: Pos, side: Side, condition: Con
 // Appends a command.
 fn put_order(line: &mut Line, map: &RingMap, at: Pos, side: Side, command: Command)
     requires at { at.0 < length map.now }
-    requires room { length line.old + 15 ≤ 8192 }
+    requires room { length line.old + 15 ≤ 20480 }
     ensures text { line.new ≡ line.old ++ order_text map.now at side command }
     ensures short { length line.new ≤ length line.old + 15 }
 {
@@ -179,7 +218,7 @@ fn put_order(line: &mut Line, map: &RingMap, at: Pos, side: Side, command: Comma
 // Appends the words of a step.
 fn put_words(line: &mut Line, map: &RingMap, step: Step)
     requires at { IsAt (length map.now) step }
-    requires room { length line.old + 21 ≤ 8192 }
+    requires room { length line.old + 21 ≤ 20480 }
     ensures text { line.new ≡ line.old ++ step_text map.now step }
     ensures short { length line.new ≤ length line.old + 21 }
 {
@@ -193,7 +232,7 @@ fn put_words(line: &mut Line, map: &RingMap, step: Step)
 // Appends a step, and what parts it from the next.
 fn put_step(line: &mut Line, form: Form, map: &RingMap, step: Step)
     requires at { IsAt (length map.now) step }
-    requires room { length line.old + 60 ≤ 8192 }
+    requires room { length line.old + 60 ≤ 20480 }
     ensures text { line.new ≡ line.old ++ step_part form map.now step }
     ensures short { length line.new ≤ length line.old + 60 }
 {
@@ -213,7 +252,7 @@ fn put_step_at(
     i: usize,
 )
     requires failure { IsFailureIn (length map.now) failure }
-    requires room { length line.old + 60 ≤ 8192 }
+    requires room { length line.old + 60 ≤ 20480 }
     ensures text { line.new ≡ line.old
         ++ option_map_or (step_part form map.now) (slice_get (steps_of (length map.now) threshold failure) i) [] }
     ensures short { length line.new ≤ length line.old + 60 }
@@ -226,7 +265,7 @@ fn put_step_at(
 // Appends the steps of a failure, each with what parts it from the next.
 fn put_failure(line: &mut Line, form: Form, map: &RingMap, threshold: u16, failure: Failure)
     requires failure { IsFailureIn (length map.now) failure }
-    requires room { length line.old + 240 ≤ 8192 }
+    requires room { length line.old + 240 ≤ 20480 }
     ensures text { line.new ≡ line.old ++ flat_map (step_part form map.now) (steps_of (length map.now) threshold failure) }
     ensures short { length line.new ≤ length line.old + 240 }
 {
@@ -239,10 +278,10 @@ fn put_failure(line: &mut Line, form: Form, map: &RingMap, threshold: u16, failu
 // Appends the steps of a case.
 fn put_steps(line: &mut Line, form: Form, map: &RingMap, threshold: u16, case: &[Failure])
     requires case { All (IsFailureIn (length map.now)) case.now }
-    requires few { length case.now ≤ 3 }
-    requires room { length line.old + 720 ≤ 8192 }
+    requires few { length case.now ≤ 48 }
+    requires room { length line.old + 11520 ≤ 20480 }
     ensures text { line.new ≡ line.old ++ flat_map (step_part form map.now) (case_steps (length map.now) threshold case.now) }
-    ensures short { length line.new ≤ length line.old + 720 }
+    ensures short { length line.new ≤ length line.old + 11520 }
 {
     for failure in case {
         put_failure(line, form, map, threshold, *failure);
@@ -252,11 +291,11 @@ fn put_steps(line: &mut Line, form: Form, map: &RingMap, threshold: u16, case: &
 /// Appends the steps of a case, and the settle step after them.
 pub fn put_script(line: &mut Line, form: Form, map: &RingMap, threshold: u16, case: &[Failure])
     requires case { All (IsFailureIn (length map.now)) case.now }
-    requires few { length case.now ≤ 3 }
-    requires room { length line.old + 752 ≤ 8192 }
+    requires few { length case.now ≤ 48 }
+    requires room { length line.old + 11552 ≤ 20480 }
     ensures text { line.new ≡ line.old ++ (flat_map (step_part form map.now) (case_steps (length map.now) threshold case.now)
         ++ step_quote form ++ codes "settle" ++ step_quote form) }
-    ensures short { length line.new ≤ length line.old + 752 }
+    ensures short { length line.new ≤ length line.old + 11552 }
 {
     put_steps(line, form, map, threshold, case);
     put_either(line, form, b"\"", b"\"\"");

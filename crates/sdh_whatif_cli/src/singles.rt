@@ -2,10 +2,13 @@
 ghost use Rattle.std.specs.Prelude.{◌≡◌, ◌+◌, ◌*◌, ◌<◌, ◌≤◌, ◌++◌, codes, decimal, length, []};
 ghost use Rattle.sdh_verdicts.specs.Verdicts.{AreSidesOf};
 ghost use Rattle.sdh_whatif_cli.specs.Singles.{with_case, tallied, tally_of, kind_text, tally_record, first_of, number_of, kind_record, singles_text};
+ghost use Rattle.sdh_whatif_cli.specs.Singles.{own_tally, own_record};
+ghost use Rattle.sdh_whatif_cli.specs.Scenes.{IsScene};
 
 use crate::ask::{Kind, Kinds};
 use crate::counting::counts_of;
 use crate::line::Line;
+use crate::scene::Scene;
 use sdh_plan::Plan;
 use sdh_verdicts::{Sides, failure_at};
 
@@ -65,7 +68,7 @@ fn tally_of(plan: &Plan, sides: &Sides<'_>, from: usize, count: usize) -> Tally
 
 // Appends a number after a comma.
 fn put_field(line: &mut Line, number: u8)
-    requires room { length line.old + 6 ≤ 8192 }
+    requires room { length line.old + 6 ≤ 20480 }
     ensures text { line.new ≡ line.old ++ codes "," ++ decimal number }
     ensures short { length line.new ≤ length line.old + 6 }
 {
@@ -75,7 +78,7 @@ fn put_field(line: &mut Line, number: u8)
 
 // Appends the word of a kind.
 fn put_kind(line: &mut Line, kind: Kind)
-    requires room { length line.old + 8 ≤ 8192 }
+    requires room { length line.old + 8 ≤ 20480 }
     ensures text { line.new ≡ line.old ++ kind_text kind }
     ensures short { length line.new ≤ length line.old + 8 }
 {
@@ -86,12 +89,13 @@ fn put_kind(line: &mut Line, kind: Kind)
         Kind::Nodes => line.put(b"nodes"),
         Kind::Manual => line.put(b"manual"),
         Kind::Forced => line.put(b"forced"),
+        Kind::Own => line.put(b"own"),
     }
 }
 
 // Appends the record of some failures.
 fn put_tally(line: &mut Line, kind: Kind, tally: Tally)
-    requires room { length line.old + 28 ≤ 8192 }
+    requires room { length line.old + 28 ≤ 20480 }
     ensures text { line.new ≡ line.old ++ tally_record kind tally }
     ensures short { length line.new ≤ length line.old + 28 }
 {
@@ -117,13 +121,14 @@ fn numbers_of(nodes: usize, kind: Kind) -> (usize, usize)
         Kind::Nodes => (5 * nodes, nodes),
         Kind::Manual => (6 * nodes, 2 * nodes),
         Kind::Forced => (8 * nodes, 2 * nodes),
+        Kind::Own => (0, 0),
     }
 }
 
 // Appends the record of a kind, where it is taken.
 fn put_record(line: &mut Line, plan: &Plan, sides: &Sides<'_>, kinds: Kinds, kind: Kind)
     requires sides { AreSidesOf plan.now sides.now }
-    requires room { length line.old + 28 ≤ 8192 }
+    requires room { length line.old + 28 ≤ 20480 }
     ensures text { line.new ≡ line.old ++ kind_record plan.now kinds kind }
     ensures short { length line.new ≤ length line.old + 28 }
 {
@@ -133,12 +138,43 @@ fn put_record(line: &mut Line, plan: &Plan, sides: &Sides<'_>, kinds: Kinds, kin
     }
 }
 
-/// Appends the records of all single failures, kind by kind.
-pub fn put_singles(line: &mut Line, plan: &Plan, sides: &Sides<'_>, kinds: Kinds)
-    requires sides { AreSidesOf plan.now sides.now }
-    requires empty { line.old ≡ [] }
-    ensures { line.new ≡ singles_text plan.now kinds }
+// Returns the tally of the user's own failures.
+fn own_tally(scene: &Scene<'_>) -> Tally
+    requires scene { IsScene scene.now }
+    ensures { result ≡ own_tally scene.now.plan.now scene.now.own.now (length scene.now.own.now) }
 {
+    let mut tally = Tally {
+        cases: 0,
+        losing: 0,
+        most: 0,
+    };
+    for k in 0..scene.own.len() {
+        let spans = scene.sides.spans(scene.own.list(k));
+        tally = with_case(counts_of(scene.plan, &spans).lost, tally);
+    }
+    tally
+}
+
+// Appends the record of the user's own failures, where there are some.
+fn put_own(line: &mut Line, scene: &Scene<'_>, kinds: Kinds)
+    requires scene { IsScene scene.now }
+    requires room { length line.old + 28 ≤ 20480 }
+    ensures text { line.new ≡ line.old ++ own_record scene.now.plan.now scene.now.own.now kinds }
+    ensures short { length line.new ≤ length line.old + 28 }
+{
+    if kinds.has(Kind::Own) {
+        put_tally(line, Kind::Own, own_tally(scene));
+    }
+}
+
+/// Appends the records of all single failures, kind by kind.
+pub fn put_singles(line: &mut Line, scene: &Scene<'_>, kinds: Kinds)
+    requires scene { IsScene scene.now }
+    requires empty { line.old ≡ [] }
+    ensures { line.new ≡ singles_text scene.now.plan.now scene.now.own.now kinds }
+{
+    let plan = scene.plan;
+    let sides = scene.sides;
     line.put(b"kind,cases,losing,most\r\n");
     put_record(line, plan, sides, kinds, Kind::Degraded);
     put_record(line, plan, sides, kinds, Kind::Fibres);
@@ -146,4 +182,5 @@ pub fn put_singles(line: &mut Line, plan: &Plan, sides: &Sides<'_>, kinds: Kinds
     put_record(line, plan, sides, kinds, Kind::Nodes);
     put_record(line, plan, sides, kinds, Kind::Manual);
     put_record(line, plan, sides, kinds, Kind::Forced);
+    put_own(line, scene, kinds);
 }

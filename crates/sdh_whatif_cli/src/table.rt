@@ -1,32 +1,46 @@
 //! The table, a line for each case.
-ghost use Rattle.std.specs.Prelude.{◌≡◌, ◌*◌, ◌<◌, ◌≤◌, All, [], length};
+ghost use Rattle.std.specs.Prelude.{◌≡◌, ◌+◌, ◌*◌, ◌<◌, ◌≤◌, ◌++◌, All, [], length};
 ghost use Rattle.std.specs.Option.{option_map_or};
 ghost use Rattle.sdh_plan.specs.Planned.{Planned};
 ghost use Rattle.sdh_verdicts.specs.Failures.{IsFailureIn};
 ghost use Rattle.sdh_verdicts.specs.Verdicts.{AreSidesOf};
 ghost use Rattle.sdh_whatif_cli.specs.Words.{IsPart};
-ghost use Rattle.sdh_whatif_cli.specs.Cases.{base, numbers_of, first, second, third, goes_before, failures_of, kind_of, is_taken, are_told};
-ghost use Rattle.sdh_whatif_cli.specs.Cases.{case_at, is_told, entry_of};
+ghost use Rattle.sdh_whatif_cli.specs.Cases.{base, numbers_of, digits_of, goes_before, failures_at, failures_of, kind_of, is_ring_taken};
+ghost use Rattle.sdh_whatif_cli.specs.Cases.{is_taken, are_told, entry_of, AreSmall, AreOwn};
 ghost use Rattle.sdh_whatif_cli.specs.Lines.{line_text, cases_text, head_record, table_text};
 ghost use Rattle.sdh_whatif_cli.specs.Singles.{singles_text};
+ghost use Rattle.sdh_whatif_cli.specs.Scenes.{IsScene};
 ghost use Rattle.sdh_shell.specs.Writing.{Wrote};
 
 use crate::ask::{Ask, Depth, Form, Kind};
-use crate::forms::Entry;
+use crate::forms::{Digits, Entry};
+use crate::gathered::Gathered;
 use crate::line::Line;
-use crate::lines::{put_head, put_line};
+use crate::lines::{Case, put_head, put_line};
+use crate::own::OwnFailures;
+use crate::scene::Scene;
 use crate::singles::put_singles;
 use sdh_outside::{Sink, WriteFault};
 use sdh_plan::Plan;
 use sdh_shell::Output;
 use sdh_verdicts::{Failure, Sides, failure_at};
 
-// Returns how many numbers there are.
-fn numbers_of(nodes: usize, depth: Depth) -> usize
-    requires few { nodes ≤ 16 }
-    ensures { result ≡ numbers_of nodes depth }
+// Returns the base of the numbers of cases, with `own` failures of the user's own.
+fn base(nodes: usize, own: usize) -> usize
+    requires nodes { nodes ≤ 16 }
+    requires own { own ≤ 16 }
+    ensures is { result ≡ base nodes own }
+    ensures from_1 { 1 ≤ result }
+    ensures small { result ≤ 177 }
 {
-    let base = 10 * nodes + 1;
+    10 * nodes + 1 + own
+}
+
+// Returns how many numbers there are.
+fn numbers_of(base: usize, depth: Depth) -> usize
+    requires small { base ≤ 177 }
+    ensures { result ≡ numbers_of base depth }
+{
     match depth {
         Depth::Single => base,
         Depth::Double => base * base,
@@ -55,61 +69,56 @@ fn kind_of(failure: Failure) -> Kind
     }
 }
 
-// Returns whether a digit is nothing, or its failure is of a kind that is taken and would mend nothing that the script
-// has set.
+// Returns whether a failure of the ring is of a kind that is taken and would mend nothing that the script has set.
+fn is_ring_taken(sides: &Sides<'_>, ask: Ask, failure: Failure) -> bool
+    requires sides { length sides.now.rests.items ≡ 2 * length sides.now.map.now }
+    requires failure { IsFailureIn (length sides.now.map.now) failure }
+    ensures { (plan : Planned) → AreSidesOf plan sides.now → result ≡ is_ring_taken plan ask failure }
+{
+    ask.kinds.takes(kind_of(failure)) && !sides.mends(failure)
+}
+
+// Returns whether a digit is nothing, or its failure, one of the ring's or of the user's own, is taken.
 fn is_taken(sides: &Sides<'_>, nodes: usize, ask: Ask, digit: usize) -> bool
     requires sides { length sides.now.rests.items ≡ 2 * length sides.now.map.now }
     requires nodes { nodes ≡ length sides.now.map.now }
     requires few { nodes ≤ 16 }
-    requires digit { digit < base nodes }
     ensures { (plan : Planned) → AreSidesOf plan sides.now → result ≡ is_taken plan ask digit }
 {
     if digit == 0 {
         return true;
     }
-    let failure = failure_at(nodes, digit - 1);
-    ask.kinds.takes(kind_of(failure)) && !sides.mends(failure)
+    if digit <= 10 * nodes {
+        return is_ring_taken(sides, ask, failure_at(nodes, digit - 1));
+    }
+    ask.kinds.takes(Kind::Own)
 }
 
 // Returns the three digits of a number.
-fn digits_of(nodes: usize, number: usize) -> (usize, usize, usize)
-    requires few { nodes ≤ 16 }
-    ensures first { result.0 ≡ first nodes number }
-    ensures second { result.1 ≡ second nodes number }
-    ensures third { result.2 ≡ third nodes number }
-    ensures low { (result.0 < base nodes) × (result.1 < base nodes) × (result.2 < base nodes) }
+fn digits_of(base: usize, number: usize) -> Digits
+    requires from_1 { 1 ≤ base }
+    ensures is { result ≡ digits_of base number }
+    ensures low { (result.first < base) × (result.second < base) × (result.third < base) }
 {
-    let base = 10 * nodes + 1;
-    (
-        number / base / base % base,
-        number / base % base,
-        number % base,
-    )
+    Digits {
+        first: number / base / base % base,
+        second: number / base % base,
+        third: number % base,
+    }
 }
 
 // Returns whether a number of these digits stands for a case that is listed.
-fn are_told(sides: &Sides<'_>, nodes: usize, ask: Ask, digits: (usize, usize, usize)) -> bool
+fn are_told(sides: &Sides<'_>, nodes: usize, ask: Ask, digits: Digits) -> bool
     requires sides { length sides.now.rests.items ≡ 2 * length sides.now.map.now }
     requires nodes { nodes ≡ length sides.now.map.now }
     requires few { nodes ≤ 16 }
-    requires digits { (digits.0 < base nodes) × (digits.1 < base nodes) × (digits.2 < base nodes) }
-    ensures { (plan : Planned) → AreSidesOf plan sides.now → result ≡ are_told plan ask digits.0 digits.1 digits.2 }
+    ensures { (plan : Planned) → AreSidesOf plan sides.now → result ≡ are_told plan ask digits }
 {
-    let (first, second, third) = digits;
-    goes_before(first, second)
-        && goes_before(second, third)
-        && is_taken(sides, nodes, ask, first)
-        && is_taken(sides, nodes, ask, second)
-        && is_taken(sides, nodes, ask, third)
-}
-
-// Returns whether a number stands for a case that is listed.
-fn is_told(plan: &Plan, sides: &Sides<'_>, ask: Ask, number: usize) -> bool
-    requires sides { AreSidesOf plan.now sides.now }
-    ensures { result ≡ is_told plan.now ask number }
-{
-    let n = plan.map().len();
-    are_told(sides, n, ask, digits_of(n, number))
+    goes_before(digits.first, digits.second)
+        && goes_before(digits.second, digits.third)
+        && is_taken(sides, nodes, ask, digits.first)
+        && is_taken(sides, nodes, ask, digits.second)
+        && is_taken(sides, nodes, ask, digits.third)
 }
 
 // Returns how a case is written that has `number` cases listed before it, or `None` where it isn't listed or is in
@@ -135,97 +144,102 @@ fn write_case<W: Sink>(
     plan: &Plan,
     sides: &Sides<'_>,
     entry: Entry,
-    case: &[Failure],
+    case: Case<'_>,
 ) -> Result<(), WriteFault>
     requires sides { AreSidesOf plan.now sides.now }
-    requires case { All (IsFailureIn (length plan.now.nodes)) case.now }
-    requires few { length case.now ≤ 3 }
+    requires case { All (IsFailureIn (length plan.now.nodes)) case.failures.now }
+    requires few { length case.failures.now ≤ 48 }
+    requires digits { AreSmall (length plan.now.nodes) case.digits }
     ensures { Wrote W.exact (W.written sink.old) (W.written sink.new) (W.faults sink.old) (W.faults sink.new)
-        (line_text plan.now case.now entry) result }
+        (line_text plan.now case.entry.digits case.entry.failures.now entry) result }
 {
     line.clear();
     put_line(line, plan, sides, entry, case);
     sink.put(line.bytes())
 }
 
-// Writes the line of the case of these digits.
-fn write_told<W: Sink>(
-    sink: &mut W,
-    line: &mut Line,
-    plan: &Plan,
-    sides: &Sides<'_>,
-    entry: Entry,
-    digits: (usize, usize, usize),
-) -> Result<(), WriteFault>
-    requires sides { AreSidesOf plan.now sides.now }
-    requires digits { (digits.0 < base (length plan.now.nodes)) × (digits.1 < base (length plan.now.nodes))
-        × (digits.2 < base (length plan.now.nodes)) }
-    ensures { Wrote W.exact (W.written sink.old) (W.written sink.new) (W.faults sink.old) (W.faults sink.new)
-        (line_text plan.now (failures_of (length plan.now.nodes) digits.0 digits.1 digits.2) entry) result }
+// Appends the failures of a digit to those of a case.
+fn push_digit(case: &mut Gathered, nodes: usize, own: &OwnFailures, digit: usize)
+    requires nodes { nodes ≤ 16 }
+    requires own { AreOwn nodes own.now }
+    requires room { length case.old ≤ 32 }
+    requires within { All (IsFailureIn nodes) case.old }
+    ensures failures { case.new ≡ case.old ++ failures_at nodes own.now digit }
+    ensures short { length case.new ≤ length case.old + 16 }
+    ensures within { All (IsFailureIn nodes) case.new }
 {
-    let n = plan.map().len();
-    let (first, second, third) = digits;
-    if third == 0 {
-        return write_case(sink, line, plan, sides, entry, &[]);
+    if digit == 0 {
+        return;
     }
-    let c = failure_at(n, third - 1);
-    if second == 0 {
-        return write_case(sink, line, plan, sides, entry, &[c]);
+    if digit <= 10 * nodes {
+        case.push(failure_at(nodes, digit - 1));
+        return;
     }
-    let b = failure_at(n, second - 1);
-    if first == 0 {
-        return write_case(sink, line, plan, sides, entry, &[b, c]);
+    for failure in own.list(digit - (10 * nodes + 1)) {
+        case.push(*failure);
     }
-    write_case(
-        sink,
-        line,
-        plan,
-        sides,
-        entry,
-        &[failure_at(n, first - 1), b, c],
-    )
 }
 
-// Writes the line of the case of a number, where it is to be written.
+// Returns the failures of three digits, one after the other.
+fn failures_of(nodes: usize, own: &OwnFailures, digits: Digits) -> Gathered
+    requires nodes { nodes ≤ 16 }
+    requires own { AreOwn nodes own.now }
+    ensures failures { result ≡ failures_of nodes own.now digits }
+    ensures short { length result ≤ 48 }
+    ensures within { All (IsFailureIn nodes) result }
+{
+    let mut case = Gathered::new();
+    push_digit(&mut case, nodes, own, digits.first);
+    push_digit(&mut case, nodes, own, digits.second);
+    push_digit(&mut case, nodes, own, digits.third);
+    case
+}
+
+// Writes the line of the case of these digits, where it is to be written.
 fn write_entry<W: Sink>(
     sink: &mut W,
     line: &mut Line,
-    plan: &Plan,
-    sides: &Sides<'_>,
+    scene: &Scene<'_>,
     entry: Option<Entry>,
-    number: usize,
+    digits: Digits,
 ) -> Result<(), WriteFault>
-    requires sides { AreSidesOf plan.now sides.now }
+    requires scene { IsScene scene.now }
+    requires digits { AreSmall (length scene.now.plan.now.nodes) digits }
     ensures { Wrote W.exact (W.written sink.old) (W.written sink.new) (W.faults sink.old) (W.faults sink.new)
-        (option_map_or (line_text plan.now (case_at plan.now number)) entry []) result }
+        (option_map_or (line_text scene.now.plan.now digits
+        (failures_of (length scene.now.plan.now.nodes) scene.now.own.now digits)) entry []) result }
 {
-    match entry {
-        Some(entry) => {
-            let digits = digits_of(plan.map().len(), number);
-            write_told(sink, line, plan, sides, entry, digits)
-        }
-        None => Ok(()),
-    }
+    let Some(entry) = entry else {
+        return Ok(());
+    };
+    let failures = failures_of(scene.plan.map().len(), scene.own, digits);
+    let case = Case {
+        digits,
+        failures: failures.as_slice(),
+    };
+    write_case(sink, line, scene.plan, scene.sides, entry, case)
 }
 
 // Writes the lines of all cases that are listed in the part that is asked for.
 fn write_cases<W: Sink>(
     sink: &mut W,
     line: &mut Line,
-    plan: &Plan,
-    sides: &Sides<'_>,
+    scene: &Scene<'_>,
     ask: Ask,
 ) -> Result<(), WriteFault>
-    requires sides { AreSidesOf plan.now sides.now }
+    requires scene { IsScene scene.now }
     requires part { IsPart ask }
     ensures { Wrote W.exact (W.written sink.old) (W.written sink.new) (W.faults sink.old) (W.faults sink.new)
-        (cases_text plan.now ask) result }
+        (cases_text scene.now.plan.now scene.now.own.now ask) result }
 {
+    let nodes = scene.plan.map().len();
+    let base = base(nodes, scene.own.len());
     let mut before = 0;
-    for number in 0..numbers_of(plan.map().len(), ask.depth) {
-        let told = is_told(plan, sides, ask, number);
+    for number in 0..numbers_of(base, ask.depth) {
+        let digits = digits_of(base, number);
+        let told = are_told(scene.sides, nodes, ask, digits);
         let entry = entry_of(ask, told, before);
-        if let Err(fault) = write_entry(sink, line, plan, sides, entry, number) {
+        if let Err(fault) = write_entry(sink, line, scene, entry, digits) {
             return Err(fault);
         }
         before += usize::from(told);
@@ -247,16 +261,15 @@ fn write_head<W: Sink>(sink: &mut W, line: &mut Line, plan: &Plan) -> Result<(),
 fn write_singles<W: Sink>(
     sink: &mut W,
     line: &mut Line,
-    plan: &Plan,
-    sides: &Sides<'_>,
+    scene: &Scene<'_>,
     ask: Ask,
 ) -> Result<(), WriteFault>
-    requires sides { AreSidesOf plan.now sides.now }
+    requires scene { IsScene scene.now }
     ensures { Wrote W.exact (W.written sink.old) (W.written sink.new) (W.faults sink.old) (W.faults sink.new)
-        (singles_text plan.now ask.kinds) result }
+        (singles_text scene.now.plan.now scene.now.own.now ask.kinds) result }
 {
     line.clear();
-    put_singles(line, plan, sides, ask.kinds);
+    put_singles(line, scene, ask.kinds);
     sink.put(line.bytes())
 }
 
@@ -264,24 +277,23 @@ fn write_singles<W: Sink>(
 pub fn write_table<W: Sink>(
     sink: &mut W,
     line: &mut Line,
-    plan: &Plan,
-    sides: &Sides<'_>,
+    scene: &Scene<'_>,
     ask: Ask,
 ) -> Result<(), WriteFault>
-    requires sides { AreSidesOf plan.now sides.now }
+    requires scene { IsScene scene.now }
     requires part { IsPart ask }
     ensures { Wrote W.exact (W.written sink.old) (W.written sink.new) (W.faults sink.old) (W.faults sink.new)
-        (table_text plan.now ask) result }
+        (table_text scene.now.plan.now scene.now.own.now ask) result }
 {
     match ask.form {
-        Form::Table => write_cases(sink, line, plan, sides, ask),
-        Form::Json => write_cases(sink, line, plan, sides, ask),
+        Form::Table => write_cases(sink, line, scene, ask),
+        Form::Json => write_cases(sink, line, scene, ask),
         Form::Headed => {
-            if let Err(fault) = write_head(sink, line, plan) {
+            if let Err(fault) = write_head(sink, line, scene.plan) {
                 return Err(fault);
             }
-            write_cases(sink, line, plan, sides, ask)
+            write_cases(sink, line, scene, ask)
         }
-        Form::Summary => write_singles(sink, line, plan, sides, ask),
+        Form::Summary => write_singles(sink, line, scene, ask),
     }
 }

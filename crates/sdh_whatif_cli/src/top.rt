@@ -3,20 +3,20 @@ ghost use Rattle.std.specs.Prelude.{◌≡◌, ◌≢◌, ◌⊎◌, ◌+◌, �
 ghost use Rattle.std.specs.Io.KnownBytes.{IsAtEnd};
 ghost use Rattle.sdh_basics.specs.Causes.{Rose, IsCounted};
 ghost use Rattle.sdh_outside.specs.Reading.{TakesCount};
-ghost use Rattle.sdh_shell.specs.Reading.{HasPlan};
 ghost use Rattle.sdh_shell.specs.Writing.{Writes, Wrote};
 ghost use Rattle.sdh_shell.specs.Calls.{words_of};
-ghost use Rattle.sdh_whatif_cli.specs.Words.{asked, IsPart};
-ghost use Rattle.sdh_whatif_cli.specs.Lines.{table_text};
+ghost use Rattle.sdh_whatif_cli.specs.Words.{asked, own_texts, IsPart};
 ghost use Rattle.sdh_whatif_cli.specs.Laws.{LinesAreTrue};
-ghost use Rattle.sdh_whatif_cli.specs.Outcome.{refusal, OfBytes, IsOutcome, told};
+ghost use Rattle.sdh_whatif_cli.specs.Outcome.{refusal, of_plan, OfBytes, IsOutcome, HasPlanFor, told};
 
 use crate::ask::{Ask, asked};
 use crate::laws::lines_are_true;
 use crate::line::Line;
+use crate::own::{OwnError, own_failures};
+use crate::scene::Scene;
 use crate::table::write_table;
 use sdh_outside::{Sink, Source, WriteFault};
-use sdh_plan::Plan;
+use sdh_plan::{Plan, Reason};
 use sdh_report::laws::last_line_is_short;
 use sdh_report::{LINE_MAX, Status, Text};
 use sdh_shell::{NoPlan, Output, plan_in};
@@ -38,7 +38,7 @@ fn refusal(text: &mut Text, status: Status)
 {
     match status {
         Status::Usage => text.own_line(
-            b"usage: sdhwhatif single, double, triple, with kinds, part K N, head, json, summary",
+            b"usage: sdhwhatif single, double, triple, with kinds, own NAMES, part K N, head, json, summary",
         ),
         _ => {
             last_line_is_short(&status);
@@ -60,17 +60,48 @@ fn refuse<W: Sink>(sink: &mut W, mut text: Text, status: Status) -> Told
     Told { status, wrote }
 }
 
-// Writes the table of a plan, and returns how that ended.
-fn tell<W: Sink>(alloc: Global, sink: &mut W, plan: &Plan, ask: Ask) -> Result<Told, AllocError>
+// Returns how the call ends where the text of one of the user's own failures is unknown, by the text's place.
+fn unknown(place: u32) -> Status
+    ensures { result ≡ Status.BadPlan 24 place }
+{
+    Status::BadPlan {
+        reason: Reason::StepNode.number(),
+        place,
+    }
+}
+
+// Writes the table of a plan, or the line of a refusal where a text of the user's own failures is unknown, and returns
+// how that ended.
+fn tell<W: Sink>(
+    alloc: Global,
+    sink: &mut W,
+    plan: &Plan,
+    ask: Ask,
+    words: &[String],
+) -> Result<Told, AllocError>
     requires part { IsPart ask }
-    ensures status { IfOk result (λ x. x.status ≡ Status.Ok) }
+    ensures status { IfOk result (λ x. x.status ≡ (of_plan plan.now (own_texts (words_of words.now)) ask).0) }
     ensures wrote { IfOk result (λ x. Wrote W.exact (W.written sink.old) (W.written sink.new) (W.faults sink.old) (W.faults sink.new)
-        (table_text plan.now ask) x.wrote) }
+        (of_plan plan.now (own_texts (words_of words.now)) ask).1 x.wrote) }
+    ensures own { IfOk result (λ x. (x.status ≡ Status.Ok) ⊎ ((place : ℕ) × (x.status ≡ Status.BadPlan 24 place))) }
     ensures memory { OnErr result (sink.new ≡ sink.old) }
 {
     let mut line = Line::try_new(alloc)?;
+    let own = match own_failures(alloc, &mut line, plan.map(), words) {
+        Ok(own) => own,
+        Err(OwnError::Memory) => return Err(AllocError),
+        Err(OwnError::Unknown(place)) => {
+            let text = Text::try_new(alloc, LINE_MAX)?;
+            return Ok(refuse(sink, text, unknown(place)));
+        }
+    };
     let sides = Sides::try_new(alloc, plan)?;
-    let wrote = write_table(sink, &mut line, plan, &sides, ask);
+    let scene = Scene {
+        plan,
+        sides: &sides,
+        own: &own,
+    };
+    let wrote = write_table(sink, &mut line, &scene, ask);
     Ok(Told {
         status: Status::Ok,
         wrote,
@@ -81,25 +112,27 @@ fn tell<W: Sink>(alloc: Global, sink: &mut W, plan: &Plan, ask: Ask) -> Result<T
 fn answer_ask<R: Source, W: Sink>(
     alloc: Global,
     ask: Ask,
+    words: &[String],
     source: &mut R,
     sink: &mut W,
 ) -> Result<Told, AllocError>
     requires part { IsPart ask }
-    ensures outcome { IfOk result (λ x. (text : List ℕ) × (IfSome (R.left source.old) (λ bytes. OfBytes ask bytes x.status text)
+    ensures outcome { IfOk result (λ x. (text : List ℕ) × (IfSome (R.left source.old)
+        (λ bytes. OfBytes ask (own_texts (words_of words.now)) bytes x.status text)
         × Wrote W.exact (W.written sink.old) (W.written sink.new) (W.faults sink.old) (W.faults sink.new) text x.wrote)) }
     ensures fault { IfOk result (λ x. x.status ≡ Status.ReadFault → Rose (R.faults source.old) (R.faults source.new)) }
     ensures reads { IfOk result (λ x. IsCounted R.exact (x.status ≡ Status.ReadFault) (R.faults source.old) (R.faults source.new)) }
     ensures too_long { IfOk result (λ x. x.status ≡ Status.TooLong → TakesCount (R.left source.old) (R.left source.new) 1048577) }
     ensures own { IfOk result (λ x. (x.status ≢ Status.Usage) × (x.status ≢ Status.WriteFault) × (x.status ≢ Status.Memory)) }
     ensures read { IfOk result (λ x. x.status ≡ Status.Ok → IsAtEnd (R.left source.new)) }
-    ensures complete { HasPlan (R.left source.old) → ¬ (Rose (R.faults source.old) (R.faults source.new))
+    ensures complete { HasPlanFor (own_texts (words_of words.now)) (R.left source.old) → ¬ (Rose (R.faults source.old) (R.faults source.new))
         → IfOk result (λ x. x.status ≡ Status.Ok) }
     ensures later { R.faults source.old ≤ R.faults source.new }
     ensures memory { OnErr result ((R.exact ≡ true → R.faults source.new ≡ R.faults source.old) × (sink.new ≡ sink.old)) }
 {
     let text = Text::try_new(alloc, LINE_MAX)?;
     match plan_in(alloc, source) {
-        Ok(plan) => tell(alloc, sink, &plan, ask),
+        Ok(plan) => tell(alloc, sink, &plan, ask, words),
         Err(NoPlan::Memory) => Err(AllocError),
         Err(NoPlan::Refused(how)) => Ok(refuse(sink, text, how)),
     }
@@ -113,7 +146,7 @@ fn answer<R: Source, W: Sink>(
     sink: &mut W,
 ) -> Result<Told, AllocError>
     ensures outcome { IfOk result (λ x. (text : List ℕ) × (IfSome (told (asked (words_of words.now)) (R.left source.old))
-        (λ bytes. IsOutcome (asked (words_of words.now)) bytes x.status text)
+        (λ bytes. IsOutcome (asked (words_of words.now)) (own_texts (words_of words.now)) bytes x.status text)
         × Wrote W.exact (W.written sink.old) (W.written sink.new) (W.faults sink.old) (W.faults sink.new) text x.wrote)) }
     ensures fault { IfOk result (λ x. x.status ≡ Status.ReadFault → Rose (R.faults source.old) (R.faults source.new)) }
     ensures reads { IfOk result (λ x. IsCounted R.exact (x.status ≡ Status.ReadFault) (R.faults source.old) (R.faults source.new)) }
@@ -122,13 +155,13 @@ fn answer<R: Source, W: Sink>(
     ensures own { IfOk result (λ x. (x.status ≢ Status.WriteFault) × (x.status ≢ Status.Memory)) }
     ensures read { IfOk result (λ x. x.status ≡ Status.Ok → IsAtEnd (R.left source.new)) }
     ensures unread { asked (words_of words.now) ≡ None → source.new ≡ source.old }
-    ensures complete { asked (words_of words.now) ≢ None → HasPlan (R.left source.old)
+    ensures complete { asked (words_of words.now) ≢ None → HasPlanFor (own_texts (words_of words.now)) (R.left source.old)
         → ¬ (Rose (R.faults source.old) (R.faults source.new)) → IfOk result (λ x. x.status ≡ Status.Ok) }
     ensures later { R.faults source.old ≤ R.faults source.new }
     ensures memory { OnErr result ((R.exact ≡ true → R.faults source.new ≡ R.faults source.old) × (sink.new ≡ sink.old)) }
 {
     match asked(words) {
-        Some(ask) => answer_ask(alloc, ask, source, sink),
+        Some(ask) => answer_ask(alloc, ask, words, source, sink),
         None => {
             let text = Text::try_new(alloc, LINE_MAX)?;
             Ok(refuse(sink, text, Status::Usage))
@@ -138,8 +171,9 @@ fn answer<R: Source, W: Sink>(
 
 /// Does all that the program does, and returns how it ended. With the word `single`, `double` or `triple` it reads a
 /// plan from the source and writes a table: what becomes of each circuit where nothing more fails than in the plan's
-/// script, and where one, two or three things more do. Words after it say which kinds of things, which part of the
-/// cases, and in which form. The table is written line by line, and all memory is taken before the first.
+/// script, and where one, two or three things more do. Words after it say which kinds of things, which of them come
+/// together, which part of the cases, and in which form. The table is written line by line, and all memory is taken
+/// before the first.
 pub fn whatif<R: Source, W: Sink>(
     alloc: Global,
     words: &[String],
@@ -149,7 +183,7 @@ pub fn whatif<R: Source, W: Sink>(
     // The status and the text that is written, for a source whose bytes are known, where it is read, and a sink that
     // shows what was written.
     ensures outcome { IfSome (told (asked (words_of words.now)) (R.left source.old))
-        (λ bytes. Writes (λ how text. IsOutcome (asked (words_of words.now)) bytes how text) result (W.written sink.old)
+        (λ bytes. Writes (λ how text. IsOutcome (asked (words_of words.now)) (own_texts (words_of words.now)) bytes how text) result (W.written sink.old)
         (W.written sink.new)) }
 
     // What each line says is what reports show: the last one of the plan with the line's steps after its script.
@@ -170,8 +204,9 @@ pub fn whatif<R: Source, W: Sink>(
     ensures read_whole { result ≡ Status.Ok → IsAtEnd (R.left source.new) }
     ensures later { (R.faults source.old ≤ R.faults source.new) × (W.faults sink.old ≤ W.faults sink.new) }
 
-    // With the words, the bytes of a plan and no fault, everything is written, or there is no memory.
-    ensures complete { asked (words_of words.now) ≢ None → HasPlan (R.left source.old)
+    // With the words, the bytes of a plan in whose ring the user's own failures are, and no fault, everything is
+    // written, or there is no memory.
+    ensures complete { asked (words_of words.now) ≢ None → HasPlanFor (own_texts (words_of words.now)) (R.left source.old)
         → ¬ (Rose (R.faults source.old) (R.faults source.new)) → ¬ (Rose (W.faults sink.old) (W.faults sink.new))
         → (result ≡ Status.Ok) ⊎ (result ≡ Status.Memory) }
 {

@@ -25,7 +25,7 @@ pub const SINGLE: &[&str] = &["single", "head"];
 pub const NO_WORDS: &[&str] = &[];
 
 pub const USAGE: &str =
-    "usage: sdhwhatif single, double, triple, with kinds, part K N, head, json, summary\n";
+    "usage: sdhwhatif single, double, triple, with kinds, own NAMES, part K N, head, json, summary\n";
 
 /// A ring of three with one circuit.
 pub const PLAN: &str = "rate = 4\n\

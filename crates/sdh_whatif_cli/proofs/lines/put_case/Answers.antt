@@ -10,9 +10,10 @@ pub returns-clause-text : goal.returns-clause-text
 returns-clause-text c =
     let f = c.args.entry.form in
     let plan = c.args.plan.now in
-    let case = c.args.case.now in
+    let case = c.args.case.failures.now in
+    let ds = c.args.case.digits in
     let start = c.args.line.now in
-    let names = ap (λ (nodes : List ℕ). c.put_either-2.new.line ++ names_text f nodes case) c.map.ensures in
+    let names = ap (λ (nodes : List ℕ). c.put_either-2.new.line ++ names_text f nodes ds) c.map.ensures in
     let script_at : List ℕ → ℕ → List ℕ = λ nodes t.
     flat_map (step_part f nodes) (case_steps (length nodes) t case) ++ step_quote f ++ codes "settle" ++ step_quote f in
     let script = ap (λ (nodes : List ℕ). c.put_either-3.new.line ++ script_at nodes c.settings.result.threshold) c.map-2.ensures
@@ -23,7 +24,7 @@ returns-clause-text c =
     let to1 = onto start (text0) text1 c.put_either.new.line c.put_long.new.self to0 c.put_long.ensures.text in
     let text2 = either f (codes ",\"failures\":[") (codes ",") in
     let to2 = onto start (text0 ++ text1) text2 c.put_long.new.self c.put_either-2.new.line to1 c.put_either-2.ensures.text in
-    let text3 = names_text f plan.nodes case in
+    let text3 = names_text f plan.nodes ds in
     let to3 = onto start (text0 ++ text1 ++ text2) text3 c.put_either-2.new.line c.put_names.new.line to2 (c.put_names.ensures.text ∙ names) in
     let text4 = either f (codes "],\"steps\":[") (codes ",\"") in
     let to4 = onto start (text0 ++ text1 ++ text2 ++ text3) text4 c.put_names.new.line c.put_either-3.new.line to3 c.put_either-3.ensures.text in

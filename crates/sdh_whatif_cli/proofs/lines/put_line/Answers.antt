@@ -16,7 +16,7 @@ put_case-requires-clause-spans c = record {
 pub counts_of-requires : goal.counts_of-requires
 counts_of-requires c = record {
   case = (
-    c.args.case.now,
+    c.args.case.failures.now,
     record {
       applied = c.spans-spans.ensures.applied c.args.plan.now c.requires.sides;
       troubled = c.spans-spans.ensures.troubled c.args.plan.now c.requires.sides;
@@ -26,7 +26,7 @@ counts_of-requires c = record {
 
 pub put_fates-requires-clause-case : goal.put_fates-requires-clause-case
 put_fates-requires-clause-case c = (
-  c.args.case.now,
+  c.args.case.failures.now,
   record {
     applied = c.spans-spans.ensures.applied c.args.plan.now c.requires.sides;
     troubled = c.spans-spans.ensures.troubled c.args.plan.now c.requires.sides;
@@ -37,12 +37,12 @@ pub returns : goal.returns
 returns c =
     let f = c.args.entry.form in
     let plan = c.args.plan.now in
-    let case = c.args.case.now in
+    let case = c.args.case.failures.now in
     let are : AreSpansOf plan case c.spans-spans.result = record {
       applied = c.spans-spans.ensures.applied plan c.requires.sides;
       troubled = c.spans-spans.ensures.troubled plan c.requires.sides;
     } in
-    let one = case_text f plan c.args.entry.number case in
+    let one = case_text f plan c.args.entry.number c.args.case.digits case in
     let two = counts_text f (counts_of plan case) in
     let three = either f (codes ",\"circuits\":{") [] in
     let four = fates_text f plan case in

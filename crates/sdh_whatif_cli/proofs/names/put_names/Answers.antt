@@ -1,19 +1,24 @@
-use Rattle.std.proofs.Common.{codes, arith}
-use Rattle.sdh_ringmap.specs.declared.Side.TheVariants.{West}
-use Rattle.sdh_verdicts.specs.declared.failure.Failure.TheVariants.{Degraded}
-use Rattle.sdh_whatif_cli.specs.Lines.{either, name_text}
-use Rattle.sdh_whatif_cli.proofs.Parts.{join_next}
+use Rattle.std.proofs.Common.{◌≡◌, ◌∙◌, ◌++◌, [], length, refl, sym, ap, arith, append_assoc}
+use Rattle.std.proofs.lemmas.List.{append-nil, length-append}
+use Rattle.sdh_whatif_cli.specs.Lines.{joined, either, digit_names}
+use Rattle.std.proofs.Common.{codes}
 use Rattle.sdh_whatif_cli.proofs.names.put_names.Goals as goal
 
-pub loop-i-preserved : goal.loop-i-preserved
-loop-i-preserved c =
+-- the names of three digits, one after the other; flat_map has nothing after the last
+pub returns-clause-text : goal.returns-clause-text
+returns-clause-text c =
     let f = c.args.form in
-    let case = c.args.case.now in
-    let i = c.loop-i.i in
-    let some = Degraded (record { 0 = 0 }) West in
-    record {
-      short = omega (arith, c.put_between.ensures.short, c.put_name.ensures.short, c.loop-i.invariant.short);
-      text = join_next (either f (codes ",") (codes " + ")) (name_text f c.args.map.now) case i some c.args.line.now c.loop-i.line
-          c.put_between.new.line c.put_name.new.line (omega (arith, c.loop-i-test.true)) c.loop-i.invariant.text c.put_between.ensures.text
-          c.put_name.ensures.text;
-    }
+    let nodes = c.args.map.now in
+    let sep = either f (codes ",") (codes " + ") in
+    let start = c.args.line.now in
+    let one = digit_names f nodes c.args.digits.first in
+    let two = digit_names f nodes c.args.digits.second in
+    let three = digit_names f nodes c.args.digits.third in
+    let to1 : c.put_named-named.new.line ≡ start ++ joined sep one =
+    c.put_named-named.ensures.text start [] refl (sym (append-nil start)) in
+    let to2 : c.put_named-named-2.new.line ≡ start ++ joined sep (one ++ two) =
+    c.put_named-named-2.ensures.text start one (omega (arith, c.put_named-named.ensures.count)) to1 in
+    let many : length (one ++ two) ≡ c.put_named-named-2.result =
+    omega (arith, length-append one two, c.put_named-named.ensures.count, c.put_named-named-2.ensures.count) in
+    c.put_named.ensures.text start (one ++ two) many to2
+    ∙ ap (λ ts. start ++ joined sep ts) (append_assoc one two three ∙ ap (λ ts. one ++ (two ++ ts)) (sym (append-nil three)))

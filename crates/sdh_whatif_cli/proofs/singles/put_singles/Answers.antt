@@ -1,12 +1,12 @@
 use Rattle.std.proofs.Common.{◌∙◌, ◌++◌, List, ℕ, codes, ap}
 use Rattle.sdh_whatif_cli.specs.declared.ask.Kind.TheVariants as kind
-use Rattle.sdh_whatif_cli.specs.Singles.{kind_record}
+use Rattle.sdh_whatif_cli.specs.Singles.{kind_record, own_record}
 use Rattle.sdh_whatif_cli.proofs.Parts.{onto}
 use Rattle.sdh_whatif_cli.proofs.singles.put_singles.Goals as goal
 
 pub returns : goal.returns
 returns c =
-    let plan = c.args.plan.now in
+    let plan = c.args.scene.now.plan.now in
     let kinds = c.args.kinds in
     let start = c.args.line.now in
     let head = codes "kind,cases,losing,most\r\n" in
@@ -24,4 +24,7 @@ returns c =
     onto start (head ++ one ++ two ++ three ++ four) five c.put_record-4.new.line c.put_record-5.new.line to4 c.put_record-5.ensures.text in
     let to6 = onto start (head ++ one ++ two ++ three ++ four ++ five) six c.put_record-5.new.line c.put_record-6.new.line to5
     c.put_record-6.ensures.text in
-    to6 ∙ ap (λ (l : List ℕ). l ++ (head ++ one ++ two ++ three ++ four ++ five ++ six)) c.requires.empty
+    let seven = own_record plan c.args.scene.now.own.now kinds in
+    let to7 = onto start (head ++ one ++ two ++ three ++ four ++ five ++ six) seven c.put_record-6.new.line c.put_own.new.line to6
+    c.put_own.ensures.text in
+    to7 ∙ ap (λ (l : List ℕ). l ++ (head ++ one ++ two ++ three ++ four ++ five ++ six ++ seven)) c.requires.empty

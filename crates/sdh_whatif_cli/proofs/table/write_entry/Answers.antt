@@ -1,28 +1,29 @@
 use Rattle.std.proofs.Common.{◌≡◌, ◌∙◌, ℕ, List, [], ap, sym, length}
 use Rattle.std.specs.Option.{option_map_or}
-use Rattle.sdh_whatif_cli.specs.Cases.{first, second, third, failures_of, case_at}
+use Rattle.sdh_verdicts.specs.declared.failure.Failure.{Failure}
+use Rattle.sdh_whatif_cli.specs.Cases.{failures_of}
 use Rattle.sdh_whatif_cli.specs.Lines.{line_text}
 use Rattle.sdh_shell.proofs.Pieces.{as_text, nothing}
 use Rattle.sdh_whatif_cli.proofs.table.write_entry.Goals as goal
 
-pub returns-in-Some : goal.returns-in-Some
-returns-in-Some g c =
-    let plan = c.args.plan.now in
-    let k = c.args.number in
-    let n = length plan.nodes in
-    let e = c.in-Some.entry in
-    let d = c.digits_of-digits.result in
-    let size : c.len.result ≡ n = c.len.ensures.len ∙ ap (λ (l : List ℕ). length l) c.map.ensures in
-    let one : d.0 ≡ first n k = c.digits_of-digits.ensures.first ∙ ap (λ m. first m k) size in
-    let two : d.1 ≡ second n k = c.digits_of-digits.ensures.second ∙ ap (λ m. second m k) size in
-    let three : d.2 ≡ third n k = c.digits_of-digits.ensures.third ∙ ap (λ m. third m k) size in
+pub returns : goal.returns
+returns g c =
+    let scene = c.args.scene.now in
+    let plan = scene.plan.now in
+    let ds = c.args.digits in
+    let own = scene.own.now in
+    let size : c.len.result ≡ length plan.nodes = c.len.ensures.len ∙ ap (λ (l : List ℕ). length l) c.map.ensures in
+    let case : c.failures_of-failures.result ≡ failures_of (length plan.nodes) own ds =
+    c.failures_of-failures.ensures.failures ∙ ap (λ n. failures_of n own ds) size in
     as_text _ _ _ _ _ _ _ _
-    (ap (λ x. line_text plan (failures_of n x d.1 d.2) e) one ∙ ap (λ x. line_text plan (failures_of n (first n k) x d.2) e) two
-    ∙ ap (λ x. line_text plan (failures_of n (first n k) (second n k) x) e) three
-    ∙ ap (λ o. option_map_or (line_text plan (case_at plan k)) o []) (sym c.in-Some.is)) c.write_told.ensures
+    (ap (λ (fs : List Failure). line_text plan ds fs c.in-Some.entry) (c.as_slice.ensures ∙ case)
+    ∙ ap (λ o. option_map_or (line_text plan ds (failures_of (length plan.nodes) own ds)) o []) (sym c.in-Some.is)) c.write_case.ensures
 
-pub returns-in-None : goal.returns-in-None
-returns-in-None g c =
-    let plan = c.args.plan.now in
-    as_text _ _ _ _ _ _ _ _ (ap (λ o. option_map_or (line_text plan (case_at plan c.args.number)) o []) (sym c.in-None.is))
+pub returns-in_default : goal.returns-in_default
+returns-in_default g c =
+    let scene = c.args.scene.now in
+    let plan = scene.plan.now in
+    let ds = c.args.digits in
+    as_text _ _ _ _ _ _ _ _
+    (ap (λ o. option_map_or (line_text plan ds (failures_of (length plan.nodes) scene.own.now ds)) o []) (sym c.in_default.is))
     (nothing _ _ _ _)

@@ -4,7 +4,7 @@ use Rattle.sdh_report.specs.declared.status.Status.TheVariants as status
 use Rattle.sdh_shell.specs.Calls.{words_of}
 use Rattle.sdh_shell.specs.Writing.{Writes}
 use Rattle.sdh_shell.proofs.Told.{told_all}
-use Rattle.sdh_whatif_cli.specs.Words.{asked}
+use Rattle.sdh_whatif_cli.specs.Words.{asked, own_texts}
 use Rattle.sdh_whatif_cli.specs.Outcome.{IsOutcome}
 use Rattle.sdh_whatif_cli.proofs.top.whatif.Goals as goal
 
@@ -16,7 +16,7 @@ returns-in-Err-clause-outcome g c =
     let new = g.W.Sink.written c.answer.new.sink in
     let fewer : AppendsFewer old new outcome.0 =
     subst (λ r. OnErr r (AppendsFewer old new outcome.0)) c.in-Err.is outcome.1.1.front in
-    let is_outcome = IsOutcome (asked (words_of c.args.words.now)) in
+    let is_outcome = IsOutcome (asked (words_of c.args.words.now)) (own_texts (words_of c.args.words.now)) in
     told_all _ _ (λ (bytes : List ℕ). Writes (λ how text. is_outcome bytes how text) status.WriteFault old new)
     (λ bytes is. (c.in-Ok.told.status, outcome.0, is, fewer)) outcome.1.0
 
