@@ -1,5 +1,5 @@
--- The large plan of a number: sixteen nodes, both working slots full of circuits, and cuts of two spans. It is this
--- project's own, and so is the generator.
+-- The large plan of a number: sixteen nodes, both working slots full of circuits, and cuts of two spans. The plan is
+-- this project's own. What varies in it is drawn by a linear congruential generator.
 use Rattle.std.specs.Prelude.{ℕ, zero, suc, ◌+◌, ◌-◌, ◌*◌, ◌/◌, ◌%◌, ◌==◌, if◌then◌else◌, min, List, [], ◌∷◌, ◌++◌, codes, decimal}
 use Rattle.sdh_terms.specs.declared.Rate.TheVariants.{Four}
 use Rattle.sdh_ringmap.specs.Places.{position_of}
@@ -18,7 +18,7 @@ use Rattle.sdh_plan.specs.Planned.{Planned}
 unfoldable pub next : ℕ → ℕ
 next x = (x * 1664525 + 1013904223) % 4294967296
 
--- what is drawn in a state: the upper half of the next
+-- what is drawn in a state: the upper half of the next state's 32 bits
 abbrev pub drawn : ℕ → ℕ
 drawn x = next x / 65536
 
@@ -33,7 +33,7 @@ pub record Laying : Type 0 where
   -- the generator's state
   pub state : ℕ
 
--- the first circuit of a slot starts anywhere
+-- the first circuit of a slot starts at a position that is drawn
 abbrev pub slot_begun : ℕ → Laying
 slot_begun x = record { number = 1; at = drawn x % 16; left = 16; state = next x }
 
@@ -53,7 +53,7 @@ with_next l = record { number = l.number + 1; at = laying_end l; left = l.left -
 abbrev pub name_in : ℕ → ℕ → List ℕ
 name_in slot number = codes "c" ++ (decimal slot ++ (codes "-" ++ decimal number))
 
--- what is sent at an end: the name and a letter, under the name as trace
+-- what is sent at an end: the circuit's name and a letter as the text, and the name as the path trace
 abbrev pub customer_of : List ℕ → List ℕ → ℕ → Customer
 customer_of name letter offset = record { text = name ++ letter; trace = name; offset = offset }
 

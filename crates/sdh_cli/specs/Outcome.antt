@@ -19,7 +19,7 @@ abbrev pub own_plan : Ask → Option Planned
 own_plan (Big number) = Some (big_planned number)
 own_plan ask = None
 
--- what is done with a plan: its tables are written, or it is run
+-- what is done with a plan: its tables are written, or it is run, or it is refused where it has no such port
 abbrev pub deed_of : Ask → Planned → Deed Listing Status
 deed_of Check plan = Writes (tables_of plan)
 deed_of ask plan = deed_listing (listing_of ask plan)

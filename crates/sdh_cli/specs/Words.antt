@@ -46,7 +46,7 @@ asked (word ∷ number ∷ []) = asked_with_number word number
 asked (word ∷ name ∷ letter ∷ []) = asked_with_port word name letter
 asked (word ∷ name ∷ letter ∷ more ∷ others) = None
 
--- what is listed of each report; nothing where the plan has no circuit of the name that is asked for
+-- what is listed of each report; nothing for `check`, and where the plan has no circuit of the name that is asked for
 abbrev pub listing_of : Ask → Planned → Option Listing
 listing_of Run plan = Some listing.Reports
 listing_of Check plan = None

@@ -56,7 +56,8 @@ fn ended_run<P: Plant>(
     Ok(ended(run.status, run.text))
 }
 
-// Returns what is listed of each report.
+// Returns what is listed of each report, or `None` for `check` and where the plan has no circuit of the name that is
+// asked for.
 fn listing_of(command: Command<'_>, plan: &Plan) -> Option<Listing>
     ensures listing { result ≡ listing_of (what_is_asked command.entry) plan.now }
     ensures may { IfSome result (λ listing. MayList (length plan.now.circuits) listing) }

@@ -66,7 +66,8 @@ pub fn run_plan<P: Plant>(
     // where the arrivals are known, and what holds over honest fibres, with every round that gave them.
     ensures came { IfOk result (λ run. Tells plan listing (P.fibres plant.old) run.text.bytes run.status (P.fibres plant.new)) }
 
-    // A fault has a cause, and without one a script that settles is done.
+    // A plant fault comes only where a call of the plant failed. Where none failed, a script that settles runs to its
+    // end (`complete`).
     ensures failed { IfOk result (λ run. run.status ≡ Status.PlantFault → Rose (P.faults plant.old) (P.faults plant.new)) }
 
     // Where the plant's count of faults is exact, one call failed if the run ended with a plant fault. None failed with

@@ -14,7 +14,7 @@ state_of (shape.SwitchWest far) = state.SwitchWest far
 state_of (shape.SwitchEast far) = state.SwitchEast far
 state_of shape.Isolated = state.Isolated tt
 
--- two far ends are at one position, or there is none both times
+-- both far ends are at the same position, or neither exists
 abbrev pub same_far : Option Pos → Option Pos → Bool
 same_far None None = true
 same_far (Some a) (Some b) = a.0 == b.0

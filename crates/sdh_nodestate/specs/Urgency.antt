@@ -25,7 +25,7 @@ place rest = 3
 
 -- of words with these weights, c is the one to be sent
 pub record IsFirst (weight : Choice → ℕ) (c : Choice) : Type 0 where
-  -- the word that is sent is there; the word that asks for nothing is sent only where no other is there
+  -- a word other than rest is sent only where its weight isn't 0, and rest only where all weights are 0
   pub there : c ≢ rest → 0 < weight c
   pub nothing : c ≡ rest → (other : Choice) → weight other ≡ 0
   -- no word is more urgent than the one that is sent, which stands first among those that are as urgent

@@ -58,8 +58,8 @@ pub record GoesBy (offset : ℕ) (history : List Happening) (c : Clock) : Type 0
 abbrev pub ClocksGoByHistory : Type 0
 ClocksGoByHistory = (offset : ℕ) (history : List Happening) → offset ≤ 782 → GoesBy offset history (clock_by offset history)
 
--- in each round a port sends the bytes of its stream from the one with which this round begins, up to the one before
--- that with which the next begins
+-- in each round a port sends the bytes of its stream from the first byte of this round up to, but not including, the
+-- first byte of the next round
 abbrev pub RoundsFollowEachOther : Type 0
 RoundsFollowEachOther =
     (port : Customer) (history : List Happening) →

@@ -43,8 +43,8 @@ b3_of port (suc v) = bip8 (vc4_front port (b3_of port v) v 2349)
 unfoldable pub container_byte : Customer → ℕ → ℕ
 container_byte port q = let v = q / 2349 in vc4_byte port (b3_of port v) v (q % 2349)
 
--- the payload index at which a VC-4 begins: index 783, of the byte after the last H3 byte, and three more a step of the
--- offset
+-- the payload index at which a VC-4 begins: 783, the index of the byte after the last H3 byte, plus three for each step
+-- of the offset, modulo 2349
 abbrev pub phase_of : ℕ → ℕ
 phase_of offset = (783 + 3 * offset) % 2349
 

@@ -18,14 +18,14 @@ pub fn begins_at_the_offset()
     ensures { BeginsAtTheOffset }
 {}
 
-/// Every clock goes by its history. The slips that were ordered and the number of rounds decide the bytes that the next
-/// round sends, the place in the stream with which they begin, the pointer value and the pending slips.
+/// Every clock goes by its history. The slips ordered and the rounds run, in their order, decide the pending slips, the
+/// forms of the last chunk and of the next, the byte of the stream with which the next begins, and the pointer value.
 pub fn clocks_go_by_history()
     ensures { ClocksGoByHistory }
 {}
 
-/// In each round a port sends the bytes of its stream from the one with which, by its history, this round begins, up to
-/// the one before that with which the next round begins.
+/// In each round a port sends the bytes of its stream from the first byte of this round up to, but not including, the
+/// first byte of the next round. The port's history says which bytes these are.
 pub fn rounds_follow_each_other()
     ensures { RoundsFollowEachOther }
 {}

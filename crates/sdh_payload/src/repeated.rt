@@ -12,8 +12,8 @@ pub const ROW: usize = 260;
 /// The number of bytes that are kept: enough for a row from any place in the longest text, 64 bytes.
 const ROOM: usize = 64 + ROW;
 
-/// A text of 1 to 64 bytes, repeated. From each place in it the text bytes of a row stand in one piece, whose parity is
-/// found without going over it.
+/// A text of 1 to 64 bytes, kept repeated. So the text bytes of a row are contiguous in it, at whatever place of the
+/// text the row begins. Their parity follows from two stored ones, without a loop over the bytes.
 #[derive(Drop)]
 pub struct Repeated {
     bytes: [u8; ROOM],
@@ -87,7 +87,7 @@ impl Repeated {
         self.len
     }
 
-    /// Returns `count` bytes from a place in the text on, at most those of a row.
+    /// Returns `count` bytes of the repeated text from a place in the text on, at most the 260 of a row.
     pub fn from(&self, place: usize, count: usize) -> &[u8]
         requires place { place < length self.now }
         requires count { count ≤ 260 }

@@ -32,8 +32,8 @@ pub record FirstReceive {N : Type 0} (s : Station N) (k : ℕ) (f g : Fibres) (o
   pub nodes : new ≡ all_with_arrivals s arrivals old
   pub fibres : g ≡ after_given (length arrivals) f
 
--- the nodes after the first of them received these arrivals, by position, west before east; the last of those received
--- perhaps on the west alone
+-- The nodes once these arrivals were received, by position, west before east. Only the first nodes received any, and
+-- the last of them perhaps on the west alone.
 abbrev pub told_some : {N : Type 0} → Station N → List Arrival → List N → List N
 told_some s [] ns = ns
 told_some s (west ∷ []) [] = []
@@ -58,7 +58,7 @@ sent_west s now p n f = after_send f p West (s.sends now West n)
 abbrev pub sent_now : {N : Type 0} → Station N → ℕ → ℕ → N → Fibres → Fibres
 sent_now s now p n f = after_send (sent_west s now p n f) p East (s.sends now East n)
 
--- the nodes after the first k of them have had their round
+-- the nodes once the first k of them have run their round
 abbrev pub first_after : {N : Type 0} → Station N → ℕ → ℕ → List N → List N
 first_after s now k ns = map (s.after now) (take k ns) ++ drop k ns
 

@@ -13,8 +13,8 @@ use Rattle.sdh_rounds.specs.Calls.{told_some, first_after}
 abbrev pub had_round : {N : Type 0} {s : Station N} {w : World N} {f : Fibres} → IsBrokenOff s w f → ℕ
 had_round off = if nat_lt off.given (length off.arrivals) then 0 else off.out / 2 + 1
 
--- A round was broken off. The ring is broken. The first of its nodes received what arrived. The first of its nodes,
--- `had_round` of them, ran their round.
+-- A round was broken off, and the ring is broken. Some nodes, by position from the first on, received what arrived. Of
+-- all nodes the first `had_round` ran their round.
 pub record BreaksRound {N : Type 0} (s : Station N) (w left : World N) : Type 0 where
   pub off : IsBrokenOff s w left.fibres
   pub ring : left.ring ≡ record w.ring { nodes = left.ring.nodes; broken = true }

@@ -12,8 +12,8 @@ pub record RanOne {N : Type 0} (s : Station N) (at : ℕ → World N) (k : ℕ) 
   pub round : IsRound s (at k) (at (suc k))
   pub ring_is : ring ≡ (at (suc k)).ring
 
--- A settle step ended, and something is kept of its rounds. `heard` says whether it is what is to be kept of a number
--- of rounds of a course.
+-- A settle step ended, and what is kept of its rounds is what should be. `heard at k` says that for the first k rounds
+-- of the course `at`.
 pub record Hears {N : Type 0} (s : Station N) (heard : (ℕ → World N) → ℕ → Type 0) (w : World N) (limit : ℕ) (left : World N) : Type 0 where
   pub settles : Settles s w limit left
   pub kept : heard (course_with s settles.rounds w) (length settles.rounds)

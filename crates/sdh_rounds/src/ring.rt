@@ -214,7 +214,7 @@ impl<N: Station> StationRing<N> {
         &self.nodes[at.0 as usize]
     }
 
-    /// Returns the number of rounds that have run. The last one has the number before it.
+    /// Returns the number of rounds that have run. Rounds are numbered from 0: the last one has this number less one.
     pub fn rounds(&self) -> u64
         ensures { result ≡ self.now.rounds }
     {

@@ -36,8 +36,8 @@ EndsAs Known ending bytes how =
 abbrev pub AlwaysSettles : List ℕ → Status → Type 0
 AlwaysSettles bytes how = (plan : Planned) → TellsPlan bytes plan → enough_for (length plan.nodes) ≤ plan.limit → IsSettled how
 
--- all that a deed needs is given: nothing where a text is written of the plan; what `MaySettle` says, so that a run
--- comes to its end, where the plan is run; a refused plan is never done
+-- All that a deed needs is given. To write a text of the plan nothing is needed. To run the plan, so that the run comes
+-- to its end, what `MaySettle` says is needed. A deed that refuses the plan can't be done, whatever is given.
 abbrev pub may_do_by : {L E : Type 0} → (Planned → Fibres → Type 0) → Deed L E → Planned → Fibres → Type 0
 may_do_by MaySettle (Refuses why) plan f = ⊥
 may_do_by MaySettle (Writes told) plan f = Unit {0}

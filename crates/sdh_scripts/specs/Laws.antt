@@ -7,8 +7,8 @@ use Rattle.sdh_report.specs.declared.status.Status.{Status}
 use Rattle.sdh_scripts.specs.Walks.{Walk}
 use Rattle.sdh_scripts.specs.Scripts.{Runs, ComesTo}
 
--- a step that runs no round leaves the number of nodes, the number of rounds and what was sent; known arrivals stay
--- known
+-- a step that runs no round keeps the identifiers, the number of nodes, the number of rounds and what was sent; known
+-- arrivals stay known
 pub record DoesNoRound {N : Type 0} (does : Step → World N → World N) : Type 0 where
   pub ids : (s : Step) (w : World N) → (does s w).ring.ids ≡ w.ring.ids
   pub size : (s : Step) (w : World N) → length (does s w).ring.nodes ≡ length w.ring.nodes

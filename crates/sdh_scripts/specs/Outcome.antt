@@ -80,7 +80,7 @@ pub record Answers {A L T E : Type 0} (program : Program A L T E) (asked : Optio
   pub numbered : number ≡ program.endings.number ending
   pub writes : WritesWith program.endings (λ how text. MayEnd program asked bytes f reads calls how text left) ending old new
 
--- ---- what is asked for of source and plant
+-- ---- what is needed of source and plant
 
 -- the source is read where what is asked names no plan by itself
 abbrev pub reads_without : Option Planned → Bool

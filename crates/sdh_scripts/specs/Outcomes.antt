@@ -36,8 +36,9 @@ pub record IsDone {N T : Type 0} (r : Ran N T) (reports : List T) (end : Status)
   pub end_is : end ≡ r.ending
   pub left_is : left ≡ r.left.fibres
 
--- A fault broke a run off when the first `count` of its frames were sent. The reports, in a ring of n, are those of
--- exactly the settle steps with all frames sent, of their rounds and of all rounds after them.
+-- A fault broke a run off when the first `count` of its frames were sent, in a ring of n. The reports are those of
+-- exactly the settle steps that had sent all their frames, which are those of the step's own rounds and of the rounds
+-- that are run after it.
 pub record IsCut {N T : Type 0} (walk : Walk N T) (r : Ran N T) (n : ℕ) (f : Fibres) (reports : List T) (left : Fibres) : Type 0 where
   pub count : ℕ
   pub frames : Appends f (take count r.frames) left

@@ -49,10 +49,10 @@ abbrev pub Refuses : {N T : Type 0} → Step → World N → List T → Status �
 Refuses (step.Fibre e) w reports end left = (left.fibres ≡ w.fibres) × Stops status.PlantFault reports end
 Refuses s w reports end left = ⊥
 
--- The steps from a world, after `before` settle steps that have ended, with this limit of rounds a settle step: they
--- give these reports, end so, and leave that world. A settle step ends with a quiet window and has a report; or it is
--- unsettled; or a fault breaks one of its rounds off, or of those after it. Any other step does what it does, or is
--- refused.
+-- The steps run from a world, after `before` settle steps that have ended, with `limit` as the most rounds of a settle
+-- step. They give these reports, end so, and leave that world. A settle step ends with a quiet window and has a report;
+-- or it is unsettled; or a fault breaks off one of its rounds or of those after it. Any other step has the effect that
+-- `walk.does` defines, or is refused.
 abbrev pub Runs : {N T : Type 0} → Walk N T → ℕ → ℕ → List Step → World N → List T → Status → World N → Type 0
 Runs walk limit before [] w reports end left = (left ≡ w) × Stops status.Ok reports end
 Runs {N} {T} walk limit before (step.Settle ∷ later) w reports end left =
@@ -115,7 +115,8 @@ reports_within walk n frames (r ∷ reports) =
     then r ∷ reports_within walk n frames reports else reports_within walk n frames reports
 
 -- A fault broke the script off when `count` of its frames were sent, after `before` that had been sent in rounds
--- before. Its reports are those of the settle steps with all frames sent, of their rounds and of all rounds after them.
+-- before. Its reports are those of the settle steps that had sent all their frames, which are those of the step's own
+-- rounds and of the rounds that are run after it.
 pub record IsCutShort {N T : Type 0} (walk : Walk N T) (r : Ran N T) (n before : ℕ) (w : World N) (reports : List T)
     (left : World N) : Type 0 where
   pub count : ℕ

@@ -22,8 +22,9 @@ HasRoom each before room = room_for each before ≤ room
 
 -- ---- steps, one after the other
 
--- These steps went, after `before` settle steps: what `text_of` writes of each of some reports was written, one report
--- for each settle step of them; and whatever comes of further steps comes after these.
+-- These steps were run, after `before` settle steps. Each settle step of them gave a report, and what `text_of` writes
+-- of each report was written. If further steps are run from the world that is left, all these steps together give these
+-- reports and then theirs.
 pub record Went {N T : Type 0} (walk : Walk N T) (limit : ℕ) (text_of : T → List ℕ) (before : ℕ) (gone : List Step) (w : World N)
     (old new : Option (List ℕ)) (now : ℕ) (left : World N) : Type 0 where
   pub reports : List T

@@ -8,7 +8,7 @@
 ghost use Rattle.sdh_spans.specs.Laws.{FramesComeThrough, SidesSendSo, InletsStay, UntoldSidesFindNothing, SidesFindSo, PortsDeliver};
 ghost use Rattle.sdh_spans.specs.Laws.{PortsBring, SpansTakeWords, SpansBring, CutSpansBringAis, GeneratorsRest, SpansAreSteady};
 
-/// A frame still has its K word after every fibre that isn't cut.
+/// A frame still has its K word after every fibre that isn't cut. Nothing comes after a fibre that is cut.
 pub fn frames_come_through()
     ensures { FramesComeThrough }
 {}

@@ -57,8 +57,9 @@ abbrev pub half : ℕ → Pos
 half number = record { 0 = number / 2 }
 
 -- The failures of a ring of n in their order, counted from 0: fibres degraded, fibres cut, spans, nodes, manual
--- switches, forced switches; each by position, west before east. What is worse comes later, so that in a case the worse
--- of two holds.
+-- switches, forced switches; each by position, west before east. Of two failures that set the same fibre or the command
+-- of the same side, the worse one has the higher number. So where a case has its failures in this order, the worse one
+-- comes last and stays in force.
 unfoldable pub failure_at : ℕ → ℕ → Failure
 failure_at n i =
     if nat_lt i (2 * n) then Degraded (half i) (side_of i) else

@@ -30,8 +30,8 @@ longer_plan plan case limit = record plan { limit = limit; steps = longer_steps 
 -- ---- when it is a plan
 
 -- There is room after the plan's script for the case's steps and a settle step: with them it has at most 1,000 steps,
--- of which at most 64 are settle steps. The limit is one that a plan may have. Such a limit is 64 n + 512, with which
--- each settle step ends in a ring of n.
+-- of which at most 64 are settle steps. The limit is one that a plan may have. 64 n + 512 is such a limit, and with
+-- it each settle step ends in a ring of n.
 pub record HasRoom (plan : Planned) (case : List Failure) (limit : ℕ) : Type 0 where
   pub steps : length plan.steps + length (case_steps (length plan.nodes) plan.settings.threshold case) ≤ 999
   pub settles : count_by is_settle plan.steps ≤ 63
@@ -81,8 +81,8 @@ pub record IsShown (plan : Planned) (case : List Failure) (reports : List PortRe
   pub verdicts : (c : Provisioned) → verdict_of plan case c ≡ verdict_under (length plan.nodes)
       (is_applied (requests_by (ring_of plan) (stretches_by [] (scenes_with plan case) reports) foretold.last.round)) c
 
--- the reports of the plan with a case after its script show the case, whatever they are, if they come to the script's
--- end and show what they owe
+-- all reports of the plan with a case after its script show the case, if they come to the script's end and show what
+-- they owe
 abbrev pub CaseIsShown : Planned → List Failure → Type 0
 CaseIsShown plan case = (limit : ℕ) (reports : List Report) → OwesAll (longer_plan plan case limit) reports status.Ok
     → IsShown plan case (map ports_of reports)

@@ -120,7 +120,7 @@ pub record AreSidesOf (plan : Planned) (s : Sides) : Type 0 where
   pub wait : s.wait ≡ plan.settings.wait
   pub rests : map resting_of s.rests.items ≡ cells (numbered plan) (2 * length plan.nodes)
 
--- the number of the first k places at which a test holds
+-- the number of places below k at which a test holds
 abbrev pub counted : (ℕ → Bool) → ℕ → ℕ
 counted p zero = 0
 counted p (suc k) = counted p k + (if p k then 1 else 0)
