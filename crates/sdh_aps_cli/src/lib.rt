@@ -7,6 +7,7 @@
 #![tactic(auto)]
 
 mod ending;
+pub mod laws;
 mod listing;
 mod recorder;
 mod recording;
