@@ -16,8 +16,9 @@ use Rattle.sdh_world.proofs.Keeping.{all_placed}
 use Rattle.sdh_promise.specs.Changes.{Change, Fibre, Order, Hold, Slip, Now, Stretch, rounds_in}
 use Rattle.sdh_laws.specs.Hearing.Signalling.{filters_of, signals_of, needs_in}
 use Rattle.sdh_laws.proofs.hearing.Changes.{with_node}
-use Rattle.sdh_laws.proofs.hearing.Signalling.{one_run, no_run}
+use Rattle.sdh_laws.proofs.hearing.Signalling.{one_run}
 use Rattle.sdh_laws.proofs.hearing.Staying.{world_low, world_high}
+use Rattle.sdh_rounds.specs.Runs as any_run
 
 -- both have the same states, words, filters and needs
 pub record Alike (v w : World) : Type 0 where
@@ -71,6 +72,10 @@ alike_all [] w = alike_same w w refl
 alike_all (c ∷ cs) w = alike_then (all_changed cs (changed c w)) (changed c w) w (alike_all cs (changed c w)) (alike_changed c w)
 
 -- ---- stretches
+
+pub no_run : (w : World) → run 0 w ≡ w
+unfolding any_run.run
+no_run w = refl
 
 -- the world in which the first round begins
 pub alike_begin : (ss : List Stretch) (w : World) → Alike (world_in ss w 0) w

@@ -16,9 +16,10 @@ use Rattle.sdh_promise.specs.Changes.{Change, Fibre, Order, Hold, Slip, Now, Str
 use Rattle.sdh_laws.specs.Hearing.Laws.{IsWhole}
 use Rattle.sdh_laws.proofs.hearing.Changes.{whole_all, whole_run}
 use Rattle.sdh_laws.proofs.hearing.Nodes.{informed, nodes_after, length-after}
-use Rattle.sdh_laws.proofs.hearing.Signalling.{one_run, no_run}
+use Rattle.sdh_laws.proofs.hearing.Signalling.{one_run}
 use Rattle.sdh_laws.proofs.hearing.Staying.{world_low, world_high}
 use Rattle.sdh_owed.proofs.Known.{length-placed}
+use Rattle.sdh_aps_cli.proofs.Alike.{no_run}
 use Rattle.sdh_aps_cli.specs.ByScript.{turns_after, turns_after_all, turns_in}
 
 -- how many turns the controller at a position is to miss
