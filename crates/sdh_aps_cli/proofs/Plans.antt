@@ -13,6 +13,8 @@ use Rattle.sdh_plan.specs.Steps.{new_past}
 use Rattle.sdh_plan.specs.declared.step.Step.{Step}
 use Rattle.sdh_report.specs.declared.status.Status.{Status}
 use Rattle.sdh_report.specs.declared.status.Status.TheVariants as status
+use Rattle.sdh_promise.specs.Changes.{scenes}
+use Rattle.sdh_promise.specs.Plans.{ring_of}
 use Rattle.sdh_scripts.specs.Texts.{Lists, WriteFailed}
 use Rattle.sdh_scripts.specs.Plans.{Comes}
 use Rattle.sdh_scripts.proofs.Plans.{known_then, settles_then}
@@ -24,9 +26,11 @@ use Rattle.sdh_owed.proofs.Plans.{adm_new, may_start, circuits_fit}
 use Rattle.sdh_aps_cli.specs.Signalled.{Signalled}
 use Rattle.sdh_aps_cli.specs.Scripts.{signalling_walk}
 use Rattle.sdh_aps_cli.specs.Listing.{begun_text, ended_text}
-use Rattle.sdh_aps_cli.specs.Plans.{signalling_account, IsRunOf, IsTextOf, BreaksWriting}
+use Rattle.sdh_aps_cli.specs.Laws.{ScriptsGoAsSignals}
+use Rattle.sdh_aps_cli.specs.Plans.{signalling_account, Owes, IsRunOf, IsTextOf, BreaksWriting}
 use Rattle.sdh_aps_cli.specs.declared.listing.SignalListing.{SignalListing}
 use Rattle.sdh_aps_cli.proofs.Known.{keeps_rounds}
+use Rattle.sdh_aps_cli.proofs.Owing.{none_shown}
 
 -- the ring of a plan over fibres that were prepared for it
 pub world_is : (plan : Planned) (r : HeldRing) (rate : Rate) (n : ℕ) (made f : Fibres) → r ≡ new_ring_of plan → rate ≡ plan.settings.rate
@@ -35,14 +39,23 @@ world_is plan r rate n made f ring rates size is =
     ap₂ (λ (x : HeldRing) (g : Fibres). world x g) ring
     (is ∙ ap (λ (a : Rate). prepared a n f) rates ∙ ap (λ (k : ℕ). prepared plan.settings.rate k f) size)
 
-module _ (settles : ScriptsSettle) (plan : Planned) (listing : SignalListing) (f : Fibres) (fits : IsPlanned plan)
-    (honest : f.honest ≡ true → IsHonest f) where
+module _ (settles : ScriptsSettle) (signals : ScriptsGoAsSignals) (plan : Planned) (listing : SignalListing) (f : Fibres)
+    (fits : IsPlanned plan) (honest : f.honest ≡ true → IsHonest f) where
+  owed_comes : f.honest ≡ true → (left : Fibres) (reports : List Signalled) (end : Status)
+      → Comes signalling_account plan f reports end left → Owes plan f reports end left
+  owed_comes h left reports end (inl x) =
+      subst (λ rs. Owes plan f rs end left) (sym x.1)
+      (none_shown (ring_of plan) plan.nodes plan.limit [] 0 (scenes [] plan.steps) end x.0)
+  owed_comes h left reports end (inr x) =
+      signals plan.settings plan.nodes (provisioning_of plan) f (may_start plan f fits (honest h))
+      plan.limit new_past plan.steps fits.steps_fit reports end x.0 x.2
+
   run_of : (left : Fibres) (reports : List Signalled) (end : Status) → Comes signalling_account plan f reports end left
       → IsRunOf plan f reports end left
   run_of left reports end came = record {
     ran = came;
     known = λ knows. known_then signalling_account plan f left end keeps_rounds adm_new fits reports came knows;
-    owed = λ h. tt;
+    owed = λ h. owed_comes h left reports end came;
     settles =
         λ h large. settles_then signalling_account plan f left end
         (λ told last ran. (

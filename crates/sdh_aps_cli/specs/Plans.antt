@@ -7,24 +7,28 @@ use Rattle.sdh_world.specs.Rounds.{World}
 use Rattle.sdh_plan.specs.Planned.{Planned}
 use Rattle.sdh_report.specs.declared.status.Status.{Status}
 use Rattle.sdh_report.specs.declared.status.Status.TheVariants as status
+use Rattle.sdh_promise.specs.Changes.{scenes}
+use Rattle.sdh_promise.specs.Plans.{ring_of}
 use Rattle.sdh_scripts.specs.Plans.{Account, ReportsOwe}
 use Rattle.sdh_scripts.specs.Plans as plans
 use Rattle.sdh_scripts.specs.Texts.{Stopped, WriteFailed}
 use Rattle.sdh_owed.specs.Plans.{new_ring_of, world_of}
 use Rattle.sdh_aps_cli.specs.Signalled.{Signalled}
 use Rattle.sdh_aps_cli.specs.Scripts.{signalling_walk}
+use Rattle.sdh_aps_cli.specs.Owed.{AreSignalled}
 use Rattle.sdh_aps_cli.specs.Listing.{begun_text, ended_text}
 use Rattle.sdh_aps_cli.specs.declared.listing.SignalListing.{SignalListing}
 
 abbrev pub signalling_account : Account Node Signalled
 signalling_account = record { walk = signalling_walk; new_ring = new_ring_of }
 
--- nothing is owed: over honest fibres too the reports show what the rounds were
+-- over honest fibres what is shown of each settle step is how the ring of signals goes by the script
 abbrev pub Owes : ReportsOwe Signalled
-Owes plan f reports end left = Unit {0}
+Owes plan f reports end left = AreSignalled (ring_of plan) plan.nodes plan.limit [] 0 (scenes [] plan.steps) reports end
 
 -- what is so of one list of the settle steps that ended: what ran over every plant, what it comes to where the arrivals
--- are known, and over honest fibres that no settle step with a limit that is always enough is unsettled
+-- are known, and over honest fibres how the ring of signals goes, and that no settle step with a limit that is always
+-- enough is unsettled
 abbrev pub IsRunOf : Planned → Fibres → List Signalled → Status → Fibres → Type 0
 IsRunOf = plans.IsRunOf signalling_account Owes
 
