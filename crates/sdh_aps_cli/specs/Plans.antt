@@ -1,5 +1,5 @@
 -- What is written of a plan whose signalling is shown, where its fibres aren't made yet.
-use Rattle.std.specs.Prelude.{ℕ, ◌≡◌, ◌⊎◌, List, [], ◌++◌, Option}
+use Rattle.std.specs.Prelude.{ℕ, ◌≡◌, ◌⊎◌, ◌≤◌, true, List, [], ◌++◌, Option}
 use Rattle.std.specs.List.{flat_map}
 use Rattle.sdh_plant.specs.Fibres.{Fibres}
 use Rattle.sdh_node.specs.Node.{Node}
@@ -13,10 +13,10 @@ use Rattle.sdh_scripts.specs.Plans.{Account, ReportsOwe}
 use Rattle.sdh_scripts.specs.Plans as plans
 use Rattle.sdh_scripts.specs.Texts.{Stopped, WriteFailed}
 use Rattle.sdh_owed.specs.Plans.{new_ring_of, world_of}
-use Rattle.sdh_aps_cli.specs.Signalled.{Signalled}
+use Rattle.sdh_aps_cli.specs.Signalled.{Change, Signalled}
 use Rattle.sdh_aps_cli.specs.Scripts.{signalling_walk}
-use Rattle.sdh_aps_cli.specs.Owed.{AreSignalled}
-use Rattle.sdh_aps_cli.specs.Listing.{begun_text, ended_text}
+use Rattle.sdh_aps_cli.specs.Owed.{AreSignalled, AreOfTheNext}
+use Rattle.sdh_aps_cli.specs.Listing.{changes_text, begun_text, ended_text}
 use Rattle.sdh_aps_cli.specs.declared.listing.SignalListing.{SignalListing}
 
 abbrev pub signalling_account : Account Node Signalled
@@ -40,12 +40,20 @@ IsTail plan listing f reports tail end left =
     ⊎ ((last : World) × (last.fibres ≡ left)
     × Stopped signalling_walk plan.limit (begun_text listing) plan.steps (world_of plan f) reports tail end last)
 
+-- over honest fibres, what is written of the rounds that ran of a settle step that did not end is how the ring of signals
+-- goes in its first rounds
+abbrev pub TailIsOwed : Planned → SignalListing → List Signalled → List ℕ → Type 0
+TailIsOwed plan listing reports tail =
+    (count : ℕ) × (shown : List Change) × (count ≤ plan.limit) × (tail ≡ changes_text listing shown)
+    × AreOfTheNext (ring_of plan) plan.nodes [] (scenes [] plan.steps) reports count shown
+
 -- a plan was run over any plant, it ended so, and this is the text of the rounds that ran, step by step
 pub record IsTextOf (plan : Planned) (listing : SignalListing) (f : Fibres) (text : List ℕ) (end : Status) (left : Fibres) : Type 0 where
   pub reports : List Signalled
   pub came : IsRunOf plan f reports end left
   pub tail : List ℕ
   pub tail_is : IsTail plan listing f reports tail end left
+  pub tail_owed : f.honest ≡ true → TailIsOwed plan listing reports tail
   pub text_is : text ≡ flat_map (ended_text listing) reports ++ tail
 
 -- a write failed while the plan ran: a front of the text was written, and no round ran after it

@@ -46,6 +46,7 @@ pub fn run_plan<W: Sink, P: Plant>(
 {
     sdh_owed::scripts_settle();
     crate::laws::scripts_go_as_signals();
+    crate::laws::steps_go_as_signals();
     let settings = plan.settings();
     let limit = plan.limit();
     let nodes = plan.map().len();

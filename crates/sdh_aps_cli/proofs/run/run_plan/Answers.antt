@@ -57,7 +57,7 @@ returns-in-Ok-clause-ran g c other =
     let old = g.W.Sink.written c.args.sink.now in
     let new = g.W.Sink.written c.run_script.new.output in
     let last = world c.run_script.new.runner.ring (means c.run_script.new.plant) in
-    text_ran c.scripts_settle.ensures c.scripts_go_as_signals.ensures plan c.args.listing f form
+    text_ran c.scripts_settle.ensures c.scripts_go_as_signals.ensures c.steps_go_as_signals.ensures plan c.args.listing f form
     (λ (h : f.honest ≡ true). record { honest = h; tells_none = g.met.P.Plant.honest_tells_none c.args.plant.now h })
     c.limit-limit.result c.deref.result.now w c.limit-limit.ensures.limit (c.deref.ensures.value ∙ c.into_parts-map.ensures.steps) is old new
     c.run_script.result last
@@ -81,7 +81,7 @@ returns-in-Ok-clause-cut g c fault =
     let old = g.W.Sink.written c.args.sink.now in
     let new = g.W.Sink.written c.run_script.new.output in
     let last = world c.run_script.new.runner.ring (means c.run_script.new.plant) in
-    text_cut c.scripts_settle.ensures c.scripts_go_as_signals.ensures plan c.args.listing f form
+    text_cut c.scripts_settle.ensures c.scripts_go_as_signals.ensures c.steps_go_as_signals.ensures plan c.args.listing f form
     (λ (h : f.honest ≡ true). record { honest = h; tells_none = g.met.P.Plant.honest_tells_none c.args.plant.now h })
     c.limit-limit.result c.deref.result.now w c.limit-limit.ensures.limit (c.deref.ensures.value ∙ c.into_parts-map.ensures.steps) is old new
     last
@@ -93,7 +93,7 @@ returns-clause-ran g c other =
     let means = g.P.Plant.fibres in
     let f = means c.args.plant.now in (
       [],
-      text_none c.scripts_settle.ensures c.scripts_go_as_signals.ensures c.args.plan c.args.listing f c.into_parts-map.ensures.form
+      text_none c.scripts_settle.ensures c.scripts_go_as_signals.ensures c.steps_go_as_signals.ensures c.args.plan c.args.listing f c.into_parts-map.ensures.form
           (λ (h : f.honest ≡ true). record { honest = h; tells_none = g.met.P.Plant.honest_tells_none c.args.plant.now h })
           (means c.prepare.new.self) c.in-Err-Failed.ensures.err,
       Appends-nil (g.W.Sink.written c.args.sink.now),
