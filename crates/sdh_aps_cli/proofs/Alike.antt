@@ -1,5 +1,5 @@
 -- What changes leave of how a ring signals, and a ring from one round of stretches to the next.
-use Rattle.std.proofs.Common.{◌≡◌, ℕ, suc, ◌-◌, ◌<◌, ◌≤◌, List, [], ◌∷◌, refl, ap, sym, ◌∙◌, arith, inl, inr}
+use Rattle.std.proofs.Common.{◌≡◌, ℕ, suc, ◌-◌, ◌<◌, List, [], ◌∷◌, refl, ap, sym, ◌∙◌, arith, inl, inr}
 use Rattle.std.specs.Prelude.{nat_le}
 use Rattle.std.proofs.lemmas.Bool.{cases_lt}
 use Rattle.sdh_ringmap.specs.declared.Side.{Side}
@@ -20,7 +20,7 @@ use Rattle.sdh_laws.proofs.hearing.Signalling.{one_run}
 use Rattle.sdh_laws.proofs.hearing.Staying.{world_low, world_high}
 use Rattle.sdh_rounds.specs.Runs as any_run
 
--- both have the same states, words, filters and needs
+-- both have equal states, words, filters and needs
 pub record Alike (v w : World) : Type 0 where
   pub signals : signals_of v ≡ signals_of w
   pub needs : needs_in v ≡ needs_in w

@@ -9,7 +9,7 @@ use Rattle.sdh_basics.proofs.CellsLaws.{cells-zero, cells-more, cells-from}
 use Rattle.sdh_node.specs.Node.{Node}
 use Rattle.sdh_world.specs.Held.{nowhere, node_at}
 
--- what there is of each node, by position
+-- a list made of each node is one made by position
 pub as_cells : {Y : Type 0} (f : Node → Y) (g : ℕ → Y) (d : Y) (ns : List Node) (n : ℕ) → length ns ≡ n
     → ((p : ℕ) → p < n → f (node_at ns p) ≡ g p) → map f ns ≡ cells g n
 as_cells f g d ns n size each =

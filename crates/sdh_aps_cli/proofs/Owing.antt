@@ -1,5 +1,5 @@
--- What is shown of each settle step of a script over honest fibres is how the ring of signals goes by the script.
-use Rattle.std.proofs.Common.{◌≡◌, ℕ, ◌+◌, ◌-◌, ◌*◌, ◌<◌, ◌≤◌, List, [], ◌∷◌, ◌++◌, length, refl, ap, sym, subst, ◌∙◌, arith, inl, inr}
+-- Over honest fibres each settle step of a script shows what the ring of signals does.
+use Rattle.std.proofs.Common.{◌≡◌, ℕ, ◌+◌, ◌-◌, ◌≤◌, List, [], ◌∷◌, ◌++◌, length, refl, ap, sym, subst, ◌∙◌, arith, inl, inr}
 use Rattle.std.proofs.Common.{append-nil}
 use Rattle.std.specs.List.{flat_map}
 use Rattle.std.proofs.lemmas.Bool.{cases_lt}
@@ -42,17 +42,17 @@ use Rattle.sdh_aps_cli.specs.Signalled as signalled
 use Rattle.sdh_aps_cli.specs.Signalled.{Signalled, signalled_in, changes_in}
 use Rattle.sdh_aps_cli.specs.Scripts.{signalling_walk}
 use Rattle.sdh_aps_cli.specs.ByScript.{signals_by}
-use Rattle.sdh_aps_cli.specs.Owed.{changes_by, all_changes_by, GoesByScript, AreSignalled, AreOfTheNext}
+use Rattle.sdh_aps_cli.specs.Owed.{changes_by, all_changes_by, ShowsSignals, AreSignalled, AreOfTheNext}
 use Rattle.sdh_aps_cli.specs.Laws.{Runs, ScriptsGoAsSignals, FirstRounds, StepsGoAsSignals}
 use Rattle.sdh_aps_cli.proofs.Signals.{Laws, goes, rounds_show}
 
--- where nothing is shown, nothing wrong is, after a fault
+-- where no settle step is shown, nothing is wrong after a fault
 pub none_shown : (ring : Ring) (ids : List ℕ) (limit : ℕ) (earlier : List Stretch) (before : ℕ) (later : List (List Change)) (end : Status)
     → end ≡ status.PlantFault → AreSignalled ring ids limit earlier before later [] end
 none_shown ring ids limit earlier before [] end h = (refl, inr h)
 none_shown ring ids limit earlier before (changes ∷ later) end h = inr h
 
--- and nothing is shown of no rounds
+-- no rounds show nothing
 pub none_next : (ring : Ring) (ids : List ℕ) (later : List (List Change)) (told : List Signalled) (earlier : List Stretch)
     → AreOfTheNext ring ids earlier later told 0 []
 none_next ring ids [] told earlier = refl
@@ -71,7 +71,7 @@ happens_last : (ss : List Stretch) (s : Stretch) (w : World) → MayHappen w ss 
 happens_last [] s w may last = (last, tt)
 happens_last (r ∷ ss) s w may last = (may.0, happens_last ss s (after_stretch r w) may.1 last)
 
--- a settle step that ended is shown by its rounds
+-- what a settle step that ended shows is that of its rounds
 shown_by_rounds : (limit number : ℕ) (w : World) (one : Signalled) (left : World) → scripts.Ended signalling_walk limit number w one left
     → (x : Settles w limit left) × (one ≡ signalled_in number (course_with x.rounds w) (length x.rounds))
 shown_by_rounds limit number w one left e =
@@ -133,7 +133,7 @@ module _ (laws : Laws) (s : Settings) (ids : List ℕ) (circuits : Provisioning)
           | inr high ↦ (let same : j ≡ k = omega arith in ap (λ i. run i begun) same ∙ sym (world_high (last k) [] u j high))
         ]
 
-    -- the world after j rounds is one of these stretches
+    -- the world after j rounds is one of the stretches with k
     there : (k j : ℕ) → j ≤ k → run j w ≡ world_in (with_rounds k) from (ran + j)
     there k j few = ap (run j) h.is ∙ in_last k j few ∙ sym (world_behind earlier (last k ∷ []) from j)
 
@@ -192,14 +192,14 @@ module _ (laws : Laws) (s : Settings) (ids : List ℕ) (circuits : Provisioning)
           ap (λ (y : Signalled). y.round) is
           ∙ ap (λ (v : World). v.ring.rounds - 1) (sym (x.left_is ∙ course_whole adm x.rounds w))
 
-      -- it shows what it is to, and the script goes on
+      -- it shows what it owes, and so do the later ones
       shown_then : StretchesSettle → (before : ℕ) (one : Signalled)
           → one ≡ signalled_in (before + 1) (course_with x.rounds w) (length x.rounds) → (later : List (List Change)) (rest : List Signalled)
           (end : Status) → AreSignalled ring ids limit (with_rounds many) (before + 1) later rest end
           → AreSignalled ring ids limit earlier before (changes ∷ later) (one ∷ rest) end
       shown_then settle before one is later rest end more =
           let Then = λ (r : ℕ). (one.number ≡ before + 1) × IsLast n limit ran r
-          × GoesByScript ring ids (with_rounds (r + 1 - ran)) ran r one.changes
+          × ShowsSignals ring ids (with_rounds (r + 1 - ran)) ran r one.changes
           × AreSignalled ring ids limit (with_rounds (r + 1 - ran)) (before + 1) later rest end in
           let now : Then t = (
             ap (λ (y : Signalled). y.number) is,

@@ -1,5 +1,5 @@
--- How a ring signals by the script alone: what its nodes need in each round, whose controllers are held, and the ring of
--- signals that goes by that. No frame occurs in it.
+-- How a ring signals, by the script alone: what its nodes need in each round, which controllers are held, and the ring of
+-- signals with these needs. No frame occurs in it.
 use Rattle.std.specs.Prelude.{ℕ, zero, suc, ◌-◌, ◌==◌, nat_lt, nat_le, Bool, false, if◌then◌else◌, List, [], ◌∷◌}
 use Rattle.sdh_basics.specs.Cells.{cells}
 use Rattle.sdh_ringmap.specs.declared.Side.{Side}
@@ -11,17 +11,17 @@ use Rattle.sdh_promise.specs.Changes.{Change, Hold, Stretch}
 use Rattle.sdh_promise.specs.Sides.{side_history}
 use Rattle.sdh_promise.specs.Owed.{Ring, asked_in}
 
--- Rounds are counted from 0, and stretches give the changes before each of them.
+-- Rounds are counted from 0. Stretches say which changes come before which of them.
 
 -- ---- what nodes need
 
--- side d of position p fails in round t of the stretches, in a ring of n: where the fibre that comes in there is cut. In
+-- Side d of position p fails in round t of the stretches, in a ring of n, where the fibre that comes in there is cut. In
 -- round 0 nothing is on its way yet, and no side fails.
 abbrev pub fails_in : ℕ → List Stretch → ℕ → ℕ → Side → Bool
 fails_in n stretches zero p d = false
 fails_in n stretches (suc t) p d = (side_history n p d stretches).is_cut (suc t)
 
--- what the node at position p needs in round t: what its sides ask for, and whether they fail
+-- what the node at position p needs in round t: what each side asks for, and whether it fails
 abbrev pub needs_at : Ring → List Stretch → ℕ → ℕ → Needs
 needs_at r stretches t p = record {
   west = asked_in r.threshold r.wait r.nodes stretches t p West;
@@ -34,9 +34,9 @@ needs_at r stretches t p = record {
 abbrev pub needs_by : Ring → List Stretch → ℕ → List Needs
 needs_by r stretches t = cells (needs_at r stretches t) r.nodes
 
--- ---- whose controllers are held
+-- ---- which controllers are held
 
--- how many turns the controller at position p is to miss after a change: those of a new hold take the place of those that were left
+-- how many turns the controller at position p is to miss after a change; a new hold replaces what is left of an earlier one
 abbrev pub turns_after : ℕ → Change → ℕ → ℕ
 turns_after p (Hold q turns) left = if q == p then turns else left
 turns_after p c left = left
@@ -45,20 +45,20 @@ abbrev pub turns_after_all : ℕ → List Change → ℕ → ℕ
 turns_after_all p [] left = left
 turns_after_all p (c ∷ cs) left = turns_after_all p cs (turns_after p c left)
 
--- how many turns it is still to miss when round t of the stretches begins; each round takes one away
+-- how many turns are left when round t of the stretches begins; each round takes one away
 abbrev pub turns_in : ℕ → List Stretch → ℕ → ℕ → ℕ
 turns_in p [] left t = left - t
 turns_in p (s ∷ ss) left t =
     if nat_lt t s.rounds then turns_after_all p s.changes left - t
     else turns_in p ss (turns_after_all p s.changes left - s.rounds) (t - s.rounds)
 
--- the controllers that miss their turn in round t, by position; in a new ring none is held
+-- whether the controller at each position misses its turn in round t; in a new ring none is held
 abbrev pub held_by : ℕ → List Stretch → ℕ → List Bool
 held_by n stretches t = cells (λ p. nat_le 1 (turns_in p stretches 0 t)) n
 
 -- ---- the ring of signals
 
--- after t rounds of the stretches: a new ring, and then round after round by what the nodes need in it, and whose controllers are held
+-- the ring of signals after t rounds of the stretches: a new ring, and then each round with its needs and its held controllers
 abbrev pub signals_by : Ring → List ℕ → List Stretch → ℕ → Signals
 signals_by r ids stretches zero = (new_ring ids).ring
 signals_by r ids stretches (suc t) =

@@ -1,4 +1,4 @@
--- The law of scripts whose signalling is shown.
+-- The laws of scripts whose signalling is shown.
 use Rattle.std.specs.Prelude.{ℕ, ◌≡◌, ◌+◌, ◌≤◌, List, [], ◌∷◌, ◌++◌, length}
 use Rattle.sdh_circuits.specs.Provisioning.{Provisioning}
 use Rattle.sdh_plant.specs.Fibres.{Fibres}
@@ -25,7 +25,7 @@ use Rattle.sdh_aps_cli.specs.Owed.{AreSignalled, AreOfTheNext}
 abbrev pub Runs : ℕ → ℕ → List Step → World → List Signalled → Status → World → Type 0
 Runs = scripts.Runs signalling_walk
 
--- from a new ring over new honest fibres, what is shown of each settle step is how the ring of signals goes by the script
+-- from a new ring over new honest fibres, each settle step of a script shows what the ring of signals does
 abbrev pub ScriptsGoAsSignals : Type 0
 ScriptsGoAsSignals =
     (s : Settings) (ids : List ℕ) (circuits : Provisioning) (f : Fibres) → MayStart s ids f → (limit : ℕ) (past : Past) (steps : List Step)
@@ -33,8 +33,8 @@ ScriptsGoAsSignals =
     → (told : List Signalled) (end : Status) (left : World) → Runs limit 0 steps (new_world s ids circuits f) told end left
     → AreSignalled (ring_by s (length ids) circuits.circuits) ids limit [] 0 (scenes [] steps) told end
 
--- What is shown of the rounds so far of a settle step from a world, after those of which `told` is shown, is how the ring of
--- signals goes in them. `earlier` had happened before, and these are the changes before each step to come.
+-- Some rounds ran of the settle step after those of which `told` is shown. They led from one world to the other, and show what the ring of
+-- signals does in them. `earlier` had happened before, and these are the changes before each step to come.
 pub record FirstRounds (ring : Ring) (ids : List ℕ) (limit : ℕ) (earlier : List Stretch) (later : List (List Change)) (told : List Signalled)
     (w : World) (one : Signalled) (mid : World) : Type 0 where
   pub count : ℕ
@@ -42,7 +42,7 @@ pub record FirstRounds (ring : Ring) (ids : List ℕ) (limit : ℕ) (earlier : L
   pub ran : mid.ring.rounds ≡ w.ring.rounds + count
   pub shown : AreOfTheNext ring ids earlier later told count one.changes
 
--- from a new ring over new honest fibres, that is so of each settle step, whether it ends or not
+-- from a new ring over new honest fibres, the rounds of each settle step do, whether it ends or not
 abbrev pub StepsGoAsSignals : Type 0
 StepsGoAsSignals =
     (s : Settings) (ids : List ℕ) (circuits : Provisioning) (f : Fibres) → MayStart s ids f → (limit : ℕ) (past : Past)

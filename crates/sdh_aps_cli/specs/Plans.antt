@@ -22,12 +22,12 @@ use Rattle.sdh_aps_cli.specs.declared.listing.SignalListing.{SignalListing}
 abbrev pub signalling_account : Account Node Signalled
 signalling_account = record { walk = signalling_walk; new_ring = new_ring_of }
 
--- over honest fibres what is shown of each settle step is how the ring of signals goes by the script
+-- over honest fibres each settle step that ended shows what the ring of signals does, by the script alone
 abbrev pub Owes : ReportsOwe Signalled
 Owes plan f reports end left = AreSignalled (ring_of plan) plan.nodes plan.limit [] 0 (scenes [] plan.steps) reports end
 
 -- what is so of one list of the settle steps that ended: what ran over every plant, what it comes to where the arrivals
--- are known, and over honest fibres how the ring of signals goes, and that no settle step with a limit that is always
+-- are known, and over honest fibres what the ring of signals does, and that no settle step with a limit that is always
 -- enough is unsettled
 abbrev pub IsRunOf : Planned → Fibres → List Signalled → Status → Fibres → Type 0
 IsRunOf = plans.IsRunOf signalling_account Owes
@@ -40,8 +40,8 @@ IsTail plan listing f reports tail end left =
     ⊎ ((last : World) × (last.fibres ≡ left)
     × Stopped signalling_walk plan.limit (begun_text listing) plan.steps (world_of plan f) reports tail end last)
 
--- over honest fibres, what is written of the rounds that ran of a settle step that did not end is how the ring of signals
--- goes in its first rounds
+-- over honest fibres, what is written of a settle step that did not end is all that the ring of signals does in its first
+-- rounds
 abbrev pub TailIsOwed : Planned → SignalListing → List Signalled → List ℕ → Type 0
 TailIsOwed plan listing reports tail =
     (count : ℕ) × (shown : List Change) × (count ≤ plan.limit) × (tail ≡ changes_text listing shown)

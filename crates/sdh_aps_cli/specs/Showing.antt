@@ -9,8 +9,8 @@ use Rattle.sdh_nodestate.specs.declared.NodeState.{NodeState}
 use Rattle.sdh_owed.specs.Reports.{state_word, bytes_told}
 use Rattle.sdh_aps.specs.declared.shown.Shown.{Shown}
 
--- in a ring of these identifiers: its state and the identifier of its far end, the words that it sent, those that it hears, and what its
--- sides ask for
+-- in a ring of these identifiers: the node's state and the identifier of its far end, the words that it sent, the words
+-- that it hears, and the local requests of its sides
 abbrev pub shown_by : List ℕ → NodeState → Sent → Heard → Needs → Shown
 shown_by ids state sent heard needs = record {
   state = state_word state;

@@ -1,9 +1,9 @@
 //! Laws of scripts whose signalling is shown, over definitions alone: `specs/ByScript.antt` says how a ring signals by the
-//! script alone, `specs/Owed.antt` what is owed of what is shown, and `specs/Laws.antt` has the laws. Each function here
-//! has a law as its contract and no work to do.
+//! script alone, `specs/Owed.antt` what a script owes, and `specs/Laws.antt` has the laws. Each function here has a law as
+//! its contract and no work to do.
 ghost use Rattle.sdh_aps_cli.specs.Laws.{ScriptsGoAsSignals, StepsGoAsSignals};
 
-/// Over honest fibres what is shown of each settle step is how the ring of signals goes by the script.
+/// Over honest fibres each settle step shows what the ring of signals does, by the script alone.
 pub fn scripts_go_as_signals()
     ensures { ScriptsGoAsSignals }
 {
@@ -13,7 +13,7 @@ pub fn scripts_go_as_signals()
     sdh_laws::hearing::stretches_settle();
 }
 
-/// Over honest fibres what is shown of the rounds so far of a settle step is how the ring of signals goes in them.
+/// Over honest fibres the rounds of a settle step show what the ring of signals does in them, whether it ends or not.
 pub fn steps_go_as_signals()
     ensures { StepsGoAsSignals }
 {

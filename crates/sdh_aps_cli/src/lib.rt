@@ -3,7 +3,8 @@
 //! else than in the round before, what it shows.
 //!
 //! What is shown of a settle step is `Signalled` in `specs/Signalled.antt`, what is listed of it is in
-//! `specs/Listing.antt`, and what a call comes to is `Tells` in `specs/Outcome.antt`.
+//! `specs/Listing.antt`, and what a call comes to is `Tells` in `specs/Outcome.antt`. What the text owes over honest
+//! fibres, by the script alone, is in `specs/Owed.antt`.
 #![tactic(auto)]
 
 mod ending;
