@@ -1,6 +1,11 @@
 pub mod Lines
 pub mod Rounds
 pub mod Known
+pub mod Cells
+pub mod Alike
+pub mod Turns
+pub mod Signals
+pub mod Owing
 pub mod Plans
 pub mod Steps
 pub mod Goings

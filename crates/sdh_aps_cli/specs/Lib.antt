@@ -1,9 +1,13 @@
 pub mod Endings
 pub mod Words
+pub mod Showing
 pub mod Signalled
 pub mod Listing
 pub mod Recording
 pub mod Keeping
 pub mod Scripts
+pub mod ByScript
+pub mod Owed
+pub mod Laws
 pub mod Plans
 pub mod Headline

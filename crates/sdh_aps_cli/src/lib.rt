@@ -3,10 +3,12 @@
 //! something else than in the round before, what it shows.
 //!
 //! What is shown of a settle step is `Signalled` in `specs/Signalled.antt`, what is listed of it is in
-//! `specs/Listing.antt`, and what the program reports of a plan is `signalling` in `specs/Headline.antt`.
+//! `specs/Listing.antt`, and what the program reports of a plan is `signalling` in `specs/Headline.antt`. What that owes
+//! over honest fibres, by the script alone, is in `specs/Owed.antt`.
 #![tactic(auto)]
 
 mod ending;
+pub mod laws;
 mod listing;
 mod program;
 mod recorder;

@@ -52,6 +52,8 @@ pub fn run_plan<W: Sink, P: Plant>(
     ensures uncounted { OnErr result (P.exact ≡ true → P.faults plant.new ≡ P.faults plant.old) }
 {
     sdh_owed::scripts_settle();
+    crate::laws::scripts_go_as_signals();
+    crate::laws::steps_go_as_signals();
     let settings = plan.settings();
     let limit = plan.limit();
     let nodes = plan.map().len();

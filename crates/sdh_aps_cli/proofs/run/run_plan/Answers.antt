@@ -67,7 +67,7 @@ returns-clause-ran g c =
     let old = g.W.Sink.written c.args.sink.now in
     let new = g.W.Sink.written c.start_over.new.output in
     let left = world c.start_over.new.runner.ring (means c.start_over.new.plant) in
-    IfOk-weaker c.start_over.result _ _ (λ end wrote other. signalled c.scripts_settle.ensures plan c.args.listing f
+    IfOk-weaker c.start_over.result _ _ (λ end wrote other. signalled c.scripts_settle.ensures c.scripts_go_as_signals.ensures c.steps_go_as_signals.ensures plan c.args.listing f
     c.into_parts-map.ensures.form
     (λ (h : f.honest ≡ true). record { honest = h; tells_none = g.met.P.Plant.honest_tells_none c.args.plant.now h })
     c.limit-limit.result steps ring old new end left c.limit-limit.ensures.limit c.into_parts-map.ensures.steps ring_is
@@ -87,7 +87,7 @@ returns-clause-cut g c =
     let old = g.W.Sink.written c.args.sink.now in
     let new = g.W.Sink.written c.start_over.new.output in
     let left = world c.start_over.new.runner.ring (means c.start_over.new.plant) in
-    IfOk-weaker c.start_over.result _ _ (λ end breaks fault. cut_run c.scripts_settle.ensures plan c.args.listing f
+    IfOk-weaker c.start_over.result _ _ (λ end breaks fault. cut_run c.scripts_settle.ensures c.scripts_go_as_signals.ensures c.steps_go_as_signals.ensures plan c.args.listing f
     c.into_parts-map.ensures.form
     (λ (h : f.honest ≡ true). record { honest = h; tells_none = g.met.P.Plant.honest_tells_none c.args.plant.now h })
     c.limit-limit.result steps ring old new left c.limit-limit.ensures.limit c.into_parts-map.ensures.steps ring_is

@@ -1,0 +1,23 @@
+-- What is shown of a node in a round.
+use Rattle.std.specs.Prelude.{ℕ, List, get_or, option_map}
+use Rattle.sdh_ringmap.specs.declared.Pos.{Pos}
+use Rattle.sdh_nodestate.specs.FarEnds.{far_of}
+use Rattle.sdh_nodestate.specs.declared.Needs.{Needs}
+use Rattle.sdh_nodestate.specs.declared.Heard.{Heard}
+use Rattle.sdh_nodestate.specs.declared.Sent.{Sent}
+use Rattle.sdh_nodestate.specs.declared.NodeState.{NodeState}
+use Rattle.sdh_aps.specs.Told.{state_word, bytes_told}
+use Rattle.sdh_aps.specs.declared.shown.Shown.{Shown}
+
+-- in a ring of these identifiers: the node's state and the identifier of its far end, the words that it sent, the words
+-- that it hears, and the local requests of its sides
+abbrev pub shown_by : List ℕ → NodeState → Sent → Heard → Needs → Shown
+shown_by ids state sent heard needs = record {
+  state = state_word state;
+  far = option_map (λ (p : Pos). get_or ids p.0 0) (far_of state);
+  sent = record { west = bytes_told sent.west; east = bytes_told sent.east };
+  heard_west = option_map bytes_told heard.west;
+  heard_east = option_map bytes_told heard.east;
+  asks_west = needs.west;
+  asks_east = needs.east;
+}
