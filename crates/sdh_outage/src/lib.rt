@@ -4,6 +4,7 @@
 mod change;
 mod kind;
 mod last;
+mod latest;
 pub mod laws;
 mod lines;
 mod listener;
@@ -11,6 +12,7 @@ mod outage;
 mod part;
 mod reach;
 mod scratch;
+mod sender;
 mod summary;
 mod trace;
 mod window;

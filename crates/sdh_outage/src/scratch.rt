@@ -1,10 +1,11 @@
 //! Room for the bytes of one customer that can be on their way.
-ghost use Rattle.std.specs.Prelude.{◌≡◌, ◌+◌, ◌-◌, ◌*◌, ◌^◌, ◌<◌, ◌≤◌, [], IfOk, vec_len, vec_capacity};
-ghost use Rattle.sdh_payload.specs.Stream.{stream_from};
+ghost use Rattle.std.specs.Prelude.{◌≡◌, ◌+◌, ◌-◌, ◌*◌, ◌^◌, ◌<◌, ◌≤◌, [], IfOk, true, length, vec_len, vec_capacity};
+ghost use Rattle.sdh_payload.specs.Stream.{stream_from, chunk_of};
 ghost use Rattle.sdh_outage.specs.Near.{near};
 ghost use Rattle.sdh_outage.specs.Kept.{IsReach};
 
 use crate::reach::{CHUNK, put_chunk};
+use crate::sender::Sender;
 use sdh_payload::{Cells, Feed, Port};
 use std::alloc::{AllocError, Global};
 use std::fmt;
@@ -87,5 +88,27 @@ impl Scratch {
         self.bytes.clear();
         put_near(&mut feed, &mut self.chunk, &mut self.bytes);
         &self.bytes
+    }
+
+    /// Returns a chunk of a port's stream.
+    pub(crate) fn chunk(&mut self, port: &Port, number: u32) -> &[u8]
+        ensures bytes { result.now ≡ chunk_of port.now number }
+        ensures few { length result.now ≤ 2352 }
+    {
+        let mut feed = feed_before(port, &mut self.chunk, number);
+        feed.next(&mut self.chunk);
+        self.chunk.as_slice()
+    }
+
+    /// Returns whether these bytes are the chunk of this number that a port sends. All chunks up to it are sent then.
+    pub(crate) fn is_chunk(&mut self, sender: &mut Sender, number: u32, bytes: &[u8]) -> bool
+        requires later { sender.old.number ≤ number }
+        requires few { number + 1 < 2 ^ 32 }
+        ensures answer { result ≡ true → bytes.now ≡ chunk_of sender.old.port number }
+        ensures sender { sender.new ≡ record sender.old { number = number + 1 } }
+    {
+        sender.skip_to(number, &mut self.chunk);
+        sender.send(&mut self.chunk);
+        self.chunk.as_slice() == bytes
     }
 }

@@ -3,12 +3,15 @@ ghost use Rattle.std.specs.Prelude.{◌≡◌, ◌+◌, ◌^◌, ◌≤◌, IfOk
 ghost use Rattle.sdh_payload.specs.declared.delivered.Delivered.{Delivered};
 ghost use Rattle.sdh_outage.specs.Kinds.{are_ones, jumps, own_kind};
 ghost use Rattle.sdh_outage.specs.Near.{near, holds, is_part};
+ghost use Rattle.sdh_outage.specs.Kept.{came};
 
 use crate::kind::Kind;
 use crate::last::Last;
+use crate::latest::Latest;
 use crate::part::{are_ones, holds, kind_of_pieces};
 use crate::reach::{CHUNK, Reach};
 use crate::scratch::{BEHIND, CHUNKS, Scratch};
+use crate::sender::Sender;
 use memchr::memmem;
 use sdh_payload::Port;
 use std::alloc::{AllocError, Global};
@@ -22,11 +25,14 @@ const AHEAD: u32 = 3;
 /// each round.
 const ROOM: u32 = 6;
 
-/// The bytes of a port's stream that are near in a round. They are made where they are looked at: mostly only those that come next, and
-/// all of them in a scratch.
+/// The bytes of a port's stream that are near in a round. They are made where they are looked at: mostly only the chunk
+/// that comes next, and all of them in a scratch.
 #[derive(Drop)]
 pub struct Window {
     port: Port,
+    // The port without slips, before the chunk that comes next.
+    sender: Sender,
+    // The last chunk and the next ones, where they aren't whole chunks of the stream, or not known to be.
     next: Reach,
     // The chunk of the stream in which the last chunk that came may begin, and at which byte. It only says where to look first.
     from: u32,
@@ -42,7 +48,7 @@ impl Model for Window {
 
     ghost view = { λ w. record { port = w.port; round = w.round } };
 
-    ghost invariant = { λ w. (w.next.most ≡ 6) × (w.next.port ≡ w.port) × (w.at < 2349) };
+    ghost invariant = { λ w. (w.next.most ≡ 6) × (w.next.port ≡ w.port) × (w.at < 2349) × (w.sender.port ≡ w.port) };
 }
 
 impl fmt::Debug for Window {
@@ -58,6 +64,7 @@ impl Window {
     {
         Ok(Window {
             port: port.copy(),
+            sender: Sender::new(port),
             next: Reach::try_new(alloc, port, ROOM)?,
             from: 0,
             at: 0,
@@ -122,26 +129,88 @@ impl Window {
         }
     }
 
-    /// Returns what a round is that brings this chunk, where it is the port's or ones.
-    pub(crate) fn own_chunk(
-        &mut self,
-        scratch: &mut Scratch,
-        last: &mut Last,
-        chunk: &[u8],
-    ) -> Option<Kind>
+    // Returns what a round is that brings this chunk, which isn't ones.
+    fn sought(&mut self, scratch: &mut Scratch, last: &mut Last, chunk: &[u8]) -> Option<Kind>
         requires few { self.old.round + 88 ≤ 2 ^ 32 }
         requires length { length chunk.now ≤ 2352 }
+        requires some { are_ones chunk.now ≡ false }
         ensures kind { result ≡ own_kind (near self.old.port self.old.round) last.old (Delivered.Chunk chunk.now) }
         ensures same { self.new ≡ self.old }
         ensures last { last.new ≡ last.old }
     {
-        if are_ones(chunk) {
-            return Some(Kind::Ones);
-        }
         if self.comes_next(last, chunk) {
             return Some(Kind::InOrder);
         }
         self.looked_up(scratch, last, chunk)
+    }
+
+    // Returns whether a chunk is the stream's chunk after the last one, where that is known by its number. Then it is
+    // kept as what came last.
+    fn goes_on(&mut self, scratch: &mut Scratch, last: &mut Latest, chunk: &[u8]) -> bool
+        requires { self.old.round + 88 ≤ 2 ^ 32 }
+        ensures answer { result ≡ true → (is_part chunk.now (near self.old.port self.old.round) ≡ true)
+            × (jumps (near self.old.port self.old.round) (came last.old) chunk.now ≡ false) }
+        ensures last { result ≡ true → came last.new ≡ Delivered.Chunk chunk.now }
+        ensures kept { result ≡ false → last.new ≡ last.old }
+        ensures same { self.new ≡ self.old }
+    {
+        let first = self.round.saturating_sub(BEHIND);
+        let number = self.sender.number();
+        if number <= first || number >= first + CHUNKS || !last.is_before(&self.port, number) {
+            return false;
+        }
+        let follows = scratch.is_chunk(&mut self.sender, number, chunk);
+        if follows {
+            last.step();
+            self.from = number;
+            self.at = 0;
+        }
+        follows
+    }
+
+    // Keeps a chunk as what came last, by its number where it is one of the stream's that the port hasn't sent yet.
+    fn keep(&mut self, scratch: &mut Scratch, last: &mut Latest, chunk: &[u8])
+        requires few { self.old.round + 88 ≤ 2 ^ 32 }
+        requires length { length chunk.now ≤ 2352 }
+        ensures last { came last.new ≡ Delivered.Chunk chunk.now }
+        ensures same { self.new ≡ self.old }
+    {
+        let number = self.from;
+        if self.at == 0
+            && self.sender.number() <= number
+            && number < self.round + 8
+            && scratch.is_chunk(&mut self.sender, number, chunk)
+        {
+            last.know(&self.port, number);
+        } else {
+            last.put_chunk(chunk);
+        }
+    }
+
+    /// Returns what a round is that brings this chunk, where it is the port's or ones, and keeps it as what came last.
+    pub(crate) fn own_chunk(
+        &mut self,
+        scratch: &mut Scratch,
+        last: &mut Latest,
+        chunk: &[u8],
+    ) -> Option<Kind>
+        requires few { self.old.round + 88 ≤ 2 ^ 32 }
+        requires length { length chunk.now ≤ 2352 }
+        ensures kind { result ≡ own_kind (near self.old.port self.old.round) (came last.old) (Delivered.Chunk chunk.now) }
+        ensures same { self.new ≡ self.old }
+        ensures last { came last.new ≡ Delivered.Chunk chunk.now }
+    {
+        if are_ones(chunk) {
+            last.put_chunk(chunk);
+            return Some(Kind::Ones);
+        }
+        if self.goes_on(scratch, last, chunk) {
+            return Some(Kind::InOrder);
+        }
+        last.spell(scratch);
+        let kind = self.sought(scratch, &mut last.plain, chunk);
+        self.keep(scratch, last, chunk);
+        kind
     }
 
     /// Returns whether a chunk holds some of them.
