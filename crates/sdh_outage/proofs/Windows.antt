@@ -161,10 +161,10 @@ pub next_follows : (port : Customer) (round number : ℕ) (chunk : List ℕ) →
 next_follows port round number chunk after before e =
     let last = chunk_of port number in
     let others = stream_from port (2349 * number) (2349 * (number + 2 - number)) in
-    let then : 2349 * (number + 1) ≡ 2349 * number + 2349 = omega arith in
+    let next : 2349 * (number + 1) ≡ 2349 * number + 2349 = omega arith in
     let count : 2349 + 2349 ≡ 2349 * (number + 2 - number) = omega arith in
     let both : last ++ chunk ≡ others =
-    ap (λ l. last ++ l) (e ∙ ap (λ p. stream_from port p 2349) then) ∙ sym (stream_from-append port (2349 * number) 2349 2349)
+    ap (λ l. last ++ l) (e ∙ ap (λ p. stream_from port p 2349) next) ∙ sym (stream_from-append port (2349 * number) 2349 2349)
     ∙ ap (stream_from port (2349 * number)) count in
     follows_near port round number (number + 2) (Chunk last) chunk after (omega arith) before (0, occurs_whole (last ++ chunk) others both)
 

@@ -1,13 +1,12 @@
 -- What a listener holds.
-use Rattle.std.specs.Prelude.{◌≡◌, ℕ, ◌+◌, ◌-◌, ◌*◌, ◌≤◌, Bool, if◌then◌else◌, Option, None, Some, List, ◌++◌, length}
+use Rattle.std.specs.Prelude.{◌≡◌, ℕ, ◌+◌, ◌-◌, ◌*◌, ◌≤◌, Bool, if◌then◌else◌, List, ◌++◌, length}
 use Rattle.memchr.specs.Find.{OccursAt}
 use Rattle.sdh_payload.specs.declared.delivered.Delivered.{Delivered}
 use Rattle.sdh_payload.specs.declared.delivered.Delivered.TheVariants.{Ais, Chunk}
 use Rattle.sdh_payload.specs.Customer.{Customer}
 use Rattle.sdh_payload.specs.Clock.{waiting}
 use Rattle.sdh_payload.specs.Feed.{Fed}
-use Rattle.sdh_payload.specs.Stream.{stream_from, chunk_of}
-use Rattle.sdh_outage.specs.declared.latest.Latest.{Latest}
+use Rattle.sdh_payload.specs.Stream.{stream_from}
 use Rattle.sdh_outage.specs.declared.outage.Outage.{Outage}
 use Rattle.sdh_outage.specs.declared.outage.Runs.{Runs}
 use Rattle.sdh_outage.specs.declared.summary.Summary.{Summary}
@@ -56,17 +55,6 @@ delivered is_chunk bytes = if is_chunk then Chunk bytes else Ais
 abbrev pub Stands : Delivered → List ℕ → List ℕ → Type 0
 Stands Ais chunk others = (k : ℕ) × OccursAt others chunk k
 Stands (Chunk last) chunk others = (k : ℕ) × OccursAt others (last ++ chunk) k
-
--- ---- what came in the round before
-
--- the chunk of this number of a port's stream, where the port is known, and else what is kept with its bytes
-abbrev pub latest_of : Option Customer → ℕ → Delivered → Delivered
-latest_of None number plain = plain
-latest_of (Some port) number plain = Chunk (chunk_of port number)
-
--- what that is
-abbrev pub came : Latest → Delivered
-came l = latest_of l.port l.number l.plain
 
 -- ---- a listener
 

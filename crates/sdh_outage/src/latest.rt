@@ -2,7 +2,7 @@
 ghost use Rattle.std.specs.Prelude.{◌≡◌, ◌+◌, ◌^◌, ◌<◌, ◌≤◌, None, Some, true, IfOk, length};
 ghost use Rattle.sdh_payload.specs.declared.delivered.Delivered.{Delivered};
 ghost use Rattle.sdh_payload.specs.Stream.{chunk_of};
-ghost use Rattle.sdh_outage.specs.Kept.{came};
+ghost use Rattle.sdh_outage.specs.Latest.{came};
 
 use crate::last::Last;
 use crate::scratch::Scratch;

@@ -28,7 +28,8 @@ pub struct Listener {
 
 impl Model for Listener {
     ghost use Rattle.std.specs.Prelude.{◌≤◌};
-    ghost use Rattle.sdh_outage.specs.Kept.{Heard, AreFew, came};
+    ghost use Rattle.sdh_outage.specs.Kept.{Heard, AreFew};
+    ghost use Rattle.sdh_outage.specs.Latest.{came};
 
     ghost Value = { Heard };
 

@@ -3,7 +3,7 @@ ghost use Rattle.std.specs.Prelude.{◌≡◌, ◌+◌, ◌^◌, ◌≤◌, IfOk
 ghost use Rattle.sdh_payload.specs.declared.delivered.Delivered.{Delivered};
 ghost use Rattle.sdh_outage.specs.Kinds.{are_ones, jumps, own_kind};
 ghost use Rattle.sdh_outage.specs.Near.{near, holds, is_part};
-ghost use Rattle.sdh_outage.specs.Kept.{came};
+ghost use Rattle.sdh_outage.specs.Latest.{came};
 
 use crate::kind::Kind;
 use crate::last::Last;

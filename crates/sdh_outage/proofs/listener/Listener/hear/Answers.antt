@@ -1,6 +1,7 @@
 use Rattle.std.proofs.Common.{◌≡◌, ◌+◌, refl, ap, ◌∙◌}
 use Rattle.sdh_outage.specs.Kinds.{kind_of}
-use Rattle.sdh_outage.specs.Kept.{Heard, heard, came}
+use Rattle.sdh_outage.specs.Kept.{Heard, heard}
+use Rattle.sdh_outage.specs.Latest.{came}
 use Rattle.sdh_outage.specs.Outages.{with_round}
 use Rattle.sdh_outage.proofs.Hearing.{hears, trace_after}
 use Rattle.sdh_outage.proofs.listener.Listener.hear.Goals as goal
