@@ -38,13 +38,6 @@ pub record IsReach (feed : Fed) (first made : ℕ) (bytes : List ℕ) : Type 0 w
   pub order : first ≤ made
   pub bytes_are : bytes ≡ stream_from feed.port (2349 * first) (2349 * (made - first))
 
--- ---- a port that sends
-
--- whose chunks they are, and the number of the next one
-pub record Sending : Type 0 where
-  pub port : Customer
-  pub number : ℕ
-
 -- ---- what was delivered last
 
 -- a chunk of these bytes, or AIS

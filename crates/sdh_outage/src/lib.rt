@@ -12,7 +12,6 @@ mod outage;
 mod part;
 mod reach;
 mod scratch;
-mod sender;
 mod summary;
 mod trace;
 mod window;

@@ -4,8 +4,7 @@ ghost use Rattle.sdh_payload.specs.Stream.{stream_from, chunk_of};
 ghost use Rattle.sdh_outage.specs.Near.{near};
 ghost use Rattle.sdh_outage.specs.Kept.{IsReach};
 
-use crate::reach::{CHUNK, put_chunk};
-use crate::sender::Sender;
+use crate::reach::{CHUNK, Reach, put_chunk};
 use sdh_payload::{Cells, Feed, Port};
 use std::alloc::{AllocError, Global};
 use std::fmt;
@@ -100,15 +99,20 @@ impl Scratch {
         self.chunk.as_slice()
     }
 
-    /// Returns whether these bytes are the chunk of this number that a port sends. All chunks up to it are sent then.
-    pub(crate) fn is_chunk(&mut self, sender: &mut Sender, number: u32, bytes: &[u8]) -> bool
-        requires later { sender.old.number ≤ number }
-        requires few { number + 1 < 2 ^ 32 }
-        ensures answer { result ≡ true → bytes.now ≡ chunk_of sender.old.port number }
-        ensures sender { sender.new ≡ record sender.old { number = number + 1 } }
+    /// Makes the next chunk of a stream, and returns whether it is this one. It is the only one that is kept then where
+    /// `keeps` holds, and else none is.
+    pub(crate) fn is_next(&mut self, next: &mut Reach, keeps: bool, chunk: &[u8]) -> bool
+        requires few { next.old.made + 1 < 2 ^ 32 }
+        requires room { 1 ≤ next.old.most }
+        ensures answer { result ≡ true → chunk.now ≡ chunk_of next.old.port next.old.made }
+        ensures port { next.new.port ≡ next.old.port }
+        ensures most { next.new.most ≡ next.old.most }
     {
-        sender.skip_to(number, &mut self.chunk);
-        sender.send(&mut self.chunk);
-        self.chunk.as_slice() == bytes
+        if keeps {
+            next.keep_next();
+            return next.ends_with(chunk);
+        }
+        next.make(&mut self.chunk);
+        self.chunk.as_slice() == chunk
     }
 }

@@ -11,28 +11,31 @@ use crate::latest::Latest;
 use crate::part::{are_ones, holds, kind_of_pieces};
 use crate::reach::{CHUNK, Reach};
 use crate::scratch::{BEHIND, CHUNKS, Scratch};
-use crate::sender::Sender;
 use memchr::memmem;
 use sdh_payload::Port;
 use std::alloc::{AllocError, Global};
 use std::fmt;
 use std::marker::Model;
 
-/// The number of chunks that hold the last one and the one after it, wherever they begin.
+/// The number of chunks that hold the last one and the one after it, wherever they begin, and where both are whole
+/// chunks of the stream.
 const AHEAD: u32 = 3;
+
+const WHOLE: u32 = 2;
 
 /// The number of chunks that there is room for where the next ones are looked for, so that the bytes aren't moved in
 /// each round.
 const ROOM: u32 = 6;
+
+/// A settle step ends after a round whose number is a multiple of this. The bytes of its chunk are kept, since the next
+/// step begins with them.
+const TURN: u32 = 128;
 
 /// The bytes of a port's stream that are near in a round. They are made where they are looked at: mostly only the chunk
 /// that comes next, and all of them in a scratch.
 #[derive(Drop)]
 pub struct Window {
     port: Port,
-    // The port without slips, before the chunk that comes next.
-    sender: Sender,
-    // The last chunk and the next ones, where they aren't whole chunks of the stream, or not known to be.
     next: Reach,
     // The chunk of the stream in which the last chunk that came may begin, and at which byte. It only says where to look first.
     from: u32,
@@ -48,7 +51,7 @@ impl Model for Window {
 
     ghost view = { λ w. record { port = w.port; round = w.round } };
 
-    ghost invariant = { λ w. (w.next.most ≡ 6) × (w.next.port ≡ w.port) × (w.at < 2349) × (w.sender.port ≡ w.port) };
+    ghost invariant = { λ w. (w.next.most ≡ 6) × (w.next.port ≡ w.port) × (w.at < 2349) };
 }
 
 impl fmt::Debug for Window {
@@ -64,7 +67,6 @@ impl Window {
     {
         Ok(Window {
             port: port.copy(),
-            sender: Sender::new(port),
             next: Reach::try_new(alloc, port, ROOM)?,
             from: 0,
             at: 0,
@@ -89,13 +91,14 @@ impl Window {
         ensures same { self.new ≡ self.old }
     {
         let first = self.round.saturating_sub(BEHIND);
+        let count = if self.at == 0 { WHOLE } else { AHEAD };
         if self.from < self.next.first()
             || self.from < first
             || self.from > first + (CHUNKS - AHEAD)
         {
             return false;
         }
-        self.next.reach(first, self.from, AHEAD);
+        self.next.reach(first, self.from, count);
         if self.next.made() > first + CHUNKS {
             return false;
         }
@@ -155,11 +158,11 @@ impl Window {
         ensures same { self.new ≡ self.old }
     {
         let first = self.round.saturating_sub(BEHIND);
-        let number = self.sender.number();
+        let number = self.next.made();
         if number <= first || number >= first + CHUNKS || !last.is_before(&self.port, number) {
             return false;
         }
-        let follows = scratch.is_chunk(&mut self.sender, number, chunk);
+        let follows = scratch.is_next(&mut self.next, self.round % TURN == 0, chunk);
         if follows {
             last.step();
             self.from = number;
@@ -168,23 +171,21 @@ impl Window {
         follows
     }
 
-    // Keeps a chunk as what came last, by its number where it is one of the stream's that the port hasn't sent yet.
-    fn keep(&mut self, scratch: &mut Scratch, last: &mut Latest, chunk: &[u8])
+    // Keeps a chunk that was found as what came last, by its number where it is a whole chunk of the stream.
+    fn keep(&mut self, last: &mut Latest, chunk: &[u8])
         requires few { self.old.round + 88 ≤ 2 ^ 32 }
         requires length { length chunk.now ≤ 2352 }
         ensures last { came last.new ≡ Delivered.Chunk chunk.now }
         ensures same { self.new ≡ self.old }
     {
-        let number = self.from;
-        if self.at == 0
-            && self.sender.number() <= number
-            && number < self.round + 8
-            && scratch.is_chunk(&mut self.sender, number, chunk)
-        {
-            last.know(&self.port, number);
-        } else {
-            last.put_chunk(chunk);
+        if self.at == 0 && chunk.len() == CHUNK && self.from < self.round + 8 {
+            self.next.end_at(&self.port, self.from);
+            if self.next.ends_with(chunk) {
+                last.know(&self.port, self.next.made() - 1);
+                return;
+            }
         }
+        last.put_chunk(chunk);
     }
 
     /// Returns what a round is that brings this chunk, where it is the port's or ones, and keeps it as what came last.
@@ -209,7 +210,10 @@ impl Window {
         }
         last.spell(scratch);
         let kind = self.sought(scratch, &mut last.plain, chunk);
-        self.keep(scratch, last, chunk);
+        match kind {
+            Some(Kind::InOrder) | Some(Kind::Jump) => self.keep(last, chunk),
+            _ => last.put_chunk(chunk),
+        }
         kind
     }
 

@@ -18,7 +18,7 @@ returns-then-follows-clause-answer c = λ found.
     let before = c.if-not-is_before.ensures refl in
     let known : came last ≡ Chunk (chunk_of w.port last.number) = ap (λ p. latest_of p last.number last.plain) before.0 in
     let sent : chunk ≡ chunk_of w.port (last.number + 1) =
-    c.is_chunk-follows.ensures.answer found ∙ (λ i. chunk_of (c.self.invariant.3 i) (sym before.1 i)) in
+    c.is_next-follows.ensures.answer found ∙ (λ i. chunk_of (c.self.invariant.1 i) ((sym c.made-number.ensures ∙ sym before.1) i)) in
     let follows = next_follows w.port w.round last.number chunk (omega (arith, begins, before.1, c.if-number-first.false))
     (omega (arith, begins, before.1, c.if-number-first-2.false)) sent in
     subst (λ (n : Nearby). (is_part chunk (near n.port n.round) ≡ true) × (jumps (near n.port n.round) (came last) chunk ≡ false)) c.self.view_is
