@@ -73,6 +73,11 @@ pub occurs_front : (bytes others more : List ℕ) (at : ℕ) → at ≤ length o
 occurs_front bytes others more at inside e =
     same_occurs bytes others at inside (sym (take-append_seam bytes more) ∙ ap (take (length bytes)) (sym e))
 
+-- all bytes
+pub occurs_whole : (bytes others : List ℕ) → bytes ≡ others → OccursAt others bytes 0
+occurs_whole bytes others e =
+    same_occurs bytes others 0 (omega arith) (e ∙ sym (take_all (length bytes) others (omega (arith, ap length e))))
+
 -- the second part of some
 occurs_second : (first second others : List ℕ) (at : ℕ) → OccursAt others (first ++ second) at → OccursAt others second (at + length first)
 occurs_second first second others at o = record {

@@ -4,16 +4,17 @@ use Rattle.std.specs.Prelude.{Result, Ok, is_ok, if◌then◌else◌}
 use Rattle.std.proofs.Math.Seq.{drop-append_seam}
 use Rattle.sdh_basics.proofs.CellsLaws.{cells-zero}
 use Rattle.sdh_payload.specs.declared.delivered.Delivered.{Delivered}
+use Rattle.sdh_payload.specs.declared.delivered.Delivered.TheVariants.{Chunk}
 use Rattle.sdh_payload.specs.Customer.{Customer}
 use Rattle.sdh_payload.specs.Clock.{waiting}
 use Rattle.sdh_payload.specs.Feed.{Fed, new_feed, next_feed}
-use Rattle.sdh_payload.specs.Stream.{stream_from}
+use Rattle.sdh_payload.specs.Stream.{stream_from, chunk_of}
 use Rattle.sdh_payload.proofs.Chunks.{length-stream_from, stream_from-append}
 use Rattle.sdh_payload.proofs.Clocking.{plain_tick, rounds_more}
 use Rattle.sdh_outage.specs.Near.{near, near_from, is_part}
 use Rattle.sdh_outage.specs.Kinds.{jumps}
 use Rattle.sdh_outage.specs.Kept.{IsReach, Stands}
-use Rattle.sdh_outage.proofs.Standing.{follows, stands_around}
+use Rattle.sdh_outage.proofs.Standing.{occurs_whole, follows, stands_around}
 
 -- ---- parts of a stream
 
@@ -152,6 +153,20 @@ follows_near port round first made last chunk after order before stands =
     ∙ ap (λ l. front ++ l) (ap (λ p. stream_from port p (m + b)) begins ∙ stream_from-append port (2349 * first) m b) in
     follows last chunk (stream_from port s (2349 * 78))
     (subst (Stands last chunk) (sym all) (stands_around last chunk front some behind stands))
+
+-- a chunk of the stream follows the one before it
+pub next_follows : (port : Customer) (round number : ℕ) (chunk : List ℕ) → round - 71 ≤ number → number + 2 ≤ round - 71 + 78
+    → chunk ≡ chunk_of port (number + 1)
+    → (is_part chunk (near port round) ≡ true) × (jumps (near port round) (Chunk (chunk_of port number)) chunk ≡ false)
+next_follows port round number chunk after before e =
+    let last = chunk_of port number in
+    let others = stream_from port (2349 * number) (2349 * (number + 2 - number)) in
+    let next : 2349 * (number + 1) ≡ 2349 * number + 2349 = omega arith in
+    let count : 2349 + 2349 ≡ 2349 * (number + 2 - number) = omega arith in
+    let both : last ++ chunk ≡ others =
+    ap (λ l. last ++ l) (e ∙ ap (λ p. stream_from port p 2349) next) ∙ sym (stream_from-append port (2349 * number) 2349 2349)
+    ∙ ap (stream_from port (2349 * number)) count in
+    follows_near port round number (number + 2) (Chunk last) chunk after (omega arith) before (0, occurs_whole (last ++ chunk) others both)
 
 -- what holds where a call that can fail didn't
 pub when_ok : {T E X : Type 0} (r : Result T E) (u : T) (a b : X) → r ≡ Ok u → (if is_ok r then a else b) ≡ a

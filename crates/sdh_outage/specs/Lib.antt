@@ -4,4 +4,5 @@ pub mod Outages
 pub mod Changes
 pub mod Lines
 pub mod Kept
+pub mod Latest
 pub mod Longest

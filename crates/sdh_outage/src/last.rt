@@ -1,5 +1,6 @@
 //! What a port delivered in the round before.
 ghost use Rattle.std.specs.Prelude.{◌≡◌, ◌≤◌, true, false, IfOk, length};
+ghost use Rattle.sdh_payload.specs.declared.delivered.Delivered.{Delivered};
 ghost use Rattle.sdh_outage.specs.Kinds.{jumps};
 ghost use Rattle.sdh_outage.specs.Kept.{Stands};
 
@@ -52,14 +53,23 @@ impl Last {
     pub(crate) fn put(&mut self, now: &Delivered)
         ensures { self.new ≡ now.now }
     {
-        self.bytes.clear();
         match now {
-            Delivered::Ais => self.is_chunk = false,
-            Delivered::Chunk(chunk) => {
-                self.bytes.extend_from_slice(chunk.as_slice()).unwrap();
-                self.is_chunk = true;
+            Delivered::Ais => {
+                self.bytes.clear();
+                self.is_chunk = false;
             }
+            Delivered::Chunk(chunk) => self.put_chunk(chunk.as_slice()),
         }
+    }
+
+    /// Keeps a chunk as what was delivered last.
+    pub(crate) fn put_chunk(&mut self, chunk: &[u8])
+        requires { length chunk.now ≤ 2352 }
+        ensures { self.new ≡ Delivered.Chunk chunk.now }
+    {
+        self.bytes.clear();
+        self.bytes.extend_from_slice(chunk).unwrap();
+        self.is_chunk = true;
     }
 
     /// Returns how many bytes a chunk has.

@@ -4,6 +4,7 @@
 mod change;
 mod kind;
 mod last;
+mod latest;
 pub mod laws;
 mod lines;
 mod listener;

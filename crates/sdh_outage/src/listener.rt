@@ -3,11 +3,11 @@ ghost use Rattle.std.specs.Prelude.{◌≡◌, ℕ, ◌+◌, ◌^◌, ◌≤◌,
 ghost use Rattle.sdh_payload.specs.declared.delivered.Delivered.{Delivered};
 ghost use Rattle.sdh_payload.specs.Customer.{Customer};
 ghost use Rattle.sdh_outage.specs.Near.{near};
-ghost use Rattle.sdh_outage.specs.Kinds.{own_kind, kind_of, Whose};
+ghost use Rattle.sdh_outage.specs.Kinds.{own_kind, kind_of, last_heard, Whose};
 ghost use Rattle.sdh_outage.specs.Kept.{heard};
 
 use crate::kind::Kind;
-use crate::last::Last;
+use crate::latest::Latest;
 use crate::outage::Outage;
 use crate::scratch::Scratch;
 use crate::trace::Trace;
@@ -21,7 +21,7 @@ use std::marker::Model;
 #[derive(Debug, Drop)]
 pub struct Listener {
     round: u32,
-    last: Last,
+    last: Latest,
     outage: Outage,
     trace: Trace,
 }
@@ -29,10 +29,11 @@ pub struct Listener {
 impl Model for Listener {
     ghost use Rattle.std.specs.Prelude.{◌≤◌};
     ghost use Rattle.sdh_outage.specs.Kept.{Heard, AreFew};
+    ghost use Rattle.sdh_outage.specs.Latest.{came};
 
     ghost Value = { Heard };
 
-    ghost view = { λ l. record { round = l.round; last = l.last; outage = l.outage; trace = l.trace } };
+    ghost view = { λ l. record { round = l.round; last = came l.last; outage = l.outage; trace = l.trace } };
 
     ghost invariant = { λ l. AreFew l.outage l.round × (l.trace.count ≤ l.round) };
 }
@@ -44,7 +45,7 @@ impl Listener {
     {
         Ok(Listener {
             round: 0,
-            last: Last::try_new(alloc)?,
+            last: Latest::try_new(alloc)?,
             outage: Outage::none(),
             trace: Trace::try_new(alloc)?,
         })
@@ -61,7 +62,7 @@ impl Listener {
     }
 
     /// Returns the kind of a round in which this was delivered, by the far customer's bytes that are near; None where
-    /// it is neither AIS, nor ones, nor any of these bytes.
+    /// it is neither AIS, nor ones, nor any of these bytes. It is kept as what was delivered last; the round is counted by `hear`.
     pub fn own_kind(
         &mut self,
         far: &mut Window,
@@ -70,26 +71,29 @@ impl Listener {
     ) -> Option<Kind>
         requires { far.old.round + 88 ≤ 2 ^ 32 }
         ensures kind { result ≡ own_kind (near far.old.port far.old.round) self.old.last now.now }
-        ensures same { self.new ≡ self.old }
+        ensures last { self.new ≡ record self.old { last = now.now } }
         ensures far { far.new ≡ far.old }
     {
         match now {
-            Delivered::Ais => Some(Kind::Ais),
+            Delivered::Ais => {
+                self.last.put(now);
+                Some(Kind::Ais)
+            }
             Delivered::Chunk(chunk) => far.own_chunk(scratch, &mut self.last, chunk.as_slice()),
         }
     }
 
-    /// Hears of one round more, in which this was delivered, and which was of this kind.
-    pub fn hear(&mut self, now: &Delivered, kind: Kind)
+    /// Hears of one round more, of this kind, in which that was delivered which is kept as what was delivered last.
+    pub fn hear(&mut self, kind: Kind)
         requires { self.old.round + 8 ≤ 2 ^ 32 }
         ensures history { (port : Customer) (whose : Whose) (first : ℕ) (before : Delivered) (past : List Delivered)
-            → self.old ≡ heard port whose first before past → kind ≡ kind_of port whose self.old.round self.old.last now.now
-            → self.new ≡ heard port whose first before (now.now ∷ past) }
+            → self.old ≡ record (heard port whose first before past) { last = self.old.last }
+            → kind ≡ kind_of port whose self.old.round (last_heard before past) self.old.last
+            → self.new ≡ heard port whose first before (self.old.last ∷ past) }
         ensures round { self.new.round ≡ self.old.round + 1 }
     {
         self.outage = self.outage.with_round(self.round, kind);
         self.trace.add(self.round, kind);
-        self.last.put(now);
         self.round += 1;
     }
 

@@ -1,8 +1,8 @@
 //! Some chunks of a customer's stream.
-ghost use Rattle.std.specs.Prelude.{◌≡◌, ◌+◌, ◌-◌, ◌*◌, ◌^◌, ◌<◌, ◌≤◌, ◌++◌, IfOk, take, drop, length, vec_len, vec_capacity};
+ghost use Rattle.std.specs.Prelude.{◌≡◌, ◌+◌, ◌-◌, ◌*◌, ◌^◌, ◌<◌, ◌≤◌, ◌++◌, IfOk, true, take, drop, length, vec_len, vec_capacity};
 ghost use Rattle.sdh_payload.specs.Clock.{waiting};
 ghost use Rattle.sdh_payload.specs.Feed.{next_feed};
-ghost use Rattle.sdh_payload.specs.Stream.{stream_from};
+ghost use Rattle.sdh_payload.specs.Stream.{stream_from, chunk_of};
 ghost use Rattle.sdh_outage.specs.Kept.{Reached};
 
 use sdh_payload::{Cells, Feed, Port};
@@ -164,6 +164,47 @@ impl Reach {
         self.first = self.made;
     }
 
+    /// Drops all chunks that are kept, and makes the next one in place of what `out` held.
+    pub(crate) fn make(&mut self, out: &mut Cells)
+        requires { self.old.made + 1 < 2 ^ 32 }
+        ensures chunk { out.new ≡ chunk_of self.old.port self.old.made }
+        ensures next { self.new ≡ record self.old { first = self.old.made + 1; made = self.old.made + 1 } }
+    {
+        self.feed.next(out);
+        self.bytes.clear();
+        self.made += 1;
+        self.first = self.made;
+    }
+
+    /// Drops all chunks that are kept, and keeps the next one.
+    pub(crate) fn keep_next(&mut self)
+        requires few { self.old.made + 1 < 2 ^ 32 }
+        requires room { 1 ≤ self.old.most }
+        ensures { self.new ≡ record self.old { first = self.old.made; made = self.old.made + 1 } }
+    {
+        self.clear();
+        self.push();
+    }
+
+    /// Returns whether this is the last chunk that is kept.
+    pub(crate) fn ends_with(&self, chunk: &[u8]) -> bool
+        requires { self.now.first < self.now.made }
+        ensures { result ≡ true → chunk.now ≡ chunk_of self.now.port (self.now.made - 1) }
+    {
+        &self.bytes[self.bytes.len() - CHUNK..] == chunk
+    }
+
+    // Begins anew before chunk 0 of the same port's stream.
+    fn restart(&mut self, port: &Port)
+        requires { port.now ≡ self.old.port }
+        ensures { self.new ≡ record self.old { first = 0; made = 0 } }
+    {
+        self.feed = Feed::new(port);
+        self.bytes.clear();
+        self.made = 0;
+        self.first = 0;
+    }
+
     // Drops all chunks that are kept, and makes those before this one, so that it is next.
     fn pass_to(&mut self, from: u32)
         requires later { self.old.made ≤ from }
@@ -216,6 +257,21 @@ impl Reach {
         } else if self.first < low || self.first + self.most < from + count {
             self.drop_to(from);
         }
+    }
+
+    /// Keeps this chunk of the port's stream as the last one.
+    pub(crate) fn end_at(&mut self, port: &Port, number: u32)
+        requires same { port.now ≡ self.old.port }
+        requires few { number + 80 < 2 ^ 32 }
+        requires room { 1 ≤ self.old.most }
+        ensures port { self.new.port ≡ self.old.port }
+        ensures most { self.new.most ≡ self.old.most }
+        ensures some { self.new.first < self.new.made }
+    {
+        if self.first > number || self.made > number + 1 {
+            self.restart(port);
+        }
+        self.reach(number, number, 1);
     }
 
     /// Keeps `count` chunks from this one on, and none before `low`.

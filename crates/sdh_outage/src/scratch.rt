@@ -1,10 +1,10 @@
 //! Room for the bytes of one customer that can be on their way.
-ghost use Rattle.std.specs.Prelude.{◌≡◌, ◌+◌, ◌-◌, ◌*◌, ◌^◌, ◌<◌, ◌≤◌, [], IfOk, vec_len, vec_capacity};
-ghost use Rattle.sdh_payload.specs.Stream.{stream_from};
+ghost use Rattle.std.specs.Prelude.{◌≡◌, ◌+◌, ◌-◌, ◌*◌, ◌^◌, ◌<◌, ◌≤◌, [], IfOk, true, length, vec_len, vec_capacity};
+ghost use Rattle.sdh_payload.specs.Stream.{stream_from, chunk_of};
 ghost use Rattle.sdh_outage.specs.Near.{near};
 ghost use Rattle.sdh_outage.specs.Kept.{IsReach};
 
-use crate::reach::{CHUNK, put_chunk};
+use crate::reach::{CHUNK, Reach, put_chunk};
 use sdh_payload::{Cells, Feed, Port};
 use std::alloc::{AllocError, Global};
 use std::fmt;
@@ -87,5 +87,32 @@ impl Scratch {
         self.bytes.clear();
         put_near(&mut feed, &mut self.chunk, &mut self.bytes);
         &self.bytes
+    }
+
+    /// Returns a chunk of a port's stream.
+    pub(crate) fn chunk(&mut self, port: &Port, number: u32) -> &[u8]
+        ensures bytes { result.now ≡ chunk_of port.now number }
+        ensures few { length result.now ≤ 2352 }
+    {
+        let mut feed = feed_before(port, &mut self.chunk, number);
+        feed.next(&mut self.chunk);
+        self.chunk.as_slice()
+    }
+
+    /// Makes the next chunk of a stream, and returns whether it is this one. It is the only one that is kept then where
+    /// `keeps` holds, and else none is.
+    pub(crate) fn is_next(&mut self, next: &mut Reach, keeps: bool, chunk: &[u8]) -> bool
+        requires few { next.old.made + 1 < 2 ^ 32 }
+        requires room { 1 ≤ next.old.most }
+        ensures answer { result ≡ true → chunk.now ≡ chunk_of next.old.port next.old.made }
+        ensures port { next.new.port ≡ next.old.port }
+        ensures most { next.new.most ≡ next.old.most }
+    {
+        if keeps {
+            next.keep_next();
+            return next.ends_with(chunk);
+        }
+        next.make(&mut self.chunk);
+        self.chunk.as_slice() == chunk
     }
 }

@@ -3,9 +3,11 @@ ghost use Rattle.std.specs.Prelude.{◌≡◌, ◌+◌, ◌^◌, ◌≤◌, IfOk
 ghost use Rattle.sdh_payload.specs.declared.delivered.Delivered.{Delivered};
 ghost use Rattle.sdh_outage.specs.Kinds.{are_ones, jumps, own_kind};
 ghost use Rattle.sdh_outage.specs.Near.{near, holds, is_part};
+ghost use Rattle.sdh_outage.specs.Latest.{came};
 
 use crate::kind::Kind;
 use crate::last::Last;
+use crate::latest::Latest;
 use crate::part::{are_ones, holds, kind_of_pieces};
 use crate::reach::{CHUNK, Reach};
 use crate::scratch::{BEHIND, CHUNKS, Scratch};
@@ -15,15 +17,22 @@ use std::alloc::{AllocError, Global};
 use std::fmt;
 use std::marker::Model;
 
-/// The number of chunks that hold the last one and the one after it, wherever they begin.
+/// The number of chunks that hold the last one and the one after it, wherever they begin, and where both are whole
+/// chunks of the stream.
 const AHEAD: u32 = 3;
+
+const WHOLE: u32 = 2;
 
 /// The number of chunks that there is room for where the next ones are looked for, so that the bytes aren't moved in
 /// each round.
 const ROOM: u32 = 6;
 
-/// The bytes of a port's stream that are near in a round. They are made where they are looked at: mostly only those that come next, and
-/// all of them in a scratch.
+/// A settle step ends after a round whose number is a multiple of this. The bytes of its chunk are kept, since the next
+/// step begins with them.
+const TURN: u32 = 128;
+
+/// The bytes of a port's stream that are near in a round. They are made where they are looked at: mostly only the chunk
+/// that comes next, and all of them in a scratch.
 #[derive(Drop)]
 pub struct Window {
     port: Port,
@@ -82,13 +91,14 @@ impl Window {
         ensures same { self.new ≡ self.old }
     {
         let first = self.round.saturating_sub(BEHIND);
+        let count = if self.at == 0 { WHOLE } else { AHEAD };
         if self.from < self.next.first()
             || self.from < first
             || self.from > first + (CHUNKS - AHEAD)
         {
             return false;
         }
-        self.next.reach(first, self.from, AHEAD);
+        self.next.reach(first, self.from, count);
         if self.next.made() > first + CHUNKS {
             return false;
         }
@@ -122,26 +132,89 @@ impl Window {
         }
     }
 
-    /// Returns what a round is that brings this chunk, where it is the port's or ones.
-    pub(crate) fn own_chunk(
-        &mut self,
-        scratch: &mut Scratch,
-        last: &mut Last,
-        chunk: &[u8],
-    ) -> Option<Kind>
+    // Returns what a round is that brings this chunk, which isn't ones.
+    fn sought(&mut self, scratch: &mut Scratch, last: &mut Last, chunk: &[u8]) -> Option<Kind>
         requires few { self.old.round + 88 ≤ 2 ^ 32 }
         requires length { length chunk.now ≤ 2352 }
+        requires some { are_ones chunk.now ≡ false }
         ensures kind { result ≡ own_kind (near self.old.port self.old.round) last.old (Delivered.Chunk chunk.now) }
         ensures same { self.new ≡ self.old }
         ensures last { last.new ≡ last.old }
     {
-        if are_ones(chunk) {
-            return Some(Kind::Ones);
-        }
         if self.comes_next(last, chunk) {
             return Some(Kind::InOrder);
         }
         self.looked_up(scratch, last, chunk)
+    }
+
+    // Returns whether a chunk is the stream's chunk after the last one, where that is known by its number. Then it is
+    // kept as what came last.
+    fn goes_on(&mut self, scratch: &mut Scratch, last: &mut Latest, chunk: &[u8]) -> bool
+        requires { self.old.round + 88 ≤ 2 ^ 32 }
+        ensures answer { result ≡ true → (is_part chunk.now (near self.old.port self.old.round) ≡ true)
+            × (jumps (near self.old.port self.old.round) (came last.old) chunk.now ≡ false) }
+        ensures last { result ≡ true → came last.new ≡ Delivered.Chunk chunk.now }
+        ensures kept { result ≡ false → last.new ≡ last.old }
+        ensures same { self.new ≡ self.old }
+    {
+        let first = self.round.saturating_sub(BEHIND);
+        let number = self.next.made();
+        if number <= first || number >= first + CHUNKS || !last.is_before(&self.port, number) {
+            return false;
+        }
+        let follows = scratch.is_next(&mut self.next, self.round % TURN == 0, chunk);
+        if follows {
+            last.step();
+            self.from = number;
+            self.at = 0;
+        }
+        follows
+    }
+
+    // Keeps a chunk that was found as what came last, by its number where it is a whole chunk of the stream.
+    fn keep(&mut self, last: &mut Latest, chunk: &[u8])
+        requires few { self.old.round + 88 ≤ 2 ^ 32 }
+        requires length { length chunk.now ≤ 2352 }
+        ensures last { came last.new ≡ Delivered.Chunk chunk.now }
+        ensures same { self.new ≡ self.old }
+    {
+        if self.at == 0 && chunk.len() == CHUNK && self.from < self.round + 8 {
+            self.next.end_at(&self.port, self.from);
+            if self.next.ends_with(chunk) {
+                last.know(&self.port, self.next.made() - 1);
+                return;
+            }
+        }
+        last.put_chunk(chunk);
+    }
+
+    /// Returns what a round is that brings this chunk, where it is the port's or ones, and keeps it as what came last.
+    pub(crate) fn own_chunk(
+        &mut self,
+        scratch: &mut Scratch,
+        last: &mut Latest,
+        chunk: &[u8],
+    ) -> Option<Kind>
+        requires few { self.old.round + 88 ≤ 2 ^ 32 }
+        requires length { length chunk.now ≤ 2352 }
+        ensures kind { result ≡ own_kind (near self.old.port self.old.round) (came last.old) (Delivered.Chunk chunk.now) }
+        ensures same { self.new ≡ self.old }
+        ensures last { came last.new ≡ Delivered.Chunk chunk.now }
+    {
+        if are_ones(chunk) {
+            last.put_chunk(chunk);
+            return Some(Kind::Ones);
+        }
+        if self.goes_on(scratch, last, chunk) {
+            return Some(Kind::InOrder);
+        }
+        last.spell(scratch);
+        let kind = self.sought(scratch, &mut last.plain, chunk);
+        match kind {
+            Some(Kind::InOrder) | Some(Kind::Jump) => self.keep(last, chunk),
+            _ => last.put_chunk(chunk),
+        }
+        kind
     }
 
     /// Returns whether a chunk holds some of them.

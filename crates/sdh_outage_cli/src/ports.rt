@@ -102,7 +102,7 @@ pub fn begin_all(ring: &Ring, items: &mut Vec<ListenerPair>)
     }
 }
 
-// Returns what the last round was to a port.
+// Returns what the last round was to a port, whose listener keeps what was delivered in it.
 fn kind_at(
     listener: &mut Listener,
     ring: &Ring,
@@ -116,7 +116,7 @@ fn kind_at(
     ensures kind { (circuits : List Provisioned) (c : Provisioned) → AreNear circuits listener.old.round streams.old.pairs.items
         → slice_get circuits port.circuit ≡ Some c
         → result ≡ kind_of (customer_at c (other_end port.end)) (holder_of circuits port.circuit) listener.old.round listener.old.last now.now }
-    ensures same { listener.new ≡ listener.old }
+    ensures last { listener.new ≡ record listener.old { last = now.now } }
     ensures streams { streams.new.pairs.items ≡ streams.old.pairs.items }
 {
     let own = streams.pairs[port.circuit as usize].own_kind(
@@ -142,7 +142,7 @@ fn look(listener: &mut Listener, ring: &Ring, streams: &mut Streams, port: PortI
 {
     let now = ring.port(port);
     let kind = kind_at(listener, ring, streams, port, now);
-    listener.hear(now, kind);
+    listener.hear(kind);
 }
 
 // Lets the listeners on both ports of a circuit hear what the ports delivered in the last round.

@@ -21,7 +21,7 @@ pub struct StreamPair {
 
 impl StreamPair {
     /// Returns the kind of a round to the port at an end by its own customer's bytes; None where it is neither AIS, nor
-    /// ones, nor any of these bytes.
+    /// ones, nor any of these bytes. The listener keeps what was delivered.
     pub fn own_kind(
         &mut self,
         scratch: &mut Scratch,
@@ -32,7 +32,7 @@ impl StreamPair {
         requires { (self.old.a.round ≤ 2 ^ 31 + 65536) × (self.old.b.round ≤ 2 ^ 31 + 65536) }
         ensures kind { result ≡ own_kind (near (far_bytes self.old end).port (far_bytes self.old end).round) listener.old.last now.now }
         ensures same { self.new ≡ self.old }
-        ensures listener { listener.new ≡ listener.old }
+        ensures listener { listener.new ≡ record listener.old { last = now.now } }
     {
         match end {
             End::A => listener.own_kind(&mut self.b, scratch, now),
