@@ -9,7 +9,7 @@ use std::alloc::{AllocError, Global};
 use std::fmt;
 use std::marker::Model;
 
-/// Room for any one line but those of a delivered chunk, in bytes.
+/// Room for any one line, in bytes, except those of a delivered chunk and a line of the caller's own.
 pub const LINE_MAX: usize = 96;
 
 /// Room for the lines of a delivered chunk, in bytes: nine rows of 261 bytes, two digits each, with their newline bytes.

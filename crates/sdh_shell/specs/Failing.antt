@@ -11,7 +11,7 @@ pub record Counts : Type 0 where
   pub before : ℕ
   pub after : ℕ
 
--- a call failed now, or the count stands at its last value
+-- a call failed now, or the count stands at 2 ^ 64 - 1 and cannot rise
 abbrev pub HaveFailed : Counts → Type 0
 HaveFailed counts = Rose counts.before counts.after
 
@@ -30,15 +30,15 @@ cause_of reads calls (Some how) = HasCause reads calls how
 abbrev pub EndsWithCause : {E : Type 0} → Endings E → Counts → Counts → E → Type 0
 EndsWithCause endings reads calls how = cause_of reads calls (endings.shared how)
 
--- What a source had come to when something was to be reported: a read fault, too many bytes or neither. Where its count
--- is exact, one read failed with a read fault, and none without it. With too many bytes, one byte more than a plan may
--- have was taken.
+-- What a source had come to when something was to be reported: a read fault (`ReadFault`), too many bytes (`TooLong`)
+-- or neither. Where its count is exact, one read failed if a read fault was to be reported, and none otherwise. If too
+-- many bytes were to be reported, one byte more than a plan may have was taken.
 pub record CameOfSource (exact : Bool) (reads : Counts) (left now : Option (List ℕ)) (ReadFault TooLong : Type 0) : Type 0 where
   pub counted : IsCounted exact ReadFault reads.before reads.after
   pub too_long : TooLong → TakesCount left now 1048577
 
 -- What a source and a plant had come to when something was to be reported. Where the plant's count is exact, one of its
--- calls failed with a plant fault, and none without it.
+-- calls failed if a plant fault was to be reported, and none otherwise.
 pub record CameToFaults (source_exact plant_exact : Bool) (reads calls : Counts) (left now : Option (List ℕ))
     (ReadFault PlantFault TooLong : Type 0) : Type 0 where
   pub source : CameOfSource source_exact reads left now ReadFault TooLong

@@ -15,8 +15,8 @@ use Rattle.sdh_shell.specs.declared.reading.NoPlan.TheVariants as none
 abbrev pub IsShort : List ℕ → Type 0
 IsShort bytes = length bytes ≤ 1048576
 
--- Why there is no plan: a read failed; there are too many bytes; they are no document; or they are a document, and the
--- first of its checks that fails has a reason of this number and this place.
+-- Why there is no plan: a read failed, of which the bytes say nothing; there are too many bytes; they are no document;
+-- or they are a document, and the first of its checks that fails has a reason of this number and this place.
 abbrev pub HasNoPlan : List ℕ → Status → Type 0
 HasNoPlan bytes status.ReadFault = Unit {0}
 HasNoPlan bytes status.TooLong = 1048576 < length bytes
@@ -40,7 +40,7 @@ abbrev pub HasPlan : Option (List ℕ) → Type 0
 HasPlan None = ⊥
 HasPlan (Some bytes) = (plan : Planned) × TellsPlan bytes plan
 
--- a result without a plan has its reason in the bytes, except a lack of memory, which needs none
+-- a result without a plan has its reason in the bytes, except a read fault and a lack of memory, which need none
 abbrev pub IsWhyNone : List ℕ → NoPlan → Type 0
 IsWhyNone bytes none.Memory = Unit {0}
 IsWhyNone bytes (none.Refused how) = HasNoPlan bytes how

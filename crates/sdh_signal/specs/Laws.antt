@@ -76,7 +76,8 @@ pub record LeadsBack (run : Run) (t p : ℕ) (d : Side) : Type 0 where
   pub same : (j : ℕ) → j ≤ steps → passed run t (going (length run.ids) d p j) d ≡ passed run t p d
   pub own : (passed run t p d).from ≡ slice_index run.ids (going (length run.ids) d p steps)
 
--- A still ring relays no word that nobody sends: each relayed word leads back to a node that sends it now.
+-- Where no node of a run sends another word in round t + 1 than in round t, no word is relayed that nobody sends: each
+-- word that is relayed in round t + 1 leads back to a node that sends it in that round.
 abbrev pub RelayedWordsLeadBack : Type 0
 RelayedWordsLeadBack =
     (run : Run) → IsRun run → (t : ℕ) → IsStillAfter run t → (p : ℕ) (d : Side) → p < length run.ids → Relays run (suc t) p d
@@ -88,6 +89,6 @@ pub record HasOneNotPassing (run : Run) (t : ℕ) : Type 0 where
   pub inside : at < length run.ids
   pub differs : state_after (at_round run t at) ≢ state.PassThrough tt
 
--- In a still ring not all nodes pass through.
+-- Where no node of a run sends another word in round t + 1 than in round t, not all nodes pass through in round t + 1.
 abbrev pub NotAllPassThrough : Type 0
 NotAllPassThrough = (run : Run) → IsRun run → (t : ℕ) → IsStillAfter run t → HasOneNotPassing run (suc t)

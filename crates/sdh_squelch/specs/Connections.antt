@@ -25,13 +25,14 @@ sent_of p (Some r) through =
 
 -- A node at position p of a ring of n. `on` gives the circuit on the span of each side in the slot.
 module _ (n : ℕ) (p : Pos) (on : Side → Option OnSpan) where
-  -- the chain of the node where it switches a side and has that far end
+  -- the chain of the node where it switches a side: the positions from the node, away from that side, to this far end,
+  -- both included; none where there is no far end
   abbrev pub chain_on : Side → Option Pos → Option Chain
   chain_on West far = west_chain n p far
   chain_on East far = east_chain n p far
 
-  -- where side d is switched and the far end is this one: there is a far end, and both ends of the circuit on side d
-  -- are in the chain
+  -- The circuit on side d may be carried round, where the node switches that side and has this far end, or none: there
+  -- is a far end, and both ends of the circuit are in the chain.
   unfoldable pub may_carry : Side → Option Pos → Bool
   may_carry d far = option_map_or (is_carried n (on d)) (chain_on d far) false
 

@@ -152,7 +152,8 @@ impl Table {
         Some((row.from, row.to))
     }
 
-    /// Returns whether a circuit is on a side in a slot of 1 to 8, and both its ends are in the chain.
+    /// Returns whether a circuit is on a side in a slot of 1 to 8, and both its ends are in the chain. The chain of a
+    /// node that switches has the positions from the node to its far end, both included.
     pub fn may_carry(&self, map: &RingMap, side: Side, slot: Slot, chain: Chain) -> bool
         requires map { self.now.ring ≡ map.now }
         requires slot { (1 ≤ slot.0) × (slot.0 ≤ 8) }

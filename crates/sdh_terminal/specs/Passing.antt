@@ -9,8 +9,11 @@ use Rattle.sdh_pointer.specs.declared.word.Form.{Form}
 use Rattle.sdh_pointer.specs.declared.word.Form.TheVariants as form
 use Rattle.sdh_pointer.specs.Sending.{Generator, form_sent, word_sent, next_sending}
 
+-- An AU-4 that is sent, or that is dropped to a port, with the action that goes with it. The action is that of the
+-- interpreter through which the AU-4 came, or that of the port which adds it. Where the AU-4 is sent, its generator is
+-- asked for this action.
 pub record Input : Type 0 where
-  -- the action that the generator is asked for, and the pointer value after it
+  -- the action, and the pointer value after it
   pub action : Action
   pub value : ℕ
   -- the AU-4 as it came

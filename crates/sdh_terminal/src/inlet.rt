@@ -76,8 +76,9 @@ impl Inlet {
         }
     }
 
-    /// Keeps what arrived for the next round as `receive` does, but without a copy: the buffer in which the frame
-    /// landed is exchanged for the one that was taken in before. Where no frame arrived, nothing is exchanged.
+    /// Keeps what arrived for the next round as `receive` does, but without a copy: three buffers change places. The
+    /// side keeps the one in which the frame landed, `inbox` gets the intake's, whose frame has been read, and the
+    /// intake gets the side's. Where no frame arrived, nothing is exchanged.
     pub fn receive_landed(&mut self, arrived: Arrived, inbox: &mut Landed, intake: &mut Intake)
         requires rate { inbox.old.rate ≡ self.old.section.rate }
         requires here { arrived ≡ Arrived.Frame → inbox.old.landed ≢ None }

@@ -44,7 +44,7 @@ impl Model for Tributary {
 }
 
 // Returns the bytes of a port's first round, in which no slip is used up. A new port keeps them as those that it sent
-// last, since what it sent last is defined for a port that has sent nothing, too.
+// last: for a port that has sent nothing, `sent_by` gives these bytes too.
 fn first_payload(alloc: Global, port: &Port) -> Result<Cells, AllocError>
     ensures bytes { IfOk result (λ cells. cells ≡ stream_from port.now 0 2349) }
     ensures full { IfOk result (λ cells. length cells ≡ 2349) }
