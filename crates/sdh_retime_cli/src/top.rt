@@ -148,8 +148,8 @@ pub fn retime<R: Source, W: Sink>(
     ensures memory { result ≡ 70 → sink.new ≡ sink.old }
 
     // Where the count of faults of the source or the sink is exact, each of its calls that failed is reported by its
-    // fault, and none is tried again. A write fault may stand in place of what was to be reported. With 9, one byte
-    // more than the program reads was taken.
+    // fault, and none is tried again. A write fault may stand in place of what was to be reported. Where too many bytes
+    // (9) were to be reported, one byte more than the program reads was taken.
     ensures came { (how : Status) × ((result ≡ number_of how) ⊎ (result ≡ 4))
         × CameTo R.exact (R.faults source.old) (R.faults source.new) (R.left source.old) (R.left source.new) how }
     ensures writes { IsCounted W.exact (result ≡ 4) (W.faults sink.old) (W.faults sink.new) }
