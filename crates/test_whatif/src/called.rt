@@ -22,18 +22,10 @@ pub const SOUND: Outside<'static> = Outside {
 /// The words of these tests.
 pub const SINGLE: &[&str] = &["single", "head"];
 
-/// Words with a failure of the user's own, and with one that the ring hasn't.
-pub const OWN: &[&str] = &["single", "summary", "own", "span 1-2; span 2-3"];
-
-pub const UNKNOWN: &[&str] = &["single", "own", "span 1-2", "own", "span 1-2; node 4"];
-
 pub const NO_WORDS: &[&str] = &[];
 
 pub const USAGE: &str =
     "usage: sdhwhatif single, double, triple, with kinds, own NAMES, part K N, head, json, summary\n";
-
-/// With both spans cut the circuit of this ring is lost.
-pub const OWN_TABLE: &str = "kind,cases,losing,most\r\nown,1,1,1\r\n";
 
 /// A ring of three with one circuit.
 pub const PLAN: &str = "rate = 4\n\

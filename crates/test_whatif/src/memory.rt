@@ -1,6 +1,6 @@
 //! Calls that run out of memory.
 
-use crate::called::{NO_WORDS, OWN, OWN_TABLE, PLAN, SINGLE, SOUND, TABLE, UNKNOWN, USAGE, call};
+use crate::called::{NO_WORDS, PLAN, SINGLE, SOUND, TABLE, USAGE, call};
 use sdh_whatif_cli::Status;
 use std::test::Fail;
 
@@ -11,16 +11,6 @@ const ROWS: &[Row] = &[
     (SINGLE, PLAN, Status::Ok, TABLE),
     (SINGLE, "rate = ", Status::NotToml, "not toml\n"),
     (NO_WORDS, PLAN, Status::Usage, USAGE),
-    (OWN, PLAN, Status::Ok, OWN_TABLE),
-    (
-        UNKNOWN,
-        PLAN,
-        Status::BadPlan {
-            reason: 24,
-            place: 2,
-        },
-        "bad plan 24 at 2\n",
-    ),
 ];
 
 // It shows most where one of the allocations is made to fail.
