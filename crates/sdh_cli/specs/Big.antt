@@ -102,8 +102,8 @@ fibre_comes condition at side = step.Fibre (record { at = position_of at; side =
 abbrev pub span_comes : Condition → ℕ → List Step
 span_comes condition span = fibre_comes condition span East ∷ fibre_comes condition ((span + 1) % 16) West ∷ []
 
--- One span is cut and then another, and they are mended in this order. Then the moment comes at which both sides have
--- waited to restore. Rounds run before the first of these and after each.
+-- One span is cut and then another, and they are mended in this order. Then the moment comes at which the sides
+-- of both spans have waited to restore. Rounds run before the first of these and after each.
 abbrev pub big_steps : ℕ → ℕ → List Step
 big_steps u v =
     step.Settle ∷ (span_comes Cut u ++ step.Settle ∷ (span_comes Cut v ++ step.Settle

@@ -27,7 +27,7 @@ deed_of ask plan = deed_listing (listing_of ask plan)
 abbrev pub Does : Ask → Planned → Deed Listing Status → Type 0
 Does ask plan deed = deed ≡ deed_of ask plan
 
--- the program runs a plan over a shared ring, and lists the report of each settle step
+-- the program: it runs a plan over a ring of add-drop multiplexers, and lists the report of each settle step
 abbrev pub ringing : Program Ask Listing Report Status
 ringing = record {
   usage = codes "usage: sdhring run, check, drop NAME END, big NUMBER";
@@ -48,7 +48,7 @@ told = outcome.told_by own_plan
 abbrev pub LeavesSource : Option Ask → Type 0
 LeavesSource ask = outcome.reads_by own_plan ask ≡ false
 
--- no fibre is made
+-- what is asked, if anything, runs no plan
 abbrev pub LeavesPlant : Option Ask → Type 0
 LeavesPlant = outcome.LeavesPlant ringing
 

@@ -40,8 +40,8 @@ adm_account = record { walk = adm_walk; new_ring = new_ring_of }
 abbrev pub ran_of : Planned → Fibres → Ran
 ran_of = plans.ran_of adm_account
 
--- A script that settles. Where the arrivals are known each settle step has a quiet window within the limit; or the
--- fibres are honest and the limit is large.
+-- A script that settles: either the arrivals are known, and with them each settle step has a quiet window within the
+-- limit; or the fibres are honest and the limit is large.
 abbrev pub MaySettle : Planned → Fibres → Type 0
 MaySettle = plans.MaySettle adm_account
 

@@ -38,7 +38,7 @@ pub record HearsSome {N : Type 0} (s : Station N) (heard : (ℕ → World N) →
   pub ran : RanSome s heard w limit mid
   pub next : (left ≡ mid) ⊎ IsBrokenOff s mid left.fibres
 
--- An observer stopped a settle step after a round, and no further round ran. The plant's count of faults was `before`
+-- A recorder stopped a settle step after a round, and no further round ran. The plant's count of faults was `before`
 -- and is `after`. Where that count is exact, no call of the plant failed.
 pub record IsStopped {N : Type 0} (s : Station N) (exact : Bool) (kept_of : (ℕ → World N) → ℕ → Type 0) (w : World N) (limit : ℕ)
     (left : World N) (before after : ℕ) : Type 0 where

@@ -23,13 +23,14 @@ pub fn known_rounds_are<S: Station>()
     ensures { KnownRounds S.kind }
 {}
 
-/// A round changes nothing of the ring but its nodes and its number of rounds, keeps the conditions of the fibres, and
-/// appends its frames.
+/// A round changes nothing of the ring but its nodes and its number of rounds, and keeps the conditions of the fibres.
+/// Where the plant reports all frames that were sent, those of the round come after them.
 pub fn rounds_keep<S: Station>()
     ensures { RoundsKeep S.kind }
 {}
 
-/// A round that a fault broke off keeps the conditions of the fibres, and appends the first of its frames.
+/// A round that a fault broke off keeps the conditions of the fibres. Only the first of its frames come after those
+/// that were sent before.
 #[tactic(auto, using(crate::proofs::Laws::faults_keep))]
 pub fn faults_keep<S: Station>()
     ensures { FaultsKeep S.kind }
@@ -41,8 +42,8 @@ pub fn honest_fibres_stay_honest<S: Station>()
     ensures { HonestRounds S.kind }
 {}
 
-/// Rounds one after the other change nothing of the ring but its nodes and its number of rounds, keep the conditions of
-/// the fibres, and append their frames.
+/// Rounds one after the other change nothing of the ring but its nodes and its number of rounds, and keep the
+/// conditions of the fibres. Their frames come, in order, after those that were sent before.
 pub fn runs_keep<S: Station>()
     ensures { RunsKeep S.kind }
 {}

@@ -33,11 +33,11 @@ pub trait RunsRounds {
 
 /// An observer: it looks at a ring after each round of a settle step, and keeps something of what it saw.
 pub trait Observer<R: RunsRounds> {
-    /// The observer keeps what it is to keep after a number of rounds of a course. A course gives the world, which is a
+    /// Says what an observer keeps once a number of rounds of a course have run. A course gives the world, which is a
     /// ring and its fibres, after each number of rounds.
     ghost Heard: { (ℕ → World R.Node) → ℕ → Self → Type 0 };
 
-    /// Looks at the ring after one more round. Whatever course led there, the observer then keeps what it is to keep of
+    /// Looks at the ring after one more round. Whatever course led there, the observer then keeps what `Heard` says of
     /// it.
     fn look(&mut self, ring: &R)
         requires { (at : ℕ → World R.Node) × (k : ℕ) × RanOne R.Node.kind at k (R.held ring.now) × Heard at k self.old }
@@ -63,15 +63,15 @@ impl<R: RunsRounds> Observer<R> for Nobody {
 /// A recorder: it looks at a ring after each round of a settle step, writes what it saw to a log that is passed along,
 /// and may stop the step.
 pub trait Recorder<R: RunsRounds, L> {
-    /// The recorder and the log are what they are to be after a number of rounds of a course, by what they were before
-    /// the step. A course gives the world, which is a ring and its fibres, after each number of rounds.
+    /// Says what recorder and log are once a number of rounds of a course have run, by what they were before the step.
+    /// A course gives the world, which is a ring and its fibres, after each number of rounds.
     ghost Records: { Self → L → (ℕ → World R.Node) → ℕ → Self → L → Type 0 };
 
-    /// The recorder and the log are what they are to be where the recorder stopped the step after a number of rounds.
+    /// Says what recorder and log are where the recorder stopped the step after a number of rounds.
     ghost Stops: { Self → L → (ℕ → World R.Node) → ℕ → Self → L → Type 0 };
 
     /// Looks at the ring after one more round, and writes to the log. Whatever course led there, recorder and log are
-    /// then what they are to be after that round. An error stops the step.
+    /// then what `Records` says of that round; or what `Stops` says, where an error stops the step.
     fn note(&mut self, ring: &R, log: &mut L) -> Result<(), Stopped>
         requires { (first : Self) × (begun : L) × (at : ℕ → World R.Node) × (k : ℕ) × RanOne R.Node.kind at k (R.held ring.now)
             × Records first begun at k self.old log.old }

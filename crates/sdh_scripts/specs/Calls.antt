@@ -19,7 +19,8 @@ CutRun T = Planned → Fibres → List T → Fibres → Type 0
 
 -- ---- with a plan
 
--- a write failed while the plan was run: a front was written of what is listed of the reports that were to be written
+-- A write failed while the plan was run. Of the text that lists the reports that were to be written, only the first
+-- bytes were written.
 abbrev pub BreaksOff : {A L T E : Type 0} → Program A L T E → CutRun T → A → Planned → Fibres → Option (List ℕ) → Option (List ℕ) → Fibres → Type 0
 BreaksOff {L = L} {T = T} program Cut ask plan f old new left =
     (listing : L) × program.Does ask plan (Runs listing) × (reports : List T) × Cut plan f reports left
@@ -96,7 +97,7 @@ pub record HasToTell {A L T E : Type 0} (program : Program A L T E) (asked : Opt
   pub complete : (ask : A) → asked ≡ Some ask → MayBeDone program ask (told program (Some ask) seen.source) seen.fibres
       → (HaveFailed seen.reads → ⊥) → (HaveFailed seen.calls → ⊥) → how ≡ program.endings.of status.Ok
 
--- an ending and its text were to be written: they were, or a write failed, and a front of the text was
+-- an ending and its text were to be written: they were, or a write failed and only the first bytes of the text were
 pub record IsTold {A L T E : Type 0} (program : Program A L T E) (asked : Option A) (seen : Seen) (end : E)
     (old new : Option (List ℕ)) : Type 0 where
   pub how : E

@@ -107,7 +107,7 @@ abbrev pub HasRead : Bool → Option (List ℕ) → Type 0
 HasRead false left = Unit {0}
 HasRead true left = IsAtEnd left
 
--- no plan is run
+-- what is asked, if anything, runs no plan
 abbrev pub LeavesPlant : {A L T E : Type 0} → Program A L T E → Option A → Type 0
 LeavesPlant program None = Unit {0}
 LeavesPlant {L = L} program (Some ask) = (plan : Planned) (listing : L) → program.Does ask plan (Runs listing) → ⊥

@@ -39,15 +39,16 @@ Comes t plan f reports end left = ComesOfSteps t.walk plan.limit plan.steps (wor
 abbrev pub ComesKnown : {N T : Type 0} → Account N T → Planned → Fibres → List T → Status → Fibres → Type 0
 ComesKnown t plan f reports end left = ComesOfKnownRun t.walk (ran_of t plan f) (length plan.nodes) f reports end left
 
--- A script that settles. Where the arrivals are known each settle step has a quiet window within the limit; or the
--- fibres are honest and the limit is large.
+-- A script that settles: either the arrivals are known, and with them each settle step has a quiet window within the
+-- limit; or the fibres are honest and the limit is large.
 abbrev pub MaySettle : {N T : Type 0} → Account N T → Planned → Fibres → Type 0
 MaySettle t plan f =
     (Knows (world_of t plan f).fibres × ((ran_of t plan f).ending ≡ status.Ok))
     ⊎ ((f.honest ≡ true) × (enough_for (length plan.nodes) ≤ plan.limit))
 
--- One list of reports, described in each way: what ran over every plant; what it comes to where the arrivals are known;
--- over honest fibres what is owed, and that with a limit that is always enough no settle step is unsettled.
+-- What holds of one list of reports. Over every plant they are those of the rounds that ran. Where the arrivals are
+-- known, they are those that the script comes to; after a fault, the first of them. Over honest fibres they show what
+-- is owed, and with a limit that is always enough no settle step is unsettled.
 pub record IsRunOf {N T : Type 0} (t : Account N T) (Owes : ReportsOwe T) (plan : Planned) (f : Fibres) (reports : List T) (end : Status)
     (left : Fibres) : Type 0 where
   pub ran : Comes t plan f reports end left

@@ -13,7 +13,7 @@ pub data Deed (L E : Type 0) : Type 0 where
   Writes : List ℕ → Deed L E
   Runs : L → Deed L E
 
--- a plan is run where there is something to list; else it has no such port
+-- a plan is run where there is something to list of it; else it is refused, as it hasn't the port that is asked for
 abbrev pub deed_listing : {L : Type 0} → Option L → Deed L Status
 deed_listing None = Refuses status.NoSuchPort
 deed_listing (Some listing) = Runs listing

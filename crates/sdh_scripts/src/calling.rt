@@ -19,9 +19,9 @@ use sdh_plant::Plant;
 use sdh_report::Status;
 use std::alloc::{AllocError, Global};
 
-/// Does all that a program does that writes its reports as they come, and returns how it ended. Where its words ask for
-/// something, it reads a plan from the source, unless what is asked names one, and runs it over the plant, or writes a
-/// text of it. The last line says how it ended. After a write that failed nothing more is run.
+/// Does all that a program does, and returns how it ended. The program writes its reports as they come. Where its words
+/// ask for something, it reads a plan from the source, unless what is asked names one, and runs it over the plant, or
+/// writes a text of it. The last line says how it ended. After a write that failed nothing more is run.
 pub fn call_over<'a, W: Sink, M: StreamsPlans<'a, W>, R: Source, P: Plant>(
     alloc: Global,
     words: &'a [String],
@@ -31,9 +31,9 @@ pub fn call_over<'a, W: Sink, M: StreamsPlans<'a, W>, R: Source, P: Plant>(
 ) -> M::Ending
     requires fresh { HasNoFibres (P.fibres plant.old) }
 
-    // The ending and the text that is written, for a source whose bytes are known, where it is read, and a sink that
-    // shows what was written. Where a write failed while a plan was run, a front of what was to be reported of it was
-    // written.
+    // The ending and the text that is written. It is said where the bytes of a source that is read are known, and where
+    // the sink shows what was written. Where a write failed while a plan was run, only the first bytes of what was to
+    // be reported of it were written.
     ensures outcome { let ask = M.program.asked (words_of words.now) in
         let reads : Counts = record { before = R.faults source.old; after = R.faults source.new } in
         let calls : Counts = record { before = P.faults plant.old; after = P.faults plant.new } in
@@ -42,7 +42,7 @@ pub fn call_over<'a, W: Sink, M: StreamsPlans<'a, W>, R: Source, P: Plant>(
         (IsCutShort M.program M.cut ask bytes (P.fibres plant.old) (W.written sink.old) (W.written sink.new) (P.fibres plant.new))
         result (W.written sink.old) (W.written sink.new)) }
 
-    // Over every source, sink and plant.
+    // These clauses hold over every source, sink and plant.
     ensures usage { result ≡ M.program.endings.of Status.Usage → M.program.asked (words_of words.now) ≡ None }
     ensures usage_only { M.program.asked (words_of words.now) ≡ None → (result ≡ M.program.endings.of Status.Usage)
         ⊎ (result ≡ M.program.endings.of Status.WriteFault) ⊎ (result ≡ M.program.endings.of Status.Memory) }
@@ -53,9 +53,9 @@ pub fn call_over<'a, W: Sink, M: StreamsPlans<'a, W>, R: Source, P: Plant>(
     ensures plant_fault { result ≡ M.program.endings.of Status.PlantFault → Rose (P.faults plant.old) (P.faults plant.new) }
     ensures write_fault { result ≡ M.program.endings.of Status.WriteFault → Rose (W.faults sink.old) (W.faults sink.new) }
 
-    // Where an object's count is exact, each of its calls that failed is reported by its fault, and none is tried
-    // again; a write fault may stand in place of what was to be reported. With TooLong one byte more than a plan may
-    // have was taken.
+    // Where the count of faults of a source, sink or plant is exact, each of its calls that failed is reported by its
+    // fault, and none is tried again. A write fault may stand in place of what was to be reported. With TooLong, one
+    // byte more than a plan may have was taken.
     ensures came { let reads : Counts = record { before = R.faults source.old; after = R.faults source.new } in
         let calls : Counts = record { before = P.faults plant.old; after = P.faults plant.new } in
         (how : M.Ending) × ((result ≡ how) ⊎ (result ≡ M.program.endings.of Status.WriteFault))
@@ -69,7 +69,7 @@ pub fn call_over<'a, W: Sink, M: StreamsPlans<'a, W>, R: Source, P: Plant>(
     ensures later { (R.faults source.old ≤ R.faults source.new) × (W.faults sink.old ≤ W.faults sink.new)
         × (P.faults plant.old ≤ P.faults plant.new) }
 
-    // With all that is needed, and no fault, everything is done, or there is no memory.
+    // Where all that is needed is given and no call fails, everything is done, or memory runs out.
     ensures complete { (ask : M.Ask) → M.program.asked (words_of words.now) ≡ Some ask
         → MayBeDone M.program ask (told M.program (Some ask) (R.left source.old)) (P.fibres plant.old)
         → ¬ (Rose (R.faults source.old) (R.faults source.new)) → ¬ (Rose (W.faults sink.old) (W.faults sink.new))

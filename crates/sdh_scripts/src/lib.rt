@@ -34,7 +34,8 @@ pub use script::run_script;
 pub use streaming::StreamsPlans;
 pub use teller::{StepError, Teller};
 
-/// Where arrivals are known, what a script comes to is determined. After a fault it is the beginning of that.
+/// Where arrivals are known they determine what a script comes to. A script that a fault broke off comes to the
+/// beginning of that.
 #[tactic(auto, using(crate::proofs::Known::known_scripts))]
 pub fn known_scripts<R: Runner>()
     ensures { KeepsRounds R.walk → KnownScripts R.walk }

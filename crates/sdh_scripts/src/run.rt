@@ -87,8 +87,8 @@ pub fn start_over<O: Output, R: Teller<O>, P: Plant>(
     ensures failed { IfOk result (λ end. end ≡ Status.PlantFault → Rose (P.faults plant.old) (P.faults plant.new)) }
     ensures cut { IfOk result (λ end. end ≡ Status.WriteFault → Rose (O.faults output.old) (O.faults output.new)) }
 
-    // Where a count is exact: one call of the plant failed with a plant fault, one write with a write fault, and none
-    // with any other ending, nor without memory.
+    // Where a count of faults is exact: one call of the plant failed if the script ended with a plant fault, one write
+    // if it ended with a write fault, and none with any other ending or where memory ran out.
     ensures counted { IfOk result (λ end. IsCounted P.exact (end ≡ Status.PlantFault) (P.faults plant.old) (P.faults plant.new)) }
     ensures writes_counted { IfOk result (λ end. IsCounted O.exact (end ≡ Status.WriteFault) (O.faults output.old) (O.faults output.new)) }
     ensures uncounted { OnErr result (P.exact ≡ true → P.faults plant.new ≡ P.faults plant.old) }

@@ -48,8 +48,8 @@ pub trait Runner {
         ensures same_room { OnOk result (room self.new ≡ room self.old) }
         ensures cause { HasCause P.exact (P.faults plant.old) (P.faults plant.new) result };
 
-    /// Runs a settle step and the rounds after it, where `number` settle steps have ended before, and writes its report
-    /// once it has ended.
+    /// Runs a settle step, and then the rounds that `walk` has after it (`behind` in `specs/Walks.antt`). It writes the
+    /// report once all these have run. Before the step `number` settle steps have ended.
     fn settle<P: Plant>(
         &mut self,
         plant: &mut P,

@@ -65,8 +65,8 @@ pub trait Teller<O: Output> {
         ensures same_room { OnOk result (room self.new ≡ room self.old) }
         ensures cause { HasCause P.exact (P.faults plant.old) (P.faults plant.new) result };
 
-    /// Runs a settle step and the rounds after it, where `number` settle steps have ended before. What is reported of
-    /// it is written as it comes, and after a write that fails nothing more is run.
+    /// Runs a settle step, and then the rounds that `walk` has after it, where `number` settle steps have ended before.
+    /// What is reported of them is written as it comes, and after a write that fails nothing more is run.
     fn settle<P: Plant>(
         &mut self,
         plant: &mut P,
