@@ -22,10 +22,11 @@ cut_after n changes p d = is_cut (all_holding n p d changes new_holding).conditi
 abbrev pub due_ports : ℕ → (ℕ → Side → Bool) → ℕ → List Provisioned → List PortLine
 due_ports n cut t circuits = lines_from (λ index c e. due_path n cut c e t) 0 circuits
 
--- Each report shows every port of a ring of n with what it is owed after these changes. `ran` rounds had run, `before`
--- settle steps had ended, and these are the changes before each step to come. Report by report the number grows by 1,
--- and the round shows how many rounds the step ran. A settle step without a report is where the script ended, unsettled
--- or by a fault.
+-- Each report shows every port of a ring of n with what it is owed after all changes before the report. So far `before`
+-- settle steps have ended, after `ran` rounds in all, and `earlier` are the changes before them. The list of lists has
+-- the changes before each settle step to come. Report by report the number grows by 1, and the round shows how many
+-- rounds the step ran. A settle step without a report is where the script ended, unsettled or by a fault. Where each
+-- has one, the script is done, or ended by a fault.
 abbrev pub AreDue : ℕ → List Provisioned → ℕ → List Change → ℕ → ℕ → List (List Change) → List Report → Status → Type 0
 AreDue n circuits limit earlier ran before [] reports end = (reports ≡ []) × ((end ≡ status.Ok) ⊎ (end ≡ status.PlantFault))
 AreDue n circuits limit earlier ran before (changes ∷ later) [] end = (end ≡ status.Unsettled (before + 1)) ⊎ (end ≡ status.PlantFault)

@@ -59,13 +59,15 @@ pub fn run_plan<P: Plant>(alloc: Global, plan: Plan, plant: &mut P) -> Result<Ru
     // Where two circuits share a slot the plant stays as it is.
     ensures unmoved { ¬ (AreAlone plan.circuits) → plant.new ≡ plant.old }
 
-    // A plant fault has its cause in a call that failed. Where no call fails, a script that settles is done.
+    // A plant fault has its cause in a call that failed.
     ensures failed { IfOk result (λ run. run.status ≡ Status.PlantFault → Rose (P.faults plant.old) (P.faults plant.new)) }
 
     // Where the plant's count of faults is exact, one call failed if the run ended with a plant fault. None failed with
     // any other ending, and none where the plan wasn't run.
     ensures counted { IfOk result (λ run. IsCounted P.exact (run.status ≡ Status.PlantFault) (P.faults plant.old) (P.faults plant.new)) }
     ensures uncounted { OnErr result (P.exact ≡ true → P.faults plant.new ≡ P.faults plant.old) }
+
+    // Where no call fails, a script that settles is done.
     ensures complete { IfOk result
         (λ run. MaySettle plan (P.fibres plant.old) → ¬ (Rose (P.faults plant.old) (P.faults plant.new)) → run.status ≡ Status.Ok) }
     ensures later { P.faults plant.old ≤ P.faults plant.new }

@@ -40,6 +40,6 @@ nowhere = held.nowhere adm
 abbrev pub node_at : List Node → ℕ → Node
 node_at ns p = slice_index_or ns p nowhere
 
--- what holds of the node at position p of a ring, at each position
+-- a property of a position and its node holds at each position of a ring
 abbrev pub AtEach : (ℕ → Node → Type 0) → List Node → Type 0
 AtEach = held.AtEach nowhere
