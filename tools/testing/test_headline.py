@@ -54,7 +54,7 @@ class Headline(unittest.TestCase):
         self.assertLess(alone, late)
         for page in (PAGE, ROOT / "README.md"):
             words = " ".join(page.read_text().split())
-            self.assertIn(f"Of the {steps} settle steps of the worked plans {late} are", words)
+            self.assertIn(f"Of the {steps} settle steps of the plans in `tools/testing/rings` {late} are", words)
 
     def test_bounds_are_those_of_the_changes(self):
         bounds = [soon.bound(4, words) for words in ([], ["cut", "degrade"], ["slip", "cut"], ["hold", "slip"])]
