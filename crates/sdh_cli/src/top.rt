@@ -71,7 +71,7 @@ pub fn sdhring<R: Source, W: Sink, P: Plant>(
 
     // Where the count of faults of a source, sink or plant is exact, each of its calls that failed is reported by its
     // fault, and none is tried again. A write fault may stand in place of what was to be reported. With TooLong, one
-    // byte more than a plan may have was taken.
+    // byte more was taken from the source than a plan may have.
     ensures came { let reads : Counts = record { before = R.faults source.old; after = R.faults source.new } in
         let calls : Counts = record { before = P.faults plant.old; after = P.faults plant.new } in
         (how : Status) × ((result ≡ how) ⊎ (result ≡ Status.WriteFault))

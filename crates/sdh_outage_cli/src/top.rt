@@ -60,8 +60,8 @@ pub fn sdhoutage<R: Source, W: Sink, P: Plant>(
     ensures write_fault { result ≡ Status.WriteFault → Rose (W.faults sink.old) (W.faults sink.new) }
 
     // Where an object's count is exact, each of its calls that failed is reported by its fault, and none is tried
-    // again; a write fault may stand in place of what was to be reported. With TooLong one byte more than a plan may
-    // have was taken.
+    // again; a write fault may stand in place of what was to be reported. With TooLong, one byte more was taken
+    // from the source than a plan may have.
     ensures came { let reads : Counts = record { before = R.faults source.old; after = R.faults source.new } in
         let calls : Counts = record { before = P.faults plant.old; after = P.faults plant.new } in
         (how : Status) × ((result ≡ how) ⊎ (result ≡ Status.WriteFault))

@@ -16,8 +16,8 @@ pub record SideHistory : Type 0 where
   pub command : ℕ → Command
   pub moment : ℕ → ℕ
 
--- The degradation of the round before shows in round t: two frames in a row came in, the first of them with at least
--- `threshold` inverted bits. Round 0 brings no frame, so it can show from round 2 on.
+-- The degradation of the round before shows in a frame that comes in round t: the frame before it came in too, with at
+-- least `threshold` inverted bits. Round 0 brings no frame, so t is at least 2.
 abbrev pub shows_degraded : ℕ → SideHistory → ℕ → Bool
 shows_degraded threshold h t = nat_le 2 t && (not (h.is_cut (t - 1)) && nat_le threshold (h.degraded (t - 1)))
 

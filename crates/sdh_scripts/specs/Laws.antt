@@ -23,7 +23,8 @@ pub record KeepsRounds {N T : Type 0} (walk : Walk N T) : Type 0 where
   pub looks : (number k : ℕ) (at bt : ℕ → World N) → ((j : ℕ) → j ≤ k + walk.behind → at j ≡ bt j)
       → walk.tells number at k ≡ walk.tells number bt k
 
--- where arrivals are known they determine what a script comes to; one that a fault broke off comes to the first of that
+-- Where arrivals are known they determine what a script comes to. A script that a fault broke off comes to the
+-- beginning of that.
 abbrev pub KnownScripts : {N T : Type 0} → Walk N T → Type 0
 KnownScripts {N} {T} walk = (limit before : ℕ) (steps : List Step) (w : World N) (reports : List T) (end : Status) (left : World N)
     → Knows w.fibres → 1 ≤ length w.ring.ids → length w.ring.nodes ≡ length w.ring.ids → Runs walk limit before steps w reports end left

@@ -20,8 +20,8 @@ pub record Endings (E : Type 0) : Type 0 where
 abbrev pub statuses : Endings Status
 statuses = record { of = λ s. s; shared = λ s. Some s; shared_of = λ s i. Some s; number = number_of; line = last_line }
 
--- A plan may be refused before it runs with an ending that stands for this shared status, if there is one. An ending of
--- the program's own may refuse it. Of the shared statuses only `NoSuchPort` may.
+-- An ending that stands for this shared status may refuse a plan before it runs. Of the shared statuses only
+-- `NoSuchPort` may. An ending of the program's own, which stands for none, may too.
 abbrev pub refuses_plan : Option Status → Type 0
 refuses_plan None = Unit {0}
 refuses_plan (Some status.NoSuchPort) = Unit {0}

@@ -32,7 +32,7 @@ EndsWithCause endings reads calls how = cause_of reads calls (endings.shared how
 
 -- What a source had come to when something was to be reported: a read fault (`ReadFault`), too many bytes (`TooLong`)
 -- or neither. Where its count is exact, one read failed if a read fault was to be reported, and none otherwise. If too
--- many bytes were to be reported, one byte more than a plan may have was taken.
+-- many bytes were to be reported, one byte more was taken from the source than a plan may have.
 pub record CameOfSource (exact : Bool) (reads : Counts) (left now : Option (List ℕ)) (ReadFault TooLong : Type 0) : Type 0 where
   pub counted : IsCounted exact ReadFault reads.before reads.after
   pub too_long : TooLong → TakesCount left now 1048577

@@ -1,6 +1,6 @@
-//! What the programs' calls share: whether the words are the one word `run`, the end that a letter names, a plan that
-//! is read or refused, the endings of a program, and counts of calls that failed. Texts are written to a sink as they
-//! come, or to memory.
+//! What the programs' calls share: whether the words are the one word `run`, which end of a circuit a letter names, a
+//! plan that is read or refused, the endings of a program, and counts of calls that failed. Texts are written to a sink
+//! as they come, or to memory.
 //!
 //! How a plan is refused is `HasNoPlan` in `specs/Reading.antt`. How a script that was run may end is `HasRun` in
 //! `specs/Calls.antt`. The endings of a program are `Endings` in `specs/Endings.antt`, and the failures that an ending

@@ -56,7 +56,7 @@ pub fn sdhpath<R: Source, W: Sink, P: Plant>(
 
     // Where the count of faults of a source, sink or plant is exact, each of its calls that failed is reported by its
     // fault, and none is tried again. A write fault may stand in place of what was to be reported. Where too many bytes
-    // (9) were to be reported, one byte more than a plan may have was taken.
+    // (9) were to be reported, one byte more was taken from the source than a plan may have.
     ensures came { let reads : Counts = record { before = R.faults source.old; after = R.faults source.new } in
         let calls : Counts = record { before = P.faults plant.old; after = P.faults plant.new } in
         (how : Ending) × ((result ≡ number_of how) ⊎ (result ≡ 4))

@@ -51,7 +51,8 @@ pub fn spans_take_words()
     ensures { SpansTakeWords }
 {}
 
-/// An AU-4 arrives as it was sent where the fibre isn't cut, and neither its generator nor the interpreters change.
+/// Where the fibre isn't cut, and neither the generator of an AU-4 nor the interpreters change, the AU-4 arrives as it
+/// was sent.
 pub fn spans_bring()
     ensures { SpansBring }
 {}

@@ -27,7 +27,7 @@ pub trait Matrix {
     /// What feeds the AU-4 of a number that leaves on a side.
     ghost leads: { Self → Side → ℕ → Feeder };
 
-    /// What is dropped of a slot to a port whose circuit leaves on a side.
+    /// What is dropped to the port whose circuit leaves on a side in the working slot of a number.
     ghost drops: { Self → Side → ℕ → Feeder };
 
     /// Returns the rate of both sides.
