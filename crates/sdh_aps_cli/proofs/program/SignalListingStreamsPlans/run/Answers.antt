@@ -20,10 +20,10 @@ returns-in-WriteFault-clause-goes g c =
     let has : has_node c.args.self c.args.plan.nodes ≡ true =
     ap (has_node c.args.self) (sym c.map.ensures) ∙ sym c.has_node.ensures ∙ there in
     let ran = c.in_ok-status.ensures in
-    let cut = ran.cut refl in
+    let cut = ran.cut c.in-WriteFault.is in
     goes_cut c.args.self c.args.plan (g.P.Plant.fibres c.args.plant.now) g.P.Plant.exact (g.P.Plant.fibres c.run_plan.new.plant) _
     (ending.Shared status.WriteFault) (g.W.Sink.written c.args.sink.now) (g.W.Sink.written c.run_plan.new.sink) has cut.0 refl cut.1 cut.2
-    (λ e. ran.counted.none e (λ x. cc))
+    (λ e. ran.counted.none e (λ x. let z = sym x ∙ c.in-WriteFault.is in grind arith))
 
 pub returns-in_default-clause-goes : goal.returns-in_default-clause-goes
 returns-in_default-clause-goes g c =
