@@ -1,9 +1,12 @@
 pub mod Endings
 pub mod Words
+pub mod Frames
 pub mod Signalled
 pub mod Listing
 pub mod Recording
 pub mod Keeping
+pub mod FrameRecording
+pub mod FrameKeeping
 pub mod Scripts
 pub mod Plans
 pub mod Headline

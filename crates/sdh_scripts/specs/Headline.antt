@@ -37,16 +37,16 @@ abbrev pub AlwaysSettles : List ℕ → Status → Type 0
 AlwaysSettles bytes how = (plan : Planned) → TellsPlan bytes plan → enough_for (length plan.nodes) ≤ plan.limit → IsSettled how
 
 -- all is given for this: a text is written of the plan; or the plan is run, and `MaySettle` gives what a run needs to come to its end
-abbrev pub may_do_by : {L E : Type 0} → (Planned → Fibres → Type 0) → Deed L E → Planned → Fibres → Type 0
+abbrev pub may_do_by : {L E : Type 0} → (L → Planned → Fibres → Type 0) → Deed L E → Planned → Fibres → Type 0
 may_do_by MaySettle (Refuses why) plan f = ⊥
 may_do_by MaySettle (Writes told) plan f = Unit {0}
-may_do_by MaySettle (Runs listing) plan f = MaySettle plan f
+may_do_by MaySettle (Runs listing) plan f = MaySettle listing plan f
 
 abbrev pub may_do : {A L T E : Type 0} → Program A L T E → Deed L E → Planned → Fibres → Type 0
 may_do program = may_do_by program.MaySettle
 
 -- all is given for what is asked with a plan, where this is done with it
-abbrev pub may_go_by : {A L E : Type 0} → (A → Planned → Deed L E → Type 0) → (Planned → Fibres → Type 0) → A → Planned → Fibres → Type 0
+abbrev pub may_go_by : {A L E : Type 0} → (A → Planned → Deed L E → Type 0) → (L → Planned → Fibres → Type 0) → A → Planned → Fibres → Type 0
 may_go_by {L = L} {E = E} Does MaySettle ask plan f = (deed : Deed L E) × Does ask plan deed × may_do_by MaySettle deed plan f
 
 abbrev pub MayGo : {A L T E : Type 0} → Program A L T E → A → Planned → Fibres → Type 0

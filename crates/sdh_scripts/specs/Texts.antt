@@ -1,5 +1,5 @@
 -- What a run of steps writes.
-use Rattle.std.specs.Prelude.{ℕ, ◌≡◌, ◌⊎◌, ◌+◌, ◌-◌, ◌*◌, ◌≤◌, List, [], ◌∷◌, ◌++◌, length, Option}
+use Rattle.std.specs.Prelude.{ℕ, ◌≡◌, ◌≢◌, ◌⊎◌, ◌+◌, ◌-◌, ◌*◌, ◌≤◌, List, [], ◌∷◌, ◌++◌, length, Option}
 use Rattle.std.specs.List.{flat_map}
 use Rattle.std.specs.Io.KnownBytes.{Appends}
 use Rattle.sdh_outside.specs.Writing.{AppendsFewer}
@@ -33,10 +33,11 @@ pub record Went {N T : Type 0} (walk : Walk N T) (limit : ℕ) (text_of : T → 
       → Runs walk limit before (gone ++ later) w (reports ++ rest) end last
 
 -- This is to be written of the step with which a script ended, after `before` settle steps: of a settle step what is
--- written of its rounds that ran, and nothing of a step that was refused.
+-- written of its rounds that ran, which are all of them but for a plant's fault; and nothing of a step that was refused.
 abbrev pub WritesLast : {N T : Type 0} → Walk N T → ℕ → (T → List ℕ) → ℕ → Step → World N → List ℕ → Status → World N → Type 0
 WritesLast {T = T} walk limit begun_of before step.Settle w text end left =
-    Runs {T = T} walk limit before (step.Settle ∷ []) w [] end left × Begun walk limit (before + 1) begun_of w text left
+    Runs {T = T} walk limit before (step.Settle ∷ []) w [] end left × (x : Begun walk limit (before + 1) begun_of w text left)
+    × (end ≢ status.PlantFault → left ≡ x.mid)
 WritesLast {T = T} walk limit begun_of before s w text end left = Refuses {T = T} s w [] end left × (text ≡ [])
 
 -- the script ends with this step, whatever is left of it, and what is to be written of it was
