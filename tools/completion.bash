@@ -11,7 +11,8 @@ _sdhring_words() {
     sdhwatch:1:* | sdhpath:1:*) mapfile -t COMPREPLY < <(compgen -W "run $1" -- "$word") ;;
     sdhwhatif:1:*) mapfile -t COMPREPLY < <(compgen -W "single double triple $1" -- "$word") ;;
     sdhwhatif:*) mapfile -t COMPREPLY < <(compgen -W "degraded fibres spans nodes manual forced own part head json summary" -- "$word") ;;
-    sdhaps:1:*) mapfile -t COMPREPLY < <(compgen -W "run node $1" -- "$word") ;;
+    sdhaps:1:*) mapfile -t COMPREPLY < <(compgen -W "run node frames $1" -- "$word") ;;
+    sdhaps:3:frames) mapfile -t COMPREPLY < <(compgen -W "west east" -- "$word") ;;
     sdhretime:1:*) mapfile -t COMPREPLY < <(compgen -W "$1" -- "$word") ;;
     *:*:--install | *:*:--uninstall) compopt -o dirnames ;;
   esac
@@ -31,6 +32,7 @@ _sdhring_tools() {
     sdhring-report) words='--json --csv --nodes --plan --version --help' ;;
     sdhring-plan) words='new import --nodes --rate --threshold --wait --limit --steps --to --version --help' ;;
     sdhring-availability) words='--nodes --groups --cuts-per-1000-km --without-script --csv --json --causes --version --help' ;;
+    sdhring-capture) words='--node --side --rounds --frames --program --version --help' ;;
     sdhring-desk) words='--to --title --depth --spans --nodes --groups --cuts-per-1000-km --teller --version --help' ;;
     sdhring-view) words='--to --svg --outages --signalling --program --version --help' ;;
     sdhring-whatif) words='--also --works --title --without-script --kinds --dir --program --jobs --shard --sshlogin --parallel --all --depth --frames --groups --against --outages --require --teller --counter --anew --version --help' ;;
@@ -40,7 +42,7 @@ _sdhring_tools() {
 }
 
 complete -F _sdhring {,./}sdh{ring,watch,outage,path,retime,whatif,aps}
-complete -F _sdhring_tools {,./}sdhring-{availability,desk,explain,plan,report,view,whatif}
+complete -F _sdhring_tools {,./}sdhring-{availability,capture,desk,explain,plan,report,view,whatif}
 # repository
 complete -F _sdhring_tools {,./}tools/rows
 # end

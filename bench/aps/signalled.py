@@ -74,12 +74,20 @@ def run(plan, only=None):
     return 0, "\n".join([*seen.lines, "done", ""])
 
 
+def sent(plan, node, side, first, count):
+    """The status, and the frames that a node sends on a side in these rounds, as bytes; with a last line where the run hasn't all of them."""
+    if node not in plan["nodes"]:
+        return 15, b"no such node\n"
+    made = frames.frames(plan, node, side, first, count)
+    return (0, b"".join(made)) if len(made) == count else (16, b"".join([*made, b"no such round\n"]))
+
+
 def main(words):
     plan = tomllib.load(sys.stdin.buffer)
     if len(words) == 5 and words[0] == "frames":
-        made = frames.frames(plan, int(words[1]), words[2], int(words[3]), int(words[4]))
-        sys.stdout.buffer.write(b"".join(made))
-        return 0 if len(made) == int(words[4]) else 1
+        status, made = sent(plan, int(words[1]), words[2], int(words[3]), int(words[4]))
+        sys.stdout.buffer.write(made)
+        return status
     if words == ["run"]:
         status, text = run(plan)
     elif len(words) == 2 and words[0] == "node":

@@ -1,11 +1,13 @@
 pub mod Lines
 pub mod Rounds
+pub mod Framing
 pub mod Known
 pub mod Cells
 pub mod Alike
 pub mod Turns
 pub mod Signals
 pub mod Owing
+pub mod Counts
 pub mod Plans
 pub mod Steps
 pub mod Goings

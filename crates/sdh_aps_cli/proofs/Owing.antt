@@ -60,7 +60,7 @@ none_next ring ids (changes ∷ later) [] earlier =
     let now = earlier ++ record { changes = changes; rounds = 0 } ∷ [] in
     sym (ap (flat_map (changes_by ring ids now)) (cells-zero (λ j. rounds_in earlier + j)))
 none_next ring ids (changes ∷ later) (s ∷ told) earlier =
-    none_next ring ids later told (earlier ++ record { changes = changes; rounds = s.round + 1 - rounds_in earlier } ∷ [])
+    none_next ring ids later told (earlier ++ record { changes = changes; rounds = s.rounds - rounds_in earlier } ∷ [])
 
 no_rounds : (xs : List (List Arrival)) → length xs ≤ 0 → xs ≡ []
 no_rounds [] h = refl
@@ -187,10 +187,13 @@ module _ (laws : Laws) (s : Settings) (ids : List ℕ) (circuits : Provisioning)
           ∙ settle s ids circuits f earlier (last many) many t may (happens many) ended.window (omega (arith, may.ids_ok.enough)) (omega arith)
           all_rounds
 
-      last_round : (number : ℕ) (one : Signalled) → one ≡ signalled_in number (course_with x.rounds w) (length x.rounds) → one.round ≡ t
+      all_before : t + 1 ≡ mid.ring.rounds
+      all_before = let long = ended.last.window in omega (arith, long, may.ids_ok.enough)
+
+      last_round : (number : ℕ) (one : Signalled) → one ≡ signalled_in number (course_with x.rounds w) (length x.rounds)
+          → one.rounds ≡ mid.ring.rounds
       last_round number one is =
-          ap (λ (y : Signalled). y.round) is
-          ∙ ap (λ (v : World). v.ring.rounds - 1) (sym (x.left_is ∙ course_whole adm x.rounds w))
+          ap (λ (y : Signalled). y.rounds) is ∙ ap (λ (v : World). v.ring.rounds) (sym (x.left_is ∙ course_whole adm x.rounds w))
 
       -- it shows what it owes, and so do the later ones
       shown_then : StretchesSettle → (before : ℕ) (one : Signalled)
@@ -198,23 +201,25 @@ module _ (laws : Laws) (s : Settings) (ids : List ℕ) (circuits : Provisioning)
           (end : Status) → AreSignalled ring ids limit (with_rounds many) (before + 1) later rest end
           → AreSignalled ring ids limit earlier before (changes ∷ later) (one ∷ rest) end
       shown_then settle before one is later rest end more =
-          let Then = λ (r : ℕ). (one.number ≡ before + 1) × IsLast n limit ran r
-          × ShowsSignals ring ids (with_rounds (r + 1 - ran)) ran r one.changes
-          × AreSignalled ring ids limit (with_rounds (r + 1 - ran)) (before + 1) later rest end in
-          let now : Then t = (
+          let Then = λ (all round : ℕ). (one.number ≡ before + 1) × IsLast n limit ran round
+          × ShowsSignals ring ids (with_rounds (all - ran)) ran round one.changes
+          × AreSignalled ring ids limit (with_rounds (all - ran)) (before + 1) later rest end in
+          let now : Then (t + 1) t = (
             ap (λ (y : Signalled). y.number) is,
             ended.last,
             record { changes = ap (λ (y : Signalled). y.changes) is ∙ changes_are; settled = states_are settle },
             more,
           ) in
-          subst Then (sym (last_round (before + 1) one is)) now
+          let here : Then mid.ring.rounds (mid.ring.rounds - 1) = subst (λ (all : ℕ). Then all t) all_before now in
+          subst (λ (all : ℕ). Then all (all - 1)) (sym (last_round (before + 1) one is)) here
 
       next_then : (number : ℕ) (one : Signalled) → one ≡ signalled_in number (course_with x.rounds w) (length x.rounds)
           → (later : List (List Change)) (rest : List Signalled) (k : ℕ) (shown : List signalled.Change)
           → AreOfTheNext ring ids (with_rounds many) later rest k shown
           → AreOfTheNext ring ids earlier (changes ∷ later) (one ∷ rest) k shown
       next_then number one is later rest k shown more =
-          subst (λ (r : ℕ). AreOfTheNext ring ids (with_rounds (r + 1 - ran)) later rest k shown) (sym (last_round number one is)) more
+          subst (λ (all : ℕ). AreOfTheNext ring ids (with_rounds (all - ran)) later rest k shown)
+          (all_before ∙ sym (last_round number one is)) more
 
     -- ---- a settle step so far
 

@@ -1,11 +1,13 @@
 -- What is reported of a plan that is run.
-use Rattle.std.proofs.Common.{◌≡◌, true, ℕ, zero, suc, ◌+◌, List, [], ◌∷◌, ◌++◌, length, refl, ap, ap₂, sym, subst, ◌∙◌, arith, inl, inr}
-use Rattle.std.specs.Prelude.{Option, map, All}
+use Rattle.std.proofs.Common.{◌≡◌, ◌≢◌, ◌≤◌, true, ℕ, zero, suc, ◌+◌, List, [], ◌∷◌, ◌++◌, length, refl, ap, ap₂, sym, subst, ◌∙◌, arith, inl, inr}
+use Rattle.std.specs.Prelude.{◌⊎◌, Option, map, All}
 use Rattle.std.specs.List.{flat_map}
 use Rattle.std.specs.Io.KnownBytes.{Appends}
 use Rattle.std.proofs.lemmas.Grind.{flat_map-append}
+use Rattle.sdh_basics.specs.Causes.{IsCounted}
 use Rattle.sdh_outside.specs.Writing.{AppendsFewer}
 use Rattle.sdh_plant.specs.Fibres.{Fibres, IsHonest}
+use Rattle.sdh_plant.specs.Arrivals.{Knows}
 use Rattle.sdh_world.specs.Held.{HeldRing}
 use Rattle.sdh_world.specs.Rounds.{World}
 use Rattle.sdh_plan.specs.Planned.{Planned, IsPlanned, provisioning_of}
@@ -16,52 +18,59 @@ use Rattle.sdh_plan.specs.Scripts.{AreSteps}
 use Rattle.sdh_report.specs.declared.status.Status.{Status}
 use Rattle.sdh_report.specs.declared.status.Status.TheVariants as status
 use Rattle.sdh_shell.specs.Calls.{HasRun}
+use Rattle.sdh_shell.specs.Failing.{HaveFailed}
 use Rattle.sdh_shell.proofs.Endings.{has_run}
-use Rattle.sdh_scripts.specs.Outcomes.{with_fibres}
-use Rattle.sdh_scripts.specs.Texts.{WriteFailed}
-use Rattle.sdh_scripts.specs.Streams.{WroteSteps}
-use Rattle.sdh_scripts.proofs.Streams.{stopped_told, cut_told}
 use Rattle.sdh_promise.specs.Changes.{scenes}
 use Rattle.sdh_promise.specs.Plans.{ring_of}
 use Rattle.sdh_scripts.specs.Scripts.{Runs}
-use Rattle.sdh_scripts.specs.Streams.{LastTold, StoppedTold}
+use Rattle.sdh_scripts.specs.Outcomes.{with_fibres}
+use Rattle.sdh_scripts.specs.Texts.{WriteFailed}
+use Rattle.sdh_scripts.specs.Streams.{NoneMade, WroteSteps, LastTold, StoppedTold}
+use Rattle.sdh_scripts.specs.declared.run.NewScript.{NewScript}
+use Rattle.sdh_scripts.proofs.Streams.{stopped_told, cut_told}
 use Rattle.sdh_scripts.specs.Plans.{Comes}
+use Rattle.sdh_scripts.specs.Plans as plans
 use Rattle.sdh_scripts.proofs.Plans.{comes_of, known_then, settles_then, ends_of, done_of}
 use Rattle.sdh_scripts.proofs.Reporting.{reported}
 use Rattle.sdh_owed.specs.Laws.{ScriptsSettle}
 use Rattle.sdh_owed.specs.Reports.{report_of}
 use Rattle.sdh_owed.specs.Plans.{new_ring_of, world_of}
 use Rattle.sdh_owed.proofs.Plans.{adm_new, may_start, circuits_fit}
+use Rattle.sdh_aps_cli.specs.Endings.{frames_end}
 use Rattle.sdh_aps_cli.specs.Signalled.{Signalled}
 use Rattle.sdh_aps_cli.specs.Scripts.{signalling_walk}
-use Rattle.sdh_aps_cli.specs.Listing.{begun_text, ended_text}
-use Rattle.sdh_aps_cli.specs.Laws.{ScriptsGoAsSignals, StepsGoAsSignals}
-use Rattle.sdh_aps_cli.specs.Plans.{signalling_account, Owes, IsRunOf, MaySettle, Piece, Ended, Begun, piece_text, pieces_text, pieces_of, AreFirstRounds, IsSignalledRun, IsCutRun}
-use Rattle.sdh_aps_cli.specs.declared.listing.SignalListing.{SignalListing}
-use Rattle.sdh_aps_cli.proofs.Known.{keeps_rounds}
+use Rattle.sdh_aps_cli.specs.Listing.{begun_of, ended_of}
 use Rattle.sdh_aps_cli.specs.Owed.{AreOfTheNext}
+use Rattle.sdh_aps_cli.specs.Laws.{ScriptsGoAsSignals, StepsGoAsSignals}
+use Rattle.sdh_aps_cli.specs.Plans.{signalling_account, Owes, IsRunOf, Piece, Ended, Begun, piece_text, pieces_text, pieces_of, rounds_in}
+use Rattle.sdh_aps_cli.specs.Plans.{AreFirstRounds, IsSignalledRun, IsCutRun, has_rounds, ends_by, MaySettle, IsScriptOf, Failures, CameOfRun}
+use Rattle.sdh_aps_cli.specs.declared.ending.Ending.TheVariants as ending
+use Rattle.sdh_aps_cli.specs.declared.listing.PlanListing.{PlanListing}
+use Rattle.sdh_aps_cli.specs.declared.listing.PlanListing.TheVariants as listed
+use Rattle.sdh_aps_cli.proofs.Known.{keeps_rounds}
 use Rattle.sdh_aps_cli.proofs.Owing.{none_shown}
+use Rattle.sdh_aps_cli.proofs.Counts.{all_ran, done_rounds, stopped_rounds, stopped_other}
 
 -- ---- the text of pieces
 
-module _ (listing : SignalListing) where
-  ended_pieces : (told : List Signalled) → pieces_text listing (map Ended told) ≡ flat_map (ended_text listing) told
+module _ (listing : PlanListing) where
+  ended_pieces : (told : List Signalled) → pieces_text listing (map Ended told) ≡ flat_map (ended_of listing) told
   ended_pieces [] = refl
-  ended_pieces (s ∷ told) = ap (λ l. ended_text listing s ++ l) (ended_pieces told)
+  ended_pieces (s ∷ told) = ap (λ l. ended_of listing s ++ l) (ended_pieces told)
 
-  begun_pieces : (told : List Signalled) → pieces_text listing (map Begun told) ≡ flat_map (begun_text listing) told
+  begun_pieces : (told : List Signalled) → pieces_text listing (map Begun told) ≡ flat_map (begun_of listing) told
   begun_pieces [] = refl
-  begun_pieces (s ∷ told) = ap (λ l. begun_text listing s ++ l) (begun_pieces told)
+  begun_pieces (s ∷ told) = ap (λ l. begun_of listing s ++ l) (begun_pieces told)
 
   pub all_pieces : (ended begun : List Signalled)
-      → pieces_text listing (pieces_of ended begun) ≡ flat_map (ended_text listing) ended ++ flat_map (begun_text listing) begun
+      → pieces_text listing (pieces_of ended begun) ≡ flat_map (ended_of listing) ended ++ flat_map (begun_of listing) begun
   all_pieces ended begun =
       flat_map-append (piece_text listing) (map Ended ended) (map Begun begun)
       ∙ ap₂ (λ (l m : List ℕ). l ++ m) (ended_pieces ended) (begun_pieces begun)
 
 -- ---- a run
 
-module _ (settles : ScriptsSettle) (signals : ScriptsGoAsSignals) (steps_go : StepsGoAsSignals) (plan : Planned) (listing : SignalListing) (f : Fibres)
+module _ (settles : ScriptsSettle) (signals : ScriptsGoAsSignals) (steps_go : StepsGoAsSignals) (plan : Planned) (listing : PlanListing) (f : Fibres)
     (fits : IsPlanned plan) (honest : f.honest ≡ true → IsHonest f) where
   owed_comes : f.honest ≡ true → (left : Fibres) (reports : List Signalled) (end : Status)
       → Comes signalling_account plan f reports end left → Owes plan f reports end left
@@ -74,33 +83,40 @@ module _ (settles : ScriptsSettle) (signals : ScriptsGoAsSignals) (steps_go : St
 
   -- ---- what is reported of a step that did not end
 
-  no_rounds : (reports : List Signalled) → All (AreFirstRounds plan reports) []
-  no_rounds reports = λ k d low. absurd (omega (arith, low))
+  module _ (reports : List Signalled) (end : Status) where
+    no_rounds : All (AreFirstRounds plan reports end) []
+    no_rounds = λ k d low. absurd (omega (arith, low))
 
-  of_one : {reports : List Signalled} {one : Signalled} → AreFirstRounds plan reports one → All (AreFirstRounds plan reports) (one ∷ [])
-  of_one is zero d low = is
-  of_one is (suc k) d low = absurd (omega (arith, low))
+    of_one : {one : Signalled} → AreFirstRounds plan reports end one → All (AreFirstRounds plan reports end) (one ∷ [])
+    of_one is zero d low = is
+    of_one is (suc k) d low = absurd (omega (arith, low))
 
   first_rounds : f.honest ≡ true → (reports begun : List Signalled) (end : Status) (left : World) (gone : List Step) (stops : Step)
       (later : List Step) (mid : World) → plan.steps ≡ gone ++ stops ∷ later
       → Runs signalling_walk plan.limit 0 gone (world_of plan f) reports status.Ok mid
-      → LastTold signalling_walk plan.limit (length reports) stops mid begun end left → All (AreFirstRounds plan reports) begun
+      → LastTold signalling_walk plan.limit (length reports) stops mid begun end left → All (AreFirstRounds plan reports end) begun
   first_rounds h reports begun end left gone step.Settle later mid are went last =
-      let x = last.1.0 in
+      let x = last.1 in
       let so =
       steps_go plan.settings plan.nodes (provisioning_of plan) f (may_start plan f fits (honest h)) plan.limit new_past gone later
       (subst (λ l. AreSteps plan.settings.rate (length plan.nodes) (length plan.circuits) new_past l) are fits.steps_fit)
       reports mid went (length reports + 1) x.told x.mid x.so_far in
-      let one : AreFirstRounds plan reports x.told = record {
+      let one : AreFirstRounds plan reports end x.told = record {
         count = so.count;
         few = so.few;
+        all = λ k unsettled. (
+            let ran = all_ran plan.limit (length reports) k mid left end unsettled last.0 in
+            let same : left.ring.rounds ≡ x.mid.ring.rounds =
+            ap (λ (v : World). v.ring.rounds) (last.3 (λ e. (let clash = sym e ∙ unsettled in grind arith))) in
+            omega (arith, ran, same, so.ran));
         shown = subst (λ l. AreOfTheNext (ring_of plan) plan.nodes [] (scenes [] l) reports so.count x.told.changes) (sym are) so.shown;
-      } in subst (λ l. All (AreFirstRounds plan reports) l) (sym last.1.1) (of_one one)
+      } in subst (λ l. All (AreFirstRounds plan reports end) l) (sym last.2) (of_one reports end one)
   first_rounds h reports begun end left gone s later mid are went last =
-      subst (λ l. All (AreFirstRounds plan reports) l) (sym last.1) (no_rounds reports)
+      subst (λ l. All (AreFirstRounds plan reports end) l) (sym last.1) (no_rounds reports end)
 
   stopped_owed : f.honest ≡ true → (reports begun : List Signalled) (end : Status) (left : World)
-      → StoppedTold signalling_walk plan.limit plan.steps (world_of plan f) reports begun end left → All (AreFirstRounds plan reports) begun
+      → StoppedTold signalling_walk plan.limit plan.steps (world_of plan f) reports begun end left
+      → All (AreFirstRounds plan reports end) begun
   stopped_owed h reports begun end left x =
       first_rounds h reports begun end left x.gone x.stops x.later x.mid x.steps_are x.went x.last
 
@@ -122,66 +138,161 @@ module _ (settles : ScriptsSettle) (signals : ScriptsGoAsSignals) (steps_go : St
   }
 
   -- a run in which no write failed
-  pub signalled : (limit : ℕ) (steps : List Step) (r : HeldRing) (old new : Option (List ℕ)) (end : Status) (left : World)
-      → limit ≡ plan.limit → steps ≡ plan.steps → r ≡ new_ring_of plan
-      → WroteSteps signalling_walk limit (ended_text listing) (begun_text listing) steps (with_fibres r f) f old new end left
-      → (pieces : List Piece) × IsSignalledRun plan f pieces end left.fibres × Appends old new (pieces_text listing pieces)
-  signalled limit steps r old new end left limits same ring x =
-      by (subst (λ (v : HeldRing). WroteSteps signalling_walk plan.limit (ended_text listing) (begun_text listing) plan.steps (with_fibres v f) f
-      old new end left) ring
-      (subst (λ (l : List Step). WroteSteps signalling_walk plan.limit (ended_text listing) (begun_text listing) l (with_fibres r f) f old new
-      end left) same
-      (subst (λ (k : ℕ). WroteSteps signalling_walk k (ended_text listing) (begun_text listing) steps (with_fibres r f) f old new end left)
-      limits x)))
-    where
-      by : WroteSteps signalling_walk plan.limit (ended_text listing) (begun_text listing) plan.steps (world_of plan f) f old new end left
-          → (pieces : List Piece) × IsSignalledRun plan f pieces end left.fibres × Appends old new (pieces_text listing pieces)
-      by y =
-          let came = run_of left.fibres y.reports end
-          (comes_of signalling_walk plan.limit plan.steps (world_of plan f) f y.reports end left y.ran) in
-          elim y.tail_is [
-            | inl none ↦ (
-              pieces_of y.reports [],
-              record { reports = y.reports; came = came; begun = []; begun_is = inl (refl, none.1); begun_owed = λ h. no_rounds y.reports; pieces_are = refl },
-              subst (Appends old new)
-                  (ap (λ l. flat_map (ended_text listing) y.reports ++ l) none.0 ∙ sym (all_pieces listing y.reports [])) y.text,
-            )
-            | inr stopped ↦ (
-                let told = stopped_told signalling_walk plan.limit (ended_text listing) (begun_text listing) plan.steps (world_of plan f)
-                y.reports y.tail end left stopped in (
-                  pieces_of y.reports told.0,
-                  record { reports = y.reports; came = came; begun = told.0; begun_is = inr (left, refl, told.1); begun_owed = λ h. stopped_owed h y.reports told.0 end left told.1; pieces_are = refl },
-                  subst (Appends old new)
-                      (ap (λ l. flat_map (ended_text listing) y.reports ++ l) told.2 ∙ sym (all_pieces listing y.reports told.0)) y.text,
-                ))
-          ]
+  module _ (old new : Option (List ℕ)) (end : Status) (left : World) where
+    abbrev Reported : Type 0
+    Reported =
+        (pieces : List Piece) × IsSignalledRun plan f pieces end left.fibres × Appends old new (pieces_text listing pieces)
+        × (end ≢ status.PlantFault → left.ring.rounds ≡ rounds_in pieces)
+
+    signalled : WroteSteps signalling_walk plan.limit (ended_of listing) (begun_of listing) plan.steps (world_of plan f) f old new end left
+        → Reported
+    signalled y =
+        let came = run_of left.fibres y.reports end
+        (comes_of signalling_walk plan.limit plan.steps (world_of plan f) f y.reports end left y.ran) in
+        elim y.tail_is [
+          | inl none ↦ (
+            pieces_of y.reports [],
+            record {
+              reports = y.reports;
+              came = came;
+              begun = [];
+              begun_is = inl (refl, none.1);
+              begun_owed = λ h. no_rounds y.reports end;
+              pieces_are = refl;
+            },
+            subst (Appends old new)
+                (ap (λ l. flat_map (ended_of listing) y.reports ++ l) none.0 ∙ sym (all_pieces listing y.reports [])) y.text,
+            λ other. done y.reports none.1 y.ran other,
+          )
+          | inr stopped ↦ (
+              let told = stopped_told signalling_walk plan.limit (ended_of listing) (begun_of listing) plan.steps (world_of plan f)
+              y.reports y.tail end left stopped in (
+                pieces_of y.reports told.0,
+                record {
+                  reports = y.reports;
+                  came = came;
+                  begun = told.0;
+                  begun_is = inr (left, refl, told.1);
+                  begun_owed = λ h. stopped_owed h y.reports told.0 end left told.1;
+                  pieces_are = refl;
+                },
+                subst (Appends old new)
+                    (ap (λ l. flat_map (ended_of listing) y.reports ++ l) told.2 ∙ sym (all_pieces listing y.reports told.0)) y.text,
+                λ other. stopped_rounds plan.limit plan.steps (world_of plan f) (adm_new.rounds plan) y.reports left told.0 end told.1 other,
+              ))
+        ]
+      where
+        done : (reports : List Signalled) → (end ≡ status.Ok) ⊎ NoneMade f reports end left
+            → NoneMade f reports end left ⊎ Runs signalling_walk plan.limit 0 plan.steps (world_of plan f) reports end left
+            → end ≢ status.PlantFault → left.ring.rounds ≡ rounds_in (pieces_of reports [])
+        done reports (inr none) ran other = absurd (other none.0)
+        done reports (inl ok) (inl none) other = absurd (other none.0)
+        done reports (inl ok) (inr runs) other =
+            done_rounds plan.limit plan.steps (world_of plan f) (adm_new.rounds plan) reports left
+            (subst (λ (how : Status). Runs signalling_walk plan.limit 0 plan.steps (world_of plan f) reports how left) ok runs)
 
   -- a run in which a write failed
-  pub cut_run : (limit : ℕ) (steps : List Step) (r : HeldRing) (old new : Option (List ℕ)) (left : World)
-      → limit ≡ plan.limit → steps ≡ plan.steps → r ≡ new_ring_of plan
-      → WriteFailed signalling_walk limit (ended_text listing) (begun_text listing) steps (with_fibres r f) old new left
+  cut_run : (old new : Option (List ℕ)) (left : World)
+      → WriteFailed signalling_walk plan.limit (ended_of listing) (begun_of listing) plan.steps (world_of plan f) old new left
       → (pieces : List Piece) × IsCutRun plan f pieces left.fibres × AppendsFewer old new (pieces_text listing pieces)
-  cut_run limit steps r old new left limits same ring x =
-      by (subst (λ (v : HeldRing). WriteFailed signalling_walk plan.limit (ended_text listing) (begun_text listing) plan.steps (with_fibres v f)
-      old new left) ring
-      (subst (λ (l : List Step). WriteFailed signalling_walk plan.limit (ended_text listing) (begun_text listing) l (with_fibres r f) old new
-      left) same
-      (subst (λ (k : ℕ). WriteFailed signalling_walk k (ended_text listing) (begun_text listing) steps (with_fibres r f) old new left)
-      limits x)))
-    where
-      by : WriteFailed signalling_walk plan.limit (ended_text listing) (begun_text listing) plan.steps (world_of plan f) old new left
-          → (pieces : List Piece) × IsCutRun plan f pieces left.fibres × AppendsFewer old new (pieces_text listing pieces)
-      by y =
-          let told = cut_told signalling_walk plan.limit (ended_text listing) (begun_text listing) plan.steps (world_of plan f) old new left y in (
-            pieces_of told.0 told.1,
-            record { ended = told.0; begun = told.1; last = left; last_is = refl; cut = told.2; pieces_are = refl },
-            subst (AppendsFewer old new) (sym (all_pieces listing told.0 told.1)) told.3,
-          )
+  cut_run old new left y =
+      let told = cut_told signalling_walk plan.limit (ended_of listing) (begun_of listing) plan.steps (world_of plan f) old new left y in (
+        pieces_of told.0 told.1,
+        record { ended = told.0; begun = told.1; last = left; last_is = refl; cut = told.2; pieces_are = refl },
+        subst (AppendsFewer old new) (sym (all_pieces listing told.0 told.1)) told.3,
+      )
+
+  -- the run of the plan's script over its ring
+  module _ (script : NewScript) (is : IsScriptOf plan script) (r : HeldRing) (ring : r ≡ new_ring_of plan) (failures : Failures)
+      (end : Status) (rounds : ℕ) (old new : Option (List ℕ)) (left : World) where
+    as_plan : (Holds : ℕ → List Step → World → Type 0) → Holds script.limit script.steps.items (with_fibres r f)
+        → Holds plan.limit plan.steps (world_of plan f)
+    as_plan Holds x =
+        subst (λ (v : HeldRing). Holds plan.limit plan.steps (with_fibres v f)) ring
+        (subst (λ (l : List Step). Holds plan.limit l (with_fibres r f)) is.steps
+        (subst (λ (k : ℕ). Holds k script.steps.items (with_fibres r f)) is.limit x))
+
+    pub came_of_run : rounds ≡ left.ring.rounds
+        → (end ≢ status.WriteFault → WroteSteps signalling_walk script.limit (ended_of listing) (begun_of listing) script.steps.items
+        (with_fibres r f) f old new end left)
+        → (end ≡ status.WriteFault → WriteFailed signalling_walk script.limit (ended_of listing) (begun_of listing) script.steps.items
+        (with_fibres r f) old new left)
+        → (end ≡ status.PlantFault → HaveFailed failures.calls) → (end ≡ status.WriteFault → HaveFailed failures.writes)
+        → IsCounted failures.calls_exact (end ≡ status.PlantFault) failures.calls.before failures.calls.after
+        → IsCounted failures.writes_exact (end ≡ status.WriteFault) failures.writes.before failures.writes.after
+        → CameOfRun plan listing f left.fibres failures end rounds old new
+    came_of_run same wrote breaks failed broke counted writes = record {
+      whole = λ other. (
+          let x = signalled old new end left
+          (as_plan (λ k l w. WroteSteps signalling_walk k (ended_of listing) (begun_of listing) l w f old new end left) (wrote other)) in
+          (x.0, x.1, x.2, λ fine. same ∙ x.3 fine));
+      cut = λ fault. cut_run old new left
+          (as_plan (λ k l w. WriteFailed signalling_walk k (ended_of listing) (begun_of listing) l w old new left) (breaks fault));
+      failed = failed;
+      broke = broke;
+      counted = counted;
+      writes_counted = writes;
+    }
+
+-- the plan's script may start over the plan's ring, by its numbers
+pub record FitsRing (r : HeldRing) (script : NewScript) : Type 0 where
+  pub rate : script.rate ≡ r.settings.rate
+  pub nodes : script.nodes ≡ length r.ids
+  pub enough : 2 ≤ script.nodes
+  pub few : script.nodes ≤ 16
+  pub limit_from_1 : 1 ≤ script.limit
+  pub limit_small : script.limit ≤ 65536
+
+pub fits_ring : (plan : Planned) (r : HeldRing) (script : NewScript) → IsPlanned plan → IsScriptOf plan script → r ≡ new_ring_of plan
+    → FitsRing r script
+fits_ring plan r script form is same =
+    let ids : length r.ids ≡ length plan.nodes = ap (λ (v : HeldRing). length v.ids) same in
+    let least = form.nodes_fit.enough in
+    let most = form.nodes_fit.few in
+    let low = form.limit_from_1 in
+    let high = form.limit_small in
+    record {
+      rate = is.rate ∙ sym (ap (λ (v : HeldRing). v.settings.rate) same);
+      nodes = is.nodes ∙ sym ids;
+      enough = omega (arith, is.nodes, least);
+      few = omega (arith, is.nodes, most);
+      limit_from_1 = omega (arith, is.limit, low);
+      limit_small = omega (arith, is.limit, high);
+    }
+
+-- ---- how it ends
 
 -- the ways in which it ends, and that one that settles is done
 pub run_ends : (plan : Planned) (f left : Fibres) (pieces : List Piece) (end : Status) → IsSignalledRun plan f pieces end left → HasRun end
 run_ends plan f left pieces end x = has_run end (ends_of signalling_account plan f left end x.reports x.came)
 
-pub run_done : (plan : Planned) (f left : Fibres) (pieces : List Piece) (end : Status) → IsSignalledRun plan f pieces end left
-    → MaySettle plan f → (end ≡ status.PlantFault → ⊥) → end ≡ status.Ok
-run_done plan f left pieces end x may fine = done_of signalling_account plan f left end x.reports x.came may fine
+-- a run that settles and that no fault broke off is done
+lines_done : (plan : Planned) (f left : Fibres) (pieces : List Piece) (end : Status) → IsSignalledRun plan f pieces end left
+    → plans.MaySettle signalling_account plan f → (end ≡ status.PlantFault → ⊥) → end ≡ status.Ok
+lines_done plan f left pieces end x may fine = done_of signalling_account plan f left end x.reports x.came may fine
+
+-- where arrivals are known, all is reported of one that is done that the script comes to
+known_pieces : (plan : Planned) (f left : Fibres) (pieces : List Piece) (end : Status) → IsSignalledRun plan f pieces end left
+    → Knows (world_of plan f).fibres → end ≡ status.Ok → pieces ≡ pieces_of (plans.ran_of signalling_account plan f).reports []
+known_pieces plan f left pieces end x knows done =
+    let ran = plans.ran_of signalling_account plan f in
+    let reports : x.reports ≡ ran.reports = elim (x.came.known knows) [
+      | inl is ↦ is.reports_are
+      | inr cut ↦ absurd (let e = sym cut.0 ∙ done in grind arith)
+    ] in
+    let begun : x.begun ≡ [] = elim x.begun_is [
+      | inl none ↦ none.0
+      | inr stopped ↦ absurd (stopped_other plan.limit plan.steps (world_of plan f) x.reports x.begun end stopped.0 stopped.2 done)
+    ] in
+    x.pieces_are ∙ ap₂ (λ (r b : List Signalled). pieces_of r b) reports begun
+
+-- with all that is needed, and no fault, a run ends with Ok
+pub run_done : (listing : PlanListing) (plan : Planned) (f left : Fibres) (pieces : List Piece) (end : Status)
+    → IsSignalledRun plan f pieces end left → MaySettle listing plan f → (end ≡ status.PlantFault → ⊥)
+    → ends_by listing (rounds_in pieces) end ≡ ending.Shared status.Ok
+run_done (listed.Lines l) plan f left pieces end x may fine = ap ending.Shared (lines_done plan f left pieces end x may fine)
+run_done (listed.Frames ask) plan f left pieces end x may fine =
+    let done = lines_done plan f left pieces end x (inl (may.0, may.1)) fine in
+    let all : has_rounds ask (rounds_in pieces) ≡ true =
+    ap (λ (p : List Piece). has_rounds ask (rounds_in p)) (known_pieces plan f left pieces end x may.0 done) ∙ may.2 in
+    ap₂ frames_end all done

@@ -1,34 +1,28 @@
 -- A settle step of whose rounds lines are written, and the script that goes on.
-use Rattle.std.proofs.Common.{◌≡◌, ℕ, ◌+◌, ◌-◌, ◌*◌, ◌≤◌, Bool, List, ◌++◌, length, Option, refl, ap, sym, ◌∙◌, subst, arith, inl, inr}
+use Rattle.std.proofs.Common.{◌≡◌, ℕ, ◌-◌, List, length, Option, refl, ap, sym, ◌∙◌, subst, arith, inl, inr}
 use Rattle.std.specs.Prelude.{Result, Ok, Err, OnOk, OnErr}
 use Rattle.std.specs.Io.KnownBytes.{Appends}
 use Rattle.std.proofs.KnownBytes.{Appends-trans}
 use Rattle.sdh_outside.specs.Writing.{AppendsFewer}
 use Rattle.sdh_shell.proofs.Pieces.{fewer_behind}
-use Rattle.sdh_plant.specs.Fibres.{Fibres}
 use Rattle.sdh_node.specs.Stations.{adm}
-use Rattle.sdh_rounds.proofs.Runs.{course_whole, held_run}
+use Rattle.sdh_rounds.proofs.Runs.{course_whole}
 use Rattle.sdh_world.specs.Held.{HeldRing}
 use Rattle.sdh_world.specs.Rounds.{World}
 use Rattle.sdh_world.specs.Runs.{course_with}
 use Rattle.sdh_world.specs.Quiet.{Settles}
 use Rattle.sdh_rounds.specs.Observed.{Hears, RanSome, HearsSome}
-use Rattle.sdh_plan.specs.declared.step.Step.{Step}
-use Rattle.sdh_plan.specs.declared.step.Step.TheVariants as step
-use Rattle.sdh_world.specs.Steps.{after_step}
 use Rattle.sdh_report.specs.Lines.{settle_line}
 use Rattle.sdh_report.specs.Written.{Written}
 use Rattle.sdh_scripts.specs.Runners.{WroteStep}
-use Rattle.sdh_scripts.specs.Tellers.{Begun, InStep, WasToWrite, WroteBegun}
-use Rattle.sdh_scripts.specs.declared.teller.StepError.TheVariants as why
+use Rattle.sdh_scripts.specs.Tellers.{Begun, InStep, WasToWrite}
 use Rattle.sdh_scripts.proofs.Reporting.{ended_with}
-use Rattle.sdh_owed.specs.Running.{MayRun}
-use Rattle.sdh_owed.proofs.Steps.{settled_held, changed_ids}
+use Rattle.sdh_owed.proofs.Steps.{settled_held}
 use Rattle.sdh_aps.specs.declared.shown.Shown.{Shown}
 use Rattle.sdh_aps_cli.specs.Signalled.{Signalled, signalled_in, changes_in}
 use Rattle.sdh_aps_cli.specs.Scripts.{signalling_walk}
 use Rattle.sdh_aps_cli.specs.Listing.{changes_text, begun_text, ended_text}
-use Rattle.sdh_aps_cli.specs.Recording.{IsReady, room_in, IsRecorded, IsCut}
+use Rattle.sdh_aps_cli.specs.Recording.{IsReady, room_in}
 use Rattle.sdh_aps_cli.specs.declared.listing.SignalListing.{SignalListing}
 
 -- ---- answers that are known
@@ -48,13 +42,13 @@ ids_at w left limit s =
     let at : left ≡ course_with s.rounds w (length s.rounds) = s.left_is ∙ course_whole adm s.rounds w in
     ap (λ (v : World). length v.ring.ids) (sym at) ∙ ap (λ (r : HeldRing). length r.ids) (settled_held w left limit s)
 
-module _ (w left : World) (limit number : ℕ) (listing : SignalListing) (old new : Option (List ℕ)) where
-  -- ---- a settle step that didn't end
-
-  -- its whole rounds are in the step
-  in_step : (kept_of : (ℕ → World) → ℕ → Type 0) (mid : World) → (x : RanSome adm kept_of w limit mid)
+-- whatever is written of its rounds and of it
+module _ (w left : World) (limit number : ℕ) (text_of begun_of : Signalled → List ℕ) (old new : Option (List ℕ))
+    (kept_of : (ℕ → World) → ℕ → Type 0) where
+  -- whole rounds of a settle step are in the step
+  in_step : (mid : World) → (x : RanSome adm kept_of w limit mid)
       → InStep signalling_walk limit number w (signalled_in number (course_with x.rounds w) (length x.rounds)) mid
-  in_step kept_of mid x = record {
+  in_step mid x = record {
     rounds = x.rounds;
     arrive = x.arrive;
     few = x.few;
@@ -63,81 +57,112 @@ module _ (w left : World) (limit number : ℕ) (listing : SignalListing) (old ne
     told_is = refl;
   }
 
-  -- the lines of its whole rounds were written
-  pub begun_some : (kept_of : (ℕ → World) → ℕ → Type 0) → HearsSome adm kept_of w limit left
-      → ((at : ℕ → World) (k : ℕ) → kept_of at k → Appends old new (changes_text listing (changes_in k at)))
-      → (text : List ℕ) × Begun signalling_walk limit number (begun_text listing) w text left × Appends old new text
-  begun_some kept_of x wrote =
+  -- a settle step didn't end, and what is written of its whole rounds was written
+  pub begun_some : HearsSome adm kept_of w limit left
+      → ((at : ℕ → World) (k : ℕ) → kept_of at k → Appends old new (begun_of (signalled_in number at k)))
+      → (text : List ℕ) × Begun signalling_walk limit number begun_of w text left × Appends old new text
+  begun_some x wrote =
       let at = course_with x.ran.rounds w in
       let k = length x.ran.rounds in (
-        changes_text listing (changes_in k at),
+        begun_of (signalled_in number at k),
         record {
           mid = x.mid;
           told = signalled_in number at k;
-          so_far = inl (in_step kept_of x.mid x.ran);
+          so_far = inl (in_step x.mid x.ran);
           next = x.next;
           text_is = refl;
         },
         wrote at k x.ran.kept,
       )
 
-  -- a front of them was
-  pub cut_some : (kept_of : (ℕ → World) → ℕ → Type 0) → RanSome adm kept_of w limit left
-      → ((at : ℕ → World) (k : ℕ) → kept_of at k → IsCut listing at k old new)
-      → (text : List ℕ) × WasToWrite signalling_walk limit number (ended_text listing) (begun_text listing) w text left
-      × AppendsFewer old new text
-  cut_some kept_of x front =
+  -- it was unsettled, and these rounds are all that ran
+  pub unsettled_some : RanSome adm kept_of w limit left
+      → ((at : ℕ → World) (k : ℕ) → kept_of at k → Appends old new (begun_of (signalled_in number at k)))
+      → (text : List ℕ) × (x : Begun signalling_walk limit number begun_of w text left) × (left ≡ x.mid) × Appends old new text
+  unsettled_some x wrote =
       let at = course_with x.rounds w in
       let k = length x.rounds in (
-        changes_text listing (changes_in k at),
+        begun_of (signalled_in number at k),
+        record {
+          mid = left;
+          told = signalled_in number at k;
+          so_far = inl (in_step left x);
+          next = inl refl;
+          text_is = refl;
+        },
+        refl,
+        wrote at k x.kept,
+      )
+
+  -- a write failed in it, and a front of what is written of its rounds was written
+  pub cut_some : RanSome adm kept_of w limit left
+      → ((at : ℕ → World) (k : ℕ) → kept_of at k → AppendsFewer old new (begun_of (signalled_in number at k)))
+      → (text : List ℕ) × WasToWrite signalling_walk limit number text_of begun_of w text left × AppendsFewer old new text
+  cut_some x front =
+      let at = course_with x.rounds w in
+      let k = length x.rounds in (
+        begun_of (signalled_in number at k),
         inl (record {
           mid = left;
           told = signalled_in number at k;
-          so_far = inl (in_step kept_of left x);
+          so_far = inl (in_step left x);
           next = inl refl;
           text_is = refl;
         }),
         front at k x.kept,
       )
 
-  -- ---- a settle step that ended
+  -- it ended, and what is written of it was written
+  pub wrote_ended : (x : Hears adm kept_of w limit left)
+      → ((at : ℕ → World) (k : ℕ) → kept_of at k → Appends old new (text_of (signalled_in number at k)))
+      → WroteStep signalling_walk limit number text_of w left old new
+  wrote_ended x wrote =
+      let at = course_with x.settles.rounds w in
+      let k = length x.settles.rounds in
+      record {
+        told = signalled_in number at k;
+        ended = ended_with signalling_walk refl limit number w left x.settles;
+        text = wrote at k x.kept;
+      }
 
-  module _ (kept_of : (ℕ → World) → ℕ → Type 0) (x : Hears adm kept_of w limit left) where
-    abbrev at : ℕ → World
-    at = course_with x.settles.rounds w
+-- lines, with the line of the step
+module _ (w left : World) (limit number : ℕ) (listing : SignalListing) (old new : Option (List ℕ))
+    (kept_of : (ℕ → World) → ℕ → Type 0) (x : Hears adm kept_of w limit left) where
+  abbrev at : ℕ → World
+  at = course_with x.settles.rounds w
 
-    abbrev ran : ℕ
-    ran = length x.settles.rounds
+  abbrev ran : ℕ
+  ran = length x.settles.rounds
 
-    pub left_at : left ≡ at ran
-    left_at = x.settles.left_is ∙ course_whole adm x.settles.rounds w
+  pub left_at : left ≡ at ran
+  left_at = x.settles.left_is ∙ course_whole adm x.settles.rounds w
 
-    line_is : settle_line number (left.ring.rounds - 1) ≡ settle_line number ((at ran).ring.rounds - 1)
-    line_is = ap (λ (v : World). settle_line number (v.ring.rounds - 1)) left_at
+  line_is : settle_line number (left.ring.rounds - 1) ≡ settle_line number ((at ran).ring.rounds - 1)
+  line_is = ap (λ (v : World). settle_line number (v.ring.rounds - 1)) left_at
 
-    -- the lines of its rounds were written, and its own line
-    pub wrote_step : (first : SignalListing) → first ≡ listing → (mid : Option (List ℕ)) → Appends old mid (changes_text first (changes_in ran at))
-        → Appends mid new (settle_line number (left.ring.rounds - 1))
-        → WroteStep signalling_walk limit number (ended_text listing) w left old new
-    wrote_step first same mid before line = record {
-      told = signalled_in number at ran;
-      ended = ended_with signalling_walk refl limit number w left x.settles;
-      text =
-          Appends-trans old mid new (changes_text listing (changes_in ran at)) (settle_line number ((at ran).ring.rounds - 1))
-          (subst (λ l. Appends old mid (changes_text l (changes_in ran at))) same before) (subst (Appends mid new) line_is line);
-    }
+  -- the lines of its rounds were written, and its own line
+  pub wrote_step : (first : SignalListing) → first ≡ listing → (mid : Option (List ℕ)) → Appends old mid (changes_text first (changes_in ran at))
+      → Appends mid new (settle_line number (left.ring.rounds - 1))
+      → WroteStep signalling_walk limit number (ended_text listing) w left old new
+  wrote_step first same mid before line = record {
+    told = signalled_in number at ran;
+    ended = ended_with signalling_walk refl limit number w left x.settles;
+    text =
+        Appends-trans old mid new (changes_text listing (changes_in ran at)) (settle_line number ((at ran).ring.rounds - 1))
+        (subst (λ l. Appends old mid (changes_text l (changes_in ran at))) same before) (subst (Appends mid new) line_is line);
+  }
 
-    -- a front of that was
-    pub cut_line : (first : SignalListing) → first ≡ listing → (mid : Option (List ℕ)) → Appends old mid (changes_text first (changes_in ran at))
-        → AppendsFewer mid new (settle_line number (left.ring.rounds - 1))
-        → (text : List ℕ) × WasToWrite signalling_walk limit number (ended_text listing) (begun_text listing) w text left
-        × AppendsFewer old new text
-    cut_line first same mid before line = (
-      ended_text listing (signalled_in number at ran),
-      inr (signalled_in number at ran, ended_with signalling_walk refl limit number w left x.settles, refl),
-      fewer_behind old mid new (changes_text listing (changes_in ran at)) (settle_line number ((at ran).ring.rounds - 1))
-          (subst (λ l. Appends old mid (changes_text l (changes_in ran at))) same before) (subst (AppendsFewer mid new) line_is line),
-    )
+  -- a front of that was
+  pub cut_line : (first : SignalListing) → first ≡ listing → (mid : Option (List ℕ)) → Appends old mid (changes_text first (changes_in ran at))
+      → AppendsFewer mid new (settle_line number (left.ring.rounds - 1))
+      → (text : List ℕ) × WasToWrite signalling_walk limit number (ended_text listing) (begun_text listing) w text left
+      × AppendsFewer old new text
+  cut_line first same mid before line = (
+    ended_text listing (signalled_in number at ran),
+    inr (signalled_in number at ran, ended_with signalling_walk refl limit number w left x.settles, refl),
+    fewer_behind old mid new (changes_text listing (changes_in ran at)) (settle_line number ((at ran).ring.rounds - 1))
+        (subst (λ l. Appends old mid (changes_text l (changes_in ran at))) same before) (subst (AppendsFewer mid new) line_is line),
+  )
 
 -- ---- room stays
 

@@ -1,29 +1,31 @@
 -- The program: how it is called, and what it reports of plans.
-use Rattle.std.specs.Prelude.{ℕ, ◌≡◌, Bool, true, false, codes, List, None}
+use Rattle.std.specs.Prelude.{ℕ, ◌≡◌, codes, List, Option, Some, None}
 use Rattle.sdh_scripts.specs.Programs.{Deed, Refuses, Runs, Program}
 use Rattle.sdh_aps_cli.specs.Endings.{signalling_endings}
-use Rattle.sdh_aps_cli.specs.Words.{asked, has_node}
-use Rattle.sdh_aps_cli.specs.Plans.{Piece, pieces_text, IsSignalledRun, MaySettle}
+use Rattle.sdh_aps_cli.specs.Words.{asked, listing_of}
+use Rattle.sdh_aps_cli.specs.Plans.{Piece, pieces_text, IsSignalledRun, closing, MaySettle}
 use Rattle.sdh_aps_cli.specs.declared.ending.Ending.{Ending}
 use Rattle.sdh_aps_cli.specs.declared.ending.Ending.TheVariants as ending
-use Rattle.sdh_aps_cli.specs.declared.listing.SignalListing.{SignalListing}
+use Rattle.sdh_aps_cli.specs.declared.listing.SignalAsk.{SignalAsk}
+use Rattle.sdh_aps_cli.specs.declared.listing.PlanListing.{PlanListing}
 
 -- how the program is called
 abbrev pub usage : List ℕ
-usage = codes "usage: sdhaps run, node ID"
+usage = codes "usage: sdhaps run, node ID, frames ID SIDE FIRST COUNT"
 
 -- a plan is run where it has the node that is asked for
-abbrev pub deed_with : SignalListing → Bool → Deed SignalListing Ending
-deed_with listing true = Runs listing
-deed_with listing false = Refuses ending.NoSuchNode
+abbrev pub deed_of : Option PlanListing → Deed PlanListing Ending
+deed_of (Some listing) = Runs listing
+deed_of None = Refuses ending.NoSuchNode
 
-abbrev pub signalling : Program SignalListing SignalListing Piece Ending
+abbrev pub signalling : Program SignalAsk PlanListing Piece Ending
 signalling = record {
   usage = usage;
   asked = asked;
   endings = signalling_endings;
-  own_plan = λ listing. None;
-  Does = λ listing plan deed. deed ≡ deed_with listing (has_node listing plan.nodes);
+  closing = closing;
+  own_plan = λ ask. None;
+  Does = λ ask plan deed. deed ≡ deed_of (listing_of ask plan.nodes);
   text_of = pieces_text;
   IsRunOf = IsSignalledRun;
   MaySettle = MaySettle;

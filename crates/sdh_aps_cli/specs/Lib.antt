@@ -1,10 +1,13 @@
 pub mod Endings
 pub mod Words
 pub mod Showing
+pub mod Frames
 pub mod Signalled
 pub mod Listing
 pub mod Recording
 pub mod Keeping
+pub mod FrameRecording
+pub mod FrameKeeping
 pub mod Scripts
 pub mod ByScript
 pub mod Owed

@@ -56,8 +56,8 @@ abbrev pub AreSignalled : Ring → List ℕ → ℕ → List Stretch → ℕ →
 AreSignalled ring ids limit earlier before [] told end = (told ≡ []) × ((end ≡ status.Ok) ⊎ (end ≡ status.PlantFault))
 AreSignalled ring ids limit earlier before (changes ∷ later) [] end = (end ≡ status.Unsettled (before + 1)) ⊎ (end ≡ status.PlantFault)
 AreSignalled ring ids limit earlier before (changes ∷ later) (s ∷ told) end =
-    (let ran = rounds_in earlier in let now = earlier ++ record { changes = changes; rounds = s.round + 1 - ran } ∷ [] in
-    (s.number ≡ before + 1) × IsLast ring.nodes limit ran s.round × ShowsSignals ring ids now ran s.round s.changes
+    (let ran = rounds_in earlier in let now = earlier ++ record { changes = changes; rounds = s.rounds - ran } ∷ [] in
+    (s.number ≡ before + 1) × IsLast ring.nodes limit ran (s.rounds - 1) × ShowsSignals ring ids now ran (s.rounds - 1) s.changes
     × AreSignalled ring ids limit now (before + 1) later told end)
 
 -- these are all changes of the ring of signals in the first `count` rounds of the settle step after those of which `told` is shown
@@ -66,4 +66,4 @@ AreOfTheNext ring ids earlier [] told count shown = shown ≡ []
 AreOfTheNext ring ids earlier (changes ∷ later) [] count shown =
     shown ≡ all_changes_by ring ids (earlier ++ record { changes = changes; rounds = count } ∷ []) (rounds_in earlier) count
 AreOfTheNext ring ids earlier (changes ∷ later) (s ∷ told) count shown =
-    AreOfTheNext ring ids (earlier ++ record { changes = changes; rounds = s.round + 1 - rounds_in earlier } ∷ []) later told count shown
+    AreOfTheNext ring ids (earlier ++ record { changes = changes; rounds = s.rounds - rounds_in earlier } ∷ []) later told count shown

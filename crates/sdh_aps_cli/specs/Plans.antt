@@ -1,7 +1,12 @@
 -- What is written of a plan whose signalling is shown, where its fibres aren't made yet.
-use Rattle.std.specs.Prelude.{ℕ, ◌≡◌, ◌⊎◌, ◌≤◌, true, List, [], ◌++◌, map, All}
+use Rattle.std.specs.Prelude.{ℕ, ◌≡◌, ◌≢◌, ◌⊎◌, ◌+◌, ◌<◌, ◌≤◌, nat_le, Bool, true, List, [], ◌∷◌, ◌++◌, length, map, All, Option}
+use mathlib.Core.Logic.{inl}
 use Rattle.std.specs.List.{flat_map}
+use Rattle.std.specs.Io.KnownBytes.{Appends}
+use Rattle.sdh_basics.specs.Causes.{IsCounted}
+use Rattle.sdh_outside.specs.Writing.{AppendsFewer}
 use Rattle.sdh_plant.specs.Fibres.{Fibres}
+use Rattle.sdh_plant.specs.Arrivals.{Knows}
 use Rattle.sdh_node.specs.Node.{Node}
 use Rattle.sdh_world.specs.Rounds.{World}
 use Rattle.sdh_plan.specs.Planned.{Planned}
@@ -9,15 +14,24 @@ use Rattle.sdh_report.specs.declared.status.Status.{Status}
 use Rattle.sdh_report.specs.declared.status.Status.TheVariants as status
 use Rattle.sdh_promise.specs.Changes.{scenes}
 use Rattle.sdh_promise.specs.Plans.{ring_of}
+use Rattle.sdh_shell.specs.Calls.{HasRun}
+use Rattle.sdh_shell.specs.Failing.{Counts, HaveFailed}
+use Rattle.sdh_scripts.specs.Programs.{IsRunEnd, Closing}
 use Rattle.sdh_scripts.specs.Plans.{Account, ReportsOwe}
 use Rattle.sdh_scripts.specs.Plans as plans
 use Rattle.sdh_scripts.specs.Streams.{StoppedTold, CutTold}
+use Rattle.sdh_scripts.specs.declared.run.NewScript.{NewScript}
 use Rattle.sdh_owed.specs.Plans.{new_ring_of, world_of}
 use Rattle.sdh_aps_cli.specs.Signalled.{Signalled}
 use Rattle.sdh_aps_cli.specs.Scripts.{signalling_walk}
 use Rattle.sdh_aps_cli.specs.Owed.{AreSignalled, AreOfTheNext}
-use Rattle.sdh_aps_cli.specs.Listing.{begun_text, ended_text}
-use Rattle.sdh_aps_cli.specs.declared.listing.SignalListing.{SignalListing}
+use Rattle.sdh_aps_cli.specs.Listing.{begun_of, ended_of}
+use Rattle.sdh_aps_cli.specs.Endings.{line_of, signalling_endings, frames_end, frames_run, frames_line}
+use Rattle.sdh_aps_cli.specs.declared.ending.Ending.{Ending}
+use Rattle.sdh_aps_cli.specs.declared.ending.Ending.TheVariants as ending
+use Rattle.sdh_aps_cli.specs.declared.listing.PlanListing.{PlanListing}
+use Rattle.sdh_aps_cli.specs.declared.listing.PlanListing.TheVariants as listing
+use Rattle.sdh_aps_cli.specs.declared.window.FrameWindow.{FrameWindow}
 
 abbrev pub signalling_account : Account Node Signalled
 signalling_account = record { walk = signalling_walk; new_ring = new_ring_of }
@@ -32,11 +46,6 @@ Owes plan f reports end left = AreSignalled (ring_of plan) plan.nodes plan.limit
 abbrev pub IsRunOf : Planned → Fibres → List Signalled → Status → Fibres → Type 0
 IsRunOf = plans.IsRunOf signalling_account Owes
 
--- what a run needs to come to its end: where the arrivals are known each settle step has a quiet window within the
--- limit; or the fibres are honest and the limit is always enough
-abbrev pub MaySettle : Planned → Fibres → Type 0
-MaySettle = plans.MaySettle signalling_account
-
 -- ---- what is reported
 
 -- a piece of the report of a run: of a settle step that ended, or of the rounds that ran of one that didn't
@@ -44,12 +53,25 @@ pub data Piece : Type 0 where
   Ended : Signalled → Piece
   Begun : Signalled → Piece
 
-abbrev pub piece_text : SignalListing → Piece → List ℕ
-piece_text listing (Ended s) = ended_text listing s
-piece_text listing (Begun s) = begun_text listing s
+abbrev pub piece_text : PlanListing → Piece → List ℕ
+piece_text listing (Ended s) = ended_of listing s
+piece_text listing (Begun s) = begun_of listing s
 
-abbrev pub pieces_text : SignalListing → List Piece → List ℕ
+abbrev pub pieces_text : PlanListing → List Piece → List ℕ
 pieces_text listing pieces = flat_map (piece_text listing) pieces
+
+-- the number of all rounds that had run after a piece
+abbrev pub rounds_after : Piece → ℕ
+rounds_after (Ended s) = s.rounds
+rounds_after (Begun s) = s.rounds
+
+-- the number of all rounds of a run, of which this is reported after n rounds
+abbrev pub rounds_from : ℕ → List Piece → ℕ
+rounds_from n [] = n
+rounds_from n (p ∷ more) = rounds_from (rounds_after p) more
+
+abbrev pub rounds_in : List Piece → ℕ
+rounds_in pieces = rounds_from 0 pieces
 
 -- the pieces of the settle steps that ended, and then those of a settle step that didn't
 abbrev pub pieces_of : List Signalled → List Signalled → List Piece
@@ -63,11 +85,12 @@ IsLast plan f reports begun end left =
     ⊎ ((last : World) × (last.fibres ≡ left)
     × StoppedTold signalling_walk plan.limit plan.steps (world_of plan f) reports begun end last)
 
--- over honest fibres: what is reported of the first rounds of a settle step, after those of these reports, is what the ring
--- of signals does in them
-pub record AreFirstRounds (plan : Planned) (reports : List Signalled) (one : Signalled) : Type 0 where
+-- Over honest fibres: what is reported of the first rounds of a settle step, after those of these reports, is what the ring
+-- of signals does in them. Where the script ended unsettled, these are as many rounds as a settle step may have.
+pub record AreFirstRounds (plan : Planned) (reports : List Signalled) (end : Status) (one : Signalled) : Type 0 where
   pub count : ℕ
   pub few : count ≤ plan.limit
+  pub all : (k : ℕ) → end ≡ status.Unsettled k → count ≡ plan.limit
   pub shown : AreOfTheNext (ring_of plan) plan.nodes [] (scenes [] plan.steps) reports count one.changes
 
 -- a plan was run over any plant, it ended so, and these pieces are reported of the rounds that ran, step by step
@@ -76,7 +99,7 @@ pub record IsSignalledRun (plan : Planned) (f : Fibres) (pieces : List Piece) (e
   pub came : IsRunOf plan f reports end left
   pub begun : List Signalled
   pub begun_is : IsLast plan f reports begun end left
-  pub begun_owed : f.honest ≡ true → All (AreFirstRounds plan reports) begun
+  pub begun_owed : f.honest ≡ true → All (AreFirstRounds plan reports end) begun
   pub pieces_are : pieces ≡ pieces_of reports begun
 
 -- a write failed while the plan ran, and no round ran after it: these pieces were to be written
@@ -87,3 +110,72 @@ pub record IsCutRun (plan : Planned) (f : Fibres) (pieces : List Piece) (left : 
   pub last_is : last.fibres ≡ left
   pub cut : CutTold signalling_walk plan.limit plan.steps (world_of plan f) ended begun last
   pub pieces_are : pieces ≡ pieces_of ended begun
+
+-- ---- how it ends
+
+-- the run had all rounds of which frames are asked for
+abbrev pub has_rounds : FrameWindow → ℕ → Bool
+has_rounds ask rounds = nat_le (ask.first + ask.count) rounds
+
+-- how a run of so many rounds ends, by what is written of it
+abbrev pub ends_by : PlanListing → ℕ → Status → Ending
+ends_by (listing.Lines l) rounds end = ending.Shared end
+ends_by (listing.Frames ask) rounds end = frames_end (has_rounds ask rounds) end
+
+abbrev pub ends_run : (listing : PlanListing) (rounds : ℕ) (end : Status) → HasRun end → IsRunEnd signalling_endings (ends_by listing rounds end)
+ends_run (listing.Lines l) rounds end h = inl (end, (λ i. ending.Shared end), h)
+ends_run (listing.Frames ask) rounds end h = frames_run (has_rounds ask rounds) end h
+
+-- the last line, after what is written of the run
+abbrev pub line_after : PlanListing → Ending → List ℕ
+line_after (listing.Lines l) end = line_of end
+line_after (listing.Frames ask) end = frames_line end
+
+abbrev pub closing : Closing PlanListing Piece signalling_endings
+closing = record {
+  ends = λ listing pieces end. ends_by listing (rounds_in pieces) end;
+  ends_run = λ listing pieces end h. ends_run listing (rounds_in pieces) end h;
+  line = line_after;
+}
+
+-- what a run needs to come to its end: where the arrivals are known each settle step has a quiet window within the
+-- limit; or the fibres are honest and the limit is always enough. For frames the arrivals are known, each settle step has
+-- a quiet window, and there are all rounds that are asked for
+abbrev pub MaySettle : PlanListing → Planned → Fibres → Type 0
+MaySettle (listing.Lines l) plan f = plans.MaySettle signalling_account plan f
+MaySettle (listing.Frames ask) plan f =
+    let ran = plans.ran_of signalling_account plan f in
+    Knows (world_of plan f).fibres × (ran.ending ≡ status.Ok) × (has_rounds ask (rounds_in (pieces_of ran.reports [])) ≡ true)
+
+-- ---- a run in the code
+
+-- the script is that of a plan
+pub record IsScriptOf (plan : Planned) (script : NewScript) : Type 0 where
+  pub rate : script.rate ≡ plan.settings.rate
+  pub nodes : script.nodes ≡ length plan.nodes
+  pub steps : script.steps.items ≡ plan.steps
+  pub limit : script.limit ≡ plan.limit
+
+-- calls of a plant and writes that failed; a count is exact where `calls_exact` or `writes_exact` says so
+pub record Failures : Type 0 where
+  pub calls : Counts
+  pub writes : Counts
+  pub calls_exact : Bool
+  pub writes_exact : Bool
+
+-- a plan was run, this was written of it, and how the script ended; or a write failed, and nothing more was run
+pub record CameOfRun (plan : Planned) (listing : PlanListing) (f left : Fibres) (failures : Failures) (end : Status) (rounds : ℕ)
+    (old new : Option (List ℕ)) : Type 0 where
+  pub whole : end ≢ status.WriteFault → (pieces : List Piece) × IsSignalledRun plan f pieces end left
+      × Appends old new (pieces_text listing pieces) × (end ≢ status.PlantFault → rounds ≡ rounds_in pieces)
+  pub cut : end ≡ status.WriteFault → (pieces : List Piece) × IsCutRun plan f pieces left
+      × AppendsFewer old new (pieces_text listing pieces)
+  pub failed : end ≡ status.PlantFault → HaveFailed failures.calls
+  pub broke : end ≡ status.WriteFault → HaveFailed failures.writes
+  pub counted : IsCounted failures.calls_exact (end ≡ status.PlantFault) failures.calls.before failures.calls.after
+  pub writes_counted : IsCounted failures.writes_exact (end ≡ status.WriteFault) failures.writes.before failures.writes.after
+
+-- the node whose frames are written is one of so many
+abbrev pub IsPlaced : ℕ → PlanListing → Type 0
+IsPlaced n (listing.Lines l) = Unit {0}
+IsPlaced n (listing.Frames ask) = ask.at.0 < n

@@ -1,4 +1,5 @@
 -- What comes of a script whose signalling is shown. No round is run after a settle step.
+use Rattle.std.specs.Prelude.{◌-◌}
 use Rattle.sdh_node.specs.Node.{Node}
 use Rattle.sdh_node.specs.Stations.{adm}
 use Rattle.sdh_scripts.specs.Walks.{Walk}
@@ -12,7 +13,7 @@ signalling_walk = record {
   does = after_step;
   behind = 0;
   tells = signalled_in;
-  last = λ (s : Signalled). s.round;
+  last = λ (s : Signalled). s.rounds - 1;
 }
 
 -- what a script comes to where arrivals are known

@@ -10,6 +10,7 @@ use Rattle.sdh_world.specs.Rounds.{World}
 use Rattle.sdh_aps.specs.declared.shown.Shown.{Shown}
 use Rattle.sdh_aps.specs.Shown.{same_shown}
 use Rattle.sdh_aps_cli.specs.Showing.{shown_by}
+use Rattle.sdh_aps_cli.specs.Frames.{Sent, sent_in}
 
 -- ---- a node in a round
 
@@ -56,12 +57,14 @@ abbrev pub changes_in : ℕ → (ℕ → World) → List Change
 changes_in zero at = []
 changes_in (suc k) at = changes_in k at ++ changes_of (at k).ring (at (suc k)).ring
 
--- the settle step, counted from 1; its last round; and all changes in its rounds
+-- the settle step, counted from 1; the number of all rounds that had run after it; and of its rounds all changes, and
+-- the frames that were sent
 pub record Signalled : Type 0 where
   pub number : ℕ
-  pub round : ℕ
+  pub rounds : ℕ
   pub changes : List Change
+  pub sent : List Sent
 
 -- what is shown of settle step `number`, where k rounds of a course ran in it
 abbrev pub signalled_in : ℕ → (ℕ → World) → ℕ → Signalled
-signalled_in number at k = record { number = number; round = (at k).ring.rounds - 1; changes = changes_in k at }
+signalled_in number at k = record { number = number; rounds = (at k).ring.rounds; changes = changes_in k at; sent = sent_in k at }

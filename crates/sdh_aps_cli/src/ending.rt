@@ -10,6 +10,8 @@ use sdh_shell::Ends;
 pub enum Ending {
     /// The plan has no node of the identifier.
     NoSuchNode,
+    /// The run ended before all rounds of which frames are asked for.
+    NoSuchRound,
     /// An ending that the program `sdhring` has too: `Ok`, `Usage`, `ReadFault`, `WriteFault`, `NotToml`, `BadPlan`,
     /// `Unsettled`, `PlantFault`, `TooLong` or `Memory`.
     Shared(Status),
@@ -22,6 +24,7 @@ impl Ending {
     {
         match self {
             Ending::NoSuchNode => 15,
+            Ending::NoSuchRound => 16,
             Ending::Shared(status) => status.number(),
         }
     }
@@ -37,6 +40,7 @@ impl Ends for Ending {
     fn put_line(&self, text: &mut Text) {
         match *self {
             Ending::NoSuchNode => text.own_line(b"no such node"),
+            Ending::NoSuchRound => text.own_line(b"no such round"),
             Ending::Shared(status) => status.put_line(text),
         }
     }

@@ -5,6 +5,7 @@ ghost use Rattle.sdh_aps_cli.specs.Keeping.{recorded_same};
 
 use crate::recorder::SignalRecorder;
 use sdh_outside::{Sink, write_text};
+use sdh_plant::Plant;
 use sdh_ring::Ring;
 use sdh_rounds::{Recorder, Stopped};
 
@@ -15,7 +16,7 @@ impl<W: Sink> Recorder<Ring, W> for SignalRecorder {
     ghost Stops = { λ first begun at k r w. IsCut first.listing at k (W.written begun) (W.written w)
         × OneFailed W.exact (W.faults begun) (W.faults w) };
 
-    fn note(&mut self, ring: &Ring, log: &mut W) -> Result<(), Stopped> {
+    fn note<P: Plant>(&mut self, ring: &Ring, _plant: &P, log: &mut W) -> Result<(), Stopped> {
         self.look(ring);
         match write_text(log, self.text.bytes()) {
             Ok(()) => Ok(()),

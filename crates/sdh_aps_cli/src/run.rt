@@ -1,71 +1,126 @@
-//! A whole run: the ring and what records its rounds are made, and the script runs.
-ghost use Rattle.std.specs.Prelude.{◌≡◌, ◌≢◌, ◌≤◌, List, true, IfOk, OnErr};
-ghost use Rattle.std.specs.Io.KnownBytes.{Appends};
-ghost use Rattle.sdh_basics.specs.Causes.{Rose, IsCounted};
-ghost use Rattle.sdh_outside.specs.Writing.{AppendsFewer};
+//! A whole run: the ring of a plan and what records its rounds are made, and the script runs.
+ghost use Rattle.std.specs.Prelude.{◌≡◌, ◌<◌, ◌≤◌, true, length, IfOk, OnErr};
 ghost use Rattle.sdh_plant.specs.Fibres.{HasNoFibres};
-ghost use Rattle.sdh_report.specs.declared.status.Status.{Status};
-ghost use Rattle.sdh_shell.specs.Calls.{HasRun};
-ghost use Rattle.sdh_aps_cli.specs.Plans.{Piece, pieces_text, IsSignalledRun, IsCutRun, MaySettle};
+ghost use Rattle.sdh_aps_cli.specs.Plans.{Failures, CameOfRun, IsPlaced};
+ghost use Rattle.sdh_aps_cli.specs.declared.listing.PlanListing.TheVariants as listed;
 
-use crate::listing::SignalListing;
+use crate::frames::FrameRecorder;
+use crate::framing::FrameRun;
+use crate::listing::{PlanListing, SignalListing};
+use crate::parts::{PlanParts, parts_of};
 use crate::recorder::SignalRecorder;
 use crate::script::SignalRun;
+use crate::window::FrameWindow;
 use sdh_outside::Sink;
 use sdh_plan::Plan;
 use sdh_plant::Plant;
 use sdh_report::Status;
-use sdh_ring::Ring;
-use sdh_scripts::{NewScript, start_over};
+use sdh_scripts::start_over;
 use std::alloc::{AllocError, Global};
 
-/// Runs the script of a plan over new fibres, and writes how its ring signals, round by round. Returns how the script
-/// ended: `Ok`, `Unsettled` or `PlantFault`; or `WriteFault`, where a write failed, and nothing more was run. All
-/// memory is taken before the first round.
-pub fn run_plan<W: Sink, P: Plant>(
+/// How the script of a run ended: `Ok`, `Unsettled` or `PlantFault`, or `WriteFault`, where a write failed, and nothing
+/// more was run. And the number of rounds that ran.
+#[derive(Clone, Copy, Debug)]
+pub struct RanPlan {
+    pub status: Status,
+    pub rounds: u64,
+}
+
+// Runs a plan, and writes the lines of nodes.
+fn run_lines<W: Sink, P: Plant>(
     alloc: Global,
     plan: Plan,
-    listing: SignalListing,
+    lines: SignalListing,
     sink: &mut W,
     plant: &mut P,
-) -> Result<Status, AllocError>
+) -> Result<RanPlan, AllocError>
     requires fresh { HasNoFibres (P.fibres plant.old) }
-    ensures ran { IfOk result (λ end. end ≢ Status.WriteFault → (pieces : List Piece)
-        × IsSignalledRun plan (P.fibres plant.old) pieces end (P.fibres plant.new)
-        × Appends (W.written sink.old) (W.written sink.new) (pieces_text listing pieces)) }
-    ensures cut { IfOk result (λ end. end ≡ Status.WriteFault → (pieces : List Piece)
-        × IsCutRun plan (P.fibres plant.old) pieces (P.fibres plant.new)
-        × AppendsFewer (W.written sink.old) (W.written sink.new) (pieces_text listing pieces)) }
-    ensures ends { IfOk result (λ end. end ≢ Status.WriteFault → HasRun end) }
-    ensures failed { IfOk result (λ end. end ≡ Status.PlantFault → Rose (P.faults plant.old) (P.faults plant.new)) }
-    ensures broke { IfOk result (λ end. end ≡ Status.WriteFault → Rose (W.faults sink.old) (W.faults sink.new)) }
-    ensures counted { IfOk result (λ end. IsCounted P.exact (end ≡ Status.PlantFault) (P.faults plant.old) (P.faults plant.new)) }
-    ensures writes { IfOk result (λ end. IsCounted W.exact (end ≡ Status.WriteFault) (W.faults sink.old) (W.faults sink.new)) }
-
-    // A script that settles is done, where no call of the plant and no write failed.
-    ensures complete { IfOk result (λ end. MaySettle plan (P.fibres plant.old) → ¬ (Rose (P.faults plant.old) (P.faults plant.new))
-        → end ≢ Status.WriteFault → end ≡ Status.Ok) }
+    ensures ran { let failures : Failures = record {
+      calls = record { before = P.faults plant.old; after = P.faults plant.new };
+      writes = record { before = W.faults sink.old; after = W.faults sink.new };
+      calls_exact = P.exact;
+      writes_exact = W.exact;
+    } in IfOk result (λ ran. CameOfRun plan (listed.Lines lines) (P.fibres plant.old) (P.fibres plant.new) failures ran.status ran.rounds
+        (W.written sink.old) (W.written sink.new)) }
     ensures later { (P.faults plant.old ≤ P.faults plant.new) × (W.faults sink.old ≤ W.faults sink.new) }
-
-    // Without memory nothing was written, no fibre was made, and no round has run.
     ensures memory { OnErr result ((sink.new ≡ sink.old) × (P.fibres plant.new ≡ P.fibres plant.old)) }
     ensures uncounted { OnErr result (P.exact ≡ true → P.faults plant.new ≡ P.faults plant.old) }
 {
     sdh_owed::scripts_settle();
     crate::laws::scripts_go_as_signals();
     crate::laws::steps_go_as_signals();
-    let settings = plan.settings();
-    let limit = plan.limit();
-    let nodes = plan.map().len();
-    let (map, circuits, steps) = plan.into_parts();
-    let recorder = SignalRecorder::try_new(alloc, nodes, listing)?;
-    let ring = Ring::try_new(alloc, settings, map, circuits)?;
-    let script = NewScript {
-        rate: settings.rate,
-        nodes,
-        steps,
-        limit,
-    };
+    let parts = parts_of(alloc, plan)?;
+    let recorder = SignalRecorder::try_new(alloc, parts.script.nodes, lines)?;
+    let PlanParts { ring, script } = parts;
     let mut run = SignalRun { ring, recorder };
-    start_over(alloc, plant, &mut run, script, sink)
+    let status = start_over(alloc, plant, &mut run, script, sink)?;
+    Ok(RanPlan {
+        status,
+        rounds: run.ring.rounds(),
+    })
+}
+
+// Runs a plan, and writes the frames that are asked for, each whole and as it was sent.
+fn run_frames<W: Sink, P: Plant>(
+    alloc: Global,
+    plan: Plan,
+    ask: FrameWindow,
+    sink: &mut W,
+    plant: &mut P,
+) -> Result<RanPlan, AllocError>
+    requires fresh { HasNoFibres (P.fibres plant.old) }
+    requires at { ask.at.0 < length plan.nodes }
+    ensures ran { let failures : Failures = record {
+      calls = record { before = P.faults plant.old; after = P.faults plant.new };
+      writes = record { before = W.faults sink.old; after = W.faults sink.new };
+      calls_exact = P.exact;
+      writes_exact = W.exact;
+    } in IfOk result (λ ran. CameOfRun plan (listed.Frames ask) (P.fibres plant.old) (P.fibres plant.new) failures ran.status ran.rounds
+        (W.written sink.old) (W.written sink.new)) }
+    ensures later { (P.faults plant.old ≤ P.faults plant.new) × (W.faults sink.old ≤ W.faults sink.new) }
+    ensures memory { OnErr result ((sink.new ≡ sink.old) × (P.fibres plant.new ≡ P.fibres plant.old)) }
+    ensures uncounted { OnErr result (P.exact ≡ true → P.faults plant.new ≡ P.faults plant.old) }
+{
+    sdh_owed::scripts_settle();
+    crate::laws::scripts_go_as_signals();
+    crate::laws::steps_go_as_signals();
+    let parts = parts_of(alloc, plan)?;
+    let PlanParts { ring, script } = parts;
+    let recorder = FrameRecorder { ask };
+    let mut run = FrameRun { ring, recorder };
+    let status = start_over(alloc, plant, &mut run, script, sink)?;
+    Ok(RanPlan {
+        status,
+        rounds: run.ring.rounds(),
+    })
+}
+
+/// Runs the script of a plan over new fibres, and writes how its ring signals, round by round, or the frames that are
+/// asked for. All memory is taken before the first round.
+pub fn run_plan<W: Sink, P: Plant>(
+    alloc: Global,
+    plan: Plan,
+    listing: PlanListing,
+    sink: &mut W,
+    plant: &mut P,
+) -> Result<RanPlan, AllocError>
+    requires fresh { HasNoFibres (P.fibres plant.old) }
+    requires placed { IsPlaced (length plan.nodes) listing }
+    ensures ran { let failures : Failures = record {
+      calls = record { before = P.faults plant.old; after = P.faults plant.new };
+      writes = record { before = W.faults sink.old; after = W.faults sink.new };
+      calls_exact = P.exact;
+      writes_exact = W.exact;
+    } in IfOk result (λ ran. CameOfRun plan listing (P.fibres plant.old) (P.fibres plant.new) failures ran.status ran.rounds
+        (W.written sink.old) (W.written sink.new)) }
+    ensures later { (P.faults plant.old ≤ P.faults plant.new) × (W.faults sink.old ≤ W.faults sink.new) }
+
+    // Without memory nothing was written, no fibre was made, and no round has run.
+    ensures memory { OnErr result ((sink.new ≡ sink.old) × (P.fibres plant.new ≡ P.fibres plant.old)) }
+    ensures uncounted { OnErr result (P.exact ≡ true → P.faults plant.new ≡ P.faults plant.old) }
+{
+    match listing {
+        PlanListing::Lines(lines) => run_lines(alloc, plan, lines, sink, plant),
+        PlanListing::Frames(ask) => run_frames(alloc, plan, ask, sink, plant),
+    }
 }

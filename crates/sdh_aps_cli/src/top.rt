@@ -14,10 +14,10 @@ ghost use Rattle.sdh_aps_cli.specs.Words.{asked};
 ghost use Rattle.sdh_aps_cli.specs.Plans.{IsCutRun};
 ghost use Rattle.sdh_aps_cli.specs.Headline.{signalling};
 ghost use Rattle.sdh_aps_cli.specs.declared.ending.Ending.{Ending};
-ghost use Rattle.sdh_aps_cli.specs.declared.listing.SignalListing.{SignalListing as Listed};
+ghost use Rattle.sdh_aps_cli.specs.declared.listing.SignalAsk.{SignalAsk as Asked};
 
 use crate::ending::Ending;
-use crate::listing::SignalListing;
+use crate::listing::SignalAsk;
 use sdh_outside::{Sink, Source};
 use sdh_plant::Plant;
 use sdh_report::Status;
@@ -28,7 +28,9 @@ use std::alloc::Global;
 /// runs its ring over the plant. Of the first round it writes what each node shows, and of each later one what each
 /// node shows that showed something else before: its state and far end, the words that it sent, those that it hears,
 /// and what its sides ask for. With `node` and an identifier it writes this of that node alone. Each round is written
-/// before the next one runs, and the last line says how it ended.
+/// before the next one runs, and the last line says how it ended. With `frames`, an identifier, a side, and the first of
+/// a number of rounds it writes the frames that the node sent on that side in those rounds, scrambled as on the line, and
+/// nothing else; and a last line where the run ended before the last of these rounds.
 pub fn sdhaps<R: Source, W: Sink, P: Plant>(
     alloc: Global,
     words: &[String],
@@ -71,12 +73,13 @@ pub fn sdhaps<R: Source, W: Sink, P: Plant>(
     ensures later { (R.faults source.old ≤ R.faults source.new) × (W.faults sink.old ≤ W.faults sink.new)
         × (P.faults plant.old ≤ P.faults plant.new) }
 
-    // With the bytes of a plan that has the node and settles, and no fault, everything is done, or there is no memory.
-    ensures complete { (listing : Listed) → asked (words_of words.now) ≡ Some listing
-        → MayBeDone signalling listing (told signalling (Some listing) (R.left source.old)) (P.fibres plant.old)
+    // With the bytes of a plan that has the node and settles, and no fault, everything is done, or there is no memory. For
+    // frames the run has to have all rounds that are asked for.
+    ensures complete { (ask : Asked) → asked (words_of words.now) ≡ Some ask
+        → MayBeDone signalling ask (told signalling (Some ask) (R.left source.old)) (P.fibres plant.old)
         → ¬ (Rose (R.faults source.old) (R.faults source.new)) → ¬ (Rose (W.faults sink.old) (W.faults sink.new))
         → ¬ (Rose (P.faults plant.old) (P.faults plant.new))
         → (result ≡ Ending.Shared Status.Ok) ⊎ (result ≡ Ending.Shared Status.Memory) }
 {
-    call_over::<W, SignalListing, R, P>(alloc, words, source, sink, plant)
+    call_over::<W, SignalAsk, R, P>(alloc, words, source, sink, plant)
 }

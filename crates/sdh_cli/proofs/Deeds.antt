@@ -18,7 +18,7 @@ use Rattle.sdh_cli.specs.Outcome.{deed_of, ringing}
 pub run_ends : (plan : Planned) (listing : Listing) (f left : Fibres) (run text : List ℕ) (now how : Status) → how ≡ now
     → text ≡ run ++ last_line now → Tells plan listing f run now left → IsRunOutcome ringing listing plan f how text left
 run_ends plan listing f left run text now how is text_is x =
-    run_outcome ringing adm_account listing plan f left (listed listing) (λ told. refl) (λ told end came. came) run text now how is
+    run_outcome ringing refl adm_account listing plan f left (listed listing) (λ told. refl) (λ told end came. came) run text now how is
     (text_is ∙ ap (λ e. run ++ last_line e) (sym is)) x
 
 -- what is listed is what is done

@@ -34,7 +34,7 @@ shown : (ask : Option Ask) (f left : Fibres) (reads calls : Counts) (bytes : Lis
     → (reports : List Report) × Appends old new (text_of listing reports ++ last_line how) × P plan reports how
 shown None f left reads calls bytes how old new x P so plan listing is h = absurd is
 shown (Some ask) f left reads calls bytes how old new x P so plan listing is h =
-    shows ringing ask f left reads calls bytes how old new x P (run_alone ask) so plan listing how is.0
+    shows ringing ask f left reads calls bytes how old new x refl P (run_alone ask) so plan listing how is.0
     (listed_deed ask plan listing is.1) refl h
 
 module _ (ask : Option Ask) (f left : Fibres) (reads calls : Counts) (bytes : List ℕ) (how : Status) (old new : Option (List ℕ))

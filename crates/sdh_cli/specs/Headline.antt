@@ -51,4 +51,4 @@ AlwaysSettles ask bytes how = (plan : Planned) (listing : Listing) → Lists ask
 -- port, and a script that settles, as it does over honest fibres where the limit is large.
 abbrev pub MayBeDone : Option Ask → Option (List ℕ) → Fibres → Type 0
 MayBeDone None left f = ⊥
-MayBeDone (Some ask) left f = headline.may_be_done_by own_plan (headline.may_go_by Does MaySettle) ask left f
+MayBeDone (Some ask) left f = headline.may_be_done_by own_plan (headline.may_go_by Does (λ listing. MaySettle)) ask left f

@@ -7,7 +7,7 @@ use Rattle.sdh_report.specs.declared.status.Status.{Status}
 use Rattle.sdh_report.specs.Reports.{Report, text_of}
 use Rattle.sdh_shell.specs.Endings.{statuses}
 use Rattle.sdh_shell.specs.Failing.{Counts}
-use Rattle.sdh_scripts.specs.Programs.{Deed, Writes, deed_listing, Program}
+use Rattle.sdh_scripts.specs.Programs.{Deed, Writes, deed_listing, as_script, Program}
 use Rattle.sdh_scripts.specs.Outcome as outcome
 use Rattle.sdh_cli.specs.Big.{big_planned}
 use Rattle.sdh_cli.specs.Tables.{tables_of}
@@ -33,11 +33,12 @@ ringing = record {
   usage = codes "usage: sdhring run, check, drop NAME END, big NUMBER";
   asked = asked;
   endings = statuses;
+  closing = as_script Listing Report statuses;
   own_plan = own_plan;
   Does = Does;
   text_of = text_of;
   IsRunOf = IsRunOf;
-  MaySettle = MaySettle;
+  MaySettle = λ listing. MaySettle;
 }
 
 -- what must be known of a source: its bytes, or nothing where it isn't read

@@ -17,7 +17,7 @@ use Rattle.sdh_outage_cli.specs.Headline.{listening}
 pub run_ends : (plan : Planned) (listing : OutageListing) (f left : Fibres) (run text : List ℕ) (now how : Status) → how ≡ now
     → text ≡ run ++ last_line now → Tells plan listing f run now left → IsRunOutcome listening listing plan f how text left
 run_ends plan listing f left run text now how is text_is x =
-    run_outcome listening outage_account listing plan f left (listed listing) (λ told. refl) (λ told end came. came) run text now how is
+    run_outcome listening refl outage_account listing plan f left (listed listing) (λ told. refl) (λ told end came. came) run text now how is
     (text_is ∙ ap (λ e. run ++ last_line e) (sym is)) x
 
 -- what is listed is what is done

@@ -5,7 +5,7 @@ use Rattle.sdh_plant.specs.Arrivals.{Knows}
 use Rattle.sdh_report.specs.declared.status.Status.{Status}
 use Rattle.sdh_owed.specs.Plans.{world_of}
 use Rattle.sdh_shell.specs.Endings.{statuses}
-use Rattle.sdh_scripts.specs.Programs.{deed_listing, Program}
+use Rattle.sdh_scripts.specs.Programs.{deed_listing, as_script, Program}
 use Rattle.sdh_scripts.specs.Headline.{EndsAs}
 use Rattle.sdh_outage_cli.specs.Outages.{Outaged}
 use Rattle.sdh_outage_cli.specs.declared.listing.OutageListing.{OutageListing}
@@ -20,11 +20,12 @@ listening = record {
   usage = codes "usage: sdhoutage run, trace NAME END";
   asked = asked;
   endings = statuses;
+  closing = as_script OutageListing Outaged statuses;
   own_plan = λ ask. None;
   Does = λ ask plan deed. deed ≡ deed_listing (listing_of ask plan);
   text_of = text_of;
   IsRunOf = IsRunOf;
-  MaySettle = MaySettle;
+  MaySettle = λ listing. MaySettle;
 }
 
 -- the program ends as the script does where the arrivals are known: unsettled at exactly the step in which no quiet

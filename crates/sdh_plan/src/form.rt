@@ -29,8 +29,8 @@ fn node_at(ring: &RingMap, word: &[u8]) -> Option<Pos>
     }
 }
 
-// Returns the side that the word names.
-fn side_at(word: &[u8]) -> Option<Side>
+/// Returns the side that the word names, or `None` where it names none.
+pub fn side_at(word: &[u8]) -> Option<Side>
     ensures { result ≡ side_at word.now }
 {
     if is_word(word, "west") {

@@ -16,6 +16,7 @@ mod step;
 mod words;
 
 pub use error::PlanError;
+pub use form::side_at;
 pub use plan::Plan;
 pub use reading::read_plan;
 pub use reason::Reason;

@@ -211,6 +211,10 @@ impl Plant for FailingPlant {
         self.send(at, side, frame)
     }
 
+    fn carried(&self, at: Pos, side: Side) -> Option<&FrameBuf> {
+        self.plant.lend(at, side)
+    }
+
     fn receive<L: Landing>(&mut self, at: Pos, side: Side, into: &mut L) -> Result<Arrived, Failed>
         requires at { at.0 < (fibres_of self.old.fibres).nodes }
         requires rate { L.rate into.old ≡ (fibres_of self.old.fibres).rate }

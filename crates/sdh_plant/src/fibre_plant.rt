@@ -1,5 +1,5 @@
 //! Honest fibres in memory.
-ghost use Rattle.std.specs.Prelude.{◌≡◌, ◌≢◌, true, ◌+◌, ◌*◌, ◌<◌, ◌≤◌, Some, None, Ok, IfOk, IsOk, OnOk, OnErr, IsOkUnless};
+ghost use Rattle.std.specs.Prelude.{◌≡◌, ◌≢◌, true, ◌+◌, ◌*◌, ◌<◌, ◌≤◌, Some, None, Ok, IfOk, IfSome, IfNone, IsOk, OnOk, OnErr, IsOkUnless};
 ghost use Rattle.std.specs.Prelude.{IsErrOf, All, length, replicate, slice_index_or, slice_set, refl};
 ghost use Rattle.sdh_basics.specs.Causes.{Rose, IsCounted, HasCause};
 ghost use Rattle.sdh_terms.specs.Rates.{n_of};
@@ -122,6 +122,19 @@ fn store_in_exchange(fibres: &mut [Fibre], at: usize, frame: &mut FrameBuf)
     kept.carries = true;
 }
 
+fn frame_on(fibres: &[Fibre], at: usize) -> Option<&FrameBuf>
+    requires { at < length fibres.now }
+    ensures some { IfSome result (λ frame. slice_index_or (carried fibres.now) at None ≡ Some frame.now.bytes) }
+    ensures none { IfNone result (slice_index_or (carried fibres.now) at None ≡ None) }
+{
+    let fibre = &fibres[at];
+    if fibre.carries {
+        Some(&fibre.frame)
+    } else {
+        None
+    }
+}
+
 fn land_carried<L: Landing>(fibre: &mut Fibre, into: &mut L) -> Arrived
     requires { IsFibre (L.rate into.old) fibre.old }
     ensures same { fibre.new ≡ fibre.old }
@@ -224,6 +237,18 @@ impl FibrePlant {
         store_in_exchange(fibres, fibre_at(at, side), frame);
     }
 
+    // Returns the frame that a fibre carries, or `None` where it carries none.
+    pub(crate) fn lend(&self, at: Pos, side: Side) -> Option<&FrameBuf>
+        requires { at.0 < self.now.nodes }
+        ensures some { IfSome result (λ frame. slice_index_or self.now.carried (fibre at.0 side) None ≡ Some frame.now.bytes) }
+        ensures none { IfNone result (slice_index_or self.now.carried (fibre at.0 side) None ≡ None) }
+    {
+        let Some(fibres) = &self.fibres else {
+            return None;
+        };
+        frame_on(fibres, fibre_at(at, side))
+    }
+
     // Lands what comes out of the fibre that ends at a position on a side.
     pub(crate) fn give<L: Landing>(&mut self, at: Pos, side: Side, into: &mut L) -> Arrived
         requires at { at.0 < self.old.nodes }
@@ -305,6 +330,10 @@ impl Plant for FibrePlant {
     {
         self.carry_in_exchange(at, side, frame);
         Ok(())
+    }
+
+    fn carried(&self, at: Pos, side: Side) -> Option<&FrameBuf> {
+        self.lend(at, side)
     }
 
     fn receive<L: Landing>(&mut self, at: Pos, side: Side, into: &mut L) -> Result<Arrived, Failed>

@@ -1,5 +1,5 @@
 //! What a ring asks of its fibres.
-ghost use Rattle.std.specs.Prelude.{◌≡◌, ◌≢◌, ◌<◌, ◌≤◌, ℕ, Bool, true, None, Ok, IfOk, OnOk, OnErr, IsErrOf};
+ghost use Rattle.std.specs.Prelude.{◌≡◌, ◌≢◌, ◌<◌, ◌≤◌, ℕ, Bool, true, None, Ok, Some, IfOk, IfSome, IfNone, OnOk, OnErr, IsErrOf};
 ghost use Rattle.sdh_basics.specs.Causes.{Rose, IsCounted, HasCause};
 ghost use Rattle.sdh_plant.specs.Fibres.{Fibres, HasNoFibres};
 ghost use Rattle.sdh_terms.specs.Fibres.{IsConditionAt, fibre};
@@ -99,6 +99,12 @@ pub trait Plant {
     {
         self.send(at, side, frame)
     }
+
+    /// Returns the frame on the fibre that leaves a position on a side, or `None` where that fibre carries none.
+    fn carried(&self, at: Pos, side: Side) -> Option<&FrameBuf>
+        requires at { at.0 < (fibres self.now).nodes }
+        ensures some { IfSome result (λ frame. carried_on (fibres self.now) (fibre at.0 side) ≡ Some frame.now.bytes) }
+        ensures none { IfNone result (carried_on (fibres self.now) (fibre at.0 side) ≡ None) };
 
     /// Receives at a position on a side what comes out of the fibre that ends there. The fibre still carries it
     /// afterwards.

@@ -179,6 +179,10 @@ impl Plant for RecordingPlant {
         self.send(at, side, frame)
     }
 
+    fn carried(&self, at: Pos, side: Side) -> Option<&FrameBuf> {
+        self.plant.lend(at, side)
+    }
+
     fn receive<L: Landing>(&mut self, at: Pos, side: Side, into: &mut L) -> Result<Arrived, Failed>
         requires at { at.0 < (recorded_of self.old).nodes }
         requires rate { L.rate into.old ≡ (recorded_of self.old).rate }

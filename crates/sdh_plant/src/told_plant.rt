@@ -185,6 +185,10 @@ impl Plant for ToldPlant {
         self.send(at, side, frame)
     }
 
+    fn carried(&self, at: Pos, side: Side) -> Option<&FrameBuf> {
+        self.plant.lend(at, side)
+    }
+
     fn receive<L: Landing>(&mut self, at: Pos, side: Side, into: &mut L) -> Result<Arrived, Failed>
         requires at { at.0 < (told_of self.old).nodes }
         requires rate { L.rate into.old ≡ (told_of self.old).rate }

@@ -15,6 +15,10 @@ RanOne = observed.RanOne adm
 abbrev pub Hears : ((ℕ → World) → ℕ → Type 0) → World → ℕ → World → Type 0
 Hears = observed.Hears adm
 
+-- rounds of one that ran so far, and what is kept of them
+abbrev pub RanSome : ((ℕ → World) → ℕ → Type 0) → World → ℕ → World → Type 0
+RanSome = observed.RanSome adm
+
 -- a settle step that didn't end, and what is kept of its whole rounds
 abbrev pub HearsSome : ((ℕ → World) → ℕ → Type 0) → World → ℕ → World → Type 0
 HearsSome = observed.HearsSome adm

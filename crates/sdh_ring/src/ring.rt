@@ -1,5 +1,5 @@
 //! The ring.
-ghost use Rattle.std.specs.Prelude.{◌≡◌, ◌+◌, ◌/◌, ◌^◌, ◌<◌, ◌≤◌, ℕ, true, false, Some, IfOk, OnOk, OnErr};
+ghost use Rattle.std.specs.Prelude.{◌≡◌, ◌+◌, ◌/◌, ◌^◌, ◌<◌, ◌≤◌, ℕ, true, false, Some, Err, IfOk, OnOk, OnErr};
 ghost use Rattle.std.specs.Prelude.{IsErr, length, slice_get};
 ghost use Rattle.sdh_basics.specs.Causes.{Rose, IsCounted};
 ghost use Rattle.sdh_terms.specs.Rates.{n_of};
@@ -25,7 +25,7 @@ ghost use Rattle.sdh_laws.specs.Strangers.Vouched.{IsVouched, IsAside};
 ghost use Rattle.sdh_laws.specs.Strangers.Laws.{KeepsStrangersOut};
 ghost use Rattle.sdh_laws.specs.Resting.Rest.{IsAtRest, StaysAtRest};
 ghost use Rattle.sdh_ring.specs.Faults.{BreaksRound};
-ghost use Rattle.sdh_ring.specs.Observed.{Hears, HearsSome, IsStopped};
+ghost use Rattle.sdh_ring.specs.Observed.{Hears, RanSome, HearsSome, IsStopped};
 ghost use Rattle.sdh_ring.specs.Promises.{KeepsPromises};
 
 use sdh_circuits::{CircuitMap, PortId};
@@ -330,6 +330,9 @@ impl Ring {
             (world self.old (P.fibres plant.old)) limit (world self.new (P.fibres plant.new)))) }
         ensures begun { IfOk result (λ ended. OnErr ended (HearsSome (λ at k. O.Records recorder.old log.old at k recorder.new log.new)
             (world self.old (P.fibres plant.old)) limit (world self.new (P.fibres plant.new)))) }
+        ensures unsettled { IfOk result (λ ended. ended ≡ Err SettleError.Unsettled
+            → RanSome (λ at k. O.Records recorder.old log.old at k recorder.new log.new) (world self.old (P.fibres plant.old)) limit
+            (world self.new (P.fibres plant.new))) }
         ensures stopped { OnErr result (IsStopped P.exact (λ at k. O.Stops recorder.old log.old at k recorder.new log.new)
             (world self.old (P.fibres plant.old)) limit (world self.new (P.fibres plant.new)) (P.faults plant.old) (P.faults plant.new)) }
     {

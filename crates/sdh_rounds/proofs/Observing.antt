@@ -47,21 +47,26 @@ module _ {N : Type 0} (st : Station N) where
       ring_is = ap (λ (x : World N). x.ring) at_after;
     }
 
+    fibres_after : after.fibres ≡ (at (suc k)).fibres
+    fibres_after = ap (λ (x : World N). x.fibres) at_after
+
     -- an observer of the ring then keeps what is to be kept
     looked_with : (before later : (ℕ → World N) → ℕ → Type 0) → k < 65536
         → ((at bt : ℕ → World N) → ((j : ℕ) → j ≤ k → at j ≡ bt j) → before at k → before bt k)
-        → ((at : ℕ → World N) → RanOne st at k after.ring → before at k → later at (suc k)) → before (course_with st on.went.rounds w) k
+        → ((at : ℕ → World N) → RanOne st at k after.ring → after.fibres ≡ (at (suc k)).fibres → before at k → later at (suc k))
+        → before (course_with st on.went.rounds w) k
         → HasLooked later w after (k + 1) n
     looked_with before later few same look kept = record {
       went = more;
       kept =
           subst (later at) (let one : suc k ≡ k + 1 = omega arith in one)
-          (look at (ran_one few) (same (course_with st on.went.rounds w) at so_far kept));
+          (look at (ran_one few) fibres_after (same (course_with st on.went.rounds w) at so_far kept));
     }
 
   pub looked_more : (before later : (ℕ → World N) → ℕ → Type 0) (w now after : World N) (k calm n : ℕ) → k < 65536
       → ((at bt : ℕ → World N) → ((j : ℕ) → j ≤ k → at j ≡ bt j) → before at k → before bt k)
-      → ((at : ℕ → World N) → RanOne st at k after.ring → before at k → later at (suc k)) → Observes before w now k calm → IsRound st now after
+      → ((at : ℕ → World N) → RanOne st at k after.ring → after.fibres ≡ (at (suc k)).fibres → before at k → later at (suc k))
+      → Observes before w now k calm → IsRound st now after
       → n ≡ (if is_calm st after.ring.nodes then calm + 1 else 0) → HasLooked later w after (k + 1) n
   looked_more before later w now after k calm n few same look x is counted =
       looked_with w now after k calm n x.on is counted before later few same look x.kept
@@ -69,12 +74,14 @@ module _ {N : Type 0} (st : Station N) where
   -- before it looks
   pub one_more : (heard : (ℕ → World N) → ℕ → Type 0) (w now after : World N) (k calm : ℕ) → k < 65536
       → ((at bt : ℕ → World N) → ((j : ℕ) → j ≤ k → at j ≡ bt j) → heard at k → heard bt k)
-      → Observes heard w now k calm → IsRound st now after → (at : ℕ → World N) × (j : ℕ) × RanOne st at j after.ring × heard at j
+      → Observes heard w now k calm → IsRound st now after → (at : ℕ → World N) × (j : ℕ) × RanOne st at j after.ring
+      × (after.fibres ≡ (at (suc j)).fibres) × heard at j
   one_more heard w now after k calm few same x is =
       let n = if is_calm st after.ring.nodes then calm + 1 else 0 in (
         at w now after k calm n x.on is refl,
         k,
         ran_one w now after k calm n x.on is refl few,
+        fibres_after w now after k calm n x.on is refl,
         same (course_with st x.on.went.rounds w) (at w now after k calm n x.on is refl) (so_far w now after k calm n x.on is refl) x.kept,
       )
 

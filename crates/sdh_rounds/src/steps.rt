@@ -1,8 +1,8 @@
 //! Settle steps of any ring.
-ghost use Rattle.std.specs.Prelude.{◌≡◌, ◌+◌, ◌^◌, ◌<◌, ◌≤◌, ℕ, suc, false, IfOk, OnOk, OnErr, length, if◌then◌else◌};
+ghost use Rattle.std.specs.Prelude.{◌≡◌, ◌+◌, ◌^◌, ◌<◌, ◌≤◌, ℕ, suc, false, Err, IfOk, OnOk, OnErr, length, if◌then◌else◌};
 ghost use Rattle.sdh_plant.specs.Fibres.{IsPrepared};
 ghost use Rattle.sdh_rounds.specs.Held.{HeldRing, World, world};
-ghost use Rattle.sdh_rounds.specs.Observed.{RanOne, Hears, HearsSome, IsStopped};
+ghost use Rattle.sdh_rounds.specs.Observed.{RanOne, Hears, RanSome, HearsSome, IsStopped};
 ghost use Rattle.sdh_rounds.specs.Outcome.{IsOneRound, IsStep};
 
 use crate::faults::{PlantFault, SettleError, Stopped};
@@ -60,8 +60,8 @@ impl<R: RunsRounds> Observer<R> for Nobody {
     ghost same = { λ at bt k o same heard. tt };
 }
 
-/// A recorder: it looks at a ring after each round of a settle step, writes what it saw to a log that is passed along,
-/// and may stop the step.
+/// A recorder: it looks at a ring and its plant after each round of a settle step, writes what it saw to a log that is
+/// passed along, and may stop the step.
 pub trait Recorder<R: RunsRounds, L> {
     /// Says what recorder and log are once a number of rounds of a course have run, by what they were before the step.
     /// A course gives the world, which is a ring and its fibres, after each number of rounds.
@@ -70,15 +70,17 @@ pub trait Recorder<R: RunsRounds, L> {
     /// Says what recorder and log are where the recorder stopped the step after a number of rounds.
     ghost Stops: { Self → L → (ℕ → World R.Node) → ℕ → Self → L → Type 0 };
 
-    /// Looks at the ring after one more round, and writes to the log. Whatever course led there, recorder and log are
-    /// then what `Records` says of that round; or what `Stops` says, where an error stops the step.
-    fn note(&mut self, ring: &R, log: &mut L) -> Result<(), Stopped>
+    /// Looks at the ring and the plant after one more round, and writes to the log. Whatever course led there, recorder
+    /// and log are then what `Records` says of that round; or what `Stops` says, where an error stops the step.
+    fn note<P: Plant>(&mut self, ring: &R, plant: &P, log: &mut L) -> Result<(), Stopped>
         requires { (first : Self) × (begun : L) × (at : ℕ → World R.Node) × (k : ℕ) × RanOne R.Node.kind at k (R.held ring.now)
-            × Records first begun at k self.old log.old }
+            × (P.fibres plant.now ≡ (at (suc k)).fibres) × Records first begun at k self.old log.old }
         ensures goes { OnOk result ((first : Self) (begun : L) (at : ℕ → World R.Node) (k : ℕ) → RanOne R.Node.kind at k (R.held ring.now)
-            → Records first begun at k self.old log.old → Records first begun at (suc k) self.new log.new) }
+            → P.fibres plant.now ≡ (at (suc k)).fibres → Records first begun at k self.old log.old
+            → Records first begun at (suc k) self.new log.new) }
         ensures stops { OnErr result ((first : Self) (begun : L) (at : ℕ → World R.Node) (k : ℕ) → RanOne R.Node.kind at k (R.held ring.now)
-            → Records first begun at k self.old log.old → Stops first begun at (suc k) self.new log.new) };
+            → P.fibres plant.now ≡ (at (suc k)).fibres → Records first begun at k self.old log.old
+            → Stops first begun at (suc k) self.new log.new) };
 
     /// What is recorded depends only on the rounds that have run.
     ghost same: { (first : Self) (begun : L) (at bt : ℕ → World R.Node) (k : ℕ) (o : Self) (l : L) → ((j : ℕ) → j ≤ k → at j ≡ bt j)
@@ -95,7 +97,7 @@ impl<R: RunsRounds, O: Observer<R>> Recorder<R, Nowhere> for O {
 
     ghost Stops = { λ first begun at k o l. ⊥ };
 
-    fn note(&mut self, ring: &R, _log: &mut Nowhere) -> Result<(), Stopped> {
+    fn note<P: Plant>(&mut self, ring: &R, _plant: &P, _log: &mut Nowhere) -> Result<(), Stopped> {
         <O as Observer<R>>::look(self, ring);
         Ok(())
     }
@@ -137,10 +139,14 @@ pub fn settle_recording<R: RunsRounds, P: Plant, L, O: Recorder<R, L>>(
         (Hears R.Node.kind (λ at k. O.Records recorder.old log.old at k recorder.new log.new)
         (world (R.held ring.old) (P.fibres plant.old)) limit (world (R.held ring.new) (P.fibres plant.new)))) }
 
-    // What is recorded of a step that didn't end is what is to be recorded of its whole rounds.
+    // What is recorded of a step that didn't end is what is to be recorded of its whole rounds: of all of them where it
+    // was unsettled.
     ensures begun { IfOk result (λ ended. OnErr ended
         (HearsSome R.Node.kind (λ at k. O.Records recorder.old log.old at k recorder.new log.new)
         (world (R.held ring.old) (P.fibres plant.old)) limit (world (R.held ring.new) (P.fibres plant.new)))) }
+    ensures unsettled { IfOk result (λ ended. ended ≡ Err SettleError.Unsettled
+        → RanSome R.Node.kind (λ at k. O.Records recorder.old log.old at k recorder.new log.new)
+        (world (R.held ring.old) (P.fibres plant.old)) limit (world (R.held ring.new) (P.fibres plant.new))) }
     ensures stopped { OnErr result (IsStopped R.Node.kind P.exact
         (λ at k. O.Stops recorder.old log.old at k recorder.new log.new) (world (R.held ring.old) (P.fibres plant.old)) limit
         (world (R.held ring.new) (P.fibres plant.new)) (P.faults plant.old) (P.faults plant.new)) }
@@ -150,7 +156,7 @@ pub fn settle_recording<R: RunsRounds, P: Plant, L, O: Recorder<R, L>>(
         let Ok(()) = ring.round(plant) else {
             return Ok(Err(SettleError::PlantFault));
         };
-        recorder.note(ring, log)?;
+        recorder.note(ring, plant, log)?;
         calm = calm_rounds(ring.stations().is_calm(), calm);
         if ring.stations().is_over(calm) {
             return Ok(Ok(()));

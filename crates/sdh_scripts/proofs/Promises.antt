@@ -1,5 +1,5 @@
 -- What a program promises follows from the outcome of its call.
-use Rattle.std.proofs.Common.{◌≡◌, ◌≢◌, ℕ, ◌≤◌, None, Some, List, length, refl, sym, ◌∙◌, subst, inl, inr}
+use Rattle.std.proofs.Common.{◌≡◌, ◌≢◌, ℕ, ◌≤◌, None, Some, List, ◌++◌, length, refl, ap, sym, ◌∙◌, subst, inl, inr}
 use Rattle.std.specs.Prelude.{◌⊎◌, Option, IfSome}
 use Rattle.std.specs.Io.KnownBytes.{Appends}
 use Rattle.sdh_plant.specs.Fibres.{Fibres}
@@ -16,7 +16,7 @@ use Rattle.sdh_shell.proofs.Told.{told_all}
 use Rattle.sdh_shell.proofs.Refused.{no_run}
 use Rattle.sdh_shell.proofs.Endings.{one_status, not_refused, ran_whole}
 use Rattle.sdh_shell.proofs.Writing.{was_whole}
-use Rattle.sdh_scripts.specs.Programs.{Deed, Refuses, Writes, Runs, Program}
+use Rattle.sdh_scripts.specs.Programs.{Deed, Refuses, Writes, Runs, Closing, as_script, Program}
 use Rattle.sdh_scripts.specs.Outcome.{IsRunOutcome, OfDeed, OfPlan, OfOwnPlan, MayEnd, told}
 use Rattle.sdh_scripts.specs.Headline.{is_plan_for, IsPlanFor, Shows}
 
@@ -58,7 +58,8 @@ module _ {A L T E : Type 0} (program : Program A L T E) (ask : A) (f left : Fibr
   ran_deed (Runs listing) how text plan s is h never does x = (listing, does)
 
   module _ (reads calls : Counts) (bytes : List ℕ) (how : E) (old new : Option (List ℕ))
-      (wrote : WritesWith program.endings (λ how text. MayEnd program (Some ask) bytes f reads calls how text left) how old new) where
+      (wrote : WritesWith program.endings (λ how text. MayEnd program (Some ask) bytes f reads calls how text left) how old new)
+      (plain : program.closing ≡ as_script L T program.endings) where
     -- what was written where a script came to its end, and what came of the plan
     whole : (plan : Planned) (s : Status) → IsPlanFor program ask bytes plan → how ≡ program.endings.of s → HasRun s
         → (text : List ℕ) × OfPlan program ask plan f how text left × Appends old new text
@@ -75,8 +76,12 @@ module _ {A L T E : Type 0} (program : Program A L T E) (ask : A) (f left : Fibr
         let w = whole plan s tells is h in
         let r : IsRunOutcome program listing plan f how w.0 left =
         subst (λ d. OfDeed program d plan f how w.0 left) (alone plan listing w.1.0 does w.1.1) w.1.2 in
-        let same : r.status ≡ s = one_status program.endings r.status s (sym r.how_is ∙ is) in
-        (r.told, subst (Appends old new) r.text_is w.2, so plan r.told s (subst (λ t. program.IsRunOf plan f r.told t left) same r.came))
+        let ends : how ≡ program.endings.of r.status =
+        r.how_is ∙ ap (λ (c : Closing L T program.endings). c.ends listing r.told r.status) plain in
+        let line : w.0 ≡ program.text_of listing r.told ++ program.endings.line how =
+        r.text_is ∙ ap (λ (c : Closing L T program.endings). program.text_of listing r.told ++ c.line listing how) plain in
+        let same : r.status ≡ s = one_status program.endings r.status s (sym ends ∙ is) in
+        (r.told, subst (Appends old new) line w.2, so plan r.told s (subst (λ t. program.IsRunOf plan f r.told t left) same r.came))
 
     -- what is so of runs is so of the run of a plan, where the program never writes a text of one alone
     so_of : (P : Planned → List T → Status → Type 0) → RunsAlone program ask → NeverWrites program ask

@@ -7,6 +7,7 @@ use Rattle.sdh_plant.specs.Fibres.{Fibres}
 use Rattle.sdh_plan.specs.Planned.{Planned}
 use Rattle.sdh_report.specs.declared.status.Status.{Status}
 use Rattle.sdh_report.specs.declared.status.Status.TheVariants as status
+use Rattle.sdh_shell.specs.Endings.{refuses_plan}
 use Rattle.sdh_shell.specs.Reading.{HasNoPlan, HasPlan, TellsPlan, told_if}
 use Rattle.sdh_shell.specs.Failing.{Counts, EndsWithCause}
 use Rattle.sdh_shell.specs.Writing.{Says, WritesWith, IsShown}
@@ -14,7 +15,7 @@ use Rattle.sdh_shell.proofs.Plans.{some_same, one_plan}
 use Rattle.sdh_shell.proofs.Told.{told_all}
 use Rattle.sdh_shell.proofs.Endings.{EndsPlan}
 use Rattle.sdh_shell.proofs.Writing.{told_whole, told_front}
-use Rattle.sdh_scripts.specs.Programs.{Deed, Refuses, Writes, Runs, Program}
+use Rattle.sdh_scripts.specs.Programs.{Deed, Refuses, Writes, Runs, IsRunEnd, Program}
 use Rattle.sdh_scripts.specs.Outcome.{HasRefused, OfDeed, OfPlan, OfBytes, OfOwnPlan, IsOutcome, MayEnd}
 use Rattle.sdh_scripts.specs.Outcome.{HasRead, LeavesPlant, reads_without, reads_source, told}
 use Rattle.sdh_scripts.specs.Headline.{is_plan_for, MayGo, MayBeDone}
@@ -24,7 +25,10 @@ module _ {A L T E : Type 0} (program : Program A L T E) (plan : Planned) (f left
   deed_ends : (deed : Deed L E) → OfDeed program deed plan f how text left → EndsPlan program.endings how
   deed_ends (Refuses why) x = inr x.1
   deed_ends (Writes told) x = inl (status.Ok, x.0, tt)
-  deed_ends (Runs listing) x = inl (x.status, x.how_is, x.ends)
+  deed_ends (Runs listing) x = elim (subst (IsRunEnd program.endings) (sym x.how_is) (program.closing.ends_run listing x.told x.status x.ends)) [
+    | inl as_script ↦ inl as_script
+    | inr own ↦ inr (subst refuses_plan (sym own) tt)
+  ]
 
   pub plan_ends : (ask : A) → OfPlan program ask plan f how text left → EndsPlan program.endings how
   plan_ends ask x = deed_ends x.0 x.2

@@ -1,5 +1,5 @@
 -- What is reported of a script whose reports are written as they come.
-use Rattle.std.proofs.Common.{◌≡◌, ℕ, ◌+◌, List, [], ◌∷◌, ◌++◌, length, refl, ap, sym, ◌∙◌, subst, inl, inr, append-nil, append_assoc}
+use Rattle.std.proofs.Common.{◌≡◌, ℕ, ◌+◌, List, [], ◌∷◌, ◌++◌, length, refl, ap, sym, ◌∙◌, subst, inl, inr, append-nil}
 use Rattle.std.specs.Prelude.{Option}
 use Rattle.std.specs.List.{flat_map}
 use Rattle.std.proofs.lemmas.Grind.{flat_map-append}
@@ -26,7 +26,7 @@ module _ {N T : Type 0} (walk : Walk N T) (limit : ℕ) (text_of begun_of : T �
       → WritesLast walk limit begun_of before s w text end left
       → (begun : List T) × LastTold walk limit before s w begun end left × (text ≡ flat_map begun_of begun)
   last_told step.Settle before w text end left x =
-      (x.1.told ∷ [], (x.0, (unwritten (before + 1) w left text x.1, refl)), x.1.text_is ∙ sym (one_text x.1.told))
+      (x.1.told ∷ [], (x.0, unwritten (before + 1) w left text x.1, refl, x.2), x.1.text_is ∙ sym (one_text x.1.told))
   last_told s before w text end left x = ([], (x.0, refl), x.1)
 
   pub stopped_told : (steps : List Step) (w : World N) (reports : List T) (tail : List ℕ) (end : Status) (left : World N)

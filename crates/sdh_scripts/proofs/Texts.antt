@@ -129,8 +129,8 @@ module _ {N T : Type 0} (walk : Walk N T) (limit : ℕ) (text_of begun_of : T �
   unsettled_stops before w left old new u x = record {
     runs = λ later. inr (inl (u, (refl, refl)));
     tail = x.0;
-    writes = (inr (inl (u, (refl, refl))), x.1);
-    text = x.2;
+    writes = (inr (inl (u, (refl, refl))), x.1, λ other. x.2);
+    text = x.3;
   }
 
   -- a settle step that a fault broke off
@@ -140,7 +140,7 @@ module _ {N T : Type 0} (walk : Walk N T) (limit : ℕ) (text_of begun_of : T �
   broken_stops before w left old new b x = record {
     runs = λ later. inr (inr (b, (refl, refl)));
     tail = x.0;
-    writes = (inr (inr (b, (refl, refl))), x.1);
+    writes = (inr (inr (b, (refl, refl))), x.1, λ other. absurd (other refl));
     text = x.2;
   }
 

@@ -37,17 +37,18 @@ abbrev pub AlwaysSettles : List ℕ → Status → Type 0
 AlwaysSettles bytes how = (plan : Planned) → TellsPlan bytes plan → enough_for (length plan.nodes) ≤ plan.limit → IsSettled how
 
 -- All that a deed needs is given. To write a text of the plan nothing is needed. To run the plan, so that the run comes
--- to its end, what `MaySettle` says is needed. A deed that refuses the plan can't be done, whatever is given.
-abbrev pub may_do_by : {L E : Type 0} → (Planned → Fibres → Type 0) → Deed L E → Planned → Fibres → Type 0
+-- to its end, what `MaySettle` says of what is listed is needed. A deed that refuses the plan can't be done, whatever is
+-- given.
+abbrev pub may_do_by : {L E : Type 0} → (L → Planned → Fibres → Type 0) → Deed L E → Planned → Fibres → Type 0
 may_do_by MaySettle (Refuses why) plan f = ⊥
 may_do_by MaySettle (Writes told) plan f = Unit {0}
-may_do_by MaySettle (Runs listing) plan f = MaySettle plan f
+may_do_by MaySettle (Runs listing) plan f = MaySettle listing plan f
 
 abbrev pub may_do : {A L T E : Type 0} → Program A L T E → Deed L E → Planned → Fibres → Type 0
 may_do program = may_do_by program.MaySettle
 
 -- what is asked leads with this plan to a deed for which all is given
-abbrev pub may_go_by : {A L E : Type 0} → (A → Planned → Deed L E → Type 0) → (Planned → Fibres → Type 0) → A → Planned → Fibres → Type 0
+abbrev pub may_go_by : {A L E : Type 0} → (A → Planned → Deed L E → Type 0) → (L → Planned → Fibres → Type 0) → A → Planned → Fibres → Type 0
 may_go_by {L = L} {E = E} Does MaySettle ask plan f = (deed : Deed L E) × Does ask plan deed × may_do_by MaySettle deed plan f
 
 abbrev pub MayGo : {A L T E : Type 0} → Program A L T E → A → Planned → Fibres → Type 0

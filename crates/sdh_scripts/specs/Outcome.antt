@@ -20,10 +20,10 @@ use Rattle.sdh_scripts.specs.Programs.{Deed, Refuses, Writes, Runs, Program}
 pub record IsRunOutcome {A L T E : Type 0} (program : Program A L T E) (listing : L) (plan : Planned) (f : Fibres) (how : E)
     (text : List ℕ) (left : Fibres) : Type 0 where
   pub status : Status
-  pub how_is : how ≡ program.endings.of status
   pub ends : HasRun status
   pub told : List T
-  pub text_is : text ≡ program.text_of listing told ++ program.endings.line how
+  pub how_is : how ≡ program.closing.ends listing told status
+  pub text_is : text ≡ program.text_of listing told ++ program.closing.line listing how
   pub came : program.IsRunOf plan f told status left
 
 -- How a deed with a plan ends, with this text and these fibres left. Where no round is run the fibres are left alone,

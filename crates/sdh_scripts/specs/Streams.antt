@@ -1,5 +1,5 @@
 -- What is written of a script whose fibres aren't made yet, step by step, as it comes.
-use Rattle.std.specs.Prelude.{ℕ, ◌≡◌, ◌⊎◌, ◌+◌, List, [], ◌∷◌, ◌++◌, length, Option}
+use Rattle.std.specs.Prelude.{ℕ, ◌≡◌, ◌≢◌, ◌⊎◌, ◌+◌, List, [], ◌∷◌, ◌++◌, length, Option}
 use Rattle.std.specs.List.{flat_map}
 use Rattle.std.specs.Io.KnownBytes.{Appends}
 use Rattle.sdh_plant.specs.Fibres.{Fibres}
@@ -35,11 +35,12 @@ pub record WroteSteps {N T : Type 0} (walk : Walk N T) (limit : ℕ) (text_of be
 
 -- ---- what is reported of the step with which a script ended
 
--- of a settle step the rounds that ran of it are reported; of a step that was refused, nothing
+-- of a settle step the rounds that ran of it are reported, which are all of them but for a plant's fault; of a step that
+-- was refused, nothing
 abbrev pub LastTold : {N T : Type 0} → Walk N T → ℕ → ℕ → Step → World N → List T → Status → World N → Type 0
 LastTold {T = T} walk limit before step.Settle w begun end left =
     Runs {T = T} walk limit before (step.Settle ∷ []) w [] end left
-    × ((x : Begun walk limit (before + 1) (λ told. []) w [] left) × (begun ≡ x.told ∷ []))
+    × (x : Begun walk limit (before + 1) (λ told. []) w [] left) × (begun ≡ x.told ∷ []) × (end ≢ status.PlantFault → left ≡ x.mid)
 LastTold {T = T} walk limit before s w begun end left = Refuses {T = T} s w [] end left × (begun ≡ [])
 
 -- the script ended with the step after those that gave `reports`, and `begun` is reported of it

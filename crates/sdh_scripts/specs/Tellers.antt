@@ -57,11 +57,13 @@ abbrev pub WasToWrite : {N T : Type 0} → Walk N T → ℕ → ℕ → (T → L
 WasToWrite {T = T} walk limit number text_of begun_of w text left =
     Begun walk limit number begun_of w text left ⊎ ((told : T) × Ended walk limit number w told left × (text ≡ text_of told))
 
--- what was written of a settle step that didn't end: the text of its rounds so far; or, where a write failed, the first
--- bytes of what was to be written
+-- what was written of a settle step that didn't end: the text of its rounds so far, which are all that ran where it was
+-- unsettled; or, where a write failed, the first bytes of what was to be written
 abbrev pub WroteBegun : {N T : Type 0} → Walk N T → ℕ → ℕ → (T → List ℕ) → (T → List ℕ) → World N → StepError → World N
     → Option (List ℕ) → Option (List ℕ) → Type 0
 WroteBegun walk limit number text_of begun_of w WriteFault left old new =
     (text : List ℕ) × WasToWrite walk limit number text_of begun_of w text left × AppendsFewer old new text
-WroteBegun walk limit number text_of begun_of w why left old new =
+WroteBegun walk limit number text_of begun_of w Unsettled left old new =
+    (text : List ℕ) × (x : Begun walk limit number begun_of w text left) × (left ≡ x.mid) × Appends old new text
+WroteBegun walk limit number text_of begun_of w PlantFault left old new =
     (text : List ℕ) × Begun walk limit number begun_of w text left × Appends old new text

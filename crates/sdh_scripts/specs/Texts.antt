@@ -1,5 +1,5 @@
 -- What a run of steps writes.
-use Rattle.std.specs.Prelude.{ℕ, ◌≡◌, ◌⊎◌, ◌+◌, ◌-◌, ◌*◌, ◌≤◌, List, [], ◌∷◌, ◌++◌, length, Option}
+use Rattle.std.specs.Prelude.{ℕ, ◌≡◌, ◌≢◌, ◌⊎◌, ◌+◌, ◌-◌, ◌*◌, ◌≤◌, List, [], ◌∷◌, ◌++◌, length, Option}
 use Rattle.std.specs.List.{flat_map}
 use Rattle.std.specs.Io.KnownBytes.{Appends}
 use Rattle.sdh_outside.specs.Writing.{AppendsFewer}
@@ -34,10 +34,11 @@ pub record Went {N T : Type 0} (walk : Walk N T) (limit : ℕ) (text_of : T → 
       → Runs walk limit before (gone ++ later) w (reports ++ rest) end last
 
 -- The text that is due for the step with which a script ended, after `before` settle steps. For a settle step it is the
--- text of the rounds that ran; for a step that was refused it is empty.
+-- text of the rounds that ran, which are all of them but for a plant's fault; for a step that was refused it is empty.
 abbrev pub WritesLast : {N T : Type 0} → Walk N T → ℕ → (T → List ℕ) → ℕ → Step → World N → List ℕ → Status → World N → Type 0
 WritesLast {T = T} walk limit begun_of before step.Settle w text end left =
-    Runs {T = T} walk limit before (step.Settle ∷ []) w [] end left × Begun walk limit (before + 1) begun_of w text left
+    Runs {T = T} walk limit before (step.Settle ∷ []) w [] end left × (x : Begun walk limit (before + 1) begun_of w text left)
+    × (end ≢ status.PlantFault → left ≡ x.mid)
 WritesLast {T = T} walk limit begun_of before s w text end left = Refuses {T = T} s w [] end left × (text ≡ [])
 
 -- the script ends with this step, whichever steps would come after it, and the text that is due for the step was

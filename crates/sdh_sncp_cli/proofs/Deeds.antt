@@ -57,7 +57,7 @@ module _ (plan : Planned) (f : Fibres) where
   ran_deed left run text now how known alone is text_is x = (
     Runs tt,
     (known, alone),
-    run_outcome pathing path_account tt plan f left report_text (λ told. refl) (λ told end came. came) run text
+    run_outcome pathing refl path_account tt plan f left report_text (λ told. refl) (λ told end came. came) run text
         now how is (text_is ∙ ap (λ e. run ++ line_of e) (sym is)) x,
   )
 

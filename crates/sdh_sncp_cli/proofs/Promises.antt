@@ -84,7 +84,7 @@ module _ (words : List (List ℕ)) (bytes : List ℕ) (f left : Fibres) (reads c
       let by = ran_by how (subst HasRun numbered h) in
       let asked = subst (λ a. WritesWith path_endings (λ how text. MayEnd pathing a bytes f reads calls how text left) how old new)
       (is_asked words is.words_are) (wrote is.words_are) in
-      let x = shows pathing tt f left reads calls bytes how old new asked P run_alone so plan tt by.end is.tells
+      let x = shows pathing tt f left reads calls bytes how old new asked refl P run_alone so plan tt by.end is.tells
       (is.known, is.alone) by.how_is by.ends in
       record {
         end = by.end;

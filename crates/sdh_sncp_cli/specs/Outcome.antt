@@ -6,7 +6,7 @@ use Rattle.sdh_report.specs.Reports.{Report, text_of}
 use Rattle.sdh_report.specs.declared.listing.Listing.TheVariants as listing
 use Rattle.sdh_shell.specs.Calls.{asked_to_run}
 use Rattle.sdh_shell.specs.Failing.{Counts, CameToEnding}
-use Rattle.sdh_scripts.specs.Programs.{Deed, Refuses, Writes, Runs, Program}
+use Rattle.sdh_scripts.specs.Programs.{Deed, Refuses, Writes, Runs, as_script, Program}
 use Rattle.sdh_scripts.specs.Outcome as outcome
 use Rattle.sdh_sncp.specs.Fixed.{AreAlone}
 use Rattle.sdh_sncp.specs.Sharing.{AreFirstToShare}
@@ -31,11 +31,12 @@ pathing = record {
   usage = codes "usage: sdhpath run";
   asked = asked_to_run;
   endings = path_endings;
+  closing = as_script (Unit {0}) Report path_endings;
   own_plan = λ ask. None;
   Does = λ ask. Does;
   text_of = λ listed. text_of listing.Reports;
   IsRunOf = IsRunOf;
-  MaySettle = MaySettle;
+  MaySettle = λ listed. MaySettle;
 }
 
 -- what must be known of a source: its bytes, or nothing where it isn't read

@@ -24,6 +24,6 @@ pub run_of_plan : (plan : Planned) (f left : Fibres) (run text : List ℕ) (now 
 run_of_plan plan f left run text now how is text_is x = (
   Runs tt,
   refl,
-  run_outcome watching watch_account tt plan f left watched_text (λ told. refl) (λ told end came. came) run text now how is
+  run_outcome watching refl watch_account tt plan f left watched_text (λ told. refl) (λ told end came. came) run text now how is
       (text_is ∙ ap (λ e. run ++ last_line e) (sym is)) x,
 )

@@ -7,7 +7,7 @@ use Rattle.sdh_report.specs.Statuses.{number_of}
 use Rattle.sdh_owed.specs.Plans.{world_of}
 use Rattle.sdh_shell.specs.Calls.{asked_to_run}
 use Rattle.sdh_shell.specs.Endings.{statuses}
-use Rattle.sdh_scripts.specs.Programs.{Runs, Program}
+use Rattle.sdh_scripts.specs.Programs.{Runs, as_script, Program}
 use Rattle.sdh_scripts.specs.Headline.{EndsAs}
 use Rattle.sdh_watch.specs.Shows.{Watched}
 use Rattle.sdh_watch.specs.Lines.{text_of}
@@ -23,11 +23,12 @@ watching = record {
   usage = codes "usage: sdhwatch run";
   asked = asked;
   endings = statuses;
+  closing = as_script (Unit {0}) Watched statuses;
   own_plan = λ ask. None;
   Does = λ ask plan deed. deed ≡ Runs tt;
   text_of = λ listing. text_of;
   IsRunOf = IsRunOf;
-  MaySettle = MaySettle;
+  MaySettle = λ listing. MaySettle;
 }
 
 -- the number is that of a status for which `Is` holds

@@ -1,6 +1,7 @@
 //! The calls over objects in memory.
 ghost use Rattle.sdh_plant.specs.Fibres.{HasNoFibres};
 
+use sdh_aps_cli::sdhaps;
 use sdh_outside::{MemSink, MemSource};
 use sdh_plant::{FibrePlant, Plant};
 use sdh_sncp_cli::sdhpath;
@@ -15,6 +16,8 @@ pub enum Program {
     Path,
     /// Shared rings, with watches.
     Watch,
+    /// Shared rings, whose signalling is written while they run.
+    Signals,
 }
 
 /// What a call is given: its words, what its source has, and which reads and writes fail, counted from 1.
@@ -57,6 +60,7 @@ fn call_over<P: Plant>(
     let number = match program {
         Program::Path => sdhpath(alloc, &words, &mut source, &mut sink, plant),
         Program::Watch => sdhwatch(alloc, &words, &mut source, &mut sink, plant),
+        Program::Signals => sdhaps(alloc, &words, &mut source, &mut sink, plant).number(),
     };
     Ok((number, sink))
 }

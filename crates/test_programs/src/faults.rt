@@ -1,22 +1,26 @@
 //! What is outside fails in mid-stream: the failure is reported, in place of an answer to what came before it.
 
 use crate::called::{Given, Program, READ, SOUND, WRITE, ends, ends_over};
-use crate::plans::{BOTH_WAYS, BOTH_WAYS_BROKEN, TWO_SPANS, WATCHED, WATCHED_BROKEN};
+use crate::plans::{
+    BOTH_WAYS, BOTH_WAYS_BROKEN, SIGNAL_PIECES, SIGNALLED, SIGNALLED_BROKEN, SIGNALS_BROKEN,
+    TWO_SPANS, WATCHED, WATCHED_BROKEN,
+};
 use sdh_plant::{FailingPlant, PlantCall, RecordingPlant};
 use std::alloc::{AllocError, Global};
 use std::test::Fail;
 use test_texts::{SMALLEST, scripted};
 
-// A program, a plan, and the text of its run.
-const RUNS: &[(Program, &str, &str)] = &[
-    (Program::Path, TWO_SPANS, BOTH_WAYS),
-    (Program::Watch, SMALLEST, WATCHED),
+// A program, a plan, and the text of its run, as a whole and in the pieces in which it is written.
+const RUNS: &[(Program, &str, &str, &[&str])] = &[
+    (Program::Path, TWO_SPANS, BOTH_WAYS, &[BOTH_WAYS]),
+    (Program::Watch, SMALLEST, WATCHED, &[WATCHED]),
+    (Program::Signals, SMALLEST, SIGNALLED, SIGNAL_PIECES),
 ];
 
 // The plan comes in pieces, and its end in a read of its own.
 #[test]
 fn each_read_that_fails_is_told(rt: HostRuntime) -> Result<(), Fail> {
-    for (program, plan, text) in RUNS {
+    for (program, plan, text, _) in RUNS {
         let last = plan.len().div_ceil(READ) as u32 + 1;
         for number in 1..=last + 1 {
             let failing = [number];
@@ -36,16 +40,32 @@ fn each_read_that_fails_is_told(rt: HostRuntime) -> Result<(), Fail> {
     Ok(())
 }
 
-// Returns the front of a text that `writes` writes take.
-fn front(text: &str, writes: u32) -> &str {
-    let count = (writes as usize).saturating_mul(WRITE).min(text.len());
+// Returns the number of writes that take these pieces.
+fn writes_of(pieces: &[&str]) -> usize {
+    let mut writes = 0usize;
+    for piece in pieces {
+        writes = writes.saturating_add(piece.len().div_ceil(WRITE));
+    }
+    writes
+}
+
+// Returns the front of a text in pieces that `writes` writes take.
+fn front<'a>(text: &'a str, pieces: &[&str], writes: u32) -> &'a str {
+    let mut left = writes as usize;
+    let mut count = 0usize;
+    for piece in pieces {
+        let turns = piece.len().div_ceil(WRITE);
+        let taken = left.min(turns).saturating_mul(WRITE);
+        count = count.saturating_add(taken.min(piece.len()));
+        left = left.saturating_sub(turns);
+    }
     text.get(..count).unwrap_or("")
 }
 
 #[test]
 fn each_write_that_fails_is_told(rt: HostRuntime) -> Result<(), Fail> {
-    for (program, plan, text) in RUNS {
-        let last = text.len().div_ceil(WRITE) as u32;
+    for (program, plan, text, pieces) in RUNS {
+        let last = writes_of(pieces) as u32;
         for number in 1..=last + 1 {
             let failing = [number];
             let given = Given {
@@ -54,7 +74,7 @@ fn each_write_that_fails_is_told(rt: HostRuntime) -> Result<(), Fail> {
                 ..SOUND
             };
             let ending = if number <= last {
-                (4, front(text, number - 1))
+                (4, front(text, pieces, number - 1))
             } else {
                 (0, *text)
             };
@@ -66,7 +86,7 @@ fn each_write_that_fails_is_told(rt: HostRuntime) -> Result<(), Fail> {
 
 #[test]
 fn a_write_that_fails_hides_a_read_that_fails(rt: HostRuntime) -> Result<(), Fail> {
-    for (program, plan, _) in RUNS {
+    for (program, plan, _, _) in RUNS {
         let given = Given {
             document: plan,
             reads: &[1],
@@ -111,6 +131,17 @@ const WATCHES: &[Row] = &[
     (ONCE, PlantCall::Send, 1543, 0, WATCHED),
 ];
 
+// A ring of three receives 6 frames in each round but the first.
+const SIGNALS: &[Row] = &[
+    (ONCE, PlantCall::Prepare, 1, 8, BROKEN),
+    (ONCE, PlantCall::Send, 1, 8, BROKEN),
+    (ONCE, PlantCall::Send, 774, 8, SIGNALS_BROKEN),
+    (ONCE, PlantCall::Receive, 768, 8, SIGNALS_BROKEN),
+    (CUT, PlantCall::Apply, 1, 8, BROKEN),
+    (TWICE, PlantCall::Receive, 769, 8, SIGNALLED_BROKEN),
+    (ONCE, PlantCall::Send, 775, 0, SIGNALLED),
+];
+
 // Returns whether a run of a plan with the row's script ends as the row says.
 fn is_told(alloc: Global, program: Program, plan: &str, row: &Row) -> Result<bool, AllocError> {
     let (script, call, count, number, text) = *row;
@@ -147,12 +178,26 @@ fn each_call_of_watched_fibres_that_fails_is_told(rt: HostRuntime) -> Result<(),
     Ok(())
 }
 
+#[test]
+fn each_call_of_signalling_fibres_that_fails_is_told(rt: HostRuntime) -> Result<(), Fail> {
+    for row in SIGNALS {
+        let (script, _, count, _, _) = row;
+        assert!(rt;
+            is_told(rt.alloc(), Program::Signals, SMALLEST, row)?,
+            "{script} {count}"
+        );
+    }
+    Ok(())
+}
+
 // Fibres with room for a number of frames, under two settle steps.
 const ROOMS: &[(Program, &str, usize, &str)] = &[
     (Program::Path, TWO_SPANS, 1031, BROKEN),
     (Program::Path, TWO_SPANS, 1032, BOTH_WAYS_BROKEN),
     (Program::Watch, SMALLEST, 1541, BROKEN),
     (Program::Watch, SMALLEST, 1542, WATCHED_BROKEN),
+    (Program::Signals, SMALLEST, 773, SIGNALS_BROKEN),
+    (Program::Signals, SMALLEST, 774, SIGNALLED_BROKEN),
 ];
 
 #[test]

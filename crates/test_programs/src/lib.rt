@@ -1,5 +1,5 @@
-//! The calls of the programs over path rings and with watches, over objects in memory, as tests: worked rows, what is outside
-//! failing in mid-stream, and fibres of other kinds. No other crate stands on this one.
+//! The calls of the programs over path rings, with watches, and of signalling, over objects in memory, as tests: worked
+//! rows, what is outside failing in mid-stream, and fibres of other kinds. No other crate stands on this one.
 #![tactic(auto)]
 
 #[cfg(test)]

@@ -1,7 +1,10 @@
 //! Worked rows.
 
 use crate::called::{Given, Program, SOUND, ends, ends_over};
-use crate::plans::{AT_522, BOTH_WAYS, SAME_SLOT, THREE_SPANS, TWO_SPANS, UNSETTLED, WATCHED};
+use crate::plans::{
+    AT_522, BOTH_WAYS, SAME_SLOT, SIGNALLED, SIGNALS_OF_2, THREE_SPANS, TWO_SPANS, UNSETTLED,
+    WATCHED,
+};
 use sdh_plant::ToldPlant;
 use sdh_terms::Rate;
 use std::test::Fail;
@@ -110,9 +113,21 @@ done
     (Program::Watch, "rate = ", "\"settle\"", 5, "not toml\n"),
 ];
 
+const SIGNALS: &[Row] = &[
+    (Program::Signals, SMALLEST, "\"settle\"", 0, SIGNALLED),
+    (
+        Program::Signals,
+        "rate = 5",
+        "\"settle\"",
+        6,
+        "bad plan 13 at 0\n",
+    ),
+    (Program::Signals, "rate = ", "\"settle\"", 5, "not toml\n"),
+];
+
 #[test]
 fn plans_run_as_told(rt: HostRuntime) -> Result<(), Fail> {
-    for rows in [PATHS, WATCHES] {
+    for rows in [PATHS, WATCHES, SIGNALS] {
         for (program, plan, script, number, text) in rows {
             let document = scripted(rt.alloc(), plan, script)?;
             let given = Given {
@@ -128,7 +143,36 @@ fn plans_run_as_told(rt: HostRuntime) -> Result<(), Fail> {
     Ok(())
 }
 
+// Other words of the program that writes how a ring signals, and the number and the text. A settle step of the plan has
+// 129 rounds.
+const NODES: &[(&[&str], u8, &str)] = &[
+    (&["node", "2"], 0, SIGNALS_OF_2),
+    (&["node", "4"], 15, "no such node\n"),
+    (&["frames", "4", "east", "0", "1"], 15, "no such node\n"),
+    (&["frames", "2", "east", "129", "1"], 16, "no such round\n"),
+];
+
+#[test]
+fn nodes_are_asked_for(rt: HostRuntime) -> Result<(), Fail> {
+    for (words, number, text) in NODES {
+        let given = Given {
+            words,
+            document: SMALLEST,
+            ..SOUND
+        };
+        assert!(rt;
+            ends(rt.alloc(), Program::Signals, given, (*number, text))?,
+            "{words:?}"
+        );
+    }
+    Ok(())
+}
+
 const USAGES: &[(Program, &str)] = &[
+    (
+        Program::Signals,
+        "usage: sdhaps run, node ID, frames ID SIDE FIRST COUNT\n",
+    ),
     (Program::Path, "usage: sdhpath run\n"),
     (Program::Watch, "usage: sdhwatch run\n"),
 ];

@@ -38,7 +38,7 @@ returns-clause-settles g c = λ ask is honest. (
     let new = g.W.Sink.written c.call.new.sink in
     promised listening ask f left (asked (words_of c.args.words.now)) reads calls (g.R.Source.left c.args.source.now) c.call.result old new
     (λ bytes. AlwaysSettles bytes c.call.result) is
-    (λ bytes x. settles listening ask f left reads calls bytes c.call.result old new x (run_alone ask) (never_writes ask)
+    (λ bytes x. settles listening ask f left reads calls bytes c.call.result old new x refl (run_alone ask) (never_writes ask)
     (λ plan told end came. came.settles honest)) c.call.ensures.outcome)
 
 pub returns-clause-unsettled : goal.returns-clause-unsettled
@@ -52,7 +52,7 @@ returns-clause-unsettled g c = λ ask is. (
     let new = g.W.Sink.written c.call.new.sink in
     promised listening ask f left (asked (words_of c.args.words.now)) reads calls (g.R.Source.left c.args.source.now) c.call.result old new
     (λ bytes. EndsAsItRuns bytes f c.call.result) is
-    (λ bytes x plan tells h known. ends_as listening ask f left reads calls bytes c.call.result old new x (run_alone ask)
+    (λ bytes x plan tells h known. ends_as listening ask f left reads calls bytes c.call.result old new x refl (run_alone ask)
     (never_writes ask) (λ plan. Knows (world_of plan f).fibres) (λ plan. (ran_of plan f).ending)
     (λ plan told end came knows. elim (came.known knows) [ inl done ↦ inl done.end_is | inr cut ↦ inr cut.0 ])
     plan c.call.result tells refl h known) c.call.ensures.outcome)

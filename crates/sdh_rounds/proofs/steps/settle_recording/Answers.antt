@@ -31,7 +31,7 @@ note-requires g c =
     (world (g.R.RunsRounds.held c.round.new.self) (g.P.Plant.fibres c.round.new.plant)) c.rounds._turn c.rounds.calm (omega arith)
     (λ at bt agree kept. g.met.O.Recorder.same first begun at bt c.rounds._turn c.rounds.recorder c.rounds.log agree kept)
     c.rounds.invariant.observes c.in-Ok.ensures.ok in
-    (first, begun, x.0, x.1, x.2, x.3)
+    (first, begun, x.0, x.1, x.2, x.3, x.4)
 
 pub rounds-preserved : goal.rounds-preserved
 rounds-preserved g c =
@@ -50,7 +50,7 @@ rounds-preserved g c =
     (world now (g.P.Plant.fibres c.rounds.plant)) (world after (g.P.Plant.fibres c.round.new.plant)) k c.rounds.calm
     c.calm_rounds-calm.result (omega arith)
     (λ at bt agree kept. g.met.O.Recorder.same first begun at bt k c.rounds.recorder c.rounds.log agree kept)
-    (λ at ran kept. c.in_ok-note.ensures.goes first begun at k ran kept) c.rounds.invariant.observes c.in-Ok.ensures.ok counted in
+    (λ at ran same kept. c.in_ok-note.ensures.goes first begun at k ran same kept) c.rounds.invariant.observes c.in-Ok.ensures.ok counted in
     let inv = c.rounds.invariant in
     record {
       observes =
@@ -103,7 +103,7 @@ returns-in_err-note-clause-stopped g c =
     looked_more st (λ at j. g.O.Recorder.Records first begun at j c.rounds.recorder c.rounds.log) stops _
     (world now (g.P.Plant.fibres c.rounds.plant)) (world after (g.P.Plant.fibres c.round.new.plant)) k c.rounds.calm calm (omega arith)
     (λ at bt agree kept. g.met.O.Recorder.same first begun at bt k c.rounds.recorder c.rounds.log agree kept)
-    (λ at ran kept. c.in_err-note.ensures.stops first begun at k ran kept) inv.observes c.in-Ok.ensures.ok refl in
+    (λ at ran same kept. c.in_err-note.ensures.stops first begun at k ran same kept) inv.observes c.in-Ok.ensures.ok refl in
     let stopped : IsStopped st g.P.Plant.exact stops (world (g.R.RunsRounds.held c.args.ring.now) (g.P.Plant.fibres c.args.plant.now))
     c.args.limit (world after (g.P.Plant.fibres c.round.new.plant)) (g.P.Plant.faults c.args.plant.now)
     (g.P.Plant.faults c.round.new.plant) = record {
@@ -131,7 +131,7 @@ returns-then-is_over-clause-heard g c =
     (world now (g.P.Plant.fibres c.rounds.plant)) (world after (g.P.Plant.fibres c.round.new.plant)) k c.rounds.calm
     c.calm_rounds-calm.result (omega arith)
     (λ at bt agree kept. g.met.O.Recorder.same first begun at bt k c.rounds.recorder c.rounds.log agree kept)
-    (λ at ran kept. c.in_ok-note.ensures.goes first begun at k ran kept) c.rounds.invariant.observes c.in-Ok.ensures.ok counted in
+    (λ at ran same kept. c.in_ok-note.ensures.goes first begun at k ran same kept) c.rounds.invariant.observes c.in-Ok.ensures.ok counted in
     hears st (λ at j. g.O.Recorder.Records first begun at j c.note.new.self c.note.new.log) _ _ (k + 1) c.calm_rounds-calm.result looked
     c.args.limit (omega arith) (over_of c.stations-in-rounds.ensures (c.is_over.ensures.0 c.if-is_over.true))
 
@@ -163,3 +163,16 @@ returns-clause-begun g c = record {
       c.rounds.invariant.observes c.args.limit (omega arith);
   next = inl refl;
 }
+
+-- a step that ended, or that a fault broke off, wasn't unsettled
+pub returns-in_default-clause-unsettled : goal.returns-in_default-clause-unsettled
+returns-in_default-clause-unsettled g c e = absurd (grind arith)
+
+pub returns-then-is_over-clause-unsettled : goal.returns-then-is_over-clause-unsettled
+returns-then-is_over-clause-unsettled g c e = absurd (grind arith)
+
+pub returns-clause-unsettled : goal.returns-clause-unsettled
+returns-clause-unsettled g c e =
+    ran_some g.R.Node.Station.kind
+    (λ at k. g.O.Recorder.Records c.args.recorder.now c.args.log.now at k c.rounds.recorder c.rounds.log) _ _ c.rounds._turn c.rounds.calm
+    c.rounds.invariant.observes c.args.limit (omega arith)

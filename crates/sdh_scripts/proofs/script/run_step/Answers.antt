@@ -5,7 +5,7 @@ use Rattle.sdh_report.specs.declared.status.Status.TheVariants as status
 use Rattle.sdh_scripts.specs.Texts.{room_for, Went, StopsAt}
 use Rattle.sdh_scripts.specs.Tellers.{StopsBy, WroteBegun}
 use Rattle.sdh_scripts.specs.declared.teller.StepError.{StepError}
-use Rattle.sdh_scripts.proofs.Texts.{room_now, room_next, room_line, settled_went, changed_went, broken_stops}
+use Rattle.sdh_scripts.proofs.Texts.{room_now, room_next, room_line, settled_went, changed_went, unsettled_stops, broken_stops}
 use Rattle.sdh_scripts.proofs.script.run_step.Goals as goal
 
 pub settle-requires-clause-room : goal.settle-requires-clause-room
@@ -44,6 +44,25 @@ returns-in-Ok-clause-room g c =
     let few = g.met.R.Teller.few c.args.number later c.args.runner.now (means c.args.plant.now) may in
     c.settle.ensures.room (room_for each (c.args.number + 1))
     (subst (λ (k : ℕ). g.O.Output.Takes k c.args.output.now) (sym (room_next each c.args.number few)) c.requires.room)
+
+pub returns-in-Err-Unsettled-clause-stops : goal.returns-in-Err-Unsettled-clause-stops
+returns-in-Err-Unsettled-clause-stops g c other =
+    let means = g.P.Plant.fibres in
+    let t = g.R.Teller in
+    let w = world (t.ring c.args.runner.now) (means c.args.plant.now) in
+    let left = world (t.ring c.settle.new.self) (means c.settle.new.plant) in
+    let old = g.O.Output.written c.args.output.now in
+    let new = g.O.Output.written c.settle.new.output in
+    let text_of = t.text_of c.args.runner.now in
+    let begun_of = t.begun_of c.args.runner.now in
+    let limit = c.args.limit in
+    let number = c.args.number in
+    let is = c.in-Err-Unsettled.field-0-is in
+    subst (λ (s : Step). StopsAt t.walk limit begun_of number s w old new (status.Unsettled (number + 1)) left) (sym c.in-Settle.is)
+    (unsettled_stops t.walk limit text_of begun_of number w left old new
+    (subst (λ (why : StepError). StopsBy t.walk limit w why left) is c.in-Err-Unsettled.ensures.err)
+    (subst (λ (why : StepError). WroteBegun t.walk limit (number + 1) text_of begun_of w why left old new) is
+    c.in-Err-Unsettled.ensures.begun))
 
 pub returns-in-Err-PlantFault-clause-stops : goal.returns-in-Err-PlantFault-clause-stops
 returns-in-Err-PlantFault-clause-stops g c other =

@@ -54,7 +54,7 @@ returns-clause-owed g c = λ run honest. (
     (λ bytes x. (
       c.call.result,
       c.number.ensures,
-      shows watching tt f left reads calls bytes c.call.result old new x ShowsClean run_alone
+      shows watching tt f left reads calls bytes c.call.result old new x refl ShowsClean run_alone
           (λ plan told end came. came.owed honest),
     )) c.call.ensures.outcome)
 
@@ -72,7 +72,7 @@ returns-clause-settles g c = λ run honest. (
     (λ bytes x. (
       c.call.result,
       c.number.ensures,
-      settles watching tt f left reads calls bytes c.call.result old new x run_alone never_writes
+      settles watching tt f left reads calls bytes c.call.result old new x refl run_alone never_writes
           (λ plan told end came. came.settles honest),
     )) c.call.ensures.outcome)
 
@@ -90,7 +90,7 @@ returns-clause-unsettled g c = λ run. (
     (λ bytes x. (
       c.call.result,
       c.number.ensures,
-      λ plan tells h known. ends_as watching tt f left reads calls bytes c.call.result old new x run_alone never_writes
+      λ plan tells h known. ends_as watching tt f left reads calls bytes c.call.result old new x refl run_alone never_writes
           (λ plan. Knows (world_of plan f).fibres) (λ plan. (ran_of plan f).ending)
           (λ plan told end came knows. elim (came.known knows) [ inl done ↦ inl done.end_is | inr cut ↦ inr cut.0 ])
           plan c.call.result tells refl h known,

@@ -7,7 +7,7 @@ use Rattle.sdh_aps_cli.proofs.Rounds.{same_size, has_run, recorded_more, cut_mor
 use Rattle.sdh_aps_cli.proofs.recording.SignalRecorderRecorderRing.note.Goals as goal
 
 pub look-requires-clause-many : goal.look-requires-clause-many
-look-requires-clause-many g c = let r = c.requires in r.5.1.ready.many ∙ sym (same_size r.2 r.3 c.args.ring.now r.4)
+look-requires-clause-many g c = let r = c.requires in r.6.1.ready.many ∙ sym (same_size r.2 r.3 c.args.ring.now r.4)
 
 pub look-requires-clause-ran : goal.look-requires-clause-ran
 look-requires-clause-ran g c = let r = c.requires in has_run r.2 r.3 c.args.ring.now r.4
@@ -16,10 +16,10 @@ pub look-requires-clause-room : goal.look-requires-clause-room
 look-requires-clause-room g c =
     let r = c.requires in
     let size = same_size r.2 r.3 c.args.ring.now r.4 in
-    omega (arith, size, r.5.1.ready.room)
+    omega (arith, size, r.6.1.ready.room)
 
 pub returns-in-Ok-clause-goes : goal.returns-in-Ok-clause-goes
-returns-in-Ok-clause-goes g c first begun at k ran kept =
+returns-in-Ok-clause-goes g c first begun at k ran same kept =
     let ring = c.args.ring.now in
     let old = g.W.Sink.written begun in
     let mid = g.W.Sink.written c.args.log.now in
@@ -34,7 +34,7 @@ returns-in-Ok-clause-goes g c first begun at k ran kept =
     )
 
 pub returns-in-Err-clause-stops : goal.returns-in-Err-clause-stops
-returns-in-Err-clause-stops g c first begun at k ran kept =
+returns-in-Err-clause-stops g c first begun at k ran same kept =
     let ring = c.args.ring.now in
     let old = g.W.Sink.written begun in
     let mid = g.W.Sink.written c.args.log.now in

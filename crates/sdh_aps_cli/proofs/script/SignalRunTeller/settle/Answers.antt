@@ -1,4 +1,4 @@
-use Rattle.std.proofs.Common.{◌≡◌, ℕ, ◌+◌, ◌-◌, length, Option, List, refl, ap, sym, subst, ◌∙◌, arith, le_refl}
+use Rattle.std.proofs.Common.{◌≡◌, ◌+◌, ◌-◌, Err, length, refl, ap, sym, subst, ◌∙◌, arith, le_refl}
 use Rattle.std.specs.Io.KnownBytes.{Appends}
 use Rattle.sdh_outside.specs.Writing.{AppendsFewer}
 use Rattle.sdh_circuits.specs.declared.PortId.{PortId}
@@ -6,11 +6,11 @@ use Rattle.sdh_world.specs.Held.{HeldRing}
 use Rattle.sdh_world.specs.Rounds.{World, world}
 use Rattle.sdh_owed.proofs.Standing.{long_step}
 use Rattle.sdh_owed.proofs.Steps.{settled_held, settled_whole, next_by}
-use Rattle.sdh_aps_cli.specs.Recording.{IsRecorded, IsCut, NoneFailed, OneFailed}
+use Rattle.sdh_aps_cli.specs.Recording.{IsCut}
 use Rattle.sdh_aps_cli.proofs.Rounds.{recorded_none}
 use Rattle.sdh_aps_cli.specs.Signalled.{changes_in}
-use Rattle.sdh_aps_cli.specs.Listing.{changes_text}
-use Rattle.sdh_aps_cli.proofs.Steps.{on_err_is, on_ok_is, ids_at, begun_some, cut_some, wrote_step, cut_line, ready_as}
+use Rattle.sdh_aps_cli.specs.Listing.{changes_text, begun_text, ended_text}
+use Rattle.sdh_aps_cli.proofs.Steps.{on_err_is, on_ok_is, ids_at, begun_some, unsettled_some, cut_some, wrote_step, cut_line, ready_as}
 use Rattle.sdh_aps_cli.proofs.script.SignalRunTeller.settle.Goals as goal
 
 pub begin-requires : goal.begin-requires
@@ -34,7 +34,7 @@ returns-in_default-clause-begun g c =
     let left = world c.settle_recording.new.self (means c.settle_recording.new.plant) in
     let old = g.W.Sink.written c.args.output.now in
     let new = g.W.Sink.written c.settle_recording.new.log in
-    cut_some w left c.args.limit (c.args.number + 1) listing old new _ c.in_default.ensures.stopped.ran
+    cut_some w left c.args.limit (c.args.number + 1) (ended_text listing) (begun_text listing) old new _ c.in_default.ensures.stopped.ran
     (λ at k x. subst (λ l. IsCut l at k old new) c.begin.ensures.listing x.0)
 
 pub returns-in-Err-Unsettled-clause-begun : goal.returns-in-Err-Unsettled-clause-begun
@@ -45,8 +45,8 @@ returns-in-Err-Unsettled-clause-begun g c =
     let left = world c.settle_recording.new.self (means c.settle_recording.new.plant) in
     let old = g.W.Sink.written c.args.output.now in
     let new = g.W.Sink.written c.settle_recording.new.log in
-    begun_some w left c.args.limit (c.args.number + 1) listing old new _
-    (on_err_is c.in-Ok.ended c.in-Err-Unsettled.field-0 c.in-Err-Unsettled.is c.in-Ok.ensures.begun)
+    unsettled_some w left c.args.limit (c.args.number + 1) (ended_text listing) (begun_text listing) old new _
+    (c.in-Ok.ensures.unsettled (c.in-Err-Unsettled.is ∙ ap Err c.in-Err-Unsettled.field-0-is))
     (λ at k x. subst (λ l. Appends old new (changes_text l (changes_in k at))) c.begin.ensures.listing x.1.written)
 
 pub returns-in-Err-PlantFault-clause-begun : goal.returns-in-Err-PlantFault-clause-begun
@@ -57,7 +57,7 @@ returns-in-Err-PlantFault-clause-begun g c =
     let left = world c.settle_recording.new.self (means c.settle_recording.new.plant) in
     let old = g.W.Sink.written c.args.output.now in
     let new = g.W.Sink.written c.settle_recording.new.log in
-    begun_some w left c.args.limit (c.args.number + 1) listing old new _
+    begun_some w left c.args.limit (c.args.number + 1) (ended_text listing) (begun_text listing) old new _
     (on_err_is c.in-Ok.ended c.in-Err-PlantFault.field-0 c.in-Err-PlantFault.is c.in-Ok.ensures.begun)
     (λ at k x. subst (λ l. Appends old new (changes_text l (changes_in k at))) c.begin.ensures.listing x.1.written)
 

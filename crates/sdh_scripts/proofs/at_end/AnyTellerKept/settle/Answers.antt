@@ -13,9 +13,13 @@ pub returns-in-Err-Unsettled-clause-begun : goal.returns-in-Err-Unsettled-clause
 returns-in-Err-Unsettled-clause-begun g c =
     let r = g.R.Runner in
     let w = world (r.ring c.args.self.now) (g.P.Plant.fibres c.args.plant.now) in
-    let left = world (r.ring c.settle.new.self) (g.P.Plant.fibres c.settle.new.plant) in (
+    let left = world (r.ring c.settle.new.self) (g.P.Plant.fibres c.settle.new.plant) in
+    let silent =
+    silent_unsettled r.walk c.args.limit (c.args.number + 1) w left
+    (subst (λ (why : SettleError). EndsBy r.walk c.args.limit w why left) c.in-Err-Unsettled.field-0-is c.in-Err-Unsettled.ensures.err) in (
       [],
-      silent_unsettled r.walk c.args.limit (c.args.number + 1) w left (subst (λ (why : SettleError). EndsBy r.walk c.args.limit w why left) c.in-Err-Unsettled.field-0-is c.in-Err-Unsettled.ensures.err),
+      silent.0,
+      silent.1,
       ap (λ (t : Written). t.bytes) c.in-Err-Unsettled.ensures.same ∙ sym (append-nil c.args.output.now.text.bytes),
     )
 

@@ -1,0 +1,66 @@
+//! A ring that a script is run over, with the frames of one fibre written.
+ghost use Rattle.std.specs.Prelude.{◌<◌, length};
+ghost use Rattle.sdh_node.specs.Node.{Node as AddDrop};
+ghost use Rattle.sdh_owed.specs.Running.{MayRun as MayRunRing};
+ghost use Rattle.sdh_aps_cli.specs.Frames.{frames_bytes};
+ghost use Rattle.sdh_aps_cli.specs.Signalled.{Signalled};
+ghost use Rattle.sdh_aps_cli.specs.Scripts.{signalling_walk};
+
+use crate::frames::FrameRecorder;
+use sdh_outside::Sink;
+use sdh_plan::Step;
+use sdh_plant::Plant;
+use sdh_ring::{PlantFault, Ring, SettleError, change};
+use sdh_scripts::{StepError, Teller};
+
+/// A ring, and the recorder that writes its frames.
+#[derive(Drop)]
+pub struct FrameRun {
+    pub ring: Ring,
+    pub recorder: FrameRecorder,
+}
+
+impl<W: Sink> Teller<W> for FrameRun {
+    ghost Node = { AddDrop };
+
+    ghost Told = { Signalled };
+
+    ghost walk = { signalling_walk };
+
+    ghost ring = { λ r. r.ring };
+
+    ghost text_of = { λ r told. frames_bytes r.recorder.ask told.sent };
+
+    ghost begun_of = { λ r told. frames_bytes r.recorder.ask told.sent };
+
+    ghost room = { λ r. 0 };
+
+    ghost MayRun = { λ number steps r f. MayRunRing 65536 number steps r.ring f × (r.recorder.ask.at.0 < length r.ring.ids) };
+
+    fn change<P: Plant>(&mut self, plant: &mut P, step: Step) -> Result<(), PlantFault> {
+        change(&mut self.ring, plant, step)?;
+        Ok(())
+    }
+
+    fn settle<P: Plant>(
+        &mut self,
+        plant: &mut P,
+        limit: u32,
+        _number: u32,
+        output: &mut W,
+    ) -> Result<(), StepError> {
+        let Ok(ended) = self
+            .ring
+            .settle_recording(plant, limit, &mut self.recorder, output)
+        else {
+            return Err(StepError::WriteFault);
+        };
+        match ended {
+            Ok(()) => Ok(()),
+            Err(SettleError::Unsettled) => Err(StepError::Unsettled),
+            Err(SettleError::PlantFault) => Err(StepError::PlantFault),
+        }
+    }
+
+    ghost few = { λ number later r f may. may.0.steps_fit.0.few_settles };
+}
