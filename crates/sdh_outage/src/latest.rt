@@ -86,14 +86,20 @@ impl Latest {
     pub(crate) fn is_ais(&self) -> bool
         ensures { result ≡ true → came self.now ≡ Delivered.Ais }
     {
-        self.port.is_none() && self.plain.is_ais()
+        match &self.port {
+            Some(_) => false,
+            None => self.plain.is_ais(),
+        }
     }
 
     /// Returns whether the bytes of what came are kept.
     pub(crate) fn is_plain(&self) -> bool
         ensures { result ≡ true → self.now.port ≡ None }
     {
-        self.port.is_none()
+        match &self.port {
+            Some(_) => false,
+            None => true,
+        }
     }
 
     /// Keeps the bytes of what came also where its number is known. The scratch has the chunks of a port's stream from

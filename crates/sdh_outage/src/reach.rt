@@ -217,14 +217,15 @@ impl Reach {
         }
     }
 
-    /// Makes chunks before chunk `end` until one is this one, and returns whether there was one.
+    /// Drops all chunks that are kept, makes those before chunk `end` until one is this one, and returns whether there was
+    /// one.
     pub(crate) fn seek(&mut self, end: u32, out: &mut Cells, chunk: &[u8]) -> bool
-        requires none { self.old.first ≡ self.old.made }
         requires order { self.old.made ≤ end }
         ensures found { result ≡ true → (self.old.made < self.new.made) × (self.new.made ≤ end) × (chunk.now ≡ chunk_of self.old.port (self.new.made - 1)) }
         ensures port { self.new.port ≡ self.old.port }
         ensures most { self.new.most ≡ self.old.most }
     {
+        self.clear();
         for _ in self.made..end {
             self.make(out);
             if out.as_slice() == chunk {
