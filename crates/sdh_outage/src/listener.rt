@@ -62,7 +62,8 @@ impl Listener {
     }
 
     /// Returns the kind of a round in which this was delivered, by the far customer's bytes that are near; None where
-    /// it is neither AIS, nor ones, nor any of these bytes. It is kept as what was delivered last; the round is counted by `hear`.
+    /// it is neither AIS, nor ones, nor any of these bytes. It is kept as what was delivered last; the round is counted
+    /// by `hear`.
     pub fn own_kind(
         &mut self,
         far: &mut Window,
