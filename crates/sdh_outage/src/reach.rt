@@ -217,8 +217,8 @@ impl Reach {
         }
     }
 
-    /// Drops all chunks that are kept, makes those before chunk `end` until one is this one, and returns whether there was
-    /// one.
+    /// Drops all chunks that are kept, makes those before chunk `end` until one is this one, and returns whether there
+    /// was one.
     pub(crate) fn seek(&mut self, end: u32, out: &mut Cells, chunk: &[u8]) -> bool
         requires order { self.old.made ≤ end }
         ensures found { result ≡ true → (self.old.made < self.new.made) × (self.new.made ≤ end) × (chunk.now ≡ chunk_of self.old.port (self.new.made - 1)) }

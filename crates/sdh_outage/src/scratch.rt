@@ -141,8 +141,8 @@ impl Scratch {
         self.chunk.as_slice() == chunk
     }
 
-    /// Makes the chunks of a stream from chunk `from` up to chunk `end`, until one is this one, and returns whether there
-    /// was one. None is kept.
+    /// Makes the chunks of a stream from chunk `from` up to chunk `end`, until one is this one, and returns whether
+    /// there was one. None is kept.
     pub(crate) fn seek(&mut self, next: &mut Reach, from: u32, end: u32, chunk: &[u8]) -> bool
         requires later { next.old.made ≤ from }
         requires order { from ≤ end }
