@@ -1,10 +1,10 @@
 -- The bytes that are near, round after round.
-use Rattle.std.proofs.Common.{◌≡◌, ℕ, ◌+◌, ◌-◌, ◌*◌, ◌≤◌, true, false, List, [], ◌++◌, length, drop, sym, ap, ap₂, subst, ◌∙◌, arith}
+use Rattle.std.proofs.Common.{◌≡◌, ℕ, ◌+◌, ◌-◌, ◌*◌, ◌<◌, ◌≤◌, true, false, List, [], ◌++◌, length, take, drop, refl, sym, ap, ap₂, subst, ◌∙◌, arith}
 use Rattle.std.specs.Prelude.{Result, Ok, is_ok, if◌then◌else◌}
-use Rattle.std.proofs.Math.Seq.{drop-append_seam}
+use Rattle.std.proofs.Math.Seq.{take-append_seam, drop-append_seam}
 use Rattle.sdh_basics.proofs.CellsLaws.{cells-zero}
 use Rattle.sdh_payload.specs.declared.delivered.Delivered.{Delivered}
-use Rattle.sdh_payload.specs.declared.delivered.Delivered.TheVariants.{Chunk}
+use Rattle.sdh_payload.specs.declared.delivered.Delivered.TheVariants.{Ais, Chunk}
 use Rattle.sdh_payload.specs.Customer.{Customer}
 use Rattle.sdh_payload.specs.Clock.{waiting}
 use Rattle.sdh_payload.specs.Feed.{Fed, new_feed, next_feed}
@@ -167,6 +167,35 @@ next_follows port round number chunk after before e =
     ap (λ l. last ++ l) (e ∙ ap (λ p. stream_from port p 2349) next) ∙ sym (stream_from-append port (2349 * number) 2349 2349)
     ∙ ap (stream_from port (2349 * number)) count in
     follows_near port round number (number + 2) (Chunk last) chunk after (omega arith) before (0, occurs_whole (last ++ chunk) others both)
+
+-- a chunk of the stream after AIS
+pub later_follows : (port : Customer) (round number : ℕ) (chunk : List ℕ) → round - 71 ≤ number → number + 1 ≤ round - 71 + 78
+    → chunk ≡ chunk_of port number
+    → (is_part chunk (near port round) ≡ true) × (jumps (near port round) Ais chunk ≡ false)
+later_follows port round number chunk after before e =
+    let others = stream_from port (2349 * number) (2349 * (number + 1 - number)) in
+    let count : 2349 ≡ 2349 * (number + 1 - number) = omega arith in
+    follows_near port round number (number + 1) Ais chunk after (omega arith) before
+    (0, occurs_whole chunk others (e ∙ ap (stream_from port (2349 * number)) count))
+
+-- the bytes that are near are chunks of the stream
+pub near_stream : (port : Customer) (round first : ℕ) → first ≡ round - 71 → near port round ≡ stream_from port (2349 * first) (2349 * 78)
+near_stream port round first begins = sym (near_is port round first (stream_from port (2349 * first) (2349 * 78)) begins refl)
+
+-- one of them
+pub part_of : (port : Customer) (first number : ℕ) → first ≤ number → number - first < 78
+    → take 2349 (drop (2349 * (number - first)) (stream_from port (2349 * first) (2349 * 78))) ≡ chunk_of port number
+part_of port first number after before =
+    let s = 2349 * first in
+    let a = 2349 * (number - first) in
+    let b = 2349 * 78 - (a + 2349) in
+    let whole : 2349 * 78 ≡ a + (2349 + b) = omega arith in
+    let begins : s + a ≡ 2349 * number = omega arith in
+    let mine = stream_from port (s + a) 2349 in
+    let rest = stream_from port (s + a + 2349) b in
+    ap (λ n. take 2349 (drop a (stream_from port s n))) whole ∙ ap (take 2349) (drop-stream port s a (2349 + b) ∙ stream_from-append port (s + a) 2349 b)
+    ∙ ap (λ n. take n (mine ++ rest)) (sym (length-stream_from port (s + a) 2349)) ∙ take-append_seam mine rest
+    ∙ ap (λ p. stream_from port p 2349) begins
 
 -- what holds where a call that can fail didn't
 pub when_ok : {T E X : Type 0} (r : Result T E) (u : T) (a b : X) → r ≡ Ok u → (if is_ok r then a else b) ≡ a

@@ -72,6 +72,13 @@ impl Last {
         self.is_chunk = true;
     }
 
+    /// Returns whether it is AIS.
+    pub(crate) fn is_ais(&self) -> bool
+        ensures { result ≡ true → self.now ≡ Delivered.Ais }
+    {
+        !self.is_chunk
+    }
+
     /// Returns how many bytes a chunk has.
     pub(crate) fn len(&self) -> usize
         ensures { result ≤ 2352 }

@@ -1,11 +1,12 @@
 //! What came to a port in the round before.
-ghost use Rattle.std.specs.Prelude.{◌≡◌, ◌+◌, ◌^◌, ◌<◌, ◌≤◌, None, Some, true, IfOk, length};
+ghost use Rattle.std.specs.Prelude.{◌≡◌, ◌+◌, ◌*◌, ◌^◌, ◌<◌, ◌≤◌, None, Some, true, IfOk, length};
 ghost use Rattle.sdh_payload.specs.declared.delivered.Delivered.{Delivered};
-ghost use Rattle.sdh_payload.specs.Stream.{chunk_of};
+ghost use Rattle.sdh_payload.specs.Stream.{stream_from, chunk_of};
 ghost use Rattle.sdh_outage.specs.Latest.{came};
 
 use crate::last::Last;
-use crate::scratch::Scratch;
+use crate::reach::CHUNK;
+use crate::scratch::{CHUNKS, Scratch};
 use sdh_payload::{Delivered, Port};
 use std::alloc::{AllocError, Global};
 
@@ -81,15 +82,42 @@ impl Latest {
         self.number += 1;
     }
 
-    /// Keeps the bytes of what came also where its number is known.
-    pub(crate) fn spell(&mut self, scratch: &mut Scratch)
-        ensures same { self.new.plain ≡ came self.old }
-        ensures plain { self.new.port ≡ None }
+    /// Returns whether AIS came.
+    pub(crate) fn is_ais(&self) -> bool
+        ensures { result ≡ true → came self.now ≡ Delivered.Ais }
     {
-        let Some(port) = &self.port else {
+        match &self.port {
+            Some(_) => false,
+            None => self.plain.is_ais(),
+        }
+    }
+
+    /// Returns whether the bytes of what came are kept.
+    pub(crate) fn is_plain(&self) -> bool
+        ensures { result ≡ true → self.now.port ≡ None }
+    {
+        match &self.port {
+            Some(_) => false,
+            None => true,
+        }
+    }
+
+    /// Keeps the bytes of what came also where its number is known. The scratch has the chunks of a port's stream from
+    /// chunk `first` on, among which it mostly is.
+    pub(crate) fn spell(&mut self, scratch: &mut Scratch, port: &Port, first: u32)
+        requires { scratch.old ≡ stream_from port.now (2349 * first) (2349 * 78) }
+        ensures plain { self.new.plain ≡ came self.old }
+        ensures scratch { scratch.new ≡ scratch.old }
+    {
+        let Some(own) = &self.port else {
             return;
         };
-        self.plain.put_chunk(scratch.chunk(port, self.number));
-        self.port = None;
+        let number = self.number;
+        if first <= number && number - first < CHUNKS && are_same(own, port) {
+            self.plain
+                .put_chunk(scratch.part(CHUNK * (number - first) as usize));
+        } else {
+            self.plain.put_chunk(scratch.chunk(own, number));
+        }
     }
 }

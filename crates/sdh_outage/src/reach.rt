@@ -205,8 +205,8 @@ impl Reach {
         self.first = 0;
     }
 
-    // Drops all chunks that are kept, and makes those before this one, so that it is next.
-    fn pass_to(&mut self, from: u32)
+    /// Drops all chunks that are kept, and makes those before this one, so that it is next.
+    pub(crate) fn pass_to(&mut self, from: u32)
         requires later { self.old.made ≤ from }
         requires few { from + 1 < 2 ^ 32 }
         ensures { self.new ≡ record self.old { first = from; made = from } }
@@ -215,6 +215,24 @@ impl Reach {
         for _ in self.made..from {
             self.pass();
         }
+    }
+
+    /// Drops all chunks that are kept, makes those before chunk `end` until one is this one, and returns whether there
+    /// was one.
+    pub(crate) fn seek(&mut self, end: u32, out: &mut Cells, chunk: &[u8]) -> bool
+        requires order { self.old.made ≤ end }
+        ensures found { result ≡ true → (self.old.made < self.new.made) × (self.new.made ≤ end) × (chunk.now ≡ chunk_of self.old.port (self.new.made - 1)) }
+        ensures port { self.new.port ≡ self.old.port }
+        ensures most { self.new.most ≡ self.old.most }
+    {
+        self.clear();
+        for _ in self.made..end {
+            self.make(out);
+            if out.as_slice() == chunk {
+                return true;
+            }
+        }
+        false
     }
 
     // Drops the chunks before this one.

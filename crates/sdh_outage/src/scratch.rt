@@ -1,5 +1,5 @@
 //! Room for the bytes of one customer that can be on their way.
-ghost use Rattle.std.specs.Prelude.{◌≡◌, ◌+◌, ◌-◌, ◌*◌, ◌^◌, ◌<◌, ◌≤◌, [], IfOk, true, length, vec_len, vec_capacity};
+ghost use Rattle.std.specs.Prelude.{◌≡◌, ◌+◌, ◌-◌, ◌*◌, ◌^◌, ◌<◌, ◌≤◌, [], IfOk, true, take, drop, length, vec_len, vec_capacity};
 ghost use Rattle.sdh_payload.specs.Stream.{stream_from, chunk_of};
 ghost use Rattle.sdh_outage.specs.Near.{near};
 ghost use Rattle.sdh_outage.specs.Kept.{IsReach};
@@ -78,21 +78,46 @@ impl Scratch {
         Ok(Scratch { chunk, bytes })
     }
 
+    /// Makes the bytes of a port that are near in a round.
+    pub(crate) fn fill(&mut self, port: &Port, round: u32)
+        requires { round + 88 ≤ 2 ^ 32 }
+        ensures { self.new ≡ near port.now round }
+    {
+        let mut feed = feed_before(port, &mut self.chunk, round.saturating_sub(BEHIND));
+        self.bytes.clear();
+        put_near(&mut feed, &mut self.chunk, &mut self.bytes);
+    }
+
+    /// Returns the bytes that were made.
+    pub(crate) fn bytes(&self) -> &[u8]
+        ensures { result.now ≡ self.now }
+    {
+        &self.bytes
+    }
+
+    /// Returns the bytes of a chunk from a place on.
+    pub(crate) fn part(&self, at: usize) -> &[u8]
+        requires { at + 2349 ≤ length self.now }
+        ensures bytes { result.now ≡ take 2349 (drop at self.now) }
+        ensures few { length result.now ≤ 2352 }
+    {
+        &self.bytes[at..at + CHUNK]
+    }
+
     /// Returns the bytes of a port that are near in a round.
     pub(crate) fn near(&mut self, port: &Port, round: u32) -> &[u8]
         requires { round + 88 ≤ 2 ^ 32 }
         ensures { result.now ≡ near port.now round }
     {
-        let mut feed = feed_before(port, &mut self.chunk, round.saturating_sub(BEHIND));
-        self.bytes.clear();
-        put_near(&mut feed, &mut self.chunk, &mut self.bytes);
-        &self.bytes
+        self.fill(port, round);
+        self.bytes()
     }
 
     /// Returns a chunk of a port's stream.
     pub(crate) fn chunk(&mut self, port: &Port, number: u32) -> &[u8]
         ensures bytes { result.now ≡ chunk_of port.now number }
         ensures few { length result.now ≤ 2352 }
+        ensures same { self.new ≡ self.old }
     {
         let mut feed = feed_before(port, &mut self.chunk, number);
         feed.next(&mut self.chunk);
@@ -114,5 +139,19 @@ impl Scratch {
         }
         next.make(&mut self.chunk);
         self.chunk.as_slice() == chunk
+    }
+
+    /// Makes the chunks of a stream from chunk `from` up to chunk `end`, until one is this one, and returns whether
+    /// there was one. None is kept.
+    pub(crate) fn seek(&mut self, next: &mut Reach, from: u32, end: u32, chunk: &[u8]) -> bool
+        requires later { next.old.made ≤ from }
+        requires order { from ≤ end }
+        requires few { end + 1 < 2 ^ 32 }
+        ensures found { result ≡ true → (from < next.new.made) × (next.new.made ≤ end) × (chunk.now ≡ chunk_of next.old.port (next.new.made - 1)) }
+        ensures port { next.new.port ≡ next.old.port }
+        ensures most { next.new.most ≡ next.old.most }
+    {
+        next.pass_to(from);
+        next.seek(end, &mut self.chunk, chunk)
     }
 }

@@ -111,15 +111,13 @@ impl Window {
     }
 
     // Returns what a round is that brings this chunk, by all bytes that are near.
-    fn looked_up(&mut self, scratch: &mut Scratch, last: &mut Last, chunk: &[u8]) -> Option<Kind>
-        requires few { self.old.round + 88 ≤ 2 ^ 32 }
+    fn looked_up(&mut self, others: &[u8], last: &mut Last, chunk: &[u8]) -> Option<Kind>
+        requires others { others.now ≡ near self.old.port self.old.round }
         requires length { length chunk.now ≤ 2352 }
         requires some { are_ones chunk.now ≡ false }
         ensures kind { result ≡ own_kind (near self.old.port self.old.round) last.old (Delivered.Chunk chunk.now) }
         ensures same { self.new ≡ self.old }
-        ensures last { last.new ≡ last.old }
     {
-        let others = scratch.near(&self.port, self.round);
         let Some(index) = memmem::find(others, chunk) else {
             return kind_of_pieces(chunk, others);
         };
@@ -132,19 +130,17 @@ impl Window {
         }
     }
 
-    // Returns what a round is that brings this chunk, which isn't ones.
-    fn sought(&mut self, scratch: &mut Scratch, last: &mut Last, chunk: &[u8]) -> Option<Kind>
+    // Returns what a round is that brings this chunk, by all bytes that are near, which are made.
+    fn sought(&mut self, scratch: &mut Scratch, last: &mut Latest, chunk: &[u8]) -> Option<Kind>
         requires few { self.old.round + 88 ≤ 2 ^ 32 }
         requires length { length chunk.now ≤ 2352 }
         requires some { are_ones chunk.now ≡ false }
-        ensures kind { result ≡ own_kind (near self.old.port self.old.round) last.old (Delivered.Chunk chunk.now) }
+        ensures kind { result ≡ own_kind (near self.old.port self.old.round) (came last.old) (Delivered.Chunk chunk.now) }
         ensures same { self.new ≡ self.old }
-        ensures last { last.new ≡ last.old }
     {
-        if self.comes_next(last, chunk) {
-            return Some(Kind::InOrder);
-        }
-        self.looked_up(scratch, last, chunk)
+        scratch.fill(&self.port, self.round);
+        last.spell(scratch, &self.port, self.round.saturating_sub(BEHIND));
+        self.looked_up(scratch.bytes(), &mut last.plain, chunk)
     }
 
     // Returns whether a chunk is the stream's chunk after the last one, where that is known by its number. Then it is
@@ -169,6 +165,38 @@ impl Window {
             self.at = 0;
         }
         follows
+    }
+
+    // Returns whether a chunk is one that the port sent later, where AIS came last. Then it is kept as what came last.
+    fn comes_later(&mut self, scratch: &mut Scratch, last: &mut Latest, chunk: &[u8]) -> bool
+        requires { self.old.round + 88 ≤ 2 ^ 32 }
+        ensures answer { result ≡ true → (is_part chunk.now (near self.old.port self.old.round) ≡ true)
+            × (jumps (near self.old.port self.old.round) (came last.old) chunk.now ≡ false) }
+        ensures last { result ≡ true → came last.new ≡ Delivered.Chunk chunk.now }
+        ensures kept { result ≡ false → last.new ≡ last.old }
+        ensures same { self.new ≡ self.old }
+    {
+        let made = self.next.made();
+        if self.at != 0 || made > self.round || !last.is_ais() {
+            return false;
+        }
+        let first = self.round.saturating_sub(BEHIND);
+        let found = scratch.seek(&mut self.next, made.max(first), self.round + 1, chunk);
+        if found {
+            self.from = self.next.made() - 1;
+            last.know(&self.port, self.from);
+        }
+        found
+    }
+
+    // Returns whether a chunk comes next, after one whose bytes are kept.
+    fn comes_after(&mut self, last: &Latest, chunk: &[u8]) -> bool
+        requires { self.old.round + 88 ≤ 2 ^ 32 }
+        ensures answer { result ≡ true → (is_part chunk.now (near self.old.port self.old.round) ≡ true)
+            × (jumps (near self.old.port self.old.round) (came last.now) chunk.now ≡ false) }
+        ensures same { self.new ≡ self.old }
+    {
+        last.is_plain() && self.comes_next(&last.plain, chunk)
     }
 
     // Keeps a chunk that was found as what came last, by its number where it is a whole chunk of the stream.
@@ -208,8 +236,14 @@ impl Window {
         if self.goes_on(scratch, last, chunk) {
             return Some(Kind::InOrder);
         }
-        last.spell(scratch);
-        let kind = self.sought(scratch, &mut last.plain, chunk);
+        if self.comes_later(scratch, last, chunk) {
+            return Some(Kind::InOrder);
+        }
+        if self.comes_after(last, chunk) {
+            self.keep(last, chunk);
+            return Some(Kind::InOrder);
+        }
+        let kind = self.sought(scratch, last, chunk);
         match kind {
             Some(Kind::InOrder) | Some(Kind::Jump) => self.keep(last, chunk),
             _ => last.put_chunk(chunk),

@@ -14,9 +14,9 @@ returns-in_default-clause-kind c =
     let w = c.self.inside in
     let last = c.args.last.now in
     let chunk = c.args.chunk.now in
-    let others = c.near-others.result.now in
+    let others = c.args.others.now in
     let all = near w.port w.round in
-    let here : others ≡ all = c.near-others.ensures in
+    let here : others ≡ all = c.requires.others ∙ ap (λ (n : Nearby). near n.port n.round) (sym c.self.view_is) in
     let none : is_part chunk all ≡ false =
     ap (is_part chunk) (sym here) ∙ sym (part_found chunk others c.find.result c.find.ensures) ∙ ap is_some c.in_default.is in
     c.kind_of_pieces.ensures ∙ ap (λ l. kind_of_pieces chunk l) here ∙ not_there all last chunk c.requires.some none
@@ -24,17 +24,16 @@ returns-in_default-clause-kind c =
 
 pub put_place-requires : goal.put_place-requires
 put_place-requires c =
-    let w = c.self.inside in
-    omega (arith, c.in-Some.ensures.1.fits, ap length c.near-others.ensures, length-near w.port w.round)
+    omega (arith, c.in-Some.ensures.1.fits, ap length c.requires.others, length-near c.args.self.now.port c.args.self.now.round)
 
 pub returns-then-jumps-clause-kind : goal.returns-then-jumps-clause-kind
 returns-then-jumps-clause-kind c =
     let w = c.self.inside in
     let last = c.args.last.now in
     let chunk = c.args.chunk.now in
-    let others = c.near-others.result.now in
+    let others = c.args.others.now in
     let all = near w.port w.round in
-    let here : others ≡ all = c.near-others.ensures in
+    let here : others ≡ all = c.requires.others ∙ ap (λ (n : Nearby). near n.port n.round) (sym c.self.view_is) in
     let part : is_part chunk all ≡ true =
     ap (is_part chunk) (sym here) ∙ sym (part_found chunk others c.find.result c.find.ensures) ∙ ap is_some c.in-Some.is in
     let jump : jumps all last chunk ≡ true =
@@ -47,9 +46,9 @@ returns-else-jumps-clause-kind c =
     let w = c.self.inside in
     let last = c.args.last.now in
     let chunk = c.args.chunk.now in
-    let others = c.near-others.result.now in
+    let others = c.args.others.now in
     let all = near w.port w.round in
-    let here : others ≡ all = c.near-others.ensures in
+    let here : others ≡ all = c.requires.others ∙ ap (λ (n : Nearby). near n.port n.round) (sym c.self.view_is) in
     let part : is_part chunk all ≡ true =
     ap (is_part chunk) (sym here) ∙ sym (part_found chunk others c.find.result c.find.ensures) ∙ ap is_some c.in-Some.is in
     let jump : jumps all last chunk ≡ false =

@@ -2,7 +2,7 @@ use Rattle.std.proofs.Common.{◌≡◌, ◌*◌, [], sym, subst, ◌∙◌, ari
 use Rattle.sdh_payload.specs.Stream.{stream_from}
 use Rattle.sdh_outage.specs.Kept.{IsReach}
 use Rattle.sdh_outage.proofs.Windows.{near_is}
-use Rattle.sdh_outage.proofs.scratch.Scratch.near.Goals as goal
+use Rattle.sdh_outage.proofs.scratch.Scratch.fill.Goals as goal
 
 pub put_near-requires-clause-at : goal.put_near-requires-clause-at
 put_near-requires-clause-at c =
@@ -20,4 +20,4 @@ returns c =
     let rounds : feed.clock.rounds ≡ first = c.feed_before-feed.ensures.at.rounds_are in
     let whose = c.feed_before-feed.ensures.port in
     near_is c.args.port.now c.args.round first _ c.saturating_sub.ensures
-    (c.deref.ensures.value ∙ c.put_near.ensures.bytes ∙ (λ i. stream_from (whose i) (2349 * rounds i) (2349 * 78)))
+    (c.put_near.ensures.bytes ∙ (λ i. stream_from (whose i) (2349 * rounds i) (2349 * 78)))
