@@ -1,14 +1,15 @@
 -- What texts of the user's own failures name.
 use Rattle.std.proofs.Common.{◌≡◌, ℕ, suc, ◌+◌, ◌-◌, ◌*◌, ◌<◌, ◌≤◌, Bool, true, false, ◌==◌, ◌||◌, not, nat_lt, cond, List, [], ◌∷◌, ◌++◌, length}
 use Rattle.std.proofs.Common.{map, take, drop, get_or, position, Option, Some, None, is_none, unwrap_or, option_map, inl, inr, refl, sym, ap, ◌∙◌}
-use Rattle.std.proofs.Common.{arith, append_assoc, length-append, lt-ltb}
+use Rattle.std.proofs.Common.{arith, append_assoc, length-append, lt-ltb, ltb-false}
 use Rattle.std.specs.Prelude.{slice_get, if◌then◌else◌}
 use Rattle.std.specs.Option.{option_and_then, option_map_or}
 use Rattle.std.specs.List.{position_or_len, slice_split, onto_first}
 use Rattle.std.specs.Str.{bytes_eq}
 use Rattle.std.proofs.lemmas.Bool.{cases_eq, ltb-true, false_from_ne_true}
 use Rattle.std.proofs.lemmas.List.{append-nil, take_rest}
-use Rattle.std.proofs.lemmas.List.Splits.{slice_split_first}
+use Rattle.std.proofs.lemmas.List.Splits.{slice_split_first, slice_split_none}
+use Rattle.std.proofs.lemmas.List.Sums.{fails_before_first}
 use Rattle.std.proofs.lemmas.Option.{slice_get-get_or}
 use Rattle.sdh_basics.proofs.CellsLaws.{length-cells, get_or-cells}
 use Rattle.sdh_plan.proofs.Slipping.{first_at, none_at}
@@ -57,17 +58,6 @@ module _ (nodes name : List ℕ) where
 
 -- ---- a text cut at its first semicolon
 
-whole : (x : ℕ) (xs : List ℕ) (b : Bool)
-    → (nat_lt (position_or_len is_semicolon xs) (length xs) ≡ false → slice_split is_semicolon xs ≡ xs ∷ [])
-    → nat_lt (cond (not b) (1 + position_or_len is_semicolon xs) 0) (suc (length xs)) ≡ false
-    → cond b ([] ∷ slice_split is_semicolon xs) (onto_first x (slice_split is_semicolon xs)) ≡ (x ∷ xs) ∷ []
-whole x xs true more h = absurd (grind arith)
-whole x xs false more h = ap (λ ws. onto_first x ws) (more (grind arith))
-
-uncut : (xs : List ℕ) → nat_lt (position_or_len is_semicolon xs) (length xs) ≡ false → slice_split is_semicolon xs ≡ xs ∷ []
-uncut [] h = refl
-uncut (x ∷ xs) h = whole x xs (x == 59) (uncut xs) h
-
 found : (b : Bool) (k i : ℕ) → cond b (Some k) None ≡ Some i → (b ≡ true) × (k ≡ i)
 found true k i e = (refl, cc)
 found false k i e = cc
@@ -86,7 +76,9 @@ cut_at text i e =
     ∙ ap (λ l. take i text ∷ slice_split is_semicolon l) (sym (take_rest text (i + 1)))
 
 pub cut_none : (text : List ℕ) → position is_semicolon text ≡ None → slice_split is_semicolon text ≡ text ∷ []
-cut_none text e = uncut text (missing _ _ e)
+cut_none text e =
+    slice_split_none is_semicolon text
+    (λ k d less. fails_before_first is_semicolon text k d (omega (arith, less, ltb-false _ _ (missing _ _ e))))
 
 -- ---- the failures of a text
 

@@ -137,27 +137,6 @@ fn entry_of(ask: Ask, told: bool, number: usize) -> Option<Entry>
     }
 }
 
-// Writes the line of a case.
-fn write_case<W: Sink>(
-    sink: &mut W,
-    line: &mut Line,
-    plan: &Plan,
-    sides: &Sides<'_>,
-    entry: Entry,
-    case: Case<'_>,
-) -> Result<(), WriteFault>
-    requires sides { AreSidesOf plan.now sides.now }
-    requires case { All (IsFailureIn (length plan.now.nodes)) case.failures.now }
-    requires few { length case.failures.now ≤ 48 }
-    requires digits { AreSmall (length plan.now.nodes) case.digits }
-    ensures { Wrote W.exact (W.written sink.old) (W.written sink.new) (W.faults sink.old) (W.faults sink.new)
-        (line_text plan.now case.entry.digits case.entry.failures.now entry) result }
-{
-    line.clear();
-    put_line(line, plan, sides, entry, case);
-    sink.put(line.bytes())
-}
-
 // Appends the failures of a digit to those of a case.
 fn push_digit(case: &mut Gathered, nodes: usize, own: &OwnFailures, digit: usize)
     requires nodes { nodes ≤ 16 }
@@ -217,7 +196,9 @@ fn write_entry<W: Sink>(
         digits,
         failures: failures.as_slice(),
     };
-    write_case(sink, line, scene.plan, scene.sides, entry, case)
+    line.clear();
+    put_line(line, scene.plan, scene.sides, entry, case);
+    sink.put(line.bytes())
 }
 
 // Writes the lines of all cases that are listed in the part that is asked for.

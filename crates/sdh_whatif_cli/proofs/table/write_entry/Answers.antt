@@ -16,8 +16,9 @@ returns g c =
     let case : c.failures_of-failures.result ≡ failures_of (length plan.nodes) own ds =
     c.failures_of-failures.ensures.failures ∙ ap (λ n. failures_of n own ds) size in
     as_text _ _ _ _ _ _ _ _
-    (ap (λ (fs : List Failure). line_text plan ds fs c.in-Some.entry) (c.as_slice.ensures ∙ case)
-    ∙ ap (λ o. option_map_or (line_text plan ds (failures_of (length plan.nodes) own ds)) o []) (sym c.in-Some.is)) c.write_case.ensures
+    (c.bytes.ensures ∙ c.put_line.ensures
+    ∙ ap (λ (fs : List Failure). line_text plan ds fs c.in-Some.entry) (c.as_slice.ensures ∙ case)
+    ∙ ap (λ o. option_map_or (line_text plan ds (failures_of (length plan.nodes) own ds)) o []) (sym c.in-Some.is)) c.put.ensures.wrote
 
 pub returns-in_default : goal.returns-in_default
 returns-in_default g c =

@@ -1,6 +1,0 @@
-use Rattle.std.proofs.Common.{◌∙◌}
-use Rattle.sdh_shell.proofs.Pieces.{as_text}
-use Rattle.sdh_whatif_cli.proofs.table.write_case.Goals as goal
-
-pub returns : goal.returns
-returns g c = as_text _ _ _ _ _ _ _ _ (c.bytes.ensures ∙ c.put_line.ensures) c.put.ensures.wrote
