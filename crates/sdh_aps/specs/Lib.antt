@@ -1,2 +1,4 @@
+pub mod Told
 pub mod Shown
+pub mod Showing
 pub mod Lines

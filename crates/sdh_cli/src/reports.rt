@@ -4,41 +4,17 @@ ghost use Rattle.std.specs.List.{flat_map};
 ghost use Rattle.sdh_circuits.specs.declared.End.TheVariants.{A, B};
 ghost use Rattle.sdh_report.specs.Lines.{node_line, drop_lines, count_line};
 ghost use Rattle.sdh_report.specs.Reports.{told_line, report_text, delivered_in, chunks_of, silences_of, chunks_in, silences_in, listed};
-ghost use Rattle.sdh_owed.specs.Reports.{state_word, bytes_told, nodes_told, told_at, port_told, ports_from, ports_told, report_of};
+ghost use Rattle.sdh_owed.specs.Reports.{nodes_told, told_at, port_told, ports_from, ports_told, report_of};
 ghost use Rattle.sdh_world.specs.Held.{outlet_at};
 ghost use Rattle.sdh_cli.specs.Room.{report_room, MayList};
 
+use sdh_aps::{bytes_told, state_told};
 use sdh_circuits::{Circuit, End, Name, PortId};
-use sdh_kbytes::{K, encode};
 use sdh_node::Delivered;
-use sdh_nodestate::NodeState;
-use sdh_report::{Listing, NodeLine, StateWord, Text, WordBytes};
+use sdh_report::{Listing, NodeLine, Text};
 use sdh_ring::Ring;
 use sdh_ringmap::{Pos, Side};
 use sdh_scripts::put_settle;
-
-// Returns the word of a state.
-fn state_told(state: &NodeState) -> StateWord
-    ensures { result ≡ state_word state.now }
-{
-    match state {
-        NodeState::Idle(_) => StateWord::Idle,
-        NodeState::PassThrough(_) => StateWord::Pass,
-        NodeState::SwitchWest(_) => StateWord::SwitchWest,
-        NodeState::SwitchEast(_) => StateWord::SwitchEast,
-        NodeState::Isolated(_) => StateWord::Isolated,
-    }
-}
-
-// Returns the bytes of a word.
-fn bytes_told(word: K) -> WordBytes
-    requires to { word.to ≤ 15 }
-    requires from { word.from ≤ 15 }
-    ensures { result ≡ bytes_told word }
-{
-    let (first, second) = encode(word);
-    WordBytes { first, second }
-}
 
 // Returns the line of the node at a position.
 fn node_told(ring: &Ring, at: u8) -> NodeLine

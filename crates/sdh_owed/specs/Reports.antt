@@ -3,30 +3,12 @@ use Rattle.std.specs.Prelude.{ℕ, ◌-◌, List, length, get_or}
 use Rattle.sdh_basics.specs.Cells.{cells}
 use Rattle.sdh_circuits.specs.declared.End.{End}
 use Rattle.sdh_circuits.specs.Provisioned.{Provisioned}
-use Rattle.sdh_kbytes.specs.declared.K.{K}
-use Rattle.sdh_kbytes.specs.KBytes.{first_byte, second_byte}
-use Rattle.sdh_nodestate.specs.declared.NodeState.{NodeState}
-use Rattle.sdh_nodestate.specs.declared.NodeState.TheVariants as state
 use Rattle.sdh_node.specs.Node.{Node}
 use Rattle.sdh_world.specs.Held.{HeldRing, outlet_at, node_at}
 use Rattle.sdh_report.specs.declared.node_line.NodeLine.{NodeLine}
-use Rattle.sdh_report.specs.declared.node_line.StateWord.{StateWord}
-use Rattle.sdh_report.specs.declared.node_line.StateWord.TheVariants as word
-use Rattle.sdh_report.specs.declared.node_line.WordBytes.{WordBytes}
 use Rattle.sdh_report.specs.Reports.{PortLine, Report}
+use Rattle.sdh_aps.specs.Told.{state_word, bytes_told}
 use Rattle.sdh_scripts.specs.Ports.{of_ports}
-
--- a node's state
-abbrev pub state_word : NodeState → StateWord
-state_word (state.Idle x) = word.Idle
-state_word (state.PassThrough x) = word.Pass
-state_word (state.SwitchWest far) = word.SwitchWest
-state_word (state.SwitchEast far) = word.SwitchEast
-state_word (state.Isolated x) = word.Isolated
-
--- the bytes of a word that it sent
-abbrev pub bytes_told : K → WordBytes
-bytes_told k = record { first = first_byte k; second = second_byte k }
 
 -- a node's identifier, its state, and the words that it sent in the last round
 abbrev pub node_told : ℕ → Node → NodeLine
