@@ -1,0 +1,206 @@
+//! A node on the bench.
+ghost use Rattle.std.specs.Prelude.{◌≡◌, ℕ, ◌+◌, ◌*◌, ◌^◌, ◌<◌, ◌≤◌, ◌++◌, List, [], Err, IfOk, OnOk, OnErr, length};
+ghost use Rattle.std.specs.Io.KnownBytes.{Consumes, IsAtEnd};
+ghost use Rattle.sdh_basics.specs.Causes.{Rose, IsCounted};
+ghost use Rattle.sdh_frame.specs.Sizes.{size_of};
+ghost use Rattle.sdh_plan.specs.Check.{unless};
+ghost use Rattle.sdh_node_cli.specs.Records.{record_of, IsRecord};
+ghost use Rattle.sdh_node_cli.specs.declared.record.Came.TheVariants as came;
+ghost use Rattle.sdh_node_cli.specs.Bench.{new_bench, refusal, after_told, after_coming, after_round, lines_of, answer_to, answer_room, room_in};
+
+use crate::answer::{put_frames, put_ports, put_shown};
+use crate::record::{Record, record_of};
+use crate::words::{Ask, Mode};
+use sdh_circuits::CircuitMap;
+use sdh_frame::FrameBuf;
+use sdh_node::Adm;
+use sdh_outside::{Source, fill};
+use sdh_plan::{Plan, Reason};
+use sdh_plant::Arrived;
+use sdh_report::Text;
+use sdh_request::Moment;
+use sdh_ringmap::{Pos, Side};
+use std::alloc::{AllocError, Global};
+use std::marker::Model;
+
+/// A node of a plan's ring, with the present moment, the circuits, how many rounds it has run, and room for a frame of
+/// each side.
+#[derive(Drop)]
+pub struct Bench {
+    mode: Mode,
+    id: u8,
+    at: Pos,
+    circuits: CircuitMap,
+    now: Moment,
+    rounds: u64,
+    node: Adm,
+    west: FrameBuf,
+    east: FrameBuf,
+}
+
+impl Model for Bench {
+    ghost use Rattle.std.specs.Prelude.{◌≡◌};
+    ghost use Rattle.sdh_node_cli.specs.Bench.{Bench as Value, IsBench};
+
+    ghost Value = { Value };
+
+    ghost view = { λ b. record { mode = b.mode; id = b.id; at = b.at; circuits = b.circuits.circuits; now = b.now.0; node = b.node } };
+
+    ghost invariant = { λ b. IsBench (record { mode = b.mode; id = b.id; at = b.at; circuits = b.circuits.circuits; now = b.now.0; node = b.node })
+        × (b.rounds ≡ b.node.rounds) × (b.west.rate ≡ b.node.settings.rate) × (b.east.rate ≡ b.node.settings.rate) };
+}
+
+impl Bench {
+    /// Returns the node at a position of a plan's ring, before any record. All its memory is taken here.
+    #[tactic(auto, unfolding(crate::specs::Bench::new_bench))]
+    pub fn try_new(alloc: Global, plan: Plan, ask: Ask, at: Pos) -> Result<Bench, AllocError>
+        requires { at.0 < length plan.nodes }
+        ensures { IfOk result (λ bench. bench ≡ new_bench ask.mode ask.id at plan) }
+    {
+        let settings = plan.settings();
+        let (map, circuits, _) = plan.into_parts();
+        let west = FrameBuf::try_new(alloc, settings.rate)?;
+        let east = FrameBuf::try_new(alloc, settings.rate)?;
+        let node = Adm::try_new(alloc, settings, &map, &circuits, at)?;
+        Ok(Bench {
+            mode: ask.mode,
+            id: ask.id,
+            at,
+            circuits,
+            now: Moment(0),
+            rounds: 0,
+            node,
+            west,
+            east,
+        })
+    }
+
+    /// Returns how many bytes are room enough for an answer.
+    pub fn answer_room(&self) -> usize
+        ensures { result ≡ answer_room self.now.node.settings.rate (length self.now.circuits) }
+    {
+        128 + 96 * self.circuits.len() + 32 + 2 * self.west.bytes().len()
+    }
+
+    /// Returns the record that a line is, or the reason of the first check of its words that fails.
+    pub fn record_of(&self, line: &[u8]) -> Result<Record, Reason>
+        ensures record { result ≡ record_of self.now.circuits self.now.at line.now }
+        ensures form { IfOk result (IsRecord self.now.circuits self.now.at) }
+    {
+        record_of(&self.circuits, self.at, line)
+    }
+
+    /// Does what a record says that runs no round, or returns why it can't be done, and changes nothing then.
+    #[tactic(auto, unfolding(crate::specs::Bench::refusal, crate::specs::Bench::after_told))]
+    pub fn tell(&mut self, told: Record) -> Result<(), Reason>
+        requires { IsRecord self.old.circuits self.old.at told }
+        ensures refused { result ≡ unless (refusal self.old told) tt }
+        ensures ok { OnOk result (self.new ≡ after_told told self.old) }
+        ensures err { OnErr result (self.new ≡ self.old) }
+    {
+        match told {
+            Record::Command(side, command) => self.node.command(side, command),
+            Record::Moment(now) => {
+                if now.0 < self.now.0 {
+                    return Err(Reason::MomentBack);
+                }
+                self.now = now;
+            }
+            Record::Hold(turns) => self.node.hold(turns),
+            Record::Slip(port, turn, count) => {
+                if u16::from(self.node.waiting(port)) + u16::from(count) > 16 {
+                    return Err(Reason::Slips);
+                }
+                self.node.slip(port, turn, count);
+            }
+            Record::Round(_, _) => {}
+        }
+        Ok(())
+    }
+
+    /// Keeps for the next round that there is no light on a side.
+    #[tactic(auto, unfolding(crate::specs::Bench::after_coming))]
+    pub fn darken(&mut self, side: Side)
+        ensures { self.new ≡ record self.old { node = after_coming side came.Dark [] self.old.node } }
+    {
+        self.node.receive(side, Arrived::Dark, &self.west);
+    }
+
+    /// Takes a frame from a source, and keeps it for the next round.
+    #[tactic(auto, unfolding(crate::specs::Bench::after_coming))]
+    pub fn take_frame<R: Source>(&mut self, source: &mut R, side: Side) -> Result<(), NoFrame>
+        ensures ok { OnOk result ((bytes : List ℕ) × (length bytes ≡ size_of self.old.node.settings.rate)
+            × Consumes (R.left source.old) (R.left source.new) bytes
+            × (self.new ≡ record self.old { node = after_coming side came.Frame bytes self.old.node })) }
+        ensures cut { result ≡ Err NoFrame.Cut → (bytes : List ℕ) × (length bytes < size_of self.old.node.settings.rate)
+            × Consumes (R.left source.old) (R.left source.new) bytes × IsAtEnd (R.left source.new) }
+        ensures fault { result ≡ Err NoFrame.ReadFault → Rose (R.faults source.old) (R.faults source.new) }
+        ensures part { result ≡ Err NoFrame.ReadFault → (bytes : List ℕ) × Consumes (R.left source.old) (R.left source.new) bytes }
+        ensures later { R.faults source.old ≤ R.faults source.new }
+        ensures counted { IsCounted R.exact (result ≡ Err NoFrame.ReadFault) (R.faults source.old) (R.faults source.new) }
+    {
+        read_frame(source, &mut self.west)?;
+        self.node.receive(side, Arrived::Frame, &self.west);
+        Ok(())
+    }
+
+    // Appends the lines of the last round.
+    #[tactic(auto, unfolding(crate::specs::Bench::lines_of))]
+    fn put_lines(&self, text: &mut Text)
+        requires ran { 1 ≤ self.now.node.rounds }
+        requires room { 128 + 96 * length self.now.circuits ≤ text.old.room }
+        ensures bytes { text.new.bytes ≡ text.old.bytes ++ lines_of self.now }
+        ensures room { text.old.room ≤ text.new.room + (128 + 96 * length self.now.circuits) }
+        ensures kept { room_in text.new ≡ room_in text.old }
+    {
+        put_shown(text, &self.node, self.rounds - 1, self.id);
+        put_ports(text, &self.node, self.at, &self.circuits);
+    }
+
+    /// Runs a round, and writes its answer into an empty text. It takes no memory.
+    #[tactic(auto, unfolding(crate::specs::Bench::answer_to))]
+    pub fn run(&mut self, text: &mut Text)
+        requires few { self.old.node.rounds < 2 ^ 32 }
+        requires room { answer_room self.old.node.settings.rate (length self.old.circuits) ≤ text.old.room }
+        requires empty { text.old.bytes ≡ [] }
+        ensures bench { self.new ≡ after_round self.old }
+        ensures text { text.new.bytes ≡ answer_to self.old }
+        ensures kept { room_in text.new ≡ room_in text.old }
+    {
+        self.node.send(self.now, &mut self.west, &mut self.east);
+        self.rounds += 1;
+        self.put_lines(text);
+        match self.mode {
+            Mode::Lines => {}
+            Mode::Frames => put_frames(text, &self.west, &self.east),
+        }
+    }
+}
+
+/// Why no frame came.
+#[derive(Clone, Copy, Debug, PartialEq, Eq)]
+pub enum NoFrame {
+    /// The source ended within it.
+    Cut,
+    /// A read failed.
+    ReadFault,
+}
+
+// Reads a frame.
+fn read_frame<R: Source>(source: &mut R, frame: &mut FrameBuf) -> Result<(), NoFrame>
+    ensures rate { frame.new.rate ≡ frame.old.rate }
+    ensures ok { OnOk result (Consumes (R.left source.old) (R.left source.new) frame.new.bytes) }
+    ensures cut { result ≡ Err NoFrame.Cut → (bytes : List ℕ) × (length bytes < size_of frame.old.rate)
+        × Consumes (R.left source.old) (R.left source.new) bytes × IsAtEnd (R.left source.new) }
+    ensures fault { result ≡ Err NoFrame.ReadFault → Rose (R.faults source.old) (R.faults source.new) }
+    ensures part { result ≡ Err NoFrame.ReadFault → (bytes : List ℕ) × Consumes (R.left source.old) (R.left source.new) bytes }
+    ensures later { R.faults source.old ≤ R.faults source.new }
+    ensures counted { IsCounted R.exact (result ≡ Err NoFrame.ReadFault) (R.faults source.old) (R.faults source.new) }
+{
+    let size = frame.bytes().len();
+    match fill(source, frame.bytes_mut()) {
+        Ok(count) if count == size => Ok(()),
+        Ok(_) => Err(NoFrame::Cut),
+        Err(_) => Err(NoFrame::ReadFault),
+    }
+}

@@ -1,0 +1,214 @@
+//! The records of a stream, by their lines.
+ghost use Rattle.std.specs.Prelude.{◌≡◌, ◌<◌, ◌≤◌, map, false, IfOk, IfSome, length, option_map};
+ghost use Rattle.std.specs.List.{list_any};
+ghost use Rattle.sdh_plan.specs.Words.{words, is_empty};
+ghost use Rattle.sdh_node_cli.specs.Records.{came_at, end_here, own_port, side_in, number_in, slip_in, round_in, command_in, moment_in, hold_in};
+ghost use Rattle.sdh_node_cli.specs.Records.{told, record_in, record_of, IsRecord};
+
+use sdh_circuits::{Circuit, CircuitMap, End, PortId};
+use sdh_payload::Turn;
+use sdh_plan::{Reason, circuit_named, is_word, numeral_in, side_at, turn_at, words_of};
+use sdh_request::{Command, Moment};
+use sdh_ringmap::{Pos, Side};
+
+/// What came on a side of the node since its last round.
+#[derive(Clone, Copy, Debug, PartialEq, Eq)]
+pub enum Came {
+    /// Nothing is known of the side yet.
+    Nothing,
+    /// No light.
+    Dark,
+    /// A whole frame.
+    Frame,
+}
+
+/// A record: what is told to the node, and the rounds that it runs.
+#[derive(Clone, Copy, Debug, PartialEq, Eq)]
+pub enum Record {
+    /// A side gets a command, in place of the one before.
+    Command(Side, Command),
+    /// The present moment is this one.
+    Moment(Moment),
+    /// The controller misses this number of the next rounds.
+    Hold(u32),
+    /// The clock of a port is to slip this number of times.
+    Slip(PortId, Turn, u8),
+    /// A round runs, where this came from the west and that from the east.
+    Round(Came, Came),
+}
+
+// Returns what a word says that came on a side.
+fn came_at(word: &[u8]) -> Option<Came>
+    ensures { result ≡ came_at word.now }
+{
+    if is_word(word, "none") {
+        Some(Came::Nothing)
+    } else if is_word(word, "dark") {
+        Some(Came::Dark)
+    } else if is_word(word, "frame") {
+        Some(Came::Frame)
+    } else {
+        None
+    }
+}
+
+/// Returns the end of a circuit that is at a position, if one is.
+pub fn end_here(at: Pos, circuit: &Circuit) -> Option<End>
+    ensures { result ≡ end_here at circuit.now }
+{
+    if circuit.from().0 == at.0 {
+        Some(End::A)
+    } else if circuit.to().0 == at.0 {
+        Some(End::B)
+    } else {
+        None
+    }
+}
+
+// Returns the port at a position of the circuit whose name the word is.
+fn own_port(circuits: &CircuitMap, at: Pos, word: &[u8]) -> Option<PortId>
+    ensures { result ≡ own_port circuits.now.circuits at word.now }
+{
+    let circuit = circuit_named(circuits, word)?;
+    let end = end_here(at, circuits.get(circuit))?;
+    Some(PortId { circuit, end })
+}
+
+// Returns the side that is the one word.
+fn side_in(others: &[&[u8]]) -> Result<Side, Reason>
+    ensures { result ≡ side_in (map (λ word. word.now) others.now) }
+{
+    match others {
+        [word] => match side_at(word) {
+            Some(side) => Ok(side),
+            None => Err(Reason::StepSide),
+        },
+        _ => Err(Reason::StepForm),
+    }
+}
+
+// Returns the number from `low` to `high` that is the one word.
+fn number_in(others: &[&[u8]], low: u32, high: u32) -> Result<u32, Reason>
+    ensures number { result ≡ number_in low high (map (λ word. word.now) others.now) }
+    ensures range { IfOk result (λ number. (low ≤ number) × (number ≤ high)) }
+{
+    match others {
+        [word] => match numeral_in(word, low, high) {
+            Some(number) => Ok(number),
+            None => Err(Reason::StepNumber),
+        },
+        _ => Err(Reason::StepForm),
+    }
+}
+
+// Returns the command of the side that is the one word.
+fn command_in(others: &[&[u8]], command: Command) -> Result<Record, Reason>
+    ensures { result ≡ command_in command (map (λ word. word.now) others.now) }
+{
+    match side_in(others) {
+        Ok(side) => Ok(Record::Command(side, command)),
+        Err(reason) => Err(reason),
+    }
+}
+
+// Returns the moment that is the one word.
+fn moment_in(others: &[&[u8]]) -> Result<Record, Reason>
+    ensures { result ≡ moment_in (map (λ word. word.now) others.now) }
+{
+    match number_in(others, 0, 1_000_000_000) {
+        Ok(number) => Ok(Record::Moment(Moment(u64::from(number)))),
+        Err(reason) => Err(reason),
+    }
+}
+
+// Returns the number of held turns that is the one word.
+fn hold_in(others: &[&[u8]]) -> Result<Record, Reason>
+    ensures { result ≡ hold_in (map (λ word. word.now) others.now) }
+{
+    match number_in(others, 1, 100) {
+        Ok(turns) => Ok(Record::Hold(turns)),
+        Err(reason) => Err(reason),
+    }
+}
+
+// Returns the slips of a port at a position: the circuit's name, the turn and their number.
+fn slip_in(circuits: &CircuitMap, at: Pos, others: &[&[u8]]) -> Result<Record, Reason>
+    ensures { result ≡ slip_in circuits.now.circuits at (map (λ word. word.now) others.now) }
+{
+    let [name, turn, count] = others else {
+        return Err(Reason::StepForm);
+    };
+    let Some(port) = own_port(circuits, at, name) else {
+        return Err(Reason::SlipPort);
+    };
+    let Some(turn) = turn_at(turn) else {
+        return Err(Reason::StepSide);
+    };
+    let Some(count) = numeral_in(count, 1, 16) else {
+        return Err(Reason::StepNumber);
+    };
+    Ok(Record::Slip(port, turn, count as u8))
+}
+
+// Returns the round by what came on both sides.
+fn round_in(others: &[&[u8]]) -> Result<Record, Reason>
+    ensures { result ≡ round_in (map (λ word. word.now) others.now) }
+{
+    let [west, east] = others else {
+        return Err(Reason::StepForm);
+    };
+    match (came_at(west), came_at(east)) {
+        (Some(west), Some(east)) => Ok(Record::Round(west, east)),
+        _ => Err(Reason::StepSide),
+    }
+}
+
+// Returns the record that a first word and those after it give.
+fn told(
+    circuits: &CircuitMap,
+    at: Pos,
+    first: &[u8],
+    others: &[&[u8]],
+) -> Result<Record, Reason>
+    ensures { result ≡ told circuits.now.circuits at first.now (map (λ word. word.now) others.now) }
+{
+    if is_word(first, "round") {
+        round_in(others)
+    } else if is_word(first, "forced") {
+        command_in(others, Command::Forced)
+    } else if is_word(first, "manual") {
+        command_in(others, Command::Manual)
+    } else if is_word(first, "clear") {
+        command_in(others, Command::Clear)
+    } else if is_word(first, "moment") {
+        moment_in(others)
+    } else if is_word(first, "hold") {
+        hold_in(others)
+    } else if is_word(first, "slip") {
+        slip_in(circuits, at, others)
+    } else {
+        Err(Reason::StepWord)
+    }
+}
+
+// Returns the record that words give, none of which is empty.
+fn record_in(circuits: &CircuitMap, at: Pos, words: &[&[u8]]) -> Result<Record, Reason>
+    ensures { result ≡ record_in circuits.now.circuits at (map (λ word. word.now) words.now) }
+{
+    let [first, others @ ..] = words else {
+        return Err(Reason::StepForm);
+    };
+    told(circuits, at, first, others)
+}
+
+/// Returns the record that a line is, for the node at a position of a ring with these circuits, or the reason of the
+/// first check of its words that fails.
+pub fn record_of(circuits: &CircuitMap, at: Pos, line: &[u8]) -> Result<Record, Reason>
+    ensures record { result ≡ record_of circuits.now.circuits at line.now }
+    ensures form { IfOk result (IsRecord circuits.now.circuits at) }
+{
+    match words_of(line) {
+        Some(words) => record_in(circuits, at, &words),
+        None => Err(Reason::StepForm),
+    }
+}
