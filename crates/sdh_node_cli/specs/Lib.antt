@@ -3,4 +3,5 @@ pub mod Endings
 pub mod Records
 pub mod Bench
 pub mod Streams
+pub mod Turns
 pub mod Outcome

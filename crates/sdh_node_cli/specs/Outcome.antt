@@ -16,12 +16,13 @@ use Rattle.sdh_node_cli.specs.declared.ending.Ending.TheVariants as ending
 use Rattle.sdh_node_cli.specs.declared.ending.Flaw.TheVariants as flaw
 use Rattle.sdh_node_cli.specs.declared.head.NoHead.{NoHead}
 use Rattle.sdh_node_cli.specs.declared.head.NoHead.TheVariants as none
-use Rattle.sdh_node_cli.specs.declared.turn.Stop.{Stop}
-use Rattle.sdh_node_cli.specs.declared.turn.Stop.TheVariants as stop
+use Rattle.sdh_node_cli.specs.declared.stop.Stop.{Stop}
+use Rattle.sdh_node_cli.specs.declared.stop.Stop.TheVariants as stop
 use Rattle.sdh_node_cli.specs.Endings.{line_of, bench_endings}
 use Rattle.sdh_node_cli.specs.Bench.{Bench, new_bench}
-use Rattle.sdh_node_cli.specs.Streams.{end_of_plan, HasNoEnd, IsDocument, head_max, Given, IsGiven, bytes_of, after, answer, AreGiven, after_all}
-use Rattle.sdh_node_cli.specs.Streams.{answers, stream_of, IsFlawed, EndsIf}
+use Rattle.sdh_node_cli.specs.Streams.{end_of_plan, HasNoEnd, IsDocument, head_max, Given, IsGiven, bytes_of, answer, AreGiven, after_all}
+use Rattle.sdh_node_cli.specs.Streams.{answers, stream_of}
+use Rattle.sdh_node_cli.specs.Turns.{StopsSo}
 
 -- how the program is called
 abbrev pub usage : List ℕ
@@ -68,42 +69,6 @@ abbrev pub TellsNone : Option (List ℕ) → Option (List ℕ) → NoHead → Ty
 TellsNone left now none.Memory = Unit {0}
 TellsNone left now none.Cut = (bytes : List ℕ) × HasNoHead left now bytes × IsAtEnd now
 TellsNone left now (none.Refused how) = RefusesHead left now how
-
--- ---- records
-
--- A record was done: its bytes were read and nothing more, and its answer was written whole.
-pub record Goes (b new : Bench) (left now old_text new_text : Option (List ℕ)) : Type 0 where
-  pub given : Given
-  pub is : IsGiven b given
-  pub read : Consumes left now (bytes_of given)
-  pub wrote : Appends old_text new_text (answer given b)
-  pub bench : new ≡ after given b
-
--- Why no record more is done, where this was read of the next one. The source has ended; the next record is flawed; or a
--- read failed. Where a write failed, a record was done, and this says nothing of it.
-abbrev pub StopsSo : Bench → Stop → List ℕ → Option (List ℕ) → Type 0
-StopsSo b stop.Done tail now = (tail ≡ []) × IsAtEnd now
-StopsSo b (stop.Bad f) tail now = IsFlawed b f tail × EndsIf f now
-StopsSo b stop.ReadFault tail now = Unit {0}
-StopsSo b stop.WriteFault tail now = ⊥
-
--- no record more was done, and nothing was written
-pub record Stops (b : Bench) (why : Stop) (left now old_text new_text : Option (List ℕ)) : Type 0 where
-  pub tail : List ℕ
-  pub so : StopsSo b why tail now
-  pub read : Consumes left now tail
-  pub kept : Keeps old_text new_text
-
--- a write failed in the answer to a record: a front of it was written, and nothing more was read than the record
-pub record Fails (b : Bench) (left now old_text new_text : Option (List ℕ)) : Type 0 where
-  pub given : Given
-  pub is : IsGiven b given
-  pub read : Consumes left now (bytes_of given)
-  pub front : AppendsFewer old_text new_text (answer given b)
-
-abbrev pub StopsBy : Bench → Stop → Option (List ℕ) → Option (List ℕ) → Option (List ℕ) → Option (List ℕ) → Type 0
-StopsBy b stop.WriteFault left now old_text new_text = Fails b left now old_text new_text
-StopsBy b why left now old_text new_text = Stops b why left now old_text new_text
 
 -- ---- records, one after the other, behind these bytes
 

@@ -1,15 +1,18 @@
 //! A node on the bench.
-ghost use Rattle.std.specs.Prelude.{◌≡◌, ℕ, ◌+◌, ◌*◌, ◌^◌, ◌<◌, ◌≤◌, ◌++◌, List, [], Err, IfOk, OnOk, OnErr, length};
-ghost use Rattle.std.specs.Io.KnownBytes.{Consumes, IsAtEnd};
+ghost use Rattle.std.specs.Prelude.{◌≡◌, ℕ, ◌+◌, ◌*◌, ◌^◌, ◌<◌, ◌≤◌, ◌++◌, List, [], Err, IfOk, IfErr, OnOk, OnErr, length};
+ghost use Rattle.std.specs.Io.KnownBytes.{Consumes};
 ghost use Rattle.sdh_basics.specs.Causes.{Rose, IsCounted};
 ghost use Rattle.sdh_frame.specs.Sizes.{size_of};
 ghost use Rattle.sdh_plan.specs.Check.{unless};
 ghost use Rattle.sdh_node_cli.specs.Records.{record_of, IsRecord};
+ghost use Rattle.sdh_node_cli.specs.Turns.{TakesPart};
 ghost use Rattle.sdh_node_cli.specs.declared.record.Came.TheVariants as came;
 ghost use Rattle.sdh_node_cli.specs.Bench.{new_bench, refusal, after_told, after_coming, after_round, lines_of, answer_to, answer_room, room_in};
 
 use crate::answer::{put_frames, put_ports, put_shown};
+use crate::ending::Flaw;
 use crate::record::{Record, record_of};
+use crate::stop::Stop;
 use crate::words::{Ask, Mode};
 use sdh_circuits::CircuitMap;
 use sdh_frame::FrameBuf;
@@ -84,7 +87,7 @@ impl Bench {
 
     /// Returns the record that a line is, or the reason of the first check of its words that fails.
     pub fn record_of(&self, line: &[u8]) -> Result<Record, Reason>
-        ensures record { result ≡ record_of self.now.circuits self.now.at line.now }
+        ensures is { result ≡ record_of self.now.circuits self.now.at line.now }
         ensures form { IfOk result (IsRecord self.now.circuits self.now.at) }
     {
         record_of(&self.circuits, self.at, line)
@@ -128,16 +131,14 @@ impl Bench {
 
     /// Takes a frame from a source, and keeps it for the next round.
     #[tactic(auto, unfolding(crate::specs::Bench::after_coming))]
-    pub fn take_frame<R: Source>(&mut self, source: &mut R, side: Side) -> Result<(), NoFrame>
+    pub fn take_frame<R: Source>(&mut self, source: &mut R, side: Side) -> Result<(), Stop>
         ensures ok { OnOk result ((bytes : List ℕ) × (length bytes ≡ size_of self.old.node.settings.rate)
             × Consumes (R.left source.old) (R.left source.new) bytes
             × (self.new ≡ record self.old { node = after_coming side came.Frame bytes self.old.node })) }
-        ensures cut { result ≡ Err NoFrame.Cut → (bytes : List ℕ) × (length bytes < size_of self.old.node.settings.rate)
-            × Consumes (R.left source.old) (R.left source.new) bytes × IsAtEnd (R.left source.new) }
-        ensures fault { result ≡ Err NoFrame.ReadFault → Rose (R.faults source.old) (R.faults source.new) }
-        ensures part { result ≡ Err NoFrame.ReadFault → (bytes : List ℕ) × Consumes (R.left source.old) (R.left source.new) bytes }
+        ensures part { IfErr result (TakesPart (size_of self.old.node.settings.rate) (R.left source.old) (R.left source.new)) }
+        ensures fault { result ≡ Err Stop.ReadFault → Rose (R.faults source.old) (R.faults source.new) }
         ensures later { R.faults source.old ≤ R.faults source.new }
-        ensures counted { IsCounted R.exact (result ≡ Err NoFrame.ReadFault) (R.faults source.old) (R.faults source.new) }
+        ensures counted { IsCounted R.exact (result ≡ Err Stop.ReadFault) (R.faults source.old) (R.faults source.new) }
     {
         read_frame(source, &mut self.west)?;
         self.node.receive(side, Arrived::Frame, &self.west);
@@ -177,30 +178,19 @@ impl Bench {
     }
 }
 
-/// Why no frame came.
-#[derive(Clone, Copy, Debug, PartialEq, Eq)]
-pub enum NoFrame {
-    /// The source ended within it.
-    Cut,
-    /// A read failed.
-    ReadFault,
-}
-
 // Reads a frame.
-fn read_frame<R: Source>(source: &mut R, frame: &mut FrameBuf) -> Result<(), NoFrame>
+fn read_frame<R: Source>(source: &mut R, frame: &mut FrameBuf) -> Result<(), Stop>
     ensures rate { frame.new.rate ≡ frame.old.rate }
     ensures ok { OnOk result (Consumes (R.left source.old) (R.left source.new) frame.new.bytes) }
-    ensures cut { result ≡ Err NoFrame.Cut → (bytes : List ℕ) × (length bytes < size_of frame.old.rate)
-        × Consumes (R.left source.old) (R.left source.new) bytes × IsAtEnd (R.left source.new) }
-    ensures fault { result ≡ Err NoFrame.ReadFault → Rose (R.faults source.old) (R.faults source.new) }
-    ensures part { result ≡ Err NoFrame.ReadFault → (bytes : List ℕ) × Consumes (R.left source.old) (R.left source.new) bytes }
+    ensures part { IfErr result (TakesPart (size_of frame.old.rate) (R.left source.old) (R.left source.new)) }
+    ensures fault { result ≡ Err Stop.ReadFault → Rose (R.faults source.old) (R.faults source.new) }
     ensures later { R.faults source.old ≤ R.faults source.new }
-    ensures counted { IsCounted R.exact (result ≡ Err NoFrame.ReadFault) (R.faults source.old) (R.faults source.new) }
+    ensures counted { IsCounted R.exact (result ≡ Err Stop.ReadFault) (R.faults source.old) (R.faults source.new) }
 {
     let size = frame.bytes().len();
     match fill(source, frame.bytes_mut()) {
         Ok(count) if count == size => Ok(()),
-        Ok(_) => Err(NoFrame::Cut),
-        Err(_) => Err(NoFrame::ReadFault),
+        Ok(_) => Err(Stop::Bad(Flaw::Cut)),
+        Err(_) => Err(Stop::ReadFault),
     }
 }

@@ -12,6 +12,7 @@ mod ending;
 mod head;
 mod record;
 mod serving;
+mod stop;
 mod top;
 mod turn;
 mod words;

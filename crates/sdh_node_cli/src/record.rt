@@ -164,12 +164,7 @@ fn round_in(others: &[&[u8]]) -> Result<Record, Reason>
 }
 
 // Returns the record that a first word and those after it give.
-fn told(
-    circuits: &CircuitMap,
-    at: Pos,
-    first: &[u8],
-    others: &[&[u8]],
-) -> Result<Record, Reason>
+fn told(circuits: &CircuitMap, at: Pos, first: &[u8], others: &[&[u8]]) -> Result<Record, Reason>
     ensures { result ≡ told circuits.now.circuits at first.now (map (λ word. word.now) others.now) }
 {
     if is_word(first, "round") {
@@ -204,7 +199,7 @@ fn record_in(circuits: &CircuitMap, at: Pos, words: &[&[u8]]) -> Result<Record, 
 /// Returns the record that a line is, for the node at a position of a ring with these circuits, or the reason of the
 /// first check of its words that fails.
 pub fn record_of(circuits: &CircuitMap, at: Pos, line: &[u8]) -> Result<Record, Reason>
-    ensures record { result ≡ record_of circuits.now.circuits at line.now }
+    ensures is { result ≡ record_of circuits.now.circuits at line.now }
     ensures form { IfOk result (IsRecord circuits.now.circuits at) }
 {
     match words_of(line) {

@@ -2,12 +2,14 @@
 ghost use Rattle.std.specs.Prelude.{◌≡◌, ◌<◌, ◌≤◌, ◌^◌, [], List, ℕ, length};
 ghost use Rattle.std.specs.Io.KnownBytes.{Appends};
 ghost use Rattle.sdh_basics.specs.Causes.{Rose, IsCounted};
-ghost use Rattle.sdh_node_cli.specs.Bench.{answer_room, room_in};
+ghost use Rattle.sdh_node_cli.specs.Bench.{room_in};
+ghost use Rattle.sdh_node_cli.specs.Turns.{room_for};
 ghost use Rattle.sdh_node_cli.specs.Outcome.{Served, CutShort};
 
 use crate::bench::Bench;
 use crate::ending::Flaw;
-use crate::turn::{Stop, Texts, turn};
+use crate::stop::Stop;
+use crate::turn::{Texts, turn};
 use sdh_outside::{Sink, Source};
 
 /// The most records of a stream.
@@ -29,7 +31,7 @@ pub fn serve<R: Source, W: Sink>(
 ) -> Stopped
     requires fresh { bench.old.node.rounds ≡ 0 }
     requires line { room_in texts.old.line ≡ 65 }
-    requires answer { answer_room bench.old.node.settings.rate (length bench.old.circuits) ≤ room_in texts.old.answer }
+    requires answer { room_for bench.old ≤ room_in texts.old.answer }
     ensures served { result.stop ≢ Stop.WriteFault → (text : List ℕ)
         × Served bench.old [] (R.left source.old) (R.left source.new) result.number result.stop text
         × Appends (W.written sink.old) (W.written sink.new) text }

@@ -16,7 +16,8 @@ use crate::bench::Bench;
 use crate::ending::{Ending, Flaw};
 use crate::head::{NoHead, plan_in};
 use crate::serving::{Stopped, serve};
-use crate::turn::{Stop, Texts};
+use crate::stop::Stop;
+use crate::turn::Texts;
 use crate::words::{Ask, asked};
 use sdh_outside::{Sink, Source, write_text};
 use sdh_plan::Plan;
@@ -63,8 +64,7 @@ fn answer_plan<R: Source, W: Sink>(
     ask: Ask,
     source: &mut R,
     sink: &mut W,
-) -> Result<Ending, AllocError>
-{
+) -> Result<Ending, AllocError> {
     let text = Text::try_new(alloc, LINE_MAX)?;
     let Some(at) = plan.map().find(ask.id) else {
         return Ok(end(sink, text, Ending::NoSuchNode));
@@ -83,8 +83,7 @@ fn answer<R: Source, W: Sink>(
     ask: Ask,
     source: &mut R,
     sink: &mut W,
-) -> Result<Ending, AllocError>
-{
+) -> Result<Ending, AllocError> {
     // Room for the line is taken first, so that a read that fails is always reported.
     let text = Text::try_new(alloc, LINE_MAX)?;
     match plan_in(alloc, source) {

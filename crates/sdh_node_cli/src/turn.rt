@@ -1,13 +1,14 @@
 //! One record, and what is written for it.
-ghost use Rattle.std.specs.Prelude.{◌≡◌, ◌^◌, ◌<◌, ◌≤◌, ◌+◌, Err, IfOk, IfErr, OnOk, length};
+ghost use Rattle.std.specs.Prelude.{◌≡◌, ◌^◌, ◌<◌, ◌≤◌, ◌+◌, List, ℕ, [], Err, IfOk, IfErr, OnOk, length};
 ghost use Rattle.sdh_basics.specs.Causes.{Rose, IsCounted};
 ghost use Rattle.sdh_node_cli.specs.Records.{IsRecord};
-ghost use Rattle.sdh_node_cli.specs.Bench.{answer_room, room_in};
-ghost use Rattle.sdh_node_cli.specs.Outcome.{Goes, StopsBy};
+ghost use Rattle.sdh_node_cli.specs.Bench.{after_coming, size_after, room_in};
+ghost use Rattle.sdh_node_cli.specs.Turns.{room_for, HasLine, Takes, TakesPart, Ran, StopsRound, Goes, Halts, StopsBy};
 
-use crate::bench::{Bench, NoFrame};
+use crate::bench::Bench;
 use crate::ending::Flaw;
 use crate::record::{Came, Record};
+use crate::stop::Stop;
 use sdh_outside::{Sink, Source, write_text};
 use sdh_report::Text;
 use sdh_ringmap::Side;
@@ -16,19 +17,6 @@ use std::alloc::{AllocError, Global};
 
 /// The most bytes that are read of a line: 64, and one more that is to be its newline byte.
 const LINE_READ: usize = 65;
-
-/// Why no record more is done.
-#[derive(Clone, Copy, Debug, PartialEq, Eq)]
-pub enum Stop {
-    /// The source has ended.
-    Done,
-    /// The next record is flawed.
-    Bad(Flaw),
-    /// A read failed.
-    ReadFault,
-    /// A write failed.
-    WriteFault,
-}
 
 /// Room for the line of a record, and for an answer.
 #[derive(Drop)]
@@ -41,8 +29,7 @@ impl Texts {
     /// Returns room for the line of a record, and for the answers of a bench. It takes all their memory here.
     pub fn try_new(alloc: Global, bench: &Bench) -> Result<Texts, AllocError>
         ensures line { IfOk result (λ texts. room_in texts.line ≡ 65) }
-        ensures answer { IfOk result
-            (λ texts. answer_room bench.now.node.settings.rate (length bench.now.circuits) ≤ room_in texts.answer) }
+        ensures answer { IfOk result (λ texts. room_for bench.now ≤ room_in texts.answer) }
     {
         Ok(Texts {
             line: Text::try_new(alloc, LINE_READ)?,
@@ -51,18 +38,18 @@ impl Texts {
     }
 }
 
-// Reads the line of the next record, and returns the record.
+// Reads the line of the next record into an empty text, and returns the record.
 fn next_record<R: Source>(bench: &Bench, line: &mut Text, source: &mut R) -> Result<Record, Stop>
-    requires room { room_in line.old ≡ 65 }
-    ensures record { IfOk result (λ record. HasRead bench.now line.new.bytes record (R.left source.old) (R.left source.new)) }
+    requires empty { line.old.bytes ≡ [] }
+    requires room { line.old.room ≡ 65 }
+    ensures line { IfOk result (λ r. HasLine bench.now line.new.bytes r (R.left source.old) (R.left source.new)) }
     ensures form { IfOk result (IsRecord bench.now.circuits bench.now.at) }
-    ensures stop { IfErr result (λ stop. HasStopped bench.now stop (R.left source.old) (R.left source.new)) }
+    ensures stop { IfErr result (λ why. Halts bench.now why (R.left source.old) (R.left source.new)) }
     ensures room { room_in line.new ≡ 65 }
     ensures fault { result ≡ Err Stop.ReadFault → Rose (R.faults source.old) (R.faults source.new) }
     ensures counted { IsCounted R.exact (result ≡ Err Stop.ReadFault) (R.faults source.old) (R.faults source.new) }
     ensures later { R.faults source.old ≤ R.faults source.new }
 {
-    line.clear();
     match read_line(source, line) {
         Ok(LineEnd::Whole) => match bench.record_of(line.bytes()) {
             Ok(record) => Ok(record),
@@ -76,12 +63,14 @@ fn next_record<R: Source>(bench: &Bench, line: &mut Text, source: &mut R) -> Res
 }
 
 // Keeps for the next round what came on a side: a frame is taken from the source.
-fn take_in<R: Source>(
-    bench: &mut Bench,
-    source: &mut R,
-    side: Side,
-    came: Came,
-) -> Result<(), Stop>
+#[tactic(auto, unfolding(crate::specs::Bench::after_coming))]
+fn take_in<R: Source>(bench: &mut Bench, source: &mut R, side: Side, came: Came) -> Result<(), Stop>
+    ensures ok { OnOk result ((bytes : List ℕ) × Takes bench.old came (R.left source.old) (R.left source.new) bytes
+        × (bench.new ≡ record bench.old { node = after_coming side came bytes bench.old.node })) }
+    ensures part { IfErr result (TakesPart (size_after bench.old.node.settings.rate came) (R.left source.old) (R.left source.new)) }
+    ensures fault { result ≡ Err Stop.ReadFault → Rose (R.faults source.old) (R.faults source.new) }
+    ensures counted { IsCounted R.exact (result ≡ Err Stop.ReadFault) (R.faults source.old) (R.faults source.new) }
+    ensures later { R.faults source.old ≤ R.faults source.new }
 {
     match came {
         Came::Nothing => Ok(()),
@@ -89,15 +78,11 @@ fn take_in<R: Source>(
             bench.darken(side);
             Ok(())
         }
-        Came::Frame => match bench.take_frame(source, side) {
-            Ok(()) => Ok(()),
-            Err(NoFrame::Cut) => Err(Stop::Bad(Flaw::Cut)),
-            Err(NoFrame::ReadFault) => Err(Stop::ReadFault),
-        },
+        Came::Frame => bench.take_frame(source, side),
     }
 }
 
-// Runs a round over what came on both sides, and writes its answer.
+// Runs a round over what came from the west and from the east, and writes its answer.
 fn run_round<R: Source, W: Sink>(
     bench: &mut Bench,
     answer: &mut Text,
@@ -105,6 +90,18 @@ fn run_round<R: Source, W: Sink>(
     source: &mut R,
     sink: &mut W,
 ) -> Result<(), Stop>
+    requires few { bench.old.node.rounds < 2 ^ 32 }
+    requires room { room_for bench.old ≤ room_in answer.old }
+    ensures ran { OnOk result
+        (Ran bench.old bench.new west east (R.left source.old) (R.left source.new) (W.written sink.old) (W.written sink.new)) }
+    ensures stops { IfErr result (λ why.
+        StopsRound bench.old west east why (R.left source.old) (R.left source.new) (W.written sink.old) (W.written sink.new)) }
+    ensures kept { room_in answer.new ≡ room_in answer.old }
+    ensures read { result ≡ Err Stop.ReadFault → Rose (R.faults source.old) (R.faults source.new) }
+    ensures broke { result ≡ Err Stop.WriteFault → Rose (W.faults sink.old) (W.faults sink.new) }
+    ensures reads { IsCounted R.exact (result ≡ Err Stop.ReadFault) (R.faults source.old) (R.faults source.new) }
+    ensures writes { IsCounted W.exact (result ≡ Err Stop.WriteFault) (W.faults sink.old) (W.faults sink.new) }
+    ensures later { (R.faults source.old ≤ R.faults source.new) × (W.faults sink.old ≤ W.faults sink.new) }
 {
     take_in(bench, source, Side::West, west)?;
     take_in(bench, source, Side::East, east)?;
@@ -125,19 +122,20 @@ pub fn turn<R: Source, W: Sink>(
 ) -> Result<(), Stop>
     requires few { bench.old.node.rounds < 2 ^ 32 }
     requires line { room_in texts.old.line ≡ 65 }
-    requires answer { answer_room bench.old.node.settings.rate (length bench.old.circuits) ≤ room_in texts.old.answer }
+    requires answer { room_for bench.old ≤ room_in texts.old.answer }
     ensures goes { OnOk result (Goes bench.old bench.new (R.left source.old) (R.left source.new) (W.written sink.old) (W.written sink.new)) }
     ensures stops { IfErr result
-        (λ stop. StopsBy bench.old stop (R.left source.old) (R.left source.new) (W.written sink.old) (W.written sink.new)) }
+        (λ why. StopsBy bench.old why (R.left source.old) (R.left source.new) (W.written sink.old) (W.written sink.new)) }
     ensures line { room_in texts.new.line ≡ 65 }
-    ensures answer { OnOk result (answer_room bench.new.node.settings.rate (length bench.new.circuits) ≤ room_in texts.new.answer) }
-    ensures rounds { bench.new.node.rounds ≤ bench.old.node.rounds + 1 }
+    ensures answer { OnOk result (room_for bench.new ≤ room_in texts.new.answer) }
+    ensures rounds { OnOk result (bench.new.node.rounds ≤ bench.old.node.rounds + 1) }
     ensures read { result ≡ Err Stop.ReadFault → Rose (R.faults source.old) (R.faults source.new) }
     ensures broke { result ≡ Err Stop.WriteFault → Rose (W.faults sink.old) (W.faults sink.new) }
     ensures reads { IsCounted R.exact (result ≡ Err Stop.ReadFault) (R.faults source.old) (R.faults source.new) }
     ensures writes { IsCounted W.exact (result ≡ Err Stop.WriteFault) (W.faults sink.old) (W.faults sink.new) }
     ensures later { (R.faults source.old ≤ R.faults source.new) × (W.faults sink.old ≤ W.faults sink.new) }
 {
+    texts.line.clear();
     let record = next_record(bench, &mut texts.line, source)?;
     if let Record::Round(west, east) = record {
         return run_round(bench, &mut texts.answer, (west, east), source, sink);
