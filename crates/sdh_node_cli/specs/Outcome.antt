@@ -58,6 +58,14 @@ RefusesHead left now status.NotToml = HasBadHead left now status.NotToml
 RefusesHead left now (status.BadPlan number place) = HasBadHead left now (status.BadPlan number place)
 RefusesHead left now how = ⊥
 
+-- why a document gives no plan
+abbrev pub IsNoPlan : List ℕ → NoHead → Type 0
+IsNoPlan document none.Memory = Unit {0}
+IsNoPlan document none.Cut = ⊥
+IsNoPlan document (none.Refused status.NotToml) = HasNoPlan document status.NotToml
+IsNoPlan document (none.Refused (status.BadPlan number place)) = HasNoPlan document (status.BadPlan number place)
+IsNoPlan document (none.Refused how) = ⊥
+
 -- how the program ends where there is no plan; with a lack of memory there is no outcome
 abbrev pub refusal_of : NoHead → Option Ending
 refusal_of none.Memory = None

@@ -1,10 +1,11 @@
 //! The plan of a stream, up to the line that ends it.
-ghost use Rattle.std.specs.Prelude.{◌≡◌, ◌≤◌, ◌+◌, ◌++◌, ◌↔◌, List, ℕ, [], IsTrue, Ok, Err, IfOk, OnOk, OnErr, length};
+ghost use Rattle.std.specs.Prelude.{◌≡◌, ◌≤◌, ◌+◌, ◌++◌, ◌↔◌, List, ℕ, [], codes, IsTrue, Ok, Err, IfOk, IfErr, OnOk, OnErr, length};
 ghost use Rattle.std.specs.Io.KnownBytes.{Consumes, IsAtEnd};
-ghost use Rattle.sdh_basics.specs.Causes.{Rose, IsCounted};
+ghost use Rattle.sdh_basics.specs.Causes.{Rose, IsCounted, HasCause};
 ghost use Rattle.sdh_report.specs.declared.status.Status.{Status};
-ghost use Rattle.sdh_node_cli.specs.Streams.{EndsPlan, HasNoEnd};
-ghost use Rattle.sdh_node_cli.specs.Outcome.{HasHead, TellsNone};
+ghost use Rattle.sdh_shell.specs.Reading.{TellsPlan};
+ghost use Rattle.sdh_node_cli.specs.Streams.{end_of_plan, EndsPlan, HasNoEnd};
+ghost use Rattle.sdh_node_cli.specs.Outcome.{HasHead, TellsNone, IsNoPlan};
 
 use sdh_outside::{Failed, Source, next_byte};
 use sdh_plan::{Plan, PlanError, read_plan};
@@ -74,7 +75,7 @@ fn read_head<R: Source>(source: &mut R, text: &mut Text) -> Result<HeadEnd, Fail
 
 // Returns the plan of a document and the line that ends it.
 fn plan_of(alloc: Global, bytes: &[u8]) -> Result<Plan, NoHead>
-    requires { EndsPlan bytes.now }
+    requires ends { EndsPlan bytes.now }
     requires few { length bytes.now ≤ 1048588 }
     ensures plan { IfOk result (λ plan. (document : List ℕ) × (bytes.now ≡ document ++ end_of_plan) × TellsPlan document plan) }
     ensures refused { IfErr result (λ why. (document : List ℕ) × (bytes.now ≡ document ++ end_of_plan) × IsNoPlan document why) }

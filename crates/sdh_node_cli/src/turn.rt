@@ -86,16 +86,16 @@ fn take_in<R: Source>(bench: &mut Bench, source: &mut R, side: Side, came: Came)
 fn run_round<R: Source, W: Sink>(
     bench: &mut Bench,
     answer: &mut Text,
-    (west, east): (Came, Came),
+    came: (Came, Came),
     source: &mut R,
     sink: &mut W,
 ) -> Result<(), Stop>
     requires few { bench.old.node.rounds < 2 ^ 32 }
     requires room { room_for bench.old ≤ room_in answer.old }
     ensures ran { OnOk result
-        (Ran bench.old bench.new west east (R.left source.old) (R.left source.new) (W.written sink.old) (W.written sink.new)) }
+        (Ran bench.old bench.new came.0 came.1 (R.left source.old) (R.left source.new) (W.written sink.old) (W.written sink.new)) }
     ensures stops { IfErr result (λ why.
-        StopsRound bench.old west east why (R.left source.old) (R.left source.new) (W.written sink.old) (W.written sink.new)) }
+        StopsRound bench.old came.0 came.1 why (R.left source.old) (R.left source.new) (W.written sink.old) (W.written sink.new)) }
     ensures kept { room_in answer.new ≡ room_in answer.old }
     ensures read { result ≡ Err Stop.ReadFault → Rose (R.faults source.old) (R.faults source.new) }
     ensures broke { result ≡ Err Stop.WriteFault → Rose (W.faults sink.old) (W.faults sink.new) }
@@ -103,6 +103,7 @@ fn run_round<R: Source, W: Sink>(
     ensures writes { IsCounted W.exact (result ≡ Err Stop.WriteFault) (W.faults sink.old) (W.faults sink.new) }
     ensures later { (R.faults source.old ≤ R.faults source.new) × (W.faults sink.old ≤ W.faults sink.new) }
 {
+    let (west, east) = came;
     take_in(bench, source, Side::West, west)?;
     take_in(bench, source, Side::East, east)?;
     answer.clear();
