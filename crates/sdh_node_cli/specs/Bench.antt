@@ -24,8 +24,8 @@ use Rattle.sdh_node_cli.specs.declared.words.Mode.{Mode}
 use Rattle.sdh_node_cli.specs.declared.words.Mode.TheVariants as mode
 use Rattle.sdh_node_cli.specs.declared.record.Came.{Came}
 use Rattle.sdh_node_cli.specs.declared.record.Came.TheVariants as came
-use Rattle.sdh_node_cli.specs.declared.record.Record.{Record}
-use Rattle.sdh_node_cli.specs.declared.record.Record.TheVariants as what
+use Rattle.sdh_node_cli.specs.declared.record.Told.{Told}
+use Rattle.sdh_node_cli.specs.declared.record.Told.TheVariants as told
 use Rattle.sdh_node_cli.specs.Records.{port_here, IsOwn}
 
 -- ---- the node, and what the records so far have led to
@@ -54,21 +54,19 @@ new_bench m id at plan = record {
 
 -- ---- what is told to it
 
--- why a record can't be done, if it can't: a moment goes back, or more than 16 slips would wait at a port
-unfoldable pub refusal : Bench → Record → Option Reason
-refusal b (what.Command side c) = None
-refusal b (what.Moment m) = if nat_lt m.0 b.now then Some reason.MomentBack else None
-refusal b (what.Hold turns) = None
-refusal b (what.Slip port turn count) = if nat_lt 16 (waiting_of port b.node.ports + count) then Some reason.Slips else None
-refusal b (what.Round west east) = None
+-- why it can't be done, if it can't: a moment goes back, or more than 16 slips would wait at a port
+unfoldable pub refusal_of : Bench → Told → Option Reason
+refusal_of b (told.Command side c) = None
+refusal_of b (told.Moment m) = if nat_lt m.0 b.now then Some reason.MomentBack else None
+refusal_of b (told.Hold turns) = None
+refusal_of b (told.Slip port turn count) = if nat_lt 16 (waiting_of port b.node.ports + count) then Some reason.Slips else None
 
--- what a record does that runs no round
-unfoldable pub after_told : Record → Bench → Bench
-after_told (what.Command side c) b = record b { node = at_receiving side (commanded_by c) b.node }
-after_told (what.Moment m) b = record b { now = m.0 }
-after_told (what.Hold turns) b = record b { node = held_for turns b.node }
-after_told (what.Slip port turn count) b = record b { node = slips_at port turn count b.node }
-after_told (what.Round west east) b = b
+-- what it does
+unfoldable pub after_told : Told → Bench → Bench
+after_told (told.Command side c) b = record b { node = at_receiving side (commanded_by c) b.node }
+after_told (told.Moment m) b = record b { now = m.0 }
+after_told (told.Hold turns) b = record b { node = held_for turns b.node }
+after_told (told.Slip port turn count) b = record b { node = slips_at port turn count b.node }
 
 -- ---- a round
 

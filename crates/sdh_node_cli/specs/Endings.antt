@@ -23,9 +23,13 @@ number_of ending.NoSuchNode = 15
 number_of (ending.BadRecord f number) = 17
 number_of (ending.Shared how) = status.number_of how
 
+-- the record of this number can't be done, for the reason of that number
+abbrev pub bad_record_text : ℕ → ℕ → List ℕ
+bad_record_text why number = codes "bad record " ++ decimal why ++ codes " at " ++ decimal number ++ codes "\n"
+
 -- records are counted from 1; what stands before them is number 0
 abbrev pub bad_record_line : Flaw → ℕ → List ℕ
-bad_record_line f number = codes "bad record " ++ decimal (flaw_number f) ++ codes " at " ++ decimal number ++ codes "\n"
+bad_record_line f number = bad_record_text (flaw_number f) number
 
 -- the last line of the text that goes with an ending
 abbrev pub line_of : Ending → List ℕ

@@ -22,6 +22,8 @@ use Rattle.sdh_node_cli.specs.declared.record.Came.{Came}
 use Rattle.sdh_node_cli.specs.declared.record.Came.TheVariants as came
 use Rattle.sdh_node_cli.specs.declared.record.Record.{Record}
 use Rattle.sdh_node_cli.specs.declared.record.Record.TheVariants as what
+use Rattle.sdh_node_cli.specs.declared.record.Told.{Told}
+use Rattle.sdh_node_cli.specs.declared.record.Told.TheVariants as told
 
 -- ---- words
 
@@ -70,20 +72,20 @@ number_in low high (word ∷ []) = or_why reason.StepNumber (numeral_in low high
 number_in low high (word ∷ more ∷ others) = Err reason.StepForm
 
 abbrev pub command_in : Command → List (List ℕ) → Result Record Reason
-command_in c others = when_ok (λ side. what.Command side c) (side_in others)
+command_in c others = when_ok (λ side. what.Told (told.Command side c)) (side_in others)
 
 abbrev pub moment_in : List (List ℕ) → Result Record Reason
-moment_in others = when_ok (λ number. what.Moment (record { 0 = number })) (number_in 0 1000000000 others)
+moment_in others = when_ok (λ number. what.Told (told.Moment (record { 0 = number }))) (number_in 0 1000000000 others)
 
 abbrev pub hold_in : List (List ℕ) → Result Record Reason
-hold_in others = when_ok what.Hold (number_in 1 100 others)
+hold_in others = when_ok (λ turns. what.Told (told.Hold turns)) (number_in 1 100 others)
 
 -- slips of a port, where the circuit's name, the turn and the number are these
 abbrev pub slip_by : Option PortId → Option Turn → Option ℕ → Result Record Reason
 slip_by None turn count = Err reason.SlipPort
 slip_by (Some port) None count = Err reason.StepSide
 slip_by (Some port) (Some turn) None = Err reason.StepNumber
-slip_by (Some port) (Some turn) (Some count) = Ok (what.Slip port turn count)
+slip_by (Some port) (Some turn) (Some count) = Ok (what.Told (told.Slip port turn count))
 
 abbrev pub slip_in : List Provisioned → Pos → List (List ℕ) → Result Record Reason
 slip_in circuits at [] = Err reason.StepForm
@@ -107,8 +109,8 @@ round_in (west ∷ east ∷ more ∷ others) = Err reason.StepForm
 -- ---- a record
 
 -- the record that a first word gives with those after it
-abbrev pub told : List Provisioned → Pos → List ℕ → List (List ℕ) → Result Record Reason
-told circuits at first others =
+abbrev pub record_by : List Provisioned → Pos → List ℕ → List (List ℕ) → Result Record Reason
+record_by circuits at first others =
     if bytes_eq first (codes "round") then round_in others
     else if bytes_eq first (codes "forced") then command_in command.Forced others
     else if bytes_eq first (codes "manual") then command_in command.Manual others
@@ -120,7 +122,7 @@ told circuits at first others =
 
 unfoldable pub record_in : List Provisioned → Pos → List (List ℕ) → Result Record Reason
 record_in circuits at [] = Err reason.StepForm
-record_in circuits at (first ∷ others) = told circuits at first others
+record_in circuits at (first ∷ others) = record_by circuits at first others
 
 -- the record that a line is, or why it is none: no word is empty
 unfoldable pub record_of : List Provisioned → Pos → List ℕ → Result Record Reason
@@ -132,9 +134,12 @@ record_of circuits at line = if list_any is_empty (words line) then Err reason.S
 abbrev pub IsOwn : List Provisioned → Pos → PortId → Type 0
 IsOwn circuits at port = (c : Provisioned) × (slice_get circuits port.circuit ≡ Some c) × (end_here at c ≡ Some port.end)
 
+abbrev pub IsTold : List Provisioned → Pos → Told → Type 0
+IsTold circuits at (told.Command side c) = Unit {0}
+IsTold circuits at (told.Moment m) = m.0 ≤ 1000000000
+IsTold circuits at (told.Hold turns) = (1 ≤ turns) × (turns ≤ 100)
+IsTold circuits at (told.Slip port turn count) = IsOwn circuits at port × (count ≤ 16)
+
 abbrev pub IsRecord : List Provisioned → Pos → Record → Type 0
-IsRecord circuits at (what.Command side c) = Unit {0}
-IsRecord circuits at (what.Moment m) = m.0 ≤ 1000000000
-IsRecord circuits at (what.Hold turns) = (1 ≤ turns) × (turns ≤ 100)
-IsRecord circuits at (what.Slip port turn count) = IsOwn circuits at port × (count ≤ 16)
+IsRecord circuits at (what.Told t) = IsTold circuits at t
 IsRecord circuits at (what.Round west east) = Unit {0}

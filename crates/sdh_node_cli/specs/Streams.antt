@@ -11,7 +11,7 @@ use Rattle.sdh_node_cli.specs.declared.record.Came.TheVariants as came
 use Rattle.sdh_node_cli.specs.declared.record.Record.{Record}
 use Rattle.sdh_node_cli.specs.declared.record.Record.TheVariants as what
 use Rattle.sdh_node_cli.specs.Records.{record_of}
-use Rattle.sdh_node_cli.specs.Bench.{Bench, refusal, after_told, size_after, with_arrivals, after_round, answer_to}
+use Rattle.sdh_node_cli.specs.Bench.{Bench, refusal_of, after_told, size_after, with_arrivals, after_round, answer_to}
 
 -- ---- the plan, up to the line that ends it
 
@@ -52,12 +52,17 @@ pub record Given : Type 0 where
 
 -- what came on each side, by a record
 abbrev pub west_of : Record → Came
+west_of (what.Told t) = came.Nothing
 west_of (what.Round west east) = west
-west_of r = came.Nothing
 
 abbrev pub east_of : Record → Came
+east_of (what.Told t) = came.Nothing
 east_of (what.Round west east) = east
-east_of r = came.Nothing
+
+-- why a record can't be done, if it can't
+abbrev pub refusal : Bench → Record → Option Reason
+refusal b (what.Told t) = refusal_of b t
+refusal b (what.Round west east) = None
 
 -- a line of a record has at most 64 bytes
 pub record IsLine (line : List ℕ) : Type 0 where
@@ -81,13 +86,13 @@ abbrev pub bytes_of : Given → List ℕ
 bytes_of g = whole_line g.line ++ (g.west ++ g.east)
 
 -- how a record leaves the node, and what is written for it
-unfoldable pub after_record : Record → List ℕ → List ℕ → Bench → Bench
+abbrev pub after_record : Record → List ℕ → List ℕ → Bench → Bench
+after_record (what.Told t) from_west from_east b = after_told t b
 after_record (what.Round west east) from_west from_east b = after_round (with_arrivals west from_west east from_east b)
-after_record r from_west from_east b = after_told r b
 
-unfoldable pub answer_of : Record → List ℕ → List ℕ → Bench → List ℕ
+abbrev pub answer_of : Record → List ℕ → List ℕ → Bench → List ℕ
+answer_of (what.Told t) from_west from_east b = []
 answer_of (what.Round west east) from_west from_east b = answer_to (with_arrivals west from_west east from_east b)
-answer_of r from_west from_east b = []
 
 abbrev pub after : Given → Bench → Bench
 after g b = after_record g.record_is g.west g.east b

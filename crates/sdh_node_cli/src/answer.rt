@@ -30,7 +30,6 @@ fn put_port(text: &mut Text, node: &Adm, at: Pos, number: u8, circuit: &Circuit)
         circuit: number,
         end,
     };
-    sdh_report::laws::lines_are_short();
     text.port_line(circuit.name(), end, node.delivered(port), node.value(port));
 }
 

@@ -4,14 +4,14 @@ ghost use Rattle.std.specs.Io.KnownBytes.{Consumes};
 ghost use Rattle.sdh_basics.specs.Causes.{Rose, IsCounted};
 ghost use Rattle.sdh_frame.specs.Sizes.{size_of};
 ghost use Rattle.sdh_plan.specs.Check.{unless};
-ghost use Rattle.sdh_node_cli.specs.Records.{record_of, IsRecord};
+ghost use Rattle.sdh_node_cli.specs.Records.{record_of, IsTold, IsRecord};
 ghost use Rattle.sdh_node_cli.specs.Turns.{TakesPart};
 ghost use Rattle.sdh_node_cli.specs.declared.record.Came.TheVariants as came;
-ghost use Rattle.sdh_node_cli.specs.Bench.{new_bench, refusal, after_told, after_coming, after_round, lines_of, answer_to, answer_room, room_in};
+ghost use Rattle.sdh_node_cli.specs.Bench.{new_bench, refusal_of, after_told, after_coming, after_round, lines_of, answer_to, answer_room, room_in};
 
 use crate::answer::{put_frames, put_ports, put_shown};
 use crate::ending::Flaw;
-use crate::record::{Record, record_of};
+use crate::record::{Record, Told, record_of};
 use crate::stop::Stop;
 use crate::words::{Ask, Mode};
 use sdh_circuits::CircuitMap;
@@ -93,30 +93,29 @@ impl Bench {
         record_of(&self.circuits, self.at, line)
     }
 
-    /// Does what a record says that runs no round, or returns why it can't be done, and changes nothing then.
-    #[tactic(auto, unfolding(crate::specs::Bench::refusal, crate::specs::Bench::after_told))]
-    pub fn tell(&mut self, told: Record) -> Result<(), Reason>
-        requires { IsRecord self.old.circuits self.old.at told }
-        ensures refused { result ≡ unless (refusal self.old told) tt }
+    /// Does what is told to the node, or returns why it can't be done, and changes nothing then.
+    #[tactic(auto, unfolding(crate::specs::Bench::refusal_of, crate::specs::Bench::after_told))]
+    pub fn tell(&mut self, told: Told) -> Result<(), Reason>
+        requires { IsTold self.old.circuits self.old.at told }
+        ensures refused { result ≡ unless (refusal_of self.old told) tt }
         ensures ok { OnOk result (self.new ≡ after_told told self.old) }
         ensures err { OnErr result (self.new ≡ self.old) }
     {
         match told {
-            Record::Command(side, command) => self.node.command(side, command),
-            Record::Moment(now) => {
+            Told::Command(side, command) => self.node.command(side, command),
+            Told::Moment(now) => {
                 if now.0 < self.now.0 {
                     return Err(Reason::MomentBack);
                 }
                 self.now = now;
             }
-            Record::Hold(turns) => self.node.hold(turns),
-            Record::Slip(port, turn, count) => {
+            Told::Hold(turns) => self.node.hold(turns),
+            Told::Slip(port, turn, count) => {
                 if u16::from(self.node.waiting(port)) + u16::from(count) > 16 {
                     return Err(Reason::Slips);
                 }
                 self.node.slip(port, turn, count);
             }
-            Record::Round(_, _) => {}
         }
         Ok(())
     }

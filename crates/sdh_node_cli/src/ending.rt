@@ -1,7 +1,7 @@
 //! How the program ends.
 ghost use Rattle.std.specs.Prelude.{◌≡◌, ◌≤◌, length};
 ghost use Rattle.sdh_report.specs.Written.{with_part};
-ghost use Rattle.sdh_node_cli.specs.Endings.{flaw_number, number_of, bad_record_line, bench_endings};
+ghost use Rattle.sdh_node_cli.specs.Endings.{flaw_number, number_of, bad_record_text, bench_endings};
 
 use sdh_plan::Reason;
 use sdh_report::{Status, Text};
@@ -61,19 +61,19 @@ impl Ending {
 }
 
 // Numbers of these sizes have few digits.
-fn short_line(flaw: Flaw, number: u64)
-    ensures { length (bad_record_line flaw number) ≤ 96 }
+fn short_line(why: u8, number: u64)
+    ensures { length (bad_record_text why number) ≤ 96 }
 {
-    let _ = (flaw.number(), number);
+    let _ = (why, number);
 }
 
-// Appends the last line of a record that can't be done.
-fn put_bad_record(text: &mut Text, flaw: Flaw, number: u64)
-    requires { length (bad_record_line flaw number) ≤ text.old.room }
-    ensures { text.new ≡ with_part text.old (bad_record_line flaw number) }
+// Appends the last line of a record that can't be done, by the number of what is wrong with it.
+fn put_bad_record(text: &mut Text, why: u8, number: u64)
+    requires { length (bad_record_text why number) ≤ text.old.room }
+    ensures { text.new ≡ with_part text.old (bad_record_text why number) }
 {
     text.put(b"bad record ");
-    text.put_number(u64::from(flaw.number()));
+    text.put_number(u64::from(why));
     text.put(b" at ");
     text.put_number(number);
     text.put(b"\n");
@@ -90,8 +90,9 @@ impl Ends for Ending {
         match *self {
             Ending::NoSuchNode => text.own_line(b"no such node"),
             Ending::BadRecord(flaw, number) => {
-                short_line(flaw, number);
-                put_bad_record(text, flaw, number);
+                let why = flaw.number();
+                short_line(why, number);
+                put_bad_record(text, why, number);
             }
             Ending::Shared(status) => status.put_line(text),
         }

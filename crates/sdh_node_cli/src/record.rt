@@ -1,9 +1,9 @@
 //! The records of a stream, by their lines.
-ghost use Rattle.std.specs.Prelude.{◌≡◌, ◌<◌, ◌≤◌, map, false, IfOk, IfSome, length, option_map};
-ghost use Rattle.std.specs.List.{list_any};
-ghost use Rattle.sdh_plan.specs.Words.{words, is_empty};
+ghost use Rattle.std.specs.Prelude.{◌≡◌, ◌≤◌, List, map, IfOk, IfSome};
+ghost use Rattle.sdh_ringmap.specs.declared.Pos.{Pos};
+ghost use Rattle.sdh_circuits.specs.Provisioned.{Provisioned};
 ghost use Rattle.sdh_node_cli.specs.Records.{came_at, end_here, own_port, side_in, number_in, slip_in, round_in, command_in, moment_in, hold_in};
-ghost use Rattle.sdh_node_cli.specs.Records.{told, record_in, record_of, IsRecord};
+ghost use Rattle.sdh_node_cli.specs.Records.{record_by, record_in, record_of, IsOwn, IsRecord};
 
 use sdh_circuits::{Circuit, CircuitMap, End, PortId};
 use sdh_payload::Turn;
@@ -22,9 +22,9 @@ pub enum Came {
     Frame,
 }
 
-/// A record: what is told to the node, and the rounds that it runs.
+/// What is told to the node between rounds.
 #[derive(Clone, Copy, Debug, PartialEq, Eq)]
-pub enum Record {
+pub enum Told {
     /// A side gets a command, in place of the one before.
     Command(Side, Command),
     /// The present moment is this one.
@@ -33,6 +33,13 @@ pub enum Record {
     Hold(u32),
     /// The clock of a port is to slip this number of times.
     Slip(PortId, Turn, u8),
+}
+
+/// A record of a stream.
+#[derive(Clone, Copy, Debug, PartialEq, Eq)]
+pub enum Record {
+    /// Something is told to the node.
+    Told(Told),
     /// A round runs, where this came from the west and that from the east.
     Round(Came, Came),
 }
@@ -66,12 +73,18 @@ pub fn end_here(at: Pos, circuit: &Circuit) -> Option<End>
 }
 
 // Returns the port at a position of the circuit whose name the word is.
+#[tactic(auto, unfolding(crate::specs::Records::own_port))]
 fn own_port(circuits: &CircuitMap, at: Pos, word: &[u8]) -> Option<PortId>
-    ensures { result ≡ own_port circuits.now.circuits at word.now }
+    ensures port { result ≡ own_port circuits.now.circuits at word.now }
+    ensures own { IfSome result (IsOwn circuits.now.circuits at) }
 {
-    let circuit = circuit_named(circuits, word)?;
-    let end = end_here(at, circuits.get(circuit))?;
-    Some(PortId { circuit, end })
+    let Some(circuit) = circuit_named(circuits, word) else {
+        return None;
+    };
+    match end_here(at, circuits.get(circuit)) {
+        Some(end) => Some(PortId { circuit, end }),
+        None => None,
+    }
 }
 
 // Returns the side that is the one word.
@@ -103,37 +116,41 @@ fn number_in(others: &[&[u8]], low: u32, high: u32) -> Result<u32, Reason>
 
 // Returns the command of the side that is the one word.
 fn command_in(others: &[&[u8]], command: Command) -> Result<Record, Reason>
-    ensures { result ≡ command_in command (map (λ word. word.now) others.now) }
+    ensures is { result ≡ command_in command (map (λ word. word.now) others.now) }
+    ensures form { IfOk result (λ r. (circuits : List Provisioned) (at : Pos) → IsRecord circuits at r) }
 {
     match side_in(others) {
-        Ok(side) => Ok(Record::Command(side, command)),
+        Ok(side) => Ok(Record::Told(Told::Command(side, command))),
         Err(reason) => Err(reason),
     }
 }
 
 // Returns the moment that is the one word.
 fn moment_in(others: &[&[u8]]) -> Result<Record, Reason>
-    ensures { result ≡ moment_in (map (λ word. word.now) others.now) }
+    ensures is { result ≡ moment_in (map (λ word. word.now) others.now) }
+    ensures form { IfOk result (λ r. (circuits : List Provisioned) (at : Pos) → IsRecord circuits at r) }
 {
     match number_in(others, 0, 1_000_000_000) {
-        Ok(number) => Ok(Record::Moment(Moment(u64::from(number)))),
+        Ok(number) => Ok(Record::Told(Told::Moment(Moment(u64::from(number))))),
         Err(reason) => Err(reason),
     }
 }
 
 // Returns the number of held turns that is the one word.
 fn hold_in(others: &[&[u8]]) -> Result<Record, Reason>
-    ensures { result ≡ hold_in (map (λ word. word.now) others.now) }
+    ensures is { result ≡ hold_in (map (λ word. word.now) others.now) }
+    ensures form { IfOk result (λ r. (circuits : List Provisioned) (at : Pos) → IsRecord circuits at r) }
 {
     match number_in(others, 1, 100) {
-        Ok(turns) => Ok(Record::Hold(turns)),
+        Ok(turns) => Ok(Record::Told(Told::Hold(turns))),
         Err(reason) => Err(reason),
     }
 }
 
 // Returns the slips of a port at a position: the circuit's name, the turn and their number.
 fn slip_in(circuits: &CircuitMap, at: Pos, others: &[&[u8]]) -> Result<Record, Reason>
-    ensures { result ≡ slip_in circuits.now.circuits at (map (λ word. word.now) others.now) }
+    ensures is { result ≡ slip_in circuits.now.circuits at (map (λ word. word.now) others.now) }
+    ensures form { IfOk result (IsRecord circuits.now.circuits at) }
 {
     let [name, turn, count] = others else {
         return Err(Reason::StepForm);
@@ -147,12 +164,13 @@ fn slip_in(circuits: &CircuitMap, at: Pos, others: &[&[u8]]) -> Result<Record, R
     let Some(count) = numeral_in(count, 1, 16) else {
         return Err(Reason::StepNumber);
     };
-    Ok(Record::Slip(port, turn, count as u8))
+    Ok(Record::Told(Told::Slip(port, turn, count as u8)))
 }
 
 // Returns the round by what came on both sides.
 fn round_in(others: &[&[u8]]) -> Result<Record, Reason>
-    ensures { result ≡ round_in (map (λ word. word.now) others.now) }
+    ensures is { result ≡ round_in (map (λ word. word.now) others.now) }
+    ensures form { IfOk result (λ r. (circuits : List Provisioned) (at : Pos) → IsRecord circuits at r) }
 {
     let [west, east] = others else {
         return Err(Reason::StepForm);
@@ -164,8 +182,14 @@ fn round_in(others: &[&[u8]]) -> Result<Record, Reason>
 }
 
 // Returns the record that a first word and those after it give.
-fn told(circuits: &CircuitMap, at: Pos, first: &[u8], others: &[&[u8]]) -> Result<Record, Reason>
-    ensures { result ≡ told circuits.now.circuits at first.now (map (λ word. word.now) others.now) }
+fn record_by(
+    circuits: &CircuitMap,
+    at: Pos,
+    first: &[u8],
+    others: &[&[u8]],
+) -> Result<Record, Reason>
+    ensures is { result ≡ record_by circuits.now.circuits at first.now (map (λ word. word.now) others.now) }
+    ensures form { IfOk result (IsRecord circuits.now.circuits at) }
 {
     if is_word(first, "round") {
         round_in(others)
@@ -187,17 +211,20 @@ fn told(circuits: &CircuitMap, at: Pos, first: &[u8], others: &[&[u8]]) -> Resul
 }
 
 // Returns the record that words give, none of which is empty.
+#[tactic(auto, unfolding(crate::specs::Records::record_in))]
 fn record_in(circuits: &CircuitMap, at: Pos, words: &[&[u8]]) -> Result<Record, Reason>
-    ensures { result ≡ record_in circuits.now.circuits at (map (λ word. word.now) words.now) }
+    ensures is { result ≡ record_in circuits.now.circuits at (map (λ word. word.now) words.now) }
+    ensures form { IfOk result (IsRecord circuits.now.circuits at) }
 {
     let [first, others @ ..] = words else {
         return Err(Reason::StepForm);
     };
-    told(circuits, at, first, others)
+    record_by(circuits, at, first, others)
 }
 
 /// Returns the record that a line is, for the node at a position of a ring with these circuits, or the reason of the
 /// first check of its words that fails.
+#[tactic(auto, unfolding(crate::specs::Records::record_of))]
 pub fn record_of(circuits: &CircuitMap, at: Pos, line: &[u8]) -> Result<Record, Reason>
     ensures is { result ≡ record_of circuits.now.circuits at line.now }
     ensures form { IfOk result (IsRecord circuits.now.circuits at) }

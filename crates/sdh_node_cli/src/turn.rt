@@ -137,12 +137,13 @@ pub fn turn<R: Source, W: Sink>(
     ensures later { (R.faults source.old ≤ R.faults source.new) × (W.faults sink.old ≤ W.faults sink.new) }
 {
     texts.line.clear();
-    let record = next_record(bench, &mut texts.line, source)?;
-    if let Record::Round(west, east) = record {
-        return run_round(bench, &mut texts.answer, (west, east), source, sink);
-    }
-    match bench.tell(record) {
-        Ok(()) => Ok(()),
-        Err(reason) => Err(Stop::Bad(Flaw::Said(reason))),
+    match next_record(bench, &mut texts.line, source)? {
+        Record::Round(west, east) => {
+            run_round(bench, &mut texts.answer, (west, east), source, sink)
+        }
+        Record::Told(told) => match bench.tell(told) {
+            Ok(()) => Ok(()),
+            Err(reason) => Err(Stop::Bad(Flaw::Said(reason))),
+        },
     }
 }
