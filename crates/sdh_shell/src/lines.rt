@@ -1,5 +1,6 @@
 //! Lines of a source.
-ghost use Rattle.std.specs.Prelude.{◌≡◌, ◌+◌, ◌≤◌, [], length, Ok, IfOk};
+ghost use Rattle.std.specs.Prelude.{◌≡◌, ◌+◌, ◌≤◌, [], length, Ok, IfOk, OnErr};
+ghost use Rattle.std.specs.Io.KnownBytes.{Consumes};
 ghost use Rattle.sdh_basics.specs.Causes.{HasCause};
 ghost use Rattle.sdh_shell.specs.Lines.{TakesLine};
 
@@ -22,6 +23,7 @@ pub enum LineEnd {
 pub fn read_line<R: Source>(source: &mut R, text: &mut Text) -> Result<LineEnd, Failed>
     requires { text.old.bytes ≡ [] }
     ensures line { IfOk result (λ end. TakesLine (R.left source.old) (R.left source.new) text.new.bytes end) }
+    ensures part { OnErr result (Consumes (R.left source.old) (R.left source.new) text.new.bytes) }
     ensures kept { text.new.room + length text.new.bytes ≡ text.old.room }
     ensures full { result ≡ Ok LineEnd.Full → text.new.room ≡ 0 }
     ensures whole { result ≡ Ok LineEnd.Whole → 1 ≤ text.new.room }
