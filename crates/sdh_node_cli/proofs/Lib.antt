@@ -1,3 +1,6 @@
 pub mod Short
 pub mod Ports
 pub mod Runs
+pub mod Own
+pub mod Named
+pub mod EndLine

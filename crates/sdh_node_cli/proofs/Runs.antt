@@ -91,7 +91,7 @@ halts b stop.WriteFault left now old_text new_text not s = absurd (not refl)
 -- the records so far, and why there was no other
 pub served_by : (first b : Bench) (left mid now old_text mid_text new_text : Option (List ℕ)) (count : ℕ) (why : Stop)
     → Went first b left mid old_text mid_text count → why ≢ stop.WriteFault → StopsBy b why mid now mid_text new_text
-    → (text : List ℕ) × (Served first [] left now (count + 1) why text × Appends old_text new_text text)
+    → (text : List ℕ) × Served first [] left now (count + 1) why text × Appends old_text new_text text
 served_by first b left mid now old_text mid_text new_text count why w not s =
     let h = halts b why mid now mid_text new_text not s in (
       answers first w.records,
@@ -100,8 +100,8 @@ served_by first b left mid now old_text mid_text new_text count why w not s =
         are = w.are;
         numbered = omega (arith, w.counted);
         tail = h.0.0;
-        read = Consumes-trans left mid now _ _ w.read h.0.1.1;
-        so = subst (λ x. StopsSo x why h.0.0 now) w.bench h.0.1.0;
+        read = Consumes-trans left mid now _ _ w.read h.0.2;
+        so = subst (λ x. StopsSo x why h.0.0 now) w.bench h.0.1;
         text_is = refl;
       },
       keeps_behind old_text mid_text new_text _ w.wrote h.1,

@@ -16,7 +16,7 @@ short_bad why number h k =
       length-append b (decimal number),
       length-append a (codes " at "),
       length-append (codes "bad record ") (decimal why),
-      length-decimal-le 3 why (omega arith) (omega arith) h,
+      length-decimal-le 3 why (omega arith) (omega arith) (omega arith),
       length-decimal-le 20 number (omega arith) (omega arith) k,
     )
 

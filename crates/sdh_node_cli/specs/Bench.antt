@@ -38,7 +38,7 @@ pub record Bench : Type 0 where
   pub at : Pos
   pub circuits : List Provisioned
   -- the present moment
-  pub now : ℕ
+  pub moment : ℕ
   pub node : Node
 
 -- the node at a position of a plan's ring, before any record
@@ -48,7 +48,7 @@ new_bench m id at plan = record {
   id = id;
   at = at;
   circuits = plan.circuits;
-  now = 0;
+  moment = 0;
   node = new_node plan.settings plan.nodes plan.circuits at;
 }
 
@@ -57,14 +57,14 @@ new_bench m id at plan = record {
 -- why it can't be done, if it can't: a moment goes back, or more than 16 slips would wait at a port
 unfoldable pub refusal_of : Bench → Told → Option Reason
 refusal_of b (told.Command side c) = None
-refusal_of b (told.Moment m) = if nat_lt m.0 b.now then Some reason.MomentBack else None
+refusal_of b (told.Moment m) = if nat_lt m.0 b.moment then Some reason.MomentBack else None
 refusal_of b (told.Hold turns) = None
 refusal_of b (told.Slip port turn count) = if nat_lt 16 (waiting_of port b.node.ports + count) then Some reason.Slips else None
 
 -- what it does
 unfoldable pub after_told : Told → Bench → Bench
 after_told (told.Command side c) b = record b { node = at_receiving side (commanded_by c) b.node }
-after_told (told.Moment m) b = record b { now = m.0 }
+after_told (told.Moment m) b = record b { moment = m.0 }
 after_told (told.Hold turns) b = record b { node = held_for turns b.node }
 after_told (told.Slip port turn count) b = record b { node = slips_at port turn count b.node }
 
@@ -89,10 +89,10 @@ with_arrivals west from_west east from_east b =
 
 -- the round that finds the node so
 abbrev pub after_round : Bench → Bench
-after_round b = record b { node = (node_round b.now b.node).0 }
+after_round b = record b { node = (node_round b.moment b.node).0 }
 
 abbrev pub frames_in : Bench → Frames
-frames_in b = (node_round b.now b.node).1
+frames_in b = (node_round b.moment b.node).1
 
 -- ---- what is written for it
 
@@ -128,8 +128,8 @@ answer_to b = lines_of (after_round b) ++ frames_if b.mode (frames_in b)
 -- ---- what is true of every bench
 
 pub record IsBench (b : Bench) : Type 0 where
-  pub forward : moment_of b.node ≤ b.now
-  pub within : b.now ≤ 1000000000
+  pub forward : moment_of b.node ≤ b.moment
+  pub within : b.moment ≤ 1000000000
   pub few : length b.circuits ≤ 128
   pub ports : (port : PortId) → IsOwn b.circuits b.at port → HasPort b.node.ports port
 

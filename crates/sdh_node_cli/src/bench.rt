@@ -34,7 +34,7 @@ pub struct Bench {
     id: u8,
     at: Pos,
     circuits: CircuitMap,
-    now: Moment,
+    moment: Moment,
     rounds: u64,
     node: Adm,
     west: FrameBuf,
@@ -43,13 +43,13 @@ pub struct Bench {
 
 impl Model for Bench {
     ghost use Rattle.std.specs.Prelude.{◌≡◌};
-    ghost use Rattle.sdh_node_cli.specs.Bench.{Bench as Value, IsBench};
+    ghost use Rattle.sdh_node_cli.specs.Bench.{Bench as OnBench, IsBench};
 
-    ghost Value = { Value };
+    ghost Value = { OnBench };
 
-    ghost view = { λ b. record { mode = b.mode; id = b.id; at = b.at; circuits = b.circuits.circuits; now = b.now.0; node = b.node } };
+    ghost view = { λ b. record { mode = b.mode; id = b.id; at = b.at; circuits = b.circuits.circuits; moment = b.moment.0; node = b.node } };
 
-    ghost invariant = { λ b. IsBench (record { mode = b.mode; id = b.id; at = b.at; circuits = b.circuits.circuits; now = b.now.0; node = b.node })
+    ghost invariant = { λ b. IsBench (record { mode = b.mode; id = b.id; at = b.at; circuits = b.circuits.circuits; moment = b.moment.0; node = b.node })
         × (b.rounds ≡ b.node.rounds) × (b.west.rate ≡ b.node.settings.rate) × (b.east.rate ≡ b.node.settings.rate) };
 }
 
@@ -70,7 +70,7 @@ impl Bench {
             id: ask.id,
             at,
             circuits,
-            now: Moment(0),
+            moment: Moment(0),
             rounds: 0,
             node,
             west,
@@ -103,11 +103,11 @@ impl Bench {
     {
         match told {
             Told::Command(side, command) => self.node.command(side, command),
-            Told::Moment(now) => {
-                if now.0 < self.now.0 {
+            Told::Moment(moment) => {
+                if moment.0 < self.moment.0 {
                     return Err(Reason::MomentBack);
                 }
-                self.now = now;
+                self.moment = moment;
             }
             Told::Hold(turns) => self.node.hold(turns),
             Told::Slip(port, turn, count) => {
@@ -167,7 +167,7 @@ impl Bench {
         ensures text { text.new.bytes ≡ answer_to self.old }
         ensures kept { room_in text.new ≡ room_in text.old }
     {
-        self.node.send(self.now, &mut self.west, &mut self.east);
+        self.node.send(self.moment, &mut self.west, &mut self.east);
         self.rounds += 1;
         self.put_lines(text);
         match self.mode {

@@ -66,7 +66,7 @@ fn read_head<R: Source>(source: &mut R, text: &mut Text) -> Result<HeadEnd, Fail
             return Ok(HeadEnd::Ended);
         };
         text.put(&[byte]);
-        if byte == b'\n' && ends_plan(text.bytes()) {
+        if ends_plan(text.bytes()) {
             return Ok(HeadEnd::Whole);
         }
     }
