@@ -113,9 +113,13 @@ ports_from n at number (c ∷ cs) = port_text n at number c ++ ports_from n at (
 unfoldable pub lines_of : Bench → List ℕ
 lines_of b = signal_line (b.node.rounds - 1) b.id (shown_of b.node) ++ ports_from b.node b.at 0 b.circuits
 
+-- so many bytes follow
+abbrev pub count_line : ℕ → List ℕ
+count_line count = codes "bytes " ++ decimal count ++ codes "\n"
+
 -- the number of bytes of the frames that leave, and the frames, the one to the west first
 unfoldable pub frames_text : Frames → List ℕ
-frames_text f = codes "bytes " ++ decimal (length f.west.bytes + length f.east.bytes) ++ codes "\n" ++ f.west.bytes ++ f.east.bytes
+frames_text f = count_line (length f.west.bytes + length f.east.bytes) ++ f.west.bytes ++ f.east.bytes
 
 abbrev pub frames_if : Mode → Frames → List ℕ
 frames_if mode.Lines f = []

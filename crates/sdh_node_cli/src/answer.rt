@@ -1,11 +1,13 @@
 //! What is written for a round.
 ghost use Rattle.std.specs.Prelude.{◌≡◌, ◌+◌, ◌*◌, ◌≤◌, ◌++◌, Some, length};
+ghost use Rattle.sdh_frame.specs.Sizes.{size_of};
 ghost use Rattle.sdh_circuits.specs.declared.PortId.{PortId};
 ghost use Rattle.sdh_terminal.specs.Tributaries.{HasPort};
+ghost use Rattle.sdh_report.specs.Written.{with_part};
 ghost use Rattle.sdh_aps.specs.Lines.{signal_line};
 ghost use Rattle.sdh_aps.specs.Showing.{shown_of};
 ghost use Rattle.sdh_node_cli.specs.Records.{end_here, IsOwn};
-ghost use Rattle.sdh_node_cli.specs.Bench.{port_text, ports_from, frames_text, room_in};
+ghost use Rattle.sdh_node_cli.specs.Bench.{port_text, ports_from, count_line, frames_text, room_in};
 
 use crate::record::end_here;
 use sdh_aps::{shown_of, signal_line};
@@ -56,18 +58,24 @@ pub fn put_shown(text: &mut Text, node: &Adm, round: u64, id: u8)
     signal_line(text, round, id, &shown_of(node));
 }
 
-/// Appends the number of bytes of two frames, and the frames.
-#[tactic(auto, unfolding(crate::specs::Bench::frames_text))]
-pub fn put_frames(text: &mut Text, west: &FrameBuf, east: &FrameBuf)
-    requires same { east.now.rate ≡ west.now.rate }
-    requires room { 32 + length west.now.bytes + length east.now.bytes ≤ text.old.room }
-    ensures bytes { text.new.bytes ≡ text.old.bytes ++ frames_text (record { west = west.now; east = east.now }) }
-    ensures kept { room_in text.new ≡ room_in text.old }
+// Appends the line that says how many bytes follow.
+fn put_count(text: &mut Text, count: usize)
+    requires { length (count_line count) ≤ text.old.room }
+    ensures { text.new ≡ with_part text.old (count_line count) }
 {
-    let count = west.bytes().len() + east.bytes().len();
     text.put(b"bytes ");
     text.put_number(count as u64);
     text.put(b"\n");
+}
+
+/// Appends the number of bytes of two frames, and the frames.
+#[tactic(auto, unfolding(crate::specs::Bench::frames_text))]
+pub fn put_frames(text: &mut Text, west: &FrameBuf, east: &FrameBuf)
+    requires room { 32 + size_of west.now.rate + size_of east.now.rate ≤ text.old.room }
+    ensures bytes { text.new.bytes ≡ text.old.bytes ++ frames_text (record { west = west.now; east = east.now }) }
+    ensures kept { room_in text.new ≡ room_in text.old }
+{
+    put_count(text, west.bytes().len() + east.bytes().len());
     text.put(west.bytes());
     text.put(east.bytes());
 }

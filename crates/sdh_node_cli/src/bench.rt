@@ -62,6 +62,7 @@ impl Bench {
     {
         let settings = plan.settings();
         let (map, circuits, _) = plan.into_parts();
+        prove!(circuits.len() <= 128);
         let west = FrameBuf::try_new(alloc, settings.rate)?;
         let east = FrameBuf::try_new(alloc, settings.rate)?;
         let node = Adm::try_new(alloc, settings, &map, &circuits, at)?;
@@ -180,6 +181,7 @@ impl Bench {
 // Reads a frame.
 fn read_frame<R: Source>(source: &mut R, frame: &mut FrameBuf) -> Result<(), Stop>
     ensures rate { frame.new.rate ≡ frame.old.rate }
+    ensures full { length frame.new.bytes ≡ size_of frame.old.rate }
     ensures ok { OnOk result (Consumes (R.left source.old) (R.left source.new) frame.new.bytes) }
     ensures part { IfErr result (TakesPart (size_of frame.old.rate) (R.left source.old) (R.left source.new)) }
     ensures fault { result ≡ Err Stop.ReadFault → Rose (R.faults source.old) (R.faults source.new) }
@@ -187,7 +189,9 @@ fn read_frame<R: Source>(source: &mut R, frame: &mut FrameBuf) -> Result<(), Sto
     ensures counted { IsCounted R.exact (result ≡ Err Stop.ReadFault) (R.faults source.old) (R.faults source.new) }
 {
     let size = frame.bytes().len();
-    match fill(source, frame.bytes_mut()) {
+    let filled = fill(source, frame.bytes_mut());
+    prove!(frame.bytes().len() == size);
+    match filled {
         Ok(count) if count == size => Ok(()),
         Ok(_) => Err(Stop::Bad(Flaw::Cut)),
         Err(_) => Err(Stop::ReadFault),
