@@ -3,9 +3,9 @@ use Rattle.std.proofs.Common.{◌≡◌, ◌≢◌, ℕ, zero, suc, ◌+◌, ◌
 use Rattle.std.proofs.Common.{Bool, true, false, append_assoc, take-append-drop, length-drop, take_all}
 use Rattle.std.specs.Str.{bytes_eq}
 use Rattle.std.proofs.lemmas.Slice.Eq.{bytes_eq-Decides}
-use Rattle.std.proofs.lemmas.List.{length-append, take_more}
+use Rattle.std.proofs.lemmas.List.{length-append, take_more, append_cancel_right}
 use Rattle.std.proofs.Math.Seq.{get_or-append_seam}
-use Rattle.sdh_node_cli.specs.Streams.{end_of_plan, AreLines, EndsPlan, HasNoEnd}
+use Rattle.sdh_node_cli.specs.Streams.{end_of_plan, AreLines, EndsPlan, HasNoEnd, IsDocument}
 
 -- ---- the line at the end of some bytes
 
@@ -87,3 +87,13 @@ last_byte bytes x (document, is, lines) =
 pub clash : (b : Bool) → b ≡ true → b ≡ false → ⊥
 clash true e f = cc
 clash false e f = cc
+
+-- a document, and the line that ends it for the first time
+pub is_document : (bytes document before : List ℕ) → bytes ≡ document ++ end_of_plan → bytes ≡ before ++ codes "\n" → HasNoEnd before
+    → EndsPlan bytes → IsDocument document
+is_document bytes document before is line none (other, ends, lines) =
+    let same : other ≡ document = append_cancel_right other document end_of_plan (sym ends ∙ is) in
+    let front : before ≡ document ++ codes "end of plan" =
+    append_cancel_right before (document ++ codes "end of plan") (codes "\n")
+    (sym line ∙ is ∙ sym (append_assoc document (codes "end of plan") (codes "\n"))) in
+    record { lines = subst AreLines same lines; first = subst HasNoEnd front none }

@@ -4,3 +4,5 @@ pub mod Runs
 pub mod Own
 pub mod Named
 pub mod EndLine
+pub mod Heads
+pub mod Turning

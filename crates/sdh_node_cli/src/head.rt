@@ -55,6 +55,7 @@ fn read_head<R: Source>(source: &mut R, text: &mut Text) -> Result<HeadEnd, Fail
     requires { text.old.bytes ≡ [] }
     ensures took { OnOk result (Consumes (R.left source.old) (R.left source.new) text.new.bytes) }
     ensures part { OnErr result (Consumes (R.left source.old) (R.left source.new) text.new.bytes) }
+    ensures none { OnErr result (HasNoEnd text.new.bytes) }
     ensures whole { result ≡ Ok HeadEnd.Whole → (before : List ℕ) × (text.new.bytes ≡ before ++ codes "\n") × HasNoEnd before × EndsPlan text.new.bytes }
     ensures ended { result ≡ Ok HeadEnd.Ended → HasNoEnd text.new.bytes × IsAtEnd (R.left source.new) }
     ensures full { result ≡ Ok HeadEnd.Full → HasNoEnd text.new.bytes × (text.new.room ≡ 0) }
@@ -103,7 +104,10 @@ pub fn plan_in<R: Source>(alloc: Global, source: &mut R) -> Result<Plan, NoHead>
         return Err(NoHead::Memory);
     };
     match read_head(source, &mut text) {
-        Ok(HeadEnd::Whole) => plan_of(alloc, text.bytes()),
+        Ok(HeadEnd::Whole) => match plan_of(alloc, text.bytes()) {
+            Ok(plan) => Ok(plan),
+            Err(why) => Err(why),
+        },
         Ok(HeadEnd::Ended) => Err(NoHead::Cut),
         Ok(HeadEnd::Full) => Err(NoHead::Refused(Status::TooLong)),
         Err(_) => Err(NoHead::Refused(Status::ReadFault)),

@@ -27,6 +27,7 @@ pub fn read_line<R: Source>(source: &mut R, text: &mut Text) -> Result<LineEnd, 
     ensures kept { text.new.room + length text.new.bytes ≡ text.old.room }
     ensures full { result ≡ Ok LineEnd.Full → text.new.room ≡ 0 }
     ensures whole { result ≡ Ok LineEnd.Whole → 1 ≤ text.new.room }
+    ensures ended { result ≡ Ok LineEnd.Ended → 1 ≤ text.new.room }
     ensures cause { HasCause R.exact (R.faults source.old) (R.faults source.new) result }
 {
     while text.room() > 0 {
