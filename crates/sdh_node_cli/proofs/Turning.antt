@@ -23,7 +23,7 @@ use Rattle.sdh_node_cli.specs.declared.stop.Stop.{Stop}
 use Rattle.sdh_node_cli.specs.declared.stop.Stop.TheVariants as stop
 use Rattle.sdh_node_cli.specs.Bench.{Bench, refusal_of, after_told, size_after, after_coming, with_arrivals, after_round, answer_to, answer_room}
 use Rattle.sdh_node_cli.specs.Streams.{Given, after_record, after}
-use Rattle.sdh_node_cli.specs.Turns.{room_for, HasLine, Takes, TakesPart, Ran, RanCut, StopsRound, Goes, Halts, Fails, StopsBy}
+use Rattle.sdh_node_cli.specs.Turns.{room_for, HasLine, Takes, TakesPart, TakesBoth, both_sizes, Ran, RanCut, StopsRound, Goes, Halts, Fails, StopsBy}
 
 -- ---- what stays
 
@@ -109,64 +109,93 @@ both_came : (b c d : Bench) (west east : Came) (w e : List ℕ) → c ≡ record
 both_came b c d west east w e first second =
     second ∙ ap (λ (x : Bench). record x { node = after_coming East east e x.node }) first
 
-pub ran_by : (b c d new : Bench) (west east : Came) (left mid now old_text new_text : Option (List ℕ)) (w e : List ℕ)
+-- whole frames came on both sides
+pub takes_both : (b c d : Bench) (west east : Came) (left mid now : Option (List ℕ)) (w e : List ℕ)
     → Takes b west left mid w → c ≡ record b { node = after_coming West west w b.node } → Takes c east mid now e
-    → d ≡ record c { node = after_coming East east e c.node } → new ≡ after_round d → Appends old_text new_text (answer_to d)
-    → Ran b new west east left now old_text new_text
-ran_by b c d new west east left mid now old_text new_text w e first is_c second is_d is wrote =
-    let both = both_came b c d west east w e is_c is_d in
-    record {
-      from_west = w;
-      from_east = e;
-      west_whole = first.whole;
-      east_whole = second.whole ∙ ap (λ (s : Settings). size_after s.rate east) (coming_is West west w b c is_c).0;
-      read = Consumes-trans left mid now w e first.read second.read;
-      wrote = subst (λ x. Appends old_text new_text (answer_to x)) both wrote;
-      bench = is ∙ ap after_round both;
-    }
-
-pub ran_cut_by : (b c d : Bench) (west east : Came) (left mid now old_text new_text : Option (List ℕ)) (w e : List ℕ)
-    → Takes b west left mid w → c ≡ record b { node = after_coming West west w b.node } → Takes c east mid now e
-    → d ≡ record c { node = after_coming East east e c.node } → AppendsFewer old_text new_text (answer_to d)
-    → RanCut b west east left now old_text new_text
-ran_cut_by b c d west east left mid now old_text new_text w e first is_c second is_d front =
-    let both = both_came b c d west east w e is_c is_d in
-    record {
-      from_west = w;
-      from_east = e;
-      west_whole = first.whole;
-      east_whole = second.whole ∙ ap (λ (s : Settings). size_after s.rate east) (coming_is West west w b c is_c).0;
-      read = Consumes-trans left mid now w e first.read second.read;
-      front = subst (λ x. AppendsFewer old_text new_text (answer_to x)) both front;
-    }
+    → d ≡ record c { node = after_coming East east e c.node } → TakesBoth b d west east left now
+takes_both b c d west east left mid now w e first is_c second is_d = record {
+  from_west = w;
+  from_east = e;
+  west_whole = first.whole;
+  east_whole = second.whole ∙ ap (λ (s : Settings). size_after s.rate east) (coming_is West west w b c is_c).0;
+  read = Consumes-trans left mid now w e first.read second.read;
+  bench = both_came b c d west east w e is_c is_d;
+}
 
 -- what came from the west was cut off
-pub west_stops : (b : Bench) (west east : Came) (why : Stop) (left now text : Option (List ℕ))
-    → TakesPart (size_after b.node.settings.rate west) left now why → StopsRound b west east why left now text text
-west_stops b west east (stop.Bad flaw.Cut) left now text p = ((p.0, omega (arith, p.1), p.2, p.3), Keeps-refl text)
-west_stops b west east stop.ReadFault left now text p = (p, Keeps-refl text)
-west_stops b west east (stop.Bad (flaw.Said r)) left now text p = absurd p
-west_stops b west east (stop.Bad flaw.Long) left now text p = absurd p
-west_stops b west east (stop.Bad flaw.Many) left now text p = absurd p
-west_stops b west east stop.Done left now text p = absurd p
-west_stops b west east stop.WriteFault left now text p = absurd p
+pub west_part : (b : Bench) (west east : Came) (why : Stop) (left now : Option (List ℕ))
+    → TakesPart (size_after b.node.settings.rate west) left now why → TakesPart (both_sizes b west east) left now why
+west_part b west east (stop.Bad flaw.Cut) left now p = (p.0, omega (arith, p.1), p.2, p.3)
+west_part b west east stop.ReadFault left now p = p
+west_part b west east (stop.Bad (flaw.Said r)) left now p = absurd p
+west_part b west east (stop.Bad flaw.Long) left now p = absurd p
+west_part b west east (stop.Bad flaw.Many) left now p = absurd p
+west_part b west east stop.Done left now p = absurd p
+west_part b west east stop.WriteFault left now p = absurd p
 
 -- what came from the east was
-pub east_stops : (b c : Bench) (west east : Came) (why : Stop) (left mid now text : Option (List ℕ)) (w : List ℕ)
+pub east_part : (b c : Bench) (west east : Came) (why : Stop) (left mid now : Option (List ℕ)) (w : List ℕ)
     → Takes b west left mid w → c ≡ record b { node = after_coming West west w b.node }
-    → TakesPart (size_after c.node.settings.rate east) mid now why → StopsRound b west east why left now text text
-east_stops b c west east (stop.Bad flaw.Cut) left mid now text w first is p =
-    let size = ap (λ (s : Settings). size_after s.rate east) (coming_is West west w b c is).0 in (
-      (w ++ p.0, omega (arith, p.1, size, first.whole, length-append w p.0), Consumes-trans left mid now w p.0 first.read p.2, p.3),
-      Keeps-refl text,
+    → TakesPart (size_after c.node.settings.rate east) mid now why → TakesPart (both_sizes b west east) left now why
+east_part b c west east (stop.Bad flaw.Cut) left mid now w first is p =
+    let size = ap (λ (s : Settings). size_after s.rate east) (coming_is West west w b c is).0 in
+    (w ++ p.0, omega (arith, p.1, size, first.whole, length-append w p.0), Consumes-trans left mid now w p.0 first.read p.2, p.3)
+east_part b c west east stop.ReadFault left mid now w first is p = (w ++ p.0, Consumes-trans left mid now w p.0 first.read p.1)
+east_part b c west east (stop.Bad (flaw.Said r)) left mid now w first is p = absurd p
+east_part b c west east (stop.Bad flaw.Long) left mid now w first is p = absurd p
+east_part b c west east (stop.Bad flaw.Many) left mid now w first is p = absurd p
+east_part b c west east stop.Done left mid now w first is p = absurd p
+east_part b c west east stop.WriteFault left mid now w first is p = absurd p
+
+-- the round that runs over both, with its answer
+pub ran_by : (b d new : Bench) (west east : Came) (left now old_text new_text : Option (List ℕ)) → TakesBoth b d west east left now
+    → new ≡ after_round d → Appends old_text new_text (answer_to d) → Ran b new west east left now old_text new_text
+ran_by b d new west east left now old_text new_text both is wrote = record {
+  from_west = both.from_west;
+  from_east = both.from_east;
+  west_whole = both.west_whole;
+  east_whole = both.east_whole;
+  read = both.read;
+  wrote = subst (λ x. Appends old_text new_text (answer_to x)) both.bench wrote;
+  bench = is ∙ ap after_round both.bench;
+}
+
+pub cut_by : (b d : Bench) (west east : Came) (why : Stop) (left now old_text new_text : Option (List ℕ)) → why ≡ stop.WriteFault
+    → TakesBoth b d west east left now → AppendsFewer old_text new_text (answer_to d)
+    → StopsRound b west east why left now old_text new_text
+cut_by b d west east why left now old_text new_text is both front =
+    let cut : RanCut b west east left now old_text new_text = record {
+      from_west = both.from_west;
+      from_east = both.from_east;
+      west_whole = both.west_whole;
+      east_whole = both.east_whole;
+      read = both.read;
+      front = subst (λ x. AppendsFewer old_text new_text (answer_to x)) both.bench front;
+    } in
+    subst (λ x. StopsRound b west east x left now old_text new_text) (sym is) cut
+
+pub part_stops : (b : Bench) (west east : Came) (why : Stop) (left now text : Option (List ℕ))
+    → TakesPart (both_sizes b west east) left now why → StopsRound b west east why left now text text
+part_stops b west east (stop.Bad flaw.Cut) left now text p = (p, Keeps-refl text)
+part_stops b west east stop.ReadFault left now text p = (p, Keeps-refl text)
+part_stops b west east (stop.Bad (flaw.Said r)) left now text p = absurd p
+part_stops b west east (stop.Bad flaw.Long) left now text p = absurd p
+part_stops b west east (stop.Bad flaw.Many) left now text p = absurd p
+part_stops b west east stop.Done left now text p = absurd p
+part_stops b west east stop.WriteFault left now text p = absurd p
+
+-- a node over which both came has run as many rounds, and its answer needs as much room
+pub both_stay : (b d : Bench) (west east : Came) (left now : Option (List ℕ)) → TakesBoth b d west east left now
+    → (d.node.rounds ≡ b.node.rounds) × (room_for d ≡ room_for b)
+both_stay b d west east left now both =
+    let node = came_node west both.from_west east both.from_east b in
+    let rounds = coming_rounds East east both.from_east (after_coming West west both.from_west b.node)
+    ∙ coming_rounds West west both.from_west b.node in
+    let settings = coming_settings East east both.from_east (after_coming West west both.from_west b.node)
+    ∙ coming_settings West west both.from_west b.node in (
+      ap (λ (x : Bench). x.node.rounds) both.bench ∙ rounds,
+      ap room_for both.bench ∙ ap (λ (s : Settings). answer_room s.rate (length b.circuits)) settings,
     )
-east_stops b c west east stop.ReadFault left mid now text w first is p =
-    ((w ++ p.0, Consumes-trans left mid now w p.0 first.read p.1), Keeps-refl text)
-east_stops b c west east (stop.Bad (flaw.Said r)) left mid now text w first is p = absurd p
-east_stops b c west east (stop.Bad flaw.Long) left mid now text w first is p = absurd p
-east_stops b c west east (stop.Bad flaw.Many) left mid now text w first is p = absurd p
-east_stops b c west east stop.Done left mid now text w first is p = absurd p
-east_stops b c west east stop.WriteFault left mid now text w first is p = absurd p
 
 -- ---- a record
 

@@ -37,6 +37,19 @@ TakesPart size left now (stop.Bad flaw.Cut) = (bytes : List ℕ) × (length byte
 TakesPart size left now stop.ReadFault = (bytes : List ℕ) × Consumes left now bytes
 TakesPart size left now why = ⊥
 
+-- whole frames were read of what came on both sides, that from the west first, and both are kept for the next round
+pub record TakesBoth (b new : Bench) (west east : Came) (left now : Option (List ℕ)) : Type 0 where
+  pub from_west : List ℕ
+  pub from_east : List ℕ
+  pub west_whole : length from_west ≡ size_after b.node.settings.rate west
+  pub east_whole : length from_east ≡ size_after b.node.settings.rate east
+  pub read : Consumes left now (from_west ++ from_east)
+  pub bench : new ≡ with_arrivals west from_west east from_east b
+
+-- the number of bytes that follow a record for what came on both sides
+abbrev pub both_sizes : Bench → Came → Came → ℕ
+both_sizes b west east = size_after b.node.settings.rate west + size_after b.node.settings.rate east
+
 -- ---- a round
 
 -- a round ran over what came on both sides, and its answer was written whole
@@ -62,7 +75,7 @@ pub record RanCut (b : Bench) (west east : Came) (left now old_text new_text : O
 abbrev pub StopsRound : Bench → Came → Came → Stop → Option (List ℕ) → Option (List ℕ) → Option (List ℕ) → Option (List ℕ) → Type 0
 StopsRound b west east stop.WriteFault left now old_text new_text = RanCut b west east left now old_text new_text
 StopsRound b west east why left now old_text new_text =
-    TakesPart (size_after b.node.settings.rate west + size_after b.node.settings.rate east) left now why × Keeps old_text new_text
+    TakesPart (both_sizes b west east) left now why × Keeps old_text new_text
 
 -- ---- a record
 

@@ -1,9 +1,11 @@
 //! One record, and what is written for it.
-ghost use Rattle.std.specs.Prelude.{◌≡◌, ◌^◌, ◌<◌, ◌≤◌, ◌+◌, List, ℕ, [], Err, IfOk, IfErr, OnOk, length};
+ghost use Rattle.std.specs.Prelude.{◌≡◌, ◌^◌, ◌<◌, ◌≤◌, ◌+◌, List, ℕ, [], Err, IfOk, IfErr, OnOk, OnErr, IsErr, length};
+ghost use Rattle.std.specs.Io.KnownBytes.{Appends};
 ghost use Rattle.sdh_basics.specs.Causes.{Rose, IsCounted};
+ghost use Rattle.sdh_outside.specs.Writing.{AppendsFewer};
 ghost use Rattle.sdh_node_cli.specs.Records.{IsRecord};
-ghost use Rattle.sdh_node_cli.specs.Bench.{after_coming, size_after, room_in};
-ghost use Rattle.sdh_node_cli.specs.Turns.{room_for, HasLine, Takes, TakesPart, Ran, StopsRound, Goes, Halts, StopsBy};
+ghost use Rattle.sdh_node_cli.specs.Bench.{after_coming, size_after, after_round, answer_to, room_in};
+ghost use Rattle.sdh_node_cli.specs.Turns.{room_for, HasLine, Takes, TakesPart, TakesBoth, both_sizes, Ran, StopsRound, Goes, Halts, StopsBy};
 
 use crate::bench::Bench;
 use crate::ending::Flaw;
@@ -82,7 +84,47 @@ fn take_in<R: Source>(bench: &mut Bench, source: &mut R, side: Side, came: Came)
     }
 }
 
+// Keeps for the next round what came from the west and from the east. The frame from the west is taken first.
+fn take_both<R: Source>(bench: &mut Bench, source: &mut R, came: (Came, Came)) -> Result<(), Stop>
+    ensures ok { OnOk result (TakesBoth bench.old bench.new came.0 came.1 (R.left source.old) (R.left source.new)) }
+    ensures part { IfErr result (TakesPart (both_sizes bench.old came.0 came.1) (R.left source.old) (R.left source.new)) }
+    ensures fault { result ≡ Err Stop.ReadFault → Rose (R.faults source.old) (R.faults source.new) }
+    ensures counted { IsCounted R.exact (result ≡ Err Stop.ReadFault) (R.faults source.old) (R.faults source.new) }
+    ensures later { R.faults source.old ≤ R.faults source.new }
+{
+    let (west, east) = came;
+    if let Err(stop) = take_in(bench, source, Side::West, west) {
+        return Err(stop);
+    }
+    match take_in(bench, source, Side::East, east) {
+        Ok(()) => Ok(()),
+        Err(stop) => Err(stop),
+    }
+}
+
+// Runs a round over what is kept of both sides, and writes its answer.
+fn answer_round<W: Sink>(bench: &mut Bench, answer: &mut Text, sink: &mut W) -> Result<(), Stop>
+    requires few { bench.old.node.rounds < 2 ^ 32 }
+    requires room { room_for bench.old ≤ room_in answer.old }
+    ensures bench { bench.new ≡ after_round bench.old }
+    ensures ok { OnOk result (Appends (W.written sink.old) (W.written sink.new) (answer_to bench.old)) }
+    ensures front { OnErr result (AppendsFewer (W.written sink.old) (W.written sink.new) (answer_to bench.old)) }
+    ensures why { IfErr result (λ why. why ≡ Stop.WriteFault) }
+    ensures kept { room_in answer.new ≡ room_in answer.old }
+    ensures broke { OnErr result (Rose (W.faults sink.old) (W.faults sink.new)) }
+    ensures writes { IsCounted W.exact (IsErr result) (W.faults sink.old) (W.faults sink.new) }
+    ensures later { W.faults sink.old ≤ W.faults sink.new }
+{
+    answer.clear();
+    bench.run(answer);
+    match write_text(sink, answer.bytes()) {
+        Ok(()) => Ok(()),
+        Err(_) => Err(Stop::WriteFault),
+    }
+}
+
 // Runs a round over what came from the west and from the east, and writes its answer.
+#[tactic(auto, using(crate::proofs::Turning::ran_by, crate::proofs::Turning::cut_by, crate::proofs::Turning::part_stops))]
 fn run_round<R: Source, W: Sink>(
     bench: &mut Bench,
     answer: &mut Text,
@@ -103,14 +145,12 @@ fn run_round<R: Source, W: Sink>(
     ensures writes { IsCounted W.exact (result ≡ Err Stop.WriteFault) (W.faults sink.old) (W.faults sink.new) }
     ensures later { (R.faults source.old ≤ R.faults source.new) × (W.faults sink.old ≤ W.faults sink.new) }
 {
-    let (west, east) = came;
-    take_in(bench, source, Side::West, west)?;
-    take_in(bench, source, Side::East, east)?;
-    answer.clear();
-    bench.run(answer);
-    match write_text(sink, answer.bytes()) {
+    if let Err(stop) = take_both(bench, source, came) {
+        return Err(stop);
+    }
+    match answer_round(bench, answer, sink) {
         Ok(()) => Ok(()),
-        Err(_) => Err(Stop::WriteFault),
+        Err(stop) => Err(stop),
     }
 }
 
@@ -128,8 +168,7 @@ pub fn turn<R: Source, W: Sink>(
     ensures stops { IfErr result
         (λ why. StopsBy bench.old why (R.left source.old) (R.left source.new) (W.written sink.old) (W.written sink.new)) }
     ensures line { room_in texts.new.line ≡ 65 }
-    ensures answer { OnOk result (room_for bench.new ≤ room_in texts.new.answer) }
-    ensures rounds { OnOk result (bench.new.node.rounds ≤ bench.old.node.rounds + 1) }
+    ensures answer { room_in texts.new.answer ≡ room_in texts.old.answer }
     ensures read { result ≡ Err Stop.ReadFault → Rose (R.faults source.old) (R.faults source.new) }
     ensures broke { result ≡ Err Stop.WriteFault → Rose (W.faults sink.old) (W.faults sink.new) }
     ensures reads { IsCounted R.exact (result ≡ Err Stop.ReadFault) (R.faults source.old) (R.faults source.new) }
@@ -137,13 +176,17 @@ pub fn turn<R: Source, W: Sink>(
     ensures later { (R.faults source.old ≤ R.faults source.new) × (W.faults sink.old ≤ W.faults sink.new) }
 {
     texts.line.clear();
-    match next_record(bench, &mut texts.line, source)? {
-        Record::Round(west, east) => {
-            run_round(bench, &mut texts.answer, (west, east), source, sink)
+    match next_record(bench, &mut texts.line, source) {
+        Ok(Record::Round(west, east)) => {
+            match run_round(bench, &mut texts.answer, (west, east), source, sink) {
+                Ok(()) => Ok(()),
+                Err(stop) => Err(stop),
+            }
         }
-        Record::Told(told) => match bench.tell(told) {
+        Ok(Record::Told(told)) => match bench.tell(told) {
             Ok(()) => Ok(()),
             Err(reason) => Err(Stop::Bad(Flaw::Said(reason))),
         },
+        Err(stop) => Err(stop),
     }
 }
