@@ -6,3 +6,4 @@ pub mod Named
 pub mod EndLine
 pub mod Heads
 pub mod Turning
+pub mod Told

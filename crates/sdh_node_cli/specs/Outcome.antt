@@ -1,6 +1,6 @@
 -- How a call of the program ends: each ending, when it is answered, the text that goes with it, and what was read by then.
 use Rattle.std.specs.Prelude.{ℕ, ◌≡◌, ◌⊎◌, ◌+◌, List, [], ◌++◌, length, codes, Option, Some, None}
-use Rattle.std.specs.Io.KnownBytes.{Appends, Consumes, IsAtEnd, Keeps}
+use Rattle.std.specs.Io.KnownBytes.{Consumes, IsAtEnd}
 use Rattle.sdh_outside.specs.Writing.{AppendsFewer}
 use Rattle.sdh_ringmap.specs.declared.Pos.{Pos}
 use Rattle.sdh_ringmap.specs.Places.{found_at}
@@ -9,7 +9,7 @@ use Rattle.sdh_report.specs.declared.status.Status.{Status}
 use Rattle.sdh_report.specs.declared.status.Status.TheVariants as status
 use Rattle.sdh_report.specs.Lines.{own_line}
 use Rattle.sdh_shell.specs.Reading.{HasNoPlan, TellsPlan}
-use Rattle.sdh_shell.specs.Writing.{Telling, Whole, Front, Nothing, telling_in}
+use Rattle.sdh_shell.specs.Writing.{TellsWith}
 use Rattle.sdh_node_cli.specs.declared.words.Ask.{Ask}
 use Rattle.sdh_node_cli.specs.declared.ending.Ending.{Ending}
 use Rattle.sdh_node_cli.specs.declared.ending.Ending.TheVariants as ending
@@ -152,15 +152,18 @@ abbrev pub IsOutcome : Option Ask → Option (List ℕ) → Option (List ℕ) �
 IsOutcome None left now how text = (how ≡ ending.Shared status.Usage) × (text ≡ own_line usage) × (now ≡ left)
 IsOutcome (Some ask) left now how text = HasRefused left now how text ⊎ HasPlan ask left now how text
 
--- a write failed while records were done
+-- a write failed in the answer to a record for the node of a plan
+pub record IsCutPlan (ask : Ask) (plan : Planned) (head : List ℕ) (left now old_text new_text : Option (List ℕ)) : Type 0 where
+  pub at : Pos
+  pub found : found_at plan.nodes ask.id ≡ Some at
+  pub cut : CutShort (new_bench ask.mode ask.id at plan) head left now old_text new_text
+
 pub record IsCutShort (ask : Ask) (left now old_text new_text : Option (List ℕ)) : Type 0 where
   pub document : List ℕ
   pub first : IsDocument document
   pub plan : Planned
   pub plan_is : TellsPlan document plan
-  pub at : Pos
-  pub found : found_at plan.nodes ask.id ≡ Some at
-  pub cut : CutShort (new_bench ask.mode ask.id at plan) (document ++ end_of_plan) left now old_text new_text
+  pub cut : IsCutPlan ask plan (document ++ end_of_plan) left now old_text new_text
 
 abbrev pub MayBeCut : Option Ask → Option (List ℕ) → Option (List ℕ) → Option (List ℕ) → Option (List ℕ) → Type 0
 MayBeCut None left now old_text new_text = ⊥
@@ -168,15 +171,14 @@ MayBeCut (Some ask) left now old_text new_text = IsCutShort ask left now old_tex
 
 -- ---- what was written
 
+-- when this ending was answered for the node of a plan, whose records came after these bytes
+abbrev pub TellsPlanned : Ask → Planned → List ℕ → Option (List ℕ) → Option (List ℕ) → Ending → Option (List ℕ) → Option (List ℕ) → Type 0
+TellsPlanned ask plan head left now how old_text new_text =
+    TellsWith bench_endings (λ h text. OfPlan ask plan head left now h text) (IsCutPlan ask plan head left now old_text new_text) how
+    old_text new_text
+
 -- The whole text of an outcome; or, where a write failed, fewer bytes from the front of one, or of the answers to the
 -- records so far; or nothing, where there was no memory.
-abbrev pub tells_as : Telling → Option Ask → Ending → Option (List ℕ) → Option (List ℕ) → Option (List ℕ) → Option (List ℕ) → Type 0
-tells_as Whole asked how left now old_text new_text = (text : List ℕ) × IsOutcome asked left now how text × Appends old_text new_text text
-tells_as Front asked how left now old_text new_text =
-    ((told : Ending) × (text : List ℕ) × IsOutcome asked left now told text × AppendsFewer old_text new_text text)
-    ⊎ MayBeCut asked left now old_text new_text
-tells_as Nothing asked how left now old_text new_text = Keeps old_text new_text
-
--- what was written when this ending was answered
-abbrev pub Tells : Option Ask → Ending → Option (List ℕ) → Option (List ℕ) → Option (List ℕ) → Option (List ℕ) → Type 0
-Tells asked how left now old_text new_text = tells_as (telling_in bench_endings how) asked how left now old_text new_text
+abbrev pub Tells : Option Ask → Option (List ℕ) → Option (List ℕ) → Ending → Option (List ℕ) → Option (List ℕ) → Type 0
+Tells asked left now how old_text new_text =
+    TellsWith bench_endings (λ h text. IsOutcome asked left now h text) (MayBeCut asked left now old_text new_text) how old_text new_text

@@ -44,11 +44,12 @@ pub fn serve<R: Source, W: Sink>(
     ensures later { (R.faults source.old ≤ R.faults source.new) × (W.faults sink.old ≤ W.faults sink.new) }
 {
     for done in 0..RECORDS_MAX {
-        if let Err(stop) = turn(bench, texts, source, sink) {
-            return Stopped {
+        match turn(bench, texts, source, sink) {
+            Ok(()) => {}
+            Err(stop) => return Stopped {
                 stop,
                 number: done + 1,
-            };
+            },
         }
     }
     Stopped {

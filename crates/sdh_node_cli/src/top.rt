@@ -1,15 +1,13 @@
 //! The program's call.
-ghost use Rattle.std.specs.Prelude.{◌≡◌, ◌≢◌, ◌⊎◌, ◌≤◌, [], None, Some, is_some, true, IfOk, OnErr, List, ℕ};
-ghost use Rattle.std.specs.Io.KnownBytes.{Appends};
+ghost use Rattle.std.specs.Prelude.{◌≡◌, ◌≢◌, ◌⊎◌, ◌≤◌, [], None, Some, IfOk, OnErr};
 ghost use Rattle.sdh_basics.specs.Causes.{Rose, IsCounted};
-ghost use Rattle.sdh_outside.specs.Writing.{AppendsFewer};
 ghost use Rattle.sdh_report.specs.Lines.{own_line};
 ghost use Rattle.sdh_report.specs.declared.status.Status.{Status};
 ghost use Rattle.sdh_shell.specs.Calls.{words_of};
-ghost use Rattle.sdh_shell.specs.Writing.{IsShown};
-ghost use Rattle.sdh_node_cli.specs.Endings.{line_of, bench_endings};
+ghost use Rattle.sdh_shell.specs.Writing.{WroteEnding};
+ghost use Rattle.sdh_node_cli.specs.Endings.{bench_endings};
 ghost use Rattle.sdh_node_cli.specs.Words.{asked};
-ghost use Rattle.sdh_node_cli.specs.Outcome.{usage, ending_of, Tells};
+ghost use Rattle.sdh_node_cli.specs.Outcome.{usage, ending_of, TellsPlanned, Tells};
 ghost use Rattle.sdh_node_cli.specs.declared.ending.Ending.{Ending};
 
 use crate::bench::Bench;
@@ -19,30 +17,11 @@ use crate::serving::{Stopped, serve};
 use crate::stop::Stop;
 use crate::turn::Texts;
 use crate::words::{Ask, asked};
-use sdh_outside::{Sink, Source, write_text};
+use sdh_outside::{Sink, Source};
 use sdh_plan::Plan;
 use sdh_report::{LINE_MAX, Status, Text};
-use sdh_shell::Ends;
+use sdh_shell::{EndedText, ended, write_ended};
 use std::alloc::{AllocError, Global};
-
-// Writes the last line of an ending, and returns that ending, or a write fault.
-fn end<W: Sink>(sink: &mut W, mut text: Text, ending: Ending) -> Ending
-    requires room { 96 ≤ text.room }
-    requires empty { text.bytes ≡ [] }
-    requires shown { IsShown bench_endings ending }
-    ensures whole { result ≢ Ending.Shared Status.WriteFault
-        → (result ≡ ending) × Appends (W.written sink.old) (W.written sink.new) (line_of ending) }
-    ensures front { result ≡ Ending.Shared Status.WriteFault → AppendsFewer (W.written sink.old) (W.written sink.new) (line_of ending) }
-    ensures fault { result ≡ Ending.Shared Status.WriteFault → Rose (W.faults sink.old) (W.faults sink.new) }
-    ensures writes { IsCounted W.exact (result ≡ Ending.Shared Status.WriteFault) (W.faults sink.old) (W.faults sink.new) }
-    ensures later { W.faults sink.old ≤ W.faults sink.new }
-{
-    ending.put_line(&mut text);
-    match write_text(sink, text.bytes()) {
-        Ok(()) => ending,
-        Err(_) => Ending::Shared(Status::WriteFault),
-    }
-}
 
 // Returns how the program ends where no record more was done.
 fn ending_of(stopped: Stopped) -> Ending
@@ -64,16 +43,29 @@ fn answer_plan<R: Source, W: Sink>(
     ask: Ask,
     source: &mut R,
     sink: &mut W,
-) -> Result<Ending, AllocError> {
+) -> Result<Ending, AllocError>
+    ensures outcome { IfOk result (λ how. TellsPlanned ask plan [] (R.left source.old) (R.left source.new) how (W.written sink.old)
+        (W.written sink.new)) }
+    ensures read { IfOk result (λ how. how ≡ Ending.Shared Status.ReadFault → Rose (R.faults source.old) (R.faults source.new)) }
+    ensures broke { IfOk result (λ how. how ≡ Ending.Shared Status.WriteFault → Rose (W.faults sink.old) (W.faults sink.new)) }
+    ensures reads { IfOk result (λ how. how ≢ Ending.Shared Status.WriteFault
+        → IsCounted R.exact (how ≡ Ending.Shared Status.ReadFault) (R.faults source.old) (R.faults source.new)) }
+    ensures writes { IfOk result
+        (λ how. IsCounted W.exact (how ≡ Ending.Shared Status.WriteFault) (W.faults sink.old) (W.faults sink.new)) }
+    ensures own { IfOk result (λ how. (how ≢ Ending.Shared Status.Usage) × (how ≢ Ending.Shared Status.Memory)) }
+    ensures later { (R.faults source.old ≤ R.faults source.new) × (W.faults sink.old ≤ W.faults sink.new) }
+    ensures memory { OnErr result (sink.new ≡ sink.old) }
+{
     let text = Text::try_new(alloc, LINE_MAX)?;
     let Some(at) = plan.map().find(ask.id) else {
-        return Ok(end(sink, text, Ending::NoSuchNode));
+        return Ok(write_ended(sink, ended(Ending::NoSuchNode, text)));
     };
     let mut bench = Bench::try_new(alloc, plan, ask, at)?;
     let mut texts = Texts::try_new(alloc, &bench)?;
-    match ending_of(serve(&mut bench, &mut texts, source, sink)) {
-        Ending::Shared(Status::WriteFault) => Ok(Ending::Shared(Status::WriteFault)),
-        ending => Ok(end(sink, text, ending)),
+    let stopped = serve(&mut bench, &mut texts, source, sink);
+    match stopped.stop {
+        Stop::WriteFault => Ok(Ending::Shared(Status::WriteFault)),
+        _ => Ok(write_ended(sink, ended(ending_of(stopped), text))),
     }
 }
 
@@ -83,23 +75,33 @@ fn answer<R: Source, W: Sink>(
     ask: Ask,
     source: &mut R,
     sink: &mut W,
-) -> Result<Ending, AllocError> {
+) -> Result<Ending, AllocError>
+    ensures outcome { IfOk result (λ how. Tells (Some ask) (R.left source.old) (R.left source.new) how (W.written sink.old)
+        (W.written sink.new)) }
+    ensures read { IfOk result (λ how. how ≡ Ending.Shared Status.ReadFault → Rose (R.faults source.old) (R.faults source.new)) }
+    ensures broke { IfOk result (λ how. how ≡ Ending.Shared Status.WriteFault → Rose (W.faults sink.old) (W.faults sink.new)) }
+    ensures reads { IfOk result (λ how. how ≢ Ending.Shared Status.WriteFault
+        → IsCounted R.exact (how ≡ Ending.Shared Status.ReadFault) (R.faults source.old) (R.faults source.new)) }
+    ensures writes { IfOk result
+        (λ how. IsCounted W.exact (how ≡ Ending.Shared Status.WriteFault) (W.faults sink.old) (W.faults sink.new)) }
+    ensures own { IfOk result (λ how. (how ≢ Ending.Shared Status.Usage) × (how ≢ Ending.Shared Status.Memory)) }
+    ensures later { (R.faults source.old ≤ R.faults source.new) × (W.faults sink.old ≤ W.faults sink.new) }
+    ensures memory { OnErr result (sink.new ≡ sink.old) }
+{
     // Room for the line is taken first, so that a read that fails is always reported.
     let text = Text::try_new(alloc, LINE_MAX)?;
     match plan_in(alloc, source) {
         Ok(plan) => answer_plan(alloc, plan, ask, source, sink),
         Err(NoHead::Memory) => Err(AllocError),
-        Err(NoHead::Cut) => Ok(end(sink, text, Ending::BadRecord(Flaw::Cut, 0))),
-        Err(NoHead::Refused(how)) => Ok(end(sink, text, Ending::Shared(how))),
+        Err(NoHead::Cut) => Ok(write_ended(sink, ended(Ending::BadRecord(Flaw::Cut, 0), text))),
+        Err(NoHead::Refused(how)) => Ok(write_ended(sink, ended(Ending::Shared(how), text))),
     }
 }
 
 // Writes how the program is called, and returns that ending, or a write fault.
 fn usage<W: Sink>(alloc: Global, sink: &mut W) -> Result<Ending, AllocError>
-    ensures whole { IfOk result (λ how. how ≢ Ending.Shared Status.WriteFault
-        → (how ≡ Ending.Shared Status.Usage) × Appends (W.written sink.old) (W.written sink.new) (own_line usage)) }
-    ensures front { IfOk result (λ how. how ≡ Ending.Shared Status.WriteFault
-        → AppendsFewer (W.written sink.old) (W.written sink.new) (own_line usage)) }
+    ensures wrote { IfOk result
+        (λ how. WroteEnding bench_endings (Ending.Shared Status.Usage) (own_line usage) how (W.written sink.old) (W.written sink.new)) }
     ensures broke { IfOk result (λ how. how ≡ Ending.Shared Status.WriteFault → Rose (W.faults sink.old) (W.faults sink.new)) }
     ensures writes { IfOk result
         (λ how. IsCounted W.exact (how ≡ Ending.Shared Status.WriteFault) (W.faults sink.old) (W.faults sink.new)) }
@@ -108,10 +110,8 @@ fn usage<W: Sink>(alloc: Global, sink: &mut W) -> Result<Ending, AllocError>
 {
     let mut text = Text::try_new(alloc, LINE_MAX)?;
     text.own_line(b"usage: sdhnode ID, frames, lines");
-    match write_text(sink, text.bytes()) {
-        Ok(()) => Ok(Ending::Shared(Status::Usage)),
-        Err(_) => Ok(Ending::Shared(Status::WriteFault)),
-    }
+    let ending = Ending::Shared(Status::Usage);
+    Ok(write_ended(sink, EndedText { ending, text }))
 }
 
 /// Does all that the program does, and returns how it ended. With the identifier of a node it reads a plan from the
@@ -127,7 +127,7 @@ pub fn sdhnode<R: Source, W: Sink>(
 ) -> Ending
     // The ending, what was read, and what was written: the answers that the definitions give for exactly the records
     // that were read.
-    ensures outcome { Tells (asked (words_of words.now)) result (R.left source.old) (R.left source.new) (W.written sink.old)
+    ensures outcome { Tells (asked (words_of words.now)) (R.left source.old) (R.left source.new) result (W.written sink.old)
         (W.written sink.new) }
 
     // Over every source and sink.

@@ -93,8 +93,9 @@ fn take_both<R: Source>(bench: &mut Bench, source: &mut R, came: (Came, Came)) -
     ensures later { R.faults source.old ≤ R.faults source.new }
 {
     let (west, east) = came;
-    if let Err(stop) = take_in(bench, source, Side::West, west) {
-        return Err(stop);
+    match take_in(bench, source, Side::West, west) {
+        Ok(()) => {}
+        Err(stop) => return Err(stop),
     }
     match take_in(bench, source, Side::East, east) {
         Ok(()) => Ok(()),
@@ -145,8 +146,9 @@ fn run_round<R: Source, W: Sink>(
     ensures writes { IsCounted W.exact (result ≡ Err Stop.WriteFault) (W.faults sink.old) (W.faults sink.new) }
     ensures later { (R.faults source.old ≤ R.faults source.new) × (W.faults sink.old ≤ W.faults sink.new) }
 {
-    if let Err(stop) = take_both(bench, source, came) {
-        return Err(stop);
+    match take_both(bench, source, came) {
+        Ok(()) => {}
+        Err(stop) => return Err(stop),
     }
     match answer_round(bench, answer, sink) {
         Ok(()) => Ok(()),

@@ -87,6 +87,9 @@ module _ {E : Type 0} (endings : Endings E) where
     pub no_usage : EndsPlan endings how → how ≢ endings.of status.Usage
     no_usage h = otherwise status.Usage h (λ x. x) (λ x. x)
 
+    pub no_write : EndsPlan endings how → how ≢ endings.of status.WriteFault
+    no_write h = otherwise status.WriteFault h (λ x. x) (λ x. x)
+
     pub is_shown : EndsPlan endings how → IsShown endings how
     is_shown (inl x) = ran_whole how x.0 x.1 x.2
     is_shown (inr x) = refusal_whole (endings.shared how) x

@@ -1,5 +1,5 @@
 -- What is written: of a text in pieces, and with which ending of a call.
-use Rattle.std.specs.Prelude.{◌≡◌, ℕ, ◌≤◌, Bool, List, Option, Some, None, Result, IsErr, OnOk, OnErr}
+use Rattle.std.specs.Prelude.{◌≡◌, ◌⊎◌, ℕ, ◌≤◌, Bool, List, Option, Some, None, Result, IsErr, OnOk, OnErr}
 use Rattle.std.specs.Io.KnownBytes.{Appends, Keeps}
 use Rattle.sdh_basics.specs.Causes.{Rose, IsCounted}
 use Rattle.sdh_outside.specs.Writing.{AppendsFewer}
@@ -64,3 +64,22 @@ WritesWith endings may how old new = WritesAs (telling_in endings how) may how o
 -- something is to be written with this ending: no writing has failed, and there was memory
 abbrev pub IsShown : {E : Type 0} → Endings E → E → Type 0
 IsShown endings how = telling_in endings how ≡ Whole
+
+-- ---- a text that is written as it comes
+
+-- What was written is as `WritesAs` says; or a write failed before it was known how the call would end, and `cut` holds
+-- of what was written.
+abbrev pub TellsAs : {S : Type 0} → Telling → (S → List ℕ → Type 0) → Type 0 → S → Option (List ℕ) → Option (List ℕ) → Type 0
+TellsAs Front may cut how old new = WritesAs Front may how old new ⊎ cut
+TellsAs Nothing may cut how old new = WritesAs Nothing may how old new
+TellsAs Whole may cut how old new = WritesAs Whole may how old new
+
+-- what was written when this ending was answered
+abbrev pub TellsWith : {E : Type 0} → Endings E → (E → List ℕ → Type 0) → Type 0 → E → Option (List ℕ) → Option (List ℕ) → Type 0
+TellsWith endings may cut how old new = TellsAs (telling_in endings how) may cut how old new
+
+-- An ending was to be returned, with a text. It was, and all of the text was written; or a write failed, and a front of
+-- the text was written.
+abbrev pub WroteEnding : {E : Type 0} → Endings E → E → List ℕ → E → Option (List ℕ) → Option (List ℕ) → Type 0
+WroteEnding endings how text end old new =
+    ((end ≡ how) × Appends old new text) ⊎ ((end ≡ endings.of status.WriteFault) × AppendsFewer old new text)

@@ -15,7 +15,7 @@ mod output;
 mod reading;
 mod words;
 
-pub use ended_text::{EndedText, ended, ended_line};
+pub use ended_text::{EndedText, ended, ended_line, write_ended};
 pub use ending::Ends;
 pub use lines::{LineEnd, read_line};
 pub use output::{Kept, Output};
