@@ -120,3 +120,21 @@ cut_by first b left mid now old_text mid_text new_text count w f = record {
       subst (λ x. AppendsFewer old_text new_text (answers first w.records ++ answer f.given x)) w.bench
       (fewer_behind old_text mid_text new_text (answers first w.records) (answer f.given b) w.wrote f.front);
 }
+
+-- as many records were done as may be
+pub served_all : (first b : Bench) (left now old_text new_text : Option (List ℕ)) (count : ℕ)
+    → Went first b left now old_text new_text count
+    → (text : List ℕ) × Served first [] left now (count + 1) (stop.Bad flaw.Many) text × Appends old_text new_text text
+served_all first b left now old_text new_text count w = (
+  answers first w.records,
+  record {
+    records = w.records;
+    are = w.are;
+    numbered = omega (arith, w.counted);
+    tail = [];
+    read = subst (Consumes left now) (sym (append-nil (stream_of w.records))) w.read;
+    so = (refl, tt);
+    text_is = refl;
+  },
+  w.wrote,
+)

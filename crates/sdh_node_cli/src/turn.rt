@@ -125,7 +125,6 @@ fn answer_round<W: Sink>(bench: &mut Bench, answer: &mut Text, sink: &mut W) -> 
 }
 
 // Runs a round over what came from the west and from the east, and writes its answer.
-#[tactic(auto, using(crate::proofs::Turning::ran_by, crate::proofs::Turning::cut_by, crate::proofs::Turning::part_stops))]
 fn run_round<R: Source, W: Sink>(
     bench: &mut Bench,
     answer: &mut Text,
@@ -179,15 +178,17 @@ pub fn turn<R: Source, W: Sink>(
 {
     texts.line.clear();
     match next_record(bench, &mut texts.line, source) {
-        Ok(Record::Round(west, east)) => {
-            match run_round(bench, &mut texts.answer, (west, east), source, sink) {
-                Ok(()) => Ok(()),
-                Err(stop) => Err(stop),
+        Ok(record) => match record {
+            Record::Round(west, east) => {
+                match run_round(bench, &mut texts.answer, (west, east), source, sink) {
+                    Ok(()) => Ok(()),
+                    Err(stop) => Err(stop),
+                }
             }
-        }
-        Ok(Record::Told(told)) => match bench.tell(told) {
-            Ok(()) => Ok(()),
-            Err(reason) => Err(Stop::Bad(Flaw::Said(reason))),
+            Record::Told(told) => match bench.tell(told) {
+                Ok(()) => Ok(()),
+                Err(reason) => Err(Stop::Bad(Flaw::Said(reason))),
+            },
         },
         Err(stop) => Err(stop),
     }

@@ -1,8 +1,8 @@
-use Rattle.std.proofs.Common.{◌≡◌, ◌≤◌, ap, sym, ◌∙◌, arith, refl}
+use Rattle.std.proofs.Common.{◌≡◌, ◌≤◌, ap, sym, subst, ◌∙◌, arith, refl}
 use native.Mathlib.Nat.{le_refl}
 use Rattle.sdh_node_cli.specs.Bench.{Bench}
-use Rattle.sdh_node_cli.specs.Turns.{room_for}
-use Rattle.sdh_node_cli.proofs.Runs.{went_none, went_on}
+use Rattle.sdh_node_cli.specs.Turns.{room_for, StopsBy}
+use Rattle.sdh_node_cli.proofs.Runs.{went_none, went_on, served_by, cut_by, served_all}
 use Rattle.sdh_node_cli.proofs.Turning.{after_rounds, after_room}
 use Rattle.sdh_node_cli.proofs.serving.serve.Goals as goal
 
@@ -35,3 +35,15 @@ loop-done-preserved g c =
       later_reads = omega (arith, c.turn.ensures.later.0, inv.later_reads);
       later_writes = omega (arith, c.turn.ensures.later.1, inv.later_writes);
     }
+
+pub returns-in-Err-clause-served : goal.returns-in-Err-clause-served
+returns-in-Err-clause-served g c = λ not.
+    served_by _ c.loop-done.bench _ _ _ _ _ _ c.loop-done.done c.in-Err.stop c.loop-done.invariant.went not c.in-Err.ensures.stops
+
+pub returns-in-Err-clause-cut : goal.returns-in-Err-clause-cut
+returns-in-Err-clause-cut g c = λ is.
+    cut_by _ c.loop-done.bench _ _ _ _ _ _ c.loop-done.done c.loop-done.invariant.went
+    (subst (λ x. StopsBy c.loop-done.bench x _ _ _ _) is c.in-Err.ensures.stops)
+
+pub returns-clause-served : goal.returns-clause-served
+returns-clause-served g c = λ not. served_all _ _ _ _ _ _ c.loop-done.done c.loop-done.invariant.went
