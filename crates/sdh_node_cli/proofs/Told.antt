@@ -1,9 +1,12 @@
 -- What was written, stage by stage.
-use Rattle.std.proofs.Common.{◌≡◌, ◌≢◌, ℕ, List, [], ◌++◌, refl, ap, sym, subst, ◌∙◌, inl, inr, append-nil}
-use Rattle.std.specs.Prelude.{Option, Some, None}
+use Rattle.std.proofs.Common.{◌≡◌, ◌≢◌, ℕ, ◌<◌, ◌==◌, List, [], ◌++◌, length, position, refl, ap, sym, subst, ◌∙◌, inl, inr, append-nil}
+use Rattle.std.specs.Prelude.{Option, Some, None, option_map}
+use Rattle.std.proofs.lemmas.List.Quantifiers.{position-Some}
 use Rattle.std.specs.Io.KnownBytes.{Appends, Consumes}
 use Rattle.std.proofs.KnownBytes.{Appends-nil, Appends-trans, Consumes-trans}
+use Rattle.sdh_ringmap.specs.declared.Pos.{Pos}
 use Rattle.sdh_ringmap.specs.Places.{found_at}
+use Rattle.sdh_node.specs.Node.{new_node}
 use Rattle.sdh_plan.specs.Planned.{Planned}
 use Rattle.sdh_report.specs.declared.status.Status.{Status}
 use Rattle.sdh_report.specs.declared.status.Status.TheVariants as status
@@ -17,7 +20,7 @@ use Rattle.sdh_node_cli.specs.declared.head.NoHead.{NoHead}
 use Rattle.sdh_node_cli.specs.declared.stop.Stop.{Stop}
 use Rattle.sdh_node_cli.specs.declared.stop.Stop.TheVariants as stop
 use Rattle.sdh_node_cli.specs.Endings.{line_of, bench_endings}
-use Rattle.sdh_node_cli.specs.Bench.{Bench}
+use Rattle.sdh_node_cli.specs.Bench.{Bench, new_bench}
 use Rattle.sdh_node_cli.specs.Streams.{bytes_of, end_of_plan, stream_of, IsDocument}
 use Rattle.sdh_node_cli.specs.Outcome.{usage, HasHead, TellsNone, refusal_of, Served, CutShort, ending_of, HasNoNode, HasServed, OfPlan, IsOutcome}
 use Rattle.sdh_node_cli.specs.Outcome.{IsCutPlan, MayBeCut, TellsPlanned, Tells}
@@ -139,3 +142,48 @@ pub tells_usage : (left : Option (List ℕ)) (end : Ending) (old new : Option (L
 tells_usage left end old new wrote =
     tells_line (λ h text. IsOutcome None left left h text) (MayBeCut None left left old new) (ending.Shared status.Usage) end (own_line usage)
     old new refl (refl, refl, refl) wrote
+
+-- what was written with an ending is what was to be written with an equal one
+pub wrote_line : (said how end : Ending) (bytes line : List ℕ) (old new : Option (List ℕ)) → said ≡ how → bytes ≡ line
+    → WroteEnding bench_endings said bytes end old new → WroteEnding bench_endings how line end old new
+wrote_line said how end bytes line old new same is wrote =
+    subst (λ h. WroteEnding bench_endings h line end old new) same (subst (λ l. WroteEnding bench_endings said l end old new) is wrote)
+
+-- the node was found, and records were done for it
+pub of_served : (ask : Ask) (plan : Planned) (at : Pos) (b : Bench) (left now : Option (List ℕ)) (number : ℕ) (why : Stop) (told : List ℕ)
+    → found_at plan.nodes ask.id ≡ Some at → b ≡ new_bench ask.mode ask.id at plan → Served b [] left now number why told
+    → OfPlan ask plan [] left now (ending_of why number) (told ++ line_of (ending_of why number))
+of_served ask plan at b left now number why told found is served =
+    inr (record {
+      at = at;
+      found = found;
+      number = number;
+      why = why;
+      how_is = refl;
+      told = told;
+      served = subst (λ x. Served x [] left now number why told) is served;
+      text_is = refl;
+    })
+
+-- a write failed while they were
+pub cut_of : (ask : Ask) (plan : Planned) (at : Pos) (b : Bench) (left now old new : Option (List ℕ)) → found_at plan.nodes ask.id ≡ Some at
+    → b ≡ new_bench ask.mode ask.id at plan → CutShort b [] left now old new
+    → TellsPlanned ask plan [] left now (ending.Shared status.WriteFault) old new
+cut_of ask plan at b left now old new found is cut =
+    inr (record { at = at; found = found; cut = subst (λ x. CutShort x [] left now old new) is cut })
+
+-- ---- the node that is found
+
+found_within : (ids : List ℕ) (o : Option ℕ) (p : Pos) → option_map (λ q. record { 0 = q }) o ≡ Some p
+    → ((i : ℕ) → o ≡ Some i → i < length ids) → p.0 < length ids
+found_within ids None p e h = cc
+found_within ids (Some i) p e h = let same : i ≡ p.0 = cc in subst (λ (k : ℕ). k < length ids) same (h i refl)
+
+pub found_below : (ids : List ℕ) (id : ℕ) (p : Pos) → found_at ids id ≡ Some p → p.0 < length ids
+found_below ids id p e =
+    found_within ids (position (λ x. x == id) ids) p e (λ i h. (position-Some (λ x. x == id) ids i 0 h).0)
+
+-- no round has run on a new bench
+pub new_rounds : (ask : Ask) (plan : Planned) (at : Pos) (b : Bench) → b ≡ new_bench ask.mode ask.id at plan → b.node.rounds ≡ 0
+unfolding new_bench new_node
+new_rounds ask plan at b is = ap (λ (x : Bench). x.node.rounds) is

@@ -1,0 +1,51 @@
+use Rattle.std.proofs.Common.{◌≡◌, [], ◌++◌, ap, sym, refl, ◌∙◌}
+use Rattle.std.specs.Prelude.{Some, None}
+use Rattle.std.proofs.KnownBytes.{Consumes-nil}
+use Rattle.sdh_ringmap.specs.Places.{found_at}
+use Rattle.sdh_node_cli.specs.Endings.{line_of}
+use Rattle.sdh_node_cli.specs.Outcome.{OfPlan, IsCutPlan, ending_of}
+use Rattle.sdh_node_cli.specs.declared.ending.Ending.TheVariants as ending
+use Rattle.sdh_node_cli.proofs.Told.{stop_shown, tells_end, tells_line, of_none, wrote_line, of_served, cut_of, found_below, new_rounds}
+use Rattle.sdh_node_cli.proofs.top.answer_plan.Goals as goal
+
+pub try_new-requires : goal.try_new-requires
+try_new-requires g c = found_below c.args.plan.nodes c.args.ask.id c.in-Some.at
+    (ap (λ ids. found_at ids c.args.ask.id) (sym c.map.ensures) ∙ sym c.in-Some.ensures)
+
+pub serve-requires-clause-fresh : goal.serve-requires-clause-fresh
+serve-requires-clause-fresh g c = new_rounds c.args.ask c.args.plan c.in-Some.at c.in_ok-bench.bench c.in_ok-bench.ensures
+
+pub returns-in_default-clause-outcome : goal.returns-in_default-clause-outcome
+returns-in_default-clause-outcome g c =
+    let left = g.R.Source.left c.args.source.now in
+    let old = g.W.Sink.written c.args.sink.now in
+    let new = g.W.Sink.written c.write_ended.new.sink in
+    let none : found_at c.args.plan.nodes c.args.ask.id ≡ None =
+    ap (λ ids. found_at ids c.args.ask.id) (sym c.map.ensures) ∙ sym c.find.ensures ∙ search rules in
+    tells_line (λ h text. OfPlan c.args.ask c.args.plan [] left left h text) (IsCutPlan c.args.ask c.args.plan [] left left old new)
+    ending.NoSuchNode c.write_ended.result (line_of ending.NoSuchNode) old new refl
+    (of_none c.args.ask c.args.plan left none (Consumes-nil left))
+    (wrote_line _ _ _ _ _ old new c.ended.ensures.ending (c.ended.ensures.text ∙ search rules) c.write_ended.ensures.wrote)
+
+pub returns-in-WriteFault-clause-outcome : goal.returns-in-WriteFault-clause-outcome
+returns-in-WriteFault-clause-outcome g c =
+    let found = ap (λ ids. found_at ids c.args.ask.id) (sym c.map.ensures) ∙ sym c.in-Some.ensures in
+    cut_of c.args.ask c.args.plan c.in-Some.at c.in_ok-bench.bench _ _ _ _ found c.in_ok-bench.ensures (c.serve-stopped.ensures.cut c.in-WriteFault.is)
+
+pub returns-clause-outcome : goal.returns-clause-outcome
+returns-clause-outcome g c =
+    let left = g.R.Source.left c.args.source.now in
+    let now = g.R.Source.left c.serve-stopped.new.source in
+    let old = g.W.Sink.written c.args.sink.now in
+    let mid = g.W.Sink.written c.serve-stopped.new.sink in
+    let new = g.W.Sink.written c.write_ended-2.new.sink in
+    let stopped = c.serve-stopped.result in
+    let not = c.in_default-2.not-WriteFault in
+    let served = c.serve-stopped.ensures.served not in
+    let how = ending_of stopped.stop stopped.number in
+    let found = ap (λ ids. found_at ids c.args.ask.id) (sym c.map.ensures) ∙ sym c.in-Some.ensures in
+    tells_end (λ h text. OfPlan c.args.ask c.args.plan [] left now h text) (IsCutPlan c.args.ask c.args.plan [] left now old new)
+    how c.write_ended-2.result served.0 (line_of how) old mid new (stop_shown stopped.stop stopped.number not)
+    (of_served c.args.ask c.args.plan c.in-Some.at c.in_ok-bench.bench left now stopped.number stopped.stop served.0 found c.in_ok-bench.ensures
+    served.1) served.2 (wrote_line _ _ _ _ _ mid new (c.ended-2.ensures.ending ∙ c.ending_of.ensures) (c.ended-2.ensures.text ∙ search rules)
+    c.write_ended-2.ensures.wrote)
