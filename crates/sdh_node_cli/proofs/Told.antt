@@ -16,13 +16,15 @@ use Rattle.sdh_shell.proofs.Pieces.{fewer_behind}
 use Rattle.sdh_node_cli.specs.declared.words.Ask.{Ask}
 use Rattle.sdh_node_cli.specs.declared.ending.Ending.{Ending}
 use Rattle.sdh_node_cli.specs.declared.ending.Ending.TheVariants as ending
+use Rattle.sdh_node_cli.specs.declared.ending.Flaw.TheVariants as flaw
 use Rattle.sdh_node_cli.specs.declared.head.NoHead.{NoHead}
+use Rattle.sdh_node_cli.specs.declared.head.NoHead.TheVariants as nohead
 use Rattle.sdh_node_cli.specs.declared.stop.Stop.{Stop}
 use Rattle.sdh_node_cli.specs.declared.stop.Stop.TheVariants as stop
 use Rattle.sdh_node_cli.specs.Endings.{line_of, bench_endings}
 use Rattle.sdh_node_cli.specs.Bench.{Bench, new_bench}
 use Rattle.sdh_node_cli.specs.Streams.{bytes_of, end_of_plan, stream_of, IsDocument}
-use Rattle.sdh_node_cli.specs.Outcome.{usage, HasHead, TellsNone, refusal_of, Served, CutShort, ending_of, HasNoNode, HasServed, OfPlan, IsOutcome}
+use Rattle.sdh_node_cli.specs.Outcome.{usage, HasHead, RefusesHead, TellsNone, refusal_of, Served, CutShort, ending_of, HasNoNode, HasServed, OfPlan, IsOutcome}
 use Rattle.sdh_node_cli.specs.Outcome.{IsCutPlan, MayBeCut, TellsPlanned, Tells}
 
 -- ---- endings
@@ -33,6 +35,31 @@ stop_shown stop.Done number not = refl
 stop_shown (stop.Bad f) number not = refl
 stop_shown stop.ReadFault number not = refl
 stop_shown stop.WriteFault number not = absurd (not refl)
+
+refused_shown : (left now : Option (List ℕ)) (how : Status) → RefusesHead left now how → IsShown bench_endings (ending.Shared how)
+refused_shown left now status.ReadFault h = refl
+refused_shown left now status.TooLong h = refl
+refused_shown left now status.NotToml h = refl
+refused_shown left now (status.BadPlan number place) h = refl
+refused_shown left now how h = absurd h
+
+-- so is the refusal of a stream that has no plan
+pub none_shown : (left now : Option (List ℕ)) (why : NoHead) (how : Ending) → TellsNone left now why → Some how ≡ refusal_of why
+    → IsShown bench_endings how
+none_shown left now nohead.Memory how h is = absurd (none_some is)
+  where
+    none_some : Some how ≡ None → ⊥
+    none_some e = cc
+none_shown left now nohead.Cut how h is =
+    subst (IsShown bench_endings) (some_same is) refl
+  where
+    some_same : Some how ≡ Some (ending.BadRecord flaw.Cut 0) → ending.BadRecord flaw.Cut 0 ≡ how
+    some_same e = cc
+none_shown left now (nohead.Refused said) how h is =
+    subst (IsShown bench_endings) (some_same is) (refused_shown left now said h)
+  where
+    some_same : Some how ≡ Some (ending.Shared said) → ending.Shared said ≡ how
+    some_same e = cc
 
 -- ---- a text, and its last line
 

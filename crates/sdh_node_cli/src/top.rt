@@ -7,7 +7,7 @@ ghost use Rattle.sdh_shell.specs.Calls.{words_of};
 ghost use Rattle.sdh_shell.specs.Writing.{WroteEnding};
 ghost use Rattle.sdh_node_cli.specs.Endings.{bench_endings};
 ghost use Rattle.sdh_node_cli.specs.Words.{asked};
-ghost use Rattle.sdh_node_cli.specs.Outcome.{usage, ending_of, TellsPlanned, Tells};
+ghost use Rattle.sdh_node_cli.specs.Outcome.{usage, ending_of, refusal_of, TellsPlanned, Tells};
 ghost use Rattle.sdh_node_cli.specs.declared.ending.Ending.{Ending};
 
 use crate::bench::Bench;
@@ -32,6 +32,17 @@ fn ending_of(stopped: Stopped) -> Ending
         Stop::Bad(flaw) => Ending::BadRecord(flaw, stopped.number),
         Stop::ReadFault => Ending::Shared(Status::ReadFault),
         Stop::WriteFault => Ending::Shared(Status::WriteFault),
+    }
+}
+
+// Returns how the program ends where there is no plan; with a lack of memory there is no outcome.
+fn refusal_of(why: NoHead) -> Option<Ending>
+    ensures { result ≡ refusal_of why }
+{
+    match why {
+        NoHead::Memory => None,
+        NoHead::Cut => Some(Ending::BadRecord(Flaw::Cut, 0)),
+        NoHead::Refused(how) => Some(Ending::Shared(how)),
     }
 }
 
@@ -92,9 +103,10 @@ fn answer<R: Source, W: Sink>(
     let text = Text::try_new(alloc, LINE_MAX)?;
     match plan_in(alloc, source) {
         Ok(plan) => answer_plan(alloc, plan, ask, source, sink),
-        Err(NoHead::Memory) => Err(AllocError),
-        Err(NoHead::Cut) => Ok(write_ended(sink, ended(Ending::BadRecord(Flaw::Cut, 0), text))),
-        Err(NoHead::Refused(how)) => Ok(write_ended(sink, ended(Ending::Shared(how), text))),
+        Err(why) => match refusal_of(why) {
+            Some(how) => Ok(write_ended(sink, ended(how, text))),
+            None => Err(AllocError),
+        },
     }
 }
 

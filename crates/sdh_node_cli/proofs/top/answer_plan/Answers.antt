@@ -1,8 +1,10 @@
-use Rattle.std.proofs.Common.{◌≡◌, [], ◌++◌, ap, sym, refl, ◌∙◌}
+use Rattle.std.proofs.Common.{◌≡◌, [], ◌++◌, ap, sym, subst, refl, ◌∙◌}
 use Rattle.std.specs.Prelude.{Some, None}
 use Rattle.std.proofs.KnownBytes.{Consumes-nil}
+use Rattle.sdh_report.specs.Written.{Written}
 use Rattle.sdh_ringmap.specs.Places.{found_at}
-use Rattle.sdh_node_cli.specs.Endings.{line_of}
+use Rattle.sdh_shell.specs.Writing.{IsShown}
+use Rattle.sdh_node_cli.specs.Endings.{line_of, bench_endings}
 use Rattle.sdh_node_cli.specs.Outcome.{OfPlan, IsCutPlan, ending_of}
 use Rattle.sdh_node_cli.specs.declared.ending.Ending.TheVariants as ending
 use Rattle.sdh_node_cli.proofs.Told.{stop_shown, tells_end, tells_line, of_none, wrote_line, of_served, cut_of, found_below, new_rounds}
@@ -25,7 +27,7 @@ returns-in_default-clause-outcome g c =
     tells_line (λ h text. OfPlan c.args.ask c.args.plan [] left left h text) (IsCutPlan c.args.ask c.args.plan [] left left old new)
     ending.NoSuchNode c.write_ended.result (line_of ending.NoSuchNode) old new refl
     (of_none c.args.ask c.args.plan left none (Consumes-nil left))
-    (wrote_line _ _ _ _ _ old new c.ended.ensures.ending (c.ended.ensures.text ∙ search rules) c.write_ended.ensures.wrote)
+    (wrote_line _ _ _ _ _ old new c.ended.ensures.ending (c.ended.ensures.text ∙ ap (λ (t : Written). t.bytes ++ line_of ending.NoSuchNode) c.in_ok-text.ensures) c.write_ended.ensures.wrote)
 
 pub returns-in-WriteFault-clause-outcome : goal.returns-in-WriteFault-clause-outcome
 returns-in-WriteFault-clause-outcome g c =
@@ -47,5 +49,12 @@ returns-clause-outcome g c =
     tells_end (λ h text. OfPlan c.args.ask c.args.plan [] left now h text) (IsCutPlan c.args.ask c.args.plan [] left now old new)
     how c.write_ended-2.result served.0 (line_of how) old mid new (stop_shown stopped.stop stopped.number not)
     (of_served c.args.ask c.args.plan c.in-Some.at c.in_ok-bench.bench left now stopped.number stopped.stop served.0 found c.in_ok-bench.ensures
-    served.1) served.2 (wrote_line _ _ _ _ _ mid new (c.ended-2.ensures.ending ∙ c.ending_of.ensures) (c.ended-2.ensures.text ∙ search rules)
+    served.1) served.2 (wrote_line _ _ _ _ _ mid new (c.ended-2.ensures.ending ∙ c.ending_of.ensures) (c.ended-2.ensures.text
+    ∙ ap (λ (t : Written). t.bytes ++ line_of how) c.in_ok-text.ensures)
     c.write_ended-2.ensures.wrote)
+
+pub write_ended-2-requires : goal.write_ended-2-requires
+write_ended-2-requires g c =
+    let stopped = c.serve-stopped.result in
+    subst (IsShown bench_endings) (sym (c.ended-2.ensures.ending ∙ c.ending_of.ensures))
+    (stop_shown stopped.stop stopped.number c.in_default-2.not-WriteFault)
