@@ -6,4 +6,5 @@ pub mod Named
 pub mod EndLine
 pub mod Heads
 pub mod Turning
+pub mod Faults
 pub mod Told

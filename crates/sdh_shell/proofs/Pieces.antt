@@ -12,7 +12,8 @@ use Rattle.sdh_shell.specs.Writing.{Wrote}
 no_err : {T : Type 0} (E : Type 0) (x : T) → IsErr {T = T} {E = E} (Ok x) → ⊥
 no_err E x d = grind (arith, d)
 
-rose : (x y z : ℕ) → x ≤ y → Rose y z → Rose x z
+-- a later rise is one
+pub rose : (x y z : ℕ) → x ≤ y → Rose y z → Rose x z
 rose x y z later h = omega (arith, later, h)
 
 -- a front after what was appended

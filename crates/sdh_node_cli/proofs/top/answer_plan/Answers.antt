@@ -2,11 +2,13 @@ use Rattle.std.proofs.Common.{◌≡◌, [], ◌++◌, ap, sym, subst, refl, ◌
 use Rattle.std.specs.Prelude.{Some, None}
 use Rattle.std.proofs.KnownBytes.{Consumes-nil}
 use Rattle.sdh_report.specs.Written.{Written}
+use Rattle.sdh_report.specs.declared.status.Status.TheVariants as status
 use Rattle.sdh_ringmap.specs.Places.{found_at}
 use Rattle.sdh_shell.specs.Writing.{IsShown}
 use Rattle.sdh_node_cli.specs.Endings.{line_of, bench_endings}
 use Rattle.sdh_node_cli.specs.Outcome.{OfPlan, IsCutPlan, ending_of}
 use Rattle.sdh_node_cli.specs.declared.ending.Ending.TheVariants as ending
+use Rattle.sdh_node_cli.proofs.Faults.{counted_behind, counted_before, ended_so, ended_not, stop_fault, fault_stop, stop_own}
 use Rattle.sdh_node_cli.proofs.Told.{stop_shown, tells_end, tells_line, of_none, wrote_line, of_served, cut_of, found_below, new_rounds}
 use Rattle.sdh_node_cli.proofs.top.answer_plan.Goals as goal
 
@@ -27,12 +29,14 @@ returns-in_default-clause-outcome g c =
     tells_line (λ h text. OfPlan c.args.ask c.args.plan [] left left h text) (IsCutPlan c.args.ask c.args.plan [] left left old new)
     ending.NoSuchNode c.write_ended.result (line_of ending.NoSuchNode) old new refl
     (of_none c.args.ask c.args.plan left none (Consumes-nil left))
-    (wrote_line _ _ _ _ _ old new c.ended.ensures.ending (c.ended.ensures.text ∙ ap (λ (t : Written). t.bytes ++ line_of ending.NoSuchNode) c.in_ok-text.ensures) c.write_ended.ensures.wrote)
+    (wrote_line _ _ _ _ _ old new c.ended.ensures.ending
+    (c.ended.ensures.text ∙ ap (λ (t : Written). t.bytes ++ line_of ending.NoSuchNode) c.in_ok-text.ensures) c.write_ended.ensures.wrote)
 
 pub returns-in-WriteFault-clause-outcome : goal.returns-in-WriteFault-clause-outcome
 returns-in-WriteFault-clause-outcome g c =
     let found = ap (λ ids. found_at ids c.args.ask.id) (sym c.map.ensures) ∙ sym c.in-Some.ensures in
-    cut_of c.args.ask c.args.plan c.in-Some.at c.in_ok-bench.bench _ _ _ _ found c.in_ok-bench.ensures (c.serve-stopped.ensures.cut c.in-WriteFault.is)
+    cut_of c.args.ask c.args.plan c.in-Some.at c.in_ok-bench.bench _ _ _ _ found c.in_ok-bench.ensures
+    (c.serve-stopped.ensures.cut c.in-WriteFault.is)
 
 pub returns-clause-outcome : goal.returns-clause-outcome
 returns-clause-outcome g c =
@@ -58,3 +62,29 @@ write_ended-2-requires g c =
     let stopped = c.serve-stopped.result in
     subst (IsShown bench_endings) (sym (c.ended-2.ensures.ending ∙ c.ending_of.ensures))
     (stop_shown stopped.stop stopped.number c.in_default-2.not-WriteFault)
+
+pub returns-clause-read : goal.returns-clause-read
+returns-clause-read g c = λ e.
+    let stopped = c.serve-stopped.result in
+    let same = ended_so _ _ _ _ _ c.write_ended-2.ensures.wrote (λ w. cc) ∙ c.ended-2.ensures.ending ∙ c.ending_of.ensures in
+    c.serve-stopped.ensures.read (stop_fault stopped.stop stopped.number (sym same ∙ e))
+
+pub returns-clause-reads : goal.returns-clause-reads
+returns-clause-reads g c = λ not.
+    let stopped = c.serve-stopped.result in
+    let same = ended_so _ _ _ _ _ c.write_ended-2.ensures.wrote not ∙ c.ended-2.ensures.ending ∙ c.ending_of.ensures in
+    counted_before _ _ _ _ _ (λ e. stop_fault stopped.stop stopped.number (sym same ∙ e))
+    (λ e. same ∙ fault_stop stopped.stop stopped.number e) c.serve-stopped.ensures.reads
+
+pub returns-clause-writes : goal.returns-clause-writes
+returns-clause-writes g c =
+    counted_behind _ _ _ _ _ (λ e. c.serve-stopped.ensures.writes.none e c.in_default-2.not-WriteFault) c.write_ended-2.ensures.writes
+
+pub returns-clause-own : goal.returns-clause-own
+returns-clause-own g c =
+    let stopped = c.serve-stopped.result in
+    let own = stop_own stopped.stop stopped.number in
+    let is = c.ended-2.ensures.ending ∙ c.ending_of.ensures in (
+      ended_not _ _ (ending.Shared status.Usage) _ _ _ c.write_ended-2.ensures.wrote (λ e. own.0 (sym is ∙ e)) (λ e. cc),
+      ended_not _ _ (ending.Shared status.Memory) _ _ _ c.write_ended-2.ensures.wrote (λ e. own.1 (sym is ∙ e)) (λ e. cc),
+    )
