@@ -9,7 +9,7 @@ from common import TOOLS
 ROOT = TOOLS.parent
 PAGE = ROOT / "docs" / "HEADLINE.md"
 STRANGE = {"sdh_frame", "sdh_parity", "sdh_overhead", "sdh_plant", "sdh_kbytes", "sdh_pointer", "sdh_nodestate"}
-STRANGE |= {"sdh_squelch", "sdh_bridge", "sdh_rounds", "sdh_terminal", "sdh_node", "sdh_world", "sdh_ring"}
+STRANGE |= {"sdh_squelch", "sdh_rounds", "sdh_terminal", "sdh_node", "sdh_world", "sdh_ring"}
 
 
 def quoted(page):

@@ -17,7 +17,6 @@ ghost use Rattle.sdh_node.specs.Crossing.{lines_of, leads, drops, all_delivered}
 ghost use Rattle.sdh_terminal.specs.Lines.{IsFeeder};
 
 use crate::receiver::Receiver;
-use sdh_squelch::{Origin, drop_origin, protection_origin, working_origin};
 use sdh_circuits::{CircuitMap, Slot};
 use sdh_frame::FrameBuf;
 use sdh_nodestate::{Heard, Needs, NodeState, Sent, same_shape, shape_of, start, step};
@@ -25,7 +24,7 @@ use sdh_overhead::Landed;
 use sdh_plant::Arrived;
 use sdh_request::{Command, Moment, Settings};
 use sdh_ringmap::{Pos, RingMap, Side};
-use sdh_squelch::Table;
+use sdh_squelch::{Origin, Table, drop_origin, protection_origin, working_origin};
 use sdh_terminal::{Feeder, Intake, Matrix, Tributaries};
 use sdh_terms::Rate;
 use std::alloc::{AllocError, Global};

@@ -15,9 +15,11 @@ ghost use Rattle.sdh_signal.specs.SignalRing.{new_ring, NoneHeld, LeavesWords, I
 mod nodes;
 mod settling;
 
-pub use crate::settling::{free_rounds, not_all_pass_through, relayed_words_lead_back, rings_settle, runs_settle, still_rings_are_settled, words_stay};
-
 use crate::nodes::{Hearing, hear_all, is_free, step_all};
+pub use crate::settling::{
+    free_rounds, not_all_pass_through, relayed_words_lead_back, rings_settle, runs_settle,
+    still_rings_are_settled, words_stay,
+};
 use sdh_nodestate::{Needs, NodeState, Sent, first_word, start};
 use sdh_ringmap::{Pos, RingMap, Side};
 use std::alloc::{AllocError, Global};

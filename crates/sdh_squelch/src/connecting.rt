@@ -8,10 +8,10 @@ ghost use Rattle.sdh_squelch.specs.Table.{circuits_at, is_carried};
 ghost use Rattle.sdh_nodestate.specs.FarEnds.{far_of, IsElsewhere};
 ghost use Rattle.sdh_squelch.specs.Connections.{stands_for, leaves_working, leaves_protection};
 
+use crate::Table;
 use sdh_circuits::{End, PortId, Slot};
 use sdh_nodestate::NodeState;
 use sdh_ringmap::{Chain, Pos, RingMap, Side};
-use crate::Table;
 
 /// Where an AU-4 that a node sends or drops comes from.
 #[derive(Clone, Copy, Debug, PartialEq, Eq)]

@@ -12,7 +12,6 @@ ghost use Rattle.sdh_circuits.specs.Kept.{KeepsRing};
 mod connecting;
 
 pub use crate::connecting::{Origin, drop_origin, protection_origin, working_origin};
-
 use sdh_circuits::{CircuitMap, Slot};
 use sdh_ringmap::{Chain, Pos, RingMap, Side, Span};
 use std::alloc::{AllocError, Global};

@@ -4,12 +4,11 @@ ghost use Rattle.std.specs.Prelude.{◌≡◌, ◌<◌, length, if◌then◌else
 ghost use Rattle.sdh_nodestate.specs.FarEnds.{far_of, IsElsewhere};
 ghost use Rattle.std.specs.Option.{is_none};
 
-use sdh_squelch::{Origin, drop_origin, protection_origin, working_origin};
 use sdh_circuits::{Asked, CircuitMap, End, PortId, Slot};
 use sdh_kbytes::{K, decode};
 use sdh_nodestate::{Heard, Needs, NodeState, start, step};
 use sdh_ringmap::{Pos, RingMap, Side};
-use sdh_squelch::Table;
+use sdh_squelch::{Origin, Table, drop_origin, protection_origin, working_origin};
 use sdh_terms::Code;
 use std::alloc::Global;
 
