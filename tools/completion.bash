@@ -1,5 +1,5 @@
-# Completion of sdhring, sdhwatch, sdhoutage, sdhpath, sdhretime, sdhwhatif, sdhaps and the tools beside them, for bash:
-# source it, or have `--install` put it in place.
+# Completion of sdhring, sdhwatch, sdhoutage, sdhpath, sdhretime, sdhwhatif, sdhaps, sdhnode and the tools beside them, for
+# bash: source it, or have `--install` put it in place.
 
 _sdhring_words() {
   local program=${COMP_WORDS[0]##*/} word=${COMP_WORDS[COMP_CWORD]}
@@ -13,7 +13,8 @@ _sdhring_words() {
     sdhwhatif:*) mapfile -t COMPREPLY < <(compgen -W "degraded fibres spans nodes manual forced own part head json summary" -- "$word") ;;
     sdhaps:1:*) mapfile -t COMPREPLY < <(compgen -W "run node frames $1" -- "$word") ;;
     sdhaps:3:frames) mapfile -t COMPREPLY < <(compgen -W "west east" -- "$word") ;;
-    sdhretime:1:*) mapfile -t COMPREPLY < <(compgen -W "$1" -- "$word") ;;
+    sdhnode:2:*) mapfile -t COMPREPLY < <(compgen -W "frames lines" -- "$word") ;;
+    sdhretime:1:* | sdhnode:1:*) mapfile -t COMPREPLY < <(compgen -W "$1" -- "$word") ;;
     *:*:--install | *:*:--uninstall) compopt -o dirnames ;;
   esac
   # After `<` comes the plan.
@@ -41,7 +42,7 @@ _sdhring_tools() {
   [ "${#COMPREPLY[@]}" -ne 0 ] || compopt -o default
 }
 
-complete -F _sdhring {,./}sdh{ring,watch,outage,path,retime,whatif,aps}
+complete -F _sdhring {,./}sdh{ring,watch,outage,path,retime,whatif,aps,node}
 complete -F _sdhring_tools {,./}sdhring-{availability,capture,desk,explain,plan,report,view,whatif}
 # repository
 complete -F _sdhring_tools {,./}tools/rows

@@ -9,7 +9,7 @@ sys.path.insert(0, str(Path(__file__).resolve().parents[1] / "outage"))
 
 import signalling
 from customers import CHUNK, Stream
-from simulate import SIDES, Ring, streams_of
+from simulate import SIDES, SILENCE, Ring, streams_of
 
 ROWS, COLUMNS, HEAD, PAYLOAD = 9, 270, 9, 261  # of one STM-1
 A1, A2, J0, FIXED, Y = 0xF6, 0x28, 0x01, 0xAA, 0x9B
@@ -74,6 +74,8 @@ class Sender:
 
     def payload(self, tag):
         """The 2349 bytes that a tag stands for, as a port has put them in; an increment leaves out three, a decrement has three in H3."""
+        if tag == "ones":
+            return b"\xff" * CHUNK
         *port, start, form = tag
         port, before = tuple(port), 783
         behind = start + before + (3 if form == "down" else 0)
@@ -105,7 +107,7 @@ class Sender:
         frame[fifth : fifth + 3 * n] = self.b2
         frame[fifth + 3 * n], frame[fifth + 6 * n] = bytes.fromhex(signalling.written(word))
         for (kind, slot), (pointer, payload, h3) in leaves.items():
-            if payload != "ones":
+            if pointer != SILENCE[0]:
                 self.put(frame, slot - 1 + (n // 2 if kind == "p" else 0), pointer, payload, h3)
         return bytes(frame)
 

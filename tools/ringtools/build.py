@@ -9,7 +9,7 @@ import re
 from dataclasses import dataclass
 from pathlib import Path
 
-PROGRAMS = ("sdhring", "sdhwatch", "sdhoutage", "sdhpath", "sdhretime", "sdhwhatif", "sdhaps")
+PROGRAMS = ("sdhring", "sdhwatch", "sdhoutage", "sdhpath", "sdhretime", "sdhwhatif", "sdhaps", "sdhnode")
 HOME = Path(__file__).resolve().parents[2]  # a checkout, an unpacked release, or the folder of the installed programs
 HEAD = ("version", "commit", "kit")
 IS_INSTALLED = not (HOME / "docs").is_dir()

@@ -26,6 +26,7 @@ FOLDERS = {
     "sdhretime": TESTING / "lines",
     "sdhwhatif": TESTING / "whatif",
     "sdhaps": TESTING / "signals",
+    "sdhnode": TESTING / "node",
 }
 TABLE = "rows.md"
 COLUMNS = ["Row", "Words", "Plan", "Change", "Status", "Text"]

@@ -1,3 +1,4 @@
 pub mod Told
 pub mod Shown
+pub mod Showing
 pub mod Lines

@@ -1,17 +1,14 @@
 -- The lines of one node more.
-use Rattle.std.proofs.Common.{◌≡◌, ℕ, ◌+◌, ◌-◌, ◌<◌, ◌≤◌, Bool, true, false, List, [], ◌∷◌, ◌++◌, length, refl, ap, sym, ◌∙◌, arith, append-nil}
+use Rattle.std.proofs.Common.{◌≡◌, ℕ, ◌+◌, Bool, true, false, [], ◌∷◌, ◌++◌, refl, ap, ◌∙◌, append-nil}
 use Rattle.std.specs.Prelude.{if◌then◌else◌}
 use Rattle.std.specs.List.{flat_map}
 use Rattle.std.proofs.lemmas.Grind.{flat_map-append}
-use Rattle.std.proofs.lemmas.List.{length-append}
 use Rattle.sdh_basics.specs.Cells.{cells}
 use Rattle.sdh_basics.proofs.CellsLaws.{cells-zero, cells-more}
 use Rattle.sdh_world.specs.Held.{HeldRing}
-use Rattle.sdh_report.specs.Written.{Written, with_part}
 use Rattle.sdh_aps.specs.declared.shown.Shown.{Shown}
 use Rattle.sdh_aps_cli.specs.Signalled.{Change, is_told, change_of, change_at, changes_to}
 use Rattle.sdh_aps_cli.specs.Listing.{change_text, changes_text}
-use Rattle.sdh_aps_cli.specs.Recording.{room_in}
 use Rattle.sdh_aps_cli.specs.declared.listing.SignalListing.{SignalListing}
 
 -- the text of a change that is shown, or nothing
@@ -34,7 +31,3 @@ module _ (listing : SignalListing) (was : ℕ → Shown) (r : HeldRing) where
       ∙ flat_map-append (change_text listing) (changes_to was r i) (flat_map (change_at was r) (i ∷ []))
       ∙ ap (λ cs. past ++ changes_text listing cs) (append-nil (change_at was r i))
       ∙ ap (λ l. past ++ l) (one_or_none listing (is_told (was i) r i) (change_of r i))
-
--- a part takes its room, and no more
-pub kept_part : (w : Written) (part : List ℕ) → length part ≤ w.room → room_in (with_part w part) ≡ room_in w
-kept_part w part fits = omega (arith, fits, length-append w.bytes part)

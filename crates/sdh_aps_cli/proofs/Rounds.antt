@@ -12,10 +12,11 @@ use Rattle.sdh_world.specs.Held.{HeldRing}
 use Rattle.sdh_world.specs.Rounds.{World}
 use Rattle.sdh_ring.specs.Observed.{RanOne}
 use Rattle.sdh_report.specs.Written.{Written}
+use Rattle.sdh_shell.specs.Writing.{room_in}
 use Rattle.sdh_aps.specs.declared.shown.Shown.{Shown}
 use Rattle.sdh_aps_cli.specs.Signalled.{shown_at, changes_to, changes_of, changes_in}
 use Rattle.sdh_aps_cli.specs.Listing.{change_text, changes_text}
-use Rattle.sdh_aps_cli.specs.Recording.{AreShown, IsReady, room_in, IsRecorded, IsCut, NoneFailed, OneFailed}
+use Rattle.sdh_aps_cli.specs.Recording.{AreShown, IsReady, IsRecorded, IsCut, NoneFailed, OneFailed}
 use Rattle.sdh_aps_cli.specs.declared.listing.SignalListing.{SignalListing}
 
 module _ (at : ℕ → World) (k : ℕ) (ring : HeldRing) (ran : RanOne at k ring) where

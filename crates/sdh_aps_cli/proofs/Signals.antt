@@ -42,8 +42,8 @@ use Rattle.sdh_laws.proofs.hearing.Nodes.{count, length-after, is_at}
 use Rattle.sdh_laws.proofs.hearing.Staying.{world_low, world_high, left_in}
 use Rattle.sdh_owed.specs.Laws.{ring_by}
 use Rattle.sdh_aps.specs.Shown.{same_shown}
-use Rattle.sdh_aps_cli.specs.Showing.{shown_by}
-use Rattle.sdh_aps_cli.specs.Signalled.{Change, shown_of, shown_at, is_told, change_of, change_at, changes_of, changes_in}
+use Rattle.sdh_aps.specs.Showing.{shown_by, shown_of}
+use Rattle.sdh_aps_cli.specs.Signalled.{Change, shown_at, is_told, change_of, change_at, changes_of, changes_in}
 use Rattle.sdh_aps_cli.specs.ByScript.{fails_in, needs_at, needs_by, turns_in, held_by, signals_by}
 use Rattle.sdh_aps_cli.specs.Owed.{shown_in, is_news, change_by, changes_by, all_changes_by}
 use Rattle.sdh_aps_cli.proofs.Cells.{as_cells, flat_more, flat_same}

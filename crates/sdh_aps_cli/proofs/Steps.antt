@@ -18,11 +18,12 @@ use Rattle.sdh_scripts.specs.Runners.{WroteStep}
 use Rattle.sdh_scripts.specs.Tellers.{Begun, InStep, WasToWrite}
 use Rattle.sdh_scripts.proofs.Reporting.{ended_with}
 use Rattle.sdh_owed.proofs.Steps.{settled_held}
+use Rattle.sdh_shell.specs.Writing.{room_in}
 use Rattle.sdh_aps.specs.declared.shown.Shown.{Shown}
 use Rattle.sdh_aps_cli.specs.Signalled.{Signalled, signalled_in, changes_in}
 use Rattle.sdh_aps_cli.specs.Scripts.{signalling_walk}
 use Rattle.sdh_aps_cli.specs.Listing.{changes_text, begun_text, ended_text}
-use Rattle.sdh_aps_cli.specs.Recording.{IsReady, room_in}
+use Rattle.sdh_aps_cli.specs.Recording.{IsReady}
 use Rattle.sdh_aps_cli.specs.declared.listing.SignalListing.{SignalListing}
 
 -- ---- answers that are known

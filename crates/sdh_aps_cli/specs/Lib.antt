@@ -1,6 +1,5 @@
 pub mod Endings
 pub mod Words
-pub mod Showing
 pub mod Frames
 pub mod Signalled
 pub mod Listing

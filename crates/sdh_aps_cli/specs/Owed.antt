@@ -11,7 +11,7 @@ use Rattle.sdh_promise.specs.Changes.{Stretch, rounds_in}
 use Rattle.sdh_promise.specs.Owed.{Ring, requests_by, IsLast}
 use Rattle.sdh_aps.specs.declared.shown.Shown.{Shown}
 use Rattle.sdh_aps.specs.Shown.{same_shown}
-use Rattle.sdh_aps_cli.specs.Showing.{shown_by}
+use Rattle.sdh_aps.specs.Showing.{shown_by}
 use Rattle.sdh_aps_cli.specs.Signalled.{Change, Signalled}
 use Rattle.sdh_aps_cli.specs.ByScript.{needs_at, signals_by}
 

@@ -1,11 +1,12 @@
 -- What is recorded of the rounds of a settle step.
-use Rattle.std.specs.Prelude.{ℕ, ◌≡◌, ◌+◌, ◌*◌, ◌≤◌, Bool, true, List, length, Option, Some, slice_get}
+use Rattle.std.specs.Prelude.{ℕ, ◌≡◌, ◌*◌, ◌≤◌, Bool, true, List, length, Option, Some, slice_get}
 use Rattle.std.specs.Io.KnownBytes.{Appends}
 use Rattle.sdh_basics.specs.Causes.{Rose, one_more}
 use Rattle.sdh_outside.specs.Writing.{AppendsFewer}
 use Rattle.sdh_world.specs.Held.{HeldRing}
 use Rattle.sdh_world.specs.Rounds.{World}
 use Rattle.sdh_report.specs.Written.{Written}
+use Rattle.sdh_shell.specs.Writing.{room_in}
 use Rattle.sdh_aps.specs.declared.shown.Shown.{Shown}
 use Rattle.sdh_aps_cli.specs.Signalled.{shown_at, changes_in}
 use Rattle.sdh_aps_cli.specs.Listing.{changes_text}
@@ -16,10 +17,6 @@ use Rattle.sdh_aps_cli.specs.declared.listing.SignalListing.{SignalListing}
 -- these are what nodes showed, by position
 abbrev pub AreShown : (ℕ → Shown) → List Shown → Type 0
 AreShown was items = (j : ℕ) (s : Shown) → slice_get items j ≡ Some s → s ≡ was j
-
--- how many bytes a text has room for in all
-abbrev pub room_in : Written → ℕ
-room_in t = t.room + length t.bytes
 
 -- there is a place for what each node of a ring shows, and room for a line of each
 pub record IsReady (r : HeldRing) (items : List Shown) (text : Written) : Type 0 where

@@ -4,19 +4,14 @@ use Rattle.std.specs.Prelude.{ℕ, zero, suc, ◌-◌, ◌==◌, ◌||◌, Bool,
 use Rattle.std.specs.Prelude.{if◌then◌else◌}
 use Rattle.std.specs.List.{flat_map}
 use Rattle.sdh_basics.specs.Cells.{cells}
-use Rattle.sdh_node.specs.Node.{Node, sent_of, heard_by, needed}
 use Rattle.sdh_world.specs.Held.{HeldRing, node_at}
 use Rattle.sdh_world.specs.Rounds.{World}
 use Rattle.sdh_aps.specs.declared.shown.Shown.{Shown}
 use Rattle.sdh_aps.specs.Shown.{same_shown}
-use Rattle.sdh_aps_cli.specs.Showing.{shown_by}
+use Rattle.sdh_aps.specs.Showing.{shown_of}
 use Rattle.sdh_aps_cli.specs.Frames.{Sent, sent_in}
 
 -- ---- a node in a round
-
--- what a node shows after the last round
-unfoldable pub shown_of : Node → Shown
-shown_of n = shown_by n.ids n.state (sent_of n) (heard_by n) (needed n)
 
 -- what the node at a position shows
 abbrev pub shown_at : HeldRing → ℕ → Shown

@@ -1,10 +1,11 @@
 //! What looks at the ring after each round, and writes what its nodes show anew.
 ghost use Rattle.std.specs.Prelude.{◌≡◌, ℕ, ◌-◌, ◌+◌, ◌*◌, ◌≤◌, ◌<◌, [], ◌++◌, if◌then◌else◌, IfOk, length};
 ghost use Rattle.sdh_report.specs.Lines.{settle_line};
+ghost use Rattle.sdh_shell.specs.Writing.{room_in};
 ghost use Rattle.sdh_aps.specs.declared.shown.Shown.{Shown};
 ghost use Rattle.sdh_aps_cli.specs.Signalled.{Change, shown_at, is_told, change_of, changes_to};
 ghost use Rattle.sdh_aps_cli.specs.Listing.{lists, change_text, changes_text};
-ghost use Rattle.sdh_aps_cli.specs.Recording.{AreShown, room_in};
+ghost use Rattle.sdh_aps_cli.specs.Recording.{AreShown};
 
 use crate::listing::SignalListing;
 use crate::showing::shown_at;

@@ -1,6 +1,6 @@
--- What reading a source to its end did to the bytes that the source shows.
-use Rattle.std.specs.Prelude.{◌≡◌, ◌<◌, ◌≤◌, ℕ, List, length, Option, Some, None}
-use Rattle.std.specs.Io.KnownBytes.{Consumes}
+-- What reading did to the bytes that a source shows.
+use Rattle.std.specs.Prelude.{◌≡◌, ◌<◌, ◌≤◌, ℕ, List, [], ◌∷◌, length, Option, Some, None}
+use Rattle.std.specs.Io.KnownBytes.{Consumes, IsAtEnd}
 
 -- exactly n bytes were taken
 abbrev pub TakesCount : Option (List ℕ) → Option (List ℕ) → ℕ → Type 0
@@ -14,3 +14,8 @@ TakesFewer old new n = (bytes : List ℕ) × (length bytes < n) × Consumes old 
 abbrev pub TellsAtMost : Option (List ℕ) → ℕ → Type 0
 TellsAtMost (Some bytes) n = length bytes ≤ n
 TellsAtMost None n = ⊥
+
+-- the next byte was taken, or there was none
+abbrev pub TakesNext : Option (List ℕ) → Option (List ℕ) → Option ℕ → Type 0
+TakesNext old new None = Consumes old new [] × IsAtEnd new
+TakesNext old new (Some byte) = Consumes old new (byte ∷ [])

@@ -13,7 +13,7 @@ mod writing;
 
 pub use mem_sink::MemSink;
 pub use mem_source::MemSource;
-pub use reading::{READ_MAX, ReadAllError, read_all};
+pub use reading::{READ_MAX, ReadAllError, fill, next_byte, read_all};
 pub use sink::{Sink, StdSink};
 pub use source::{Failed, Source, StdSource};
 pub use writing::{WriteFault, write_text};

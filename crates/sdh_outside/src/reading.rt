@@ -1,8 +1,8 @@
-//! Reading a source to its end.
+//! Reading a source: to its end, until a buffer is full, or one byte.
 ghost use Rattle.std.specs.Prelude.{◌≡◌, ◌+◌, ◌<◌, ◌≤◌, ◌⊎◌, IfOk, IsOk, IsErrOf, OnOk, OnErr, Err, length, take, vec_len};
-ghost use Rattle.std.specs.Io.KnownBytes.{Consumes, IsAtEnd};
+ghost use Rattle.std.specs.Io.KnownBytes.{Consumes, IsAtEnd, Keeps};
 ghost use Rattle.sdh_basics.specs.Causes.{HasCause, Rose, IsCounted};
-ghost use Rattle.sdh_outside.specs.Reading.{TakesCount, TakesFewer, TellsAtMost};
+ghost use Rattle.sdh_outside.specs.Reading.{TakesCount, TakesFewer, TakesNext, TellsAtMost};
 
 use crate::source::{Failed, Source};
 use std::alloc::{AllocError, Global};
@@ -32,8 +32,8 @@ fn zeros(alloc: Global, count: usize) -> Result<Vec<u8>, AllocError>
     vec![in alloc; 0u8; count]
 }
 
-// Reads until the buffer is full, the source ends or a call fails, and returns the number of bytes read.
-fn fill<R: Source>(source: &mut R, buf: &mut [u8]) -> Result<usize, Failed>
+/// Reads until the buffer is full, the source ends or a call fails, and returns the number of bytes read.
+pub fn fill<R: Source>(source: &mut R, buf: &mut [u8]) -> Result<usize, Failed>
     ensures within { IfOk result (λ count. count ≤ length buf.new) }
     ensures took { IfOk result (λ count. Consumes (R.left source.old) (R.left source.new) (take count buf.new)) }
     ensures end { IfOk result (λ count. count < length buf.new → IsAtEnd (R.left source.new)) }
@@ -49,6 +49,20 @@ fn fill<R: Source>(source: &mut R, buf: &mut [u8]) -> Result<usize, Failed>
         taken += count;
     }
     Ok(taken)
+}
+
+/// Returns the next byte that the source has left, and takes no other; `None` at its end.
+pub fn next_byte<R: Source>(source: &mut R) -> Result<Option<u8>, Failed>
+    ensures next { IfOk result (λ next. TakesNext (R.left source.old) (R.left source.new) next) }
+    ensures err { OnErr result (Keeps (R.left source.old) (R.left source.new)) }
+    ensures cause { HasCause R.exact (R.faults source.old) (R.faults source.new) result }
+{
+    let mut one = [0u8; 1];
+    let count = source.read(&mut one)?;
+    if count == 0 {
+        return Ok(None);
+    }
+    Ok(Some(one[0]))
 }
 
 /// Returns all bytes that the source has left, if they are at most `READ_MAX`. It reserves room for `READ_MAX` + 1

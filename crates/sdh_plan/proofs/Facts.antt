@@ -60,10 +60,13 @@ found_within : (nodes : List ℕ) (o : Option ℕ) (p : Pos) → option_map (λ 
 found_within nodes None p e h = cc
 found_within nodes (Some i) p e h = let same : i ≡ p.0 = cc in subst (λ (k : ℕ). k < length nodes) same (h i refl)
 
+pub found_below : (nodes : List ℕ) (id : ℕ) (p : Pos) → found_at nodes id ≡ Some p → p.0 < length nodes
+found_below nodes id p e =
+    found_within nodes (position (λ x. x == id) nodes) p e (λ i h. (position-Some (λ x. x == id) nodes i 0 h).0)
+
 node_within : (nodes : List ℕ) (o : Option ℕ) (p : Pos) → option_and_then (found_at nodes) o ≡ Some p → p.0 < length nodes
 node_within nodes None p e = cc
-node_within nodes (Some id) p e =
-    found_within nodes (position (λ x. x == id) nodes) p e (λ i h. (position-Some (λ x. x == id) nodes i 0 h).0)
+node_within nodes (Some id) p e = found_below nodes id p e
 
 in_ring : (nodes word : List ℕ) (p : Pos) → node_identified nodes word ≡ Some p → p.0 < length nodes
 unfolding node_identified

@@ -42,9 +42,9 @@ pub fn side_at(word: &[u8]) -> Option<Side>
     }
 }
 
-// Returns the circuit whose name the word is, counted from 0.
+/// Returns the number of the circuit whose name the word is, counted from 0.
 #[tactic(auto, unfolding(crate::specs::Steps::circuit_named))]
-fn circuit_named(circuits: &CircuitMap, word: &[u8]) -> Option<u8>
+pub fn circuit_named(circuits: &CircuitMap, word: &[u8]) -> Option<u8>
     ensures { result ≡ circuit_named circuits.now.circuits word.now }
 {
     for circuit in 0..circuits.len() as u8 {
@@ -68,8 +68,8 @@ fn end_at(word: &[u8]) -> Option<End>
     }
 }
 
-// Returns the turn of a clock that the word names.
-fn turn_at(word: &[u8]) -> Option<Turn>
+/// Returns the turn of a clock that the word names: `up` or `down`.
+pub fn turn_at(word: &[u8]) -> Option<Turn>
     ensures { result ≡ turn_at word.now }
 {
     if is_word(word, "up") {

@@ -16,9 +16,9 @@ mod step;
 mod words;
 
 pub use error::PlanError;
-pub use form::side_at;
+pub use form::{circuit_named, side_at, turn_at};
 pub use plan::Plan;
 pub use reading::read_plan;
 pub use reason::Reason;
 pub use step::Step;
-pub use words::numeral_in;
+pub use words::{is_word, numeral_in, words_of};

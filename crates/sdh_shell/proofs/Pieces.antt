@@ -7,13 +7,19 @@ use Rattle.std.proofs.Math.Seq.{take-append-le, take-append-add}
 use Rattle.std.proofs.lemmas.List.{length-append}
 use Rattle.sdh_basics.specs.Causes.{Rose, IsCounted, one_more}
 use Rattle.sdh_outside.specs.Writing.{AppendsFewer}
-use Rattle.sdh_shell.specs.Writing.{Wrote}
+use Rattle.sdh_report.specs.Written.{Written, with_part}
+use Rattle.sdh_shell.specs.Writing.{Wrote, room_in}
 
 no_err : {T : Type 0} (E : Type 0) (x : T) → IsErr {T = T} {E = E} (Ok x) → ⊥
 no_err E x d = grind (arith, d)
 
-rose : (x y z : ℕ) → x ≤ y → Rose y z → Rose x z
+-- a later rise is one
+pub rose : (x y z : ℕ) → x ≤ y → Rose y z → Rose x z
 rose x y z later h = omega (arith, later, h)
+
+-- a part takes its room, and no more
+pub kept_part : (w : Written) (part : List ℕ) → length part ≤ w.room → room_in (with_part w part) ≡ room_in w
+kept_part w part fits = omega (arith, fits, length-append w.bytes part)
 
 -- a front after what was appended
 pub fewer_behind : (a b c : Option (List ℕ)) (s t : List ℕ) → Appends a b s → AppendsFewer b c t → AppendsFewer a c (s ++ t)

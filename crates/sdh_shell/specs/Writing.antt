@@ -1,10 +1,11 @@
 -- What is written: of a text in pieces, and with each ending of a program's call.
-use Rattle.std.specs.Prelude.{◌≡◌, ◌⊎◌, ℕ, ◌≤◌, Bool, List, Option, Some, None, Result, IsErr, OnOk, OnErr}
+use Rattle.std.specs.Prelude.{◌≡◌, ◌⊎◌, ℕ, ◌+◌, ◌≤◌, Bool, List, length, Option, Some, None, Result, IsErr, OnOk, OnErr}
 use Rattle.std.specs.Io.KnownBytes.{Appends, Keeps}
 use Rattle.sdh_basics.specs.Causes.{Rose, IsCounted}
 use Rattle.sdh_outside.specs.Writing.{AppendsFewer}
 use Rattle.sdh_report.specs.declared.status.Status.{Status}
 use Rattle.sdh_report.specs.declared.status.Status.TheVariants as status
+use Rattle.sdh_report.specs.Written.{Written}
 use Rattle.sdh_shell.specs.Endings.{Endings}
 
 -- ---- a text, in pieces
@@ -18,6 +19,10 @@ pub record Wrote {T E : Type 0} (exact : Bool) (old new : Option (List ℕ)) (be
   pub fault : OnErr result (Rose before after)
   pub later : before ≤ after
   pub counted : IsCounted exact (IsErr result) before after
+
+-- how many bytes a text has room for in all
+abbrev pub room_in : Written → ℕ
+room_in t = t.room + length t.bytes
 
 -- ---- an outcome
 

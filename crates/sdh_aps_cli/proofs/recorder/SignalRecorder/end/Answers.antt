@@ -1,8 +1,5 @@
-use Rattle.std.proofs.Common.{◌-◌, ap, ◌∙◌, arith}
-use Rattle.sdh_report.specs.Lines.{settle_line}
+use Rattle.std.proofs.Common.{◌-◌, ap, arith}
 use Rattle.sdh_report.specs.Written.{Written}
-use Rattle.sdh_aps_cli.specs.Recording.{room_in}
-use Rattle.sdh_aps_cli.proofs.Lines.{kept_part}
 use Rattle.sdh_aps_cli.proofs.recorder.SignalRecorder.end.Goals as goal
 
 pub settle_line-requires : goal.settle_line-requires

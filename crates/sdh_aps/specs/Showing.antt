@@ -6,6 +6,7 @@ use Rattle.sdh_nodestate.specs.declared.Needs.{Needs}
 use Rattle.sdh_nodestate.specs.declared.Heard.{Heard}
 use Rattle.sdh_nodestate.specs.declared.Sent.{Sent}
 use Rattle.sdh_nodestate.specs.declared.NodeState.{NodeState}
+use Rattle.sdh_node.specs.Node.{Node, sent_of, heard_by, needed}
 use Rattle.sdh_aps.specs.Told.{state_word, bytes_told}
 use Rattle.sdh_aps.specs.declared.shown.Shown.{Shown}
 
@@ -21,3 +22,7 @@ shown_by ids state sent heard needs = record {
   asks_west = needs.west;
   asks_east = needs.east;
 }
+
+-- what a node shows after the last round
+unfoldable pub shown_of : Node → Shown
+shown_of n = shown_by n.ids n.state (sent_of n) (heard_by n) (needed n)

@@ -1,0 +1,287 @@
+-- One record, by its parts.
+use Rattle.std.proofs.Common.{◌≡◌, ℕ, ◌+◌, ◌<◌, ◌≤◌, List, [], ◌∷◌, ◌++◌, length, refl, ap, sym, subst, ◌∙◌, arith, inl, inr, append-nil}
+use Rattle.std.specs.Prelude.{Option, Some, None, Ok, Err}
+use Rattle.std.specs.Io.KnownBytes.{Appends, Consumes, IsAtEnd, Keeps}
+use Rattle.std.proofs.KnownBytes.{Appends-nil, Consumes-trans, Keeps-refl}
+use Rattle.std.proofs.lemmas.List.{length-append}
+use Rattle.sdh_outside.specs.Writing.{AppendsFewer}
+use Rattle.sdh_shell.specs.Lines.{whole_line}
+use Rattle.sdh_ringmap.specs.declared.Side.{Side}
+use Rattle.sdh_ringmap.specs.declared.Side.TheVariants.{West, East}
+use Rattle.sdh_request.specs.declared.settings.Settings.{Settings}
+use Rattle.sdh_plan.specs.Check.{unless}
+use Rattle.sdh_plan.specs.declared.reason.Reason.{Reason}
+use Rattle.sdh_node.specs.Node.{Node, node_round, with_calm, after_crossing}
+use Rattle.sdh_node_cli.specs.declared.ending.Flaw.TheVariants as flaw
+use Rattle.sdh_node_cli.specs.declared.record.Came.{Came}
+use Rattle.sdh_node_cli.specs.declared.record.Came.TheVariants as came
+use Rattle.sdh_node_cli.specs.declared.record.Record.{Record}
+use Rattle.sdh_node_cli.specs.declared.record.Record.TheVariants as what
+use Rattle.sdh_node_cli.specs.declared.record.Told.{Told}
+use Rattle.sdh_node_cli.specs.declared.record.Told.TheVariants as told
+use Rattle.sdh_node_cli.specs.declared.stop.Stop.{Stop}
+use Rattle.sdh_node_cli.specs.declared.stop.Stop.TheVariants as stop
+use Rattle.sdh_node_cli.specs.Bench.{Bench, refusal_of, after_told, size_after, after_coming, with_arrivals, after_round, answer_to, answer_room}
+use Rattle.sdh_node_cli.specs.Streams.{Given, after_record, after}
+use Rattle.sdh_node_cli.specs.Turns.{room_for, HasLine, Takes, TakesPart, TakesBoth, both_sizes, Ran, RanCut, StopsRound, Goes, Halts, Fails, StopsBy}
+
+-- ---- what stays
+
+coming_settings : (side : Side) (c : Came) (bytes : List ℕ) (n : Node) → (after_coming side c bytes n).settings ≡ n.settings
+unfolding after_coming
+coming_settings side came.Nothing bytes n = refl
+coming_settings side came.Dark bytes n = refl
+coming_settings side came.Frame bytes n = refl
+
+coming_rounds : (side : Side) (c : Came) (bytes : List ℕ) (n : Node) → (after_coming side c bytes n).rounds ≡ n.rounds
+unfolding after_coming
+coming_rounds side came.Nothing bytes n = refl
+coming_rounds side came.Dark bytes n = refl
+coming_rounds side came.Frame bytes n = refl
+
+told_node : (t : Told) (b : Bench) → ((after_told t b).node.settings ≡ b.node.settings) × ((after_told t b).node.rounds ≡ b.node.rounds)
+    × ((after_told t b).circuits ≡ b.circuits)
+unfolding after_told
+told_node (told.Command side c) b = (refl, refl, refl)
+told_node (told.Moment m) b = (refl, refl, refl)
+told_node (told.Hold turns) b = (refl, refl, refl)
+told_node (told.Slip port turn count) b = (refl, refl, refl)
+
+round_settings : (now : ℕ) (n : Node) → (node_round now n).0.settings ≡ n.settings
+unfolding node_round with_calm after_crossing
+round_settings now n = refl
+
+round_rounds : (now : ℕ) (n : Node) → (node_round now n).0.rounds ≡ n.rounds + 1
+unfolding node_round with_calm after_crossing
+round_rounds now n = refl
+
+came_node : Came → List ℕ → Came → List ℕ → Bench → Node
+came_node west w east e b = after_coming East east e (after_coming West west w b.node)
+
+-- a record leaves the settings and the circuits, and at most one round more was run
+pub after_settings : (g : Given) (b : Bench) → (after g b).node.settings ≡ b.node.settings
+after_settings g b = by g.record_is
+  where
+    by : (r : Record) → (after_record r g.west g.east b).node.settings ≡ b.node.settings
+    by (what.Told t) = (told_node t b).0
+    by (what.Round west east) =
+        round_settings b.moment (came_node west g.west east g.east b)
+        ∙ coming_settings East east g.east (after_coming West west g.west b.node)
+        ∙ coming_settings West west g.west b.node
+
+pub after_rounds : (g : Given) (b : Bench) → (after g b).node.rounds ≤ b.node.rounds + 1
+after_rounds g b = by g.record_is
+  where
+    by : (r : Record) → (after_record r g.west g.east b).node.rounds ≤ b.node.rounds + 1
+    by (what.Told t) = omega (arith, (told_node t b).1)
+    by (what.Round west east) =
+        omega (
+          arith,
+          round_rounds b.moment (came_node west g.west east g.east b),
+          coming_rounds East east g.east (after_coming West west g.west b.node),
+          coming_rounds West west g.west b.node,
+        )
+
+pub after_circuits : (g : Given) (b : Bench) → (after g b).circuits ≡ b.circuits
+after_circuits g b = by g.record_is
+  where
+    by : (r : Record) → (after_record r g.west g.east b).circuits ≡ b.circuits
+    by (what.Told t) = (told_node t b).2
+    by (what.Round west east) = refl
+
+pub after_room : (g : Given) (b : Bench) → room_for (after g b) ≡ room_for b
+after_room g b =
+    ap (λ (s : Settings). answer_room s.rate (length (after g b).circuits)) (after_settings g b)
+    ∙ ap (λ cs. answer_room b.node.settings.rate (length cs)) (after_circuits g b)
+
+-- ---- a round
+
+pub coming_is : (side : Side) (c : Came) (bytes : List ℕ) (b d : Bench) → d ≡ record b { node = after_coming side c bytes b.node }
+    → (d.node.settings ≡ b.node.settings) × (d.node.rounds ≡ b.node.rounds) × (d.circuits ≡ b.circuits)
+coming_is side c bytes b d is = (
+  ap (λ (x : Bench). x.node.settings) is ∙ coming_settings side c bytes b.node,
+  ap (λ (x : Bench). x.node.rounds) is ∙ coming_rounds side c bytes b.node,
+  ap (λ (x : Bench). x.circuits) is,
+)
+
+both_came : (b c d : Bench) (west east : Came) (w e : List ℕ) → c ≡ record b { node = after_coming West west w b.node }
+    → d ≡ record c { node = after_coming East east e c.node } → d ≡ with_arrivals west w east e b
+both_came b c d west east w e first second =
+    second ∙ ap (λ (x : Bench). record x { node = after_coming East east e x.node }) first
+
+-- whole frames came on both sides
+pub takes_both : (b c d : Bench) (west east : Came) (left mid now : Option (List ℕ)) (w e : List ℕ)
+    → Takes b west left mid w → c ≡ record b { node = after_coming West west w b.node } → Takes c east mid now e
+    → d ≡ record c { node = after_coming East east e c.node } → TakesBoth b d west east left now
+takes_both b c d west east left mid now w e first is_c second is_d = record {
+  from_west = w;
+  from_east = e;
+  west_whole = first.whole;
+  east_whole = second.whole ∙ ap (λ (s : Settings). size_after s.rate east) (coming_is West west w b c is_c).0;
+  read = Consumes-trans left mid now w e first.read second.read;
+  bench = both_came b c d west east w e is_c is_d;
+}
+
+-- what came from the west was cut off
+pub west_part : (b : Bench) (west east : Came) (why : Stop) (left now : Option (List ℕ))
+    → TakesPart (size_after b.node.settings.rate west) left now why → TakesPart (both_sizes b west east) left now why
+west_part b west east (stop.Bad flaw.Cut) left now p = (p.0, omega (arith, p.1), p.2, p.3)
+west_part b west east stop.ReadFault left now p = p
+west_part b west east (stop.Bad (flaw.Said r)) left now p = absurd p
+west_part b west east (stop.Bad flaw.Long) left now p = absurd p
+west_part b west east (stop.Bad flaw.Many) left now p = absurd p
+west_part b west east stop.Done left now p = absurd p
+west_part b west east stop.WriteFault left now p = absurd p
+
+-- what came from the east was
+pub east_part : (b c : Bench) (west east : Came) (why : Stop) (left mid now : Option (List ℕ)) (w : List ℕ)
+    → Takes b west left mid w → c ≡ record b { node = after_coming West west w b.node }
+    → TakesPart (size_after c.node.settings.rate east) mid now why → TakesPart (both_sizes b west east) left now why
+east_part b c west east (stop.Bad flaw.Cut) left mid now w first is p =
+    let size = ap (λ (s : Settings). size_after s.rate east) (coming_is West west w b c is).0 in
+    (w ++ p.0, omega (arith, p.1, size, first.whole, length-append w p.0), Consumes-trans left mid now w p.0 first.read p.2, p.3)
+east_part b c west east stop.ReadFault left mid now w first is p = (w ++ p.0, Consumes-trans left mid now w p.0 first.read p.1)
+east_part b c west east (stop.Bad (flaw.Said r)) left mid now w first is p = absurd p
+east_part b c west east (stop.Bad flaw.Long) left mid now w first is p = absurd p
+east_part b c west east (stop.Bad flaw.Many) left mid now w first is p = absurd p
+east_part b c west east stop.Done left mid now w first is p = absurd p
+east_part b c west east stop.WriteFault left mid now w first is p = absurd p
+
+-- the round that runs over both, with its answer
+pub ran_by : (b d new : Bench) (west east : Came) (left now old_text new_text : Option (List ℕ)) → TakesBoth b d west east left now
+    → new ≡ after_round d → Appends old_text new_text (answer_to d) → Ran b new west east left now old_text new_text
+ran_by b d new west east left now old_text new_text both is wrote = record {
+  from_west = both.from_west;
+  from_east = both.from_east;
+  west_whole = both.west_whole;
+  east_whole = both.east_whole;
+  read = both.read;
+  wrote = subst (λ x. Appends old_text new_text (answer_to x)) both.bench wrote;
+  bench = is ∙ ap after_round both.bench;
+}
+
+pub cut_by : (b d : Bench) (west east : Came) (why : Stop) (left now old_text new_text : Option (List ℕ)) → why ≡ stop.WriteFault
+    → TakesBoth b d west east left now → AppendsFewer old_text new_text (answer_to d)
+    → StopsRound b west east why left now old_text new_text
+cut_by b d west east why left now old_text new_text is both front =
+    let cut : RanCut b west east left now old_text new_text = record {
+      from_west = both.from_west;
+      from_east = both.from_east;
+      west_whole = both.west_whole;
+      east_whole = both.east_whole;
+      read = both.read;
+      front = subst (λ x. AppendsFewer old_text new_text (answer_to x)) both.bench front;
+    } in
+    subst (λ x. StopsRound b west east x left now old_text new_text) (sym is) cut
+
+pub part_stops : (b : Bench) (west east : Came) (why : Stop) (left now text : Option (List ℕ))
+    → TakesPart (both_sizes b west east) left now why → StopsRound b west east why left now text text
+part_stops b west east (stop.Bad flaw.Cut) left now text p = (p, Keeps-refl text)
+part_stops b west east stop.ReadFault left now text p = (p, Keeps-refl text)
+part_stops b west east (stop.Bad (flaw.Said r)) left now text p = absurd p
+part_stops b west east (stop.Bad flaw.Long) left now text p = absurd p
+part_stops b west east (stop.Bad flaw.Many) left now text p = absurd p
+part_stops b west east stop.Done left now text p = absurd p
+part_stops b west east stop.WriteFault left now text p = absurd p
+
+-- a node over which both came has run as many rounds, and its answer needs as much room
+pub both_stay : (b d : Bench) (west east : Came) (left now : Option (List ℕ)) → TakesBoth b d west east left now
+    → (d.node.rounds ≡ b.node.rounds) × (room_for d ≡ room_for b)
+both_stay b d west east left now both =
+    let node = came_node west both.from_west east both.from_east b in
+    let rounds = coming_rounds East east both.from_east (after_coming West west both.from_west b.node)
+    ∙ coming_rounds West west both.from_west b.node in
+    let settings = coming_settings East east both.from_east (after_coming West west both.from_west b.node)
+    ∙ coming_settings West west both.from_west b.node in (
+      ap (λ (x : Bench). x.node.rounds) both.bench ∙ rounds,
+      ap room_for both.bench ∙ ap (λ (s : Settings). answer_room s.rate (length b.circuits)) settings,
+    )
+
+-- ---- a record
+
+pub goes_round : (b new : Bench) (line : List ℕ) (west east : Came) (left mid now old_text new_text : Option (List ℕ))
+    → HasLine b line (what.Round west east) left mid → Ran b new west east mid now old_text new_text → Goes b new left now old_text new_text
+goes_round b new line west east left mid now old_text new_text l ran = record {
+  given = record { line = line; record_is = what.Round west east; west = ran.from_west; east = ran.from_east };
+  is = record {
+    said = record { line_is = l.line_is; reads = l.reads; may = refl };
+    west_whole = ran.west_whole;
+    east_whole = ran.east_whole;
+  };
+  read = Consumes-trans left mid now (whole_line line) (ran.from_west ++ ran.from_east) l.read ran.read;
+  wrote = ran.wrote;
+  bench = ran.bench;
+}
+
+pub goes_told : (b new : Bench) (line : List ℕ) (t : Told) (left now text : Option (List ℕ)) → HasLine b line (what.Told t) left now
+    → refusal_of b t ≡ None → new ≡ after_told t b → Goes b new left now text text
+goes_told b new line t left now text l may is = record {
+  given = record { line = line; record_is = what.Told t; west = []; east = [] };
+  is = record { said = record { line_is = l.line_is; reads = l.reads; may = may }; west_whole = refl; east_whole = refl };
+  read = subst (Consumes left now) (sym (append-nil (whole_line line))) l.read;
+  wrote = Appends-nil text;
+  bench = is;
+}
+
+-- ---- where no record more is done
+
+pub line_stops : (b : Bench) (why : Stop) (left now text : Option (List ℕ)) → Halts b why left now → StopsBy b why left now text text
+line_stops b stop.Done left now text h = (h, Keeps-refl text)
+line_stops b (stop.Bad f) left now text h = (h, Keeps-refl text)
+line_stops b stop.ReadFault left now text h = (h, Keeps-refl text)
+line_stops b stop.WriteFault left now text h = absurd h.1
+
+pub told_stops : (b : Bench) (line : List ℕ) (t : Told) (why : Reason) (left now text : Option (List ℕ)) → HasLine b line (what.Told t) left now
+    → refusal_of b t ≡ Some why → StopsBy b (stop.Bad (flaw.Said why)) left now text text
+told_stops b line t why left now text l no =
+    ((whole_line line, ((line, refl, l.line_is, inr (what.Told t, l.reads, no)), tt), l.read), Keeps-refl text)
+
+pub round_stops : (b : Bench) (line : List ℕ) (west east : Came) (why : Stop) (left mid now old_text new_text : Option (List ℕ))
+    → HasLine b line (what.Round west east) left mid → StopsRound b west east why mid now old_text new_text
+    → StopsBy b why left now old_text new_text
+round_stops b line west east stop.WriteFault left mid now old_text new_text l cut = record {
+  given = record { line = line; record_is = what.Round west east; west = cut.from_west; east = cut.from_east };
+  is = record {
+    said = record { line_is = l.line_is; reads = l.reads; may = refl };
+    west_whole = cut.west_whole;
+    east_whole = cut.east_whole;
+  };
+  read = Consumes-trans left mid now (whole_line line) (cut.from_west ++ cut.from_east) l.read cut.read;
+  front = cut.front;
+}
+round_stops b line west east (stop.Bad flaw.Cut) left mid now old_text new_text l s =
+    let p = s.0 in (
+      (
+        whole_line line ++ p.0,
+        (
+          inr
+              (record {
+                line = line;
+                record_is = what.Round west east;
+                part = p.0;
+                said = record { line_is = l.line_is; reads = l.reads; may = refl };
+                tail_is = refl;
+                short = p.1;
+              }),
+          p.3,
+        ),
+        Consumes-trans left mid now (whole_line line) p.0 l.read p.2,
+      ),
+      s.1,
+    )
+round_stops b line west east stop.ReadFault left mid now old_text new_text l s =
+    ((whole_line line ++ s.0.0, tt, Consumes-trans left mid now (whole_line line) s.0.0 l.read s.0.1), s.1)
+round_stops b line west east (stop.Bad (flaw.Said r)) left mid now old_text new_text l s = absurd s.0
+round_stops b line west east (stop.Bad flaw.Long) left mid now old_text new_text l s = absurd s.0
+round_stops b line west east (stop.Bad flaw.Many) left mid now old_text new_text l s = absurd s.0
+round_stops b line west east stop.Done left mid now old_text new_text l s = absurd s.0
+
+-- ---- what telling answers
+
+pub unless_ok : (o : Option Reason) → unless o tt ≡ Ok tt → o ≡ None
+unless_ok None e = refl
+unless_ok (Some why) e = cc
+
+pub unless_err : (o : Option Reason) (why : Reason) → unless o tt ≡ Err why → o ≡ Some why
+unless_err None why e = cc
+unless_err (Some other) why e = cc

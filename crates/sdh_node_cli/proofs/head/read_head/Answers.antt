@@ -1,0 +1,37 @@
+use Rattle.std.proofs.Common.{◌≡◌, List, ℕ, [], ◌∷◌, ◌++◌, length, ap, sym, subst, ◌∙◌, true, arith}
+use Rattle.std.specs.Io.KnownBytes.{Consumes}
+use Rattle.std.proofs.KnownBytes.{Consumes-trans}
+use Rattle.std.proofs.lemmas.List.{length-append}
+use Rattle.sdh_outside.specs.Reading.{TakesNext}
+use Rattle.sdh_report.specs.Written.{Written}
+use Rattle.sdh_node_cli.specs.Streams.{EndsPlan, HasNoEnd}
+use Rattle.sdh_node_cli.proofs.EndLine.{none_more, clash}
+use Rattle.sdh_node_cli.proofs.head.read_head.Goals as goal
+
+pub loop-source-preserved : goal.loop-source-preserved
+loop-source-preserved g c =
+    let inv = c.loop-source.invariant in
+    let before = c.loop-source.text.bytes in
+    let byte = c.in-Some.byte in
+    let left = g.R.Source.left in
+    let put : c.put.new.self.bytes ≡ before ++ byte ∷ [] = ap (λ (w : Written). w.bytes) c.put.ensures in
+    let next : Consumes (left c.loop-source.source) (left c.next_byte.new.source) (byte ∷ []) =
+    subst (TakesNext (left c.loop-source.source) (left c.next_byte.new.source)) c.in-Some.is c.in_ok-byte.ensures.next in
+    record {
+      kept =
+          omega (
+            arith,
+            inv.kept,
+            c.room.ensures,
+            c.loop-source-test.true,
+            ap (λ (w : Written). w.room) c.put.ensures,
+            ap length put,
+            length-append before (byte ∷ []),
+          );
+      none =
+          subst HasNoEnd (sym put) (none_more before byte inv.none (λ ends. clash c.ends_plan.result
+          (c.ends_plan.ensures.1 (subst EndsPlan (sym put ∙ sym c.bytes.ensures) ends)) c.if-ends_plan.false));
+      took = subst (Consumes (left c.args.source.now) (left c.next_byte.new.source)) (sym put) (Consumes-trans _ _ _ _ _ inv.took next);
+      stays = λ e. c.in_ok-byte.ensures.cause.counted.none e (λ f. cc) ∙ inv.stays e;
+      later = omega (arith, c.in_ok-byte.ensures.cause.later, inv.later);
+    }

@@ -1,0 +1,49 @@
+use Rattle.std.proofs.Common.{◌≡◌, ◌≤◌, ap, sym, subst, ◌∙◌, arith, refl}
+use native.Mathlib.Nat.{le_refl}
+use Rattle.sdh_node_cli.specs.Bench.{Bench}
+use Rattle.sdh_node_cli.specs.Turns.{room_for, StopsBy}
+use Rattle.sdh_node_cli.proofs.Runs.{went_none, went_on, served_by, cut_by, served_all}
+use Rattle.sdh_node_cli.proofs.Turning.{after_rounds, after_room}
+use Rattle.sdh_node_cli.proofs.serving.serve.Goals as goal
+
+pub loop-done-init : goal.loop-done-init
+loop-done-init g c = record {
+  went = went_none _ _ _;
+  rounds = omega (arith, c.requires.fresh);
+  room = refl;
+  line = c.requires.line;
+  answer = refl;
+  reads = λ e. refl;
+  writes = λ e. refl;
+  later_reads = le_refl _;
+  later_writes = le_refl _;
+}
+
+pub loop-done-preserved : goal.loop-done-preserved
+loop-done-preserved g c =
+    let inv = c.loop-done.invariant in
+    let goes = c.in-Ok.ensures.goes in
+    let b = c.loop-done.bench in
+    record {
+      went = went_on _ b c.turn.new.bench _ _ _ _ _ _ c.loop-done.done inv.went goes;
+      rounds = omega (arith, inv.rounds, ap (λ (x : Bench). x.node.rounds) goes.bench, after_rounds goes.given b);
+      room = ap room_for goes.bench ∙ after_room goes.given b ∙ inv.room;
+      line = c.turn.ensures.line;
+      answer = c.turn.ensures.answer ∙ inv.answer;
+      reads = λ e. c.turn.ensures.reads.none e (λ f. cc) ∙ inv.reads e;
+      writes = λ e. c.turn.ensures.writes.none e (λ f. cc) ∙ inv.writes e;
+      later_reads = omega (arith, c.turn.ensures.later.0, inv.later_reads);
+      later_writes = omega (arith, c.turn.ensures.later.1, inv.later_writes);
+    }
+
+pub returns-in-Err-clause-served : goal.returns-in-Err-clause-served
+returns-in-Err-clause-served g c = λ not.
+    served_by _ c.loop-done.bench _ _ _ _ _ _ c.loop-done.done c.in-Err.stop c.loop-done.invariant.went not c.in-Err.ensures.stops
+
+pub returns-in-Err-clause-cut : goal.returns-in-Err-clause-cut
+returns-in-Err-clause-cut g c = λ is.
+    cut_by _ c.loop-done.bench _ _ _ _ _ _ c.loop-done.done c.loop-done.invariant.went
+    (subst (λ x. StopsBy c.loop-done.bench x _ _ _ _) is c.in-Err.ensures.stops)
+
+pub returns-clause-served : goal.returns-clause-served
+returns-clause-served g c = λ not. served_all _ _ _ _ _ _ c.loop-done.done c.loop-done.invariant.went

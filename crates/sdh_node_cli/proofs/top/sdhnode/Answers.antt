@@ -1,0 +1,20 @@
+use Rattle.std.proofs.Common.{subst, sym, ◌∙◌}
+use Rattle.std.specs.Prelude.{Option}
+use Rattle.sdh_node_cli.specs.declared.words.Ask.{Ask}
+use Rattle.sdh_node_cli.specs.Outcome.{Tells}
+use Rattle.sdh_node_cli.proofs.Told.{tells_usage}
+use Rattle.sdh_node_cli.proofs.top.sdhnode.Goals as goal
+
+pub returns-in-Ok-clause-outcome : goal.returns-in-Ok-clause-outcome
+returns-in-Ok-clause-outcome g c =
+    let left = g.R.Source.left in
+    subst (λ (a : Option Ask). Tells a (left c.args.source.now) (left c.answer.new.source) c.in-Ok.ending (g.W.Sink.written c.args.sink.now)
+    (g.W.Sink.written c.answer.new.sink)) (sym c.in-Some.is ∙ c.asked.ensures) c.in-Ok.ensures.outcome
+
+pub returns-in-Ok-usage-clause-outcome : goal.returns-in-Ok-usage-clause-outcome
+returns-in-Ok-usage-clause-outcome g c =
+    let left = g.R.Source.left c.args.source.now in
+    let old = g.W.Sink.written c.args.sink.now in
+    let new = g.W.Sink.written c.usage.new.sink in
+    subst (λ (a : Option Ask). Tells a left left c.in-Ok-usage.ending old new) (sym c.in-None.is ∙ c.asked.ensures)
+    (tells_usage left c.in-Ok-usage.ending old new c.in-Ok-usage.ensures.wrote)

@@ -1,0 +1,184 @@
+-- How a call of the program ends: each ending, when it is answered, the text that goes with it, and what was read by then.
+use Rattle.std.specs.Prelude.{ℕ, ◌≡◌, ◌⊎◌, ◌+◌, List, [], ◌++◌, length, codes, Option, Some, None}
+use Rattle.std.specs.Io.KnownBytes.{Consumes, IsAtEnd}
+use Rattle.sdh_outside.specs.Writing.{AppendsFewer}
+use Rattle.sdh_ringmap.specs.declared.Pos.{Pos}
+use Rattle.sdh_ringmap.specs.Places.{found_at}
+use Rattle.sdh_plan.specs.Planned.{Planned}
+use Rattle.sdh_report.specs.declared.status.Status.{Status}
+use Rattle.sdh_report.specs.declared.status.Status.TheVariants as status
+use Rattle.sdh_report.specs.Lines.{own_line}
+use Rattle.sdh_shell.specs.Reading.{HasNoPlan, TellsPlan}
+use Rattle.sdh_shell.specs.Writing.{TellsWith}
+use Rattle.sdh_node_cli.specs.declared.words.Ask.{Ask}
+use Rattle.sdh_node_cli.specs.declared.ending.Ending.{Ending}
+use Rattle.sdh_node_cli.specs.declared.ending.Ending.TheVariants as ending
+use Rattle.sdh_node_cli.specs.declared.ending.Flaw.TheVariants as flaw
+use Rattle.sdh_node_cli.specs.declared.head.NoHead.{NoHead}
+use Rattle.sdh_node_cli.specs.declared.head.NoHead.TheVariants as none
+use Rattle.sdh_node_cli.specs.declared.stop.Stop.{Stop}
+use Rattle.sdh_node_cli.specs.declared.stop.Stop.TheVariants as stop
+use Rattle.sdh_node_cli.specs.Endings.{line_of, bench_endings}
+use Rattle.sdh_node_cli.specs.Bench.{Bench, new_bench}
+use Rattle.sdh_node_cli.specs.Streams.{end_of_plan, HasNoEnd, IsDocument, head_max, Given, IsGiven, bytes_of, answer, AreGiven, after_all}
+use Rattle.sdh_node_cli.specs.Streams.{answers, stream_of}
+use Rattle.sdh_node_cli.specs.Turns.{StopsSo}
+
+-- how the program is called
+abbrev pub usage : List ℕ
+usage = codes "usage: sdhnode ID, frames, lines"
+
+-- ---- the plan
+
+-- the source had a document and the line that ends it, these were read and nothing more, and the document is that of this plan
+pub record HasHead (left now : Option (List ℕ)) (plan : Planned) : Type 0 where
+  pub document : List ℕ
+  pub first : IsDocument document
+  pub plan_is : TellsPlan document plan
+  pub read : Consumes left now (document ++ end_of_plan)
+
+-- ---- what was read where there is no plan
+
+-- no line ends it
+pub record HasNoHead (left now : Option (List ℕ)) (bytes : List ℕ) : Type 0 where
+  pub none : HasNoEnd bytes
+  pub read : Consumes left now bytes
+
+-- a document, which is refused with this status
+pub record HasBadHead (left now : Option (List ℕ)) (how : Status) : Type 0 where
+  pub document : List ℕ
+  pub first : IsDocument document
+  pub why : HasNoPlan document how
+  pub read : Consumes left now (document ++ end_of_plan)
+
+abbrev pub RefusesHead : Option (List ℕ) → Option (List ℕ) → Status → Type 0
+RefusesHead left now status.ReadFault = (bytes : List ℕ) × HasNoHead left now bytes
+RefusesHead left now status.TooLong = (bytes : List ℕ) × HasNoHead left now bytes × (length bytes ≡ head_max)
+RefusesHead left now status.NotToml = HasBadHead left now status.NotToml
+RefusesHead left now (status.BadPlan number place) = HasBadHead left now (status.BadPlan number place)
+RefusesHead left now how = ⊥
+
+-- why a document gives no plan
+abbrev pub IsNoPlan : List ℕ → NoHead → Type 0
+IsNoPlan document none.Memory = Unit {0}
+IsNoPlan document none.Cut = ⊥
+IsNoPlan document (none.Refused status.NotToml) = HasNoPlan document status.NotToml
+IsNoPlan document (none.Refused (status.BadPlan number place)) = HasNoPlan document (status.BadPlan number place)
+IsNoPlan document (none.Refused how) = ⊥
+
+-- how the program ends where there is no plan; with a lack of memory there is no outcome
+abbrev pub refusal_of : NoHead → Option Ending
+refusal_of none.Memory = None
+refusal_of none.Cut = Some (ending.BadRecord flaw.Cut 0)
+refusal_of (none.Refused how) = Some (ending.Shared how)
+
+-- why there is no plan; a lack of memory needs no reason
+abbrev pub TellsNone : Option (List ℕ) → Option (List ℕ) → NoHead → Type 0
+TellsNone left now none.Memory = Unit {0}
+TellsNone left now none.Cut = (bytes : List ℕ) × HasNoHead left now bytes × IsAtEnd now
+TellsNone left now (none.Refused how) = RefusesHead left now how
+
+-- ---- records, one after the other, behind these bytes
+
+-- records were done up to one that isn't, which has this number, and their answers are this text
+pub record Served (b : Bench) (head : List ℕ) (left now : Option (List ℕ)) (number : ℕ) (why : Stop) (text : List ℕ) : Type 0 where
+  pub records : List Given
+  pub are : AreGiven b records
+  pub numbered : number ≡ length records + 1
+  pub tail : List ℕ
+  pub read : Consumes left now (head ++ (stream_of records ++ tail))
+  pub so : StopsSo (after_all b records) why tail now
+  pub text_is : text ≡ answers b records
+
+-- A write failed in the answer to a record after some: a front of the answers was written, and nothing more was read than
+-- that record.
+pub record CutShort (b : Bench) (head : List ℕ) (left now old_text new_text : Option (List ℕ)) : Type 0 where
+  pub records : List Given
+  pub are : AreGiven b records
+  pub given : Given
+  pub is : IsGiven (after_all b records) given
+  pub read : Consumes left now (head ++ (stream_of records ++ bytes_of given))
+  pub front : AppendsFewer old_text new_text (answers b records ++ answer given (after_all b records))
+
+-- ---- an outcome
+
+-- how the program ends where no record more is done
+abbrev pub ending_of : Stop → ℕ → Ending
+ending_of stop.Done number = ending.Shared status.Ok
+ending_of (stop.Bad f) number = ending.BadRecord f number
+ending_of stop.ReadFault number = ending.Shared status.ReadFault
+ending_of stop.WriteFault number = ending.Shared status.WriteFault
+
+-- the plan has no node of the identifier
+pub record HasNoNode (ask : Ask) (plan : Planned) (head : List ℕ) (left now : Option (List ℕ)) (how : Ending) (text : List ℕ) : Type 0 where
+  pub none : found_at plan.nodes ask.id ≡ None
+  pub read : Consumes left now head
+  pub how_is : how ≡ ending.NoSuchNode
+  pub text_is : text ≡ line_of how
+
+-- the records were done for the node, up to one that isn't
+pub record HasServed (ask : Ask) (plan : Planned) (head : List ℕ) (left now : Option (List ℕ)) (how : Ending) (text : List ℕ) : Type 0 where
+  pub at : Pos
+  pub found : found_at plan.nodes ask.id ≡ Some at
+  pub number : ℕ
+  pub why : Stop
+  pub how_is : how ≡ ending_of why number
+  pub told : List ℕ
+  pub served : Served (new_bench ask.mode ask.id at plan) head left now number why told
+  pub text_is : text ≡ told ++ line_of how
+
+abbrev pub OfPlan : Ask → Planned → List ℕ → Option (List ℕ) → Option (List ℕ) → Ending → List ℕ → Type 0
+OfPlan ask plan head left now how text =
+    HasNoNode ask plan head left now how text ⊎ HasServed ask plan head left now how text
+
+-- there is no plan
+pub record HasRefused (left now : Option (List ℕ)) (how : Ending) (text : List ℕ) : Type 0 where
+  pub why : NoHead
+  pub none : TellsNone left now why
+  pub how_is : Some how ≡ refusal_of why
+  pub text_is : text ≡ line_of how
+
+-- a document is that of a plan
+pub record HasPlan (ask : Ask) (left now : Option (List ℕ)) (how : Ending) (text : List ℕ) : Type 0 where
+  pub document : List ℕ
+  pub first : IsDocument document
+  pub plan : Planned
+  pub plan_is : TellsPlan document plan
+  pub of_plan : OfPlan ask plan (document ++ end_of_plan) left now how text
+
+-- What is asked, if anything, comes to this ending, with this text, and of the source this was read. No outcome is a write
+-- fault or a lack of memory: each may stand in place of one.
+abbrev pub IsOutcome : Option Ask → Option (List ℕ) → Option (List ℕ) → Ending → List ℕ → Type 0
+IsOutcome None left now how text = (how ≡ ending.Shared status.Usage) × (text ≡ own_line usage) × (now ≡ left)
+IsOutcome (Some ask) left now how text = HasRefused left now how text ⊎ HasPlan ask left now how text
+
+-- a write failed in the answer to a record for the node of a plan
+pub record IsCutPlan (ask : Ask) (plan : Planned) (head : List ℕ) (left now old_text new_text : Option (List ℕ)) : Type 0 where
+  pub at : Pos
+  pub found : found_at plan.nodes ask.id ≡ Some at
+  pub cut : CutShort (new_bench ask.mode ask.id at plan) head left now old_text new_text
+
+pub record IsCutShort (ask : Ask) (left now old_text new_text : Option (List ℕ)) : Type 0 where
+  pub document : List ℕ
+  pub first : IsDocument document
+  pub plan : Planned
+  pub plan_is : TellsPlan document plan
+  pub cut : IsCutPlan ask plan (document ++ end_of_plan) left now old_text new_text
+
+abbrev pub MayBeCut : Option Ask → Option (List ℕ) → Option (List ℕ) → Option (List ℕ) → Option (List ℕ) → Type 0
+MayBeCut None left now old_text new_text = ⊥
+MayBeCut (Some ask) left now old_text new_text = IsCutShort ask left now old_text new_text
+
+-- ---- what was written
+
+-- when this ending was answered for the node of a plan, whose records came after these bytes
+abbrev pub TellsPlanned : Ask → Planned → List ℕ → Option (List ℕ) → Option (List ℕ) → Ending → Option (List ℕ) → Option (List ℕ) → Type 0
+TellsPlanned ask plan head left now how old_text new_text =
+    TellsWith bench_endings (λ h text. OfPlan ask plan head left now h text) (IsCutPlan ask plan head left now old_text new_text) how
+    old_text new_text
+
+-- The whole text of an outcome; or, where a write failed, fewer bytes from the front of one, or of the answers to the
+-- records so far; or nothing, where there was no memory.
+abbrev pub Tells : Option Ask → Option (List ℕ) → Option (List ℕ) → Ending → Option (List ℕ) → Option (List ℕ) → Type 0
+Tells asked left now how old_text new_text =
+    TellsWith bench_endings (λ h text. IsOutcome asked left now h text) (MayBeCut asked left now old_text new_text) how old_text new_text

@@ -1,0 +1,152 @@
+-- Which bytes a stream has, and what comes of it: a plan, a line that ends it, and then records.
+use Rattle.std.specs.Prelude.{◌≡◌, ◌⊎◌, ℕ, ◌+◌, ◌<◌, ◌≤◌, List, [], ◌∷◌, ◌++◌, length, codes, Option, Some, None, Ok, Err}
+use Rattle.std.specs.List.{flat_map}
+use Rattle.std.specs.Io.KnownBytes.{IsAtEnd}
+use Rattle.sdh_shell.specs.Lines.{IsOneLine, whole_line}
+use Rattle.sdh_plan.specs.declared.reason.Reason.{Reason}
+use Rattle.sdh_node_cli.specs.declared.ending.Flaw.{Flaw}
+use Rattle.sdh_node_cli.specs.declared.ending.Flaw.TheVariants as flaw
+use Rattle.sdh_node_cli.specs.declared.record.Came.{Came}
+use Rattle.sdh_node_cli.specs.declared.record.Came.TheVariants as came
+use Rattle.sdh_node_cli.specs.declared.record.Record.{Record}
+use Rattle.sdh_node_cli.specs.declared.record.Record.TheVariants as what
+use Rattle.sdh_node_cli.specs.Records.{record_of}
+use Rattle.sdh_node_cli.specs.Bench.{Bench, refusal_of, after_told, size_after, with_arrivals, after_round, answer_to}
+
+-- ---- the plan, up to the line that ends it
+
+-- the line, with its newline byte
+abbrev pub end_of_plan : List ℕ
+end_of_plan = codes "end of plan\n"
+
+-- nothing, or lines that are whole
+abbrev pub AreLines : List ℕ → Type 0
+AreLines bytes = (bytes ≡ []) ⊎ ((before : List ℕ) × (bytes ≡ before ++ codes "\n"))
+
+-- these bytes are a document and the line that ends it
+abbrev pub EndsPlan : List ℕ → Type 0
+EndsPlan bytes = (document : List ℕ) × (bytes ≡ document ++ end_of_plan) × AreLines document
+
+-- no front of them is that
+abbrev pub HasNoEnd : List ℕ → Type 0
+HasNoEnd bytes = (front rest : List ℕ) → bytes ≡ front ++ rest → EndsPlan front → ⊥
+
+-- The document is what stands before the first line that ends it: without the newline byte of that line nothing would
+-- end it.
+pub record IsDocument (document : List ℕ) : Type 0 where
+  pub lines : AreLines document
+  pub first : HasNoEnd (document ++ codes "end of plan")
+
+-- the most bytes that are read of a document and the line that ends it
+abbrev pub head_max : ℕ
+head_max = 1048588
+
+-- ---- records
+
+-- a record with the frames that follow it
+pub record Given : Type 0 where
+  pub line : List ℕ
+  pub record_is : Record
+  pub west : List ℕ
+  pub east : List ℕ
+
+-- what came on each side, by a record
+abbrev pub west_of : Record → Came
+west_of (what.Told t) = came.Nothing
+west_of (what.Round west east) = west
+
+abbrev pub east_of : Record → Came
+east_of (what.Told t) = came.Nothing
+east_of (what.Round west east) = east
+
+-- why a record can't be done, if it can't
+abbrev pub refusal : Bench → Record → Option Reason
+refusal b (what.Told t) = refusal_of b t
+refusal b (what.Round west east) = None
+
+-- a line of a record has at most 64 bytes
+pub record IsLine (line : List ℕ) : Type 0 where
+  pub one : IsOneLine line
+  pub short : length line ≤ 64
+
+-- the line is that of a record, which can be done
+pub record MayBe (b : Bench) (line : List ℕ) (r : Record) : Type 0 where
+  pub line_is : IsLine line
+  pub reads : record_of b.circuits b.at line ≡ Ok r
+  pub may : refusal b r ≡ None
+
+-- the record can be done, and its frames are whole
+pub record IsGiven (b : Bench) (g : Given) : Type 0 where
+  pub said : MayBe b g.line g.record_is
+  pub west_whole : length g.west ≡ size_after b.node.settings.rate (west_of g.record_is)
+  pub east_whole : length g.east ≡ size_after b.node.settings.rate (east_of g.record_is)
+
+-- its bytes: the line with its newline byte, and the frames
+abbrev pub bytes_of : Given → List ℕ
+bytes_of g = whole_line g.line ++ (g.west ++ g.east)
+
+-- how a record leaves the node, and what is written for it
+abbrev pub after_record : Record → List ℕ → List ℕ → Bench → Bench
+after_record (what.Told t) from_west from_east b = after_told t b
+after_record (what.Round west east) from_west from_east b = after_round (with_arrivals west from_west east from_east b)
+
+abbrev pub answer_of : Record → List ℕ → List ℕ → Bench → List ℕ
+answer_of (what.Told t) from_west from_east b = []
+answer_of (what.Round west east) from_west from_east b = answer_to (with_arrivals west from_west east from_east b)
+
+abbrev pub after : Given → Bench → Bench
+after g b = after_record g.record_is g.west g.east b
+
+abbrev pub answer : Given → Bench → List ℕ
+answer g b = answer_of g.record_is g.west g.east b
+
+-- ---- records, one after the other
+
+abbrev pub AreGiven : Bench → List Given → Type 0
+AreGiven b [] = Unit {0}
+AreGiven b (g ∷ gs) = IsGiven b g × AreGiven (after g b) gs
+
+abbrev pub after_all : Bench → List Given → Bench
+after_all b [] = b
+after_all b (g ∷ gs) = after_all (after g b) gs
+
+abbrev pub answers : Bench → List Given → List ℕ
+answers b [] = []
+answers b (g ∷ gs) = answer g b ++ answers (after g b) gs
+
+abbrev pub stream_of : List Given → List ℕ
+stream_of gs = flat_map bytes_of gs
+
+-- ---- where they end
+
+-- the line can't be done for this reason: it is no record, or the node can't do it
+abbrev pub IsRefusedFor : Bench → List ℕ → Reason → Type 0
+IsRefusedFor b line why =
+    (record_of b.circuits b.at line ≡ Err why) ⊎ ((r : Record) × (record_of b.circuits b.at line ≡ Ok r) × (refusal b r ≡ Some why))
+
+-- the stream ended within a line
+pub record IsCutLine (tail : List ℕ) : Type 0 where
+  pub some : 0 < length tail
+  pub line_is : IsLine tail
+
+-- or within the frames of a record
+pub record IsCutFrame (b : Bench) (tail : List ℕ) : Type 0 where
+  pub line : List ℕ
+  pub record_is : Record
+  pub part : List ℕ
+  pub said : MayBe b line record_is
+  pub tail_is : tail ≡ whole_line line ++ part
+  pub short : length part < size_after b.node.settings.rate (west_of record_is) + size_after b.node.settings.rate (east_of record_is)
+
+-- What was read of a record that can't be done. `Many` is said after the last record that may be done, and nothing more
+-- is read.
+abbrev pub IsFlawed : Bench → Flaw → List ℕ → Type 0
+IsFlawed b (flaw.Said why) tail = (line : List ℕ) × (tail ≡ whole_line line) × IsLine line × IsRefusedFor b line why
+IsFlawed b flaw.Cut tail = IsCutLine tail ⊎ IsCutFrame b tail
+IsFlawed b flaw.Long tail = IsOneLine tail × (length tail ≡ 65)
+IsFlawed b flaw.Many tail = tail ≡ []
+
+-- the stream has ended where it was cut
+abbrev pub EndsIf : Flaw → Option (List ℕ) → Type 0
+EndsIf flaw.Cut left = IsAtEnd left
+EndsIf f left = Unit {0}

@@ -1,0 +1,112 @@
+-- What is read and written for one record.
+use Rattle.std.specs.Prelude.{ℕ, ◌≡◌, ◌+◌, ◌<◌, List, [], ◌++◌, length, Option, Ok}
+use Rattle.std.specs.Io.KnownBytes.{Appends, Consumes, IsAtEnd, Keeps}
+use Rattle.sdh_outside.specs.Writing.{AppendsFewer}
+use Rattle.sdh_shell.specs.Lines.{whole_line}
+use Rattle.sdh_node_cli.specs.declared.ending.Flaw.TheVariants as flaw
+use Rattle.sdh_node_cli.specs.declared.record.Came.{Came}
+use Rattle.sdh_node_cli.specs.declared.record.Record.{Record}
+use Rattle.sdh_node_cli.specs.declared.stop.Stop.{Stop}
+use Rattle.sdh_node_cli.specs.declared.stop.Stop.TheVariants as stop
+use Rattle.sdh_node_cli.specs.Records.{record_of}
+use Rattle.sdh_node_cli.specs.Bench.{Bench, size_after, with_arrivals, after_round, answer_to, answer_room}
+use Rattle.sdh_node_cli.specs.Streams.{IsLine, Given, IsGiven, bytes_of, after, answer, IsFlawed, EndsIf}
+
+-- room enough for an answer of a bench
+abbrev pub room_for : Bench → ℕ
+room_for b = answer_room b.node.settings.rate (length b.circuits)
+
+-- ---- a line
+
+-- a line was read, and it is that of a record
+pub record HasLine (b : Bench) (line : List ℕ) (r : Record) (left now : Option (List ℕ)) : Type 0 where
+  pub line_is : IsLine line
+  pub reads : record_of b.circuits b.at line ≡ Ok r
+  pub read : Consumes left now (whole_line line)
+
+-- ---- what came on the sides
+
+-- this number of bytes was read of what came on a side
+pub record Takes (b : Bench) (came : Came) (left now : Option (List ℕ)) (bytes : List ℕ) : Type 0 where
+  pub whole : length bytes ≡ size_after b.node.settings.rate came
+  pub read : Consumes left now bytes
+
+-- fewer than this number of bytes were read: the source has ended, or a read failed
+abbrev pub TakesPart : ℕ → Option (List ℕ) → Option (List ℕ) → Stop → Type 0
+TakesPart size left now (stop.Bad flaw.Cut) = (bytes : List ℕ) × (length bytes < size) × Consumes left now bytes × IsAtEnd now
+TakesPart size left now stop.ReadFault = (bytes : List ℕ) × Consumes left now bytes
+TakesPart size left now why = ⊥
+
+-- whole frames were read of what came on both sides, that from the west first, and both are kept for the next round
+pub record TakesBoth (b new : Bench) (west east : Came) (left now : Option (List ℕ)) : Type 0 where
+  pub from_west : List ℕ
+  pub from_east : List ℕ
+  pub west_whole : length from_west ≡ size_after b.node.settings.rate west
+  pub east_whole : length from_east ≡ size_after b.node.settings.rate east
+  pub read : Consumes left now (from_west ++ from_east)
+  pub bench : new ≡ with_arrivals west from_west east from_east b
+
+-- the number of bytes that follow a record for what came on both sides
+abbrev pub both_sizes : Bench → Came → Came → ℕ
+both_sizes b west east = size_after b.node.settings.rate west + size_after b.node.settings.rate east
+
+-- ---- a round
+
+-- a round ran over what came on both sides, and its answer was written whole
+pub record Ran (b new : Bench) (west east : Came) (left now old_text new_text : Option (List ℕ)) : Type 0 where
+  pub from_west : List ℕ
+  pub from_east : List ℕ
+  pub west_whole : length from_west ≡ size_after b.node.settings.rate west
+  pub east_whole : length from_east ≡ size_after b.node.settings.rate east
+  pub read : Consumes left now (from_west ++ from_east)
+  pub wrote : Appends old_text new_text (answer_to (with_arrivals west from_west east from_east b))
+  pub bench : new ≡ after_round (with_arrivals west from_west east from_east b)
+
+-- it ran, and a front of its answer was written
+pub record RanCut (b : Bench) (west east : Came) (left now old_text new_text : Option (List ℕ)) : Type 0 where
+  pub from_west : List ℕ
+  pub from_east : List ℕ
+  pub west_whole : length from_west ≡ size_after b.node.settings.rate west
+  pub east_whole : length from_east ≡ size_after b.node.settings.rate east
+  pub read : Consumes left now (from_west ++ from_east)
+  pub front : AppendsFewer old_text new_text (answer_to (with_arrivals west from_west east from_east b))
+
+-- it didn't run, or a write failed
+abbrev pub StopsRound : Bench → Came → Came → Stop → Option (List ℕ) → Option (List ℕ) → Option (List ℕ) → Option (List ℕ) → Type 0
+StopsRound b west east stop.WriteFault left now old_text new_text = RanCut b west east left now old_text new_text
+StopsRound b west east why left now old_text new_text =
+    TakesPart (both_sizes b west east) left now why × Keeps old_text new_text
+
+-- ---- a record
+
+-- A record was done: its bytes were read and nothing more, and its answer was written whole.
+pub record Goes (b new : Bench) (left now old_text new_text : Option (List ℕ)) : Type 0 where
+  pub given : Given
+  pub is : IsGiven b given
+  pub read : Consumes left now (bytes_of given)
+  pub wrote : Appends old_text new_text (answer given b)
+  pub bench : new ≡ after given b
+
+-- Why no record more is done, where this was read of the next one. The source has ended; the next record is flawed; or a
+-- read failed. Where a write failed a record was done, and this says nothing of it.
+abbrev pub StopsSo : Bench → Stop → List ℕ → Option (List ℕ) → Type 0
+StopsSo b stop.Done tail now = (tail ≡ []) × IsAtEnd now
+StopsSo b (stop.Bad f) tail now = IsFlawed b f tail × EndsIf f now
+StopsSo b stop.ReadFault tail now = Unit {0}
+StopsSo b stop.WriteFault tail now = ⊥
+
+-- the source was read so far
+abbrev pub Halts : Bench → Stop → Option (List ℕ) → Option (List ℕ) → Type 0
+Halts b why left now = (tail : List ℕ) × StopsSo b why tail now × Consumes left now tail
+
+-- a write failed in the answer to a record: a front of it was written, and nothing more was read than the record
+pub record Fails (b : Bench) (left now old_text new_text : Option (List ℕ)) : Type 0 where
+  pub given : Given
+  pub is : IsGiven b given
+  pub read : Consumes left now (bytes_of given)
+  pub front : AppendsFewer old_text new_text (answer given b)
+
+-- no record more was done, and nothing was written; or a write failed
+abbrev pub StopsBy : Bench → Stop → Option (List ℕ) → Option (List ℕ) → Option (List ℕ) → Option (List ℕ) → Type 0
+StopsBy b stop.WriteFault left now old_text new_text = Fails b left now old_text new_text
+StopsBy b why left now old_text new_text = Halts b why left now × Keeps old_text new_text

@@ -1,0 +1,200 @@
+//! A node on the bench.
+ghost use Rattle.std.specs.Prelude.{◌≡◌, ℕ, ◌+◌, ◌*◌, ◌^◌, ◌<◌, ◌≤◌, ◌++◌, List, [], Err, IfOk, IfErr, OnOk, OnErr, length};
+ghost use Rattle.std.specs.Io.KnownBytes.{Consumes};
+ghost use Rattle.sdh_basics.specs.Causes.{Rose, IsCounted};
+ghost use Rattle.sdh_frame.specs.Sizes.{size_of};
+ghost use Rattle.sdh_plan.specs.Check.{unless};
+ghost use Rattle.sdh_shell.specs.Writing.{room_in};
+ghost use Rattle.sdh_node_cli.specs.Records.{record_of, IsTold, IsRecord};
+ghost use Rattle.sdh_node_cli.specs.Turns.{TakesPart};
+ghost use Rattle.sdh_node_cli.specs.declared.record.Came.TheVariants as came;
+ghost use Rattle.sdh_node_cli.specs.Bench.{new_bench, refusal_of, after_told, after_coming, after_round, lines_of, answer_to, answer_room};
+
+use crate::answer::{put_frames, put_ports, put_shown};
+use crate::ending::Flaw;
+use crate::record::{Record, Told, record_of};
+use crate::stop::Stop;
+use crate::words::{Ask, Mode};
+use sdh_circuits::CircuitMap;
+use sdh_frame::FrameBuf;
+use sdh_node::Adm;
+use sdh_outside::{Source, fill};
+use sdh_plan::{Plan, Reason};
+use sdh_plant::Arrived;
+use sdh_report::Text;
+use sdh_request::Moment;
+use sdh_ringmap::{Pos, Side};
+use std::alloc::{AllocError, Global};
+use std::marker::Model;
+
+/// A node of a plan's ring, with the present moment, the circuits, how many rounds it has run, and room for a frame of
+/// each side.
+#[derive(Drop)]
+pub struct Bench {
+    mode: Mode,
+    id: u8,
+    at: Pos,
+    circuits: CircuitMap,
+    moment: Moment,
+    rounds: u64,
+    node: Adm,
+    west: FrameBuf,
+    east: FrameBuf,
+}
+
+impl Model for Bench {
+    ghost use Rattle.std.specs.Prelude.{◌≡◌};
+    ghost use Rattle.sdh_node_cli.specs.Bench.{Bench as OnBench, IsBench};
+
+    ghost Value = { OnBench };
+
+    ghost view = { λ b. record { mode = b.mode; id = b.id; at = b.at; circuits = b.circuits.circuits; moment = b.moment.0; node = b.node } };
+
+    ghost invariant = { λ b. IsBench (record { mode = b.mode; id = b.id; at = b.at; circuits = b.circuits.circuits; moment = b.moment.0; node = b.node })
+        × (b.rounds ≡ b.node.rounds) × (b.west.rate ≡ b.node.settings.rate) × (b.east.rate ≡ b.node.settings.rate) };
+}
+
+impl Bench {
+    /// Returns the node at a position of a plan's ring, before any record. All its memory is taken here.
+    #[tactic(auto, unfolding(crate::specs::Bench::new_bench))]
+    pub fn try_new(alloc: Global, plan: Plan, ask: Ask, at: Pos) -> Result<Bench, AllocError>
+        requires { at.0 < length plan.nodes }
+        ensures { IfOk result (λ bench. bench ≡ new_bench ask.mode ask.id at plan) }
+    {
+        let settings = plan.settings();
+        let (map, circuits, _) = plan.into_parts();
+        prove!(circuits.len() <= 128);
+        let west = FrameBuf::try_new(alloc, settings.rate)?;
+        let east = FrameBuf::try_new(alloc, settings.rate)?;
+        let node = Adm::try_new(alloc, settings, &map, &circuits, at)?;
+        Ok(Bench {
+            mode: ask.mode,
+            id: ask.id,
+            at,
+            circuits,
+            moment: Moment(0),
+            rounds: 0,
+            node,
+            west,
+            east,
+        })
+    }
+
+    /// Returns how many bytes are room enough for an answer.
+    pub fn answer_room(&self) -> usize
+        ensures { result ≡ answer_room self.now.node.settings.rate (length self.now.circuits) }
+    {
+        128 + 96 * self.circuits.len() + 32 + 2 * self.west.bytes().len()
+    }
+
+    /// Returns the record that a line is, or the reason of the first check of its words that fails.
+    pub fn record_of(&self, line: &[u8]) -> Result<Record, Reason>
+        ensures is { result ≡ record_of self.now.circuits self.now.at line.now }
+        ensures form { IfOk result (IsRecord self.now.circuits self.now.at) }
+    {
+        record_of(&self.circuits, self.at, line)
+    }
+
+    /// Does what is told to the node, or returns why it can't be done, and changes nothing then.
+    #[tactic(auto, unfolding(crate::specs::Bench::refusal_of, crate::specs::Bench::after_told))]
+    pub fn tell(&mut self, told: Told) -> Result<(), Reason>
+        requires { IsTold self.old.circuits self.old.at told }
+        ensures refused { result ≡ unless (refusal_of self.old told) tt }
+        ensures ok { OnOk result (self.new ≡ after_told told self.old) }
+        ensures err { OnErr result (self.new ≡ self.old) }
+    {
+        match told {
+            Told::Command(side, command) => self.node.command(side, command),
+            Told::Moment(moment) => {
+                if moment.0 < self.moment.0 {
+                    return Err(Reason::MomentBack);
+                }
+                self.moment = moment;
+            }
+            Told::Hold(turns) => self.node.hold(turns),
+            Told::Slip(port, turn, count) => {
+                if u16::from(self.node.waiting(port)) + u16::from(count) > 16 {
+                    return Err(Reason::Slips);
+                }
+                self.node.slip(port, turn, count);
+            }
+        }
+        Ok(())
+    }
+
+    /// Keeps for the next round that there is no light on a side.
+    #[tactic(auto, unfolding(crate::specs::Bench::after_coming))]
+    pub fn darken(&mut self, side: Side)
+        ensures { self.new ≡ record self.old { node = after_coming side came.Dark [] self.old.node } }
+    {
+        self.node.receive(side, Arrived::Dark, &self.west);
+    }
+
+    /// Takes a frame from a source, and keeps it for the next round.
+    #[tactic(auto, unfolding(crate::specs::Bench::after_coming))]
+    pub fn take_frame<R: Source>(&mut self, source: &mut R, side: Side) -> Result<(), Stop>
+        ensures ok { OnOk result ((bytes : List ℕ) × (length bytes ≡ size_of self.old.node.settings.rate)
+            × Consumes (R.left source.old) (R.left source.new) bytes
+            × (self.new ≡ record self.old { node = after_coming side came.Frame bytes self.old.node })) }
+        ensures part { IfErr result (TakesPart (size_of self.old.node.settings.rate) (R.left source.old) (R.left source.new)) }
+        ensures fault { result ≡ Err Stop.ReadFault → Rose (R.faults source.old) (R.faults source.new) }
+        ensures later { R.faults source.old ≤ R.faults source.new }
+        ensures counted { IsCounted R.exact (result ≡ Err Stop.ReadFault) (R.faults source.old) (R.faults source.new) }
+    {
+        read_frame(source, &mut self.west)?;
+        self.node.receive(side, Arrived::Frame, &self.west);
+        Ok(())
+    }
+
+    // Appends the lines of the last round.
+    #[tactic(auto, unfolding(crate::specs::Bench::lines_of))]
+    fn put_lines(&self, text: &mut Text)
+        requires ran { 1 ≤ self.now.node.rounds }
+        requires room { 128 + 96 * length self.now.circuits ≤ text.old.room }
+        ensures bytes { text.new.bytes ≡ text.old.bytes ++ lines_of self.now }
+        ensures room { text.old.room ≤ text.new.room + (128 + 96 * length self.now.circuits) }
+        ensures kept { room_in text.new ≡ room_in text.old }
+    {
+        put_shown(text, &self.node, self.rounds - 1, self.id);
+        put_ports(text, &self.node, self.at, &self.circuits);
+    }
+
+    /// Runs a round, and writes its answer into an empty text. It takes no memory.
+    #[tactic(auto, unfolding(crate::specs::Bench::answer_to))]
+    pub fn run(&mut self, text: &mut Text)
+        requires few { self.old.node.rounds < 2 ^ 32 }
+        requires room { answer_room self.old.node.settings.rate (length self.old.circuits) ≤ text.old.room }
+        requires empty { text.old.bytes ≡ [] }
+        ensures bench { self.new ≡ after_round self.old }
+        ensures text { text.new.bytes ≡ answer_to self.old }
+        ensures kept { room_in text.new ≡ room_in text.old }
+    {
+        self.node.send(self.moment, &mut self.west, &mut self.east);
+        self.rounds += 1;
+        self.put_lines(text);
+        match self.mode {
+            Mode::Lines => {}
+            Mode::Frames => put_frames(text, &self.west, &self.east),
+        }
+    }
+}
+
+// Reads a frame.
+fn read_frame<R: Source>(source: &mut R, frame: &mut FrameBuf) -> Result<(), Stop>
+    ensures rate { frame.new.rate ≡ frame.old.rate }
+    ensures full { length frame.new.bytes ≡ size_of frame.old.rate }
+    ensures ok { OnOk result (Consumes (R.left source.old) (R.left source.new) frame.new.bytes) }
+    ensures part { IfErr result (TakesPart (size_of frame.old.rate) (R.left source.old) (R.left source.new)) }
+    ensures fault { result ≡ Err Stop.ReadFault → Rose (R.faults source.old) (R.faults source.new) }
+    ensures later { R.faults source.old ≤ R.faults source.new }
+    ensures counted { IsCounted R.exact (result ≡ Err Stop.ReadFault) (R.faults source.old) (R.faults source.new) }
+{
+    let size = frame.bytes().len();
+    let filled = fill(source, frame.bytes_mut());
+    prove!(frame.bytes().len() == size);
+    match filled {
+        Ok(count) if count == size => Ok(()),
+        Ok(_) => Err(Stop::Bad(Flaw::Cut)),
+        Err(_) => Err(Stop::ReadFault),
+    }
+}

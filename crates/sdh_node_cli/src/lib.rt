@@ -1,0 +1,21 @@
+//! The one call of the program `sdhnode`: from the words and a source of bytes to an ending and a text. The source has a
+//! plan and then records, and one node of the plan's ring runs over them, round by round. What it shows, delivers and
+//! sends in a round is written before more is read.
+//!
+//! Which record a line is says `specs/Records.antt`, what it does with the node `specs/Bench.antt`, which bytes a
+//! stream of records has `specs/Streams.antt`, and what a call comes to `Tells` in `specs/Outcome.antt`.
+#![tactic(auto)]
+
+mod answer;
+mod bench;
+mod ending;
+mod head;
+mod record;
+mod serving;
+mod stop;
+mod top;
+mod turn;
+mod words;
+
+pub use ending::{Ending, Flaw};
+pub use top::sdhnode;

@@ -1,0 +1,236 @@
+//! The records of a stream, by their lines.
+ghost use Rattle.std.specs.Prelude.{◌≡◌, ◌≤◌, List, map, IfOk, IfSome};
+ghost use Rattle.sdh_ringmap.specs.declared.Pos.{Pos};
+ghost use Rattle.sdh_circuits.specs.Provisioned.{Provisioned};
+ghost use Rattle.sdh_node_cli.specs.Records.{came_at, end_here, own_port, side_in, number_in, slip_in, round_in, command_in, moment_in, hold_in};
+ghost use Rattle.sdh_node_cli.specs.Records.{record_by, record_in, record_of, IsOwn, IsRecord};
+
+use sdh_circuits::{Circuit, CircuitMap, End, PortId};
+use sdh_payload::Turn;
+use sdh_plan::{Reason, circuit_named, is_word, numeral_in, side_at, turn_at, words_of};
+use sdh_request::{Command, Moment};
+use sdh_ringmap::{Pos, Side};
+
+/// What came on a side of the node since its last round.
+#[derive(Clone, Copy, Debug, PartialEq, Eq)]
+pub enum Came {
+    /// Nothing is known of the side yet.
+    Nothing,
+    /// No light.
+    Dark,
+    /// A whole frame.
+    Frame,
+}
+
+/// What is told to the node between rounds.
+#[derive(Clone, Copy, Debug, PartialEq, Eq)]
+pub enum Told {
+    /// A side gets a command, in place of the one before.
+    Command(Side, Command),
+    /// The present moment is this one.
+    Moment(Moment),
+    /// The controller misses this number of the next rounds.
+    Hold(u32),
+    /// The clock of a port is to slip this number of times.
+    Slip(PortId, Turn, u8),
+}
+
+/// A record of a stream.
+#[derive(Clone, Copy, Debug, PartialEq, Eq)]
+pub enum Record {
+    /// Something is told to the node.
+    Told(Told),
+    /// A round runs, where this came from the west and that from the east.
+    Round(Came, Came),
+}
+
+// Returns what a word says that came on a side.
+fn came_at(word: &[u8]) -> Option<Came>
+    ensures { result ≡ came_at word.now }
+{
+    if is_word(word, "none") {
+        Some(Came::Nothing)
+    } else if is_word(word, "dark") {
+        Some(Came::Dark)
+    } else if is_word(word, "frame") {
+        Some(Came::Frame)
+    } else {
+        None
+    }
+}
+
+/// Returns the end of a circuit that is at a position, if one is.
+pub fn end_here(at: Pos, circuit: &Circuit) -> Option<End>
+    ensures { result ≡ end_here at circuit.now }
+{
+    if circuit.from().0 == at.0 {
+        Some(End::A)
+    } else if circuit.to().0 == at.0 {
+        Some(End::B)
+    } else {
+        None
+    }
+}
+
+// Returns the port at a position of the circuit whose name the word is.
+#[tactic(auto, unfolding(crate::specs::Records::own_port))]
+fn own_port(circuits: &CircuitMap, at: Pos, word: &[u8]) -> Option<PortId>
+    ensures port { result ≡ own_port circuits.now.circuits at word.now }
+    ensures own { IfSome result (IsOwn circuits.now.circuits at) }
+{
+    let Some(circuit) = circuit_named(circuits, word) else {
+        return None;
+    };
+    match end_here(at, circuits.get(circuit)) {
+        Some(end) => Some(PortId { circuit, end }),
+        None => None,
+    }
+}
+
+// Returns the side that is the one word.
+fn side_in(others: &[&[u8]]) -> Result<Side, Reason>
+    ensures { result ≡ side_in (map (λ word. word.now) others.now) }
+{
+    match others {
+        [word] => match side_at(word) {
+            Some(side) => Ok(side),
+            None => Err(Reason::StepSide),
+        },
+        _ => Err(Reason::StepForm),
+    }
+}
+
+// Returns the number from `low` to `high` that is the one word.
+fn number_in(others: &[&[u8]], low: u32, high: u32) -> Result<u32, Reason>
+    ensures number { result ≡ number_in low high (map (λ word. word.now) others.now) }
+    ensures range { IfOk result (λ number. (low ≤ number) × (number ≤ high)) }
+{
+    match others {
+        [word] => match numeral_in(word, low, high) {
+            Some(number) => Ok(number),
+            None => Err(Reason::StepNumber),
+        },
+        _ => Err(Reason::StepForm),
+    }
+}
+
+// Returns the command of the side that is the one word.
+fn command_in(others: &[&[u8]], command: Command) -> Result<Record, Reason>
+    ensures is { result ≡ command_in command (map (λ word. word.now) others.now) }
+    ensures form { IfOk result (λ r. (circuits : List Provisioned) (at : Pos) → IsRecord circuits at r) }
+{
+    match side_in(others) {
+        Ok(side) => Ok(Record::Told(Told::Command(side, command))),
+        Err(reason) => Err(reason),
+    }
+}
+
+// Returns the moment that is the one word.
+fn moment_in(others: &[&[u8]]) -> Result<Record, Reason>
+    ensures is { result ≡ moment_in (map (λ word. word.now) others.now) }
+    ensures form { IfOk result (λ r. (circuits : List Provisioned) (at : Pos) → IsRecord circuits at r) }
+{
+    match number_in(others, 0, 1_000_000_000) {
+        Ok(number) => Ok(Record::Told(Told::Moment(Moment(u64::from(number))))),
+        Err(reason) => Err(reason),
+    }
+}
+
+// Returns the number of held turns that is the one word.
+fn hold_in(others: &[&[u8]]) -> Result<Record, Reason>
+    ensures is { result ≡ hold_in (map (λ word. word.now) others.now) }
+    ensures form { IfOk result (λ r. (circuits : List Provisioned) (at : Pos) → IsRecord circuits at r) }
+{
+    match number_in(others, 1, 100) {
+        Ok(turns) => Ok(Record::Told(Told::Hold(turns))),
+        Err(reason) => Err(reason),
+    }
+}
+
+// Returns the slips of a port at a position: the circuit's name, the turn and their number.
+fn slip_in(circuits: &CircuitMap, at: Pos, others: &[&[u8]]) -> Result<Record, Reason>
+    ensures is { result ≡ slip_in circuits.now.circuits at (map (λ word. word.now) others.now) }
+    ensures form { IfOk result (IsRecord circuits.now.circuits at) }
+{
+    let [name, turn, count] = others else {
+        return Err(Reason::StepForm);
+    };
+    let Some(port) = own_port(circuits, at, name) else {
+        return Err(Reason::SlipPort);
+    };
+    let Some(turn) = turn_at(turn) else {
+        return Err(Reason::StepSide);
+    };
+    let Some(count) = numeral_in(count, 1, 16) else {
+        return Err(Reason::StepNumber);
+    };
+    Ok(Record::Told(Told::Slip(port, turn, count as u8)))
+}
+
+// Returns the round by what came on both sides.
+fn round_in(others: &[&[u8]]) -> Result<Record, Reason>
+    ensures is { result ≡ round_in (map (λ word. word.now) others.now) }
+    ensures form { IfOk result (λ r. (circuits : List Provisioned) (at : Pos) → IsRecord circuits at r) }
+{
+    let [west, east] = others else {
+        return Err(Reason::StepForm);
+    };
+    match (came_at(west), came_at(east)) {
+        (Some(west), Some(east)) => Ok(Record::Round(west, east)),
+        _ => Err(Reason::StepSide),
+    }
+}
+
+// Returns the record that a first word and those after it give.
+fn record_by(
+    circuits: &CircuitMap,
+    at: Pos,
+    first: &[u8],
+    others: &[&[u8]],
+) -> Result<Record, Reason>
+    ensures is { result ≡ record_by circuits.now.circuits at first.now (map (λ word. word.now) others.now) }
+    ensures form { IfOk result (IsRecord circuits.now.circuits at) }
+{
+    if is_word(first, "round") {
+        round_in(others)
+    } else if is_word(first, "forced") {
+        command_in(others, Command::Forced)
+    } else if is_word(first, "manual") {
+        command_in(others, Command::Manual)
+    } else if is_word(first, "clear") {
+        command_in(others, Command::Clear)
+    } else if is_word(first, "moment") {
+        moment_in(others)
+    } else if is_word(first, "hold") {
+        hold_in(others)
+    } else if is_word(first, "slip") {
+        slip_in(circuits, at, others)
+    } else {
+        Err(Reason::StepWord)
+    }
+}
+
+// Returns the record that words give, none of which is empty.
+#[tactic(auto, unfolding(crate::specs::Records::record_in))]
+fn record_in(circuits: &CircuitMap, at: Pos, words: &[&[u8]]) -> Result<Record, Reason>
+    ensures is { result ≡ record_in circuits.now.circuits at (map (λ word. word.now) words.now) }
+    ensures form { IfOk result (IsRecord circuits.now.circuits at) }
+{
+    let [first, others @ ..] = words else {
+        return Err(Reason::StepForm);
+    };
+    record_by(circuits, at, first, others)
+}
+
+/// Returns the record that a line is, for the node at a position of a ring with these circuits, or the reason of the
+/// first check of its words that fails.
+#[tactic(auto, unfolding(crate::specs::Records::record_of))]
+pub fn record_of(circuits: &CircuitMap, at: Pos, line: &[u8]) -> Result<Record, Reason>
+    ensures is { result ≡ record_of circuits.now.circuits at line.now }
+    ensures form { IfOk result (IsRecord circuits.now.circuits at) }
+{
+    match words_of(line) {
+        Some(words) => record_in(circuits, at, &words),
+        None => Err(Reason::StepForm),
+    }
+}

@@ -1,0 +1,59 @@
+//! The records of a stream, one after the other.
+ghost use Rattle.std.specs.Prelude.{◌≡◌, ◌≢◌, ◌<◌, ◌≤◌, ◌^◌, [], List, ℕ, length};
+ghost use Rattle.std.specs.Io.KnownBytes.{Appends};
+ghost use Rattle.sdh_basics.specs.Causes.{Rose, IsCounted};
+ghost use Rattle.sdh_shell.specs.Writing.{room_in};
+ghost use Rattle.sdh_node_cli.specs.Turns.{room_for};
+ghost use Rattle.sdh_node_cli.specs.Outcome.{Served, CutShort};
+
+use crate::bench::Bench;
+use crate::ending::Flaw;
+use crate::stop::Stop;
+use crate::turn::{Texts, turn};
+use sdh_outside::{Sink, Source};
+
+/// The most records of a stream.
+const RECORDS_MAX: u64 = 4_294_967_295;
+
+/// Why no record more was done, and the number of the next one, counted from 1.
+#[derive(Clone, Copy, Debug, PartialEq, Eq)]
+pub struct Stopped {
+    pub stop: Stop,
+    pub number: u64,
+}
+
+/// Does the records of a source, one after the other, and writes the answer to each before any more is read.
+pub fn serve<R: Source, W: Sink>(
+    bench: &mut Bench,
+    texts: &mut Texts,
+    source: &mut R,
+    sink: &mut W,
+) -> Stopped
+    requires fresh { bench.old.node.rounds ≡ 0 }
+    requires line { room_in texts.old.line ≡ 65 }
+    requires answer { room_for bench.old ≤ room_in texts.old.answer }
+    ensures served { result.stop ≢ Stop.WriteFault → (text : List ℕ)
+        × Served bench.old [] (R.left source.old) (R.left source.new) result.number result.stop text
+        × Appends (W.written sink.old) (W.written sink.new) text }
+    ensures cut { result.stop ≡ Stop.WriteFault
+        → CutShort bench.old [] (R.left source.old) (R.left source.new) (W.written sink.old) (W.written sink.new) }
+    ensures read { result.stop ≡ Stop.ReadFault → Rose (R.faults source.old) (R.faults source.new) }
+    ensures broke { result.stop ≡ Stop.WriteFault → Rose (W.faults sink.old) (W.faults sink.new) }
+    ensures reads { IsCounted R.exact (result.stop ≡ Stop.ReadFault) (R.faults source.old) (R.faults source.new) }
+    ensures writes { IsCounted W.exact (result.stop ≡ Stop.WriteFault) (W.faults sink.old) (W.faults sink.new) }
+    ensures later { (R.faults source.old ≤ R.faults source.new) × (W.faults sink.old ≤ W.faults sink.new) }
+{
+    for done in 0..RECORDS_MAX {
+        match turn(bench, texts, source, sink) {
+            Ok(()) => {}
+            Err(stop) => return Stopped {
+                stop,
+                number: done + 1,
+            },
+        }
+    }
+    Stopped {
+        stop: Stop::Bad(Flaw::Many),
+        number: RECORDS_MAX + 1,
+    }
+}

@@ -1,0 +1,168 @@
+//! The program's call.
+ghost use Rattle.std.specs.Prelude.{◌≡◌, ◌≢◌, ◌⊎◌, ◌≤◌, [], None, Some, IfOk, OnErr};
+ghost use Rattle.sdh_basics.specs.Causes.{Rose, IsCounted};
+ghost use Rattle.sdh_report.specs.Lines.{own_line};
+ghost use Rattle.sdh_report.specs.declared.status.Status.{Status};
+ghost use Rattle.sdh_shell.specs.Calls.{words_of};
+ghost use Rattle.sdh_shell.specs.Writing.{WroteEnding};
+ghost use Rattle.sdh_node_cli.specs.Endings.{bench_endings};
+ghost use Rattle.sdh_node_cli.specs.Words.{asked};
+ghost use Rattle.sdh_node_cli.specs.Outcome.{usage, ending_of, refusal_of, TellsPlanned, Tells};
+ghost use Rattle.sdh_node_cli.specs.declared.ending.Ending.{Ending};
+
+use crate::bench::Bench;
+use crate::ending::{Ending, Flaw};
+use crate::head::{NoHead, plan_in};
+use crate::serving::{Stopped, serve};
+use crate::stop::Stop;
+use crate::turn::Texts;
+use crate::words::{Ask, asked};
+use sdh_outside::{Sink, Source};
+use sdh_plan::Plan;
+use sdh_report::{LINE_MAX, Status, Text};
+use sdh_shell::{EndedText, ended, write_ended};
+use std::alloc::{AllocError, Global};
+
+// Returns how the program ends where no record more was done.
+fn ending_of(stopped: Stopped) -> Ending
+    ensures { result ≡ ending_of stopped.stop stopped.number }
+{
+    match stopped.stop {
+        Stop::Done => Ending::Shared(Status::Ok),
+        Stop::Bad(flaw) => Ending::BadRecord(flaw, stopped.number),
+        Stop::ReadFault => Ending::Shared(Status::ReadFault),
+        Stop::WriteFault => Ending::Shared(Status::WriteFault),
+    }
+}
+
+// Returns how the program ends where there is no plan; with a lack of memory there is no outcome.
+fn refusal_of(why: NoHead) -> Option<Ending>
+    ensures { result ≡ refusal_of why }
+{
+    match why {
+        NoHead::Memory => None,
+        NoHead::Cut => Some(Ending::BadRecord(Flaw::Cut, 0)),
+        NoHead::Refused(how) => Some(Ending::Shared(how)),
+    }
+}
+
+// Runs a node of a plan's ring over the records of a source, and writes its answers and the last line. Returns how it
+// ended.
+fn answer_plan<R: Source, W: Sink>(
+    alloc: Global,
+    plan: Plan,
+    ask: Ask,
+    source: &mut R,
+    sink: &mut W,
+) -> Result<Ending, AllocError>
+    ensures outcome { IfOk result (λ how. TellsPlanned ask plan [] (R.left source.old) (R.left source.new) how (W.written sink.old)
+        (W.written sink.new)) }
+    ensures read { IfOk result (λ how. how ≡ Ending.Shared Status.ReadFault → Rose (R.faults source.old) (R.faults source.new)) }
+    ensures broke { IfOk result (λ how. how ≡ Ending.Shared Status.WriteFault → Rose (W.faults sink.old) (W.faults sink.new)) }
+    ensures reads { IfOk result (λ how. how ≢ Ending.Shared Status.WriteFault
+        → IsCounted R.exact (how ≡ Ending.Shared Status.ReadFault) (R.faults source.old) (R.faults source.new)) }
+    ensures writes { IfOk result
+        (λ how. IsCounted W.exact (how ≡ Ending.Shared Status.WriteFault) (W.faults sink.old) (W.faults sink.new)) }
+    ensures own { IfOk result (λ how. (how ≢ Ending.Shared Status.Usage) × (how ≢ Ending.Shared Status.Memory)) }
+    ensures later { (R.faults source.old ≤ R.faults source.new) × (W.faults sink.old ≤ W.faults sink.new) }
+    ensures memory { OnErr result (sink.new ≡ sink.old) }
+{
+    let text = Text::try_new(alloc, LINE_MAX)?;
+    let Some(at) = plan.map().find(ask.id) else {
+        return Ok(write_ended(sink, ended(Ending::NoSuchNode, text)));
+    };
+    let mut bench = Bench::try_new(alloc, plan, ask, at)?;
+    let mut texts = Texts::try_new(alloc, &bench)?;
+    let stopped = serve(&mut bench, &mut texts, source, sink);
+    match stopped.stop {
+        Stop::WriteFault => Ok(Ending::Shared(Status::WriteFault)),
+        _ => Ok(write_ended(sink, ended(ending_of(stopped), text))),
+    }
+}
+
+// Returns what is asked for, with the stream that a source has.
+fn answer<R: Source, W: Sink>(
+    alloc: Global,
+    ask: Ask,
+    source: &mut R,
+    sink: &mut W,
+) -> Result<Ending, AllocError>
+    ensures outcome { IfOk result (λ how. Tells (Some ask) (R.left source.old) (R.left source.new) how (W.written sink.old)
+        (W.written sink.new)) }
+    ensures read { IfOk result (λ how. how ≡ Ending.Shared Status.ReadFault → Rose (R.faults source.old) (R.faults source.new)) }
+    ensures broke { IfOk result (λ how. how ≡ Ending.Shared Status.WriteFault → Rose (W.faults sink.old) (W.faults sink.new)) }
+    ensures reads { IfOk result (λ how. how ≢ Ending.Shared Status.WriteFault
+        → IsCounted R.exact (how ≡ Ending.Shared Status.ReadFault) (R.faults source.old) (R.faults source.new)) }
+    ensures writes { IfOk result
+        (λ how. IsCounted W.exact (how ≡ Ending.Shared Status.WriteFault) (W.faults sink.old) (W.faults sink.new)) }
+    ensures own { IfOk result (λ how. (how ≢ Ending.Shared Status.Usage) × (how ≢ Ending.Shared Status.Memory)) }
+    ensures later { (R.faults source.old ≤ R.faults source.new) × (W.faults sink.old ≤ W.faults sink.new) }
+    ensures memory { OnErr result (sink.new ≡ sink.old) }
+{
+    // Room for the line is taken first, so that a read that fails is always reported.
+    let text = Text::try_new(alloc, LINE_MAX)?;
+    match plan_in(alloc, source) {
+        Ok(plan) => answer_plan(alloc, plan, ask, source, sink),
+        Err(why) => match refusal_of(why) {
+            Some(how) => Ok(write_ended(sink, ended(how, text))),
+            None => Err(AllocError),
+        },
+    }
+}
+
+// Writes how the program is called, and returns that ending, or a write fault.
+fn usage<W: Sink>(alloc: Global, sink: &mut W) -> Result<Ending, AllocError>
+    ensures wrote { IfOk result
+        (λ how. WroteEnding bench_endings (Ending.Shared Status.Usage) (own_line usage) how (W.written sink.old) (W.written sink.new)) }
+    ensures broke { IfOk result (λ how. how ≡ Ending.Shared Status.WriteFault → Rose (W.faults sink.old) (W.faults sink.new)) }
+    ensures writes { IfOk result
+        (λ how. IsCounted W.exact (how ≡ Ending.Shared Status.WriteFault) (W.faults sink.old) (W.faults sink.new)) }
+    ensures later { W.faults sink.old ≤ W.faults sink.new }
+    ensures memory { OnErr result (sink.new ≡ sink.old) }
+{
+    let mut text = Text::try_new(alloc, LINE_MAX)?;
+    text.own_line(b"usage: sdhnode ID, frames, lines");
+    let ending = Ending::Shared(Status::Usage);
+    Ok(write_ended(sink, EndedText { ending, text }))
+}
+
+/// Does all that the program does, and returns how it ended. With the identifier of a node it reads a plan from the
+/// source, up to the line that ends it, and then records. A record gives the node a command, the present moment, held
+/// turns or slips, or it runs a round over what came on both sides. For each round it writes what the node shows and
+/// what its ports deliver, and with the word `frames` the frames that leave it, before it reads on. The last line says
+/// how it ended.
+pub fn sdhnode<R: Source, W: Sink>(
+    alloc: Global,
+    words: &[String],
+    source: &mut R,
+    sink: &mut W,
+) -> Ending
+    // The ending, what was read, and what was written: the answers that the definitions give for exactly the records
+    // that were read.
+    ensures outcome { Tells (asked (words_of words.now)) (R.left source.old) (R.left source.new) result (W.written sink.old)
+        (W.written sink.new) }
+
+    // Over every source and sink.
+    ensures usage { result ≡ Ending.Shared Status.Usage → asked (words_of words.now) ≡ None }
+    ensures usage_only { asked (words_of words.now) ≡ None → (result ≡ Ending.Shared Status.Usage)
+        ⊎ (result ≡ Ending.Shared Status.WriteFault) ⊎ (result ≡ Ending.Shared Status.Memory) }
+    ensures unread { asked (words_of words.now) ≡ None → source.new ≡ source.old }
+    ensures read_fault { result ≡ Ending.Shared Status.ReadFault → Rose (R.faults source.old) (R.faults source.new) }
+    ensures write_fault { result ≡ Ending.Shared Status.WriteFault → Rose (W.faults sink.old) (W.faults sink.new) }
+    ensures writes { IsCounted W.exact (result ≡ Ending.Shared Status.WriteFault) (W.faults sink.old) (W.faults sink.new) }
+    ensures reads { result ≢ Ending.Shared Status.WriteFault → result ≢ Ending.Shared Status.Memory
+        → IsCounted R.exact (result ≡ Ending.Shared Status.ReadFault) (R.faults source.old) (R.faults source.new) }
+    ensures memory { result ≡ Ending.Shared Status.Memory → sink.new ≡ sink.old }
+    ensures later { (R.faults source.old ≤ R.faults source.new) × (W.faults sink.old ≤ W.faults sink.new) }
+{
+    match asked(words) {
+        Some(ask) => match answer(alloc, ask, source, sink) {
+            Ok(ending) => ending,
+            Err(AllocError) => Ending::Shared(Status::Memory),
+        },
+        None => match usage(alloc, sink) {
+            Ok(ending) => ending,
+            Err(AllocError) => Ending::Shared(Status::Memory),
+        },
+    }
+}

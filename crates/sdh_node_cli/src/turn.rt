@@ -1,0 +1,196 @@
+//! One record, and what is written for it.
+ghost use Rattle.std.specs.Prelude.{◌≡◌, ◌^◌, ◌<◌, ◌≤◌, ◌+◌, List, ℕ, [], Err, IfOk, IfErr, OnOk, OnErr, IsErr, length};
+ghost use Rattle.std.specs.Io.KnownBytes.{Appends};
+ghost use Rattle.sdh_basics.specs.Causes.{Rose, IsCounted};
+ghost use Rattle.sdh_outside.specs.Writing.{AppendsFewer};
+ghost use Rattle.sdh_shell.specs.Writing.{room_in};
+ghost use Rattle.sdh_node_cli.specs.Records.{IsRecord};
+ghost use Rattle.sdh_node_cli.specs.Bench.{after_coming, size_after, after_round, answer_to};
+ghost use Rattle.sdh_node_cli.specs.Turns.{room_for, HasLine, Takes, TakesPart, TakesBoth, both_sizes, Ran, StopsRound, Goes, Halts, StopsBy};
+
+use crate::bench::Bench;
+use crate::ending::Flaw;
+use crate::record::{Came, Record};
+use crate::stop::Stop;
+use sdh_outside::{Sink, Source, write_text};
+use sdh_report::Text;
+use sdh_ringmap::Side;
+use sdh_shell::{LineEnd, read_line};
+use std::alloc::{AllocError, Global};
+
+/// The most bytes that are read of a line: 64, and one more that is to be its newline byte.
+const LINE_READ: usize = 65;
+
+/// Room for the line of a record, and for an answer.
+#[derive(Drop)]
+pub struct Texts {
+    pub line: Text,
+    pub answer: Text,
+}
+
+impl Texts {
+    /// Returns room for the line of a record, and for the answers of a bench. It takes all their memory here.
+    pub fn try_new(alloc: Global, bench: &Bench) -> Result<Texts, AllocError>
+        ensures line { IfOk result (λ texts. room_in texts.line ≡ 65) }
+        ensures answer { IfOk result (λ texts. room_for bench.now ≤ room_in texts.answer) }
+    {
+        Ok(Texts {
+            line: Text::try_new(alloc, LINE_READ)?,
+            answer: Text::try_new(alloc, bench.answer_room())?,
+        })
+    }
+}
+
+// Reads the line of the next record into an empty text, and returns the record.
+fn next_record<R: Source>(bench: &Bench, line: &mut Text, source: &mut R) -> Result<Record, Stop>
+    requires empty { line.old.bytes ≡ [] }
+    requires room { line.old.room ≡ 65 }
+    ensures line { IfOk result (λ r. HasLine bench.now line.new.bytes r (R.left source.old) (R.left source.new)) }
+    ensures form { IfOk result (IsRecord bench.now.circuits bench.now.at) }
+    ensures stop { IfErr result (λ why. Halts bench.now why (R.left source.old) (R.left source.new)) }
+    ensures room { room_in line.new ≡ 65 }
+    ensures fault { result ≡ Err Stop.ReadFault → Rose (R.faults source.old) (R.faults source.new) }
+    ensures counted { IsCounted R.exact (result ≡ Err Stop.ReadFault) (R.faults source.old) (R.faults source.new) }
+    ensures later { R.faults source.old ≤ R.faults source.new }
+{
+    match read_line(source, line) {
+        Ok(LineEnd::Whole) => match bench.record_of(line.bytes()) {
+            Ok(record) => Ok(record),
+            Err(reason) => Err(Stop::Bad(Flaw::Said(reason))),
+        },
+        Ok(LineEnd::Full) => Err(Stop::Bad(Flaw::Long)),
+        Ok(LineEnd::Ended) if line.bytes().is_empty() => Err(Stop::Done),
+        Ok(LineEnd::Ended) => Err(Stop::Bad(Flaw::Cut)),
+        Err(_) => Err(Stop::ReadFault),
+    }
+}
+
+// Keeps for the next round what came on a side: a frame is taken from the source.
+#[tactic(auto, unfolding(crate::specs::Bench::after_coming))]
+fn take_in<R: Source>(bench: &mut Bench, source: &mut R, side: Side, came: Came) -> Result<(), Stop>
+    ensures ok { OnOk result ((bytes : List ℕ) × Takes bench.old came (R.left source.old) (R.left source.new) bytes
+        × (bench.new ≡ record bench.old { node = after_coming side came bytes bench.old.node })) }
+    ensures part { IfErr result (TakesPart (size_after bench.old.node.settings.rate came) (R.left source.old) (R.left source.new)) }
+    ensures fault { result ≡ Err Stop.ReadFault → Rose (R.faults source.old) (R.faults source.new) }
+    ensures counted { IsCounted R.exact (result ≡ Err Stop.ReadFault) (R.faults source.old) (R.faults source.new) }
+    ensures later { R.faults source.old ≤ R.faults source.new }
+{
+    match came {
+        Came::Nothing => Ok(()),
+        Came::Dark => {
+            bench.darken(side);
+            Ok(())
+        }
+        Came::Frame => bench.take_frame(source, side),
+    }
+}
+
+// Keeps for the next round what came from the west and from the east. The frame from the west is taken first.
+fn take_both<R: Source>(bench: &mut Bench, source: &mut R, came: (Came, Came)) -> Result<(), Stop>
+    ensures ok { OnOk result (TakesBoth bench.old bench.new came.0 came.1 (R.left source.old) (R.left source.new)) }
+    ensures part { IfErr result (TakesPart (both_sizes bench.old came.0 came.1) (R.left source.old) (R.left source.new)) }
+    ensures fault { result ≡ Err Stop.ReadFault → Rose (R.faults source.old) (R.faults source.new) }
+    ensures counted { IsCounted R.exact (result ≡ Err Stop.ReadFault) (R.faults source.old) (R.faults source.new) }
+    ensures later { R.faults source.old ≤ R.faults source.new }
+{
+    let (west, east) = came;
+    match take_in(bench, source, Side::West, west) {
+        Ok(()) => {}
+        Err(stop) => return Err(stop),
+    }
+    match take_in(bench, source, Side::East, east) {
+        Ok(()) => Ok(()),
+        Err(stop) => Err(stop),
+    }
+}
+
+// Runs a round over what is kept of both sides, and writes its answer.
+fn answer_round<W: Sink>(bench: &mut Bench, answer: &mut Text, sink: &mut W) -> Result<(), Stop>
+    requires few { bench.old.node.rounds < 2 ^ 32 }
+    requires room { room_for bench.old ≤ room_in answer.old }
+    ensures bench { bench.new ≡ after_round bench.old }
+    ensures ok { OnOk result (Appends (W.written sink.old) (W.written sink.new) (answer_to bench.old)) }
+    ensures front { OnErr result (AppendsFewer (W.written sink.old) (W.written sink.new) (answer_to bench.old)) }
+    ensures why { IfErr result (λ why. why ≡ Stop.WriteFault) }
+    ensures kept { room_in answer.new ≡ room_in answer.old }
+    ensures broke { OnErr result (Rose (W.faults sink.old) (W.faults sink.new)) }
+    ensures writes { IsCounted W.exact (IsErr result) (W.faults sink.old) (W.faults sink.new) }
+    ensures later { W.faults sink.old ≤ W.faults sink.new }
+{
+    answer.clear();
+    bench.run(answer);
+    match write_text(sink, answer.bytes()) {
+        Ok(()) => Ok(()),
+        Err(_) => Err(Stop::WriteFault),
+    }
+}
+
+// Runs a round over what came from the west and from the east, and writes its answer.
+fn run_round<R: Source, W: Sink>(
+    bench: &mut Bench,
+    answer: &mut Text,
+    came: (Came, Came),
+    source: &mut R,
+    sink: &mut W,
+) -> Result<(), Stop>
+    requires few { bench.old.node.rounds < 2 ^ 32 }
+    requires room { room_for bench.old ≤ room_in answer.old }
+    ensures ran { OnOk result
+        (Ran bench.old bench.new came.0 came.1 (R.left source.old) (R.left source.new) (W.written sink.old) (W.written sink.new)) }
+    ensures stops { IfErr result (λ why.
+        StopsRound bench.old came.0 came.1 why (R.left source.old) (R.left source.new) (W.written sink.old) (W.written sink.new)) }
+    ensures kept { room_in answer.new ≡ room_in answer.old }
+    ensures read { result ≡ Err Stop.ReadFault → Rose (R.faults source.old) (R.faults source.new) }
+    ensures broke { result ≡ Err Stop.WriteFault → Rose (W.faults sink.old) (W.faults sink.new) }
+    ensures reads { IsCounted R.exact (result ≡ Err Stop.ReadFault) (R.faults source.old) (R.faults source.new) }
+    ensures writes { IsCounted W.exact (result ≡ Err Stop.WriteFault) (W.faults sink.old) (W.faults sink.new) }
+    ensures later { (R.faults source.old ≤ R.faults source.new) × (W.faults sink.old ≤ W.faults sink.new) }
+{
+    match take_both(bench, source, came) {
+        Ok(()) => {}
+        Err(stop) => return Err(stop),
+    }
+    match answer_round(bench, answer, sink) {
+        Ok(()) => Ok(()),
+        Err(stop) => Err(stop),
+    }
+}
+
+/// Reads a record, does it, and writes its answer, if it has one, before any more is read.
+pub fn turn<R: Source, W: Sink>(
+    bench: &mut Bench,
+    texts: &mut Texts,
+    source: &mut R,
+    sink: &mut W,
+) -> Result<(), Stop>
+    requires few { bench.old.node.rounds < 2 ^ 32 }
+    requires line { room_in texts.old.line ≡ 65 }
+    requires answer { room_for bench.old ≤ room_in texts.old.answer }
+    ensures goes { OnOk result (Goes bench.old bench.new (R.left source.old) (R.left source.new) (W.written sink.old) (W.written sink.new)) }
+    ensures stops { IfErr result
+        (λ why. StopsBy bench.old why (R.left source.old) (R.left source.new) (W.written sink.old) (W.written sink.new)) }
+    ensures line { room_in texts.new.line ≡ 65 }
+    ensures answer { room_in texts.new.answer ≡ room_in texts.old.answer }
+    ensures read { result ≡ Err Stop.ReadFault → Rose (R.faults source.old) (R.faults source.new) }
+    ensures broke { result ≡ Err Stop.WriteFault → Rose (W.faults sink.old) (W.faults sink.new) }
+    ensures reads { IsCounted R.exact (result ≡ Err Stop.ReadFault) (R.faults source.old) (R.faults source.new) }
+    ensures writes { IsCounted W.exact (result ≡ Err Stop.WriteFault) (W.faults sink.old) (W.faults sink.new) }
+    ensures later { (R.faults source.old ≤ R.faults source.new) × (W.faults sink.old ≤ W.faults sink.new) }
+{
+    texts.line.clear();
+    match next_record(bench, &mut texts.line, source) {
+        Ok(record) => match record {
+            Record::Round(west, east) => {
+                match run_round(bench, &mut texts.answer, (west, east), source, sink) {
+                    Ok(()) => Ok(()),
+                    Err(stop) => Err(stop),
+                }
+            }
+            Record::Told(told) => match bench.tell(told) {
+                Ok(()) => Ok(()),
+                Err(reason) => Err(Stop::Bad(Flaw::Said(reason))),
+            },
+        },
+        Err(stop) => Err(stop),
+    }
+}

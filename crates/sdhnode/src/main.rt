@@ -1,0 +1,31 @@
+//! The program: its words, standard input and standard output, and the call that does all the rest.
+#![tactic(auto)]
+
+use sdh_node_cli::sdhnode;
+use sdh_outside::{StdSink, StdSource};
+use std::process::ExitCode;
+use std::{env, io};
+
+/// There is no memory for the words.
+const NO_MEMORY: u8 = 70;
+
+/// A word isn't UTF-8, or the machine gives no words.
+const NO_WORDS: u8 = 71;
+
+fn main(rt: HostRuntime) -> ExitCode {
+    let args = match env::args(&rt) {
+        Ok(args) => args,
+        Err(error) if error.kind() == io::ErrorKind::OutOfMemory => return ExitCode::from(
+            NO_MEMORY,
+        ),
+        Err(_) => return ExitCode::from(NO_WORDS),
+    };
+    let words: Vec<String> = match args.skip(1).collect(rt.alloc()) {
+        Ok(words) => words,
+        Err(_) => return ExitCode::from(NO_MEMORY),
+    };
+    let mut source = StdSource::new(rt.stdin());
+    let mut sink = StdSink::new(rt.stdout());
+    let ending = sdhnode(rt.alloc(), &words, &mut source, &mut sink);
+    ExitCode::from(ending.number())
+}

@@ -1,0 +1,95 @@
+//! What is outside fails, and how far the stream was read by then.
+
+use crate::called::{ANSWERS, NODE_2, Outside, PLAN, RECORDS, SOUND, call, joined, stream};
+use sdh_node_cli::Ending;
+use sdh_outside::read_all;
+use std::test::Fail;
+
+// The write that fails, what was written by then, and the records that are left.
+type Row = (u32, &'static [&'static str], &'static [&'static str]);
+
+const ROWS: &[Row] = &[
+    (1, &[], &[RECORDS[1], RECORDS[2]]),
+    (2, &[ANSWERS[0]], &[]),
+    (3, &[ANSWERS[0], ANSWERS[2]], &[]),
+];
+
+// No byte is read after the record whose answer can't be written.
+#[test]
+fn each_write_that_fails_is_told(rt: HostRuntime) -> Result<(), Fail> {
+    for (number, written, left) in ROWS {
+        let failing = [*number];
+        let outside = Outside {
+            writes: &failing,
+            ..SOUND
+        };
+        let (ending, mut source, sink) = call(rt.alloc(), NODE_2, &stream(rt.alloc())?, outside)?;
+        assert!(rt; ending.number() == 4, "{number}");
+        assert!(rt;
+            sink.bytes() == joined(rt.alloc(), written)?.as_slice(),
+            "{number}"
+        );
+        let rest = read_all(rt.alloc(), &mut source)?;
+        assert!(rt;
+            rest.as_slice() == joined(rt.alloc(), left)?.as_slice(),
+            "{number}"
+        );
+    }
+    Ok(())
+}
+
+// A byte is read at a time, so the number of a read is that of a byte.
+#[test]
+fn each_read_of_a_record_that_fails_is_told(rt: HostRuntime) -> Result<(), Fail> {
+    let mut before = PLAN.len();
+    for (at, record) in RECORDS.iter().enumerate() {
+        let written = joined(
+            rt.alloc(),
+            &[if at > 0 { ANSWERS[0] } else { "" }, "read fault\n"],
+        )?;
+        for byte in 1..=record.len() {
+            let failing = [(before + byte) as u32];
+            let outside = Outside {
+                reads: &failing,
+                ..SOUND
+            };
+            let (ending, _, sink) = call(rt.alloc(), NODE_2, &stream(rt.alloc())?, outside)?;
+            assert!(rt;
+                ending.number() == 3 && sink.bytes() == written.as_slice(),
+                "{record} {byte}"
+            );
+        }
+        before += record.len();
+    }
+    Ok(())
+}
+
+// There is no read after the end of the stream, and no write after the last line.
+#[test]
+fn what_comes_in_pieces_is_the_same(rt: HostRuntime) -> Result<(), Fail> {
+    let pieces = Outside { piece: 7, ..SOUND };
+    let after = Outside {
+        reads: &[1_000],
+        writes: &[4],
+        ..SOUND
+    };
+    let wanted = joined(rt.alloc(), &[ANSWERS[0], ANSWERS[2], "done\n"])?;
+    for outside in [SOUND, pieces, after] {
+        let (ending, _, sink) = call(rt.alloc(), NODE_2, &stream(rt.alloc())?, outside)?;
+        assert!(rt; ending.number() == 0 && sink.bytes() == wanted.as_slice());
+    }
+    Ok(())
+}
+
+// A record that can't be done is read up to its newline byte, and what follows is left.
+#[test]
+fn a_bad_record_is_told_with_its_number(rt: HostRuntime) -> Result<(), Fail> {
+    let given = joined(rt.alloc(), &[PLAN, RECORDS[0], "cut 2 east\n", RECORDS[2]])?;
+    let (ending, mut source, sink) = call(rt.alloc(), NODE_2, &given, SOUND)?;
+    assert!(rt; matches!(ending, Ending::BadRecord(_, 2)) && ending.number() == 17);
+    let wanted = joined(rt.alloc(), &[ANSWERS[0], "bad record 22 at 2\n"])?;
+    assert!(rt; sink.bytes() == wanted.as_slice());
+    let rest = read_all(rt.alloc(), &mut source)?;
+    assert!(rt; rest.as_slice() == RECORDS[2].as_bytes());
+    Ok(())
+}

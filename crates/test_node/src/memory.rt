@@ -1,0 +1,39 @@
+//! Calls that run out of memory.
+
+use crate::called::{ANSWERS, NO_WORDS, NODE_2, PLAN, RECORDS, SOUND, USAGE, call, joined};
+use std::test::Fail;
+
+// The words, the stream, and the number and the text of the answer.
+type Row = (
+    &'static [&'static str],
+    &'static [&'static str],
+    u8,
+    &'static [&'static str],
+);
+
+const ROWS: &[Row] = &[
+    (NODE_2, &[PLAN, RECORDS[0]], 0, &[ANSWERS[0], "done\n"]),
+    (NODE_2, &["rate = \nend of plan\n"], 5, &["not toml\n"]),
+    (NODE_2, &[RECORDS[0]], 17, &["bad record 32 at 0\n"]),
+    (&["4"], &[PLAN, RECORDS[0]], 15, &["no such node\n"]),
+    (NO_WORDS, &[PLAN], 2, &[USAGE]),
+];
+
+// It shows most where one of the allocations is made to fail.
+#[test]
+fn want_of_memory_writes_nothing(rt: HostRuntime) -> Result<(), Fail> {
+    for (words, given, number, wanted) in ROWS {
+        let given = joined(rt.alloc(), given)?;
+        let (ending, _, sink) = call(rt.alloc(), words, &given, SOUND)?;
+        if ending.number() == 70 {
+            assert!(rt; sink.bytes().is_empty(), "{words:?}");
+        } else {
+            let wanted = joined(rt.alloc(), wanted)?;
+            assert!(rt;
+                ending.number() == *number && sink.bytes() == wanted.as_slice(),
+                "{words:?}"
+            );
+        }
+    }
+    Ok(())
+}
