@@ -2,7 +2,7 @@
 //! the circuit's other port, and every other port to AIS. A walk follows an AU-4 backwards through the connections,
 //! span by span, to where it was sent.
 //!
-//! Each function here is a law: it does nothing, and its contract is the law, which `specs/Laws.antt` states. The
+//! Each function here is a law: it does nothing, and its contract is the law, which `specs/RouteLaws.antt` states. The
 //! protection switching is that of ITU-T G.841, MS shared protection rings.
 ghost use Rattle.sdh_signal.specs.Rings.{OneSpanFailed, TwoSpansFailed, ANodeIsCutOff, ATie, TheLongestRoute};
 ghost use Rattle.sdh_signal.specs.RouteLaws.{EachPortIsRouted, EachWalkFollowsTheRoute, NoPortMeetsAStranger, EachWalkHasOneEnd, EachWalkEnds};
