@@ -11,7 +11,7 @@ use Rattle.sdh_promise.specs.Changes.{Change, Hold, Stretch}
 use Rattle.sdh_promise.specs.Sides.{side_history}
 use Rattle.sdh_promise.specs.Owed.{Ring, asked_in}
 
--- Rounds are counted from 0. Stretches say which changes come before which of them.
+-- Rounds are counted from 0. Stretches say before which rounds which changes come.
 
 -- ---- what nodes need
 
@@ -36,7 +36,8 @@ needs_by r stretches t = cells (needs_at r stretches t) r.nodes
 
 -- ---- which controllers are held
 
--- how many turns the controller at position p is to miss after a change; a new hold replaces what is left of an earlier one
+-- how many rounds the controller at position p is to miss after a change; a new hold replaces what is left of an
+-- earlier one
 abbrev pub turns_after : ℕ → Change → ℕ → ℕ
 turns_after p (Hold q turns) left = if q == p then turns else left
 turns_after p c left = left
@@ -45,14 +46,14 @@ abbrev pub turns_after_all : ℕ → List Change → ℕ → ℕ
 turns_after_all p [] left = left
 turns_after_all p (c ∷ cs) left = turns_after_all p cs (turns_after p c left)
 
--- how many turns are left when round t of the stretches begins; each round takes one away
+-- how many of these are left when round t of the stretches begins; each round takes one away
 abbrev pub turns_in : ℕ → List Stretch → ℕ → ℕ → ℕ
 turns_in p [] left t = left - t
 turns_in p (s ∷ ss) left t =
     if nat_lt t s.rounds then turns_after_all p s.changes left - t
     else turns_in p ss (turns_after_all p s.changes left - s.rounds) (t - s.rounds)
 
--- whether the controller at each position misses its turn in round t; in a new ring none is held
+-- whether the controller at each position misses round t; in a new ring none is held
 abbrev pub held_by : ℕ → List Stretch → ℕ → List Bool
 held_by n stretches t = cells (λ p. nat_le 1 (turns_in p stretches 0 t)) n
 

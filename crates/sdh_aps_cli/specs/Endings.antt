@@ -41,8 +41,8 @@ signalling_endings = record {
 
 -- ---- a run of which frames are written
 
--- A plant's fault is reported as one, whatever came. Else the run is done where it had all rounds that are asked for, also
--- if a settle step was unsettled after them; or it has no such round.
+-- A plant's fault is reported as one, whichever rounds came. Else the run is done where it had all rounds that are
+-- asked for (`came`), also if a settle step was unsettled after them. Where it hadn't, it ends with `NoSuchRound`.
 abbrev pub frames_end : Bool → Status → Ending
 frames_end came how.PlantFault = ending.Shared how.PlantFault
 frames_end true s = ending.Shared how.Ok

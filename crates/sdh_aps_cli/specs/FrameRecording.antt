@@ -15,7 +15,7 @@ pub record AreWritten (ask : FrameWindow) (at : ℕ → World) (k : ℕ) (old ne
   pub place : HasPlace ask (at k)
   pub written : Appends old new (frames_bytes ask (sent_in k at))
 
--- a write failed in the k-th round of a settle step, and a front of the frames of the first k that are asked for was
--- written
+-- a write failed in the k-th round of a settle step: only the first bytes were written of the frames that are asked for
+-- of its first k rounds
 abbrev pub AreCut : FrameWindow → (ℕ → World) → ℕ → Option (List ℕ) → Option (List ℕ) → Type 0
 AreCut ask at k old new = AppendsFewer old new (frames_bytes ask (sent_in k at))

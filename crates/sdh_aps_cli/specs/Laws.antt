@@ -33,8 +33,9 @@ ScriptsGoAsSignals =
     → (told : List Signalled) (end : Status) (left : World) → Runs limit 0 steps (new_world s ids circuits f) told end left
     → AreSignalled (ring_by s (length ids) circuits.circuits) ids limit [] 0 (scenes [] steps) told end
 
--- Some rounds ran of the settle step after those of which `told` is shown. They led from one world to the other, and show what the ring of
--- signals does in them. `earlier` had happened before, and these are the changes before each step to come.
+-- Some rounds ran of the settle step that comes after those in `told`. They led from one world to the other, and show
+-- what the ring of signals does in them. `earlier` had happened before, and these are the changes before each step to
+-- come.
 pub record FirstRounds (ring : Ring) (ids : List ℕ) (limit : ℕ) (earlier : List Stretch) (later : List (List Change)) (told : List Signalled)
     (w : World) (one : Signalled) (mid : World) : Type 0 where
   pub count : ℕ
@@ -42,7 +43,8 @@ pub record FirstRounds (ring : Ring) (ids : List ℕ) (limit : ℕ) (earlier : L
   pub ran : mid.ring.rounds ≡ w.ring.rounds + count
   pub shown : AreOfTheNext ring ids earlier later told count one.changes
 
--- from a new ring over new honest fibres, the rounds of each settle step do, whether it ends or not
+-- from a new ring over new honest fibres, the rounds of each settle step show what the ring of signals does in them,
+-- whether the step ends or not
 abbrev pub StepsGoAsSignals : Type 0
 StepsGoAsSignals =
     (s : Settings) (ids : List ℕ) (circuits : Provisioning) (f : Fibres) → MayStart s ids f → (limit : ℕ) (past : Past)

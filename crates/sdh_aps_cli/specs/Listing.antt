@@ -40,7 +40,7 @@ abbrev pub begun_of : PlanListing → Signalled → List ℕ
 begun_of (listing.Lines l) s = begun_text l s
 begun_of (listing.Frames ask) s = frames_bytes ask s.sent
 
--- what is written of a settle step that ended: of frames, nothing at its end
+-- what is written of a settle step that ended: its lines and one at its end, or its frames and nothing at its end
 abbrev pub ended_of : PlanListing → Signalled → List ℕ
 ended_of (listing.Lines l) s = ended_text l s
 ended_of (listing.Frames ask) s = frames_bytes ask s.sent

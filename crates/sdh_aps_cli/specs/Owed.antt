@@ -31,8 +31,8 @@ is_news r ids stretches t p = (t == 0) || not (same_shown (shown_in r ids stretc
 abbrev pub change_by : Ring → List ℕ → List Stretch → ℕ → ℕ → Change
 change_by r ids stretches t p = record { round = t; id = get_or ids p 0; shown = shown_in r ids stretches t p }
 
--- the changes in round t, in ring order: of each node that shows something else than in the round before, and in round 0
--- of all nodes
+-- the changes in round t, in ring order: in round 0 those of all nodes, and later those of each node that shows
+-- something else than in the round before
 abbrev pub changes_by : Ring → List ℕ → List Stretch → ℕ → List Change
 changes_by r ids stretches t =
     flat_map (λ p. if is_news r ids stretches t p then change_by r ids stretches t p ∷ [] else []) (cells (λ p. p) (length ids))
@@ -60,7 +60,8 @@ AreSignalled ring ids limit earlier before (changes ∷ later) (s ∷ told) end 
     (s.number ≡ before + 1) × IsLast ring.nodes limit ran (s.rounds - 1) × ShowsSignals ring ids now ran (s.rounds - 1) s.changes
     × AreSignalled ring ids limit now (before + 1) later told end)
 
--- these are all changes of the ring of signals in the first `count` rounds of the settle step after those of which `told` is shown
+-- these are all changes of the ring of signals in the first `count` rounds of the settle step that comes after those in
+-- `told`
 abbrev pub AreOfTheNext : Ring → List ℕ → List Stretch → List (List script.Change) → List Signalled → ℕ → List Change → Type 0
 AreOfTheNext ring ids earlier [] told count shown = shown ≡ []
 AreOfTheNext ring ids earlier (changes ∷ later) [] count shown =

@@ -40,9 +40,9 @@ signalling_account = record { walk = signalling_walk; new_ring = new_ring_of }
 abbrev pub Owes : ReportsOwe Signalled
 Owes plan f reports end left = AreSignalled (ring_of plan) plan.nodes plan.limit [] 0 (scenes [] plan.steps) reports end
 
--- what is so of one list of the settle steps that ended: what ran over every plant, what it comes to where the arrivals
--- are known, and over honest fibres what the ring of signals does, and that no settle step with a limit that is always
--- enough is unsettled
+-- What holds of one list, of what is shown of the settle steps that ended. Over every plant it is of the rounds that
+-- ran. Where the arrivals are known, it is what the script comes to; after a fault, the first of that. Over honest
+-- fibres it is what the ring of signals does, and no settle step with a limit that is always enough is unsettled.
 abbrev pub IsRunOf : Planned → Fibres → List Signalled → Status → Fibres → Type 0
 IsRunOf = plans.IsRunOf signalling_account Owes
 
@@ -60,12 +60,12 @@ piece_text listing (Begun s) = begun_of listing s
 abbrev pub pieces_text : PlanListing → List Piece → List ℕ
 pieces_text listing pieces = flat_map (piece_text listing) pieces
 
--- the number of all rounds that had run after a piece
+-- how many rounds of the run, from its first one on, had run when a piece ended
 abbrev pub rounds_after : Piece → ℕ
 rounds_after (Ended s) = s.rounds
 rounds_after (Begun s) = s.rounds
 
--- the number of all rounds of a run, of which this is reported after n rounds
+-- how many rounds of a run had run in all after these pieces, where n had run before them
 abbrev pub rounds_from : ℕ → List Piece → ℕ
 rounds_from n [] = n
 rounds_from n (p ∷ more) = rounds_from (rounds_after p) more
@@ -85,8 +85,9 @@ IsLast plan f reports begun end left =
     ⊎ ((last : World) × (last.fibres ≡ left)
     × StoppedTold signalling_walk plan.limit plan.steps (world_of plan f) reports begun end last)
 
--- Over honest fibres: what is reported of the first rounds of a settle step, after those of these reports, is what the ring
--- of signals does in them. Where the script ended unsettled, these are as many rounds as a settle step may have.
+-- Over honest fibres: what is reported of the first rounds of the settle step that comes after those in `reports` is
+-- what the ring of signals does in them. Where the script ended unsettled, these are as many rounds as a settle step
+-- may have.
 pub record AreFirstRounds (plan : Planned) (reports : List Signalled) (end : Status) (one : Signalled) : Type 0 where
   pub count : ℕ
   pub few : count ≤ plan.limit

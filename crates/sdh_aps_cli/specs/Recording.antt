@@ -25,14 +25,15 @@ pub record IsReady (r : HeldRing) (items : List Shown) (text : Written) : Type 0
 
 -- ---- a settle step, whose course gives the world after each number of rounds
 
--- after k rounds of it their lines were written, and what the nodes showed in the last one is kept
+-- after k rounds of a settle step their lines were written, and what the nodes showed in the last of them is kept
 pub record IsRecorded (listing : SignalListing) (at : ℕ → World) (k : ℕ) (items : List Shown) (text : Written)
     (old new : Option (List ℕ)) : Type 0 where
   pub ready : IsReady (at k).ring items text
   pub shown : AreShown (shown_at (at k).ring) items
   pub written : Appends old new (changes_text listing (changes_in k at))
 
--- a write failed in the k-th of its rounds, and a front of the lines of these rounds was written
+-- a write failed in the k-th round of a settle step: only the first bytes of the lines of its first k rounds were
+-- written
 abbrev pub IsCut : SignalListing → (ℕ → World) → ℕ → Option (List ℕ) → Option (List ℕ) → Type 0
 IsCut listing at k old new = AppendsFewer old new (changes_text listing (changes_in k at))
 

@@ -1,5 +1,5 @@
--- What is shown of how a ring signals, round by round: of each node that shows something else than in the round before, and in the first
--- round of all nodes, what it shows.
+-- What is shown of how a ring signals, round by round: in the first round what every node shows, and in each later one
+-- what a node shows wherever that is something else than in the round before.
 use Rattle.std.specs.Prelude.{ℕ, zero, suc, ◌-◌, ◌==◌, ◌||◌, Bool, not, List, [], ◌∷◌, ◌++◌, length, get_or}
 use Rattle.std.specs.Prelude.{if◌then◌else◌}
 use Rattle.std.specs.List.{flat_map}
@@ -52,7 +52,7 @@ abbrev pub changes_in : ℕ → (ℕ → World) → List Change
 changes_in zero at = []
 changes_in (suc k) at = changes_in k at ++ changes_of (at k).ring (at (suc k)).ring
 
--- the settle step, counted from 1; the number of all rounds that had run after it; and of its rounds all changes, and
+-- the settle step, counted from 1; how many rounds had run in all, with its own; and of its own rounds all changes, and
 -- the frames that were sent
 pub record Signalled : Type 0 where
   pub number : ℕ

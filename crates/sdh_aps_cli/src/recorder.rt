@@ -49,7 +49,8 @@ fn put_change(text: &mut Text, ring: &Ring, at: Pos, now: &Shown, listing: Signa
     }
 }
 
-// Appends the line of the node at a position, where it shows something else than before the last round.
+// Appends the line of the node at a position, where the last round was the ring's first, or the node shows something else
+// since.
 #[tactic(auto, unfolding(crate::specs::Signalled::is_told))]
 fn put_new(text: &mut Text, ring: &Ring, at: Pos, was: &Shown, listing: SignalListing)
     requires at { at.0 < length ring.now.ids }
@@ -91,7 +92,7 @@ fn keep_all(before: &mut Vec<Shown>, ring: &Ring)
     }
 }
 
-// Returns what no node shows.
+// Returns a filler that no node ever shows, for the time before the first settle step begins.
 fn nothing_shown() -> Shown {
     let none = WordBytes {
         first: 0,

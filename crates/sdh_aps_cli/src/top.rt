@@ -28,9 +28,9 @@ use std::alloc::Global;
 /// runs its ring over the plant. Of the first round it writes what each node shows, and of each later one what each
 /// node shows that showed something else before: its state and far end, the words that it sent, those that it hears,
 /// and what its sides ask for. With `node` and an identifier it writes this of that node alone. Each round is written
-/// before the next one runs, and the last line says how it ended. With `frames`, an identifier, a side, and the first of
-/// a number of rounds it writes the frames that the node sent on that side in those rounds, scrambled as on the line, and
-/// nothing else; and a last line where the run ended before the last of these rounds.
+/// before the next one runs, and the last line says how it ended. With `frames`, an identifier, a side, a first round
+/// and a number of rounds it writes the frames that the node sent on that side in that number of rounds from the first one on,
+/// scrambled as on the line, and nothing else. There is a last line then only where the ending isn't `Ok`.
 pub fn sdhaps<R: Source, W: Sink, P: Plant>(
     alloc: Global,
     words: &[String],

@@ -42,8 +42,8 @@ HaveCondition (Fibre p d condition ∷ later) = Unit {0}
 HaveCondition (c ∷ later) = HaveCondition later
 
 -- What ran of a settle step that has no report, after these changes, where `ran` rounds had run before. An unsettled
--- step ran all the rounds of the limit. A step in which a fault ended the script ran fewer. Nothing ran where the plant
--- made no fibres, or may have refused a condition.
+-- step ran all the rounds of the limit. A step in which a fault ended the script ran fewer. It may lack a stretch where
+-- the plant may have made no fibres, since no round had run, or may have refused a condition.
 abbrev pub IsLeftOff : ℕ → ℕ → List Change → Status → List Stretch → Type 0
 IsLeftOff limit ran changes (status.Unsettled k) ss = ss ≡ stretch changes limit ∷ []
 IsLeftOff limit ran changes status.PlantFault ss =
@@ -52,8 +52,8 @@ IsLeftOff limit ran changes end ss = ⊥
 
 -- What happened in a script over a ring of n that gave these reports and ended so, as stretches. `ran` rounds had run
 -- before, and these are the changes before each settle step. The stretch of a report has the changes of its step, and
--- the rounds up to the report's own, which may be the last one of a step. After them comes what ran of the step that
--- has no report. There are no other reports.
+-- the rounds up to the report's own, in which a step can end (`IsLast`). After these stretches comes what ran of the
+-- step that has no report. There are no other reports.
 abbrev pub WentThrough : ℕ → ℕ → ℕ → List (List Change) → List Report → Status → List Stretch → Type 0
 WentThrough n limit ran [] reports end ss = (reports ≡ []) × (ss ≡ [])
 WentThrough n limit ran (changes ∷ later) [] end ss = IsLeftOff limit ran changes end ss

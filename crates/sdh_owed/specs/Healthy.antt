@@ -16,8 +16,8 @@ AllSettle [] = Unit {0}
 AllSettle (step.Settle ∷ later) = AllSettle later
 AllSettle (s ∷ later) = ⊥
 
--- The reports after the first `before`, in a ring of n. The K-th report of all has round 128 K, and shows for every
--- port what it is owed where no span is applied and no clock slipped.
+-- The reports that come after `before` earlier ones, in a ring of n. The K-th report of all has round 128 K, and shows
+-- for every port what it is owed where no span is applied and no clock slipped.
 abbrev pub AreHealthy : ℕ → List Provisioned → ℕ → List Report → Type 0
 AreHealthy n circuits before [] = Unit {0}
 AreHealthy n circuits before (r ∷ reports) =

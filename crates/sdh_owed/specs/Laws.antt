@@ -22,7 +22,7 @@ use Rattle.sdh_promise.specs.Owed.{Ring, AreOwed}
 use Rattle.sdh_promise.specs.Plans.{ports_of}
 use Rattle.sdh_owed.specs.Healthy.{AllSettle, IsHealthy}
 
--- a ring of n with these settings and circuits: all of it by which reports owe
+-- what of a ring of n with these settings and circuits decides what its reports owe
 abbrev pub ring_by : Settings → ℕ → List Provisioned → Ring
 ring_by s n circuits = record { nodes = n; threshold = s.threshold; wait = s.wait; circuits = circuits }
 

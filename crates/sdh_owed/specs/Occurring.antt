@@ -78,8 +78,8 @@ pub record GetsItsOwn (f : Fibres) (earlier : List Stretch) (last : Stretch) (t 
       NoneMeetsAStrangerSince (rounds_in earlier + t - age) (clocks_by ring_of_three.circuits now)
       (round (world_in now (three_over f) (rounds_in earlier + t))).ring)
 
--- Each port gets its own bytes in the 64 rounds after the span is cut in a new ring. It does so too in the 64 rounds
--- after the span is mended, where a quiet window came before. The bytes are at most 41 rounds old: n(n + 1), 3n and the
+-- No port meets a stranger in the 64 rounds after the span is cut in a new ring. Nor does one in the 64 rounds after
+-- the span is mended, where a quiet window came before. Bytes that come are at most 41 rounds old: n(n + 1), 3n and the
 -- hold. From round 32 on they are at most 12 rounds old, which is n(n + 1).
 pub record ThreeGetTheirOwn (f : Fibres) : Type 0 where
   pub cut : (t : ℕ) → t < 64 → GetsItsOwn f [] (stretch cutting_held 64) t 41

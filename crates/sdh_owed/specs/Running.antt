@@ -11,8 +11,7 @@ abbrev pub BeginsAtAMultiple : HeldRing → Type 0
 BeginsAtAMultiple r = (r.rounds ≡ 0) ⊎ ((r.rounds - 1) % 128 ≡ 0)
 
 -- These steps may be run over a ring and fibres after `before` settle steps that have ended. The ring isn't broken, the
--- fibres are prepared for it, and the steps are those of a plan. No settle step took more than `each` rounds, with
--- those that ran after it.
+-- fibres are prepared for it, and the steps are those of a plan. The ring has run at most `each` times `before` rounds.
 pub record MayRun (each before : ℕ) (steps : List Step) (r : HeldRing) (f : Fibres) : Type 0 where
   pub whole : r.broken ≡ false
   pub prepared : IsPrepared r.settings.rate (length r.ids) f

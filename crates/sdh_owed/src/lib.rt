@@ -1,8 +1,9 @@
-//! A script over a ring and its fibres, over definitions alone. `specs/Reports.antt` says what a report shows of a
-//! ring. `specs/Scripts.antt` says what a script comes to, and `specs/Healthy.antt` what one of settle steps alone
-//! comes to. `specs/Course.antt` says through which stretches of rounds a script went and what holds in them.
-//! `specs/Counting.antt` says what that means for the frames sent. `specs/Occurring.antt` works it out for one ring,
-//! and `specs/Laws.antt` has the laws of reports. Each function here has a law as its contract and no work to do.
+//! A script over a ring and its fibres: definitions and their laws, and no code that runs. `specs/Reports.antt` says
+//! what a report shows of a ring. `specs/Scripts.antt` says what a script comes to, and `specs/Healthy.antt` what a
+//! script comes to that has no steps but settle steps. `specs/Course.antt` says through which stretches of rounds a
+//! script went and what holds in them. `specs/Counting.antt` says what that means for the frames sent.
+//! `specs/Occurring.antt` works the promise of every round out for one ring, and `specs/Laws.antt` has the laws of
+//! reports. Each function here has a law as its contract and no work to do.
 #![tactic(auto)]
 
 ghost use Rattle.sdh_owed.specs.Laws.{ReportsAreOwed, ScriptsSettle, HealthyScripts};
@@ -33,8 +34,9 @@ pub fn healthy_scripts()
 }
 
 /// Whatever a script comes to from a new ring on, it has a course. No port meets a stranger, nor bytes of long ago, in
-/// a settle step right before which no controller of a node that passes traffic through is held, or once no controller
-/// is held any more. Soon after the last changes all ports have what they are owed.
+/// a settle step right before which no controller of a node that passes traffic through is held. In any other settle
+/// step none does from n(n + 1) rounds after the step's longest hold on. Soon after the last changes all ports have what
+/// they are owed.
 pub fn courses_are_told()
     ensures { CoursesAreTold }
 {

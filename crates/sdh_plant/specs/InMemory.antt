@@ -32,7 +32,7 @@ fibres_of h = record {
 abbrev pub clear_fibres : Rate → ℕ → HeldFibres
 clear_fibres rate n = record { nodes = n; rate = rate; conditions = replicate (2 * n) Clear; carried = replicate (2 * n) None }
 
--- fibres with the list of frames that were sent, with room for this number of frames in all
+-- fibres with the list of frames that were sent, which has room for `room` frames in all
 pub record HeldRecording : Type 0 where
   pub fibres : HeldFibres
   pub sent : List Frame

@@ -26,7 +26,8 @@ struct Fibre {
     frame: FrameBuf,
 }
 
-/// Honest fibres in memory: what comes out is what was sent, as the fibre's condition lets it through. No call fails.
+/// Honest fibres in memory: what comes out is what was sent, as the fibre's condition lets it through. No call fails,
+/// though `prepare` can run out of memory.
 #[derive(Debug, Drop)]
 pub struct FibrePlant {
     nodes: usize,

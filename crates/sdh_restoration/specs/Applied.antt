@@ -22,8 +22,8 @@ highest (r ∷ rs) = max r (highest rs)
 abbrev pub has_one_leader : List ℕ → Bool
 has_one_leader rs = count_by (λ r. r == highest rs) rs == 1
 
--- A span with request r is applied. Where some span's request is at least that of a signal failure (11), r is at least
--- that too. Otherwise r is above 0, the highest of all, and the request of no other span.
+-- A span with request r is applied: r is at least that of a signal failure (11); or no span's request is, and r is
+-- above 0, the highest of all, and the request of no other span.
 unfoldable pub applies : List ℕ → ℕ → Bool
 applies rs r = if nat_le 11 (highest rs) then nat_le 11 r else (nat_lt 0 (highest rs) && has_one_leader rs) && (r == highest rs)
 

@@ -1,5 +1,6 @@
--- The local request of one side of a node, from the whole history of the fibre that comes in there. Defects follow from
--- fibres alone, and no frame occurs. After ITU-T G.841; waiting by moments is this project's own.
+-- The local request of one side of a node, from its whole history: the fibre that comes in there, the commands and the
+-- moments. Defects follow from the fibre alone, and no frame occurs. After ITU-T G.841; waiting by moments is this
+-- project's own.
 use Rattle.std.specs.Prelude.{ℕ, zero, suc, ◌-◌, Bool, false, ◌&&◌, not, nat_le, if◌then◌else◌, Option, Some, None, option_map}
 use Rattle.sdh_ringmap.specs.declared.terms.Code.{Code}
 use Rattle.sdh_ringmap.specs.declared.Side.{Side}
@@ -16,8 +17,8 @@ pub record SideHistory : Type 0 where
   pub command : ℕ → Command
   pub moment : ℕ → ℕ
 
--- The degradation of the round before shows in a frame that comes in round t: the frame before it came in too, with at
--- least `threshold` inverted bits. Round 0 brings no frame, so t is at least 2.
+-- The frame that arrives in round t shows the degradation of the round before, where that round's frame arrived too,
+-- with at least `threshold` inverted bits. Round 0 brings no frame, so t is at least 2.
 abbrev pub shows_degraded : ℕ → SideHistory → ℕ → Bool
 shows_degraded threshold h t = nat_le 2 t && (not (h.is_cut (t - 1)) && nat_le threshold (h.degraded (t - 1)))
 

@@ -1,4 +1,4 @@
-//! The local request of one side, from the history of its fibre.
+//! The local request of one side, from its history: the fibre that comes in, the commands and the moments.
 ghost use Rattle.std.specs.Prelude.{◌≡◌, ◌-◌, ◌+◌, ◌<◌, ◌≤◌, length, option_map, slice_index_or, IfSome};
 ghost use Rattle.sdh_request.specs.Requests.{is_defect_free, waits};
 ghost use Rattle.sdh_restoration.specs.History.{defect_at, ends_at, last_end, local_request};

@@ -26,8 +26,8 @@ BreaksOff {L = L} {T = T} program Cut ask plan f old new left =
     (listing : L) × program.Does ask plan (Runs listing) × (reports : List T) × Cut plan f reports left
     × AppendsFewer old new (program.text_of listing reports)
 
--- What is asked came to an end with a plan, with an ending and a text that were to be written. The plant's count of
--- faults is exact where `exact` says so.
+-- Done with this plan, what is asked came to an ending and a text that were to be written. The plant's count of faults
+-- is exact where `exact` says so.
 pub record Finishes {A L T E : Type 0} (program : Program A L T E) (ask : A) (plan : Planned) (f left : Fibres) (exact : Bool)
     (calls : Counts) (end : E) (old new : Option (List ℕ)) : Type 0 where
   pub how : E

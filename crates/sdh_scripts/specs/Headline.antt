@@ -36,9 +36,8 @@ EndsAs Known ending bytes how =
 abbrev pub AlwaysSettles : List ℕ → Status → Type 0
 AlwaysSettles bytes how = (plan : Planned) → TellsPlan bytes plan → enough_for (length plan.nodes) ≤ plan.limit → IsSettled how
 
--- All that a deed needs is given. To write a text of the plan nothing is needed. To run the plan, so that the run comes
--- to its end, what `MaySettle` says of what is listed is needed. A deed that refuses the plan can't be done, whatever is
--- given.
+-- All that a deed needs is given. To write a text of the plan nothing is needed. To run the plan to its end `MaySettle`
+-- has to hold for what is listed. A deed that refuses the plan can't be done, whatever is given.
 abbrev pub may_do_by : {L E : Type 0} → (L → Planned → Fibres → Type 0) → Deed L E → Planned → Fibres → Type 0
 may_do_by MaySettle (Refuses why) plan f = ⊥
 may_do_by MaySettle (Writes told) plan f = Unit {0}

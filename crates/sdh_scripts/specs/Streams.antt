@@ -35,8 +35,8 @@ pub record WroteSteps {N T : Type 0} (walk : Walk N T) (limit : ℕ) (text_of be
 
 -- ---- what is reported of the step with which a script ended
 
--- of a settle step the rounds that ran of it are reported, which are all of them but for a plant's fault; of a step that
--- was refused, nothing
+-- of a settle step the rounds that ran are reported, without the one that a plant's fault broke off; of a step that was
+-- refused, nothing
 abbrev pub LastTold : {N T : Type 0} → Walk N T → ℕ → ℕ → Step → World N → List T → Status → World N → Type 0
 LastTold {T = T} walk limit before step.Settle w begun end left =
     Runs {T = T} walk limit before (step.Settle ∷ []) w [] end left

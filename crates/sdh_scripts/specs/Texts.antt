@@ -34,7 +34,7 @@ pub record Went {N T : Type 0} (walk : Walk N T) (limit : ℕ) (text_of : T → 
       → Runs walk limit before (gone ++ later) w (reports ++ rest) end last
 
 -- The text that is due for the step with which a script ended, after `before` settle steps. For a settle step it is the
--- text of the rounds that ran, which are all of them but for a plant's fault; for a step that was refused it is empty.
+-- text of the rounds that ran, without the one that a plant's fault broke off; for a step that was refused it is empty.
 abbrev pub WritesLast : {N T : Type 0} → Walk N T → ℕ → (T → List ℕ) → ℕ → Step → World N → List ℕ → Status → World N → Type 0
 WritesLast {T = T} walk limit begun_of before step.Settle w text end left =
     Runs {T = T} walk limit before (step.Settle ∷ []) w [] end left × (x : Begun walk limit (before + 1) begun_of w text left)
@@ -60,7 +60,7 @@ pub record FailsAt {N T : Type 0} (walk : Walk N T) (limit : ℕ) (text_of begun
 
 -- ---- a script
 
--- the script ended with the step that comes after these, and this text is due for that step
+-- the script ended with the step after those that gave `reports`, and the text `tail` is due for that step
 pub record Stopped {N T : Type 0} (walk : Walk N T) (limit : ℕ) (begun_of : T → List ℕ) (steps : List Step) (w : World N)
     (reports : List T) (tail : List ℕ) (end : Status) (left : World N) : Type 0 where
   pub gone : List Step
@@ -81,8 +81,8 @@ pub record Lists {N T : Type 0} (walk : Walk N T) (limit : ℕ) (text_of begun_o
   pub tail_is : ((end ≡ status.Ok) × (tail ≡ [])) ⊎ Stopped walk limit begun_of steps w reports tail end left
   pub text : Appends old new (flat_map text_of reports ++ tail)
 
--- A write failed in the settle step that comes after these steps, and nothing more was run. Only the first bytes were
--- written of what was to be written: the reports so far, and the text of that step.
+-- A write failed in one of these steps, a settle step, and nothing more was run. Only the first bytes were written of
+-- what was to be written: the reports of the settle steps before, and the text of that step.
 pub record WriteFailed {N T : Type 0} (walk : Walk N T) (limit : ℕ) (text_of begun_of : T → List ℕ) (steps : List Step) (w : World N)
     (old new : Option (List ℕ)) (left : World N) : Type 0 where
   pub gone : List Step

@@ -28,7 +28,7 @@ fn endings_agree<'a, W: Sink, M: StreamsPlans<'a, W>>()
     ensures { M.program.endings ≡ M.Ending.endings }
 {}
 
-// Writes how the program is called, and returns that ending, or a write fault.
+// Writes how the program is called, and returns the ending of `Usage`, or a write fault.
 fn answer_usage<'a, W: Sink, M: StreamsPlans<'a, W>>(
     alloc: Global,
     sink: &mut W,

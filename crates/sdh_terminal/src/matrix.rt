@@ -38,7 +38,7 @@ pub trait Matrix {
         ensures intake { result.now ≡ (line_on (lines self.now) side).intake }
         ensures rate { result.now.frame.rate ≡ (lines self.now).rate };
 
-    /// Returns the pointer value, 0 to 782, of the interpreter on a side of AU-4 number `au`, 1 to N.
+    /// Returns the pointer value, 0 to 782, that the interpreter of AU-4 number `au`, 1 to N, keeps on a side.
     fn value(&self, side: Side, au: u16) -> u16
         requires first { 1 ≤ au }
         requires last { au ≤ n_of (lines self.now).rate }

@@ -1,4 +1,4 @@
--- What a step of a script does to a ring and its fibres at once, and what a script has led to so far.
+-- What a step of a script changes in a ring and its fibres before any round runs, and what a script has led to so far.
 use Rattle.std.specs.Prelude.{ℕ}
 use Rattle.sdh_world.specs.Held.{HeldRing}
 use Rattle.sdh_world.specs.Rounds.{World}

@@ -1,6 +1,6 @@
-//! A ring of add-drop multiplexers and its fibres, over definitions alone. Its rounds and settle steps are those of
-//! `sdh_rounds`, and what happens between rounds is in `specs/Changes.antt`. Each function here has a law as its
-//! contract and no work to do.
+//! A ring of add-drop multiplexers and its fibres: definitions and their laws, and no code that runs. Its rounds and
+//! settle steps are those of `sdh_rounds`, and what happens between rounds is in `specs/Changes.antt`. Each function
+//! here has a law as its contract and no work to do.
 #![tactic(auto)]
 
 ghost use Rattle.sdh_world.specs.Laws.{ChangesKeepHonest, CallsChange, ChangesKeepPrepared, NewHolds, HistoriesHold, ClocksGoOn};
