@@ -1,5 +1,5 @@
--- The line that shows how a node signals in a round. Numbers are decimal, the bytes of words hexadecimal, and the line ends with one
--- newline byte. The texts are this project's own.
+-- The line that shows how a node signals in a round. Numbers are decimal, the bytes of words hexadecimal, and the line
+-- ends with one newline byte. The texts are this project's own.
 use Rattle.std.specs.Prelude.{ℕ, List, ◌++◌, codes, decimal, Option, Some, None}
 use Rattle.sdh_ringmap.specs.declared.terms.Code.{Code}
 use Rattle.sdh_ringmap.specs.declared.terms.Code.TheVariants.{Nr, Rr, Wtr, Ms, Sd, Sf, Fs}

@@ -12,8 +12,8 @@ pub struct WordPair {
     pub east: WordBytes,
 }
 
-/// What a node shows in a round: its state, the identifier of its far end, the words that it sent, the words that it hears,
-/// and the local requests of its sides.
+/// What a node shows in a round: its state, the identifier of its far end, the words that it sent, the words that it
+/// hears, and the local requests of its sides.
 #[derive(Clone, Copy, Debug, PartialEq, Eq)]
 pub struct Shown {
     pub state: StateWord,

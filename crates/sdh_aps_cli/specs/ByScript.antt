@@ -1,5 +1,5 @@
--- How a ring signals, by the script alone: what its nodes need in each round, which controllers are held, and the ring of
--- signals with these needs. No frame occurs in it.
+-- How a ring signals, by the script alone: what its nodes need in each round, which controllers are held, and the ring
+-- of signals with these needs. No frame occurs in it.
 use Rattle.std.specs.Prelude.{ℕ, zero, suc, ◌-◌, ◌==◌, nat_lt, nat_le, Bool, false, if◌then◌else◌, List, [], ◌∷◌}
 use Rattle.sdh_basics.specs.Cells.{cells}
 use Rattle.sdh_ringmap.specs.declared.Side.{Side}
@@ -15,8 +15,8 @@ use Rattle.sdh_promise.specs.Owed.{Ring, asked_in}
 
 -- ---- what nodes need
 
--- Side d of position p fails in round t of the stretches, in a ring of n, where the fibre that comes in there is cut. In
--- round 0 nothing is on its way yet, and no side fails.
+-- Side d of position p fails in round t of the stretches, in a ring of n, where the fibre that comes in there is cut.
+-- In round 0 nothing is on its way yet, and no side fails.
 abbrev pub fails_in : ℕ → List Stretch → ℕ → ℕ → Side → Bool
 fails_in n stretches zero p d = false
 fails_in n stretches (suc t) p d = (side_history n p d stretches).is_cut (suc t)
@@ -59,7 +59,8 @@ held_by n stretches t = cells (λ p. nat_le 1 (turns_in p stretches 0 t)) n
 
 -- ---- the ring of signals
 
--- the ring of signals after t rounds of the stretches: a new ring, and then each round with its needs and its held controllers
+-- the ring of signals after t rounds of the stretches: a new ring, and then each round with its needs and its held
+-- controllers
 abbrev pub signals_by : Ring → List ℕ → List Stretch → ℕ → Signals
 signals_by r ids stretches zero = (new_ring ids).ring
 signals_by r ids stretches (suc t) =

@@ -1,4 +1,5 @@
--- What a script owes whose signalling is shown, by the script alone: all that the ring of signals does. No frame occurs in it.
+-- What a script owes whose signalling is shown, by the script alone: all that the ring of signals does. No frame occurs
+-- in it.
 use Rattle.std.specs.Prelude.{ℕ, suc, ◌≡◌, ◌⊎◌, ◌+◌, ◌-◌, ◌==◌, ◌||◌, Bool, not, if◌then◌else◌, List, [], ◌∷◌, ◌++◌, length, get_or}
 use Rattle.std.specs.List.{flat_map}
 use Rattle.sdh_basics.specs.Cells.{cells}
@@ -49,9 +50,9 @@ pub record ShowsSignals (r : Ring) (ids : List ℕ) (stretches : List Stretch) (
   pub changes : shown ≡ all_changes_by r ids stretches ran (round + 1 - ran)
   pub settled : (signals_by r ids stretches (round + 1)).states ≡ settled_states (requests_by r stretches round)
 
--- Each settle step shows what the ring of signals does in its rounds. `earlier` had happened before, `before` settle steps had
--- ended, and these are the changes before each step to come. Step by step the number grows by 1. A settle step of which
--- nothing is shown is where the script ended, unsettled or by a fault.
+-- Each settle step shows what the ring of signals does in its rounds. `earlier` had happened before, `before` settle
+-- steps had ended, and these are the changes before each step to come. Step by step the number grows by 1. A settle
+-- step of which nothing is shown is where the script ended, unsettled or by a fault.
 abbrev pub AreSignalled : Ring → List ℕ → ℕ → List Stretch → ℕ → List (List script.Change) → List Signalled → Status → Type 0
 AreSignalled ring ids limit earlier before [] told end = (told ≡ []) × ((end ≡ status.Ok) ⊎ (end ≡ status.PlantFault))
 AreSignalled ring ids limit earlier before (changes ∷ later) [] end = (end ≡ status.Unsettled (before + 1)) ⊎ (end ≡ status.PlantFault)

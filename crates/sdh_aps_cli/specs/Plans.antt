@@ -140,8 +140,8 @@ closing = record {
 }
 
 -- what a run needs to come to its end: where the arrivals are known each settle step has a quiet window within the
--- limit; or the fibres are honest and the limit is always enough. For frames the arrivals are known, each settle step has
--- a quiet window, and there are all rounds that are asked for
+-- limit; or the fibres are honest and the limit is always enough. For frames the arrivals are known, each settle step
+-- has a quiet window, and there are all rounds that are asked for
 abbrev pub MaySettle : PlanListing → Planned → Fibres → Type 0
 MaySettle (listing.Lines l) plan f = plans.MaySettle signalling_account plan f
 MaySettle (listing.Frames ask) plan f =

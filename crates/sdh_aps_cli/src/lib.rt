@@ -3,8 +3,8 @@
 //! something else than in the round before, what it shows. Or frames are written, as they were sent.
 //!
 //! What is shown of a settle step is `Signalled` in `specs/Signalled.antt`, what is listed of it is in
-//! `specs/Listing.antt`, and what the program reports of a plan is `signalling` in `specs/Headline.antt`. What that owes
-//! over honest fibres, by the script alone, is in `specs/Owed.antt`.
+//! `specs/Listing.antt`, and what the program reports of a plan is `signalling` in `specs/Headline.antt`. What that
+//! owes over honest fibres, by the script alone, is in `specs/Owed.antt`.
 #![tactic(auto)]
 
 ghost use Rattle.sdh_aps_cli.specs.Frames.{FramesAreSent};

@@ -49,8 +49,8 @@ fn put_change(text: &mut Text, ring: &Ring, at: Pos, now: &Shown, listing: Signa
     }
 }
 
-// Appends the line of the node at a position, where the last round was the ring's first, or the node shows something else
-// since.
+// Appends the line of the node at a position, where the last round was the ring's first, or the node shows something
+// else since.
 #[tactic(auto, unfolding(crate::specs::Signalled::is_told))]
 fn put_new(text: &mut Text, ring: &Ring, at: Pos, was: &Shown, listing: SignalListing)
     requires at { at.0 < length ring.now.ids }

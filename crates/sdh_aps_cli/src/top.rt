@@ -29,8 +29,8 @@ use std::alloc::Global;
 /// node shows that showed something else before: its state and far end, the words that it sent, those that it hears,
 /// and what its sides ask for. With `node` and an identifier it writes this of that node alone. Each round is written
 /// before the next one runs, and the last line says how it ended. With `frames`, an identifier, a side, a first round
-/// and a number of rounds it writes the frames that the node sent on that side in that number of rounds from the first one on,
-/// scrambled as on the line, and nothing else. There is a last line then only where the ending isn't `Ok`.
+/// and a number of rounds it writes the frames that the node sent on that side in that number of rounds from the first
+/// one on, scrambled as on the line, and nothing else. There is a last line then only where the ending isn't `Ok`.
 pub fn sdhaps<R: Source, W: Sink, P: Plant>(
     alloc: Global,
     words: &[String],
@@ -73,8 +73,8 @@ pub fn sdhaps<R: Source, W: Sink, P: Plant>(
     ensures later { (R.faults source.old ≤ R.faults source.new) × (W.faults sink.old ≤ W.faults sink.new)
         × (P.faults plant.old ≤ P.faults plant.new) }
 
-    // With the bytes of a plan that has the node and settles, and no fault, everything is done, or there is no memory. For
-    // frames the run has to have all rounds that are asked for.
+    // With the bytes of a plan that has the node and settles, and no fault, everything is done, or there is no memory.
+    // For frames the run has to have all rounds that are asked for.
     ensures complete { (ask : Asked) → asked (words_of words.now) ≡ Some ask
         → MayBeDone signalling ask (told signalling (Some ask) (R.left source.old)) (P.fibres plant.old)
         → ¬ (Rose (R.faults source.old) (R.faults source.new)) → ¬ (Rose (W.faults sink.old) (W.faults sink.new))

@@ -1,4 +1,5 @@
--- How a call of the program ends: each ending, when it is answered, the text that goes with it, and what was read by then.
+-- How a call of the program ends: each ending, when it is answered, the text that goes with it, and what was read by
+-- then.
 use Rattle.std.specs.Prelude.{ℕ, ◌≡◌, ◌⊎◌, ◌+◌, List, [], ◌++◌, length, codes, Option, Some, None}
 use Rattle.std.specs.Io.KnownBytes.{Consumes, IsAtEnd}
 use Rattle.sdh_outside.specs.Writing.{AppendsFewer}
@@ -30,7 +31,8 @@ usage = codes "usage: sdhnode ID, frames, lines"
 
 -- ---- the plan
 
--- the source had a document and the line that ends it, these were read and nothing more, and the document is that of this plan
+-- the source had a document and the line that ends it, these were read and nothing more, and the document is that of
+-- this plan
 pub record HasHead (left now : Option (List ℕ)) (plan : Planned) : Type 0 where
   pub document : List ℕ
   pub first : IsDocument document
@@ -90,8 +92,8 @@ pub record Served (b : Bench) (head : List ℕ) (left now : Option (List ℕ)) (
   pub so : StopsSo (after_all b records) why tail now
   pub text_is : text ≡ answers b records
 
--- A write failed in the answer to a record after some: a front of the answers was written, and nothing more was read than
--- that record.
+-- A write failed in the answer to a record after some: a front of the answers was written, and nothing more was read
+-- than that record.
 pub record CutShort (b : Bench) (head : List ℕ) (left now old_text new_text : Option (List ℕ)) : Type 0 where
   pub records : List Given
   pub are : AreGiven b records
@@ -146,8 +148,8 @@ pub record HasPlan (ask : Ask) (left now : Option (List ℕ)) (how : Ending) (te
   pub plan_is : TellsPlan document plan
   pub of_plan : OfPlan ask plan (document ++ end_of_plan) left now how text
 
--- What is asked, if anything, comes to this ending, with this text, and of the source this was read. No outcome is a write
--- fault or a lack of memory: each may stand in place of one.
+-- What is asked, if anything, comes to this ending, with this text, and of the source this was read. No outcome is a
+-- write fault or a lack of memory: each may stand in place of one.
 abbrev pub IsOutcome : Option Ask → Option (List ℕ) → Option (List ℕ) → Ending → List ℕ → Type 0
 IsOutcome None left now how text = (how ≡ ending.Shared status.Usage) × (text ≡ own_line usage) × (now ≡ left)
 IsOutcome (Some ask) left now how text = HasRefused left now how text ⊎ HasPlan ask left now how text

@@ -87,8 +87,8 @@ pub record Goes (b new : Bench) (left now old_text new_text : Option (List ℕ))
   pub wrote : Appends old_text new_text (answer given b)
   pub bench : new ≡ after given b
 
--- Why no record more is done, where this was read of the next one. The source has ended; the next record is flawed; or a
--- read failed. Where a write failed a record was done, and this says nothing of it.
+-- Why no record more is done, where this was read of the next one. The source has ended; the next record is flawed; or
+-- a read failed. Where a write failed a record was done, and this says nothing of it.
 abbrev pub StopsSo : Bench → Stop → List ℕ → Option (List ℕ) → Type 0
 StopsSo b stop.Done tail now = (tail ≡ []) × IsAtEnd now
 StopsSo b (stop.Bad f) tail now = IsFlawed b f tail × EndsIf f now

@@ -1,5 +1,5 @@
-//! The one call of the program `sdhnode`: from the words and a source of bytes to an ending and a text. The source has a
-//! plan and then records, and one node of the plan's ring runs over them, round by round. What it shows, delivers and
+//! The one call of the program `sdhnode`: from the words and a source of bytes to an ending and a text. The source has
+//! a plan and then records, and one node of the plan's ring runs over them, round by round. What it shows, delivers and
 //! sends in a round is written before more is read.
 //!
 //! Which record a line is says `specs/Records.antt`, what it does with the node `specs/Bench.antt`, which bytes a

@@ -169,8 +169,8 @@ mark_by false None = mark.Idle
 mark_by false (Some None) = mark.Bridged
 mark_by false (Some (Some p)) = mark.BridgedSwitched
 
--- The mark of a word of this node's own on d: Rdi where d fails; else BridgedSwitched where exactly one side is switched
--- and there is a far end; Bridged where exactly one is switched; else Idle.
+-- The mark of a word of this node's own on d: Rdi where d fails; else BridgedSwitched where exactly one side is
+-- switched and there is a far end; Bridged where exactly one is switched; else Idle.
 unfoldable pub mark_on : Scene → Side → m.Mark
 mark_on s d = mark_by (fails s d) (option_map (far s) (switched s))
 
@@ -212,8 +212,8 @@ state_by false false true false w e = state.Idle tt
 state_by false false false true w e = state.Idle tt
 state_by false false false false w e = state.Idle tt
 
--- The state: isolated where both sides are switched; a switch where one is, with its far end; passing through where none
--- is and the words sent on both sides are relayed; else idle.
+-- The state: isolated where both sides are switched; a switch where one is, with its far end; passing through where
+-- none is and the words sent on both sides are relayed; else idle.
 unfoldable pub state_after : Scene → NodeState
 state_after s = state_by (switches s West) (switches s East) (is_relay (chosen s West)) (is_relay (chosen s East)) (far s West) (far s East)
 

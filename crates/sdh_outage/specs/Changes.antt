@@ -26,7 +26,8 @@ abbrev pub last_kind : List Kind → Option Kind
 last_kind [] = None
 last_kind (kind ∷ earlier) = Some kind
 
--- the changes in the rounds of these kinds from round `first` on, the latest round first; of the changes the first comes first
+-- the changes in the rounds of these kinds from round `first` on, the latest round first; of the changes the first
+-- comes first
 abbrev pub kind_changes : ℕ → List Kind → List Change
 kind_changes first [] = []
 kind_changes first (kind ∷ earlier) =

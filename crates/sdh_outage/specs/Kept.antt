@@ -61,8 +61,8 @@ pub record Heard : Type 0 where
   -- the changes since the settle step began
   pub trace : Traced
 
--- by the far customer and whose bytes else came, the number of the settle step's first round, what came before that, and what came in
--- its rounds, the latest first
+-- by the far customer and whose bytes else came, the number of the settle step's first round, what came before that,
+-- and what came in its rounds, the latest first
 abbrev pub heard : Customer → Whose → ℕ → Delivered → List Delivered → Heard
 heard port whose first before past = record {
   round = first + length past;

@@ -1,4 +1,5 @@
--- What a round is to a port, by what the port delivered in it and in the round before. The kinds are this project's own.
+-- What a round is to a port, by what the port delivered in it and in the round before. The kinds are this project's
+-- own.
 use Rattle.std.specs.Prelude.{ℕ, ◌+◌, Bool, false, not, ◌&&◌, ◌==◌, if◌then◌else◌, List, [], ◌∷◌, ◌++◌, length, Option, Some, None}
 use Rattle.std.specs.List.{list_all}
 use Rattle.sdh_circuits.specs.declared.PortId.{PortId}
@@ -49,8 +50,8 @@ settled_kind (Some kind) whose = kind
 abbrev pub Whose : Type 0
 Whose = ℕ → Delivered → Option PortId
 
--- What a round is, by the far customer, whosever bytes else it may have brought, the number of the round, and what came in the round
--- before it and in this one.
+-- What a round is, by the far customer, whosever bytes else it may have brought, the number of the round, and what came
+-- in the round before it and in this one.
 abbrev pub kind_of : Customer → Whose → ℕ → Delivered → Delivered → Kind
 kind_of port whose round before now = settled_kind (own_kind (near port round) before now) (whose round now)
 

@@ -80,8 +80,8 @@ more_line count = codes "more " ++ decimal count ++ codes "\n"
 abbrev pub foreign_line : ℕ → List ℕ
 foreign_line ports = if ports == 0 then [] else codes "foreign ports " ++ decimal ports ++ codes "\n"
 
--- the longest run of a settle step's ports that came back, how many of these had one of more than 400 rounds, and how many ports were
--- never out and are out still
+-- the longest run of a settle step's ports that came back, how many of these had one of more than 400 rounds, and how
+-- many ports were never out and are out still
 abbrev pub longest_text : Summary → List ℕ
 longest_text s = codes "longest " ++ rounds_text s.longest ++ codes " over " ++ decimal s.over
 

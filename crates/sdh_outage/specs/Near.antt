@@ -1,4 +1,5 @@
--- The part of a customer's stream that can be on its way to a port in a round. How far it reaches is this project's own.
+-- The part of a customer's stream that can be on its way to a port in a round. How far it reaches is this project's
+-- own.
 use Rattle.std.specs.Prelude.{ℕ, ◌+◌, ◌-◌, ◌*◌, Bool, ◌&&◌, ◌||◌, List, length, take, drop, bytes_eq}
 use Rattle.std.specs.List.{list_any, range_with_len}
 use Rattle.sdh_payload.specs.Customer.{Customer}

@@ -16,8 +16,8 @@ use sdh_payload::Delivered;
 use std::alloc::{AllocError, Global};
 use std::marker::Model;
 
-/// A listener at a port, which counts what the port delivers in the rounds of a settle step, and keeps its changes. It takes all its
-/// memory when it is made.
+/// A listener at a port, which counts what the port delivers in the rounds of a settle step, and keeps its changes. It
+/// takes all its memory when it is made.
 #[derive(Debug, Drop)]
 pub struct Listener {
     round: u32,
@@ -62,7 +62,8 @@ impl Listener {
     }
 
     /// Returns the kind of a round in which this was delivered, by the far customer's bytes that are near; None where
-    /// it is neither AIS, nor ones, nor any of these bytes. It is kept as what was delivered last; the round is counted by `hear`.
+    /// it is neither AIS, nor ones, nor any of these bytes. It is kept as what was delivered last; the round is counted
+    /// by `hear`.
     pub fn own_kind(
         &mut self,
         far: &mut Window,

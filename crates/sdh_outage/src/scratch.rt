@@ -18,8 +18,8 @@ pub(crate) const CHUNKS: u32 = 78;
 /// The number of near chunks before a round's own.
 pub(crate) const BEHIND: u32 = 71;
 
-/// Room for the bytes of a customer that are near in a round, made anew for each look. Its memory is taken when it is made, and serves
-/// for all customers.
+/// Room for the bytes of a customer that are near in a round, made anew for each look. Its memory is taken when it is
+/// made, and serves for all customers.
 #[derive(Drop)]
 pub struct Scratch {
     chunk: Cells,

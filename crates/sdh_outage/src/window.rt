@@ -37,7 +37,8 @@ const TURN: u32 = 128;
 pub struct Window {
     port: Port,
     next: Reach,
-    // The chunk of the stream in which the last chunk that came may begin, and at which byte. It only says where to look first.
+    // The chunk of the stream in which the last chunk that came may begin, and at which byte. It only says where to
+    // look first.
     from: u32,
     at: usize,
     round: u32,

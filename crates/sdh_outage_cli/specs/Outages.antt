@@ -80,7 +80,8 @@ trace_in k at cs port = option_map (λ c. trace_at k at port.circuit c port.end)
 
 -- ---- a settle step
 
--- the settle step, counted from 1; its last round; the circuits; each port, in their order, a before b; and what a port went through
+-- the settle step, counted from 1; its last round; the circuits; each port, in their order, a before b; and what a port
+-- went through
 pub record Outaged : Type 0 where
   pub number : ℕ
   pub round : ℕ

@@ -11,7 +11,8 @@ use Rattle.sdh_outage.specs.Kinds.{Whose}
 use Rattle.sdh_outage.specs.Kept.{Nearby}
 use Rattle.sdh_outage_cli.specs.declared.streams.StreamPair.{StreamPair}
 
--- the end of a circuit whose port sends what these bytes hold, as far as it can be on its way in the round of this number
+-- the end of a circuit whose port sends what these bytes hold, as far as it can be on its way in the round of this
+-- number
 abbrev pub end_held : Provisioned → ℕ → List ℕ → Option End
 end_held c round bytes =
     if holds bytes (near c.a round) then Some A else
@@ -22,7 +23,8 @@ abbrev pub port_or : Option End → ℕ → Option PortId → Option PortId
 port_or None index other = other
 port_or (Some end) index other = Some (port_id index end)
 
--- the first port of these circuits, which are counted from `index`, that sends what the bytes hold; none of circuit `own`
+-- the first port of these circuits, which are counted from `index`, that sends what the bytes hold; none of circuit
+-- `own`
 unfoldable pub holder_from : ℕ → ℕ → List Provisioned → ℕ → List ℕ → Option PortId
 holder_from own index [] round bytes = None
 holder_from own index (c ∷ cs) round bytes =

@@ -12,8 +12,8 @@ use Rattle.sdh_overhead.specs.Sections.{SectionKept, holding, parities_of, clear
 use Rattle.sdh_overhead.specs.Rows.{clear_row, line_row, HasSent}
 use Rattle.sdh_overhead.proofs.Nine.{SentTo, none-sent, sent-next, all-sent, all-kept, next-row, row-within, drop-more}
 
--- a frame that is put together from the rows of this target, and whose rows below this one were written; the later ones are those
--- of the start
+-- a frame that is put together from the rows of this target, and whose rows below this one were written; the later ones
+-- are those of the start
 pub record BuiltTo (first : SectionKept) (k1 k2 : ℕ) (target start : List ℕ) (row : ℕ) (section : SectionKept) (now : List ℕ) : Type 0 where
   -- with the later rows of the target it is a frame whose rows below this one were written
   pub sent : SentTo first k1 k2 target row section (take ((row - 1) * (270 * n_of first.rate)) now

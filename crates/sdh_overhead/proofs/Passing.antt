@@ -72,7 +72,8 @@ row-written n row k1 k2 p last bytes head first long len same each =
 
 -- ---- the bytes that B2 is over, with rows more
 
--- a part that ends in the first of two lists, that is past the end of a list, that is in the second, and that goes to the end
+-- a part that ends in the first of two lists, that is past the end of a list, that is in the second, and that goes to
+-- the end
 pub range-before : (a b : ℕ) (xs ys : List ℕ) → a ≤ b → b ≤ length xs → slice_range (xs ++ ys) a b ≡ slice_range xs a b
 range-before a b xs ys order room =
     ap (take (b - a)) (drop-append-le a xs ys (omega arith)) ∙ take-append-le (b - a) (drop a xs) ys (omega (arith, length-drop a xs))

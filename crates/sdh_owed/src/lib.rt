@@ -35,8 +35,8 @@ pub fn healthy_scripts()
 
 /// Whatever a script comes to from a new ring on, it has a course. No port meets a stranger, nor bytes of long ago, in
 /// a settle step right before which no controller of a node that passes traffic through is held. In any other settle
-/// step none does from n(n + 1) rounds after the step's longest hold on. Soon after the last changes all ports have what
-/// they are owed.
+/// step none does from n(n + 1) rounds after the step's longest hold on. Soon after the last changes all ports have
+/// what they are owed.
 pub fn courses_are_told()
     ensures { CoursesAreTold }
 {

@@ -52,7 +52,8 @@ parity-of-added old new at long each small_old small_new =
     (λ k. byte-lt (at + k))
     ∙ ap (λ l. bit_xor (bip8 l) (bip8 (cells (λ k. scrambling_byte (at + k)) (length old)))) (as-cells old)
 
--- the parity on the line from that of the clear bytes, which are those of a piece after or before the sequence was added
+-- the parity on the line from that of the clear bytes, which are those of a piece after or before the sequence was
+-- added
 pub parity-of-line : (after : Bool) (old new lanes : List ℕ) (at sum key : ℕ) → length new ≡ length old
     → ((i : ℕ) → i < length old → get_or new i 0 ≡ bit_xor (get_or old i 0) (scrambling_byte (at + i)))
     → ((i : ℕ) → get_or old i 0 < 2 ^ 8) → ((i : ℕ) → get_or new i 0 < 2 ^ 8) → length lanes ≡ 48

@@ -12,7 +12,8 @@ use std::marker::Model;
 /// Room for any one line, in bytes, except those of a delivered chunk and a line of the caller's own.
 pub const LINE_MAX: usize = 96;
 
-/// Room for the lines of a delivered chunk, in bytes: nine rows of 261 bytes, two digits each, with their newline bytes.
+/// Room for the lines of a delivered chunk, in bytes: nine rows of 261 bytes, two digits each, with their newline
+/// bytes.
 pub const CHUNK_MAX: usize = 4707;
 
 /// A list of bytes with reserved room. All its room is reserved when it is made, so appending takes no memory.

@@ -1,8 +1,8 @@
 //! The positions, sides, spans and arcs of a ring, by arithmetic modulo its number of nodes.
 //!
-//! A ring has 2 to 16 nodes at positions from 0. East of position `p` is `p + 1`, and east of the last is 0.
-//! Span `p` joins the east side of position `p` and the west side of the position east of it. The module `terms` has what
-//! plans and promises share with frames, K bytes and fibres.
+//! A ring has 2 to 16 nodes at positions from 0. East of position `p` is `p + 1`, and east of the last is 0. Span `p`
+//! joins the east side of position `p` and the west side of the position east of it. The module `terms` has what plans
+//! and promises share with frames, K bytes and fibres.
 #![tactic(auto)]
 
 ghost use Rattle.std.specs.Prelude.{◌≡◌, ◌≢◌, ℕ, ◌+◌, ◌<◌, ◌≤◌, length, slice_index, IfOk, map, pos, not};

@@ -28,7 +28,8 @@ use Rattle.sdh_scripts.specs.Laws.{KeepsRounds, KnownScripts}
 use Rattle.sdh_scripts.proofs.Frames.{more_of, grows, take_past, appended, none_appended, left_run, frames_sent, knows_after, length-all}
 use Rattle.sdh_scripts.proofs.Frames.{front, run_on, arrive_on, IsSentTo, small_of, sent_to}
 
--- a script that came to this, or was cut short, in a world that is as another but for the conditions, commands and moment
+-- a script that came to this, or was cut short, in a world that is as another but for the conditions, commands and
+-- moment
 abbrev Came : {N T : Type 0} → Walk N T → Ran N T → ℕ → ℕ → World N → List T → Status → World N → Type 0
 Came walk a n before w reports end left = IsRan a reports end left ⊎ ((end ≡ status.PlantFault) × IsCutShort walk a n before w reports left)
 

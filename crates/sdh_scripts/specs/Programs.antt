@@ -24,7 +24,8 @@ deed_listing (Some listing) = Runs listing
 abbrev pub IsRunEnd : {E : Type 0} → Endings E → E → Type 0
 IsRunEnd endings how = ((status : Status) × (how ≡ endings.of status) × HasRun status) ⊎ (endings.shared how ≡ None)
 
--- How a run is closed that came to its end, by what is listed of it (`L`) and by what is reported of its settle steps (`T`).
+-- How a run is closed that came to its end, by what is listed of it (`L`) and by what is reported of its settle steps
+-- (`T`).
 pub record Closing {E : Type 0} (L T : Type 0) (endings : Endings E) : Type 0 where
   -- the ending of a run that reported this and whose script ended so
   pub ends : L → List T → Status → E

@@ -1,4 +1,5 @@
--- Lists: how many elements pass a test, and which. Where exactly one passes it is the only one; where more do there is another.
+-- Lists: how many elements pass a test, and which. Where exactly one passes it is the only one; where more do there is
+-- another.
 use Rattle.std.proofs.Common.{◌≡◌, ◌≢◌, ℕ, ◌+◌, ◌<◌, suc, zero, Bool, true, false, List, [], ◌∷◌, length, get_or, refl, ap, ◌∙◌, arith}
 use Rattle.std.specs.Prelude.{cond, count_by}
 use Rattle.std.proofs.lemmas.List.Sums.{sum_by-cons, get_or-le-sum_by}

@@ -1,5 +1,5 @@
--- The fixpoint law and convergence, for runs and for rings of signals: the promised laws, from the chain and from the fact that
--- the rounds of a ring of signals are a run.
+-- The fixpoint law and convergence, for runs and for rings of signals: the promised laws, from the chain and from the
+-- fact that the rounds of a ring of signals are a run.
 use Rattle.std.proofs.Common.{◌≡◌, ℕ, Bool, true, false, zero, suc, ◌+◌, ◌*◌, ◌<◌, ◌≤◌, List, [], length, get_or, ap, sym, ◌∙◌, arith, ◌⊎◌}
 use Rattle.std.proofs.Common.{inl, inr}
 use Rattle.std.specs.Prelude.{if◌then◌else◌, All}

@@ -1,5 +1,5 @@
--- A looped slot meets its own circuit: a circuit with both ends in a chain that leaves through one end of the chain comes back through
--- the other.
+-- A looped slot meets its own circuit: a circuit with both ends in a chain that leaves through one end of the chain
+-- comes back through the other.
 use Rattle.std.proofs.Common.{◌≡◌, ℕ, ◌+◌, ◌-◌, ◌<◌, ◌≤◌, suc, true, Some, List, ap, sym, ◌∙◌, arith, inl, inr, ◌⊎◌, ap₂}
 use Rattle.std.specs.Prelude.{◌&&◌}
 use Rattle.std.proofs.lemmas.Bool.{cases_lt, and_parts, leb-true}

@@ -102,7 +102,8 @@ module _ (n : ℕ) (r : Resting n) (cs : List Provisioned) (ring : AreOnRing n c
           ∙ ap₂ ◌&&◌ (chain_passes n d q f (port_at c A)) (chain_passes n d q f (port_at c B))
           ∙ seen.both test ∙ and_right (test (going n d p 0)) (test (going n d p (arc_length n c))) missed
 
-      -- a node on the arc, whose span ahead is applied and whose span behind is free, bridges the circuit home or nothing
+      -- a node on the arc, whose span ahead is applied and whose span behind is free, bridges the circuit home or
+      -- nothing
       module _ (x : ℕ) (inside : x < (arc_length n c)) (ahead : hit x ≡ true) (behind : hit (x + (n - 1)) ≡ false) where
         abbrev l : ℕ
         l = last_place hit (x + n)

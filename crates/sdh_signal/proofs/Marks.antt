@@ -1,5 +1,6 @@
--- A side of a node fails exactly where the word that leaves there is the node's own and marked so. A side that fails asks for at least
--- SF, so an own short word leaves there; and a word of another node that is marked so isn't the node's own.
+-- A side of a node fails exactly where the word that leaves there is the node's own and marked so. A side that fails
+-- asks for at least SF, so an own short word leaves there; and a word of another node that is marked so isn't the
+-- node's own.
 use Rattle.std.proofs.Common.{◌≡◌, ◌≢◌, ◌≤◌, ℕ, Bool, true, false, Option, Some, None, refl, ap, sym, subst, ◌∙◌, arith}
 use Rattle.std.specs.Prelude.{option_map}
 use Rattle.std.specs.Option.{option_map_or}

@@ -1,5 +1,5 @@
--- The rules of one node, case by case: which short and long words it hears, which word it sends, which side it switches. The
--- proofs on runs go by these laws, and look at the rules themselves no more.
+-- The rules of one node, case by case: which short and long words it hears, which word it sends, which side it
+-- switches. The proofs on runs go by these laws, and look at the rules themselves no more.
 use Rattle.std.proofs.Common.{◌≡◌, ◌≢◌, ℕ, ◌<◌, ◌≤◌, max, Bool, true, false, Option, Some, None, [], ◌∷◌, refl, ap, sym, ◌∙◌, arith, inl}
 use Rattle.std.proofs.Common.{inr, ◌⊎◌}
 use Rattle.std.specs.Prelude.{◌==◌, ◌||◌, not, ◌&&◌, nat_le, nat_lt, if◌then◌else◌}

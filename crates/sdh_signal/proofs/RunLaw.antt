@@ -1,6 +1,6 @@
--- The fixpoint law for runs, the end of the chain: in round 4n + 7 or later each node is in its settled state. By the highest
--- request of all spans: it is at least 11, and each span with such a request is applied; there is none at all; one span
--- alone has it; or several have it, and then no side is switched.
+-- The fixpoint law for runs, the end of the chain: in round 4n + 7 or later each node is in its settled state. By the
+-- highest request of all spans: it is at least 11, and each span with such a request is applied; there is none at all;
+-- one span alone has it; or several have it, and then no side is switched.
 use Rattle.std.proofs.Common.{◌≡◌, ◌≢◌, ℕ, ◌+◌, ◌-◌, ◌*◌, ◌<◌, ◌≤◌, suc, Bool, true, false, Some, None, List, length, get_or, refl, ap, sym}
 use Rattle.std.proofs.Common.{subst, ◌∙◌, arith, inl, inr}
 use Rattle.std.specs.Prelude.{◌==◌, ◌&&◌, ◌||◌, nat_lt, slice_index, option_map, count_by}

@@ -1,5 +1,5 @@
--- The rounds of a ring of signals whose needs stay the same and in which no node is held are a run: a word is heard in the round in
--- which it comes in, where it is the third in a row, and it comes in one round after it was sent.
+-- The rounds of a ring of signals whose needs stay the same and in which no node is held are a run: a word is heard in
+-- the round in which it comes in, where it is the third in a row, and it comes in one round after it was sent.
 use Rattle.std.proofs.Common.{◌≡◌, ℕ, zero, suc, ◌<◌, Bool, true, false, Option, Some, None, List, [], length, get_or, refl, ap, sym, subst}
 use Rattle.std.proofs.Common.{◌∙◌, arith, inl, inr}
 use Rattle.std.specs.Prelude.{slice_get, slice_index, option_map, if◌then◌else◌, ◌&&◌, All}

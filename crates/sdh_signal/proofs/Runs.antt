@@ -115,7 +115,8 @@ module _ (run : Run) (R : IsRun run) where
   pub weight_le : (t p : ℕ) (d : Side) → 0 < t → p < n → weight_at t p d ≤ request p d
   weight_le t p d g h = let w = weight_local t p d in let s = short_le t p d g h in omega arith
 
-  -- a span that has a request at all has at least that of waiting to restore (5), since no local request is a reverse request
+  -- a span that has a request at all has at least that of waiting to restore (5), since no local request is a reverse
+  -- request
   pub at_least_waiting : (p : ℕ) (d : Side) → p < n → 0 < request p d → 5 ≤ request p d
   at_least_waiting p d h some =
       let q = next p d in

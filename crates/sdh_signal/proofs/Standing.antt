@@ -1,4 +1,5 @@
--- The settled state of a position, case by case, in a ring whose number of spans is named: what the law's end compares with.
+-- The settled state of a position, case by case, in a ring whose number of spans is named: what the law's end compares
+-- with.
 use Rattle.std.proofs.Common.{◌≡◌, ℕ, ◌-◌, Bool, true, false, Option, List, length, ap, ◌∙◌, ap₂}
 use Rattle.std.specs.Prelude.{◌&&◌, ◌||◌, nat_lt, slice_index, option_map, find}
 use Rattle.sdh_ringmap.specs.Places.{opposite, span_at}

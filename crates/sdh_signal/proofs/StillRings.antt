@@ -1,6 +1,6 @@
--- A ring of signals after three rounds, one after the other, that held no node and changed no word. The same sides failed in all
--- three, so that each round brought the same words, and the filters are full of them. One more round with the needs of the third
--- leaves the ring as it is, and so do all later ones.
+-- A ring of signals after three rounds, one after the other, that held no node and changed no word. The same sides
+-- failed in all three, so that each round brought the same words, and the filters are full of them. One more round with
+-- the needs of the third leaves the ring as it is, and so do all later ones.
 use Rattle.std.proofs.Common.{◌≡◌, ℕ, zero, suc, ◌<◌, Bool, true, Option, None, List, [], length, get_or, refl, ap, sym, subst, ◌∙◌, arith}
 use Rattle.std.specs.Prelude.{slice_get, option_map, if◌then◌else◌}
 use Rattle.std.proofs.lemmas.List.Elements.{All-get_or}

@@ -1,5 +1,5 @@
--- What is kept over free spans is kept along a walk in settled states, one span a round. `P t p o`: in round t the origin o
--- of slot m brings at position p what is followed.
+-- What is kept over free spans is kept along a walk in settled states, one span a round. `P t p o`: in round t the
+-- origin o of slot m brings at position p what is followed.
 use Rattle.std.proofs.Common.{◌≡◌, ℕ, zero, suc, ◌+◌, ◌-◌, ◌*◌, ◌<◌, ◌≤◌, Bool, true, false, Some, List, length, sym, subst, arith, inl}
 use Rattle.std.proofs.Common.{inr}
 use Rattle.std.specs.Prelude.{slice_get}
@@ -30,7 +30,8 @@ use Rattle.sdh_signal.proofs.Sights.{arc-long, arc-short}
 use Rattle.sdh_signal.proofs.Routes.{routes}
 use Rattle.sdh_signal.proofs.Free.{connects_free}
 
--- P is kept over each span that is free, from the round at its one end to the next round at its other, between these rounds
+-- P is kept over each span that is free, from the round at its one end to the next round at its other, between these
+-- rounds
 abbrev pub IsKeptOver : (n : ℕ) (applied : ℕ → Bool) (state : ℕ → NodeState) (cs : List Provisioned) (m : ℕ) (P : ℕ → ℕ → Origin → Type 0)
     (first last : ℕ) → Type 0
 IsKeptOver n applied state cs m P first last = (t p : ℕ) (o : Origin) → p < n → IsArrival o → IsFree n applied p o → first ≤ t → t < last

@@ -1,4 +1,5 @@
--- One node's part of a round, by the lists of all positions: first it takes what comes in, then it steps, if it isn't held.
+-- One node's part of a round, by the lists of all positions: first it takes what comes in, then it steps, if it isn't
+-- held.
 use Rattle.std.specs.Prelude.{ℕ, ◌≡◌, true, Bool, if◌then◌else◌, None, List, get_or}
 use Rattle.sdh_ringmap.specs.declared.Side.TheVariants.{West, East}
 use Rattle.sdh_nodestate.specs.declared.Needs.{Needs}
@@ -9,7 +10,8 @@ use Rattle.sdh_nodestate.specs.Filtering.{with_brought}
 use Rattle.sdh_nodestate.specs.Rules.{Scene, scene, state_after, sent_after}
 use Rattle.sdh_signal.specs.Signals.{Filters, no_filters, incoming, heard_through, is_held, unsaid}
 
--- what the last three rounds brought to position p of a ring of n, after one more round, where these words are on their way
+-- what the last three rounds brought to position p of a ring of n, after one more round, where these words are on their
+-- way
 abbrev pub filters_with : List Sent → ℕ → ℕ → Needs → Filters → Filters
 filters_with words n p x f = record {
   west = with_brought (incoming words n p x West) f.west;

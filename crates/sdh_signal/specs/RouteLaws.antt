@@ -26,7 +26,8 @@ EachPortIsRouted = (rs : List ℕ) (slots : ℕ) (cs : List Provisioned) → Are
     → (index : ℕ) (c : Provisioned) → slice_get cs index ≡ Some c → (e : End)
     → IsRouted (length rs) (is_applied rs) (settled rs) cs index c e
 
--- the spans over which a port of a joined circuit is led are those of the route, in order; for port B in the opposite order
+-- the spans over which a port of a joined circuit is led are those of the route, in order; for port B in the opposite
+-- order
 abbrev pub EachWalkFollowsTheRoute : Type 0
 EachWalkFollowsTheRoute = (rs : List ℕ) (slots : ℕ) (cs : List Provisioned) → AreCircuits (length rs) slots cs
     → (index : ℕ) (c : Provisioned) → slice_get cs index ≡ Some c → IsAlongRoute (length rs) (is_applied rs) (settled rs) cs c

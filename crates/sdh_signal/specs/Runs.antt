@@ -14,7 +14,8 @@ use Rattle.sdh_nodestate.specs.Words.{IsMember}
 use Rattle.sdh_restoration.specs.Applied.{span_requests}
 use Rattle.sdh_signal.specs.Signals.{request_on, fails_on}
 
--- the identifiers of the ring, the needs of each position, which stay the same, and what each position hears in each round
+-- the identifiers of the ring, the needs of each position, which stay the same, and what each position hears in each
+-- round
 pub record Run : Type 0 where
   pub ids : List ℕ
   pub need : ℕ → Needs

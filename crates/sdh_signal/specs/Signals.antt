@@ -48,8 +48,8 @@ pub record Filters : Type 0 where
 abbrev pub no_filters : Filters
 no_filters = record { west = nothing_brought; east = nothing_brought }
 
--- The nodes of a ring after some rounds, by position: their identifiers, their states, the words that they sent in the last
--- round (before the first round those that they start with), and what the last three rounds brought them.
+-- The nodes of a ring after some rounds, by position: their identifiers, their states, the words that they sent in the
+-- last round (before the first round those that they start with), and what the last three rounds brought them.
 pub record Signals : Type 0 where
   pub ids : List ℕ
   pub states : List NodeState

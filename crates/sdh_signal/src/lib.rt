@@ -1,7 +1,7 @@
 //! Signalling without frames: a ring whose nodes send each other K words, one on each side in each round. A word comes
 //! in one round later, and is heard where three rounds in a row brought it. `specs/Signals.antt` has the definition of
-//! a round. The module `settling` has the laws of signalling, among them that a still ring is in the settled states, and
-//! the module `routing` those of routes through a ring that is at rest.
+//! a round. The module `settling` has the laws of signalling, among them that a still ring is in the settled states,
+//! and the module `routing` those of routes through a ring that is at rest.
 #![tactic(auto)]
 
 ghost use Rattle.std.specs.Prelude.{◌≡◌, ◌↔◌, ◌+◌, ◌≤◌, ◌<◌, ◌-◌, ◌^◌, min, nat_lt, if◌then◌else◌, [], length, All, IfOk, IsTrue};

@@ -1,4 +1,5 @@
--- From any path ring that is paired with its fibres: all rounds are calm from some round on, and so a quiet window comes.
+-- From any path ring that is paired with its fibres: all rounds are calm from some round on, and so a quiet window
+-- comes.
 use Rattle.std.proofs.Common.{◌≡◌, ◌≢◌, ℕ, zero, suc, ◌+◌, ◌-◌, ◌*◌, ◌%◌, ◌<◌, ◌≤◌, Bool, true, List, [], ◌∷◌, length, get_or, Option, Some}
 use Rattle.std.proofs.Common.{None, refl, ap, sym, ◌∙◌, subst, arith, inl, inr, ◌⊎◌}
 use Rattle.std.specs.Prelude.{slice_get}
@@ -47,7 +48,8 @@ use Rattle.sdh_sncp.proofs.Owed.{offset_small, quiet_delivers}
 
 -- ---- one AU-4 in many rounds
 
--- what went into AU-4 number au that left position p on side d in round k of a run, and what came in the one that came there
+-- what went into AU-4 number au that left position p on side d in round k of a run, and what came in the one that came
+-- there
 abbrev pub went : World → ℕ → Side → ℕ → ℕ → Input
 went w p d au k = sent_at (run k w) p d au
 

@@ -8,7 +8,8 @@ use Rattle.sdh_overhead.specs.declared.Received.{Received}
 use Rattle.sdh_overhead.specs.Sections.{Parities, is_framed, received_in, kept_after, opened}
 use Rattle.sdh_terminal.specs.Receiving.{Reception, frame_reception, reception_of}
 
--- only a framed frame is taken in without scrambling, and any other counts as ones: so a frame may be opened before it is known to be framed
+-- only a framed frame is taken in without scrambling, and any other counts as ones: so a frame may be opened before it
+-- is known to be framed
 opened_by : (rate : Rate) (threshold : ℕ) (last : Option Parities) (bytes : List ℕ) (b : Bool) → is_framed (n_of rate) bytes ≡ b
     → frame_reception rate threshold (scrambled (9 * n_of rate) bytes) (kept_after (n_of rate) bytes) (received_in (n_of rate) last bytes)
     ≡ reception_of (Some (Some bytes)) rate threshold last

@@ -1,4 +1,5 @@
--- The records of the table, and the lines of JSON. The texts are this project's own; those of the table are after RFC 4180.
+-- The records of the table, and the lines of JSON. The texts are this project's own; those of the table are after RFC
+-- 4180.
 use Rattle.std.specs.Prelude.{ℕ, ◌<◌, ◌-◌, ◌*◌, zero, suc, Bool, true, false, ◌==◌, List, [], ◌∷◌, ◌++◌, codes, decimal, length, map}
 use Rattle.std.specs.Prelude.{slice_index, if◌then◌else◌}
 use Rattle.std.specs.List.{flat_map}
@@ -51,7 +52,8 @@ is_json form.Summary = false
 abbrev pub either : Form → List ℕ → List ℕ → List ℕ
 either f json table = if is_json f then json else table
 
--- what stands around a name, and around a step: a field of the table that has quotes stands in quotes, and each of its own is doubled
+-- what stands around a name, and around a step: a field of the table that has quotes stands in quotes, and each of its
+-- own is doubled
 abbrev pub quote : Form → List ℕ
 quote f = either f (codes "\"") []
 

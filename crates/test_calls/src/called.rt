@@ -9,8 +9,8 @@ use std::process::Abort;
 use std::test::Fail;
 use test_texts::words_of;
 
-/// A source and a sink: how many bytes they give and take at a time, which of their calls fail, counted from 1, and the room of
-/// the sink.
+/// A source and a sink: how many bytes they give and take at a time, which of their calls fail, counted from 1, and the
+/// room of the sink.
 #[derive(Clone, Copy, Debug)]
 pub struct Outside<'a> {
     pub piece: usize,

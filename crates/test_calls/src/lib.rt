@@ -1,5 +1,5 @@
-//! The program's call over objects in memory, as tests: each status with its text, what is outside failing in mid-stream, and
-//! whole runs. No other crate stands on this one.
+//! The program's call over objects in memory, as tests: each status with its text, what is outside failing in
+//! mid-stream, and whole runs. No other crate stands on this one.
 #![tactic(auto)]
 
 #[cfg(test)]

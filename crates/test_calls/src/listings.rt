@@ -16,9 +16,9 @@ fn digits_at(text: &[u8], line: usize, byte: usize) -> Option<&[u8]>
     text.get(at..at + 2)
 }
 
-// Port b of the smallest run receives from port a, whose trace is `c1` and spaces. Its VC-4 begins at index 783 and three times the
-// offset, or the value that it slipped to: in this line, at this byte. J1 of number 128 is the trace's first byte, that of number 127 its
-// last. The digits of the first eight bytes stand last.
+// Port b of the smallest run receives from port a, whose trace is `c1` and spaces. Its VC-4 begins at index 783 and
+// three times the offset, or the value that it slipped to: in this line, at this byte. J1 of number 128 is the trace's
+// first byte, that of number 127 its last. The digits of the first eight bytes stand last.
 const PATHS: &[(u16, &str, usize, usize, &str, &str)] = &[
     (0, "\"settle\"", 4, 1, "63", "00414c504841414c"),
     (521, "\"settle\"", 9, 259, "63", "504841414c504841"),

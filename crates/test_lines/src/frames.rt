@@ -63,9 +63,9 @@ fn stands(rate: Rate, au: u16, is_payload: bool, index: u16) -> Option<(u16, u16
     Some((place.row, place.column))
 }
 
-// The rate, the AU-4, whether it is a byte of its payload, its index, and its row and its column. Payload columns are 9N + k, 10N + k
-// and so on; index 783 is the byte after the last H3. H1 is at column k, Y at N + k and 2N + k, H2 at 3N + k, ones at 4N + k and 5N + k,
-// H3 at 6N + k, 7N + k and 8N + k.
+// The rate, the AU-4, whether it is a byte of its payload, its index, and its row and its column. Payload columns are
+// 9N + k, 10N + k and so on; index 783 is the byte after the last H3. H1 is at column k, Y at N + k and 2N + k, H2 at
+// 3N + k, ones at 4N + k and 5N + k, H3 at 6N + k, 7N + k and 8N + k.
 const PLACES: &[(Rate, u16, bool, u16, u16, u16)] = &[
     (Rate::Four, 1, true, 0, 1, 37),
     (Rate::Four, 2, true, 1, 1, 42),

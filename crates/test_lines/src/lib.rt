@@ -1,5 +1,5 @@
-//! What stands below nodes and goes over a line, as tests: frames and their sections, parities, pointers, payloads, watches on
-//! them, retiming and fibres. No other crate stands on this one.
+//! What stands below nodes and goes over a line, as tests: frames and their sections, parities, pointers, payloads,
+//! watches on them, retiming and fibres. No other crate stands on this one.
 #![tactic(auto)]
 
 #[cfg(test)]

@@ -1,5 +1,5 @@
-//! Plans, and the tables that are written of them, as tests: the first check that fails, what is read of a document, the large
-//! plan. No other crate stands on this one.
+//! Plans, and the tables that are written of them, as tests: the first check that fails, what is read of a document,
+//! the large plan. No other crate stands on this one.
 #![tactic(auto)]
 
 #[cfg(test)]

@@ -1,4 +1,5 @@
-//! The lines of some rings, written by hand: the arc of each circuit followed eastwards from its first node, span by span.
+//! The lines of some rings, written by hand: the arc of each circuit followed eastwards from its first node, span by
+//! span.
 
 use sdh_cli::table_text;
 use sdh_plan::read_plan;

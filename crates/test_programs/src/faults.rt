@@ -119,8 +119,8 @@ const PATHS: &[Row] = &[
     (ONCE, PlantCall::Send, 1033, 0, BOTH_WAYS),
 ];
 
-// A ring of three sends 6 frames in each round. After a settle step 128 rounds are watched, and a fault in one of them ends the run
-// without the lines of the step.
+// A ring of three sends 6 frames in each round. After a settle step 128 rounds are watched, and a fault in one of them
+// ends the run without the lines of the step.
 const WATCHES: &[Row] = &[
     (ONCE, PlantCall::Prepare, 1, 8, BROKEN),
     (ONCE, PlantCall::Send, 774, 8, BROKEN),

@@ -20,7 +20,8 @@ struct Sent {
     value: u64,
 }
 
-/// The slips of a port's clock: those that wait, those that were made good, and the number of the last round in which one was.
+/// The slips of a port's clock: those that wait, those that were made good, and the number of the last round in which
+/// one was.
 #[derive(Clone, Copy)]
 struct Slips {
     ups: u64,
@@ -186,8 +187,8 @@ impl Chance {
     }
 }
 
-/// One end of the circuit: what it sends and with which B3, its slips, what it sent last, and how often its pointer value went over
-/// the largest one and under 0.
+/// One end of the circuit: what it sends and with which B3, its slips, what it sent last, and how often its pointer
+/// value went over the largest one and under 0.
 #[derive(Drop)]
 struct Far<'a> {
     port: PortId,
@@ -283,8 +284,8 @@ fn go<P: Plant>(
     Ok(deliver && has_waiting(ring, PORT_A, a.slips) && has_waiting(ring, PORT_B, b.slips))
 }
 
-/// In how many rounds all was as it is to be, how often both pointer values rose and fell, and how often they went over the largest
-/// value and under 0.
+/// In how many rounds all was as it is to be, how often both pointer values rose and fell, and how often they went over
+/// the largest value and under 0.
 #[derive(Clone, Copy, Debug)]
 struct Tally {
     right: u64,
@@ -381,8 +382,8 @@ fn settled(offset: u64, ups: u8, downs: u8, round: u64) -> Sent {
     sent_in(offset, slips, slips, round)
 }
 
-/// The ups and the downs that wait at both ports before a settle step, whether the span between the second and the third node is cut
-/// both ways, and how many rounds before its last one the other end sent what a port delivers.
+/// The ups and the downs that wait at both ports before a settle step, whether the span between the second and the
+/// third node is cut both ways, and how many rounds before its last one the other end sent what a port delivers.
 #[derive(Clone, Copy)]
 struct Row {
     a: (u8, u8),

@@ -1,4 +1,5 @@
-//! What a controller that is held while the ring switches lets through: two circuits whose ports get each other's bytes.
+//! What a controller that is held while the ring switches lets through: two circuits whose ports get each other's
+//! bytes.
 ghost use Rattle.std.specs.Prelude.{◌≡◌, ◌≤◌, ◌<◌, ◌+◌, ℕ, IfOk, OnOk, false, length};
 ghost use Rattle.sdh_plant.specs.Fibres.{HasNoFibres, IsPrepared};
 
@@ -210,8 +211,8 @@ fn met(alloc: Global, steps: &[Step]) -> Result<u32, AllocError> {
     all_taken(&mut ring, &mut plant, steps)
 }
 
-// Span 0 is cut and mended, and span 1 cut while node 2 is held and mended while node 3 is, so that it goes on passing traffic
-// through; then both spans are cut.
+// Span 0 is cut and mended, and span 1 cut while node 2 is held and mended while node 3 is, so that it goes on passing
+// traffic through; then both spans are cut.
 const HELD: [Step; 12] = [
     Step::Cut(0),
     Step::Settle,
@@ -231,13 +232,14 @@ const HELD: [Step; 12] = [
 fn a_node_that_is_held_while_it_passes_through_lets_strangers_meet(
     rt: HostRuntime,
 ) -> Result<(), Fail> {
-    // Node 3 has 88 turns left to miss when both spans are cut. In the first two of these rounds its neighbours hear that, and
-    // from the third one on they switch towards each other and away from their own customers.
+    // Node 3 has 88 turns left to miss when both spans are cut. In the first two of these rounds its neighbours hear
+    // that, and from the third one on they switch towards each other and away from their own customers.
     assert_eq!(rt; met(rt.alloc(), &HELD), Ok(88 - 1));
     Ok(())
 }
 
-// A plan's holds come in a ring that is quiet. Five nodes, circuit v from node 2 to node 3, and u from node 1 to node 2.
+// A plan's holds come in a ring that is quiet. Five nodes, circuit v from node 2 to node 3, and u from node 1 to node
+// 2.
 const V: Asked<'static> = Asked {
     name: "v",
     from: 2,
@@ -340,8 +342,8 @@ fn met_behind(alloc: Global, passing: u32, switched: u32) -> Result<u32, AllocEr
 fn a_passing_and_a_switched_node_held_in_a_quiet_ring_let_strangers_meet(
     rt: HostRuntime,
 ) -> Result<(), Fail> {
-    // While node 3 is held, node 2 puts onto protection what goes to it. That has come round by node 0, under the old word, when
-    // node 2 is switched to the other side and takes it for what comes from node 1.
+    // While node 3 is held, node 2 puts onto protection what goes to it. That has come round by node 0, under the old
+    // word, when node 2 is switched to the other side and takes it for what comes from node 1.
     assert_eq!(rt; met_behind(rt.alloc(), 7, 4), Ok(1));
     // Nothing is held, or one of them alone, or both as long.
     assert_eq!(rt; met_behind(rt.alloc(), 0, 0), Ok(0));
@@ -373,7 +375,8 @@ fn met_in_turn(alloc: Global, passing: u32, switched: u32) -> Result<(u32, u32, 
 
 #[test]
 fn a_hold_spoils_its_own_step_alone(rt: HostRuntime) -> Result<(), Fail> {
-    // A stranger comes in the first step, and in no later one whose own changes hold no node that passes traffic through.
+    // A stranger comes in the first step, and in no later one whose own changes hold no node that passes traffic
+    // through.
     assert_eq!(rt; met_in_turn(rt.alloc(), 0, 4), Ok((1, 0, 0)));
     // In the third it comes again, where that step holds one.
     assert_eq!(rt; met_in_turn(rt.alloc(), 7, 4), Ok((1, 0, 1)));

@@ -1,5 +1,5 @@
-//! What nodes of a ring of four connect. Each state comes from a step that hears words of other nodes, given by their two
-//! bytes; a side on which nothing is heard fails.
+//! What nodes of a ring of four connect. Each state comes from a step that hears words of other nodes, given by their
+//! two bytes; a side on which nothing is heard fails.
 ghost use Rattle.std.specs.Prelude.{◌≡◌, ◌<◌, length, if◌then◌else◌};
 ghost use Rattle.sdh_nodestate.specs.FarEnds.{far_of, IsElsewhere};
 ghost use Rattle.std.specs.Option.{is_none};

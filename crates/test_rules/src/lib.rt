@@ -1,5 +1,6 @@
-//! What a node decides by, and what it reads and writes, as tests: ring maps, K words, requests, steps of nodes, circuits, squelch
-//! tables, connections, rings of signals, the restoration model, reports, sources and sinks. No other crate stands on this one.
+//! What a node decides by, and what it reads and writes, as tests: ring maps, K words, requests, steps of nodes,
+//! circuits, squelch tables, connections, rings of signals, the restoration model, reports, sources and sinks. No other
+//! crate stands on this one.
 #![tactic(auto)]
 
 #[cfg(test)]

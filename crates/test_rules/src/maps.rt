@@ -25,8 +25,8 @@ fn says_what_is_wrong_with_the_nodes(rt: HostRuntime) {
     }
 }
 
-// Two ends, the spans that are applied, and whether the ends are joined: a span cut in one arc, spans cut in both, and a span that
-// isn't in the ring.
+// Two ends, the spans that are applied, and whether the ends are joined: a span cut in one arc, spans cut in both, and
+// a span that isn't in the ring.
 const ENDS: &[(u8, u8, &[Span], bool)] = &[
     (0, 2, &[], true),
     (0, 2, &[Span(1)], true),

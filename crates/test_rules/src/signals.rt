@@ -1,5 +1,5 @@
-//! Rings of four nodes with identifiers 1 to 4, and of two: rounds until still, and the states and words then. Each word is
-//! given by its two bytes.
+//! Rings of four nodes with identifiers 1 to 4, and of two: rounds until still, and the states and words then. Each
+//! word is given by its two bytes.
 ghost use Rattle.std.specs.Prelude.{◌≡◌, ◌≢◌, ◌≤◌, ◌<◌, true, false, length, All, IfSome};
 ghost use Rattle.sdh_nodestate.specs.Conditions.{MayNeed};
 

@@ -73,7 +73,8 @@ fn is(answer: Option<(NodeState, Sent)>, state: Shape, west: (u8, u8), east: (u8
     }
 }
 
-// Whether the east side fails, where nothing else is asked for, what is heard on each side, and the state and the words that are sent.
+// Whether the east side fails, where nothing else is asked for, what is heard on each side, and the state and the words
+// that are sent.
 type Row = (bool, Bytes, Bytes, Shape, (u8, u8), (u8, u8));
 
 const ROWS: &[Row] = &[

@@ -19,8 +19,8 @@ text_a = "ALPHA"
 text_b = "BETA!"
 "#;
 
-/// Returns a plan with the steps of another script, which are quoted texts with commas between them. The plan's own is one
-/// settle step.
+/// Returns a plan with the steps of another script, which are quoted texts with commas between them. The plan's own is
+/// one settle step.
 pub fn scripted(alloc: Global, plan: &str, script: &str) -> Result<String, AllocError> {
     plan.replacen(alloc, "\"settle\"", script, 1)
 }

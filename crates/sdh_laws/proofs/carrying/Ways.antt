@@ -88,7 +88,8 @@ module _ (v : World) (whole : IsWhole v) (calm0 : is_calm (round v).ring.nodes �
       (over d p (slots_of (layout_of v) + m) failing lt (omega arith) (omega arith) f
       (subst (λ i. Brings i b) (sym (sends_protection v whole q m (opposite d) (settled rs q) below low (states q below))) is))
 
--- a port from which what comes over a span was sent justifies nothing in a round between two in settled states, the second of them calm
+-- a port from which what comes over a span was sent justifies nothing in a round between two in settled states, the
+-- second of them calm
 abbrev GoesPlain : Layout → World → List ℕ → ℕ → Type 0
 GoesPlain l v rs m =
     AreSettled (size_of l) rs (round v) → AreSettled (size_of l) rs (round (round v)) → m ≤ slots_of l → (p : ℕ) (o : Origin)

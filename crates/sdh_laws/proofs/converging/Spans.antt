@@ -27,7 +27,8 @@ use Rattle.sdh_world.specs.Held.{node_at}
 use Rattle.sdh_world.specs.Sides.{condition_to}
 use Rattle.sdh_rounds.specs.Runs as any_run
 
--- of AU-4 number i + 1: the state of its generator and what its interpreter keeps after k rounds, and the word that is sent in round k
+-- of AU-4 number i + 1: the state of its generator and what its interpreter keeps after k rounds, and the word that is
+-- sent in round k
 abbrev pub sending_in : World → ℕ → Side → ℕ → ℕ → Option ℕ
 sending_in w p d i k = get_or (sending_on d (node_at (run k w).ring.nodes p)).generators i None
 

@@ -302,7 +302,8 @@ module _ (w : World) (whole : IsWhole w) where
       let last = heard_last (receiving_on d (next_node p)).brought k (sym (word_on_is (next_node p) d) ∙ e) in
       subst P (came_is p d (old_on p d) (receiving_on d (next_node p)) k b last) (heard d))) d
 
-  -- what holds of each own word, of each word that was sent to the node, and of its own words before, holds of its words
+  -- what holds of each own word, of each word that was sent to the node, and of its own words before, holds of its
+  -- words
   pub words_have : (P : K → Type 0) (p : ℕ) → p < length w.ring.nodes
       → ((s : Scene) (d to : Side) (code : Code) (path : Path) → s.ids ≡ w.ring.ids → s.at ≡ p → P (own_word s d code to path))
       → ((d : Side) → P (word_to w p d)) → ((d : Side) → P (word_of d (node_at w.ring.nodes p))) → (d : Side) → P (word_of d (next_node p))

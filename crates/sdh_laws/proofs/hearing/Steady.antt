@@ -1,5 +1,5 @@
--- A ring to which nothing happens but rounds: no node is held from round 100 on, and no slip waits; after three rounds more what its nodes need stays,
--- whatever its sections kept, and then its signalling settles.
+-- A ring to which nothing happens but rounds: no node is held from round 100 on, and no slip waits; after three rounds
+-- more what its nodes need stays, whatever its sections kept, and then its signalling settles.
 use Rattle.sdh_ringmap.specs.declared.Side.{Side}
 use Rattle.sdh_ringmap.specs.declared.Side.TheVariants.{West, East}
 use Rattle.sdh_ringmap.specs.Places.{neighbour, opposite}

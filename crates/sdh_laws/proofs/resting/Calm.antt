@@ -1,4 +1,5 @@
--- Six calm rounds are followed by a calm one: what goes into each AU-4 stays, and so do all interpreters and generators.
+-- Six calm rounds are followed by a calm one: what goes into each AU-4 stays, and so do all interpreters and
+-- generators.
 use Rattle.std.proofs.Common.{◌≡◌, ℕ, zero, suc, ◌+◌, ◌-◌, ◌<◌, ◌≤◌, Bool, true, false, List, length, get_or, Option, Some, None, refl}
 use Rattle.std.proofs.Common.{ap, ap₂, sym, ◌∙◌, subst, arith, inl, inr}
 use Rattle.std.specs.Prelude.{option_map, All}

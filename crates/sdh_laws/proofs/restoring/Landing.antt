@@ -1,5 +1,5 @@
--- How an interpreter comes to Norm at the value of a normal word that it reads again and again, whatever it kept: it is there within three rounds,
--- or a round with the action New leads there within six.
+-- How an interpreter comes to Norm at the value of a normal word that it reads again and again, whatever it kept: it is
+-- there within three rounds, or a round with the action New leads there within six.
 use Rattle.std.proofs.Common.{◌≡◌, ◌≢◌, ℕ, zero, suc, ◌+◌, ◌-◌, ◌<◌, ◌≤◌, true, false, eqb, refl, ap, sym, ◌∙◌, subst, arith, inl, inr, ◌⊎◌}
 use Rattle.std.specs.Prelude.{◌||◌, not, nat_le, if◌then◌else◌}
 use Rattle.std.proofs.lemmas.Bool.{ne_eqb, eq-eqb, le-leb, lt-leb, cases_Bool, cases_eq, cases_lt}

@@ -1,4 +1,5 @@
--- A ring in settled states, in which no slip waits and no controller misses a turn: what its ports deliver, and from which round on.
+-- A ring in settled states, in which no slip waits and no controller misses a turn: what its ports deliver, and from
+-- which round on.
 use Rattle.std.proofs.Common.{◌≡◌, ℕ, suc, ◌+◌, ◌-◌, ◌*◌, ◌<◌, ◌≤◌, Bool, true, false, Some, List, length, refl, ap, sym, ◌∙◌, subst, arith}
 use Rattle.std.proofs.Common.{inl, inr}
 use Rattle.std.specs.Prelude.{slice_get, if◌then◌else◌}

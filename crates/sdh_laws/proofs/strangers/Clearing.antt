@@ -1,5 +1,5 @@
--- A ring comes to be vouched for, whatever it carried: once no controller misses a turn, each AU-4 holds nothing but what its port has put
--- in since as soon as its lag is over.
+-- A ring comes to be vouched for, whatever it carried: once no controller misses a turn, each AU-4 holds nothing but
+-- what its port has put in since as soon as its lag is over.
 use Rattle.std.proofs.Common.{◌≡◌, ℕ, ◌+◌, ◌-◌, ◌*◌, ◌<◌, ◌≤◌, true, false, List, length, Option, Some, None, sym, ◌∙◌, subst, arith, inl}
 use Rattle.std.proofs.Common.{inr}
 use Rattle.std.proofs.lemmas.Bool.{cases_lt}

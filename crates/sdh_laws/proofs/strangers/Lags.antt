@@ -1,5 +1,5 @@
--- How many rounds it takes at most until an AU-4 holds nothing but what its port has put in since: a span of an arc takes n + 1 rounds
--- at most, one where traffic goes straight on, and up to n + 1 where it goes round the ring.
+-- How many rounds it takes at most until an AU-4 holds nothing but what its port has put in since: a span of an arc
+-- takes n + 1 rounds at most, one where traffic goes straight on, and up to n + 1 where it goes round the ring.
 use Rattle.std.proofs.Common.{◌≡◌, ℕ, zero, suc, ◌+◌, ◌-◌, ◌*◌, ◌<◌, ◌≤◌, Option, Some, None, ap, sym, ◌∙◌, arith, mod-lt}
 use Rattle.std.specs.Prelude.{◌≢◌, List, length}
 use Rattle.std.specs.Option.{option_and_then}

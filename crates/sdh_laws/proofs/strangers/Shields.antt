@@ -191,9 +191,10 @@ by_side East East = inl refl
 
 -- ---- a shield
 
--- The node at x is switched on the side opposite to e, and has been for a rounds: the words that go on side e, up to a - 1 steps on
--- from it, have their sources between; so have the far ends of the nodes there that are switched on side e. And for b rounds that was
--- so everywhere: what comes on protection the other way, up to b - 1 steps from it, is of the circuit on its switched span.
+-- The node at x is switched on the side opposite to e, and has been for a rounds: the words that go on side e, up to a
+-- - 1 steps on from it, have their sources between; so have the far ends of the nodes there that are switched on side
+-- e. And for b rounds that was so everywhere: what comes on protection the other way, up to b - 1 steps from it, is of
+-- the circuit on its switched span.
 pub record Shields (clocks : PortId → ℕ → Clock) (a b : ℕ) (w : World) (x : ℕ) (e : Side) : Type 0 where
   pub says : 1 ≤ a → source_in w.ring.ids (word_of e (node_at w.ring.nodes x)) ≡ Some (position_of x)
   pub words : (q : ℕ) (g : Pos) → q < length w.ring.nodes → steps (length w.ring.ids) e x q < a

@@ -1,5 +1,5 @@
--- Rounds in which no controller misses its turn and each node stays in its settled state: what is sent is followed back over the spans that
--- it has come over, to a port or to AIS.
+-- Rounds in which no controller misses its turn and each node stays in its settled state: what is sent is followed back
+-- over the spans that it has come over, to a port or to AIS.
 use Rattle.std.proofs.Common.{◌≡◌, ℕ, suc, ◌+◌, ◌-◌, ◌*◌, ◌<◌, ◌≤◌, false, List, length, Option, Some, ap, sym, ◌∙◌, subst}
 use Rattle.std.proofs.Common.{arith}
 use Rattle.sdh_ringmap.specs.Places.{opposite, neighbour}
@@ -69,7 +69,8 @@ module _ (rs : List ℕ) (n : ℕ) (spans : length rs ≡ n) (some : 0 < n) (cs 
 
 -- ---- steady rounds
 
--- no controller misses its turn in the round that begins with w, and after it each node is in the settled state of these requests
+-- no controller misses its turn in the round that begins with w, and after it each node is in the settled state of
+-- these requests
 pub record IsSteady (clocks : PortId → ℕ → Clock) (rs : List ℕ) (w : World) : Type 0 where
   pub form : HasCircuits (layout_of w)
   pub whole : IsWhole w

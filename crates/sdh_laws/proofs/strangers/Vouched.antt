@@ -286,7 +286,8 @@ adds_own clocks w whole form_is tells i c e get =
 
 -- ---- what a round needs
 
--- each frame of a whole world vouches for what it holds, and what the nodes whose controllers miss the turn take and send is fine
+-- each frame of a whole world vouches for what it holds, and what the nodes whose controllers miss the turn take and
+-- send is fine
 pub record IsReady (clocks : PortId → ℕ → Clock) (w : World) : Type 0 where
   pub whole : IsWhole w
   pub vouches : Vouches (Anyhow clocks w) w

@@ -1,5 +1,5 @@
--- A quiet window leaves a ring vouched for, whatever it carried before and whoever missed turns: each AU-4 that is under way then has come
--- from its port, or from AIS, within the window. And each switched node has a shield.
+-- A quiet window leaves a ring vouched for, whatever it carried before and whoever missed turns: each AU-4 that is
+-- under way then has come from its port, or from AIS, within the window. And each switched node has a shield.
 use Rattle.std.proofs.Common.{◌≡◌, ℕ, zero, suc, ◌+◌, ◌-◌, ◌*◌, ◌<◌, ◌≤◌, true, false, List, length, Option, Some, ap, sym, ◌∙◌, subst, arith}
 use Rattle.std.proofs.Common.{inl, inr}
 use Rattle.std.proofs.lemmas.Bool.{cases_lt, le-leb, both_ways}
