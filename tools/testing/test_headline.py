@@ -52,7 +52,7 @@ class Headline(unittest.TestCase):
     def test_late_steps_are_counted(self):
         steps, late, alone = soon.all_counted()
         self.assertLess(alone, late)
-        for page, plans in ((PAGE, "plans in `tools/testing/rings`"), (ROOT / "README.md", "worked plans")):
+        for page, plans in ((PAGE, "plans in `tools/testing/rings`"), (ROOT / "README.md", "tested plans")):
             words = " ".join(page.read_text().split())
             self.assertIn(f"Of the {steps} settle steps of the {plans} {late} are", words)
 
