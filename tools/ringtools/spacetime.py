@@ -15,7 +15,8 @@ from .ticks import GETS, JUMPS, LOSES, WORDS
 BAR = 15  # width of a node's bar
 TOP, FOOT, LEFT, RIGHT = 44, 14, 92, 22
 LETTERS, ROOM = 0.29, 0.38  # of the way to the next column: where the middle of a word's letters is, and up to where a tick's label goes
-STEP = 4  # so many rounds from one number to the next
+STEP = 4  # rounds from one number to the next
+LIFT = 12  # how much higher the code that a side asks for stands above the sign of a port in the same round
 MILLISECOND = 8  # rounds
 LONG, CLEAR, SQUEEZED = 24, 6, 0.25  # rounds without an event that are many, how many of them stay as they are at each end, and how high the others are
 WAYS = {"west": -1, "east": 1}
@@ -196,7 +197,8 @@ class SpaceTime:
 
     def draw_ask(self, at, side, now, asked):
         code, before = asked
-        way, y = WAYS[side], self.scale.y(now)
+        is_beside_tick = any((tick.at, tick.side, tick.round) == (at, side, now) for tick in self.ticks)
+        way, y = WAYS[side], self.scale.y(now) - (LIFT if is_beside_tick else 0)
         x = self.scale.x(self.scale.column(at, side)) + way * (BAR / 2 + 2)
         group = add(self.root, "g", class_="ask mark")
         add(group, "title", f"round {now}: the {side} side asks for {code.upper()} by itself, in place of {before.upper()}")
@@ -213,7 +215,8 @@ class SpaceTime:
         add(group, "path", d=sign(tick.kind, x + way * 9, y))
         room = ROOM * self.scale.pitch - 16
         label = fitting([tick.label(), f"{len(tick.ports)} ports" if tick.ports[1:] else ""], room)
-        add(group, "text", label, x=x + way * 15, y=y + 3, text_anchor="start" if way > 0 else "end")
+        is_above_line = any((flight.at, flight.side, flight.round) == (tick.at, tick.side, tick.round) for flight in self.flights)
+        add(group, "text", label, x=x + way * 15, y=y - 2 if is_above_line else y + 3, text_anchor="start" if way > 0 else "end")
 
 
 def merged(history, ends):
