@@ -26,7 +26,7 @@ arc_of n c = arc_between n c.from.0 c.to.0
 abbrev pub is_on : ℕ → ℕ → ℕ → Provisioned → Bool
 is_on n span slot c = c.slot.0 == slot && holds_span n (arc_of n c) span
 
--- what the circuit's customer sends at one of its ends
+-- the customer who sends at an end of the circuit
 abbrev pub customer_at : Provisioned → End → Customer
 customer_at c A = c.a
 customer_at c B = c.b

@@ -124,7 +124,7 @@ lines_of x = record {
   east = record { readings = x.east.readings; intake = x.east_in };
 }
 
--- what feeds AU-4 number au that leaves on a side, and what is dropped of slot m from a side
+-- the feeder of AU-4 number au that leaves on a side, and that of what is dropped of slot m from a side
 unfoldable pub leads : Cross → Side → ℕ → Feeder
 leads x side au = feeder_of x (slot_of x au) (leaving x side au)
 

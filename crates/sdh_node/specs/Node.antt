@@ -199,7 +199,7 @@ abbrev pub sending_on : Side → Node → Sending
 sending_on West n = n.west_out
 sending_on East n = n.east_out
 
--- the last moment that was set
+-- the moment at which the node ran its last round; 0 before the first
 abbrev pub moment_of : Node → ℕ
 moment_of n = n.west.local.moment
 

@@ -27,7 +27,7 @@ pub record Receiving : Type 0 where
   pub arrived : Option Arrival
   -- the parities of the frame before
   pub section : section.SectionKept
-  -- the commands, the defect, and when the last defect ended
+  -- the waiting time, the command, the defect, the moment, and when a defect last ended
   pub local : local.LocalKept
   -- the local request in the last round
   pub request : Code
@@ -81,7 +81,7 @@ commanded_by c r = record r { local = after_happening (commanded c) r.local }
 abbrev pub arrived_on : Arrival → Receiving → Receiving
 arrived_on a r = record r { arrived = Some a }
 
--- a change of one side that receives, as it is on the west side and on the east side
+-- a change of what receives on a side: what it does on the west, and what it does on the east
 abbrev pub if_west : Side → (Receiving → Receiving) → Receiving → Receiving
 if_west West f r = f r
 if_west East f r = r
@@ -99,6 +99,6 @@ pub record IsReceiving (r : Receiving) : Type 0 where
   pub silent : r.local.defect ≡ defect.Sf → hears r.brought ≡ None
   pub spellable : IfSome (hears r.brought) IsSpellable
 
--- the part of a side that receives which frames and pointers need: what arrived, the parities and the interpreters
+-- of a side that receives, the part that frames and pointers need: what arrived, the parities and the interpreters
 abbrev pub inlet_of : Receiving → Inlet
 inlet_of r = record { arrived = r.arrived; section = r.section; readings = r.readings }

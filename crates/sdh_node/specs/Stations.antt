@@ -23,7 +23,7 @@ adm = record {
   outlet = λ port n. outlet_of port n.ports;
 }
 
--- a node may run a round at a moment that isn't before the last one
+-- a node may run a round at a moment that isn't before that of its last round, if moment and rounds are within bounds
 pub record MayRun (now : ℕ) (n : Node) : Type 0 where
   pub early : moment_of n ≤ now
   pub within : now ≤ 1000000000

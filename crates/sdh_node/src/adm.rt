@@ -98,8 +98,8 @@ impl Adm {
         self.held = turns;
     }
 
-    /// Adds `count` pending slips to the clock of a port's customer. Each is used up in a round of its own, in which
-    /// the port justifies its pointer.
+    /// Adds `count` pending slips to the clock of the customer who sends at a port. Each is used up in a round of its
+    /// own, in which the port justifies its pointer.
     pub fn slip(&mut self, port: PortId, turn: Turn, count: u8)
         requires there { HasPort self.old.ports port }
         requires few { waiting_of port self.old.ports + count ≤ 16 }

@@ -216,7 +216,7 @@ impl CrossConnect {
         }
     }
 
-    /// Returns the side that receives.
+    /// Returns what receives on a side.
     pub fn receiver(&self, side: Side) -> &Receiver
         ensures side { result.now ≡ on_side self.now side }
         ensures rate { result.now.section.rate ≡ self.now.west.section.rate }

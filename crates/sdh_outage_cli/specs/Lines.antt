@@ -12,7 +12,7 @@ use Rattle.sdh_outage_cli.specs.Outages.{PortOutage, PortTrace, Outaged}
 use Rattle.sdh_outage_cli.specs.declared.listing.OutageListing.{OutageListing}
 use Rattle.sdh_outage_cli.specs.declared.listing.OutageListing.TheVariants as listing
 
--- the port of one of these circuits whose bytes came, where there is one
+-- the text that says whose bytes came: those of the port at this end of the circuit, or nobody's where there is none
 abbrev pub named_of : Option Provisioned → End → List ℕ
 named_of None end = of_nobody
 named_of (Some c) end = of_port c.name end

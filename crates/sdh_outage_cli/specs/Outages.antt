@@ -23,20 +23,22 @@ use Rattle.sdh_outage_cli.specs.Streams.{holder_of}
 abbrev pub delivered_at : HeldRing → PortId → Delivered
 delivered_at r port = (outlet_at r port).delivered
 
--- What the first rounds of a course were to a port, the latest first, where a course gives the world after each number
--- of rounds: by the customer at its far end, whose other bytes came, the number of each round, and what the port
--- delivered in the round before and in it.
+-- What each of the first k rounds of a course was to a port, the latest first. A course gives the world after each
+-- number of rounds. What a round was follows from the customer at the port's far end (`far`), from which port of
+-- another circuit sends the bytes that aren't this customer's (`whose`), from the number of the round, and from what
+-- the port delivered in the round before and in this one.
 abbrev pub kinds_in : Customer → Whose → PortId → ℕ → (ℕ → World) → List Kind
 kinds_in far whose port zero at = []
 kinds_in far whose port (suc k) at =
     kind_of far whose ((at (suc k)).ring.rounds - 1) (delivered_at (at k).ring port) (delivered_at (at (suc k)).ring port)
     ∷ kinds_in far whose port k at
 
--- the outage of a port in these rounds; the first of them has the number of the rounds before it
+-- the outage of a port in these rounds; the number of the first is how many rounds had run before it
 abbrev pub outage_in : Customer → Whose → PortId → ℕ → (ℕ → World) → Outage
 outage_in far whose port k at = outage_of (at 0).ring.rounds (kinds_in far whose port k at)
 
--- whose bytes else the ports of the circuit of this number get: those of the other circuits of the course's ring
+-- whose bytes the ports of the circuit of this number get that aren't their own customers': it is looked for among the
+-- other circuits of the course's ring
 abbrev pub whose_in : (ℕ → World) → ℕ → Whose
 whose_in at index = holder_of (at 0).ring.circuits.circuits index
 
@@ -48,7 +50,7 @@ pub record PortOutage : Type 0 where
   pub end : End
   pub outage : Outage
 
--- the port at an end of the circuit of this number
+-- the outage of the port at an end of the circuit of this number, in the first k rounds of a course
 abbrev pub port_out : ℕ → (ℕ → World) → ℕ → Provisioned → End → PortOutage
 port_out k at index c e = record {
   name = c.name;

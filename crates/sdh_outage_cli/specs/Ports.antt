@@ -26,7 +26,8 @@ use Rattle.sdh_outage_cli.specs.declared.streams.StreamPair.{StreamPair}
 abbrev pub AreAt : ℕ → List ListenerPair → Type 0
 AreAt rounds items = (i : ℕ) (both : ListenerPair) → slice_get items i ≡ Some both → (both.a.round ≡ rounds) × (both.b.round ≡ rounds)
 
--- there are listeners for all circuits, and the customers' bytes that are near in the next round are there
+-- There are listeners for all circuits, and the customers' bytes that are near in the next round are there. Near in a
+-- round are a customer's bytes from 71 chunks before the round's own to 6 after it (`near` in `sdh_outage/specs/Near`).
 pub record AreReady (circuits : List Provisioned) (rounds : ℕ) (items : List ListenerPair) (streams : List StreamPair) : Type 0 where
   pub many : length items ≡ length circuits
   pub rounds_are : AreAt rounds items

@@ -15,7 +15,7 @@ abbrev pub MayList : ℕ → OutageListing → Type 0
 MayList circuits listing.Ports = Unit {0}
 MayList circuits (listing.Trace port) = port.circuit < circuits
 
--- Room enough for the lines of a settle step with `circuits` circuits. The step's own line has 96 bytes and each other
+-- Room enough for the lines of a settle step with `circuits` circuits. The step's own line gets 96 bytes and each other
 -- 250. The others are one for each port and one for all ports; or, for one port, those of 64 changes, of how many more
 -- there were, and of the port.
 abbrev pub lines_room : OutageListing → ℕ → ℕ

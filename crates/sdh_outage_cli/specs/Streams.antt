@@ -11,8 +11,8 @@ use Rattle.sdh_outage.specs.Kinds.{Whose}
 use Rattle.sdh_outage.specs.Kept.{Nearby}
 use Rattle.sdh_outage_cli.specs.declared.streams.StreamPair.{StreamPair}
 
--- the end of a circuit whose port sends what these bytes hold, as far as it can be on its way in the round of this
--- number
+-- the end of a circuit whose port sends a piece of these bytes, among its bytes that are near in the round of this
+-- number; A where both ports do
 abbrev pub end_held : Provisioned → ℕ → List ℕ → Option End
 end_held c round bytes =
     if holds bytes (near c.a round) then Some A else

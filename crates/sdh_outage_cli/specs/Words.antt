@@ -36,7 +36,7 @@ asked (word ∷ name ∷ []) = None
 asked (word ∷ name ∷ letter ∷ []) = asked_with_port word name letter
 asked (word ∷ name ∷ letter ∷ more ∷ others) = None
 
--- what is listed of a plan; the port that is asked for is none where the plan has no circuit of its name
+-- what is listed of a plan; none where a port is asked for by a name that no circuit of the plan has
 abbrev pub listing_of : Ask → Planned → Option OutageListing
 listing_of Run plan = Some listing.Ports
 listing_of (Trace name end) plan =

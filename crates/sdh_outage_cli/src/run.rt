@@ -84,8 +84,8 @@ pub fn run_plan<P: Plant>(
     // A fault has a cause, and without one a script that settles is done.
     ensures failed { IfOk result (λ run. run.status ≡ Status.PlantFault → Rose (P.faults plant.old) (P.faults plant.new)) }
 
-    // Where the plant's count is exact: one call failed with a fault, and none with any other ending, nor without
-    // memory.
+    // Where the plant's count is exact: one call failed if the run ended with a plant fault, and none if it ended
+    // otherwise, or if memory ran out.
     ensures counted { IfOk result (λ run. IsCounted P.exact (run.status ≡ Status.PlantFault) (P.faults plant.old) (P.faults plant.new)) }
     ensures uncounted { OnErr result (P.exact ≡ true → P.faults plant.new ≡ P.faults plant.old) }
     ensures complete { IfOk result

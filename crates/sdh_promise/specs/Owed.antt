@@ -16,8 +16,8 @@ use Rattle.sdh_promise.specs.Changes.{Change, Stretch, rounds_in}
 use Rattle.sdh_promise.specs.Sides.{side_history}
 use Rattle.sdh_promise.specs.Happened.{happened}
 
--- what is compared of a report: its settle step, counted from 1; its last round; and the line of each port in the order
--- of the circuits, a before b
+-- what is compared of a report with what is owed: its settle step, counted from 1; the last round of that step; and the
+-- line of each port in the order of the circuits, a before b
 pub record PortReport : Type 0 where
   pub number : ℕ
   pub round : ℕ

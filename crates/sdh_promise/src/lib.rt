@@ -7,7 +7,7 @@
 ghost use Rattle.sdh_promise.specs.Laws.{ReportsGoOn, ReportsRemember, SidesAreTold, PortsAreTold, OwedByTheOther};
 
 /// The round of each report that is owed comes after the round of the report before it, within the limit of a settle
-/// step, and its number is a multiple of 128.
+/// step, and the number of this round is a multiple of 128.
 pub fn reports_go_on()
     ensures { ReportsGoOn }
 {}

@@ -75,7 +75,7 @@ port_line name end Ais value = ais_line name end
 port_line name end (Chunk chunk) value = chunk_line name end value chunk
 
 -- The bytes of a chunk in row i, counted from 0. A chunk of 2349 bytes has nine rows of 261 bytes, as a VC-4 has (ITU-T
--- G.707). A chunk of another length has at most nine.
+-- G.707). Of a longer chunk only the first nine rows are listed; a shorter one has nine rows or fewer.
 abbrev pub row : List ℕ → ℕ → List ℕ
 row chunk i = take 261 (drop (261 * i) chunk)
 

@@ -11,8 +11,8 @@ ghost use Rattle.sdh_ringmap.specs.declared.Side.{Side};
 use crate::status::Status;
 use crate::text::{CHUNK_MAX, LINE_MAX};
 
-/// Each line, except a line of the caller's own, has at most `LINE_MAX` bytes, whatever numbers its call takes and
-/// whatever name of at most 16 bytes. The lines of a chunk have at most `CHUNK_MAX` bytes together.
+/// Each line, except those of a chunk and a line of the caller's own, has at most `LINE_MAX` bytes, whatever numbers
+/// its call takes and whatever name of at most 16 bytes. The lines of a chunk have at most `CHUNK_MAX` bytes together.
 /// `last_line_is_short` says so of the last line.
 pub fn lines_are_short()
     ensures settle { (number round : ℕ) → number < 2 ^ 32 → round < 2 ^ 64 → length (settle_line number round) ≤ LINE_MAX }

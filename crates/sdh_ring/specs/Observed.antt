@@ -15,7 +15,7 @@ RanOne = observed.RanOne adm
 abbrev pub Hears : ((ℕ → World) → ℕ → Type 0) → World → ℕ → World → Type 0
 Hears = observed.Hears adm
 
--- rounds of one that ran so far, and what is kept of them
+-- the rounds of a settle step that have run so far, and what is kept of them
 abbrev pub RanSome : ((ℕ → World) → ℕ → Type 0) → World → ℕ → World → Type 0
 RanSome = observed.RanSome adm
 

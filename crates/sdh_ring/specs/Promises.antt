@@ -17,14 +17,15 @@ pub record KeepsPromises (w : World) (limit : ℕ) (result : Result (Unit {0}) S
   pub whole : result ≢ Err PlantFault → IsWhole w → IsWhole left
   -- a step of at least 68 rounds uses up all slips
   pub slips : OnOk result ((port : PortId) → w.ring.rounds + 68 ≤ left.ring.rounds → waiting_at left.ring port ≡ 0)
-  -- after a step that ended, where the fibres carry what was sent: each node is in its settled state, and each port has
-  -- delivered what it is owed
+  -- after a step that ended with a quiet window, where the fibres carry what was sent: each node is in its settled
+  -- state, and each port has delivered what it is owed
   pub restored : OnOk result (Restores w left)
   -- the same holds after an unsettled step, if its limit is at least 12n + 102
   pub soon : result ≡ Err Unsettled → RestoresBy w limit left
   -- ring and fibres are at rest once a window ended
   pub rests : OnOk result (LeavesAtRest w left)
-  -- a ring that is vouched for stays so, and no port meets a stranger in any round of the step
+  -- a ring that is vouched for (`IsVouched` in `sdh_laws/specs/Strangers/Vouched`) stays so, and no port meets a
+  -- stranger in any round of the step
   pub strangers : result ≢ Err PlantFault → KeepsStrangersOutInAll w left
   -- where the fibres carry what was sent, a step with a limit that is always enough is never unsettled, whatever
   -- happened before it

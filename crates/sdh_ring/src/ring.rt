@@ -94,7 +94,7 @@ impl Ring {
         requires kept { KeepsRing circuits map }
         ensures ring { IfOk result (λ ring. ring ≡ new_ring settings map circuits) }
 
-        // Over fibres that were just prepared for it, what is carried is what was sent.
+        // Over honest fibres that were just prepared for it, what is carried is what was sent.
         ensures whole { IfOk result (λ ring. (f : Fibres) → IsHonest f → IsWhole (world ring (prepared settings.rate (length map) f))) }
 
         // A new ring is vouched for, whatever the clocks of its ports will be: no frame that is under way has bytes of
@@ -152,8 +152,8 @@ impl Ring {
         self.ring.place_of(port)
     }
 
-    /// Adds `count` pending slips to the clock of a port's customer. For each slip the port sends three bytes fewer or
-    /// more in one round.
+    /// Adds `count` pending slips to the clock of the customer who sends at a port. For each slip the port sends three
+    /// bytes fewer or more in one round.
     pub fn slip(&mut self, port: PortId, turn: Turn, count: u8)
         requires port { port.circuit < length self.old.circuits.circuits }
         requires few { waiting_at self.old port + count ≤ 16 }
@@ -288,8 +288,8 @@ impl Ring {
             (P.faults plant.old) (P.faults plant.new) }
         ensures laws { KeepsPromises (world self.old (P.fibres plant.old)) limit result (world self.new (P.fibres plant.new)) }
 
-        // What the observer keeps after a step that ended is what it should keep of all rounds of that step, and of no
-        // others.
+        // What the observer keeps after a step that ended with a quiet window is what it should keep of all rounds of
+        // that step, and of no others.
         ensures heard { OnOk result
             (Hears (λ at k. O.Heard at k observer.new) (world self.old (P.fibres plant.old)) limit (world self.new (P.fibres plant.new))) }
     {
@@ -325,7 +325,8 @@ impl Ring {
         ensures laws { IfOk result (λ ended. KeepsPromises (world self.old (P.fibres plant.old)) limit ended (world self.new (P.fibres plant.new))) }
 
         // What is recorded is what should be recorded of the rounds of the step, and of no others. These are all its
-        // rounds where it ended, its whole rounds where it didn't, and those up to the stop where it was stopped.
+        // rounds where it ended with a quiet window, its whole rounds where it ended with an error, and those up to the
+        // stop where it was stopped.
         ensures heard { IfOk result (λ ended. OnOk ended (Hears (λ at k. O.Records recorder.old log.old at k recorder.new log.new)
             (world self.old (P.fibres plant.old)) limit (world self.new (P.fibres plant.new)))) }
         ensures begun { IfOk result (λ ended. OnErr ended (HearsSome (λ at k. O.Records recorder.old log.old at k recorder.new log.new)

@@ -12,13 +12,13 @@ pub record RanOne {N : Type 0} (s : Station N) (at : ℕ → World N) (k : ℕ) 
   pub round : IsRound s (at k) (at (suc k))
   pub ring_is : ring ≡ (at (suc k)).ring
 
--- A settle step ended, and what is kept of its rounds is what should be. `heard at k` says that for the first k rounds
--- of the course `at`.
+-- A settle step ended with a quiet window, and what is kept of its rounds is what should be. `heard at k` says that for
+-- the first k rounds of the course `at`.
 pub record Hears {N : Type 0} (s : Station N) (heard : (ℕ → World N) → ℕ → Type 0) (w : World N) (limit : ℕ) (left : World N) : Type 0 where
   pub settles : Settles s w limit left
   pub kept : heard (course_with s settles.rounds w) (length settles.rounds)
 
--- ---- a settle step that didn't end
+-- ---- a settle step that didn't end with a quiet window
 
 -- Rounds of a settle step ran, and none of them came after a quiet window. What is kept of them is what `kept_of` says.
 pub record RanSome {N : Type 0} (s : Station N) (kept_of : (ℕ → World N) → ℕ → Type 0) (w : World N) (limit : ℕ)
@@ -30,8 +30,8 @@ pub record RanSome {N : Type 0} (s : Station N) (kept_of : (ℕ → World N) →
   pub mid_is : mid ≡ run_with s rounds w
   pub kept : kept_of (course_with s rounds w) (length rounds)
 
--- What is kept of a settle step that didn't end. After the rounds of which something is kept no other round ran, or a
--- fault broke the next one off.
+-- What is kept of a settle step that didn't end with a quiet window. After the rounds of which something is kept no
+-- other round ran, or a fault broke the next one off.
 pub record HearsSome {N : Type 0} (s : Station N) (heard : (ℕ → World N) → ℕ → Type 0) (w : World N) (limit : ℕ)
     (left : World N) : Type 0 where
   pub mid : World N

@@ -17,7 +17,8 @@ pub record Station (N : Type 0) : Type 0 where
   pub after : ℕ → N → N
   -- the bytes of the frame that the node sends on a side in its round at a moment
   pub sends : ℕ → Side → N → List ℕ
-  -- the node's last round was calm: nothing that is compared changed
+  -- the node's last round was calm; each kind of node says when, as an add-drop multiplexer does by `with_calm` in
+  -- `sdh_node/specs/Node.antt`
   pub calm : N → Bool
   -- what a port at the node delivered in the node's last round
   pub outlet : PortId → N → Outlet

@@ -26,7 +26,7 @@ pub trait Station: Drop {
     /// The rate of its frames.
     ghost rate: { Self → Rate };
 
-    /// A node may run a round at a moment.
+    /// Says when a node may run a round at a moment.
     ghost MayRun: { ℕ → Self → Type 0 };
 
     /// Returns a new node at a position of a ring with these circuits, or an error where memory runs out. No other call
@@ -65,7 +65,7 @@ pub trait Station: Drop {
         ensures east { east.new.bytes ≡ kind.sends now.0 East self.old }
         ensures rates { (west.new.rate ≡ west.old.rate) × (east.new.rate ≡ east.old.rate) };
 
-    /// Returns whether the node's last round was calm: nothing that is compared changed.
+    /// Returns whether the node's last round was calm. Each kind of node says by its definition when a round is.
     fn calm(&self) -> bool
         ensures { result ≡ kind.calm self.now };
 

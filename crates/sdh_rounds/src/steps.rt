@@ -134,13 +134,14 @@ pub fn settle_recording<R: RunsRounds, P: Plant, L, O: Recorder<R, L>>(
     ensures step { IfOk result (λ ended. IsStep R.Node.kind P.exact (world (R.held ring.old) (P.fibres plant.old)) limit ended
         (world (R.held ring.new) (P.fibres plant.new)) (P.faults plant.old) (P.faults plant.new)) }
 
-    // What is recorded of a step that ended is what is to be recorded of all its rounds, and of no other round.
+    // What is recorded of a step that ended with a quiet window is what is to be recorded of all its rounds, and of no
+    // other round.
     ensures heard { IfOk result (λ ended. OnOk ended
         (Hears R.Node.kind (λ at k. O.Records recorder.old log.old at k recorder.new log.new)
         (world (R.held ring.old) (P.fibres plant.old)) limit (world (R.held ring.new) (P.fibres plant.new)))) }
 
-    // What is recorded of a step that didn't end is what is to be recorded of its whole rounds: of all of them where it
-    // was unsettled.
+    // What is recorded of a step that ended with an error is what is to be recorded of its whole rounds: of all of them
+    // where it was unsettled.
     ensures begun { IfOk result (λ ended. OnErr ended
         (HearsSome R.Node.kind (λ at k. O.Records recorder.old log.old at k recorder.new log.new)
         (world (R.held ring.old) (P.fibres plant.old)) limit (world (R.held ring.new) (P.fibres plant.new)))) }
@@ -183,7 +184,8 @@ pub fn settle<R: RunsRounds, P: Plant, O: Observer<R>>(
     ensures step { IsStep R.Node.kind P.exact (world (R.held ring.old) (P.fibres plant.old)) limit result
         (world (R.held ring.new) (P.fibres plant.new)) (P.faults plant.old) (P.faults plant.new) }
 
-    // What the observer keeps of a step that ended is what it is to keep of all its rounds, and of no other round.
+    // What the observer keeps of a step that ended with a quiet window is what it is to keep of all its rounds, and of
+    // no other round.
     ensures heard { OnOk result (Hears R.Node.kind (λ at k. O.Heard at k observer.new)
         (world (R.held ring.old) (P.fibres plant.old)) limit (world (R.held ring.new) (P.fibres plant.new))) }
 {

@@ -66,7 +66,8 @@ PortsBring = (feed : Fed) → next_form feed.clock ≡ Plain → Brings (input_b
 
 -- ---- one span in one round
 
--- the interpreter of each AU-4 takes the word that the generator of the AU-4 sent, or ones where the fibre is cut
+-- the interpreter of each AU-4 takes the pointer word that the generator of the AU-4 sent, or ones where the fibre is
+-- cut
 abbrev pub SpansTakeWords : Type 0
 SpansTakeWords =
     (at : Rate) (c : Condition) (input : ℕ → Input) (x : Sending) (i : Inlet) (threshold : ℕ) (l : Lines) (d : Side) (k : ℕ)

@@ -33,14 +33,14 @@ line_after threshold i = record { readings = (after_taking threshold i).readings
 
 -- ---- one AU-4
 
--- one interpreter in a round: it takes a word, and what comes in its AU-4 has the action and the value that the
+-- one interpreter in a round: it takes a pointer word, and what comes in its AU-4 has the action and the value that the
 -- interpreter gives
 pub record TakesWord (old new : Reading) (i : Input) (word : ℕ) : Type 0 where
   pub reading : new ≡ after_word old word
   pub action : i.action ≡ action_on old word
   pub value : i.value ≡ new.value
 
--- the word that is read after a fibre: ones where it is cut, whatever was sent
+-- the pointer word that is read after a fibre: ones where it is cut, whatever was sent
 abbrev pub word_behind : Bool → ℕ → ℕ
 word_behind cut word = if cut then 65535 else word
 

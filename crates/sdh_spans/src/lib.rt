@@ -8,7 +8,7 @@
 ghost use Rattle.sdh_spans.specs.Laws.{FramesComeThrough, SidesSendSo, InletsStay, UntoldSidesFindNothing, SidesFindSo, PortsDeliver};
 ghost use Rattle.sdh_spans.specs.Laws.{PortsBring, SpansTakeWords, SpansBring, CutSpansBringAis, GeneratorsRest, SpansAreSteady};
 
-/// A frame still has its K word after every fibre that isn't cut. Nothing comes after a fibre that is cut.
+/// A frame still has its K word after every fibre that isn't cut. Over a fibre that is cut no frame comes.
 pub fn frames_come_through()
     ensures { FramesComeThrough }
 {}
@@ -24,7 +24,7 @@ pub fn inlets_stay()
     ensures { InletsStay }
 {}
 
-/// A side that received nothing has no defect and takes no word, and its AU-4s count as AIS.
+/// A side that received neither a frame nor darkness has no defect and takes no K word, and its AU-4s count as AIS.
 pub fn untold_sides_find_nothing()
     ensures { UntoldSidesFindNothing }
 {}
@@ -45,8 +45,8 @@ pub fn ports_bring()
     ensures { PortsBring }
 {}
 
-/// An interpreter takes the word that the generator at the other end of its span sent one round earlier, or ones where
-/// the fibre is cut.
+/// An interpreter takes the pointer word that the generator at the other end of its span sent one round earlier, or
+/// ones where the fibre is cut.
 pub fn spans_take_words()
     ensures { SpansTakeWords }
 {}
@@ -62,12 +62,14 @@ pub fn cut_spans_bring_ais()
     ensures { CutSpansBringAis }
 {}
 
-/// A generator whose input stays the same stays in one state.
+/// One round after the input of a generator has come to keep one action and one pointer value, whatever its bytes are,
+/// the generator is in one state for good.
 pub fn generators_rest()
     ensures { GeneratorsRest }
 {}
 
-/// Nine rounds after the input of a generator has become constant, what comes after the span is constant too.
+/// Nine rounds after the input of a generator has come to keep one action and one pointer value, the interpreter after
+/// the span changes no more, and what comes keeps one action and one pointer value too.
 pub fn spans_are_steady()
     ensures { SpansAreSteady }
 {}
