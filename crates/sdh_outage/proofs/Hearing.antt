@@ -20,11 +20,6 @@ chosen : (ones ones' part part' jump jump' : Bool) (rest : Option Kind) → ones
 chosen ones ones' part part' jump jump' rest o p j = cc
 
 module _ (others : List ℕ) (last : Delivered) (chunk : List ℕ) where
-  pub are_all_ones : are_ones chunk ≡ true → Some kind.Ones ≡ own_kind others last (Chunk chunk)
-  are_all_ones ones =
-      sym (chosen (are_ones chunk) true (is_part chunk others) (is_part chunk others) (jumps others last chunk) (jumps others last chunk)
-      (kind_of_pieces chunk others) ones refl refl)
-
   pub not_there : are_ones chunk ≡ false → is_part chunk others ≡ false → kind_of_pieces chunk others ≡ own_kind others last (Chunk chunk)
   not_there some none =
       sym (chosen (are_ones chunk) false (is_part chunk others) false (jumps others last chunk) (jumps others last chunk)

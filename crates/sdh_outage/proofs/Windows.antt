@@ -120,11 +120,6 @@ reach_pushed feed next first made bytes chunk n e r =
           ∙ ap (stream_from feed.port (2349 * first)) count ∙ ap (λ c. stream_from c (2349 * first) (2349 * (made + 1 - first))) (sym f.3);
     }
 
--- how many bytes they have
-pub length-reach : (feed : Fed) (first made : ℕ) (bytes : List ℕ) → IsReach feed first made bytes → length bytes ≡ 2349 * (made - first)
-length-reach feed first made bytes r =
-    ap length r.bytes_are ∙ length-stream_from feed.port (2349 * first) (2349 * (made - first))
-
 -- ---- chunks among those that are near
 
 -- as many chunks from the first on

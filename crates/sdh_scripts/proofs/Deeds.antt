@@ -18,11 +18,6 @@ pub listing_writes : {L : Type 0} (o : Option L) (told : List ℕ) → Writes to
 listing_writes None told e = grind arith
 listing_writes (Some listing) told e = grind arith
 
--- where something is listed it is run
-pub listing_runs : {L : Type 0} (o : Option L) (listing : L) → Runs listing ≡ deed_listing o → o ≡ Some listing
-listing_runs None listing e = absurd (grind arith)
-listing_runs (Some other) listing e = grind arith
-
 -- ---- a run
 
 -- A run whose reports come from an account of plans, with its last line. It ends as its script did.

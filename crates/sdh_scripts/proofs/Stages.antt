@@ -99,37 +99,13 @@ module _ {A L T E : Type 0} (program : Program A L T E) (ask : A) where
     pub all_read : (source : Option (List ℕ)) → IsAtEnd source → HasRead (reads_source program (Some ask)) source
     all_read source x = subst (λ o. HasRead (reads_without o) source) (sym none) x
 
-    pub is_read : (B : Type 0) → reads_source program (Some ask) ≡ false → B
-    is_read B e = absurd (true_false (ap reads_without (sym none) ∙ e))
-      where
-        true_false : true ≡ false → ⊥
-        true_false h = grind arith
-
   -- ---- with the words
 
   module _ (a : Option A) (is : a ≡ Some ask) where
-    pub asked_outcome : (source : Option (List ℕ)) (f left : Fibres) (how : E) (text : List ℕ)
-        → IfSome (told program (Some ask) source) (λ bytes. IsOutcome program (Some ask) bytes f how text left)
-        → IfSome (told program a source) (λ bytes. IsOutcome program a bytes f how text left)
-    asked_outcome source f left how text x =
-        subst (λ b. IfSome (told program b source) (λ bytes. IsOutcome program b bytes f how text left)) (sym is) x
-
-    pub other_usage : (how usage : E) → how ≢ usage → (how ≡ usage) ↔ (a ≡ None)
-    other_usage how usage other = (λ e. absurd (other e), λ none. absurd (grind arith))
-
-    pub asked_read : (source : Option (List ℕ)) → HasRead (reads_source program (Some ask)) source → HasRead (reads_source program a) source
-    asked_read source x = subst (λ b. HasRead (reads_source program b) source) (sym is) x
-
     pub asked_done : (b : A) (source : Option (List ℕ)) (f : Fibres) → a ≡ Some b → MayBeDone program b (told program (Some b) source) f
         → MayBeDone program ask (told program (Some ask) source) f
     asked_done b source f other x =
         subst (λ c. MayBeDone program c (told program (Some c) source) f) (some_same b ask (sym other ∙ is)) x
-
-    pub asked_unread : reads_source program a ≡ false → reads_source program (Some ask) ≡ false
-    asked_unread e = ap (reads_source program) (sym is) ∙ e
-
-    pub asked_alone : LeavesPlant program a → LeavesPlant program (Some ask)
-    asked_alone x = subst (LeavesPlant program) is x
 
 -- ---- what is written
 
@@ -141,14 +117,6 @@ module _ {A L T E : Type 0} (program : Program A L T E) (a : Option A) (source :
   written_whole shown appends =
       told_whole program.endings (told program a source) (λ bytes how text. IsOutcome program a bytes f how text left) reads calls how text
       old new cause outcome shown appends
-
-  pub written_front : (end : E) → end ≡ program.endings.of status.WriteFault → AppendsFewer old new text → IfSome (told program a source)
-      (λ bytes. WritesWith program.endings (λ how text. MayEnd program a bytes f reads calls how text left) end old new)
-  written_front end is fewer =
-      subst (λ e. IfSome (told program a source) (λ bytes. WritesWith program.endings
-      (λ how text. MayEnd program a bytes f reads calls how text left) e old new)) (sym is)
-      (told_front program.endings (told program a source) (λ bytes how text. IsOutcome program a bytes f how text left) reads calls how text
-      old new cause outcome fewer)
 
 -- a program with no plan of its own reads what it is asked with
 pub reads_all : {A L T E : Type 0} (program : Program A L T E) → ((ask : A) → program.own_plan ask ≡ None) → (a : Option A)

@@ -36,14 +36,6 @@ room_now each before room few h = one each (64 - before) (omega arith) h
     one c zero some h = absurd (omega arith)
     one c (suc k) some h = omega arith
 
--- there is room for what is written of one more settle step and for a line after it
-pub room_more : (each before : ℕ) → before + 1 ≤ 64 → each + 96 ≤ room_for each before
-room_more each before few = one each (64 - before) (omega arith)
-  where
-    one : (c k : ℕ) → 1 ≤ k → c + 96 ≤ c * k + 96
-    one c zero some = absurd (omega arith)
-    one c (suc k) some = omega arith
-
 -- the room is that for what is written of one more settle step and of those after it
 pub room_next : (each before : ℕ) → before + 1 ≤ 64 → each + room_for each (before + 1) ≡ room_for each before
 room_next each before few =
@@ -143,23 +135,6 @@ module _ {N T : Type 0} (walk : Walk N T) (limit : ℕ) (text_of begun_of : T �
     writes = (inr (inr (b, (refl, refl))), x.1, λ other. absurd (other refl));
     text = x.2;
   }
-
-  -- a step that was refused
-  pub refused_stops : (s : Step) (before : ℕ) (w left : World N) (old : Option (List ℕ)) → Refused s w.fibres left.fibres
-      → StopsAt walk limit begun_of before s w old old status.PlantFault left
-  refused_stops (step.Fibre e) before w left old same = record {
-    runs = λ later. inr (same, (refl, refl));
-    tail = [];
-    writes = ((same, (refl, refl)), refl);
-    text = Appends-nil old;
-  }
-  refused_stops s before w left old same = absurd same
-
-  -- a settle step in which a write failed
-  pub cut_fails : (before : ℕ) (w left : World N) (old new : Option (List ℕ))
-      → WroteBegun walk limit (before + 1) text_of begun_of w why.WriteFault left old new
-      → FailsAt walk limit text_of begun_of before step.Settle w old new left
-  cut_fails before w left old new x = record { settles = refl; text = x.0; was = x.1; front = x.2 }
 
   -- ---- a script
 

@@ -65,13 +65,6 @@ module _ {E : Type 0} (endings : Endings E) where
   pub ran_whole : (how : E) (s : Status) → how ≡ endings.of s → HasRun s → IsShown endings how
   ran_whole how s is h = ap telling_if (shared_is how s is) ∙ run_whole s h
 
-  -- something was to be written: there was memory
-  pub shown_memory : (how : E) → IsShown endings how → how ≢ endings.of status.Memory
-  shown_memory how shown e = nothing_whole (sym (ap telling_if (shared_is how status.Memory e)) ∙ shown)
-    where
-      nothing_whole : Nothing ≡ Whole → ⊥
-      nothing_whole h = grind arith
-
   module _ (how : E) where
     -- it is none of these
     otherwise : (other : Status) → EndsPlan endings how → (HasRun other → ⊥) → (refuses_plan (Some other) → ⊥) → how ≢ endings.of other

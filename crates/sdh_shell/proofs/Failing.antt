@@ -38,19 +38,3 @@ came_of_none exact reads left now same no_read no_long = record {
 
 module _ (source_exact plant_exact : Bool) (reads calls : Counts) (left now : Option (List ℕ))
     (same : HasNotFailed source_exact reads × HasNotFailed plant_exact calls) where
-  -- no call of a plant failed either
-  came_to_none : {ReadFault PlantFault TooLong : Type 0} → (ReadFault → ⊥) → (PlantFault → ⊥) → (TooLong → ⊥)
-      → CameToFaults source_exact plant_exact reads calls left now ReadFault PlantFault TooLong
-  came_to_none no_read no_call no_long = record {
-    source = came_of_none source_exact reads left now same.0 no_read no_long;
-    plant = counted_none plant_exact calls.before calls.after no_call same.1;
-  }
-
-  -- there was no memory, and no call failed
-  pub came_without : {E : Type 0} (endings : Endings E)
-      → CameToEnding endings source_exact plant_exact reads calls left now (endings.of status.Memory)
-  came_without endings = came_to_none (other status.ReadFault (λ e. grind arith)) (other status.PlantFault (λ e. grind arith))
-      (other status.TooLong (λ e. grind arith))
-    where
-      other : (s : Status) → (status.Memory ≡ s → ⊥) → endings.of status.Memory ≡ endings.of s → ⊥
-      other s never e = never (one_status endings status.Memory s e)

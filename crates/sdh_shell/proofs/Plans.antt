@@ -17,16 +17,3 @@ pub one_plan : (bytes : List ℕ) (p q : Planned) → TellsPlan bytes p → Tell
 one_plan bytes p q x y =
     let same : x.1.0 ≡ y.1.0 = some_same x.1.0 y.1.0 (sym x.1.1.1 ∙ y.1.1.1) in
     x.1.3 ∙ ap plan_of same ∙ sym y.1.3
-
--- the bytes of a plan are refused only where a read failed
-pub plan_or_not : (bytes : List ℕ) (plan : Planned) (how : Status) → TellsPlan bytes plan → HasNoPlan bytes how → how ≡ status.ReadFault
-plan_or_not bytes plan status.ReadFault x y = refl
-plan_or_not bytes plan status.TooLong x y = absurd (omega (arith, x.0, y))
-plan_or_not bytes plan status.NotToml x y = absurd (y.1 x.1.0 x.1.1)
-plan_or_not bytes plan (status.BadPlan number place) x y =
-    let same : x.1.0 ≡ y.1.1.0 = some_same x.1.0 y.1.1.0 (sym x.1.1.1 ∙ y.1.1.1.1) in
-    absurd (none_some _ (sym x.1.2 ∙ ap (λ (ms : Members). answer (checks ms)) same ∙ y.1.1.2))
-  where
-    none_some : {A : Type 0} (a : A) → ◌≡◌ {A = Option A} None (Some a) → ⊥
-    none_some a e = grind arith
-plan_or_not bytes plan how x y = absurd y

@@ -17,9 +17,3 @@ no_run bytes status.Ok A x h = absurd x
 no_run bytes (status.Unsettled k) A x h = absurd x
 no_run bytes status.PlantFault A x h = absurd x
 no_run bytes how A x h = absurd h
-
--- an ending that is that of too many bytes was answered with them
-pub was_too_long : {E : Type 0} (endings : Endings E) (why : NoPlan) (how : Status) (end : E) → why ≡ Refused how → end ≡ endings.of how
-    → end ≡ endings.of status.TooLong → ◌≡◌ {A = Result Planned NoPlan} (Err why) (Err (Refused status.TooLong))
-was_too_long endings why how end refused is long =
-    ap (λ (w : NoPlan). Err w) (refused ∙ ap Refused (one_status endings how status.TooLong (sym is ∙ long)))

@@ -30,13 +30,3 @@ module _ {E : Type 0} (endings : Endings E) (o : Option (List ℕ)) (is : List �
       (λ how text. is bytes how text × EndsWithCause endings reads calls how) how old new)
       (λ bytes x. writes_whole _ (λ how text. is bytes how text × EndsWithCause endings reads calls how) how text old new shown
       (x, cause) appends) outcome
-
-  -- a front of it was
-  pub told_front : AppendsFewer old new text → IfSome o (λ bytes. WritesWith endings
-      (λ how text. is bytes how text × EndsWithCause endings reads calls how) (endings.of status.WriteFault) old new)
-  told_front fewer =
-      let front = ap telling_if (endings.shared_of status.WriteFault) in
-      told_all o _ (λ (bytes : List ℕ). WritesWith endings
-      (λ how text. is bytes how text × EndsWithCause endings reads calls how) (endings.of status.WriteFault) old new)
-      (λ bytes x. subst (λ t. WritesAs t (λ how text. is bytes how text × EndsWithCause endings reads calls how)
-      (endings.of status.WriteFault) old new) (sym front) (how, text, (x, cause), fewer)) outcome

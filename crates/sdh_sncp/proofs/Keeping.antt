@@ -42,15 +42,6 @@ length_fixed old now all = sym (length-map now fixed) ∙ ap length all ∙ leng
 
 -- ---- a new ring
 
-pub new_none : (s : Settings) (ids : List ℕ) (cs : List Provisioned) → [] ≡ new_nodes s ids cs 0
-unfolding new_nodes
-new_none s ids cs = sym (cells-zero _)
-
-pub new_more : (s : Settings) (ids : List ℕ) (cs : List Provisioned) (k : ℕ)
-    → new_nodes s ids cs (k + 1) ≡ new_nodes s ids cs k ++ new_node s ids cs (position_of k) ∷ []
-unfolding new_nodes
-new_more s ids cs k = cells-more _ k
-
 pub length-fixed : (s : Settings) (ids : List ℕ) (cs : List Provisioned) (n : ℕ) (ns : List PathNode)
     → map fixed ns ≡ map fixed (new_nodes s ids cs n) → length ns ≡ n
 length-fixed s ids cs n ns same = length_fixed (new_nodes s ids cs n) ns same ∙ length-new s ids cs n

@@ -40,23 +40,6 @@ of_marks n q marks a enough within same are =
 
 -- ---- one span more
 
-pub next_listed : (p : ℕ → Bool) (spans : List Span) (many i : ℕ) → many < length spans → p i ≡ true
-    → numbers_of (take many spans) ≡ places_below p i
-    → numbers_of (take (many + 1) (set spans many (record { 0 = i }))) ≡ places_below p (i + 1)
-next_listed p spans many i inside holds before =
-    let next : suc i ≡ i + 1 = omega arith in
-    ap numbers_of (take_more_set spans many (record { 0 = i }) inside)
-    ∙ map-append (λ (s : Span). s.0) (take many spans) (record { 0 = i } ∷ [])
-    ∙ ap (λ l. l ++ i ∷ []) before
-    ∙ ap (λ b. places_below p i ++ (if b then i ∷ [] else [])) (sym holds)
-    ∙ ap (places_below p) next
-
-pub same_listed : (p : ℕ → Bool) (l : List ℕ) (i : ℕ) → p i ≡ false → l ≡ places_below p i → l ≡ places_below p (i + 1)
-same_listed p l i missing before =
-    let next : suc i ≡ i + 1 = omega arith in
-    before ∙ sym (append-nil (places_below p i)) ∙ ap (λ b. places_below p i ++ (if b then i ∷ [] else [])) (sym missing)
-    ∙ ap (places_below p) next
-
 -- ---- which they are
 
 -- each is one of the places

@@ -188,15 +188,6 @@ all_on_held p turns r m ns all =
 
 -- ---- a new ring
 
-pub new_none : (s : Settings) (ids : List ℕ) (cs : List Provisioned) → [] ≡ new_nodes s ids cs 0
-unfolding new_nodes
-new_none s ids cs = sym (cells-zero _)
-
-pub new_more : (s : Settings) (ids : List ℕ) (cs : List Provisioned) (k : ℕ)
-    → new_nodes s ids cs (k + 1) ≡ new_nodes s ids cs k ++ new_node s ids cs (position_of k) ∷ []
-unfolding new_nodes
-new_more s ids cs k = cells-more _ k
-
 pub length-new : (s : Settings) (ids : List ℕ) (cs : List Provisioned) (k : ℕ) → length (new_nodes s ids cs k) ≡ k
 unfolding new_nodes
 length-new s ids cs k = length-cells _ k
