@@ -126,7 +126,7 @@ big_script x = big_steps (first_cut x) (second_cut x)
 abbrev pub big_nodes : List ℕ
 big_nodes = 0 ∷ 1 ∷ 2 ∷ 3 ∷ 4 ∷ 5 ∷ 6 ∷ 7 ∷ 8 ∷ 9 ∷ 10 ∷ 11 ∷ 12 ∷ 13 ∷ 14 ∷ 15 ∷ []
 
--- what an operator sets: STM-4, three violations degrade a side, and it waits for 10 to restore
+-- what an operator sets: STM-4, three violations degrade a side, and it waits 10 moments to restore
 abbrev pub big_settings : Settings
 big_settings = record { rate = Four; threshold = 3; wait = 10 }
 

@@ -47,8 +47,8 @@ abbrev pub AlwaysSettles : Option Ask → List ℕ → Status → Type 0
 AlwaysSettles ask bytes how = (plan : Planned) (listing : Listing) → Lists ask bytes plan listing
     → enough_for (length plan.nodes) ≤ plan.limit → (k : ℕ) → how ≢ status.Unsettled k
 
--- The words are one of the forms, and all is given for what is asked. The tables need a plan. A run needs a plan, its
--- port, and a script that settles, as it does over honest fibres where the limit is large.
+-- The words are one of the forms, and all is given for what is asked. The tables need a plan. A run needs a plan, in it
+-- the port that `drop` names, and a script that settles, as it does over honest fibres where the limit is large.
 abbrev pub MayBeDone : Option Ask → Option (List ℕ) → Fibres → Type 0
 MayBeDone None left f = ⊥
 MayBeDone (Some ask) left f = headline.may_be_done_by own_plan (headline.may_go_by Does (λ listing. MaySettle)) ask left f

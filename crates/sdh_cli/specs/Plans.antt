@@ -24,8 +24,8 @@ ShowsHealth plan reports end = IsHealthy plan.limit (length plan.nodes) plan.cir
 abbrev pub RunsWell : Planned → Fibres → List Report → Status → Fibres → Type 0
 RunsWell plan f reports end left = HasCourse (world_of plan f) (ring_of plan) plan.limit plan.steps reports end left
 
--- what is promised of one list of reports: they show what is owed and a healthy ring, and what holds in every round
--- that gave them
+-- What is promised of one list of reports. They show what is owed, and, where all steps are settle steps, a healthy
+-- ring. It is also promised what holds in every round that gave them.
 pub record AreAsPromised (plan : Planned) (f : Fibres) (reports : List Report) (end : Status) (left : Fibres) : Type 0 where
   pub owed : OwesAll plan reports end
   pub healthy : AllSettle plan.steps → ShowsHealth plan reports end

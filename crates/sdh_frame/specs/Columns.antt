@@ -1,4 +1,5 @@
--- Columns of a frame, counted from 0 through all rows, in which some bytes are written.
+-- Columns of a frame in which some bytes are written. A column is N bytes wide here, and columns are counted from 0
+-- through all rows.
 use Rattle.std.specs.Prelude.{ℕ, ◌≡◌, ◌/◌, ◌<◌, ◌≤◌, Bool, if◌then◌else◌, List, slice_index}
 
 -- In the columns from `from` on and before `to`, each byte i for which `is_meant` holds has the value `value i`. All

@@ -2,13 +2,13 @@
 ghost use Rattle.sdh_frame.specs.PlaceLaws.{PayloadPlaces, PayloadIndexes, PointerPlaces, PointerIndexes};
 ghost use Rattle.sdh_frame.specs.AuLaws.{WritingKeeps, WritingOneList, WritingAllKeeps, WritingAllCovers};
 
-/// Each payload index of an AU-4 has a place with that field, and each such place has one index.
+/// Each payload index of an AU-4 has a place whose field is that AU-4's payload, and each such place has one index.
 pub fn payload_places_have_one_index()
     ensures places { PayloadPlaces }
     ensures indexes { PayloadIndexes }
 {}
 
-/// Each pointer byte of an AU-4 has a place with that field, and each such place has one index.
+/// Each pointer byte of an AU-4 has a place whose field is that byte, and each such place has one index.
 pub fn pointer_places_have_one_index()
     ensures places { PointerPlaces }
     ensures indexes { PointerIndexes }

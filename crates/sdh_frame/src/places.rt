@@ -99,7 +99,8 @@ pub(crate) fn pointer_index(rate: Rate, au: u16, index: u16) -> usize
     index_in(rate, place)
 }
 
-// Returns the index of the first byte of a column, where columns are counted from 0 through all rows.
+// Returns the index of the first byte of a column. Unlike those of a `Place`, columns are N bytes wide here, and are
+// counted from 0 through all rows.
 #[inline(always)]
 pub(crate) fn byte_of<const N: usize>(column: usize) -> usize
     requires rate { (N ≡ 4) ⊎ (N ≡ 16) }

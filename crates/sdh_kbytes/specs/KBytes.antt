@@ -42,7 +42,7 @@ first_byte k = 16 * code_number k.code + k.to
 abbrev pub second_byte : K → ℕ
 second_byte k = 16 * k.from + (8 * path_number k.path + mark_number k.mark)
 
--- a word, whose identifiers have four bits each, belongs to two bytes
+-- two bytes spell a word, whose identifiers have four bits each
 pub record Spells (k : K) (k1 k2 : ℕ) : Type 0 where
   pub first : k1 ≡ first_byte k
   pub second : k2 ≡ second_byte k

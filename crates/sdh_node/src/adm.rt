@@ -193,7 +193,7 @@ impl Adm {
         self.cross.far_id()
     }
 
-    /// Returns the word that is heard on a side since the last round, if one is.
+    /// Returns the word heard on a side in the last round, if one was.
     pub fn heard(&self, side: Side) -> Option<K>
         ensures word { result ≡ hears (receiving_on side self.now).brought }
         ensures spellable { IfSome result IsSpellable }

@@ -20,7 +20,7 @@ use Rattle.sdh_promise.specs.Changes.{Change, Hold, Stretch, rounds_in}
 use Rattle.sdh_promise.specs.Owed.{Ring}
 
 -- An AU-4 holds ones, which are nobody's bytes, or what this port put into its AU-4 in some round from `first` on,
--- before round t. These are the ports' clocks before each round.
+-- before round t. `clocks` gives the clock of each port before each round.
 pub data HoldsSince (circuits : List Provisioned) (clocks : PortId → ℕ → Clock) (first t : ℕ) (port : PortId) (a : Au) : Type 0 where
   nobodys : HasBytesOf ones a → HoldsSince circuits clocks first t port a
   customers : (c : Provisioned) (r : ℕ) → slice_get circuits port.circuit ≡ Some c → first ≤ r → r < t

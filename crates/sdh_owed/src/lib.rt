@@ -25,7 +25,7 @@ pub fn scripts_settle()
     sdh_laws::converging::stretches_converge();
 }
 
-/// A script of settle steps alone shows a healthy ring.
+/// Over honest fibres a script of settle steps alone shows a healthy ring.
 pub fn healthy_scripts()
     ensures { HealthyScripts }
 {
@@ -33,10 +33,10 @@ pub fn healthy_scripts()
     sdh_laws::converging::healthy_steps_deliver();
 }
 
-/// Whatever a script comes to from a new ring on, it has a course. No port meets a stranger, nor bytes of long ago, in
-/// a settle step right before which no controller of a node that passes traffic through is held. In any other settle
-/// step none does from n(n + 1) rounds after the step's longest hold on. Soon after the last changes all ports have
-/// what they are owed.
+/// Over honest fibres a script has a course, whatever it comes to from a new ring on. No port meets a stranger, nor
+/// bytes of long ago, in a settle step right before which no controller of a node that passes traffic through is held.
+/// In any other settle step none does from n(n + 1) rounds after the step's longest hold on. Soon after the last
+/// changes all ports have what they are owed.
 pub fn courses_are_told()
     ensures { CoursesAreTold }
 {
@@ -47,12 +47,13 @@ pub fn courses_are_told()
     sdh_laws::restoring::unslipped_rings_are_restored_soon();
 }
 
-/// Over a plant that reports its frames, a script's reports say how many were sent.
+/// Over a plant that reports its frames, the reports of a script that came to its end say how many were sent.
 pub fn courses_count_frames()
     ensures { CoursesCountFrames }
 {}
 
-/// In a ring of three each port shows what it is owed after slips, after a cut span, and after a hold.
+/// In a ring of three over honest fibres each port shows what it is owed after slips, after a cut span, and after a
+/// hold.
 pub fn three_are_owed_soon()
     ensures { ThreeAreOwedSoon }
 {
@@ -62,8 +63,8 @@ pub fn three_are_owed_soon()
     sdh_laws::restoring::unslipped_rings_are_restored_soon();
 }
 
-/// In a ring of three no port meets a stranger, nor bytes of long ago, while a span is cut or mended and the controller
-/// of a node is held.
+/// In a ring of three over honest fibres no port meets a stranger, nor bytes of long ago, while a span is cut or mended
+/// and the controller of a node is held.
 pub fn three_meet_no_strangers()
     ensures { ThreeMeetNoStrangers }
 {

@@ -31,7 +31,7 @@ pub record Fibres : Type 0 where
 abbrev pub HasNoFibres : Fibres → Type 0
 HasNoFibres f = f.nodes ≡ 0
 
--- there are fibres for a ring of n positions and frames of this rate, each in a condition of the rate
+-- there are fibres for a ring of n positions and frames of this rate, each in a condition that it may have at the rate
 pub record IsPrepared (at : Rate) (n : ℕ) (f : Fibres) : Type 0 where
   pub nodes : f.nodes ≡ n
   pub rate : f.rate ≡ at

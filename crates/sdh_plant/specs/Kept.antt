@@ -32,8 +32,8 @@ carried xs = map carried_by xs
 abbrev pub held : ℕ → Rate → List Fibre → HeldFibres
 held n rate xs = record { nodes = n; rate = rate; conditions = conditions xs; carried = carried xs }
 
--- The fibre's frame has the plant's rate, and is one of zeros where the fibre carries none. Its condition is one of
--- that rate.
+-- The fibre's frame has the plant's rate, and is one of zeros where the fibre carries none. Its condition is one that a
+-- fibre may have at that rate.
 pub record IsFibre (rate : Rate) (x : Fibre) : Type 0 where
   pub frame : x.frame.rate ≡ rate
   pub blank : x.carries ≡ false → x.frame.bytes ≡ replicate (size_of rate) 0
@@ -63,7 +63,8 @@ abbrev pub IsToldAt : Rate → Told → Type 0
 IsToldAt rate told.Dark = Unit {0}
 IsToldAt rate (told.Frame frame) = frame.rate ≡ rate
 
--- The arrivals; the first `next` of them were given. Once there are fibres, the others are at their rate.
+-- The arrivals; the first `next` of them were given, or all were dropped when fibres were made, as one is a frame of
+-- another rate. Once there are fibres, each after the first `next` is nothing, or a frame of their rate.
 pub record AreTold (fibres : HeldFibres) (next : ℕ) (arrivals : List Told) : Type 0 where
   pub within : next ≤ length arrivals
   pub rates : 0 < fibres.nodes → list_all (is_at fibres.rate) (map arrival_of (drop next arrivals)) ≡ true

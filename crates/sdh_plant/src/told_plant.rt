@@ -26,12 +26,12 @@ pub enum Told {
 }
 
 /// Fibres in memory that give the arrivals of a list in their order, whatever was sent, and nothing after the last one.
-/// No call fails.
+/// No call fails, though `prepare` can run out of memory.
 #[derive(Debug, Drop)]
 pub struct ToldPlant {
     plant: FibrePlant,
     arrivals: Vec<Told>,
-    // The number of arrivals that were given.
+    // The number of arrivals that were given, or of all, where `prepare` dropped them for a frame of another rate.
     next: usize,
 }
 

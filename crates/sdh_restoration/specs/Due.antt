@@ -13,8 +13,8 @@ use Rattle.sdh_restoration.specs.Routes.{hops}
 abbrev pub nothing_applied : ℕ → Bool
 nothing_applied s = false
 
--- what a customer whose clock doesn't slip sends in the next round, after all that happened at its port: 2349 bytes
--- from the one with which the round begins, and the pointer value before the round
+-- what a customer sends in the next round if its port doesn't justify in it, after all that happened at the port: 2349
+-- bytes from the one with which the round begins, and the pointer value before the round
 abbrev pub sends_by : Customer → List Happening → Outlet
 sends_by customer history = delivering (magnitude (value_now customer.offset history)) (stream_from customer (first_byte_now history) 2349)
 

@@ -39,8 +39,8 @@ unfoldable pub last_end : ℕ → SideHistory → ℕ → Option ℕ
 last_end threshold h zero = None
 last_end threshold h (suc t) = if ends_at threshold h (suc t) then Some (suc t) else last_end threshold h t
 
--- the local request of the side in round t: the highest code that applies, where a side waits to restore as long as
--- fewer than `wait` moments have passed since the round in which its last defect ended
+-- The local request of the side in round t: the highest code that applies. Without a defect a side waits to restore as
+-- long as fewer than `wait` moments have passed since the round in which its last defect ended.
 unfoldable pub local_request : ℕ → ℕ → SideHistory → ℕ → Code
 local_request threshold wait h t =
     highest_code (h.command t) (defect_at threshold h t)

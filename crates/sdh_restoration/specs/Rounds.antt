@@ -8,7 +8,7 @@ use Rattle.sdh_restoration.specs.History.{SideHistory}
 abbrev pub still_round : SideRound
 still_round = record { is_cut = false; degraded = 0; command = command.Clear; moment = record { 0 = 0 } }
 
--- the history that a list of rounds gives; after the end of the list all rounds are still ones
+-- the history that a list of rounds gives; after the end of the list each round is `still_round`
 abbrev pub history_of : List SideRound → SideHistory
 history_of rounds = record {
   is_cut = λ t. (slice_index_or rounds t still_round).is_cut;

@@ -26,8 +26,8 @@ BreaksOff {L = L} {T = T} program Cut ask plan f old new left =
     (listing : L) × program.Does ask plan (Runs listing) × (reports : List T) × Cut plan f reports left
     × AppendsFewer old new (program.text_of listing reports)
 
--- Done with this plan, what is asked came to an ending and a text that were to be written. The plant's count of faults
--- is exact where `exact` says so.
+-- What is asked was done with this plan, and came to an ending and a text that were to be written. The plant's count of
+-- faults is exact where `exact` says so.
 pub record Finishes {A L T E : Type 0} (program : Program A L T E) (ask : A) (plan : Planned) (f left : Fibres) (exact : Bool)
     (calls : Counts) (end : E) (old new : Option (List ℕ)) : Type 0 where
   pub how : E
@@ -38,7 +38,7 @@ pub record Finishes {A L T E : Type 0} (program : Program A L T E) (ask : A) (pl
   pub counted : IsCounted exact (how ≡ program.endings.of status.PlantFault) calls.before calls.after
   pub complete : MayGo program ask plan f → (HaveFailed calls → ⊥) → how ≡ program.endings.of status.Ok
 
--- a write failed while the plan was run, and no call of the plant failed
+-- a write failed while the plan was run, and, where the plant's count of faults is exact, none of its calls failed
 pub record IsBroken {A L T E : Type 0} (program : Program A L T E) (Cut : CutRun T) (ask : A) (plan : Planned) (f left : Fibres)
     (exact : Bool) (calls : Counts) (end : E) (old new : Option (List ℕ)) : Type 0 where
   pub end_is : end ≡ program.endings.of status.WriteFault

@@ -42,7 +42,7 @@ OfPlan {L = L} {E = E} program ask plan f how text left =
 
 -- ---- with the bytes of a source
 
--- there is no plan in the bytes, the last line is all of the text, and the fibres are left alone
+-- no plan came of the bytes, the last line is all of the text, and the fibres are left alone
 pub record HasRefused {A L T E : Type 0} (program : Program A L T E) (bytes : List ℕ) (f : Fibres) (how : E) (text : List ℕ)
     (left : Fibres) : Type 0 where
   pub status : Status

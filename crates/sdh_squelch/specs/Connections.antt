@@ -36,8 +36,9 @@ module _ (n : ℕ) (p : Pos) (on : Side → Option OnSpan) where
   unfoldable pub may_carry : Side → Option Pos → Bool
   may_carry d far = option_map_or (is_carried n (on d)) (chain_on d far) false
 
-  -- the origin of what the node takes from side d in the working slot: what arrives there, or, where d is switched,
-  -- what arrives in the protection slot on the other side
+  -- The origin of what the node takes from side d in the working slot: what arrives there. Where d is switched, it is
+  -- what arrives in the protection slot on the other side if the circuit on d may be carried round, and else AIS. In an
+  -- isolated node it is AIS.
   unfoldable pub stands_for : NodeState → Side → Origin
   stands_for (state.Isolated x) d = Ais
   stands_for (state.SwitchWest far) West = if may_carry West far then Protection East else Ais

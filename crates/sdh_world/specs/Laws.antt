@@ -45,8 +45,8 @@ pub record CallsChange : Type 0 where
   pub apply : (r : HeldRing) (f : Fibres) (p : ℕ) (d : Side) (c : Condition)
       → world r (after_apply f p d c) ≡ changed (Fibre p d c) (world r f)
 
--- A change that may happen. The condition that it gives a fibre is one of the rate; a controller that it holds misses
--- at most 100 rounds; and at most 16 slips wait at a port after it.
+-- A change that may happen. The condition that it gives a fibre is one that a fibre may have at the rate; a controller
+-- that it holds misses at most 100 rounds; and at most 16 slips wait at a port after it.
 abbrev pub IsChangeOf : World → Change → Type 0
 IsChangeOf w (Fibre p d c) = IsConditionAt w.ring.settings.rate c
 IsChangeOf w (Order p d c) = Unit {0}
@@ -70,7 +70,7 @@ ChangesKeepPrepared =
     (n : ℕ) (w : World) (c : Change) → IsChangeOf w c → IsPrepared w.ring.settings.rate n w.fibres
     → IsPrepared w.ring.settings.rate n (changed c w).fibres
 
--- in a new ring over new fibres each side has the first holding: a clear fibre, no command, and moment 0
+-- in a new ring over new fibres a clear fibre, no command and moment 0 are what holds on each side
 abbrev pub NewHolds : Type 0
 NewHolds =
     (s : Settings) (ids : List ℕ) (circuits : Provisioning) (rate : Rate) (f : Fibres) (p : ℕ) (d : Side) → p < length ids

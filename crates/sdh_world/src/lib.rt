@@ -17,7 +17,7 @@ pub fn calls_change()
     ensures { CallsChange }
 {}
 
-/// Changes leave prepared fibres prepared.
+/// Changes that may happen leave prepared fibres prepared.
 pub fn changes_keep_prepared()
     ensures { ChangesKeepPrepared }
 {}
@@ -28,7 +28,7 @@ pub fn new_holds()
     ensures { NewHolds }
 {}
 
-/// What holds on a side in a round follows from the history of its stretches.
+/// What holds on a side when a round of some stretches begins follows from the history of these stretches.
 #[tactic(auto, using(crate::proofs::Histories::histories_hold))]
 pub fn histories_hold()
     ensures { HistoriesHold }
