@@ -35,6 +35,3 @@ came_of_none exact reads left now same no_read no_long = record {
   counted = counted_none exact reads.before reads.after no_read same;
   too_long = λ long. absurd (no_long long);
 }
-
-module _ (source_exact plant_exact : Bool) (reads calls : Counts) (left now : Option (List ℕ))
-    (same : HasNotFailed source_exact reads × HasNotFailed plant_exact calls) where
