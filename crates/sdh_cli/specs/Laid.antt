@@ -24,7 +24,7 @@ pub record IsLaid (slot : ℕ) (l : Laying) (c : Provisioned) : Type 0 where
   pub by_number : c.slot.0 ≡ slot → number < l.number
   pub apart : c.slot.0 ≡ slot → (span : ℕ) → holds_span 16 (arc_of 16 c) span ≡ true → l.left ≤ eastwards 16 l.at span
 
--- the wish for a circuit over `spans` spans from position `at` on, with these texts and offsets
+-- a circuit as it is asked for (a `Wish`), over `spans` spans from position `at` on, with these texts and offsets
 abbrev pub wish_with : ℕ → ℕ → ℕ → List ℕ → List ℕ → List ℕ → ℕ → ℕ → Wish
 wish_with slot at spans name text_a text_b offset_a offset_b = record {
   name = name;
@@ -39,7 +39,7 @@ wish_with slot at spans name text_a text_b offset_a offset_b = record {
   trace_b = name;
 }
 
--- the wish for a circuit that is laid with the offsets that are drawn
+-- a circuit that is laid, as it is asked for, with the offsets that are drawn from a state on
 abbrev pub wish_laid : ℕ → ℕ → ℕ → ℕ → ℕ → Wish
 wish_laid slot number at spans x =
     wish_with slot at spans (name_in slot number) (name_in slot number ++ codes "a") (name_in slot number ++ codes "b") (drawn x % 783)

@@ -34,6 +34,6 @@ side_lines slots nodes circuits p d = flat_map (slot_line nodes circuits p d) (r
 abbrev pub node_lines : ℕ → List ℕ → List Provisioned → ℕ → List ℕ
 node_lines slots nodes circuits p = side_lines slots nodes circuits p West ++ side_lines slots nodes circuits p East
 
--- the lines of all nodes by position. Half of the AU-4s of a span are working slots
+-- the lines of all nodes by position; half of the AU-4s of a fibre are working slots
 unfoldable pub tables_of : Planned → List ℕ
 tables_of plan = flat_map (node_lines (n_of plan.settings.rate / 2) plan.nodes plan.circuits) (range_with_len 0 (length plan.nodes))

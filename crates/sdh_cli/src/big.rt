@@ -122,7 +122,7 @@ fn add_stretch(
     add_free(circuits, ring, &wish)
 }
 
-// Fills a slot with circuits that are laid end to end. The circuits that are there are in lower slots.
+// Fills a slot with circuits that are laid end to end. All circuits added before are in lower slots.
 fn fill_slot(
     alloc: Global,
     circuits: &mut CircuitMap,

@@ -54,8 +54,8 @@ pub fn sdhring<R: Source, W: Sink, P: Plant>(
         → IfSome (told (asked (words_of words.now)) (R.left source.old))
         (λ bytes. AlwaysSettles (asked (words_of words.now)) bytes result) }
 
-    // Where arrivals are known, `Unsettled` comes at exactly the settle step in which no quiet window comes within the
-    // limit.
+    // Where arrivals are known and a plan has run without a plant fault, `Unsettled` comes at exactly the settle step
+    // in which no quiet window comes within the limit.
     ensures unsettled { IfSome (told (asked (words_of words.now)) (R.left source.old))
         (λ bytes. EndsAsItRuns (asked (words_of words.now)) bytes (P.fibres plant.old) result) }
 

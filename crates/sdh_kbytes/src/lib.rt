@@ -25,9 +25,9 @@ pub enum Path {
 pub enum Mark {
     /// Neither side is switched, or both are.
     Idle,
-    /// One side is switched, and the node at the other end isn't known yet.
+    /// One side is switched, and its far end (the node that switches towards this one) isn't known.
     Bridged,
-    /// One side is switched, towards a far end.
+    /// One side is switched, and its far end is known.
     BridgedSwitched,
     /// Remote defect indication: the side on which the source sends the word fails.
     Rdi,

@@ -51,7 +51,7 @@ pub record IsPlaced (n passed : ℕ) (scrambler : Position) (line : ℕ) (clear 
   pub fresh : passed ≡ 0 → (line ≡ bip8 []) × (clear ≡ after_bytes n [])
 
 -- What is kept of the rows of a framed frame that have passed, whose bytes are `clear` without scrambling, and `line`
--- on the line: their parities, and once their rows have passed the violations and the K bytes.
+-- on the line: their parities, and, each once its row has passed, the violations and the K bytes.
 pub record HasFound (n : ℕ) (last : Option Parities) (clear line : List ℕ) (u : UnderWay) : Type 0 where
   pub passed : HavePassed n clear line u
   pub b1 : 2 ≤ u.rows → u.b1 ≡ b1_violations n last clear

@@ -30,7 +30,8 @@ pub record UnderWay : Type 0 where
   pub clear : Running
   -- whether the rows are of a frame that is written, and not of one that is read
   pub written : Bool
-  -- of a received frame: whether it is framed, its K bytes, and the number of bits in which B1 and B2 differ
+  -- of a received frame: whether it is framed, its K bytes, and in `b1` and `b2` the number of bits in which B1 and B2
+  -- differ from the parities of the frame before
   pub framed : Bool
   pub k1 : ℕ
   pub k2 : ℕ

@@ -18,8 +18,8 @@ use sdh_ringmap::Rate;
 use std::alloc::{AllocError, Global};
 use std::marker::Model;
 
-/// Room for an arriving frame, which is descrambled while it lands. Its parities, BIP-8 on the line and BIP-24N of the
-/// clear bytes, are kept with it.
+/// Room for an arriving frame, which is descrambled while it lands. Its parities are kept with it: BIP-8 of its bytes
+/// as they arrived, and BIP-24N of the descrambled ones that B2 covers.
 #[derive(Debug, Drop)]
 pub struct Landed {
     frame: FrameBuf,

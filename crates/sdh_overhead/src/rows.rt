@@ -19,8 +19,9 @@ fn head_len(n: usize, row: u16) -> usize
     if row <= 3 { 9 * n } else { 0 }
 }
 
-/// What is kept of the rows of a frame so far: their number `passed`, the scrambler, the parities of the bytes on the
-/// line and of the clear bytes, and of a frame that is read what its rows say.
+/// What is kept of the rows of a frame so far: their number `passed`, the scrambler, and both parities: `line` of the
+/// bytes on the line, and `clear` of the bytes without scrambling that B2 covers. Of a frame that is read what its rows
+/// say is kept too.
 #[derive(Debug, Drop)]
 pub struct Rows {
     pub passed: u16,

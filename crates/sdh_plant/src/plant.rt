@@ -53,11 +53,11 @@ pub trait Plant {
     /// A count of failed calls. It rises with each of them, but not above the last value of a `u64`, and never falls.
     ghost faults: { Self → ℕ };
 
-    /// Whether `faults` rises by one with each failed call and stays with each other one.
+    /// Whether `faults` rises by one with each failed call, and stays as it was with any other call.
     ghost exact: { Bool };
 
-    /// Makes two fibres for each span of a ring of `nodes` nodes, 2 to 16, all clear and without a frame. All memory of
-    /// the plant is taken here. After an error there are no fibres, and the call may be made again.
+    /// Makes two fibres for each span of a ring of `nodes` nodes, 2 to 16, all clear and without a frame. No other call
+    /// of this trait takes memory. After an error there are no fibres, and the call may be made again.
     fn prepare(&mut self, alloc: Global, rate: Rate, nodes: usize) -> Result<(), PrepareError>
         requires fresh { HasNoFibres (fibres self.old) }
         requires enough { 2 ≤ nodes }

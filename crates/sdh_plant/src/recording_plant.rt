@@ -16,7 +16,7 @@ use std::alloc::{AllocError, Global};
 use std::marker::Model;
 
 /// Honest fibres in memory, as a `FibrePlant` has them, with a list of the frames that were sent. A `send` or
-/// `exchange` fails where the list is full, and no other call fails.
+/// `exchange` fails where the list is full, and no other call fails, though `prepare` can run out of memory.
 #[derive(Debug, Drop)]
 pub struct RecordingPlant {
     plant: FibrePlant,

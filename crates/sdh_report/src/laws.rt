@@ -37,7 +37,7 @@ pub fn last_line_is_short(status: &Status)
     }
 }
 
-// The last line of a plan that fails a check is short, since numbers of these sizes have few digits.
+// The last line of a text about a plan that fails a check is short, since numbers of these sizes have few digits.
 fn short_plan(reason: u8, place: u32)
     ensures { length (last_line (Status.BadPlan reason place)) ≤ LINE_MAX }
 {

@@ -250,7 +250,7 @@ impl Text {
         self.put(b"\n");
     }
 
-    // Appends the last line of a plan that fails a check.
+    // Appends the last line of a text about a plan that fails a check.
     fn bad_plan_line(&mut self, reason: u8, place: u32)
         requires { length (last_line (Status.BadPlan reason place)) ≤ self.old.room }
         ensures { self.new ≡ with_part self.old (last_line (Status.BadPlan reason place)) }
@@ -262,7 +262,7 @@ impl Text {
         self.put(b"\n");
     }
 
-    // Appends the last line of a settle step without a quiet window.
+    // Appends the last line of a text after a settle step without a quiet window.
     fn unsettled_line(&mut self, number: u32)
         requires { length (last_line (Status.Unsettled number)) ≤ self.old.room }
         ensures { self.new ≡ with_part self.old (last_line (Status.Unsettled number)) }

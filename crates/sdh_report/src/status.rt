@@ -20,7 +20,8 @@ pub enum Status {
     BadPlan { reason: u8, place: u32 },
     /// The settle step of this number, counted from 1, ended without a quiet window.
     Unsettled(u32),
-    /// A frame couldn't be sent or received over the fibres: a call of the plant failed.
+    /// Fibres couldn't be made or changed, or a frame couldn't be sent or received over them: a call of the plant
+    /// failed.
     PlantFault,
     /// The source has more than 1,048,576 bytes.
     TooLong,

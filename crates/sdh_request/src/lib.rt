@@ -1,6 +1,7 @@
 //! The local request of one side of a node: what the side asks for because of a command, a defect, or a defect that
 //! ended a short time ago. How long a side waits to restore is counted in the plan's moments, not in rounds. The rules
-//! are after ITU-T G.841. The choice of codes, and that a defect is requested at once, are this project's own.
+//! are after ITU-T G.841. The choice of codes, and that a side asks at once when it has a defect, are this project's
+//! own.
 #![tactic(auto)]
 
 ghost use Rattle.std.specs.Prelude.{◌≡◌, ◌≢◌, ℕ, ◌≤◌, List, []};

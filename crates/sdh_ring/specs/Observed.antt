@@ -11,7 +11,7 @@ use Rattle.sdh_world.specs.Rounds.{World}
 abbrev pub RanOne : (ℕ → World) → ℕ → HeldRing → Type 0
 RanOne = observed.RanOne adm
 
--- a settle step that ended, and what is kept of its rounds
+-- a settle step that ended with a quiet window, and what is kept of its rounds
 abbrev pub Hears : ((ℕ → World) → ℕ → Type 0) → World → ℕ → World → Type 0
 Hears = observed.Hears adm
 
@@ -19,7 +19,7 @@ Hears = observed.Hears adm
 abbrev pub RanSome : ((ℕ → World) → ℕ → Type 0) → World → ℕ → World → Type 0
 RanSome = observed.RanSome adm
 
--- a settle step that didn't end, and what is kept of its whole rounds
+-- a settle step that didn't end with a quiet window, and what is kept of its whole rounds
 abbrev pub HearsSome : ((ℕ → World) → ℕ → Type 0) → World → ℕ → World → Type 0
 HearsSome = observed.HearsSome adm
 

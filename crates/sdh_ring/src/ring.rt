@@ -97,8 +97,8 @@ impl Ring {
         // Over honest fibres that were just prepared for it, what is carried is what was sent.
         ensures whole { IfOk result (λ ring. (f : Fibres) → IsHonest f → IsWhole (world ring (prepared settings.rate (length map) f))) }
 
-        // A new ring is vouched for, whatever the clocks of its ports will be: no frame that is under way has bytes of
-        // a circuit in a place of another one.
+        // A new ring is vouched for (`IsVouched`), whatever the clocks of its ports will be: each frame that is under
+        // way holds only the bytes that may be in it.
         ensures vouched { IfOk result (λ ring. (f : Fibres) (clocks : PortId → ℕ → Clock) → IsHonest f
             → IsVouched clocks (world ring (prepared settings.rate (length map) f))) }
     {
@@ -202,8 +202,9 @@ impl Ring {
         ensures ok { OnOk result (IsRound (world self.old (P.fibres plant.old)) (world self.new (P.fibres plant.new))) }
         ensures prepared { OnOk result (IsPrepared self.old.settings.rate (length self.old.ids) (P.fibres plant.new)) }
 
-        // Where the fibres carry what was sent, states, words and filters are those of a ring of signals (`sdh_signal`)
-        // with the same needs and held nodes.
+        // Where the fibres carry what was sent, the round goes as one of a ring of signals (`sdh_signal`). The nodes'
+        // states, the words that they send, and what the last three rounds brought them are those of that ring after a
+        // round with the same local requests, failing sides and held nodes.
         ensures signals { OnOk result (IsWhole (world self.old (P.fibres plant.old))
             → GoesAsSignals (world self.old (P.fibres plant.old)) (world self.new (P.fibres plant.new))) }
 
@@ -246,7 +247,8 @@ impl Ring {
         let _ = &self.ring;
     }
 
-    // At most 16 slips wait at each port: the function does nothing, and its contract is the law.
+    // At most 16 slips wait at each port, and at most four rounds come before one in which its clock may justify. The
+    // function does nothing: its contract is the law.
     fn few_slips_wait(&self)
         requires { self.now.broken ≡ false }
         ensures { (port : PortId) → HasPortIn self.now port → IsRested (clock_at self.now port) }

@@ -57,7 +57,8 @@ RunsKeep {N} s =
     (rounds : List (List Arrival)) (w : World N) → Keeps w (run_with s rounds w) (length rounds)
     × Appends w.fibres (frames_in s rounds w) (run_with s rounds w).fibres
 
--- a settle step that ended ran at least one round, and the number of the last is a multiple of 128 and not 0
+-- a settle step that ended with a window ran at least one round, and the number of the last is a multiple of 128 and
+-- not 0
 pub record EndsAtAMultiple {N : Type 0} (r left : HeldRing N) (limit : ℕ) : Type 0 where
   pub ran : r.rounds < left.rounds
   pub most : left.rounds ≤ r.rounds + limit
@@ -83,7 +84,7 @@ pub record KnownSteps {N : Type 0} (s : Station N) : Type 0 where
   pub unsettled : (w left : World N) (limit : ℕ) → Knows w.fibres → Unsettles s w limit left
       → NeverSettles s (course s w) limit × (left ≡ run s limit w)
 
--- whether a settle step ends with its k-th round, or doesn't end, can be computed
+-- whether a settle step ends with its k-th round, or no window ends within the limit, can be computed
 pub record StepsAreComputed {N : Type 0} (s : Station N) : Type 0 where
   pub settled : (w : World N) (limit k : ℕ) → (settles_in s w limit ≡ Some k) ↔ SettlesAt s (course s w) limit k
   pub unsettled : (w : World N) (limit : ℕ) → (settles_in s w limit ≡ None) ↔ NeverSettles s (course s w) limit

@@ -4,7 +4,7 @@ ghost use Rattle.std.specs.Prelude.{◌≡◌};
 use sdh_plant::Failed;
 use thiserror::Error;
 
-/// A call of the plant failed in a round. The ring is broken from then on.
+/// A call of the plant failed. Where it was one of a round, the ring is broken from then on.
 #[derive(Clone, Copy, Debug, PartialEq, Eq, Error)]
 #[error("a call of the plant failed, and the ring is broken")]
 pub struct PlantFault;

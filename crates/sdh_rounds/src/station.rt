@@ -65,7 +65,7 @@ pub trait Station: Drop {
         ensures east { east.new.bytes ≡ kind.sends now.0 East self.old }
         ensures rates { (west.new.rate ≡ west.old.rate) × (east.new.rate ≡ east.old.rate) };
 
-    /// Returns whether the node's last round was calm. Each kind of node says by its definition when a round is.
+    /// Returns whether the node's last round was calm. Each kind of node says by its definition when a round is calm.
     fn calm(&self) -> bool
         ensures { result ≡ kind.calm self.now };
 

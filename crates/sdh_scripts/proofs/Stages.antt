@@ -14,7 +14,7 @@ use Rattle.sdh_shell.specs.Writing.{Says, WritesWith, IsShown}
 use Rattle.sdh_shell.proofs.Plans.{some_same, one_plan}
 use Rattle.sdh_shell.proofs.Told.{told_all}
 use Rattle.sdh_shell.proofs.Endings.{EndsPlan}
-use Rattle.sdh_shell.proofs.Writing.{told_whole, told_front}
+use Rattle.sdh_shell.proofs.Writing.{told_whole}
 use Rattle.sdh_scripts.specs.Programs.{Deed, Refuses, Writes, Runs, IsRunEnd, Program}
 use Rattle.sdh_scripts.specs.Outcome.{HasRefused, OfDeed, OfPlan, OfBytes, OfOwnPlan, IsOutcome, MayEnd}
 use Rattle.sdh_scripts.specs.Outcome.{HasRead, LeavesPlant, reads_without, reads_source, told}
