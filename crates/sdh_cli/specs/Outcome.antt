@@ -14,7 +14,7 @@ use Rattle.sdh_cli.specs.Tables.{tables_of}
 use Rattle.sdh_cli.specs.Plans.{IsRunOf, MaySettle}
 use Rattle.sdh_cli.specs.Words.{Ask, Check, Big, asked, listing_of}
 
--- the plan that what is asked names by itself: for `big` the large plan of the number
+-- the plan of what is asked where no source is read for it: for `big` the large plan of the number
 abbrev pub own_plan : Ask → Option Planned
 own_plan (Big number) = Some (big_planned number)
 own_plan ask = None

@@ -20,7 +20,7 @@ use Rattle.sdh_owed.specs.Course.{HasCourse}
 abbrev pub ShowsHealth : Planned → List Report → Status → Type 0
 ShowsHealth plan reports end = IsHealthy plan.limit (length plan.nodes) plan.circuits plan.steps reports end
 
--- what holds in the rounds that gave the reports: whose bytes come, and how soon they do
+-- what holds in the rounds that gave the reports: whose bytes come, and how soon each port has what it is owed
 abbrev pub RunsWell : Planned → Fibres → List Report → Status → Fibres → Type 0
 RunsWell plan f reports end left = HasCourse (world_of plan f) (ring_of plan) plan.limit plan.steps reports end left
 

@@ -55,8 +55,8 @@ fn write_multiplex(n: usize, k1: u8, k2: u8, b2: &[u8], head: &mut [u8])
     head[6 * n] = k2;
 }
 
-/// Writes the section overhead in the first 9N bytes of a row, counted from 1. In row 4 these are the pointers, which
-/// stay.
+/// Writes the section overhead in the first 9N bytes of a row. Rows are counted from 1. In row 4 these bytes are the
+/// pointers, which stay.
 #[inline(always)]
 pub fn write_head(n: usize, row: usize, k1: u8, k2: u8, b1: u8, b2: &[u8], head: &mut [u8])
     requires few { n ≤ 16 }

@@ -118,8 +118,8 @@ abbrev pub ChangeNothing : List Stretch → Type 0
 ChangeNothing [] = Unit {0}
 ChangeNothing (s ∷ ss) = (s.changes ≡ []) × ChangeNothing ss
 
--- Each port has what it is owed from round `k` after the last changes on. That holds in each round of their settle
--- step, and of later steps without changes, whether they are settled or not.
+-- Each port has what it is owed after k rounds from the last changes, for each k that is enough (`IsLate`). These
+-- rounds are those of the changes' settle step, and of later steps without changes, whether they are settled or not.
 abbrev pub AllIsOwedSoon : World → Ring → List Stretch → Type 0
 AllIsOwedSoon w ring ss =
     (earlier same later : List Stretch) (last : Stretch) → ss ≡ earlier ++ last ∷ (same ++ later) → ChangeNothing same → (k : ℕ)

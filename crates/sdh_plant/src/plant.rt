@@ -50,7 +50,7 @@ pub trait Plant {
     /// The fibres, with the arrivals to come and the frames sent, as far as the plant shows them.
     ghost fibres: { Self → Fibres };
 
-    /// A count of failed calls. It rises with each of them, but not above the last value of a `u64`, and never falls.
+    /// A count of failed calls. It rises with each of them, but not above the largest `u64`, and never falls.
     ghost faults: { Self → ℕ };
 
     /// Whether `faults` rises by one with each failed call, and stays as it was with any other call.
@@ -84,8 +84,8 @@ pub trait Plant {
         ensures err { OnErr result (fibres self.new ≡ fibres self.old) }
         ensures cause { HasCause exact (faults self.old) (faults self.new) result };
 
-    /// Sends a frame as `send` does, and may keep its buffer. Then `frame` becomes the frame that the fibre carried, or
-    /// one of zeros where it carried none.
+    /// Sends a frame as `send` does, and may keep its buffer. Where it does, `frame` becomes the frame that the fibre
+    /// carried, or one of zeros where it carried none. Otherwise `frame` stays as it was.
     fn exchange(&mut self, at: Pos, side: Side, frame: &mut FrameBuf) -> Result<(), Failed>
         requires at { at.0 < (fibres self.old).nodes }
         requires rate { frame.old.rate ≡ (fibres self.old).rate }

@@ -89,7 +89,7 @@ fn waits(threshold: u16, wait: u32, rounds: &[SideRound], t: usize) -> bool
 }
 
 /// Returns the local request of a side in round t, by all its rounds up to that one. `threshold` is the least number of
-/// inverted bits in a frame that is a signal degradation. `wait` is the number of moments that a side waits to restore.
+/// inverted bits in a frame with which the side is degraded. `wait` is the number of moments that it waits to restore.
 #[tactic(auto, unfolding(crate::specs::History::local_request))]
 pub fn local_request(threshold: u16, wait: u32, rounds: &[SideRound], t: usize) -> Code
     requires { t < length rounds.now }

@@ -152,8 +152,8 @@ impl Ring {
         self.ring.place_of(port)
     }
 
-    /// Adds `count` pending slips to the clock of the customer who sends at a port. For each slip the port sends three
-    /// bytes fewer or more in one round.
+    /// Adds `count` pending slips to the clock of the customer who sends at a port: ups or downs, as `turn` says. For
+    /// each up the port sends three bytes fewer in one round, and for each down three more.
     pub fn slip(&mut self, port: PortId, turn: Turn, count: u8)
         requires port { port.circuit < length self.old.circuits.circuits }
         requires few { waiting_at self.old port + count ≤ 16 }

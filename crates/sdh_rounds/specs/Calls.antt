@@ -62,7 +62,8 @@ sent_now s now p n f = after_send (sent_west s now p n f) p East (s.sends now Ea
 abbrev pub first_after : {N : Type 0} → Station N → ℕ → ℕ → List N → List N
 first_after s now k ns = map (s.after now) (take k ns) ++ drop k ns
 
--- the first frames of these nodes were sent, but not all; the node whose send failed had run its round before the send
+-- the first `out` of all frames of these nodes were sent, by position, west before east, but not all of them; the node
+-- whose send failed had run its round before the send
 pub record SendsSome {N : Type 0} (s : Station N) (now : ℕ) (old new : List N) (f g : Fibres) : Type 0 where
   pub out : ℕ
   pub not_all : out < length (frames_of s now old)

@@ -14,8 +14,8 @@ use Rattle.sdh_rounds.specs.Held.{World}
 -- ---- what arrives
 
 -- What arrives at position p on a side in a round that begins with these fibres. Where the plant shows in advance all
--- arrivals to come, the *told arrivals*, those of a round come by position, west before east. So the place of one among
--- them is the number of the fibre that leaves position p on that side.
+-- arrivals to come, the *told arrivals*, those of a round come by position, west before east. So the one at
+-- position p on a side has as its place, counted from 0, the number of the fibre that leaves p on that side.
 unfoldable pub arrival_at : Fibres → ℕ → Side → Arrival
 arrival_at f p d = option_map_or (λ told. slice_index_or told (fibre p d) None) f.told (honest_arrival f p d)
 

@@ -20,8 +20,8 @@ pub record IsRound {N : Type 0} (s : Station N) (w after : World N) : Type 0 whe
   pub arrive : Arrive w arrivals
   pub after_is : after ≡ round_with s arrivals w
 
--- The fibres after a round that a fault broke off. The first of its arrivals were taken. The first of its frames were
--- sent, but not all, and none before all arrivals were taken.
+-- The fibres after a round that a fault broke off. Its first `given` arrivals were taken, and its first `out` frames
+-- were sent: not all of them, and none before all arrivals were taken.
 pub record IsBrokenOff {N : Type 0} (s : Station N) (w : World N) (after : Fibres) : Type 0 where
   pub arrivals : List Arrival
   pub arrive : Arrive w arrivals

@@ -6,7 +6,7 @@ use thiserror::Error;
 
 /// A call of the plant failed. Where it was one of a round, the ring is broken from then on.
 #[derive(Clone, Copy, Debug, PartialEq, Eq, Error)]
-#[error("a call of the plant failed, and the ring is broken")]
+#[error("a call of the plant failed")]
 pub struct PlantFault;
 
 impl From<Failed> for PlantFault {

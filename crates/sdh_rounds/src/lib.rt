@@ -29,8 +29,8 @@ pub fn rounds_keep<S: Station>()
     ensures { RoundsKeep S.kind }
 {}
 
-/// A round that a fault broke off keeps the conditions of the fibres. Only the first of its frames come after those
-/// that were sent before.
+/// A round that a fault broke off keeps the conditions of the fibres. Where the plant reports all frames that were
+/// sent, only those that the round had sent before the fault come after the earlier ones.
 #[tactic(auto, using(crate::proofs::Laws::faults_keep))]
 pub fn faults_keep<S: Station>()
     ensures { FaultsKeep S.kind }

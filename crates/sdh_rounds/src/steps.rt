@@ -140,8 +140,8 @@ pub fn settle_recording<R: RunsRounds, P: Plant, L, O: Recorder<R, L>>(
         (Hears R.Node.kind (λ at k. O.Records recorder.old log.old at k recorder.new log.new)
         (world (R.held ring.old) (P.fibres plant.old)) limit (world (R.held ring.new) (P.fibres plant.new)))) }
 
-    // What is recorded of a step that ended with an error is what is to be recorded of its whole rounds: of all of them
-    // where it was unsettled.
+    // What is recorded of a step that ended with an error is what is to be recorded of its whole rounds. Where it was
+    // unsettled these are all its rounds.
     ensures begun { IfOk result (λ ended. OnErr ended
         (HearsSome R.Node.kind (λ at k. O.Records recorder.old log.old at k recorder.new log.new)
         (world (R.held ring.old) (P.fibres plant.old)) limit (world (R.held ring.new) (P.fibres plant.new)))) }
