@@ -1,6 +1,6 @@
 pub mod Lines
 pub mod Rounds
-pub mod Framing
+pub mod FrameRounds
 pub mod Known
 pub mod Cells
 pub mod Alike

@@ -29,7 +29,7 @@ pub use ending::Ending;
 pub use top::sdhaps;
 
 /// What fibres carry after a round are the frames that the nodes sent in it, by the definitions of a round.
-#[tactic(auto, using(crate::proofs::Framing::sent_are))]
+#[tactic(auto, using(crate::proofs::FrameRounds::sent_are))]
 pub fn frames_are_sent()
     ensures { FramesAreSent }
 {}

@@ -7,7 +7,7 @@ use Rattle.sdh_plant.specs.Fibres.{Fibres}
 use Rattle.sdh_world.specs.Held.{HeldRing}
 use Rattle.sdh_aps_cli.specs.Frames.{sent_last, is_wanted}
 use Rattle.sdh_aps_cli.proofs.Rounds.{has_run, none_more, one_fails}
-use Rattle.sdh_aps_cli.proofs.Framing.{place_next, not_wanted, one_frame, no_frame, written_more, cut_more, wanted_as, frame_as}
+use Rattle.sdh_aps_cli.proofs.FrameRounds.{place_next, not_wanted, one_frame, no_frame, written_more, cut_more, wanted_as, frame_as}
 use Rattle.sdh_aps_cli.proofs.frames.FrameRecorderRecorderRing.note.Goals as goal
 
 -- the plant has the node: its fibres are those of the world after the round
@@ -15,7 +15,7 @@ pub overflow_sub-round : goal.overflow_sub-round
 overflow_sub-round g c =
     let r = c.requires in
     let ran = has_run r.2 r.3 c.args.ring.now r.4 in
-    omega (arith, ran, c.rounds.ensures)
+    omega (arith, ran, c.rounds-round.ensures)
 
 pub carried-requires : goal.carried-requires
 carried-requires g c =
@@ -31,10 +31,10 @@ returns-then-not-is_wanted-clause-goes g c first begun at k ran same kept =
     let ring = c.args.ring.now in
     let old = g.W.Sink.written begun in
     let now = g.W.Sink.written c.args.log.now in
-    let no : c.is_wanted.result ≡ false = grind arith in
+    let off : c.is_wanted.result ≡ false = grind arith in
     let round : is_wanted first.ask (sent_last (at (suc k))).round ≡ false =
-    wanted_as c.args.self.now.ask first.ask c.args.ring.now.rounds _ (c.rounds.result - 1) kept.0
-    (ap (λ (r : HeldRing). r.rounds) ran.ring_is) (ap (λ n. n - 1) c.rounds.ensures) (sym c.is_wanted.ensures ∙ no) in (
+    wanted_as c.args.self.now.ask first.ask c.args.ring.now.rounds _ (c.rounds-round.result - 1) kept.0
+    (ap (λ (r : HeldRing). r.rounds) ran.ring_is) (ap (λ n. n - 1) c.rounds-round.ensures) (sym c.is_wanted.ensures ∙ off) in (
       kept.0,
       written_more first.ask at k ring ran [] old now now (ap (flat_map (λ frame. frame)) (not_wanted first.ask (sent_last (at (suc k))) round)) kept.1
           (Appends-nil now),
@@ -50,10 +50,10 @@ returns-in-Ok-clause-goes g c first begun at k ran same kept =
     let mid = g.W.Sink.written c.args.log.now in
     let new = g.W.Sink.written c.write_text.new.sink in
     let frame = c.in-Some.frame.now.bytes in
-    let yes : c.is_wanted.result ≡ true = grind arith in
+    let on : c.is_wanted.result ≡ true = grind arith in
     let round : is_wanted first.ask (sent_last (at (suc k))).round ≡ true =
-    wanted_as c.args.self.now.ask first.ask c.args.ring.now.rounds _ (c.rounds.result - 1) kept.0
-    (ap (λ (r : HeldRing). r.rounds) ran.ring_is) (ap (λ n. n - 1) c.rounds.ensures) (sym c.is_wanted.ensures ∙ yes) in
+    wanted_as c.args.self.now.ask first.ask c.args.ring.now.rounds _ (c.rounds-round.result - 1) kept.0
+    (ap (λ (r : HeldRing). r.rounds) ran.ring_is) (ap (λ n. n - 1) c.rounds-round.ensures) (sym c.is_wanted.ensures ∙ on) in
     let sent = frame_as c.args.self.now.ask first.ask _ _ (Some frame) kept.0 same c.in-Some.ensures.some in (
       kept.0,
       written_more first.ask at k ring ran frame old mid new (one_frame first.ask (sent_last (at (suc k))) frame round sent) kept.1
@@ -69,10 +69,10 @@ returns-in-Err-clause-stops g c first begun at k ran same kept =
     let mid = g.W.Sink.written c.args.log.now in
     let new = g.W.Sink.written c.write_text.new.sink in
     let frame = c.in-Some.frame.now.bytes in
-    let yes : c.is_wanted.result ≡ true = grind arith in
+    let on : c.is_wanted.result ≡ true = grind arith in
     let round : is_wanted first.ask (sent_last (at (suc k))).round ≡ true =
-    wanted_as c.args.self.now.ask first.ask c.args.ring.now.rounds _ (c.rounds.result - 1) kept.0
-    (ap (λ (r : HeldRing). r.rounds) ran.ring_is) (ap (λ n. n - 1) c.rounds.ensures) (sym c.is_wanted.ensures ∙ yes) in
+    wanted_as c.args.self.now.ask first.ask c.args.ring.now.rounds _ (c.rounds-round.result - 1) kept.0
+    (ap (λ (r : HeldRing). r.rounds) ran.ring_is) (ap (λ n. n - 1) c.rounds-round.ensures) (sym c.is_wanted.ensures ∙ on) in
     let sent = frame_as c.args.self.now.ask first.ask _ _ (Some frame) kept.0 same c.in-Some.ensures.some in (
       cut_more first.ask at k ring ran frame old mid new (one_frame first.ask (sent_last (at (suc k))) frame round sent) kept.1
           (subst (AppendsFewer mid new) c.bytes.ensures.bytes c.in-Err.ensures.front),

@@ -1,6 +1,7 @@
-use Rattle.std.proofs.Common.{◌≡◌, ◌+◌, Err, length, ap, refl, ◌∙◌, arith, le_refl}
+use Rattle.std.proofs.Common.{◌≡◌, ℕ, ◌+◌, List, Err, length, ap, refl, subst, ◌∙◌, arith, le_refl}
 use Rattle.std.proofs.KnownBytes.{Appends-nil}
 use Rattle.sdh_circuits.specs.declared.PortId.{PortId}
+use Rattle.sdh_rounds.specs.declared.faults.SettleError.{SettleError}
 use Rattle.sdh_world.specs.Held.{HeldRing}
 use Rattle.sdh_world.specs.Rounds.{World, world}
 use Rattle.sdh_owed.proofs.Standing.{long_step}
@@ -41,7 +42,9 @@ returns-in-Err-Unsettled-clause-begun g c =
     let left = world c.settle_recording.new.self (means c.settle_recording.new.plant) in
     unsettled_some w left c.args.limit (c.args._number + 1) text text (g.W.Sink.written c.args.output.now)
     (g.W.Sink.written c.settle_recording.new.log) _
-    (c.in-Ok.ensures.unsettled (c.in-Err-Unsettled.is ∙ ap Err c.in-Err-Unsettled.field-0-is)) (λ at k x. x.1.written)
+    (c.in-Ok.ensures.unsettled
+    (let same = rw c.in-Err-Unsettled.is at c.in-Err-Unsettled.field-0-is in
+    subst (λ (why : SettleError). c.in-Ok.ended ≡ Err why) same c.in-Err-Unsettled.is)) (λ at k x. x.1.written)
 
 pub returns-in-Err-PlantFault-clause-begun : goal.returns-in-Err-PlantFault-clause-begun
 returns-in-Err-PlantFault-clause-begun g c =
@@ -86,9 +89,11 @@ returns-in-Ok-ended-clause-next g c later may =
 pub returns-in-Ok-ended-clause-writes : goal.returns-in-Ok-ended-clause-writes
 returns-in-Ok-ended-clause-writes g c =
     let x = on_ok_is c.in-Ok.ended c.in-Ok-ended.field-0 c.in-Ok-ended.is c.in-Ok.ensures.heard in
-    ap (λ (a : FrameWindow) (s : Signalled). frames_bytes a s.sent) x.kept.0
+    let text : FrameWindow → Signalled → List ℕ = λ a s. frames_bytes a s.sent in
+    ap text x.kept.0
 
 pub returns-in-Ok-ended-clause-begins : goal.returns-in-Ok-ended-clause-begins
 returns-in-Ok-ended-clause-begins g c =
     let x = on_ok_is c.in-Ok.ended c.in-Ok-ended.field-0 c.in-Ok-ended.is c.in-Ok.ensures.heard in
-    ap (λ (a : FrameWindow) (s : Signalled). frames_bytes a s.sent) x.kept.0
+    let text : FrameWindow → Signalled → List ℕ = λ a s. frames_bytes a s.sent in
+    ap text x.kept.0

@@ -2,6 +2,7 @@ use Rattle.std.proofs.Common.{◌≡◌, ◌+◌, ◌-◌, Err, length, refl, ap
 use Rattle.std.specs.Io.KnownBytes.{Appends}
 use Rattle.sdh_outside.specs.Writing.{AppendsFewer}
 use Rattle.sdh_circuits.specs.declared.PortId.{PortId}
+use Rattle.sdh_rounds.specs.declared.faults.SettleError.{SettleError}
 use Rattle.sdh_world.specs.Held.{HeldRing}
 use Rattle.sdh_world.specs.Rounds.{World, world}
 use Rattle.sdh_owed.proofs.Standing.{long_step}
@@ -46,7 +47,9 @@ returns-in-Err-Unsettled-clause-begun g c =
     let old = g.W.Sink.written c.args.output.now in
     let new = g.W.Sink.written c.settle_recording.new.log in
     unsettled_some w left c.args.limit (c.args.number + 1) (ended_text listing) (begun_text listing) old new _
-    (c.in-Ok.ensures.unsettled (c.in-Err-Unsettled.is ∙ ap Err c.in-Err-Unsettled.field-0-is))
+    (c.in-Ok.ensures.unsettled
+    (let same = rw c.in-Err-Unsettled.is at c.in-Err-Unsettled.field-0-is in
+    subst (λ (why : SettleError). c.in-Ok.ended ≡ Err why) same c.in-Err-Unsettled.is))
     (λ at k x. subst (λ l. Appends old new (changes_text l (changes_in k at))) c.begin.ensures.listing x.1.written)
 
 pub returns-in-Err-PlantFault-clause-begun : goal.returns-in-Err-PlantFault-clause-begun

@@ -31,15 +31,15 @@ module _ (ask : FrameWindow) where
 
   -- a round that isn't asked for gives no frame
   pub not_wanted : (s : Sent) → is_wanted ask s.round ≡ false → frame_of ask s ≡ []
-  not_wanted s no = ap (λ b. if b then option_map_or (λ (bytes : List ℕ). bytes ∷ []) (slice_index_or s.frames (fibre ask.at.0 ask.side) None) []
-      else []) no
+  not_wanted s off = ap (λ b. if b then option_map_or (λ (bytes : List ℕ). bytes ∷ []) (slice_index_or s.frames (fibre ask.at.0 ask.side) None) []
+      else []) off
 
   -- a round that is asked for gives the frame that the fibre carries
   pub one_frame : (s : Sent) (frame : List ℕ) → is_wanted ask s.round ≡ true
       → slice_index_or s.frames (fibre ask.at.0 ask.side) None ≡ Some frame → bytes (frame_of ask s) ≡ frame
-  one_frame s frame yes is =
+  one_frame s frame on is =
       ap (λ b. bytes (if b then option_map_or (λ (bytes : List ℕ). bytes ∷ []) (slice_index_or s.frames (fibre ask.at.0 ask.side) None) []
-      else [])) yes
+      else [])) on
       ∙ ap (λ (a : Arrival). bytes (option_map_or (λ (bytes : List ℕ). bytes ∷ []) a [])) is ∙ append-nil frame
 
   pub no_frame : (s : Sent) → slice_index_or s.frames (fibre ask.at.0 ask.side) None ≡ None → bytes (frame_of ask s) ≡ []
