@@ -3,7 +3,7 @@ use Rattle.sdh_ringmap.specs.declared.terms.Rate.TheVariants.{Four}
 use Rattle.sdh_plant.specs.Fibres.{IsPrepared}
 use Rattle.sdh_plant.specs.Calls.{prepared}
 use Rattle.sdh_plant.proofs.Calling.{stay_prepared}
-use Rattle.test_paths.proofs.rings.laid.Goals as goal
+use Rattle.test_rings.proofs.paths.laid.Goals as goal
 
 pub returns-clause-prepared : goal.returns-clause-prepared
 returns-clause-prepared g c =
