@@ -87,7 +87,7 @@ fn settles<P: Plant>(
     requires whole { ring.old.broken ≡ false }
     requires new { ring.old.rounds ≡ 0 }
 {
-    for (at, side) in cuts {
+    'cuts: for (at, side) in cuts {
         if *at as usize >= ring.map().len() || !cut(plant, *at, *side) {
             return Err(AllocError);
         }

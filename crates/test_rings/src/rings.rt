@@ -83,9 +83,10 @@ fn is_in(state: &NodeState, wanted: State) -> bool {
 }
 
 // Returns whether the node at a position has a line.
-fn has_line(ring: &Ring, at: usize, line: &Line) -> bool
-    requires { at < length ring.now.ids }
-{
+fn has_line(ring: &Ring, at: usize, line: &Line) -> bool {
+    if at >= ring.map().len() {
+        return false;
+    }
     let node = ring.node(Pos(at as u8));
     is_in(node.state(), line.0)
         && encode(node.sent_k(Side::West)) == line.1
