@@ -1,13 +1,20 @@
-//! What ports deliver over real frames, byte for byte: all that the circuit's other port sent a round a hop before, or
-//! AIS.
+//! What ports deliver over real frames, byte for byte: all that the circuit's other port sent a round a hop before.
 ghost use Rattle.std.specs.Prelude.{◌≡◌, ◌<◌, length};
 
-use crate::streams::{Sender, is_sent_in};
+use crate::rings::{PORT_A, PORT_B};
+use crate::slips::settled;
+use crate::streams::{Sender, is_stream};
 use sdh_circuits::{Asked, End, PortId};
 use sdh_node::Delivered;
-use sdh_request::Command;
 use sdh_ring::Ring;
-use sdh_ringmap::{Pos, Side};
+
+/// What a port sends in a round: a number of bytes of its stream from a place on, and the pointer value with them.
+#[derive(Clone, Copy)]
+pub(crate) struct Sent {
+    pub(crate) from: u64,
+    pub(crate) count: u64,
+    pub(crate) value: u64,
+}
 
 /// Returns what one end of a circuit sends.
 pub(crate) fn sender_at<'a>(asked: &Asked<'a>, end: End) -> Sender<'a> {
@@ -25,62 +32,52 @@ pub(crate) fn sender_at<'a>(asked: &Asked<'a>, end: End) -> Sender<'a> {
     }
 }
 
-// Returns whether a port delivered all that the other end sent as many rounds before as there are hops, with its
-// pointer value, or AIS.
-fn has_delivered(ring: &Ring, port: PortId, other: Sender<'_>, hops: Option<u32>) -> bool
-    requires { port.circuit < length ring.now.circuits.circuits }
-{
-    match (ring.port(port), hops) {
-        (Delivered::Ais, None) => ring.value(port) == 0,
-        (Delivered::Chunk(cells), Some(hops)) => {
-            let rounds = ring.rounds();
-            rounds > u64::from(hops)
-                && u64::from(ring.value(port)) == other.offset
-                && is_sent_in(other, rounds - 1 - u64::from(hops), cells.as_slice())
-        }
-        _ => false,
-    }
-}
-
-// Returns whether both ports of a circuit delivered all that the other end sent, or AIS.
-fn both_have_delivered(ring: &Ring, circuit: u8, asked: &Asked<'_>, hops: Option<u32>) -> bool
-    requires { circuit < length ring.now.circuits.circuits }
-{
-    let a = PortId {
-        circuit,
-        end: End::A,
-    };
-    let b = PortId {
-        circuit,
-        end: End::B,
-    };
-    has_delivered(ring, a, sender_at(asked, End::B), hops)
-        && has_delivered(ring, b, sender_at(asked, End::A), hops)
-}
-
-/// Returns whether the ports of each circuit have delivered all that the other end sent as many rounds before as there
-/// are hops, or AIS.
-pub(crate) fn have_delivered(ring: &Ring, circuits: &[Asked<'_>], hops: &[Option<u32>]) -> bool {
-    if ring.circuits().len() != circuits.len() || hops.len() < circuits.len() {
+// Returns whether a port delivers this of the other end's stream.
+fn has_delivered(ring: &Ring, port: PortId, other: Sender<'_>, sent: Sent) -> bool {
+    if ring.circuits().len() <= port.circuit as usize {
         return false;
     }
-    for i in 0..circuits.len() {
-        if !both_have_delivered(ring, i as u8, &circuits[i], hops[i]) {
-            return false;
+    match ring.port(port) {
+        Delivered::Ais => false,
+        Delivered::Chunk(cells) => {
+            let bytes = cells.as_slice();
+            u64::from(ring.value(port)) == sent.value
+                && bytes.len() as u64 == sent.count
+                && is_stream(other, sent.from, bytes)
         }
     }
-    true
 }
 
-/// Gives one side of a node a command.
-pub(crate) fn order(ring: &mut Ring, at: u8, side: Side, command: Command) -> bool
-    ensures settings { ring.new.settings ≡ ring.old.settings }
-    ensures ids { ring.new.ids ≡ ring.old.ids }
-    ensures whole { ring.new.broken ≡ ring.old.broken }
-{
-    if at as usize >= ring.map().len() {
+/// Returns whether both ports of the one circuit have delivered all that the other end sent as many rounds before as there
+/// are hops.
+pub(crate) fn have_delivered(ring: &Ring, asked: &Asked<'_>, hops: u32) -> bool {
+    let (a, b) = (sender_at(asked, End::A), sender_at(asked, End::B));
+    let rounds = ring.rounds();
+    if rounds > 5000 || rounds <= u64::from(hops) {
         return false;
     }
-    ring.command(Pos(at), side, command);
-    true
+    let from = 2349 * (rounds - 1 - u64::from(hops));
+    has_delivered(ring, PORT_A, b, sent_whole(from, b.offset))
+        && has_delivered(ring, PORT_B, a, sent_whole(from, a.offset))
+}
+
+fn sent_whole(from: u64, value: u64) -> Sent {
+    Sent {
+        from,
+        count: 2349,
+        value,
+    }
+}
+
+/// Returns whether a port delivers what an end sent in a round, once these of its slips were made good, and none waits.
+pub(crate) fn is_owed(
+    ring: &Ring,
+    port: PortId,
+    sender: Sender<'_>,
+    slips: (u8, u8),
+    round: u64,
+) -> bool {
+    ring.circuits().len() > port.circuit as usize
+        && ring.waiting(port) == 0
+        && has_delivered(ring, port, sender, settled(sender.offset, slips, round))
 }

@@ -4,14 +4,27 @@ ghost use Rattle.sdh_ringmap.specs.Rates.{n_of};
 ghost use Rattle.sdh_plant.specs.Fibres.{HasNoFibres, IsPrepared};
 ghost use Rattle.sdh_circuits.specs.Kept.{KeepsRing};
 
-use sdh_circuits::{Asked, CircuitMap};
+use sdh_circuits::{Asked, CircuitMap, End, PortId};
 use sdh_kbytes::encode;
-use sdh_node::Settings;
+use sdh_node::{Settings, Turn};
 use sdh_nodestate::NodeState;
 use sdh_plant::Plant;
+use sdh_request::Command;
 use sdh_ring::{PlantFault, Ring};
 use sdh_ringmap::{Condition, FibreEvent, Pos, Rate, RingMap, Side};
 use std::alloc::{AllocError, Global};
+
+/// A threshold of three and a wait of ten, at both rates.
+pub(crate) const AT_FOUR: Settings = Settings {
+    rate: Rate::Four,
+    threshold: 3,
+    wait: 10,
+};
+
+pub(crate) const AT_SIXTEEN: Settings = Settings {
+    rate: Rate::Sixteen,
+    ..AT_FOUR
+};
 
 /// A circuit over two spans, with these texts.
 pub(crate) const ALPHABETS: Asked<'static> = Asked {
@@ -27,39 +40,70 @@ pub(crate) const ALPHABETS: Asked<'static> = Asked {
     trace_b: "c1",
 };
 
-#[derive(Clone, Copy, Debug, PartialEq, Eq)]
+/// A circuit over one span, and one over two, with traces of their own and offsets near both ends.
+pub(crate) const ONE_SPAN: Asked<'static> = Asked {
+    to: 2,
+    offset_a: 781,
+    offset_b: 1,
+    trace_a: "to the second node",
+    trace_b: "to the first node",
+    ..ALPHABETS
+};
+
+pub(crate) const TWO_SPANS: Asked<'static> = Asked { to: 3, ..ONE_SPAN };
+
+pub(crate) const PORT_A: PortId = PortId {
+    circuit: 0,
+    end: End::A,
+};
+
+pub(crate) const PORT_B: PortId = PortId {
+    circuit: 0,
+    end: End::B,
+};
+
+#[derive(Clone, Copy)]
 pub(crate) enum State {
     Idle,
     Pass,
     West,
     East,
-    Isolated,
-}
-
-pub(crate) fn state_of(state: &NodeState) -> State {
-    match state {
-        NodeState::Idle(_) => State::Idle,
-        NodeState::PassThrough(_) => State::Pass,
-        NodeState::SwitchWest(_) => State::West,
-        NodeState::SwitchEast(_) => State::East,
-        NodeState::Isolated(_) => State::Isolated,
-    }
 }
 
 /// The state of a node, and the K bytes that it sends west and east.
 pub(crate) type Line = (State, (u8, u8), (u8, u8));
 
-/// Returns the line of the node at a position.
-pub(crate) fn line_of(ring: &Ring, at: usize) -> Option<Line> {
+fn is_in(state: &NodeState, wanted: State) -> bool {
+    match wanted {
+        State::Idle => matches!(state, NodeState::Idle(_)),
+        State::Pass => matches!(state, NodeState::PassThrough(_)),
+        State::West => matches!(state, NodeState::SwitchWest(_)),
+        State::East => matches!(state, NodeState::SwitchEast(_)),
+    }
+}
+
+// Returns whether the node at a position has a line.
+fn has_line(ring: &Ring, at: usize, line: &Line) -> bool {
     if at >= ring.map().len() {
-        return None;
+        return false;
     }
     let node = ring.node(Pos(at as u8));
-    Some((
-        state_of(node.state()),
-        encode(node.sent_k(Side::West)),
-        encode(node.sent_k(Side::East)),
-    ))
+    is_in(node.state(), line.0)
+        && encode(node.sent_k(Side::West)) == line.1
+        && encode(node.sent_k(Side::East)) == line.2
+}
+
+/// Returns whether the nodes have these lines.
+pub(crate) fn has_lines(ring: &Ring, lines: &[Line]) -> bool {
+    if ring.map().len() != lines.len() {
+        return false;
+    }
+    for at in 0..lines.len() {
+        if !has_line(ring, at, &lines[at]) {
+            return false;
+        }
+    }
+    true
 }
 
 /// Returns the circuits that are asked for; a refusal counts as a lack of memory here.
@@ -103,47 +147,6 @@ pub(crate) fn laid_as<P: Plant>(
     Ok(Ring::try_new(alloc, settings, map, circuits)?)
 }
 
-/// Returns the ring of these nodes and circuits at a rate, with a threshold of three and a wait of ten, and the plant
-/// prepared for it.
-pub(crate) fn laid_with<P: Plant>(
-    alloc: Global,
-    plant: &mut P,
-    rate: Rate,
-    ids: &[i64],
-    asked: &[Asked<'_>],
-) -> Result<Ring, AllocError>
-    requires { HasNoFibres (P.fibres plant.old) }
-    ensures prepared { IfOk result (λ ring. IsPrepared ring.settings.rate (length ring.ids) (P.fibres plant.new)) }
-    ensures whole { IfOk result (λ ring. ring.broken ≡ false) }
-    ensures new { IfOk result (λ ring. ring.rounds ≡ 0) }
-    ensures moment { IfOk result (λ ring. ring.moment ≡ 0) }
-    ensures rate { IfOk result (λ ring. ring.settings.rate ≡ rate) }
-{
-    let settings = Settings {
-        rate,
-        threshold: 3,
-        wait: 10,
-    };
-    laid_as(alloc, plant, settings, ids, asked)
-}
-
-/// Returns the ring of these nodes with the one circuit.
-pub(crate) fn laid<P: Plant>(
-    alloc: Global,
-    plant: &mut P,
-    rate: Rate,
-    ids: &[i64],
-) -> Result<Ring, AllocError>
-    requires { HasNoFibres (P.fibres plant.old) }
-    ensures prepared { IfOk result (λ ring. IsPrepared ring.settings.rate (length ring.ids) (P.fibres plant.new)) }
-    ensures whole { IfOk result (λ ring. ring.broken ≡ false) }
-    ensures new { IfOk result (λ ring. ring.rounds ≡ 0) }
-    ensures moment { IfOk result (λ ring. ring.moment ≡ 0) }
-    ensures rate { IfOk result (λ ring. ring.settings.rate ≡ rate) }
-{
-    laid_with(alloc, plant, rate, ids, &[ALPHABETS])
-}
-
 /// Brings the fibre that leaves a position on a side into a condition.
 pub(crate) fn apply<P: Plant>(
     ring: &Ring,
@@ -170,17 +173,65 @@ pub(crate) fn apply<P: Plant>(
     }
 }
 
-/// Cuts the span between the second and the third node both ways, or not.
-pub(crate) fn cut_if<P: Plant>(ring: &Ring, plant: &mut P, is_cut: bool) -> bool
+/// Brings both fibres of the span east of a position into a condition.
+pub(crate) fn span_is<P: Plant>(ring: &Ring, plant: &mut P, at: u8, condition: Condition) -> bool
     requires prepared { IsPrepared ring.now.settings.rate (length ring.now.ids) (P.fibres plant.old) }
     ensures prepared { IsPrepared ring.now.settings.rate (length ring.now.ids) (P.fibres plant.new) }
 {
-    if !is_cut {
-        return true;
-    }
-    let east = apply(ring, plant, 1, Side::East, Condition::Cut);
-    let west = apply(ring, plant, 2, Side::West, Condition::Cut);
+    let next = if at as usize + 1 < ring.map().len() {
+        at + 1
+    } else {
+        0
+    };
+    let east = apply(ring, plant, at, Side::East, condition);
+    let west = apply(ring, plant, next, Side::West, condition);
     east && west
+}
+
+/// Gives one side of a node a command.
+pub(crate) fn order(ring: &mut Ring, at: u8, side: Side, command: Command) -> bool
+    ensures settings { ring.new.settings ≡ ring.old.settings }
+    ensures ids { ring.new.ids ≡ ring.old.ids }
+    ensures whole { ring.new.broken ≡ ring.old.broken }
+    ensures moment { ring.new.moment ≡ ring.old.moment }
+{
+    if at as usize >= ring.map().len() {
+        return false;
+    }
+    ring.command(Pos(at), side, command);
+    true
+}
+
+/// Holds a node's controller for some turns.
+pub(crate) fn hold(ring: &mut Ring, at: u8, turns: u32) -> bool
+    ensures settings { ring.new.settings ≡ ring.old.settings }
+    ensures ids { ring.new.ids ≡ ring.old.ids }
+    ensures whole { ring.new.broken ≡ ring.old.broken }
+    ensures moment { ring.new.moment ≡ ring.old.moment }
+{
+    if at as usize >= ring.map().len() || turns == 0 || turns > 100 {
+        return false;
+    }
+    ring.hold(Pos(at), turns);
+    true
+}
+
+/// Adds `count` pending slips at a port, where it may have as many.
+pub(crate) fn slip(ring: &mut Ring, port: PortId, turn: Turn, count: u8) -> bool
+    ensures settings { ring.new.settings ≡ ring.old.settings }
+    ensures ids { ring.new.ids ≡ ring.old.ids }
+    ensures whole { ring.new.broken ≡ ring.old.broken }
+    ensures rounds { ring.new.rounds ≡ ring.old.rounds }
+    ensures moment { ring.new.moment ≡ ring.old.moment }
+{
+    if ring.circuits().len() <= port.circuit as usize
+        || count > 16
+        || ring.waiting(port) > 16 - count
+    {
+        return false;
+    }
+    ring.slip(port, turn, count);
+    true
 }
 
 /// Runs `rounds` rounds.

@@ -2,26 +2,19 @@
 ghost use Rattle.std.specs.Prelude.{◌≡◌, ◌≤◌, ◌<◌, OnOk, false, length};
 ghost use Rattle.sdh_plant.specs.Fibres.{HasNoFibres, IsPrepared};
 
-use crate::deliveries::sender_at;
-use crate::rings::{ALPHABETS, cut_if, laid_with, run, settle};
+use crate::deliveries::{Sent, sender_at};
+use crate::rings::{AT_FOUR, ONE_SPAN, PORT_A, PORT_B, TWO_SPANS, laid_as, run, slip};
+use crate::scripts::{Case, Segment, Step, all_come_out};
+use crate::seen::Seen;
 use crate::streams::{Sender, is_sent_from, parities_of};
 use sdh_circuits::{Asked, End, PortId};
 use sdh_node::{Delivered, Turn};
 use sdh_plant::{FibrePlant, Plant};
 use sdh_ring::Ring;
-use sdh_ringmap::Rate;
+use sdh_ringmap::Condition;
 use std::alloc::{AllocError, Global};
 
-/// What a port sends in a round: a number of bytes of its stream from a place on, and the pointer value with them.
-#[derive(Clone, Copy, PartialEq, Eq)]
-struct Sent {
-    from: u64,
-    count: u64,
-    value: u64,
-}
-
-/// The slips of a port's clock: those that wait, those that were made good, and the number of the last round in which
-/// one was.
+/// The slips of a port's clock: those that wait, those that were made good, and the number of the last round in which one was.
 #[derive(Clone, Copy)]
 struct Slips {
     ups: u64,
@@ -141,33 +134,6 @@ fn has_waiting(ring: &Ring, port: PortId, slips: Slips) -> bool {
         && u64::from(ring.waiting(port)) == slips.waiting()
 }
 
-// Adds `count` pending slips at a port, where it may have as many.
-fn slip(ring: &mut Ring, port: PortId, turn: Turn, count: u8) -> bool
-    ensures settings { ring.new.settings ≡ ring.old.settings }
-    ensures ids { ring.new.ids ≡ ring.old.ids }
-    ensures whole { ring.new.broken ≡ ring.old.broken }
-    ensures rounds { ring.new.rounds ≡ ring.old.rounds }
-{
-    if ring.circuits().len() <= port.circuit as usize
-        || count > 16
-        || ring.waiting(port) > 16 - count
-    {
-        return false;
-    }
-    ring.slip(port, turn, count);
-    true
-}
-
-pub(crate) const PORT_A: PortId = PortId {
-    circuit: 0,
-    end: End::A,
-};
-
-pub(crate) const PORT_B: PortId = PortId {
-    circuit: 0,
-    end: End::B,
-};
-
 // ---- random slips
 
 /// A linear congruential generator.
@@ -187,8 +153,8 @@ impl Chance {
     }
 }
 
-/// One end of the circuit: what it sends and with which B3, its slips, what it sent last, and how often its pointer
-/// value went over the largest one and under 0.
+/// One end of the circuit: what it sends and with which B3, its slips, what it sent last, and how often its pointer value went over
+/// the largest one and under 0.
 #[derive(Drop)]
 struct Far<'a> {
     port: PortId,
@@ -284,9 +250,9 @@ fn go<P: Plant>(
     Ok(deliver && has_waiting(ring, PORT_A, a.slips) && has_waiting(ring, PORT_B, b.slips))
 }
 
-/// In how many rounds all was as it is to be, how often both pointer values rose and fell, and how often they went over
-/// the largest value and under 0.
-#[derive(Clone, Copy, Debug)]
+/// In how many rounds all was as it is to be, how often both pointer values rose and fell, and how often they went over the largest
+/// value and under 0.
+#[derive(Clone, Copy)]
 struct Tally {
     right: u64,
     raised: u64,
@@ -332,7 +298,7 @@ fn tallied<P: Plant>(
     }
     let mut a = new_far(alloc, PORT_A, from_a, rounds)?;
     let mut b = new_far(alloc, PORT_B, from_b, rounds)?;
-    let mut ring = laid_with(alloc, plant, Rate::Four, &[1, 2], &[asked])?;
+    let mut ring = laid_as(alloc, plant, AT_FOUR, &[1, 2], &[asked])?;
     let right = count_right(&mut ring, plant, &mut a, &mut b, rounds)?;
     Ok(Tally {
         right,
@@ -343,135 +309,104 @@ fn tallied<P: Plant>(
     })
 }
 
-const ONE_SPAN: Asked<'static> = Asked {
-    to: 2,
-    offset_a: 781,
-    offset_b: 1,
-    trace_a: "to the second node",
-    trace_b: "to the first node",
-    ..ALPHABETS
-};
+// Nothing arrives in round 0. From round 1 on, each interpreter is in Norm. The values wrap both ways.
+fn is_right(tally: Tally) -> bool {
+    tally.right == 1999
+        && tally.raised > 100
+        && tally.lowered > 100
+        && tally.over > 0
+        && tally.under > 0
+}
+
+fn random_slips_come_out(alloc: Global) -> bool {
+    let mut plant = FibrePlant::new();
+    match tallied(alloc, &mut plant, ONE_SPAN, 2000) {
+        Ok(tally) => is_right(tally),
+        Err(_) => false,
+    }
+}
 
 #[test]
 fn neighbours_interpret_random_slips(rt: HostRuntime) {
-    let mut plant = FibrePlant::new();
-    let tally = tallied(rt.alloc(), &mut plant, ONE_SPAN, 2000);
-    assert!(rt; tally.is_ok());
-    let Ok(tally) = tally else {
-        return;
-    };
-    // Nothing arrives in round 0. From round 1 on, each interpreter is in Norm.
-    assert_eq!(rt; tally.right, 1999, "{tally:?}");
-    // The values wrap both ways.
-    assert!(rt;
-        tally.raised > 100 && tally.lowered > 100 && tally.over > 0 && tally.under > 0,
-        "{tally:?}"
-    );
+    assert!(rt; random_slips_come_out(rt.alloc()));
 }
 
 // ---- slips before a settle step
 
-// Returns what a port sends in a round by which `ups` slips up and `downs` slips down were made good, where none was
-// pending for that round.
-fn settled(offset: u64, ups: u8, downs: u8, round: u64) -> Sent {
+/// Returns what a port sends in a round by which these slips up and down were made good, where none was pending for that
+/// round.
+pub(crate) fn settled(offset: u64, made: (u8, u8), round: u64) -> Sent {
     let slips = Slips {
-        raised: u64::from(ups),
-        lowered: u64::from(downs),
+        raised: u64::from(made.0),
+        lowered: u64::from(made.1),
         ..NONE
     };
     sent_in(offset, slips, slips, round)
 }
 
-/// The ups and the downs that wait at both ports before a settle step, whether the span between the second and the
-/// third node is cut both ways, and how many rounds before its last one the other end sent what a port delivers.
-#[derive(Clone, Copy)]
-struct Row {
-    a: (u8, u8),
-    b: (u8, u8),
-    is_cut: bool,
-    hops: u64,
-}
+// A ring of four nodes with a circuit over two spans.
+const NEW: Case = Case {
+    settings: AT_FOUR,
+    ids: &[1, 2, 3, 4],
+    circuits: &[TWO_SPANS],
+    segments: &[],
+};
 
-/// Ups and downs wait at a port.
-pub(crate) fn slip_both(ring: &mut Ring, port: PortId, slips: (u8, u8)) -> bool
-    ensures settings { ring.new.settings ≡ ring.old.settings }
-    ensures ids { ring.new.ids ≡ ring.old.ids }
-    ensures whole { ring.new.broken ≡ ring.old.broken }
-    ensures rounds { ring.new.rounds ≡ ring.old.rounds }
-{
-    let ups = slip(ring, port, Turn::Up, slips.0);
-    let downs = slip(ring, port, Turn::Down, slips.1);
-    ups && downs
-}
+// The span between the second and the third node is cut both ways.
+const CUT: Step = Step::Span(1, Condition::Cut);
 
-// Returns whether a port delivers what the other end sent in a round, once these of its slips were made good.
-fn is_owed(
-    alloc: Global,
-    ring: &Ring,
-    port: PortId,
-    other: Sender<'_>,
-    slips: (u8, u8),
-    round: u64,
-) -> Result<bool, AllocError> {
-    if other.text.is_empty() {
-        return Ok(false);
-    }
-    let parities = parities_of(alloc, other, 150)?;
-    let sent = settled(other.offset, slips.0, slips.1, round);
-    Ok(
-        ring.rounds() == 129
-            && has_waiting(ring, port, NONE)
-            && has_delivered(ring, port, other, parities.as_slice(), sent),
-    )
-}
-
-// Returns whether a row comes out in a new ring.
-fn comes_out<P: Plant>(
-    alloc: Global,
-    ring: &mut Ring,
-    plant: &mut P,
-    row: Row,
-) -> Result<bool, AllocError>
-    requires prepared { IsPrepared ring.old.settings.rate (length ring.old.ids) (P.fibres plant.old) }
-    requires whole { ring.old.broken ≡ false }
-{
-    let a = slip_both(ring, PORT_A, row.a);
-    let b = slip_both(ring, PORT_B, row.b);
-    if !cut_if(ring, plant, row.is_cut) {
-        return Ok(false);
-    }
-    settle(ring, plant)?;
-    let round = 128 - row.hops.min(128);
-    let (from_a, from_b) = (sender_at(&TWO_SPANS, End::A), sender_at(&TWO_SPANS, End::B));
-    let at_a = is_owed(alloc, ring, PORT_A, from_b, row.b, round)?;
-    let at_b = is_owed(alloc, ring, PORT_B, from_a, row.a, round)?;
-    Ok(a && b && at_a && at_b)
-}
-
-// Returns whether a row comes out in a new ring of four nodes with a circuit over two spans.
-fn row_comes_out<P: Plant>(alloc: Global, plant: &mut P, row: Row) -> Result<bool, AllocError>
-    requires { HasNoFibres (P.fibres plant.old) }
-{
-    let mut ring = laid_with(alloc, plant, Rate::Four, &[1, 2, 3, 4], &[TWO_SPANS])?;
-    comes_out(alloc, &mut ring, plant, row)
-}
-
-const TWO_SPANS: Asked<'static> = Asked { to: 3, ..ONE_SPAN };
+const CASES: &[Case] = &[
+    Case {
+        segments: &[Segment {
+            moment: 0,
+            steps: &[CUT, Step::Settle],
+            seen: Seen::Owes((0, 0), (0, 0), 4),
+        }],
+        ..NEW
+    },
+    Case {
+        segments: &[Segment {
+            moment: 0,
+            steps: &[
+                Step::Slip(PORT_A, Turn::Up, 1),
+                Step::Slip(PORT_B, Turn::Down, 1),
+                Step::Settle,
+            ],
+            seen: Seen::Owes((1, 0), (0, 1), 2),
+        }],
+        ..NEW
+    },
+    Case {
+        segments: &[Segment {
+            moment: 0,
+            steps: &[
+                Step::Slip(PORT_A, Turn::Up, 3),
+                Step::Slip(PORT_A, Turn::Down, 1),
+                Step::Slip(PORT_B, Turn::Up, 2),
+                Step::Slip(PORT_B, Turn::Down, 9),
+                CUT,
+                Step::Settle,
+            ],
+            seen: Seen::Owes((3, 1), (2, 9), 4),
+        }],
+        ..NEW
+    },
+    Case {
+        segments: &[Segment {
+            moment: 0,
+            steps: &[
+                Step::Slip(PORT_A, Turn::Up, 16),
+                Step::Slip(PORT_B, Turn::Down, 16),
+                CUT,
+                Step::Settle,
+            ],
+            seen: Seen::Owes((16, 0), (0, 16), 4),
+        }],
+        ..NEW
+    },
+];
 
 #[test]
 fn slips_before_a_settle_step(rt: HostRuntime) {
-    let rows = [
-        ((0, 0), (0, 0), true, 4),
-        ((1, 0), (0, 1), false, 2),
-        ((3, 1), (2, 9), true, 4),
-        ((16, 0), (0, 16), true, 4),
-    ];
-    for (a, b, is_cut, hops) in rows {
-        let mut plant = FibrePlant::new();
-        let row = Row { a, b, is_cut, hops };
-        assert!(rt;
-            row_comes_out(rt.alloc(), &mut plant, row) == Ok(true),
-            "{a:?} {b:?}"
-        );
-    }
+    all_come_out(&rt, rt.alloc(), CASES);
 }

@@ -97,20 +97,20 @@ fn byte_at(sender: Sender<'_>, place: u64) -> u8
     byte_but_b3(sender, number, within)
 }
 
-/// Returns whether these are the 2349 bytes that it sends in a round.
-pub(crate) fn is_sent_in(sender: Sender<'_>, round: u64, bytes: &[u8]) -> bool {
-    if sender.text.is_empty() || sender.offset > 782 || round > 5000 || bytes.len() != 2349 {
+/// Returns whether these are the bytes of its stream from a place on.
+pub(crate) fn is_stream(sender: Sender<'_>, from: u64, bytes: &[u8]) -> bool {
+    if sender.text.is_empty() || sender.offset > 782 || from > 19_000_000 || bytes.len() > 2352 {
         return false;
     }
-    for (k, byte) in bytes.iter().enumerate() {
-        if *byte != byte_at(sender, VC * round + k as u64) {
+    for k in 0..bytes.len() {
+        if bytes[k] != byte_at(sender, from + k as u64) {
             return false;
         }
     }
     true
 }
 
-/// Returns the B3 of `count` VC-4s from the first one on, each of which `is_sent_from` would else make of all VC-4s
+/// Returns the B3 of `count` VC-4s from the first one on, each of which `is_stream` would else make of all VC-4s
 /// before it.
 pub(crate) fn parities_of(
     alloc: Global,
@@ -147,8 +147,8 @@ pub(crate) fn is_sent_from(sender: Sender<'_>, parities: &[u8], from: u64, bytes
     if sender.text.is_empty() || sender.offset > 782 || from > 19_000_000 || bytes.len() > 2352 {
         return false;
     }
-    for (k, byte) in bytes.iter().enumerate() {
-        if *byte != byte_with(sender, parities, from + k as u64) {
+    for k in 0..bytes.len() {
+        if bytes[k] != byte_with(sender, parities, from + k as u64) {
             return false;
         }
     }

@@ -1,9 +1,0 @@
-use Rattle.std.proofs.Common.{◌≡◌, false, length}
-use Rattle.sdh_plant.specs.Fibres.{IsPrepared}
-use Rattle.test_rings.proofs.strangers.all_taken.Given as goal
-
-abbrev pub invariant-steps : goal.invariant-steps
-invariant-steps g l = record {
-  prepared : IsPrepared l.ring.settings.rate (length l.ring.ids) (g.P.Plant.fibres l.plant);
-  whole : l.ring.broken ≡ false;
-}
