@@ -18,10 +18,10 @@ use sdh_scripts::call;
 use std::alloc::Global;
 
 /// Does all that the program does, and returns how it ended. With the word `run` it reads a plan from the source, runs
-/// its ring over the plant, and writes the report of every settle step. With `drop`, a circuit's name and `a` or `b` it
-/// writes of each report all bytes that this port delivers. With `big` and a number it runs the large plan of that
-/// number, and writes how many ports show bytes and how many AIS. With `check` it writes the squelch tables of the plan
-/// that it reads. The last line says how it ended. All is written once, at the end.
+/// its ring over the plant, and writes the report of each settle step that settles. With `drop`, a circuit's name and
+/// `a` or `b` it writes of each report all bytes that this port delivers. With `big` and a number it runs the large
+/// plan of that number, and writes how many ports show bytes and how many AIS. With `check` it writes the squelch
+/// tables of the plan that it reads. The last line says how it ended. All is written once, at the end.
 pub fn sdhring<R: Source, W: Sink, P: Plant>(
     alloc: Global,
     words: &[String],

@@ -34,8 +34,8 @@ abbrev pub ArePassed : ℕ → List ℕ → List ℕ → Option UnderWay → Typ
 ArePassed n clear line None = (clear ≡ []) × (line ≡ [])
 ArePassed n clear line (Some u) = HavePassed n clear line u
 
--- A section that was `first` before a frame has written rows of it, whose bytes are `clear` without scrambling, and
--- `line` on the line. After the ninth row it holds the frame's parities.
+-- A section has written rows of a frame, before which it was `first`. The bytes of these rows are `clear` without
+-- scrambling, and `line` on the line. After the ninth row it holds the frame's parities.
 pub record HasSent (first : SectionKept) (clear line : List ℕ) (now : SectionKept) : Type 0 where
   pub rate : now.rate ≡ first.rate
   pub fresh : first.under_way ≡ None

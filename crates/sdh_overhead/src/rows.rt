@@ -20,8 +20,8 @@ fn head_len(n: usize, row: u16) -> usize
 }
 
 /// What is kept of the rows of a frame so far: their number `passed`, the scrambler, and both parities: `line` of the
-/// bytes on the line, and `clear` of the bytes without scrambling that B2 covers. Of a frame that is read what its rows
-/// say is kept too.
+/// bytes on the line, and `clear` of the bytes without scrambling that B2 covers. Of a frame that is read, what its
+/// rows say is kept too.
 #[derive(Debug, Drop)]
 pub struct Rows {
     pub passed: u16,

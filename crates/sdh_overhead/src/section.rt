@@ -290,7 +290,7 @@ impl Section {
 
 /// Sets the section overhead of the next row of a frame, with the parities of the frame written before, and leaves
 /// pointers and payload as they are. Then it scrambles the row in place. After the ninth row the section keeps the
-/// parities of the frame. While a frame is read row by row no row can be written.
+/// parities of the frame. While a frame is read row by row, no row can be written.
 pub fn write_row(section: &mut Section, row: u16, k1: u8, k2: u8, bytes: &mut [u8])
     requires next { row ≡ next_of section.old.under_way }
     requires way { MayWrite section.old.under_way }
@@ -345,7 +345,7 @@ pub fn write_section(section: &mut Section, k1: u8, k2: u8, frame: &mut FrameBuf
 }
 
 /// Reads the next row of a received frame, and descrambles it in place. The rows of an unframed frame stay as they
-/// came. After the ninth row `finish_read` returns what the frame says. While a frame is written row by row no row can
+/// came. After the ninth row `finish_read` returns what the frame says. While a frame is written row by row, no row can
 /// be read.
 pub fn read_row(section: &mut Section, row: u16, bytes: &mut [u8])
     requires next { row ≡ next_of section.old.under_way }

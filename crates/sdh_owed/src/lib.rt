@@ -33,8 +33,8 @@ pub fn healthy_scripts()
     sdh_laws::converging::healthy_steps_deliver();
 }
 
-/// Over honest fibres a script has a course, whatever it comes to from a new ring on. No port meets a stranger, nor
-/// bytes of long ago, in a settle step right before which no controller of a node that passes traffic through is held.
+/// Over honest fibres each script from a new ring on has a course, however it ends. No port meets a stranger, nor bytes
+/// of long ago, in a settle step right before which no controller of a node that passes traffic through is held.
 /// In any other settle step none does from n(n + 1) rounds after the step's longest hold on. Soon after the last
 /// changes all ports have what they are owed.
 pub fn courses_are_told()

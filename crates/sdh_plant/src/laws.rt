@@ -21,7 +21,7 @@ pub fn calls_keep_a_plant_prepared()
     ensures { StayPrepared }
 {}
 
-/// Honest fibres stay honest, and what comes out of them is what was sent.
+/// Honest fibres stay honest, and what comes out of them is what was sent, as their conditions let it through.
 #[tactic(auto, using(crate::proofs::Calling::stay_honest))]
 pub fn calls_keep_a_plant_honest()
     ensures { StayHonest }

@@ -125,8 +125,8 @@ impl Ring {
     }
 
     /// Holds the controller of a node for the next `turns` rounds, in place of those left of an earlier call. Where the
-    /// node is idle or isolated, the ring stays vouched for (`IsVouched`). In another state it may not: a node that
-    /// passes traffic through goes on doing so, whatever its neighbours' words say.
+    /// node is idle or isolated, the ring stays vouched for (`IsVouched`). Where the node is switched or passes traffic
+    /// through, the ring isn't vouched for then: in a ring that is, only idle or isolated nodes are held.
     pub fn hold(&mut self, at: Pos, turns: u32)
         requires at { at.0 < length self.old.ids }
         requires some { 1 ≤ turns }

@@ -20,7 +20,8 @@ pub record Hears {N : Type 0} (s : Station N) (heard : (ℕ → World N) → ℕ
 
 -- ---- a settle step that didn't end with a quiet window
 
--- Rounds of a settle step ran, and none of them came after a quiet window. What is kept of them is what `kept_of` says.
+-- Rounds of a settle step ran, and none before the last of them ended a quiet window of the step. What is kept of them
+-- is what `kept_of` says.
 pub record RanSome {N : Type 0} (s : Station N) (kept_of : (ℕ → World N) → ℕ → Type 0) (w : World N) (limit : ℕ)
     (mid : World N) : Type 0 where
   pub rounds : List (List Arrival)
