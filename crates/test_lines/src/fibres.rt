@@ -4,7 +4,6 @@ ghost use Rattle.sdh_ringmap.specs.Rates.{n_of};
 ghost use Rattle.sdh_plant.specs.Fibres.{HasNoFibres};
 ghost use Rattle.sdh_plant.specs.Kept.{IsToldAt};
 
-use crate::rows::{all_come_out, is_so};
 use sdh_frame::FrameBuf;
 use sdh_plant::{
     Arrived, Condition, FailingPlant, FibreEvent, FibrePlant, Plant, PlantCall, RecordingPlant,
@@ -12,6 +11,7 @@ use sdh_plant::{
 };
 use sdh_ringmap::{Pos, Rate, Side};
 use std::alloc::{AllocError, Global};
+use std::test::Fail;
 
 const DARK: u8 = 0;
 
@@ -29,12 +29,12 @@ fn is_full_of(frame: &FrameBuf, value: u8) -> bool {
 }
 
 // Returns honest fibres between three nodes.
-fn three_nodes(alloc: Global, rate: Rate) -> Result<FibrePlant, AllocError>
+fn three_nodes(alloc: Global, rate: Rate) -> Result<FibrePlant, Fail>
     ensures nodes { IfOk result (λ p. p.nodes ≡ 3) }
     ensures rate { IfOk result (λ p. p.rate ≡ rate) }
 {
     let mut plant = FibrePlant::new();
-    plant.prepare(alloc, rate, 3).map_err(|_| AllocError)?;
+    plant.prepare(alloc, rate, 3).map_err(|_| "not prepared")?;
     Ok(plant)
 }
 
@@ -85,7 +85,7 @@ fn is_full_of_but(frame: &FrameBuf, value: u8, first: usize, count: usize, other
 
 // Returns whether a fibre that is degraded by `columns` columns inverts the top bits of as many bytes from an index on,
 // the first of row 6, and the fibre the other way is as it was.
-fn is_degraded(alloc: Global, rate: Rate, columns: u16, first: usize) -> Result<bool, AllocError> {
+fn is_degraded(alloc: Global, rate: Rate, columns: u16, first: usize) -> Result<bool, Fail> {
     let count = usize::from(columns);
     if count < 1 || count > 3 * rate.n() || first > 30_000 || first + count > 2430 * rate.n() {
         return Ok(false);
@@ -121,23 +121,19 @@ const DEGREES: &[(Rate, u16, usize)] = &[
     (Rate::Sixteen, 48, 21_600),
 ];
 
-fn right_degrees(alloc: Global) -> usize {
-    for i in 0..DEGREES.len() {
-        let (rate, columns, first) = DEGREES[i];
-        if !is_so(is_degraded(alloc, rate, columns, first)) {
-            return i;
-        }
-    }
-    DEGREES.len()
-}
-
 #[test]
-fn a_degraded_fibre_inverts_the_first_columns_of_row_6(rt: HostRuntime) {
-    all_come_out(&rt, right_degrees(rt.alloc()), DEGREES.len());
+fn a_degraded_fibre_inverts_the_first_columns_of_row_6(rt: HostRuntime) -> Result<(), Fail> {
+    for (rate, columns, first) in DEGREES {
+        assert!(rt;
+            is_degraded(rt.alloc(), *rate, *columns, *first)?,
+            "{columns}"
+        );
+    }
+    Ok(())
 }
 
 // Returns two frames, of bytes 1 and 2, and darkness between them.
-fn three_arrivals(alloc: Global, rate: Rate) -> Result<Vec<Told>, AllocError>
+fn three_arrivals(alloc: Global, rate: Rate) -> Result<Vec<Told>, Fail>
     ensures { IfOk result (λ v. All (IsToldAt rate) v.items) }
 {
     let mut arrivals = Vec::new(alloc);
@@ -148,10 +144,10 @@ fn three_arrivals(alloc: Global, rate: Rate) -> Result<Vec<Told>, AllocError>
 }
 
 // Prepares a plant, sends a frame over a span, and returns what comes.
-fn over_a_span<P: Plant>(alloc: Global, plant: &mut P, rate: Rate) -> Result<Option<u8>, AllocError>
+fn over_a_span<P: Plant>(alloc: Global, plant: &mut P, rate: Rate) -> Result<Option<u8>, Fail>
     requires { HasNoFibres (P.fibres plant.old) }
 {
-    plant.prepare(alloc, rate, 2).map_err(|_| AllocError)?;
+    plant.prepare(alloc, rate, 2).map_err(|_| "not prepared")?;
     let mut frame = frame_of(alloc, rate, 0)?;
     if !sends(plant, Pos(0), Side::East, &mut frame, 0x35) {
         return Ok(None);
@@ -159,21 +155,22 @@ fn over_a_span<P: Plant>(alloc: Global, plant: &mut P, rate: Rate) -> Result<Opt
     Ok(came(plant, Pos(1), Side::West, &mut frame))
 }
 
-// Returns whether byte 35 comes over a span of each plant, or the byte 1 that a plant is given.
-fn over_each(alloc: Global, rate: Rate) -> Result<bool, AllocError> {
+// Returns what comes over a span of each plant. The last one is given byte 1.
+fn over_each(alloc: Global, rate: Rate) -> Result<[Option<u8>; 4], Fail> {
     let mut failing = FailingPlant::new(alloc, &[(PlantCall::Send, 2)])?;
     let mut told = ToldPlant::new(rate, three_arrivals(alloc, rate)?);
-    let honest = over_a_span(alloc, &mut FibrePlant::new(), rate)?;
-    let recorded = over_a_span(alloc, &mut RecordingPlant::new(1), rate)?;
-    let failed = over_a_span(alloc, &mut failing, rate)?;
-    let given = over_a_span(alloc, &mut told, rate)?;
-    Ok(honest == SENT && recorded == SENT && failed == SENT && given == Some(1))
+    Ok([
+        over_a_span(alloc, &mut FibrePlant::new(), rate)?,
+        over_a_span(alloc, &mut RecordingPlant::new(1), rate)?,
+        over_a_span(alloc, &mut failing, rate)?,
+        over_a_span(alloc, &mut told, rate)?,
+    ])
 }
 
-const SENT: Option<u8> = Some(0x35);
-
 #[test]
-fn a_span_of_any_plant(rt: HostRuntime) {
-    assert!(rt; is_so(over_each(rt.alloc(), Rate::Four)));
-    assert!(rt; is_so(over_each(rt.alloc(), Rate::Sixteen)));
+fn a_span_of_any_plant(rt: HostRuntime) -> Result<(), Fail> {
+    let wanted = [Some(0x35), Some(0x35), Some(0x35), Some(1)];
+    assert!(rt; over_each(rt.alloc(), Rate::Four)? == wanted);
+    assert!(rt; over_each(rt.alloc(), Rate::Sixteen)? == wanted);
+    Ok(())
 }

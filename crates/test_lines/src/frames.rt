@@ -1,10 +1,9 @@
 //! Places in frames by the layout's own tables.
 ghost use Rattle.std.specs.Prelude.{◌≡◌, ◌*◌, ◌<◌, ◌≤◌};
 
-use crate::rows::{all_come_out, is_so};
 use sdh_frame::{Field, FrameBuf, Place, au_place, place_of, pointer_place};
 use sdh_ringmap::Rate;
-use std::alloc::{AllocError, Global};
+use std::test::Fail;
 
 // Returns what a frame has in a row and a column, both counted from 1, and nothing outside of it.
 fn field(rate: Rate, row: u16, column: u16) -> Option<Field> {
@@ -41,19 +40,14 @@ const FIELDS: &[(Rate, u16, u16, Field)] = &[
     (Rate::Sixteen, 5, 97, Field::K2),
 ];
 
-fn right_fields() -> usize {
-    for i in 0..FIELDS.len() {
-        let (rate, row, column, wanted) = FIELDS[i];
-        if field(rate, row, column) != Some(wanted) {
-            return i;
-        }
-    }
-    FIELDS.len()
-}
-
 #[test]
 fn fields_of_frames(rt: HostRuntime) {
-    all_come_out(&rt, right_fields(), FIELDS.len());
+    for (rate, row, column, wanted) in FIELDS {
+        assert!(rt;
+            field(*rate, *row, *column) == Some(*wanted),
+            "{row} {column}"
+        );
+    }
 }
 
 // Returns the row and the column of a byte of an AU-4: of its payload, or of its pointer.
@@ -90,19 +84,15 @@ const PLACES: &[(Rate, u16, bool, u16, u16, u16)] = &[
     (Rate::Sixteen, 16, false, 8, 4, 144),
 ];
 
-fn right_places() -> usize {
-    for i in 0..PLACES.len() {
-        let (rate, au, is_payload, index, row, column) = PLACES[i];
-        if stands(rate, au, is_payload, index) != Some((row, column)) {
-            return i;
-        }
-    }
-    PLACES.len()
-}
-
 #[test]
 fn places_of_an_au(rt: HostRuntime) {
-    all_come_out(&rt, right_places(), PLACES.len());
+    for (rate, au, is_payload, index, row, column) in PLACES {
+        let wanted = Some((*row, *column));
+        assert!(rt;
+            stands(*rate, *au, *is_payload, *index) == wanted,
+            "{au} {index}"
+        );
+    }
 }
 
 // Returns whether K1 and K2 of an STM-4 frame have the indexes 4332 and 4344.
@@ -117,14 +107,11 @@ fn has_k_bytes_there(frame: &mut FrameBuf) -> bool
     k2 == 0x26 && bytes[4332] == 0xB3 && bytes[4333] == 0
 }
 
-fn has_bytes(alloc: Global) -> Result<bool, AllocError> {
-    let mut frame = FrameBuf::try_new(alloc, Rate::Four)?;
-    Ok(has_k_bytes_there(&mut frame))
-}
-
 #[test]
-fn bytes_of_a_frame(rt: HostRuntime) {
-    assert!(rt; is_so(has_bytes(rt.alloc())));
+fn bytes_of_a_frame(rt: HostRuntime) -> Result<(), Fail> {
+    let mut frame = FrameBuf::try_new(rt.alloc(), Rate::Four)?;
+    assert!(rt; has_k_bytes_there(&mut frame));
+    Ok(())
 }
 
 // Returns whether a payload byte of AU-4 number 2 of an STM-4 frame, by its index, stands at a place.
@@ -155,53 +142,30 @@ fn pointer_stands_at(frame: &mut FrameBuf, index: u16, column: u16) -> bool
     frame.get(place) == 0xA5 && frame.au(2).pointer(index) == 0xA5
 }
 
-fn payload_stands(frame: &mut FrameBuf) -> bool
-    requires { frame.old.rate ≡ Rate.Four }
-    ensures { frame.new.rate ≡ frame.old.rate }
-{
-    payload_stands_at(frame, 0, 1, 38)
-        && payload_stands_at(frame, 783, 4, 38)
-        && payload_stands_at(frame, 2348, 9, 1078)
-}
-
-fn pointer_stands(frame: &mut FrameBuf) -> bool
-    requires { frame.old.rate ≡ Rate.Four }
-{
-    pointer_stands_at(frame, 0, 2)
-        && pointer_stands_at(frame, 3, 14)
-        && pointer_stands_at(frame, 8, 34)
-}
-
-fn both_stand(alloc: Global) -> Result<bool, AllocError> {
-    let mut frame = FrameBuf::try_new(alloc, Rate::Four)?;
-    Ok(payload_stands(&mut frame) && pointer_stands(&mut frame))
-}
-
 #[test]
-fn places_of_a_view(rt: HostRuntime) {
-    assert!(rt; is_so(both_stand(rt.alloc())));
+fn places_of_a_view(rt: HostRuntime) -> Result<(), Fail> {
+    let mut frame = FrameBuf::try_new(rt.alloc(), Rate::Four)?;
+    assert!(rt; payload_stands_at(&mut frame, 0, 1, 38));
+    assert!(rt; payload_stands_at(&mut frame, 783, 4, 38));
+    assert!(rt; payload_stands_at(&mut frame, 2348, 9, 1078));
+    assert!(rt; pointer_stands_at(&mut frame, 0, 2));
+    assert!(rt; pointer_stands_at(&mut frame, 3, 14));
+    assert!(rt; pointer_stands_at(&mut frame, 8, 34));
+    Ok(())
 }
 
-// Copies AU-4 number 2 of another frame, of ones, to number 16, and writes its pointer.
-fn write_one(frame: &mut FrameBuf, other: &mut FrameBuf)
-    requires rate { frame.old.rate ≡ Rate.Sixteen }
-    requires other_rate { other.old.rate ≡ Rate.Sixteen }
-    ensures rate { frame.new.rate ≡ Rate.Sixteen }
-{
-    other.au_mut(2).fill_ones();
-    let mut view = frame.au_mut(16);
-    view.copy_payload(&other.au(2));
-    view.set_pointer(0, 0x68);
-}
-
-// A view for writing is done with before the next one is lent.
+// Copies AU-4 number 2 of another frame to number 16. A view for writing is done with before the next one is lent.
 fn write_two(frame: &mut FrameBuf, other: &mut FrameBuf)
     requires rate { frame.old.rate ≡ Rate.Sixteen }
     requires other_rate { other.old.rate ≡ Rate.Sixteen }
     ensures rate { frame.new.rate ≡ Rate.Sixteen }
 {
-    write_one(frame, other);
-    frame.au_mut(1).set_payload(0, 7);
+    other.au_mut(2).fill_ones();
+    let mut first = frame.au_mut(16);
+    first.copy_payload(&other.au(2));
+    first.set_pointer(0, 0x68);
+    let mut second = frame.au_mut(1);
+    second.set_payload(0, 7);
 }
 
 // Returns the first pointer byte of an AU-4 of an STM-16 frame, and the first and the last byte of its payload.
@@ -214,22 +178,13 @@ fn ends_of(frame: &FrameBuf, au: u16) -> [u8; 3]
     [view.pointer(0), view.payload(0), view.payload(2348)]
 }
 
-fn views_are_apart(frame: &FrameBuf) -> bool
-    requires { frame.now.rate ≡ Rate.Sixteen }
-{
-    ends_of(frame, 16) == [0x68, 0xFF, 0xFF]
-        && ends_of(frame, 15) == [0, 0, 0]
-        && ends_of(frame, 1) == [0, 7, 0]
-}
-
-fn two_views_are_apart(alloc: Global) -> Result<bool, AllocError> {
-    let mut frame = FrameBuf::try_new(alloc, Rate::Sixteen)?;
-    let mut other = FrameBuf::try_new(alloc, Rate::Sixteen)?;
-    write_two(&mut frame, &mut other);
-    Ok(views_are_apart(&frame))
-}
-
 #[test]
-fn views_are_lent_one_after_the_other(rt: HostRuntime) {
-    assert!(rt; is_so(two_views_are_apart(rt.alloc())));
+fn views_are_lent_one_after_the_other(rt: HostRuntime) -> Result<(), Fail> {
+    let mut frame = FrameBuf::try_new(rt.alloc(), Rate::Sixteen)?;
+    let mut other = FrameBuf::try_new(rt.alloc(), Rate::Sixteen)?;
+    write_two(&mut frame, &mut other);
+    assert_eq!(rt; ends_of(&frame, 16), [0x68, 0xFF, 0xFF]);
+    assert_eq!(rt; ends_of(&frame, 15), [0, 0, 0]);
+    assert_eq!(rt; ends_of(&frame, 1), [0, 7, 0]);
+    Ok(())
 }

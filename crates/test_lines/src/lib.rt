@@ -15,8 +15,6 @@ mod pointers;
 #[cfg(test)]
 mod retiming;
 #[cfg(test)]
-mod rows;
-#[cfg(test)]
 mod sections;
 #[cfg(test)]
 mod watches;

@@ -1,9 +1,9 @@
 //! Parities and scrambling bytes that are known from outside.
 ghost use Rattle.std.specs.Prelude.{◌≡◌, ◌*◌, ◌<◌, ◌≤◌, IfOk, vec_len, length};
 
-use crate::rows::{all_come_out, is_so};
 use sdh_parity::{Bip8, BipSection, Rate9, bip_section, bip8, scramble, violations};
 use std::alloc::{AllocError, Global};
+use std::test::Fail;
 
 // Some bytes, and their parity.
 const PARITIES: &[(&[u8], u8)] = &[(&[], 0), (&[0xF6, 0x28], 0xDE)];
@@ -14,29 +14,16 @@ const DIFFERENT: &[(&[u8], &[u8], u32)] = &[
     (&[0x80, 0, 0xFF], &[0, 0, 0xFE], 2),
 ];
 
-fn right_parities() -> usize {
-    for i in 0..PARITIES.len() {
-        if bip8(PARITIES[i].0) != PARITIES[i].1 {
-            return i;
-        }
-    }
-    PARITIES.len()
-}
-
-fn right_differences() -> usize {
-    for i in 0..DIFFERENT.len() {
-        let (sent, found, count) = DIFFERENT[i];
-        if sent.len() != found.len() || sent.len() > 8 || violations(sent, found) != count {
-            return i;
-        }
-    }
-    DIFFERENT.len()
-}
-
 #[test]
 fn parities_of_bytes(rt: HostRuntime) {
-    all_come_out(&rt, right_parities(), PARITIES.len());
-    all_come_out(&rt, right_differences(), DIFFERENT.len());
+    for (bytes, parity) in PARITIES {
+        assert!(rt; bip8(bytes) == *parity, "{bytes:?}");
+    }
+    for (sent, found, count) in DIFFERENT {
+        assert!(rt;
+            sent.len() == found.len() && sent.len() < 9 && violations(sent, found) == *count
+        );
+    }
 }
 
 fn frame(alloc: Global, n: usize) -> Result<Vec<u8>, AllocError>
@@ -59,23 +46,14 @@ fn scrambled(alloc: Global, n: usize) -> Result<Vec<u8>, AllocError>
 // The sequence starts so, and repeats after 127 bytes.
 const SEQUENCE: [u8; 8] = [0xFE, 0x04, 0x18, 0x51, 0xE4, 0x59, 0xD4, 0xFA];
 
-// Returns whether the bytes of a scrambled frame from an index on are these, and the one before is a zero.
-fn begins_at(bytes: &[u8], first: usize) -> bool
-    requires first { 1 ≤ first }
-    requires bytes { first ≤ length bytes.now }
-{
-    bytes[first - 1] == 0 && bytes[first..].starts_with(&SEQUENCE)
-}
-
-fn has_the_sequence(alloc: Global) -> Result<bool, AllocError> {
-    let four = scrambled(alloc, 4)?;
-    let sixteen = scrambled(alloc, 16)?;
-    Ok(four[36 + 127] == 0xFE && begins_at(&four, 36) && begins_at(&sixteen, 144))
-}
-
 #[test]
-fn the_sequence(rt: HostRuntime) {
-    assert!(rt; is_so(has_the_sequence(rt.alloc())));
+fn the_sequence(rt: HostRuntime) -> Result<(), Fail> {
+    let four = scrambled(rt.alloc(), 4)?;
+    assert!(rt; four[35] == 0 && four[36 + 127] == 0xFE);
+    assert!(rt; &four.as_slice()[36..44] == SEQUENCE.as_slice());
+    let sixteen = scrambled(rt.alloc(), 16)?;
+    assert!(rt; sixteen[143] == 0 && &sixteen.as_slice()[144..152] == SEQUENCE.as_slice());
+    Ok(())
 }
 
 // Returns BIP-24N of an STM-4 frame with five bytes set. The first 9N columns of rows 1 to 3 are left out: of STM-4 the
@@ -105,17 +83,15 @@ fn of_sixteen(sixteen: &mut [u8]) -> [u8; 48]
     wide
 }
 
-fn are_of_the_section(alloc: Global) -> Result<bool, AllocError> {
-    let lanes = of_four(frame(alloc, 4)?.as_mut_slice());
-    let wide = of_sixteen(frame(alloc, 16)?.as_mut_slice());
-    Ok(lanes == LANES && wide[0] == 0x20 && wide[46] == 0 && wide[47] == 0x10)
-}
-
-const LANES: [u8; 12] = [0x10, 0x20, 0, 0, 0, 0, 0, 0, 0, 0, 0, 0x40];
-
 #[test]
-fn section_parities(rt: HostRuntime) {
-    assert!(rt; is_so(are_of_the_section(rt.alloc())));
+fn section_parities(rt: HostRuntime) -> Result<(), Fail> {
+    let mut four = frame(rt.alloc(), 4)?;
+    let lanes = of_four(four.as_mut_slice());
+    assert!(rt; lanes == [0x10, 0x20, 0, 0, 0, 0, 0, 0, 0, 0, 0, 0x40]);
+    let mut sixteen = frame(rt.alloc(), 16)?;
+    let wide = of_sixteen(sixteen.as_mut_slice());
+    assert!(rt; wide[0] == 0x20 && wide[46] == 0 && wide[47] == 0x10);
+    Ok(())
 }
 
 // Returns the value of byte i of a frame that is cut.
@@ -152,31 +128,24 @@ fn of_pieces(bytes: &[u8], cut: usize, wide: &mut [u8]) -> u8
     sum.value()
 }
 
-// Returns both parities of mixed bytes, added one by one.
-fn one_by_one() -> (u8, [u8; 48]) {
+// However a frame is cut, the parities are those of its bytes, added one by one.
+#[test]
+fn a_frame_cut_after_each_of_its_first_bytes(rt: HostRuntime) -> Result<(), Fail> {
+    let bytes = mixed_frame(rt.alloc())?;
     let mut parity = 0;
     let mut lanes = [0; 48];
     for i in 0..38880 {
         parity ^= mixed(i);
         lanes[i % 48] ^= mixed(i);
     }
-    (parity, lanes)
-}
-
-// However a frame is cut, the parities are those of its bytes, added one by one.
-fn right_cuts(alloc: Global) -> Result<usize, AllocError> {
-    let bytes = mixed_frame(alloc)?;
-    let (parity, lanes) = one_by_one();
     for cut in 0..201 {
         let mut wide = [0xFF; 48];
-        if of_pieces(bytes.as_slice(), cut, &mut wide) != parity || wide != lanes {
-            return Ok(cut);
-        }
+        assert_eq!(rt;
+            of_pieces(bytes.as_slice(), cut, &mut wide),
+            parity,
+            "{cut}"
+        );
+        assert_eq!(rt; wide, lanes, "{cut}");
     }
-    Ok(201)
-}
-
-#[test]
-fn a_frame_cut_after_each_of_its_first_bytes(rt: HostRuntime) {
-    all_come_out(&rt, right_cuts(rt.alloc()).unwrap_or(0), 201);
+    Ok(())
 }

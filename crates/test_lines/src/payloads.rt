@@ -2,9 +2,9 @@
 ghost use Rattle.std.specs.Prelude.{◌≡◌, ◌^◌, ◌<◌, ◌+◌, length};
 ghost use Rattle.sdh_payload.specs.Clock.{waiting};
 
-use crate::rows::all_come_out;
 use sdh_payload::{Cells, ChunkForm, Feed, Port, PortError, take_chunk};
 use std::alloc::{AllocError, Global};
+use std::test::Fail;
 
 // 64 bytes, the longest text.
 const LONGEST: &[u8] = b" ABCDEFGHIJKLMNOPQRSTUVWXYZ-abcdefghijklmnopqrstuvwxyz-01234567~";
@@ -42,19 +42,14 @@ fn is_answered(text: &[u8], trace: &[u8], offset: u16, wrong: Option<PortError>)
     }
 }
 
-fn right_ports() -> usize {
-    for i in 0..PORTS.len() {
-        let (text, trace, offset, wrong) = PORTS[i];
-        if !is_answered(text, trace, offset, wrong) {
-            return i;
-        }
-    }
-    PORTS.len()
-}
-
 #[test]
 fn says_what_is_wrong_with_a_port(rt: HostRuntime) {
-    all_come_out(&rt, right_ports(), PORTS.len());
+    for (text, trace, offset, wrong) in PORTS {
+        assert!(rt;
+            is_answered(text, trace, *offset, *wrong),
+            "{text:?} {trace:?} {offset}"
+        );
+    }
 }
 
 // Puts the next chunk of a port that never slips into `out`.
@@ -91,33 +86,27 @@ const FRONTS: &[(&[u8], u64, &[u8])] = &[
     (b"A", 0, b"\0AAAAAAAAAAAAAAA"),
 ];
 
-// Returns whether a chunk of the port with this text and this offset has these bytes from an index on, and 2349 in all.
-fn has_at(sent: (&[u8], u16), number: u64, index: usize, bytes: &[u8], out: &mut Cells) -> bool {
-    let Ok(port) = Port::new(sent.0, b"c1", sent.1) else {
-        return false;
-    };
+// Returns whether a chunk of a port has these bytes from an index on, and 2349 in all.
+fn has_at(port: &Port, number: u64, index: usize, bytes: &[u8], out: &mut Cells) -> bool {
     if number > 1000 {
         return false;
     }
-    chunk(&port, number, out);
+    chunk(port, number, out);
     let cells = out.as_slice();
     cells.len() == 2349 && cells.len() >= index && cells[index..].starts_with(bytes)
 }
 
-fn right_fronts(alloc: Global) -> Result<usize, AllocError> {
-    let mut out = Cells::try_new(alloc)?;
-    for i in 0..FRONTS.len() {
-        let (text, number, front) = FRONTS[i];
-        if !has_at((text, 0), number, 0, front, &mut out) {
-            return Ok(i);
-        }
-    }
-    Ok(FRONTS.len())
-}
-
 #[test]
-fn sends_the_text_over_all_containers(rt: HostRuntime) {
-    all_come_out(&rt, right_fronts(rt.alloc()).unwrap_or(0), FRONTS.len());
+fn sends_the_text_over_all_containers(rt: HostRuntime) -> Result<(), Fail> {
+    let mut out = Cells::try_new(rt.alloc())?;
+    for (text, number, front) in FRONTS {
+        let port = Port::new(text, b"c1", 0).expect(&rt, "a port");
+        assert!(rt;
+            has_at(&port, *number, 0, front, &mut out),
+            "{text:?} {number}"
+        );
+    }
+    Ok(())
 }
 
 // The offset, the index of J1 in chunk 127, and J1: that of container 128, or of 127.
@@ -128,20 +117,14 @@ const TRACES: &[(u16, usize, u8)] = &[
     (782, 780, 0x63),
 ];
 
-fn right_traces(alloc: Global) -> Result<usize, AllocError> {
-    let mut out = Cells::try_new(alloc)?;
-    for i in 0..TRACES.len() {
-        let (offset, index, j1) = TRACES[i];
-        if !has_at((b"ALPHA", offset), 127, index, &[j1], &mut out) {
-            return Ok(i);
-        }
-    }
-    Ok(TRACES.len())
-}
-
 #[test]
-fn begins_a_container_at_the_offset(rt: HostRuntime) {
-    all_come_out(&rt, right_traces(rt.alloc()).unwrap_or(0), TRACES.len());
+fn begins_a_container_at_the_offset(rt: HostRuntime) -> Result<(), Fail> {
+    let mut out = Cells::try_new(rt.alloc())?;
+    for (offset, index, j1) in TRACES {
+        let port = Port::new(b"ALPHA", b"c1", *offset).expect(&rt, "a port");
+        assert!(rt; has_at(&port, 127, *index, &[*j1], &mut out), "at {offset}");
+    }
+    Ok(())
 }
 
 // Returns whether the first column of a container has J1, B3, C2, which says that it is equipped, and zeros. At offset
@@ -170,39 +153,29 @@ fn parity(bytes: &[u8]) -> u8 {
     parity
 }
 
-// Returns whether the first four containers have these bytes J1, and as B3 the parity of the container before.
-fn right_containers(port: &Port, out: &mut Cells) -> usize {
-    let mut b3 = 0;
-    for i in 0..J1.len() {
-        chunk(port, i as u64, out);
-        if !has_overhead(out.as_slice(), J1[i], b3) {
-            return i;
-        }
-        b3 = parity(out.as_slice());
-    }
-    J1.len()
-}
-
-const J1: &[u8; 4] = b"c1  ";
-
-fn right_overheads(alloc: Global) -> Option<usize> {
-    let mut out = Cells::try_new(alloc).ok()?;
-    let port = Port::new(b"ALPHA", b"c1", 522).ok()?;
-    Some(right_containers(&port, &mut out))
-}
-
 #[test]
-fn writes_the_path_overhead(rt: HostRuntime) {
-    all_come_out(&rt, right_overheads(rt.alloc()).unwrap_or(0), J1.len());
+fn writes_the_path_overhead(rt: HostRuntime) -> Result<(), Fail> {
+    let mut out = Cells::try_new(rt.alloc())?;
+    let port = Port::new(b"ALPHA", b"c1", 522).expect(&rt, "a port");
+    let mut b3 = 0;
+    let mut number = 0u64;
+    for j1 in b"c1  " {
+        assert!(rt; number < 4);
+        chunk(&port, number, &mut out);
+        assert!(rt; has_overhead(out.as_slice(), *j1, b3), "{number}");
+        b3 = parity(out.as_slice());
+        number += 1;
+    }
+    Ok(())
 }
 
 // Returns a payload: its byte i is i modulo 251.
-fn payload() -> [u8; 2349] {
-    let mut payload = [0; 2349];
-    for i in 0..2349usize {
-        payload[i] = (i % 251) as u8;
+fn payload(alloc: Global) -> Result<Vec<u8>, AllocError> {
+    let mut payload = Vec::new(alloc);
+    for i in 0..2349u32 {
+        payload.push((i % 251) as u8)?;
     }
-    payload
+    Ok(payload)
 }
 
 // The form, the number of bytes, and those from index 781 on: 781 is 28 modulo 251.
@@ -216,26 +189,20 @@ const FORMS: &[(ChunkForm, usize, &[u8])] = &[
 // that of index 2348 and so 89 modulo 251.
 fn is_taken(chunk: &[u8], len: usize, middle: &[u8]) -> bool {
     chunk.len() == len
-        && len > 2000
-        && chunk[781..].starts_with(middle)
-        && chunk[0] == 0
-        && chunk[len - 1] == 89
-}
-
-fn right_forms(alloc: Global) -> Result<usize, AllocError> {
-    let mut out = Cells::try_new(alloc)?;
-    out.push(9);
-    for i in 0..FORMS.len() {
-        let (form, len, middle) = FORMS[i];
-        take_chunk(&payload(), &[253, 254, 255], form, &mut out);
-        if !is_taken(out.as_slice(), len, middle) {
-            return Ok(i);
-        }
-    }
-    Ok(FORMS.len())
+        && chunk.get(781..789) == Some(middle)
+        && chunk.first() == Some(&0)
+        && chunk.last() == Some(&89)
 }
 
 #[test]
-fn takes_a_chunk_of_each_form(rt: HostRuntime) {
-    all_come_out(&rt, right_forms(rt.alloc()).unwrap_or(0), FORMS.len());
+fn takes_a_chunk_of_each_form(rt: HostRuntime) -> Result<(), Fail> {
+    let payload = payload(rt.alloc())?;
+    assert!(rt; payload.len() == 2349);
+    let mut out = Cells::try_new(rt.alloc())?;
+    out.push(9);
+    for (form, len, middle) in FORMS {
+        take_chunk(&payload, &[253, 254, 255], *form, &mut out);
+        assert!(rt; is_taken(out.as_slice(), *len, middle), "{form:?}");
+    }
+    Ok(())
 }

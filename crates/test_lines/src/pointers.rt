@@ -1,6 +1,4 @@
 //! Words, steps of interpreters and of generators, worked by hand from the tables.
-
-use crate::rows::all_come_out;
 use sdh_pointer::{Action, Form, Gen, Interp, Word, read_word, word_of, write_word};
 
 const WORDS: &[(Form, u16, u16)] = &[
@@ -13,27 +11,17 @@ const WORDS: &[(Form, u16, u16)] = &[
     (Form::Ais, 0, 0xFFFF),
 ];
 
-fn right_words() -> usize {
-    for i in 0..WORDS.len() {
-        let (form, value, word) = WORDS[i];
-        if value > 782 || word_of(form, value) != Word(word) {
-            return i;
-        }
-    }
-    WORDS.len()
-}
-
-// Returns whether a word is written as its two bytes, and another one is read of its own.
-fn words_have_two_bytes() -> bool {
-    let mut bytes = [0u8; 2];
-    write_word(Word(0x6A0A), &mut bytes);
-    bytes == [0x6A, 0x0A] && read_word(&[0x98, 0x01]) == Word(0x9801)
-}
-
 #[test]
 fn words(rt: HostRuntime) {
-    assert!(rt; words_have_two_bytes());
-    all_come_out(&rt, right_words(), WORDS.len());
+    for (form, value, word) in WORDS {
+        assert!(rt;
+            *value <= 782 && word_of(*form, *value) == Word(*word),
+            "{word:04x}"
+        );
+    }
+    let mut bytes = [0u8; 2];
+    write_word(Word(0x6A0A), &mut bytes);
+    assert!(rt; bytes == [0x6A, 0x0A] && read_word(&[0x98, 0x01]) == Word(0x9801));
 }
 
 // Returns an interpreter that has read these words, each the number of times beside it.
@@ -70,24 +58,16 @@ const READ: &[Read] = &[
     (&[NORM, READY, (0, 7)], 0, Action::Ais, 0, true),
 ];
 
-fn is_read(row: &Read) -> bool {
-    let (before, word, action, value, moved) = *row;
-    let mut interp = after(before);
-    interp.step(Word(word)) == action && interp.value() == value && interp.moved() == moved
-}
-
-fn right_reads() -> usize {
-    for i in 0..READ.len() {
-        if !is_read(&READ[i]) {
-            return i;
-        }
-    }
-    READ.len()
-}
-
 #[test]
 fn rows_of_the_interpreter(rt: HostRuntime) {
-    all_come_out(&rt, right_reads(), READ.len());
+    for (before, word, action, value, moved) in READ {
+        let mut interp = after(before);
+        let found = (interp.step(Word(*word)), interp.value(), interp.moved());
+        assert!(rt;
+            found == (*action, *value, *moved),
+            "the word {word:04x} after {before:?}"
+        );
+    }
 }
 
 // A stream that starts, justifies once and then has a word that is a new value.
@@ -100,36 +80,18 @@ const STREAM: &[(u16, Action, u16)] = &[
     (0x68A1, Action::Normal, 523),
 ];
 
-fn right_of_the_stream(interp: &mut Interp) -> usize {
-    for i in 0..STREAM.len() {
-        let (word, action, value) = STREAM[i];
-        if interp.step(Word(word)) != action || interp.value() != value {
-            return i;
-        }
-    }
-    STREAM.len()
-}
-
 #[test]
-fn a_stream(rt: HostRuntime) {
+fn streams(rt: HostRuntime) {
     let mut interp = Interp::new();
     assert!(rt; !interp.moved());
-    all_come_out(&rt, right_of_the_stream(&mut interp), STREAM.len());
-}
-
-fn is_lost() -> bool {
-    let mut interp = Interp::new();
-    for _ in 0..8 {
-        if interp.step(Word(0)) != Action::Ais {
-            return false;
-        }
+    for (word, action, value) in STREAM {
+        let found = (interp.step(Word(*word)), interp.value());
+        assert!(rt; found == (*action, *value), "{word:04x}");
     }
-    true
-}
-
-#[test]
-fn a_stream_without_a_pointer(rt: HostRuntime) {
-    assert!(rt; is_lost());
+    let mut lost = Interp::new();
+    for _ in 0..8 {
+        assert!(rt; lost.step(Word(0)) == Action::Ais);
+    }
 }
 
 // In this order: the input, the form and the word of the answer, whether it moved, and the value sent.
@@ -147,27 +109,15 @@ const MADE: &[Made] = &[
     (Action::Ais, 5, Form::Ais, 0xFFFF, true, None),
 ];
 
-fn is_made(generator: &mut Gen, row: &Made) -> bool {
-    let (action, value, form, word, moved, sending) = *row;
-    value <= 782
-        && generator.step(action, value) == form
-        && generator.word().0 == word
-        && generator.moved() == moved
-        && generator.sending() == sending
-}
-
-fn right_of_the_made(generator: &mut Gen) -> usize {
-    for i in 0..MADE.len() {
-        if !is_made(generator, &MADE[i]) {
-            return i;
-        }
-    }
-    MADE.len()
-}
-
 #[test]
 fn rows_of_the_generator(rt: HostRuntime) {
     let mut generator = Gen::new();
     assert!(rt; generator.word() == Word(0xFFFF) && !generator.moved());
-    all_come_out(&rt, right_of_the_made(&mut generator), MADE.len());
+    for (action, value, form, word, moved, sending) in MADE {
+        assert!(rt; *value <= 782);
+        let made = generator.step(*action, *value);
+        let found = (made, generator.word().0, generator.moved());
+        assert!(rt; found == (*form, *word, *moved), "{action:?} {value}");
+        assert!(rt; generator.sending() == *sending, "{action:?} {value}");
+    }
 }

@@ -1,9 +1,9 @@
 //! Runs over objects in memory: each number with its text.
 
-use crate::rows::{all_come_out, is_so};
 use sdh_outside::{MemSink, MemSource};
 use sdh_retime_cli::retime;
 use std::alloc::{AllocError, Global};
+use std::test::Fail;
 
 // Returns the first bytes of the stream whose byte number i is 97 + i mod 23.
 fn stream(alloc: Global, len: usize) -> Result<Vec<u8>, AllocError> {
@@ -52,19 +52,6 @@ fn run(
     Ok((number, sink))
 }
 
-// Returns whether a run on `len` bytes with these words ends with this number, these lines and this last line.
-fn ends(
-    alloc: Global,
-    given: (&str, usize),
-    number: u8,
-    lines: &[(&str, usize)],
-    last: &str,
-) -> Result<bool, AllocError> {
-    let (answer, sink) = run(alloc, given.0, given.1, &[], &[])?;
-    let wanted = text(alloc, lines, last)?;
-    Ok(answer == number && sink.bytes() == wanted.as_slice())
-}
-
 const MUCH: &[(&str, usize)] = &[
     ("1 ais 2352", 0),
     ("2 new 2352", 2349),
@@ -75,8 +62,11 @@ const MUCH: &[(&str, usize)] = &[
 ];
 
 #[test]
-fn much_is_held_so_a_turn_gives_more(rt: HostRuntime) {
-    assert!(rt; is_so(ends(rt.alloc(), ("6333", 14_100), 0, MUCH, "left 0")));
+fn much_is_held_so_a_turn_gives_more(rt: HostRuntime) -> Result<(), Fail> {
+    let (number, sink) = run(rt.alloc(), "6333", 14_100, &[], &[])?;
+    let wanted = text(rt.alloc(), MUCH, "left 0")?;
+    assert!(rt; number == 0 && sink.bytes() == wanted.as_slice());
+    Ok(())
 }
 
 const DRIFTS: &[(&str, usize)] = &[
@@ -86,8 +76,11 @@ const DRIFTS: &[(&str, usize)] = &[
 ];
 
 #[test]
-fn a_run_that_is_not_steady_ends_with_a_drift(rt: HostRuntime) {
-    assert!(rt; is_so(ends(rt.alloc(), ("6", 9408), 12, DRIFTS, "drift 4")));
+fn a_run_that_is_not_steady_ends_with_a_drift(rt: HostRuntime) -> Result<(), Fail> {
+    let (number, sink) = run(rt.alloc(), "6", 9408, &[], &[])?;
+    let wanted = text(rt.alloc(), DRIFTS, "drift 4")?;
+    assert!(rt; number == 12 && sink.bytes() == wanted.as_slice());
+    Ok(())
 }
 
 const LONG: &str = "0123456012345601234560123456012345601234560123456012345601234560";
@@ -115,22 +108,14 @@ const ROWS: &[Row] = &[
     ("3", 1_048_577, &[], &[], 9, "too long\n"),
 ];
 
-fn comes_out(alloc: Global, row: &Row) -> Result<bool, AllocError> {
-    let (word, len, reads, writes, number, text) = *row;
-    let (answer, sink) = run(alloc, word, len, reads, writes)?;
-    Ok(answer == number && sink.bytes() == text.as_bytes())
-}
-
-fn right_rows(alloc: Global) -> usize {
-    for i in 0..ROWS.len() {
-        if !is_so(comes_out(alloc, &ROWS[i])) {
-            return i;
-        }
-    }
-    ROWS.len()
-}
-
 #[test]
-fn other_words_and_faults_have_their_lines(rt: HostRuntime) {
-    all_come_out(&rt, right_rows(rt.alloc()), ROWS.len());
+fn other_words_and_faults_have_their_lines(rt: HostRuntime) -> Result<(), Fail> {
+    for (word, len, reads, writes, number, text) in ROWS {
+        let (answer, sink) = run(rt.alloc(), word, *len, reads, writes)?;
+        assert!(rt;
+            answer == *number && sink.bytes() == text.as_bytes(),
+            "on {word} and {len}"
+        );
+    }
+    Ok(())
 }

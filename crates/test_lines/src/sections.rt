@@ -1,11 +1,11 @@
 //! Frames from zeros with K bytes 03 10, as they are written and as they are read.
 ghost use Rattle.std.specs.Prelude.{◌≡◌, ◌≤◌, IfOk, None, length};
 
-use crate::rows::is_so;
 use sdh_frame::{FrameBuf, Place};
 use sdh_overhead::{Received, Section, read_row, read_section, write_row, write_section};
 use sdh_ringmap::Rate;
 use std::alloc::{AllocError, Global};
+use std::test::Fail;
 
 const GOOD: Received = Received::Framed {
     k1: 0x03,
@@ -46,16 +46,6 @@ fn invert(frame: &mut FrameBuf, row: u16, column: u16)
     frame.set(place, value ^ 0x80);
 }
 
-// Returns whether bytes are this one and zeros.
-fn is_first_of_zeros(bytes: &[u8], first: u8) -> bool {
-    for (i, byte) in bytes.iter().enumerate() {
-        if *byte != (if i == 0 { first } else { 0 }) {
-            return false;
-        }
-    }
-    true
-}
-
 // Returns whether the next frame is read as it was written, and the bytes B2 are this one and zeros.
 fn next_is_good(
     alloc: Global,
@@ -70,26 +60,22 @@ fn next_is_good(
 {
     let mut frame = written(alloc, sending, Rate::Four)?;
     let found = read(receiving, &mut frame);
-    Ok(found == GOOD && is_first_of_zeros(&frame.bytes()[4320..4332], first))
-}
-
-fn three_are_good(alloc: Global) -> Result<bool, AllocError> {
-    let mut sending = Section::try_new(Rate::Four);
-    let mut receiving = Section::try_new(Rate::Four);
-    let first = next_is_good(alloc, &mut sending, &mut receiving, 0)?;
-    let second = next_is_good(alloc, &mut sending, &mut receiving, 0x13)?;
-    let third = next_is_good(alloc, &mut sending, &mut receiving, 0)?;
-    Ok(first && second && third)
+    let b2 = &frame.bytes()[4320..4332];
+    Ok(found == GOOD && b2[0] == first && b2[1..].iter().all(|byte| *byte == 0))
 }
 
 #[test]
 fn three_frames(rt: HostRuntime) {
-    assert!(rt; is_so(three_are_good(rt.alloc())));
+    let mut sending = Section::try_new(Rate::Four);
+    let mut receiving = Section::try_new(Rate::Four);
+    assert!(rt; next_is_good(rt.alloc(), &mut sending, &mut receiving, 0) == Ok(true));
+    assert!(rt; next_is_good(rt.alloc(), &mut sending, &mut receiving, 0x13) == Ok(true));
+    assert!(rt; next_is_good(rt.alloc(), &mut sending, &mut receiving, 0) == Ok(true));
 }
 
-// Returns whether three frames are read so, the second of which can't be read, so that the third has nothing to be
-// compared with.
-fn past_an_unframed_frame(alloc: Global) -> Result<bool, AllocError> {
+// Returns what is read of three frames, the second of which can't be read, so that the third has nothing to be compared
+// with.
+fn past_an_unframed_frame(alloc: Global) -> Result<[Received; 3], AllocError> {
     let mut sending = Section::try_new(Rate::Four);
     let mut receiving = Section::try_new(Rate::Four);
     let mut first = written(alloc, &mut sending, Rate::Four)?;
@@ -98,35 +84,27 @@ fn past_an_unframed_frame(alloc: Global) -> Result<bool, AllocError> {
     second.set(Place { row: 1, column: 1 }, 0xF7);
     let first = read(&mut receiving, &mut first);
     let second = read(&mut receiving, &mut second);
-    let third = read(&mut receiving, &mut third);
-    Ok(first == GOOD && second == Received::Unframed && third == GOOD)
+    Ok([first, second, read(&mut receiving, &mut third)])
 }
 
 #[test]
 fn an_unframed_frame(rt: HostRuntime) {
-    assert!(rt; is_so(past_an_unframed_frame(rt.alloc())));
+    assert!(rt; past_an_unframed_frame(rt.alloc()) == Ok([GOOD, Received::Unframed, GOOD]));
 }
 
-// Inverts the top bits of the first five bytes of row 6.
-fn degrade(frame: &mut FrameBuf)
-    requires { frame.old.rate ≡ Rate.Four }
-    ensures { frame.new.rate ≡ frame.old.rate }
-{
-    for column in 1..6 {
-        invert(frame, 6, column);
-    }
-}
-
-// Returns whether two frames are read so, in the first of which five top bits are inverted.
-fn past_a_degraded_frame(alloc: Global) -> Result<bool, AllocError> {
+// Returns what is read of two frames, in the first of which five top bits are inverted.
+fn past_a_degraded_frame(alloc: Global) -> Result<[Received; 2], AllocError> {
     let mut sending = Section::try_new(Rate::Four);
     let mut receiving = Section::try_new(Rate::Four);
     let mut first = written(alloc, &mut sending, Rate::Four)?;
     let mut second = written(alloc, &mut sending, Rate::Four)?;
-    degrade(&mut first);
+    invert(&mut first, 6, 1);
+    invert(&mut first, 6, 2);
+    invert(&mut first, 6, 3);
+    invert(&mut first, 6, 4);
+    invert(&mut first, 6, 5);
     let first = read(&mut receiving, &mut first);
-    let second = read(&mut receiving, &mut second);
-    Ok(first == GOOD && second == DEGRADED)
+    Ok([first, read(&mut receiving, &mut second)])
 }
 
 // Five violations of B2, and an odd number of them in one bit of B1.
@@ -139,23 +117,27 @@ const DEGRADED: Received = Received::Framed {
 
 #[test]
 fn a_degraded_frame(rt: HostRuntime) {
-    assert!(rt; is_so(past_a_degraded_frame(rt.alloc())));
+    assert!(rt; past_a_degraded_frame(rt.alloc()) == Ok([GOOD, DEGRADED]));
 }
 
-// Row 1 has 3N bytes F6, 3N bytes 28, 01 and bytes AA, and then the first scrambling byte over a payload of zeros.
-const ROW_1: &[u8; 37] = b"\xF6\xF6\xF6\xF6\xF6\xF6\xF6\xF6\xF6\xF6\xF6\xF6\
-    \x28\x28\x28\x28\x28\x28\x28\x28\x28\x28\x28\x28\
-    \x01\xAA\xAA\xAA\xAA\xAA\xAA\xAA\xAA\xAA\xAA\xAA\xFE";
-
-fn has_row_1(alloc: Global) -> Result<bool, AllocError> {
-    let mut sending = Section::try_new(Rate::Four);
-    let frame = written(alloc, &mut sending, Rate::Four)?;
-    Ok(frame.bytes().starts_with(ROW_1))
+// Returns whether row 1 has 3N bytes F6, 3N bytes 28, 01 and bytes AA, and then the first scrambling byte over a
+// payload of zeros.
+fn has_row_1(bytes: &[u8]) -> bool
+    requires { length bytes.now ≡ 9720 }
+{
+    bytes[..12].iter().all(|byte| *byte == 0xF6)
+        && bytes[12..24].iter().all(|byte| *byte == 0x28)
+        && bytes[24] == 0x01
+        && bytes[25..36].iter().all(|byte| *byte == 0xAA)
+        && bytes[36] == 0xFE
 }
 
 #[test]
-fn row_1_on_the_line(rt: HostRuntime) {
-    assert!(rt; is_so(has_row_1(rt.alloc())));
+fn row_1_on_the_line(rt: HostRuntime) -> Result<(), Fail> {
+    let mut sending = Section::try_new(Rate::Four);
+    let frame = written(rt.alloc(), &mut sending, Rate::Four)?;
+    assert!(rt; has_row_1(frame.bytes()));
+    Ok(())
 }
 
 // Writes the rows of an STM-4 frame one by one, after each other, with K bytes 03 10.
@@ -187,13 +169,12 @@ fn read_by_rows(receiving: &mut Section, bytes: &mut [u8]) -> Received
     receiving.finish_read()
 }
 
-// Returns whether a frame of zeros is read well by its rows, and the first two bytes of B2 are these.
+// Reads a frame of zeros by its rows. Returns what is read, and the first two bytes of B2.
 fn by_rows(
     alloc: Global,
     sending: &mut Section,
     receiving: &mut Section,
-    b2: [u8; 2],
-) -> Result<bool, AllocError>
+) -> Result<(Received, u8, u8), AllocError>
     requires sending { sending.old.rate ≡ Rate.Four }
     requires sending_fresh { sending.old.under_way ≡ None }
     requires receiving { receiving.old.rate ≡ Rate.Four }
@@ -206,20 +187,26 @@ fn by_rows(
     let mut bytes = vec![in alloc; 0; 9720]?;
     write_by_rows(sending, bytes.as_mut_slice());
     let received = read_by_rows(receiving, bytes.as_mut_slice());
-    Ok(received == GOOD && bytes[4320] == b2[0] && bytes[4321] == b2[1])
+    Ok((received, bytes[4320], bytes[4321]))
 }
 
-// Returns whether three frames of zeros are read well by their rows, and row 1 comes next after them.
-fn three_by_rows(alloc: Global) -> Result<bool, AllocError> {
+// Reads three frames of zeros by their rows. Returns what is read of each, and the rows that come next after them.
+fn three_by_rows(alloc: Global) -> Result<([(Received, u8, u8); 3], u16, u16), AllocError> {
     let mut sending = Section::try_new(Rate::Four);
     let mut receiving = Section::try_new(Rate::Four);
-    let first = by_rows(alloc, &mut sending, &mut receiving, [0, 0])?;
-    let second = by_rows(alloc, &mut sending, &mut receiving, [0x13, 0])?;
-    let third = by_rows(alloc, &mut sending, &mut receiving, [0, 0])?;
-    Ok(first && second && third && sending.next_row() == 1 && receiving.next_row() == 1)
+    let first = by_rows(alloc, &mut sending, &mut receiving)?;
+    let second = by_rows(alloc, &mut sending, &mut receiving)?;
+    let third = by_rows(alloc, &mut sending, &mut receiving)?;
+    Ok((
+        [first, second, third],
+        sending.next_row(),
+        receiving.next_row(),
+    ))
 }
+
+const BY_ROWS: [(Received, u8, u8); 3] = [(GOOD, 0, 0), (GOOD, 0x13, 0), (GOOD, 0, 0)];
 
 #[test]
 fn frames_go_row_by_row(rt: HostRuntime) {
-    assert!(rt; is_so(three_by_rows(rt.alloc())));
+    assert!(rt; three_by_rows(rt.alloc()) == Ok((BY_ROWS, 1, 1)));
 }

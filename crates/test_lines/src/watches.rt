@@ -3,10 +3,9 @@ ghost use Rattle.std.specs.Prelude.{◌≡◌, ◌+◌, ◌<◌, ◌≤◌, ◌^
 ghost use Rattle.sdh_payload.specs.Clock.{waiting};
 
 use crate::payloads::next_chunk;
-use crate::rows::all_come_out;
 use sdh_path::{BadTrace, PathReport, TraceWord, Watch};
 use sdh_payload::{Cells, Feed, Port};
-use std::alloc::{AllocError, Global};
+use std::test::Fail;
 
 // Gives a watch the next `count` chunks of a feed, with a pointer value.
 fn give(watch: &mut Watch, feed: &mut Feed, out: &mut Cells, value: u16, count: u32)
@@ -54,19 +53,12 @@ const TOO_LONG: &[u8] = &[b'c'; 65];
 
 const BAD_TRACES: &[&[u8]] = &[b"", TOO_LONG, b"c\x1F", b"\x7Fc"];
 
-fn right_refusals() -> usize {
-    for i in 0..BAD_TRACES.len() {
-        if Watch::new(BAD_TRACES[i]).err() != Some(BadTrace) {
-            return i;
-        }
-    }
-    BAD_TRACES.len()
-}
-
 #[test]
 fn refuses_bad_traces(rt: HostRuntime) {
     assert!(rt; Watch::new(b"c1").is_ok() && Watch::new(&TOO_LONG[..64]).is_ok());
-    all_come_out(&rt, right_refusals(), BAD_TRACES.len());
+    for trace in BAD_TRACES {
+        assert!(rt; Watch::new(trace).err() == Some(BadTrace), "{trace:?}");
+    }
 }
 
 // The trace of a feed, its offset, how many chunks, and the report of a watch for `c1`.
@@ -120,20 +112,16 @@ fn report_of(trace: &[u8], offset: u16, count: u32, out: &mut Cells) -> Option<P
     Some(watch.report())
 }
 
-fn right_reports(alloc: Global) -> Result<usize, AllocError> {
-    let mut out = Cells::try_new(alloc)?;
-    for i in 0..FED.len() {
-        let (trace, offset, count, want) = FED[i];
-        if report_of(trace, offset, count, &mut out) != Some(want) {
-            return Ok(i);
-        }
-    }
-    Ok(FED.len())
-}
-
 #[test]
-fn reports_what_a_feed_sends(rt: HostRuntime) {
-    all_come_out(&rt, right_reports(rt.alloc()).unwrap_or(0), FED.len());
+fn reports_what_a_feed_sends(rt: HostRuntime) -> Result<(), Fail> {
+    let mut out = Cells::try_new(rt.alloc())?;
+    for (trace, offset, count, want) in FED {
+        assert!(rt;
+            report_of(trace, *offset, *count, &mut out) == Some(*want),
+            "{offset} {count}"
+        );
+    }
+    Ok(())
 }
 
 // At value 522 a chunk is a whole VC-4: the VC-4 and the byte that is changed, by which bits, and the report after 70.
@@ -179,18 +167,14 @@ fn report_changed(number: u32, at: usize, bits: u8, out: &mut Cells) -> Option<P
     Some(watch.report())
 }
 
-fn right_changes(alloc: Global) -> Result<usize, AllocError> {
-    let mut out = Cells::try_new(alloc)?;
-    for i in 0..CHANGED.len() {
-        let (number, at, bits, want) = CHANGED[i];
-        if report_changed(number, at, bits, &mut out) != Some(want) {
-            return Ok(i);
-        }
-    }
-    Ok(CHANGED.len())
-}
-
 #[test]
-fn counts_what_was_changed(rt: HostRuntime) {
-    all_come_out(&rt, right_changes(rt.alloc()).unwrap_or(0), CHANGED.len());
+fn counts_what_was_changed(rt: HostRuntime) -> Result<(), Fail> {
+    let mut out = Cells::try_new(rt.alloc())?;
+    for (number, at, bits, want) in CHANGED {
+        assert!(rt;
+            report_changed(*number, *at, *bits, &mut out) == Some(*want),
+            "{number} {at}"
+        );
+    }
+    Ok(())
 }

@@ -4,7 +4,6 @@ ghost use Rattle.std.specs.Prelude.{◌≡◌, ◌<◌, length, if◌then◌else
 ghost use Rattle.sdh_nodestate.specs.FarEnds.{far_of, IsElsewhere};
 ghost use Rattle.std.specs.Option.{is_none};
 
-use crate::rows::all_come_out;
 use sdh_circuits::{Asked, CircuitMap, End, PortId, Slot};
 use sdh_kbytes::{K, decode};
 use sdh_nodestate::{Heard, Needs, NodeState, start, step};
@@ -131,6 +130,22 @@ const Y_B: Origin = Origin::Add(PortId {
     end: End::B,
 });
 
+// Returns whether a node that hears these words has these origins.
+fn has(
+    alloc: Global,
+    x: &Asked<'_>,
+    y: &Asked<'_>,
+    at: u8,
+    west: Bytes,
+    east: Bytes,
+    wanted: &[Origin],
+) -> bool {
+    match origins(alloc, x, y, at, west, east) {
+        Some(found) => found.as_slice() == wanted,
+        None => false,
+    }
+}
+
 // A node, the words that it hears, and its origins.
 type Row = (u8, Bytes, Bytes, &'static [Origin]);
 
@@ -154,23 +169,13 @@ const LED: &[Row] = &[
     ),
 ];
 
-// Returns how many of these rows come out with two circuits before the first that doesn't.
-fn right_rows(alloc: Global, x: &Asked<'_>, y: &Asked<'_>, rows: &[Row]) -> usize {
-    for i in 0..rows.len() {
-        let (at, west, east, wanted) = rows[i];
-        match origins(alloc, x, y, at, west, east) {
-            Some(found) if found.as_slice() == wanted => {}
-            _ => return i,
-        }
-    }
-    rows.len()
-}
-
 #[test]
 fn a_circuit_is_led_round_a_failed_span(rt: HostRuntime) {
     let x = asked("x", (1, 3), 1);
     let y = asked("y", (1, 2), 2);
-    all_come_out(&rt, right_rows(rt.alloc(), &x, &y, LED), LED.len());
+    for (at, west, east, wanted) in LED {
+        assert!(rt; has(rt.alloc(), &x, &y, *at, *west, *east, wanted), "{at}");
+    }
 }
 
 // Two circuits in one slot end at the second node, both of whose spans have failed.
@@ -187,5 +192,7 @@ const ALONE: &[Row] = &[
 fn circuits_of_an_isolated_node_meet_no_other(rt: HostRuntime) {
     let x = asked("x", (1, 2), 1);
     let y = asked("y", (2, 3), 1);
-    all_come_out(&rt, right_rows(rt.alloc(), &x, &y, ALONE), ALONE.len());
+    for (at, west, east, wanted) in ALONE {
+        assert!(rt; has(rt.alloc(), &x, &y, *at, *west, *east, wanted), "{at}");
+    }
 }

@@ -1,6 +1,5 @@
 //! Circuits that are added to others.
 
-use crate::rows::all_come_out;
 use sdh_circuits::{AddError, Asked, CircuitMap};
 use sdh_ringmap::RingMap;
 use std::alloc::Global;
@@ -149,42 +148,18 @@ const REFUSED: &[(Asked<'static>, AddError)] = &[
     ),
 ];
 
-fn right_refusals(alloc: Global) -> usize {
-    let Ok(map) = RingMap::new(&[1, 2, 3, 4]) else {
-        return 0;
-    };
-    for i in 0..REFUSED.len() {
-        if second(alloc, &map, &ASKED, &REFUSED[i].0) != Err(REFUSED[i].1) {
-            return i;
-        }
-    }
-    REFUSED.len()
-}
-
 #[test]
 fn answers_the_first_check_that_fails(rt: HostRuntime) {
-    all_come_out(&rt, right_refusals(rt.alloc()), REFUSED.len());
-}
-
-// Returns what is answered at the second of two circuits, in a ring of these nodes.
-fn in_ring(
-    alloc: Global,
-    ids: &[i64],
-    first: &Asked<'_>,
-    asked: &Asked<'_>,
-) -> Option<Result<(), AddError>> {
-    let map = RingMap::new(ids).ok()?;
-    Some(second(alloc, &map, first, asked))
-}
-
-fn both_are_added(alloc: Global) -> bool {
-    in_ring(alloc, &[1, 2, 3, 4], &ASKED, &OTHER) == Some(Ok(()))
-        && in_ring(alloc, &[1, 2, 3, 4], &ASKED, &BACK) == Some(Ok(()))
-}
-
-#[test]
-fn adds_what_no_check_refuses(rt: HostRuntime) {
-    assert!(rt; both_are_added(rt.alloc()));
+    let map = RingMap::new(&[1, 2, 3, 4]).expect(&rt, "a ring");
+    for (asked, want) in REFUSED {
+        assert!(rt;
+            second(rt.alloc(), &map, &ASKED, asked) == Err(*want),
+            "{want:?}"
+        );
+    }
+    for asked in [OTHER, BACK] {
+        assert!(rt; second(rt.alloc(), &map, &ASKED, &asked) == Ok(()));
+    }
 }
 
 // The circuit from 3 to 2 passes the span from the last position to the first, and one from 1 to 2 is on it too.
@@ -201,11 +176,8 @@ const LATER: Asked<'static> = Asked {
     ..ASKED
 };
 
-fn last_span_overlaps(alloc: Global) -> bool {
-    in_ring(alloc, &[1, 2, 3], &FIRST, &LATER) == Some(Err(AddError::Overlap))
-}
-
 #[test]
 fn refuses_an_overlap_over_the_last_span(rt: HostRuntime) {
-    assert!(rt; last_span_overlaps(rt.alloc()));
+    let map = RingMap::new(&[1, 2, 3]).expect(&rt, "a ring");
+    assert!(rt; second(rt.alloc(), &map, &FIRST, &LATER) == Err(AddError::Overlap));
 }

@@ -1,7 +1,16 @@
 //! K words and their bytes.
-use crate::rows::all_come_out;
+ghost use Rattle.std.specs.Prelude.{◌≤◌};
+
 use sdh_kbytes::{K, Mark, Path, decode, encode};
 use sdh_ringmap::Code;
+
+// Returns whether a word and two bytes belong together, both ways.
+fn are_one(k: K, k1: u8, k2: u8) -> bool
+    requires to { k.to ≤ 15 }
+    requires from { k.from ≤ 15 }
+{
+    encode(k) == (k1, k2) && decode(k1, k2) == Some(k)
+}
 
 const NUMBERS: &[(Code, u8)] = &[
     (Code::Nr, 0),
@@ -13,24 +22,15 @@ const NUMBERS: &[(Code, u8)] = &[
     (Code::Fs, 13),
 ];
 
-fn right_numbers() -> usize {
-    for i in 0..NUMBERS.len() {
-        if NUMBERS[i].0.number() != NUMBERS[i].1 {
-            return i;
-        }
-    }
-    NUMBERS.len()
-}
-
 #[test]
 fn codes_have_their_numbers(rt: HostRuntime) {
-    all_come_out(&rt, right_numbers(), NUMBERS.len());
+    for (code, number) in NUMBERS {
+        assert!(rt; code.number() == *number, "{number}");
+    }
 }
 
 // A word by its parts, and its two bytes.
-type Row = (Code, u8, u8, Path, Mark, u8, u8);
-
-const WORDS: &[Row] = &[
+const WORDS: &[(Code, u8, u8, Path, Mark, u8, u8)] = &[
     (Code::Sf, 3, 2, Path::Short, Mark::Rdi, 0xb3, 0x26),
     (
         Code::Sf,
@@ -55,45 +55,28 @@ const WORDS: &[Row] = &[
     (Code::Fs, 0, 15, Path::Long, Mark::MsAis, 0xd0, 0xff),
 ];
 
-// Returns whether a word and two bytes belong together, both ways.
-fn are_one(row: &Row) -> bool {
-    let (code, to, from, path, mark, k1, k2) = *row;
-    let word = K {
-        code,
-        to,
-        from,
-        path,
-        mark,
-    };
-    to <= 15 && from <= 15 && encode(word) == (k1, k2) && decode(k1, k2) == Some(word)
-}
-
-fn right_words() -> usize {
-    for i in 0..WORDS.len() {
-        if !are_one(&WORDS[i]) {
-            return i;
-        }
-    }
-    WORDS.len()
-}
-
 #[test]
 fn words_and_their_bytes(rt: HostRuntime) {
-    all_come_out(&rt, right_words(), WORDS.len());
+    for (code, to, from, path, mark, k1, k2) in WORDS {
+        let word = K {
+            code: *code,
+            to: *to,
+            from: *from,
+            path: *path,
+            mark: *mark,
+        };
+        assert!(rt;
+            *to <= 15 && *from <= 15 && are_one(word, *k1, *k2),
+            "{k1:02x} {k2:02x}"
+        );
+    }
 }
 
 const UNLISTED: &[(u8, u8)] = &[(0x42, 0x10), (0x02, 0x13), (0xff, 0xff)];
 
-fn right_refusals() -> usize {
-    for i in 0..UNLISTED.len() {
-        if decode(UNLISTED[i].0, UNLISTED[i].1).is_some() {
-            return i;
-        }
-    }
-    UNLISTED.len()
-}
-
 #[test]
 fn unlisted_codes_and_marks(rt: HostRuntime) {
-    all_come_out(&rt, right_refusals(), UNLISTED.len());
+    for (k1, k2) in UNLISTED {
+        assert!(rt; decode(*k1, *k2).is_none(), "{k1:02x} {k2:02x}");
+    }
 }

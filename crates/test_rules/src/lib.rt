@@ -20,8 +20,6 @@ mod requests;
 #[cfg(test)]
 mod restoration;
 #[cfg(test)]
-mod rows;
-#[cfg(test)]
 mod signals;
 #[cfg(test)]
 mod squelching;

@@ -1,6 +1,5 @@
 //! Rings of nodes, and which ends are joined in them.
 
-use crate::rows::all_come_out;
 use sdh_ringmap::{MapError, Pos, RingMap, Span};
 
 const SEVENTEEN: &[i64] = &[0, 1, 2, 3, 4, 5, 6, 7, 8, 9, 10, 11, 12, 13, 14, 15, 16];
@@ -19,18 +18,11 @@ const MAPS: &[(&[i64], Option<MapError>)] = &[
     (SIXTEEN, None),
 ];
 
-fn right_maps() -> usize {
-    for i in 0..MAPS.len() {
-        if RingMap::new(MAPS[i].0).err() != MAPS[i].1 {
-            return i;
-        }
-    }
-    MAPS.len()
-}
-
 #[test]
 fn says_what_is_wrong_with_the_nodes(rt: HostRuntime) {
-    all_come_out(&rt, right_maps(), MAPS.len());
+    for (ids, want) in MAPS {
+        assert!(rt; RingMap::new(ids).err() == *want, "at {ids:?}");
+    }
 }
 
 // Two ends, the spans that are applied, and whether the ends are joined: a span cut in one arc, spans cut in both, and
@@ -53,20 +45,13 @@ fn are_joined(map: &RingMap, from: u8, to: u8, applied: &[Span]) -> Option<bool>
     Some(map.joined(Pos(from), Pos(to), applied))
 }
 
-fn right_ends() -> usize {
-    let Ok(map) = RingMap::new(&[1, 2, 3, 4]) else {
-        return 0;
-    };
-    for i in 0..ENDS.len() {
-        let (from, to, applied, joined) = ENDS[i];
-        if are_joined(&map, from, to, applied) != Some(joined) {
-            return i;
-        }
-    }
-    ENDS.len()
-}
-
 #[test]
 fn joins_by_either_arc(rt: HostRuntime) {
-    all_come_out(&rt, right_ends(), ENDS.len());
+    let map = RingMap::new(&[1, 2, 3, 4]).expect(&rt, "a ring");
+    for (from, to, applied, joined) in ENDS {
+        assert!(rt;
+            are_joined(&map, *from, *to, applied) == Some(*joined),
+            "{from} {to}"
+        );
+    }
 }

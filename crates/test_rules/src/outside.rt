@@ -1,13 +1,13 @@
 //! Each call with ample memory, and failures at their places.
 
-use crate::rows::{all_come_out, is_so};
 use sdh_outside::{
     Failed, MemSink, MemSource, ReadAllError, Sink, Source, StdSink, StdSource, WriteFault,
     read_all, write_text,
 };
-use std::alloc::{AllocError, Global};
+use std::alloc::Global;
 use std::io;
 use std::io::{ErrorKind, Read, Write};
+use std::test::Fail;
 
 // The text that is read and written in pieces.
 const TEXT: &[u8] = b"port c1 a ais\n";
@@ -24,29 +24,25 @@ const READS: &[(usize, &[u32], bool)] = &[
     (5, &[5, 0], true),
 ];
 
-// Returns whether the text comes whole, or else there is a fault.
-fn comes(alloc: Global, piece: usize, failing: &[u32], whole: bool) -> Result<bool, AllocError> {
+// Returns whether the text comes whole, and else there is a fault.
+fn comes_whole(alloc: Global, piece: usize, failing: &[u32]) -> Result<bool, Fail> {
     let mut source = MemSource::new(alloc, TEXT, piece.max(1), failing)?;
     match read_all(alloc, &mut source) {
-        Ok(bytes) => Ok(whole && bytes.as_slice() == TEXT),
-        Err(ReadAllError::ReadFault) => Ok(!whole),
-        Err(_) => Err(AllocError),
+        Ok(bytes) if bytes.as_slice() == TEXT => Ok(true),
+        Err(ReadAllError::ReadFault) => Ok(false),
+        _ => Err(Fail::from("other bytes")),
     }
-}
-
-fn right_reads(alloc: Global) -> usize {
-    for i in 0..READS.len() {
-        let (piece, failing, whole) = READS[i];
-        if !is_so(comes(alloc, piece, failing, whole)) {
-            return i;
-        }
-    }
-    READS.len()
 }
 
 #[test]
-fn reads_to_the_end_or_to_the_first_failing_call(rt: HostRuntime) {
-    all_come_out(&rt, right_reads(rt.alloc()), READS.len());
+fn reads_to_the_end_or_to_the_first_failing_call(rt: HostRuntime) -> Result<(), Fail> {
+    for (piece, failing, whole) in READS {
+        assert!(rt;
+            comes_whole(rt.alloc(), *piece, failing)? == *whole,
+            "{piece} {failing:?}"
+        );
+    }
+    Ok(())
 }
 
 // The room, the piece, the calls that fail, and how many bytes are written.
@@ -68,26 +64,22 @@ fn writes(
     piece: usize,
     failing: &[u32],
     count: usize,
-) -> Result<bool, AllocError> {
+) -> Result<bool, Fail> {
     let mut sink = MemSink::new(alloc, room, piece.max(1), failing)?;
     let ended = write_text(&mut sink, TEXT);
     let want = if count == 14 { Ok(()) } else { Err(WriteFault) };
     Ok(ended == want && sink.bytes().len() == count && TEXT.starts_with(sink.bytes()))
 }
 
-fn right_writes(alloc: Global) -> usize {
-    for i in 0..WRITES.len() {
-        let (room, piece, failing, count) = WRITES[i];
-        if !is_so(writes(alloc, room, piece, failing, count)) {
-            return i;
-        }
-    }
-    WRITES.len()
-}
-
 #[test]
-fn writes_the_text_or_what_came_before_the_failing_call(rt: HostRuntime) {
-    all_come_out(&rt, right_writes(rt.alloc()), WRITES.len());
+fn writes_the_text_or_what_came_before_the_failing_call(rt: HostRuntime) -> Result<(), Fail> {
+    for (room, piece, failing, count) in WRITES {
+        assert!(rt;
+            writes(rt.alloc(), *room, *piece, failing, *count)?,
+            "{room} {failing:?}"
+        );
+    }
+    Ok(())
 }
 
 // A reader that gives `OK`, and fails at its second call.
@@ -134,40 +126,31 @@ impl Write for Writer {
     }
 }
 
-// Returns whether a reader that fails at its second call gives two bytes at its first, and at its third.
-fn reads_on() -> bool {
-    let mut buf = [0; 4];
+// Returns what three reads of a reader that fails at the second one give, and the first bytes.
+fn three_reads(buf: &mut [u8]) -> [Result<usize, Failed>; 3] {
     let mut source = StdSource::new(Reader { calls: 0 });
-    source.read(&mut buf) == Ok(2)
-        && source.read(&mut buf) == Err(Failed)
-        && source.read(&mut buf) == Ok(2)
-        && buf == *b"OK\0\0"
+    [source.read(buf), source.read(buf), source.read(buf)]
 }
 
-// Returns whether a writer that takes none at its second call and fails at its third is told so.
-fn writes_on() -> bool {
+// Returns what four writes of a writer that takes none at the second and fails at the third give.
+fn four_writes() -> ([Result<usize, Failed>; 4], Result<(), WriteFault>) {
     let mut sink = StdSink::new(Writer { calls: 0 });
-    sink.write(TEXT) == Ok(1)
-        && sink.write(TEXT) == Err(Failed)
-        && sink.write(TEXT) == Err(Failed)
-        && sink.write(b"") == Ok(0)
-        && write_text(&mut sink, TEXT) == Ok(())
+    let each = [
+        sink.write(TEXT),
+        sink.write(TEXT),
+        sink.write(TEXT),
+        sink.write(b""),
+    ];
+    (each, write_text(&mut sink, TEXT))
 }
 
-fn reads_all(alloc: Global) -> bool {
+#[test]
+fn adapts_readers_and_writers(rt: HostRuntime) -> Result<(), Fail> {
     let mut source = StdSource::new(TEXT);
-    match read_all(alloc, &mut source) {
-        Ok(bytes) => bytes.as_slice() == TEXT,
-        Err(_) => false,
-    }
-}
-
-#[test]
-fn adapts_readers(rt: HostRuntime) {
-    assert!(rt; reads_all(rt.alloc()) && reads_on());
-}
-
-#[test]
-fn adapts_writers(rt: HostRuntime) {
-    assert!(rt; writes_on());
+    let bytes = read_all(rt.alloc(), &mut source).map_err(|_| "not read")?;
+    assert!(rt; bytes.as_slice() == TEXT);
+    let mut buf = [0; 4];
+    assert!(rt; three_reads(&mut buf) == [Ok(2), Err(Failed), Ok(2)] && buf == *b"OK\0\0");
+    assert!(rt; four_writes() == ([Ok(1), Err(Failed), Err(Failed), Ok(0)], Ok(())));
+    Ok(())
 }

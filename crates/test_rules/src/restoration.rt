@@ -1,6 +1,5 @@
 //! The restoration model: local requests by the history of a side, and applied spans.
 
-use crate::rows::all_come_out;
 use sdh_request::{Command, Moment};
 use sdh_restoration::applied::{LocalRequests, is_applied, span_request};
 use sdh_restoration::history::{SideRound, local_request};
@@ -159,19 +158,11 @@ fn applied_where(happens: &[(usize, SideRound)]) -> [bool; 4] {
     applied_spans(&sides)
 }
 
-fn right_rows() -> usize {
-    for i in 0..ROWS.len() {
-        let (_, happens, want) = ROWS[i];
-        if applied_where(happens) != want {
-            return i;
-        }
-    }
-    ROWS.len()
-}
-
 #[test]
 fn spans_are_applied_by_what_happens_on_the_sides(rt: HostRuntime) {
-    all_come_out(&rt, right_rows(), ROWS.len());
+    for (what, happens, want) in ROWS {
+        assert!(rt; applied_where(happens) == *want, "where {what}");
+    }
 }
 
 // Returns what a side asks for in rounds 0, 2 and 5, where it was cut in two of them, and the last one is at this
@@ -191,17 +182,12 @@ fn asked_at(moment: u64) -> [Code; 3] {
 
 const WAITS: &[(u64, Code)] = &[(0, Code::Wtr), (9, Code::Wtr), (10, Code::Nr)];
 
-fn right_waits() -> usize {
-    for i in 0..WAITS.len() {
-        let (moment, want) = WAITS[i];
-        if asked_at(moment) != [Code::Nr, Code::Sf, want] {
-            return i;
-        }
-    }
-    WAITS.len()
-}
-
 #[test]
 fn a_side_waits_to_restore_by_moments(rt: HostRuntime) {
-    all_come_out(&rt, right_waits(), WAITS.len());
+    for (moment, want) in WAITS {
+        assert!(rt;
+            asked_at(*moment) == [Code::Nr, Code::Sf, *want],
+            "at moment {moment}"
+        );
+    }
 }

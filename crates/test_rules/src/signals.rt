@@ -3,7 +3,6 @@
 ghost use Rattle.std.specs.Prelude.{◌≡◌, ◌≢◌, ◌≤◌, ◌<◌, true, false, length, All, IfSome};
 ghost use Rattle.sdh_nodestate.specs.Conditions.{MayNeed};
 
-use crate::rows::all_come_out;
 use sdh_kbytes::decode;
 use sdh_nodestate::Shape::{Idle, Isolated, PassThrough, SwitchEast, SwitchWest};
 use sdh_nodestate::{Needs, Shape, same_shape, shape_of};
@@ -164,31 +163,36 @@ const IDLE: &[Line] = &[
     (Idle, (0x03, 0x40), (0x01, 0x40)),
 ];
 
-// Returns whether a ring without requests is still after its fourth round and no earlier one, and has these lines after
-// each.
-fn is_idle(ring: &mut SignalRing) -> bool
-    requires { length ring.old.ring.ids ≡ 4 }
+// Returns whether a ring without requests is still, and whether it has these lines, before it runs and after each of
+// four rounds.
+fn idle_rounds(ring: &mut SignalRing) -> [(bool, bool); 5]
+    requires four { length ring.old.ring.ids ≡ 4 }
 {
-    if ring.is_still() {
-        return false;
-    }
     let needs = all_needs(&[Request::Nothing; 4]);
-    for count in 1..5 {
-        ring.round(&needs, &FREE);
-        if !has_lines(ring, IDLE) || ring.is_still() != (count == 4) {
-            return false;
-        }
-    }
-    true
+    let before = (ring.is_still(), false);
+    ring.round(&needs, &FREE);
+    let first = (ring.is_still(), has_lines(ring, IDLE));
+    ring.round(&needs, &FREE);
+    let second = (ring.is_still(), has_lines(ring, IDLE));
+    ring.round(&needs, &FREE);
+    let third = (ring.is_still(), has_lines(ring, IDLE));
+    ring.round(&needs, &FREE);
+    let fourth = (ring.is_still(), has_lines(ring, IDLE));
+    [before, first, second, third, fourth]
 }
 
-fn idles(alloc: Global) -> Option<bool> {
-    Some(is_idle(&mut ring_of_four(alloc)?))
-}
+const STILL: [(bool, bool); 5] = [
+    (false, false),
+    (false, true),
+    (false, true),
+    (false, true),
+    (true, true),
+];
 
 #[test]
 fn idle_ring(rt: HostRuntime) {
-    assert!(rt; idles(rt.alloc()) == Some(true));
+    let mut ring = ring_of_four(rt.alloc()).expect(&rt, "memory for a ring");
+    assert!(rt; idle_rounds(&mut ring) == STILL);
 }
 
 // What each node asks for, after at most how many rounds the ring is still, and its lines then.
@@ -277,20 +281,12 @@ const ROWS: &[Row] = &[
     ),
 ];
 
-fn right_rows(alloc: Global) -> usize {
-    for i in 0..ROWS.len() {
-        let (asked, most, lines) = ROWS[i];
-        match stills(alloc, all_needs(asked), lines) {
-            Some(count) if count >= 4 && count <= most => {}
-            _ => return i,
-        }
-    }
-    ROWS.len()
-}
-
 #[test]
 fn requests_of_at_least_a_signal_failure(rt: HostRuntime) {
-    all_come_out(&rt, right_rows(rt.alloc()), ROWS.len());
+    for (asked, most, lines) in ROWS {
+        let count = stills(rt.alloc(), all_needs(asked), lines);
+        assert!(rt; count.is_some_and(|count| count >= 4 && count <= *most));
+    }
 }
 
 const TIE: &[Line] = &[
@@ -315,26 +311,21 @@ fn comes_to(ring: &mut SignalRing, asked: &[Request], lines: &[Line]) -> bool
     rounds_until_still(ring, &all_needs(asked)) > 0 && has_lines(ring, lines)
 }
 
-const BOTH_MANUAL: [Request; 4] = [
-    Request::Nothing,
-    Request::Manual,
-    Request::Nothing,
-    Request::Manual,
-];
-
-const LAST_MANUAL: [Request; 4] = [
-    Request::Nothing,
-    Request::Nothing,
-    Request::Nothing,
-    Request::Manual,
-];
-
-fn ties(alloc: Global) -> Option<bool> {
-    let mut ring = ring_of_four(alloc)?;
-    Some(comes_to(&mut ring, &BOTH_MANUAL, TIE) && comes_to(&mut ring, &LAST_MANUAL, ONE_ALONE))
-}
-
 #[test]
 fn a_tie_and_its_end(rt: HostRuntime) {
-    assert!(rt; ties(rt.alloc()) == Some(true));
+    let mut ring = ring_of_four(rt.alloc()).expect(&rt, "memory for a ring");
+    let tie = [
+        Request::Nothing,
+        Request::Manual,
+        Request::Nothing,
+        Request::Manual,
+    ];
+    assert!(rt; comes_to(&mut ring, &tie, TIE));
+    let alone = [
+        Request::Nothing,
+        Request::Nothing,
+        Request::Nothing,
+        Request::Manual,
+    ];
+    assert!(rt; comes_to(&mut ring, &alone, ONE_ALONE));
 }

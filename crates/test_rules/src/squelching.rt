@@ -51,23 +51,14 @@ fn has_rows(table: &Table) -> bool {
     true
 }
 
-fn tells(table: &Table) -> bool
-    requires { length table.now.ring ≡ 4 }
-{
-    has_rows(table)
-        && table.circuit(Side::West, Slot(1)) == Some(0)
-        && table.circuit(Side::East, Slot(2)).is_none()
-        && table.ends(Side::East, Slot(1)) == Some((Pos(0), Pos(2)))
-}
-
-fn second_tells(alloc: Global) -> Option<bool> {
-    let map = RingMap::new(&[1, 2, 3, 4]).ok()?;
-    Some(tells(&table_of_second(alloc, &map)?))
-}
-
 #[test]
 fn the_rows_of_the_second_node(rt: HostRuntime) {
-    assert!(rt; second_tells(rt.alloc()) == Some(true));
+    let map = RingMap::new(&[1, 2, 3, 4]).expect(&rt, "a ring");
+    let table = table_of_second(rt.alloc(), &map).expect(&rt, "a table");
+    assert!(rt; has_rows(&table));
+    assert!(rt; table.circuit(Side::West, Slot(1)) == Some(0));
+    assert!(rt; table.circuit(Side::East, Slot(2)).is_none());
+    assert!(rt; table.ends(Side::East, Slot(1)) == Some((Pos(0), Pos(2))));
 }
 
 // Returns whether a circuit may be carried over the chain from a position eastwards to the second.
@@ -80,16 +71,12 @@ fn carries(map: &RingMap, table: &Table, slot: u8, from: u8) -> bool
     table.may_carry(map, Side::East, Slot(slot), map.chain(Pos(from), Pos(1)))
 }
 
-// The whole ring, from the third node eastwards, and the way from it to the first.
-fn second_carries(alloc: Global) -> Option<bool> {
-    let map = RingMap::new(&[1, 2, 3, 4]).ok()?;
-    let table = table_of_second(alloc, &map)?;
-    Some(
-        carries(&map, &table, 1, 2) && !carries(&map, &table, 1, 3) && !carries(&map, &table, 2, 2),
-    )
-}
-
 #[test]
 fn what_may_be_carried_to_the_second_node(rt: HostRuntime) {
-    assert!(rt; second_carries(rt.alloc()) == Some(true));
+    let map = RingMap::new(&[1, 2, 3, 4]).expect(&rt, "a ring");
+    let table = table_of_second(rt.alloc(), &map).expect(&rt, "a table");
+    // the whole ring, from the third node eastwards, and the way from it to the first
+    assert!(rt; carries(&map, &table, 1, 2));
+    assert!(rt; !carries(&map, &table, 1, 3));
+    assert!(rt; !carries(&map, &table, 2, 2));
 }

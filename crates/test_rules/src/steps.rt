@@ -2,7 +2,6 @@
 ghost use Rattle.std.specs.Prelude.{◌≡◌, ◌≢◌, true, false};
 ghost use Rattle.sdh_nodestate.specs.Conditions.{MayNeed};
 
-use crate::rows::all_come_out;
 use sdh_kbytes::{K, decode};
 use sdh_nodestate::{
     Filter, Heard, Needs, NodeState, Sent, Shape, same_shape, shape_of, start, step,
@@ -135,19 +134,12 @@ fn step_of(east_fails: bool, west: Bytes, east: Bytes) -> Option<(NodeState, Sen
     }
 }
 
-fn right_rows() -> usize {
-    for i in 0..ROWS.len() {
-        let (east_fails, west, east, state, to_west, to_east) = ROWS[i];
-        if !is(step_of(east_fails, west, east), state, to_west, to_east) {
-            return i;
-        }
-    }
-    ROWS.len()
-}
-
 #[test]
 fn requests_of_the_second_of_four(rt: HostRuntime) {
-    all_come_out(&rt, right_rows(), ROWS.len());
+    for (east_fails, west, east, state, to_west, to_east) in ROWS {
+        let answer = step_of(*east_fails, *west, *east);
+        assert!(rt; is(answer, *state, *to_west, *to_east), "{state:?}");
+    }
 }
 
 const THIRD: &[(Shape, (u8, u8), (u8, u8))] = &[
@@ -156,24 +148,12 @@ const THIRD: &[(Shape, (u8, u8), (u8, u8))] = &[
     (Shape::SwitchWest(None), (0x11, 0x21), (0xb1, 0x29)),
 ];
 
-fn right_frames() -> usize {
-    let mut filter = Filter::new();
-    for i in 0..THIRD.len() {
-        let (state, west, east) = THIRD[i];
-        let heard = filter.hear(decode(0xb2, 0x10));
-        if !is(
-            stepped(asks(Code::Nr, Code::Nr), heard, None),
-            state,
-            west,
-            east,
-        ) {
-            return i;
-        }
-    }
-    THIRD.len()
-}
-
 #[test]
 fn the_third_frame_counts(rt: HostRuntime) {
-    all_come_out(&rt, right_frames(), THIRD.len());
+    let mut filter = Filter::new();
+    for (state, west, east) in THIRD {
+        let heard = filter.hear(decode(0xb2, 0x10));
+        let answer = stepped(asks(Code::Nr, Code::Nr), heard, None);
+        assert!(rt; is(answer, *state, *west, *east), "{state:?}");
+    }
 }

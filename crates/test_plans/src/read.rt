@@ -1,13 +1,13 @@
 //! Plans that are read.
 
+use crate::documents::SMALLEST;
 use crate::parts::{Led, fibre, figures_of, is_led};
 use sdh_circuits::{End, PortId};
 use sdh_payload::{Port, Turn};
-use sdh_plan::{Plan, PlanError, Step, read_plan};
+use sdh_plan::{Plan, Step, read_plan};
 use sdh_request::{Command, Moment};
 use sdh_ringmap::{Condition, Pos, Rate, Side};
-use std::alloc::Global;
-use test_texts::SMALLEST;
+use std::test::Fail;
 
 // A plan with each key and each step.
 const FULL: &str = r#"rate = 16
@@ -71,21 +71,16 @@ fn has_circuit(plan: &Plan, number: u8, led: Led, a: Sends, b: Sends) -> bool {
     is_led(circuit, led) && is_sender(circuit.port(End::A), a) && is_sender(circuit.port(End::B), b)
 }
 
-// Returns whether a document is the smallest run.
-fn is_smallest(alloc: Global, document: &str) -> Result<bool, PlanError> {
-    let plan = read_plan(alloc, document.as_bytes())?;
-    let (a, b) = (("ALPHA", "c1", 0), ("BETA!", "c1", 0));
-    Ok(
-        figures_of(&plan) == (Rate::Four, 3, 10, 1000, 3, 1)
-            && plan.steps() == [Step::Settle].as_slice()
-            && has_circuit(&plan, 0, ("c1", 0, 1, 1), a, b),
-    )
-}
-
 #[test]
-fn reads_the_same_plan_in_other_words(rt: HostRuntime) {
-    assert!(rt; matches!(is_smallest(rt.alloc(), SMALLEST), Ok(true)));
-    assert!(rt; matches!(is_smallest(rt.alloc(), IN_BRACES), Ok(true)));
+fn reads_the_same_plan_in_other_words(rt: HostRuntime) -> Result<(), Fail> {
+    for document in [SMALLEST, IN_BRACES] {
+        let plan = read_plan(rt.alloc(), document.as_bytes())?;
+        assert_eq!(rt; figures_of(&plan), (Rate::Four, 3, 10, 1000, 3, 1));
+        assert_eq!(rt; plan.steps(), [Step::Settle].as_slice());
+        let (a, b) = (("ALPHA", "c1", 0), ("BETA!", "c1", 0));
+        assert!(rt; has_circuit(&plan, 0, ("c1", 0, 1, 1), a, b));
+    }
+    Ok(())
 }
 
 // Returns the steps of the plan that has each.
@@ -108,24 +103,17 @@ fn all_steps() -> [Step; 14] {
     ]
 }
 
-fn has_both_circuits(plan: &Plan) -> bool {
-    let (a, b) = ((" ", "near", 0), ("~", "a-z_0123456789-z", 782));
-    let first = has_circuit(plan, 0, ("a-z_0123456789-z", 2, 1, 8), a, b);
-    let (a, b) = (("A", "b", 1), ("B", "far", 0));
-    first && has_circuit(plan, 1, ("b", 1, 2, 8), a, b)
-}
-
-fn has_each_part(alloc: Global) -> Result<bool, PlanError> {
-    let plan = read_plan(alloc, FULL.as_bytes())?;
-    let figures = figures_of(&plan) == (Rate::Sixteen, 48, 1_000_000, 65_536, 3, 2);
-    let steps = plan.steps() == all_steps().as_slice();
-    let circuits = has_both_circuits(&plan);
-    let parts = plan.into_parts();
-    let whole = parts.0.len() == 3 && parts.1.len() == 2 && parts.2.len() == 14;
-    Ok(figures && steps && circuits && whole)
-}
-
 #[test]
-fn reads_each_part_of_a_plan(rt: HostRuntime) {
-    assert!(rt; matches!(has_each_part(rt.alloc()), Ok(true)));
+fn reads_each_part_of_a_plan(rt: HostRuntime) -> Result<(), Fail> {
+    let plan = read_plan(rt.alloc(), FULL.as_bytes())?;
+    let figures = (Rate::Sixteen, 48, 1_000_000, 65_536, 3, 2);
+    assert_eq!(rt; figures_of(&plan), figures);
+    let (a, b) = ((" ", "near", 0), ("~", "a-z_0123456789-z", 782));
+    assert!(rt; has_circuit(&plan, 0, ("a-z_0123456789-z", 2, 1, 8), a, b));
+    let (a, b) = (("A", "b", 1), ("B", "far", 0));
+    assert!(rt; has_circuit(&plan, 1, ("b", 1, 2, 8), a, b));
+    assert_eq!(rt; plan.steps(), all_steps().as_slice());
+    let (map, circuits, steps) = plan.into_parts();
+    assert!(rt; map.len() == 3 && circuits.len() == 2 && steps.len() == 14);
+    Ok(())
 }

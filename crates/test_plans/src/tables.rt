@@ -1,11 +1,11 @@
 //! The lines of some rings, written by hand: the arc of each circuit followed eastwards from its first node, span by
 //! span.
 
-use crate::calls::all_right;
 use sdh_cli::table_text;
 use sdh_plan::read_plan;
 use sdh_report::LINE_MAX;
 use std::alloc::{AllocError, Global};
+use std::test::Fail;
 
 // A plan without its circuits, and the circuits: name, ends and slot.
 struct Case {
@@ -145,26 +145,14 @@ fn document_of(alloc: Global, case: &Case) -> Result<String, AllocError> {
     Ok(document)
 }
 
-// Returns whether the lines of a case are these, and there is room for a last one.
-fn has_lines(alloc: Global, case: &Case) -> Result<bool, AllocError> {
-    let document = document_of(alloc, case)?;
-    let Ok(plan) = read_plan(alloc, document.as_bytes()) else {
-        return Ok(false);
-    };
-    let text = table_text(alloc, &plan)?;
-    Ok(text.bytes() == case.lines.as_bytes() && text.room() >= LINE_MAX)
-}
-
-fn right_tables(alloc: Global) -> usize {
-    for i in 0..CASES.len() {
-        if has_lines(alloc, &CASES[i]) != Ok(true) {
-            return i;
-        }
-    }
-    CASES.len()
-}
-
 #[test]
-fn lists_the_circuits_that_pass_each_node(rt: HostRuntime) {
-    all_right(&rt, right_tables(rt.alloc()), CASES.len());
+fn lists_the_circuits_that_pass_each_node(rt: HostRuntime) -> Result<(), Fail> {
+    for (i, case) in CASES.iter().enumerate() {
+        let document = document_of(rt.alloc(), case)?;
+        let plan = read_plan(rt.alloc(), document.as_bytes()).expect(&rt, "a plan");
+        let text = table_text(rt.alloc(), &plan)?;
+        assert!(rt; text.bytes() == case.lines.as_bytes(), "case {i}");
+        assert!(rt; text.room() >= LINE_MAX, "case {i}");
+    }
+    Ok(())
 }

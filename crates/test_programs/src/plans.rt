@@ -1,4 +1,4 @@
-//! Plans of path rings, watches and signalling, and the texts that their runs write.
+//! Plans, and the texts that their runs write.
 
 /// What the watches of the smallest plan show.
 pub const WATCHED: &str = "settle 1 round 128

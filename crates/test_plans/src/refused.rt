@@ -1,9 +1,10 @@
 //! Plans that are refused: the first check that fails, by its reason and its place.
 
-use crate::calls::all_right;
+use crate::documents::SMALLEST;
 use sdh_plan::{PlanError, read_plan};
 use std::alloc::{AllocError, Global};
-use test_texts::SMALLEST;
+use std::process::Abort;
+use std::test::Fail;
 
 // A change of the smallest run, and the reason and the place that are then answered.
 type Case = (&'static str, &'static str, u8, u32);
@@ -292,7 +293,7 @@ const NO_DOCUMENTS: &[&[u8]] = &[
 ];
 
 // What is answered to a document.
-#[derive(Clone, Copy, PartialEq, Eq)]
+#[derive(Clone, Copy, Debug, PartialEq, Eq)]
 enum Answer {
     Plan,
     Memory,
@@ -319,63 +320,37 @@ fn answer_to(alloc: Global, document: &[u8]) -> Answer {
     }
 }
 
-// Returns whether a change of the smallest run is answered as it is to be.
-fn is_refused(alloc: Global, case: &Case) -> Result<bool, AllocError> {
-    let (old, new, reason, place) = *case;
-    let document = SMALLEST.replacen(alloc, old, new, 1)?;
-    let answer = answer_to(alloc, document.as_bytes());
-    Ok(document.as_str() != SMALLEST && answer == Answer::Refused(reason, place))
+// Stops where a document isn't answered as it is to be.
+fn ends(rt: &impl Abort, alloc: Global, document: &[u8], wanted: Answer) {
+    assert_eq!(rt; answer_to(alloc, document), wanted, "{document:?}");
 }
 
-fn right_refusals(alloc: Global, cases: &[Case]) -> usize {
-    for i in 0..cases.len() {
-        if is_refused(alloc, &cases[i]) != Ok(true) {
-            return i;
-        }
+// Stops where a change of the smallest run isn't answered as it is to be.
+fn answers(rt: &impl Abort, alloc: Global, cases: &[Case]) -> Result<(), Fail> {
+    for (old, new, reason, place) in cases {
+        let document = SMALLEST.replacen(alloc, old, new, 1)?;
+        assert!(rt; document.as_str() != SMALLEST, "{old}");
+        ends(
+            rt,
+            alloc,
+            document.as_bytes(),
+            bad_plan(Some((*reason, *place))),
+        );
     }
-    cases.len()
+    Ok(())
 }
 
 #[test]
-fn answers_the_first_check_of_a_document_that_fails(rt: HostRuntime) {
-    all_right(
-        &rt,
-        right_refusals(rt.alloc(), OF_DOCUMENTS),
-        OF_DOCUMENTS.len(),
-    );
-}
-
-#[test]
-fn answers_the_first_check_of_a_circuit_that_fails(rt: HostRuntime) {
-    all_right(
-        &rt,
-        right_refusals(rt.alloc(), OF_CIRCUITS),
-        OF_CIRCUITS.len(),
-    );
-}
-
-#[test]
-fn answers_the_first_check_of_a_script_that_fails(rt: HostRuntime) {
-    all_right(
-        &rt,
-        right_refusals(rt.alloc(), OF_SCRIPTS),
-        OF_SCRIPTS.len(),
-    );
-}
-
-fn right_bytes(alloc: Global) -> usize {
-    for i in 0..NO_DOCUMENTS.len() {
-        if answer_to(alloc, NO_DOCUMENTS[i]) != Answer::NotToml {
-            return i;
-        }
-    }
-    NO_DOCUMENTS.len()
+fn answers_the_first_check_of_a_document_that_fails(rt: HostRuntime) -> Result<(), Fail> {
+    answers(&rt, rt.alloc(), OF_DOCUMENTS)
 }
 
 #[test]
 fn tells_what_is_no_document(rt: HostRuntime) {
-    assert!(rt; answer_to(rt.alloc(), b"") == Answer::Refused(13, 0));
-    all_right(&rt, right_bytes(rt.alloc()), NO_DOCUMENTS.len());
+    ends(&rt, rt.alloc(), b"", bad_plan(Some((13, 0))));
+    for bytes in NO_DOCUMENTS {
+        ends(&rt, rt.alloc(), bytes, Answer::NotToml);
+    }
 }
 
 // Returns a document with arrays nested `levels` deep.
@@ -399,17 +374,25 @@ fn dotted(alloc: Global, parts: usize) -> Result<String, AllocError> {
     Ok(document)
 }
 
-// Returns whether arrays of this depth and keys of as many parts are answered so.
-fn are_answered(alloc: Global, parts: usize, wanted: Answer) -> Result<bool, AllocError> {
-    let deep = nested(alloc, parts)?;
-    let long = dotted(alloc, parts)?;
-    Ok(answer_to(alloc, deep.as_bytes()) == wanted && answer_to(alloc, long.as_bytes()) == wanted)
+#[test]
+fn knows_the_limits_of_a_document(rt: HostRuntime) -> Result<(), Fail> {
+    for (parts, wanted) in [(80, bad_plan(Some((12, 0)))), (81, Answer::NotToml)] {
+        let deep = nested(rt.alloc(), parts)?;
+        ends(&rt, rt.alloc(), deep.as_bytes(), wanted);
+        let long = dotted(rt.alloc(), parts)?;
+        ends(&rt, rt.alloc(), long.as_bytes(), wanted);
+    }
+    Ok(())
 }
 
 #[test]
-fn knows_the_limits_of_a_document(rt: HostRuntime) {
-    assert!(rt; are_answered(rt.alloc(), 80, Answer::Refused(12, 0)) == Ok(true));
-    assert!(rt; are_answered(rt.alloc(), 81, Answer::NotToml) == Ok(true));
+fn answers_the_first_check_of_a_circuit_that_fails(rt: HostRuntime) -> Result<(), Fail> {
+    answers(&rt, rt.alloc(), OF_CIRCUITS)
+}
+
+#[test]
+fn answers_the_first_check_of_a_script_that_fails(rt: HostRuntime) -> Result<(), Fail> {
+    answers(&rt, rt.alloc(), OF_SCRIPTS)
 }
 
 // Returns the smallest run with these steps `times` times before its own.
@@ -419,31 +402,21 @@ fn repeating(alloc: Global, steps: &str, times: usize) -> Result<String, AllocEr
     SMALLEST.replacen(alloc, "\"settle\"", script.as_str(), 1)
 }
 
-// Steps, how many times they are repeated, and the reason and the place that are then answered, if the plan is refused.
-const REPEATED: &[(&str, usize, Option<(u8, u32)>)] = &[
-    ("\"settle\", ", 63, None),
-    ("\"settle\", ", 64, Some((28, 65))),
-    ("\"mend 2 east\", ", 999, None),
-    ("\"mend 2 east\", ", 1000, Some((21, 0))),
-    ("\"mend 9 east\", ", 1000, Some((21, 0))),
-    ("\"settle\", \"mend 2 east\", ", 63, None),
-    ("\"settle\", \"mend 2 east\", ", 64, Some((28, 129))),
-];
-
-fn right_repeats(alloc: Global) -> Result<usize, AllocError> {
-    for i in 0..REPEATED.len() {
-        let (steps, times, refusal) = REPEATED[i];
-        let document = repeating(alloc, steps, times)?;
-        if answer_to(alloc, document.as_bytes()) != bad_plan(refusal) {
-            return Ok(i);
-        }
-    }
-    Ok(REPEATED.len())
-}
-
 #[test]
-fn counts_the_steps_of_a_script(rt: HostRuntime) {
-    all_right(&rt, right_repeats(rt.alloc()).unwrap_or(0), REPEATED.len());
+fn counts_the_steps_of_a_script(rt: HostRuntime) -> Result<(), Fail> {
+    for (steps, times, refusal) in [
+        ("\"settle\", ", 63, None),
+        ("\"settle\", ", 64, Some((28, 65))),
+        ("\"mend 2 east\", ", 999, None),
+        ("\"mend 2 east\", ", 1000, Some((21, 0))),
+        ("\"mend 9 east\", ", 1000, Some((21, 0))),
+        ("\"settle\", \"mend 2 east\", ", 63, None),
+        ("\"settle\", \"mend 2 east\", ", 64, Some((28, 129))),
+    ] {
+        let document = repeating(rt.alloc(), steps, times)?;
+        ends(&rt, rt.alloc(), document.as_bytes(), bad_plan(refusal));
+    }
+    Ok(())
 }
 
 // Returns the smallest run with these steps.
@@ -452,17 +425,11 @@ fn with_steps(alloc: Global, steps: &str) -> Result<String, AllocError> {
     SMALLEST.replacen(alloc, "settle", script.as_str(), 1)
 }
 
-fn right_slips(alloc: Global) -> Result<usize, AllocError> {
-    for i in 0..OF_SLIPS.len() {
-        let document = with_steps(alloc, OF_SLIPS[i].0)?;
-        if answer_to(alloc, document.as_bytes()) != bad_plan(OF_SLIPS[i].1) {
-            return Ok(i);
-        }
-    }
-    Ok(OF_SLIPS.len())
-}
-
 #[test]
-fn counts_the_slips_of_each_port(rt: HostRuntime) {
-    all_right(&rt, right_slips(rt.alloc()).unwrap_or(0), OF_SLIPS.len());
+fn counts_the_slips_of_each_port(rt: HostRuntime) -> Result<(), Fail> {
+    for (steps, refusal) in OF_SLIPS {
+        let document = with_steps(rt.alloc(), steps)?;
+        ends(&rt, rt.alloc(), document.as_bytes(), bad_plan(*refusal));
+    }
+    Ok(())
 }
