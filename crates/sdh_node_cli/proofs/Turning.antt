@@ -126,7 +126,7 @@ takes_both b c d west east left mid now w e first is_c second is_d = record {
 pub west_part : (b : Bench) (west east : Came) (why : Stop) (left now : Option (List ℕ))
     → TakesPart (size_after b.node.settings.rate west) left now why → TakesPart (both_sizes b west east) left now why
 west_part b west east (stop.Bad flaw.Cut) left now p = (p.0, omega (arith, p.1), p.2, p.3)
-west_part b west east stop.ReadFault left now p = p
+west_part b west east stop.ReadFault left now p = (p.0, omega (arith, p.1), p.2)
 west_part b west east (stop.Bad (flaw.Said r)) left now p = absurd p
 west_part b west east (stop.Bad flaw.Long) left now p = absurd p
 west_part b west east (stop.Bad flaw.Many) left now p = absurd p
@@ -140,7 +140,9 @@ pub east_part : (b c : Bench) (west east : Came) (why : Stop) (left mid now : Op
 east_part b c west east (stop.Bad flaw.Cut) left mid now w first is p =
     let size = ap (λ (s : Settings). size_after s.rate east) (coming_is West west w b c is).0 in
     (w ++ p.0, omega (arith, p.1, size, first.whole, length-append w p.0), Consumes-trans left mid now w p.0 first.read p.2, p.3)
-east_part b c west east stop.ReadFault left mid now w first is p = (w ++ p.0, Consumes-trans left mid now w p.0 first.read p.1)
+east_part b c west east stop.ReadFault left mid now w first is p =
+    let size = ap (λ (s : Settings). size_after s.rate east) (coming_is West west w b c is).0 in
+    (w ++ p.0, omega (arith, p.1, size, first.whole, length-append w p.0), Consumes-trans left mid now w p.0 first.read p.2)
 east_part b c west east (stop.Bad (flaw.Said r)) left mid now w first is p = absurd p
 east_part b c west east (stop.Bad flaw.Long) left mid now w first is p = absurd p
 east_part b c west east (stop.Bad flaw.Many) left mid now w first is p = absurd p
@@ -270,7 +272,22 @@ round_stops b line west east (stop.Bad flaw.Cut) left mid now old_text new_text 
       s.1,
     )
 round_stops b line west east stop.ReadFault left mid now old_text new_text l s =
-    ((whole_line line ++ s.0.0, tt, Consumes-trans left mid now (whole_line line) s.0.0 l.read s.0.1), s.1)
+    let p = s.0 in (
+      (
+        whole_line line ++ p.0,
+        inr
+            (record {
+              line = line;
+              record_is = what.Round west east;
+              part = p.0;
+              said = record { line_is = l.line_is; reads = l.reads; may = refl };
+              tail_is = refl;
+              short = p.1;
+            }),
+        Consumes-trans left mid now (whole_line line) p.0 l.read p.2,
+      ),
+      s.1,
+    )
 round_stops b line west east (stop.Bad (flaw.Said r)) left mid now old_text new_text l s = absurd s.0
 round_stops b line west east (stop.Bad flaw.Long) left mid now old_text new_text l s = absurd s.0
 round_stops b line west east (stop.Bad flaw.Many) left mid now old_text new_text l s = absurd s.0

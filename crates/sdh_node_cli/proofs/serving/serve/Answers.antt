@@ -38,7 +38,7 @@ loop-done-preserved g c =
 
 pub returns-in-Err-clause-served : goal.returns-in-Err-clause-served
 returns-in-Err-clause-served g c = λ not.
-    served_by _ c.loop-done.bench _ _ _ _ _ _ c.loop-done.done c.in-Err.stop c.loop-done.invariant.went not c.in-Err.ensures.stops
+    served_by _ c.loop-done.bench _ _ _ _ _ _ c.loop-done.done c.in-Err.stop (omega (arith, c.loop-done-test.true)) c.loop-done.invariant.went not c.in-Err.ensures.stops
 
 pub returns-in-Err-clause-cut : goal.returns-in-Err-clause-cut
 returns-in-Err-clause-cut g c = λ is.
@@ -46,4 +46,4 @@ returns-in-Err-clause-cut g c = λ is.
     (subst (λ x. StopsBy c.loop-done.bench x _ _ _ _) is c.in-Err.ensures.stops)
 
 pub returns-clause-served : goal.returns-clause-served
-returns-clause-served g c = λ not. served_all _ _ _ _ _ _ c.loop-done.done c.loop-done.invariant.went
+returns-clause-served g c = λ not. served_all _ _ _ _ _ _ c.loop-done.done (omega (arith, c.loop-done-test.false)) c.loop-done.invariant.went
