@@ -1,8 +1,8 @@
 -- The line that shows how a node signals in a round. Numbers are decimal, the bytes of words hexadecimal, and the line ends with one
 -- newline byte. The texts are this project's own.
 use Rattle.std.specs.Prelude.{ℕ, List, ◌++◌, codes, decimal, Option, Some, None}
-use Rattle.sdh_terms.specs.declared.Code.{Code}
-use Rattle.sdh_terms.specs.declared.Code.TheVariants.{Nr, Rr, Wtr, Ms, Sd, Sf, Fs}
+use Rattle.sdh_ringmap.specs.declared.terms.Code.{Code}
+use Rattle.sdh_ringmap.specs.declared.terms.Code.TheVariants.{Nr, Rr, Wtr, Ms, Sd, Sf, Fs}
 use Rattle.sdh_report.specs.declared.node_line.WordBytes.{WordBytes}
 use Rattle.sdh_report.specs.Lines.{state_text, word_text}
 use Rattle.sdh_aps.specs.declared.shown.Shown.{Shown}

@@ -1,6 +1,6 @@
 -- Whether what a node shows is equal in two rounds.
 use Rattle.std.specs.Prelude.{ℕ, Bool, true, false, ◌==◌, ◌&&◌, Option, Some, None}
-use Rattle.sdh_terms.specs.Requests.{code_number}
+use Rattle.sdh_ringmap.specs.Requests.{code_number}
 use Rattle.sdh_report.specs.declared.node_line.StateWord.{StateWord}
 use Rattle.sdh_report.specs.declared.node_line.StateWord.TheVariants as word
 use Rattle.sdh_report.specs.declared.node_line.WordBytes.{WordBytes}

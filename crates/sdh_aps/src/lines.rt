@@ -5,7 +5,7 @@ ghost use Rattle.sdh_aps.specs.Lines.{code_text, far_text, heard_text, sent_text
 
 use crate::shown::Shown;
 use sdh_report::{Text, WordBytes};
-use sdh_terms::Code;
+use sdh_ringmap::Code;
 
 /// Room for any line of a node in a round, in bytes.
 pub const LINE_MAX: usize = 128;

@@ -3,7 +3,7 @@ ghost use Rattle.std.specs.Prelude.{◌≡◌};
 ghost use Rattle.sdh_aps.specs.Shown.{same_bytes, same_heard, same_far, same_state, same_words, same_shown};
 
 use sdh_report::{StateWord, WordBytes};
-use sdh_terms::Code;
+use sdh_ringmap::Code;
 
 /// A word of each side.
 #[derive(Clone, Copy, Debug, PartialEq, Eq)]

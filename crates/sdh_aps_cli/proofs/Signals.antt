@@ -10,8 +10,8 @@ use Rattle.sdh_basics.proofs.CellsLaws.{cells-zero, get_or-cells}
 use Rattle.sdh_ringmap.specs.declared.Side.{Side}
 use Rattle.sdh_ringmap.specs.declared.Side.TheVariants.{West, East}
 use Rattle.sdh_ringmap.specs.Places.{position_of}
-use Rattle.sdh_terms.specs.declared.Condition.TheVariants.{Clear}
-use Rattle.sdh_terms.specs.Fibres.{fibre_to, is_cut}
+use Rattle.sdh_ringmap.specs.declared.terms.Condition.TheVariants.{Clear}
+use Rattle.sdh_ringmap.specs.Fibres.{fibre_to, is_cut}
 use Rattle.sdh_circuits.specs.Provisioning.{Provisioning}
 use Rattle.sdh_request.specs.declared.Defect.{Defect}
 use Rattle.sdh_request.specs.declared.Defect.TheVariants as defect

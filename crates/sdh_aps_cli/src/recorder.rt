@@ -12,8 +12,7 @@ use crate::showing::shown_at;
 use sdh_aps::{LINE_MAX, Shown, WordPair, same_shown, signal_line};
 use sdh_report::{StateWord, Text, WordBytes};
 use sdh_ring::Ring;
-use sdh_ringmap::Pos;
-use sdh_terms::Code;
+use sdh_ringmap::{Code, Pos};
 use std::alloc::{AllocError, Global};
 
 /// What the nodes of a ring showed in the last round, and room for the lines of one round.

@@ -1,10 +1,10 @@
 //! Whole frames, round after round in one buffer.
 ghost use Rattle.std.specs.Prelude.{◌≡◌, ◌*◌, ◌⊎◌, length, IfOk};
-ghost use Rattle.sdh_terms.specs.Rates.{n_of};
+ghost use Rattle.sdh_ringmap.specs.Rates.{n_of};
 
 use sdh_frame::FrameBuf;
 use sdh_overhead::{Received, Section, read_section, write_section};
-use sdh_terms::Rate;
+use sdh_ringmap::Rate;
 use std::alloc::{AllocError, Global};
 
 fn rate_of(n: usize) -> Rate

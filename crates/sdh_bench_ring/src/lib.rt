@@ -3,7 +3,7 @@
 #![tactic(auto)]
 
 ghost use Rattle.std.specs.Prelude.{◌≡◌, ◌≤◌, ◌<◌, ◌+◌, ◌*◌, ◌/◌, ◌^◌, ◌⊎◌, ℕ, IfOk, OnOk, false, length};
-ghost use Rattle.sdh_terms.specs.Rates.{n_of};
+ghost use Rattle.sdh_ringmap.specs.Rates.{n_of};
 ghost use Rattle.sdh_plant.specs.Fibres.{HasNoFibres, IsPrepared};
 ghost use Rattle.sdh_circuits.specs.Kept.{KeepsRing};
 
@@ -13,8 +13,7 @@ use sdh_circuits::{Asked, CircuitMap, End, PortId};
 use sdh_node::{Delivered, Settings};
 use sdh_plant::{FibrePlant, Plant};
 use sdh_ring::{PlantFault, Ring};
-use sdh_ringmap::{Pos, RingMap, Side};
-use sdh_terms::{Condition, FibreEvent, Rate};
+use sdh_ringmap::{Condition, FibreEvent, Pos, Rate, RingMap, Side};
 use std::alloc::{AllocError, Global};
 
 fn rate_of(n: usize) -> Rate

@@ -1,7 +1,7 @@
 //! An episode, for `bench/strangers`: a ring to which things happen between any rounds, and what each port delivers in
 //! each round.
 ghost use Rattle.std.specs.Prelude.{◌≡◌, ◌≤◌, ◌<◌, ◌/◌, ℕ, IfOk, false, length};
-ghost use Rattle.sdh_terms.specs.Rates.{n_of};
+ghost use Rattle.sdh_ringmap.specs.Rates.{n_of};
 ghost use Rattle.sdh_circuits.specs.Kept.{KeepsRing};
 ghost use Rattle.sdh_plant.specs.Fibres.{HasNoFibres, IsPrepared};
 
@@ -11,8 +11,7 @@ use sdh_node::{Delivered, Settings, Turn};
 use sdh_plant::{FibrePlant, Plant};
 use sdh_request::{Command, Moment};
 use sdh_ring::Ring;
-use sdh_ringmap::{Pos, RingMap, Side};
-use sdh_terms::{Condition, FibreEvent, Rate};
+use sdh_ringmap::{Condition, FibreEvent, Pos, Rate, RingMap, Side};
 use std::alloc::{AllocError, Global};
 
 /// The size of what is written of a port in a round: in two bytes, how many bytes the port delivered, and then those

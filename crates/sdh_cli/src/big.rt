@@ -10,8 +10,7 @@ use crate::draws::Draws;
 use sdh_circuits::{AddError, Asked, CircuitMap};
 use sdh_plan::{Plan, Step};
 use sdh_request::{Moment, Settings};
-use sdh_ringmap::{Pos, RingMap, Side};
-use sdh_terms::{Condition, FibreEvent, Rate};
+use sdh_ringmap::{Condition, FibreEvent, Pos, Rate, RingMap, Side};
 use std::alloc::{AllocError, Global};
 
 // The next circuit of a slot: its number there, the position where it starts, and its number of spans.

@@ -1,7 +1,7 @@
 //! The text of a plan's squelch tables: what each node knows beforehand of the circuits that pass it.
 ghost use Rattle.std.specs.Prelude.{◌≡◌, ◌+◌, ◌*◌, ◌/◌, ◌≤◌, ◌<◌, ◌++◌, length, slice_index, IfOk, OnOk};
 ghost use Rattle.sdh_report.specs.Lines.{table_line};
-ghost use Rattle.sdh_terms.specs.Rates.{n_of};
+ghost use Rattle.sdh_ringmap.specs.Rates.{n_of};
 ghost use Rattle.sdh_squelch.specs.Table.{table_of};
 ghost use Rattle.sdh_cli.specs.Tables.{slot_line, side_lines, node_lines, tables_of};
 

@@ -4,12 +4,12 @@ use Rattle.std.proofs.Common.{sym, ◌∙◌, arith, inl, inr}
 use Rattle.std.specs.Prelude.{◌&&◌}
 use Rattle.std.proofs.lemmas.Bool.{ne_eqb, eq-eqb, le-leb, lt-leb, lt-ltb, le-ltb, cases_Bool, cases_lt, cases_eq}
 use Rattle.sdh_basics.proofs.CellsLaws.{cells-from, cells-same, length-map_from, get_or-placed}
-use Rattle.sdh_terms.specs.declared.Rate.{Rate}
-use Rattle.sdh_terms.specs.declared.Rate.TheVariants.{Four, Sixteen}
+use Rattle.sdh_ringmap.specs.declared.terms.Rate.{Rate}
+use Rattle.sdh_ringmap.specs.declared.terms.Rate.TheVariants.{Four, Sixteen}
 use Rattle.sdh_frame.specs.declared.Field.TheVariants.{Pointer, Payload}
 use Rattle.sdh_frame.specs.declared.Place.{Place}
 use Rattle.sdh_frame.specs.Sizes.{size_of}
-use Rattle.sdh_terms.specs.Rates.{n_of}
+use Rattle.sdh_ringmap.specs.Rates.{n_of}
 use Rattle.sdh_frame.specs.Fields.{index_of, field_at}
 use Rattle.sdh_frame.specs.Aus.{payload_of, pointers_of, payload_byte, pointer_byte, with_payload, with_pointers, Au, au_of, with_au}
 use Rattle.sdh_frame.specs.PlaceLaws.{IsInFrame, field_of}

@@ -5,10 +5,10 @@ use Rattle.std.specs.Prelude.{slice_index, if◌then◌else◌}
 use Rattle.std.proofs.lemmas.Bool.{and_parts, eqb-true, leb-true}
 use Rattle.std.proofs.lemmas.List.{ext_get_or, get_or-replicate}
 use Rattle.sdh_basics.proofs.CellsLaws.{cells-from, get_or-cells, length-map_from, get_or-placed}
-use Rattle.sdh_terms.specs.declared.Rate.{Rate}
-use Rattle.sdh_terms.specs.declared.Rate.TheVariants.{Four, Sixteen}
+use Rattle.sdh_ringmap.specs.declared.terms.Rate.{Rate}
+use Rattle.sdh_ringmap.specs.declared.terms.Rate.TheVariants.{Four, Sixteen}
 use Rattle.sdh_frame.specs.Sizes.{size_of}
-use Rattle.sdh_terms.specs.Rates.{n_of}
+use Rattle.sdh_ringmap.specs.Rates.{n_of}
 use Rattle.sdh_frame.specs.Fields.{index_of, payload_place}
 use Rattle.sdh_frame.specs.Aus.{payload_of, payload_byte, pointer_byte, with_payload, with_pointers, is_payload, is_pointer}
 

@@ -1,10 +1,10 @@
 -- What writing an AU-4 into a frame leaves.
 use Rattle.std.specs.Prelude.{ℕ, ◌≡◌, ◌≢◌, ◌+◌, ◌<◌, ◌≤◌, List, length, slice_index, slice_index_or, ◌⊎◌}
-use Rattle.sdh_terms.specs.declared.Rate.{Rate}
+use Rattle.sdh_ringmap.specs.declared.terms.Rate.{Rate}
 use Rattle.sdh_frame.specs.declared.Field.TheVariants.{Pointer, Payload}
 use Rattle.sdh_frame.specs.declared.Place.{Place}
 use Rattle.sdh_frame.specs.Sizes.{size_of}
-use Rattle.sdh_terms.specs.Rates.{n_of}
+use Rattle.sdh_ringmap.specs.Rates.{n_of}
 use Rattle.sdh_frame.specs.Fields.{index_of}
 use Rattle.sdh_frame.specs.Aus.{Au, payload_of, pointers_of, with_payload, with_pointers, au_of, with_au, with_aus}
 use Rattle.sdh_frame.specs.PlaceLaws.{IsInFrame, field_of}

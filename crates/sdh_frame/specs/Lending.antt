@@ -2,7 +2,7 @@
 use Rattle.std.specs.Prelude.{ℕ, List, ◌++◌, ◌+◌, ◌*◌, ◌-◌, take, drop, length}
 use Rattle.std.specs.Borrow.{Lends, MutBor, Fml, u8, Array}
 use Rattle.sdh_frame.specs.Sizes.{Frame}
-use Rattle.sdh_terms.specs.Rates.{n_of}
+use Rattle.sdh_ringmap.specs.Rates.{n_of}
 use Rattle.sdh_frame.specs.contracts.FrameBuf.{the_row}
 
 -- the frame with these bytes at its start; after them it keeps its own bytes, and its length stays

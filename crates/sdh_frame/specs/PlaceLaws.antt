@@ -1,10 +1,10 @@
 -- Each payload place of an AU-4 has one index, and each pointer place as well, at either rate.
 use Rattle.std.specs.Prelude.{ℕ, ◌≡◌, ◌*◌, ◌<◌, ◌≤◌}
-use Rattle.sdh_terms.specs.declared.Rate.{Rate}
+use Rattle.sdh_ringmap.specs.declared.terms.Rate.{Rate}
 use Rattle.sdh_frame.specs.declared.Field as field
 use Rattle.sdh_frame.specs.declared.Field.TheVariants.{Pointer, Payload}
 use Rattle.sdh_frame.specs.declared.Place.{Place}
-use Rattle.sdh_terms.specs.Rates.{n_of}
+use Rattle.sdh_ringmap.specs.Rates.{n_of}
 use Rattle.sdh_frame.specs.Fields.{field_at, payload_place, place_of_pointer}
 
 -- the place is in the frame

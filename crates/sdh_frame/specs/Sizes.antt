@@ -1,7 +1,7 @@
 -- The sizes of an STM-N frame (ITU-T G.707): 9 rows of 270 N bytes, sent row by row.
 use Rattle.std.specs.Prelude.{ℕ, ◌*◌, List}
-use Rattle.sdh_terms.specs.declared.Rate.{Rate}
-use Rattle.sdh_terms.specs.Rates.{n_of}
+use Rattle.sdh_ringmap.specs.declared.terms.Rate.{Rate}
+use Rattle.sdh_ringmap.specs.Rates.{n_of}
 
 -- the bytes of a frame
 abbrev pub size_of : Rate → ℕ

@@ -1,7 +1,7 @@
 //! The AU-4s of a frame, written in place. Each loop is compiled once for each rate, with N as a constant.
 ghost use Rattle.std.specs.Prelude.{◌≡◌, ◌+◌, ◌*◌, ◌-◌, ◌/◌, ◌%◌, ◌<◌, ◌≤◌, ◌⊎◌, length, slice_index, replicate};
 ghost use Rattle.sdh_frame.specs.Sizes.{size_of};
-ghost use Rattle.sdh_terms.specs.Rates.{n_of};
+ghost use Rattle.sdh_ringmap.specs.Rates.{n_of};
 ghost use Rattle.sdh_frame.specs.Columns.{HasWritten};
 ghost use Rattle.sdh_frame.specs.Aus.{payload_of, with_payload, with_pointers, with_au, ones, is_payload, is_pointer};
 

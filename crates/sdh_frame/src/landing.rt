@@ -7,7 +7,7 @@ use crate::FrameBuf;
 /// copies them.
 pub trait Landing {
     ghost use Rattle.std.specs.Prelude.{ℕ, List, Option};
-    ghost use Rattle.sdh_terms.specs.declared.Rate.{Rate};
+    ghost use Rattle.sdh_ringmap.specs.declared.terms.Rate.{Rate};
 
     /// The rate of the frames that fit.
     ghost rate: { Self → Rate };

@@ -10,7 +10,7 @@ mod view;
 ghost use Rattle.std.specs.Prelude.{◌≡◌, ◌*◌, ◌-◌, ◌<◌, ◌≤◌, length, slice_index, slice_set, replicate, IfOk};
 ghost use Rattle.std.specs.Borrow.{sem};
 ghost use Rattle.sdh_frame.specs.Sizes.{size_of};
-ghost use Rattle.sdh_terms.specs.Rates.{n_of};
+ghost use Rattle.sdh_ringmap.specs.Rates.{n_of};
 ghost use Rattle.sdh_frame.specs.Fields.{index_of};
 ghost use Rattle.sdh_frame.specs.Lending.{LendsBytes};
 
@@ -21,7 +21,7 @@ pub use laws::{
 };
 use places::index_in;
 pub use places::{au_place, place_of, pointer_place};
-pub use sdh_terms::Rate;
+pub use sdh_ringmap::Rate;
 use std::alloc::{AllocError, Global};
 use std::fmt;
 use std::marker::Model;

@@ -1,7 +1,7 @@
 //! The places of fields, and the indexes of places among the bytes of a frame.
 ghost use Rattle.std.specs.Prelude.{◌≡◌, ◌+◌, ◌*◌, ◌<◌, ◌≤◌, ◌⊎◌};
 ghost use Rattle.sdh_frame.specs.Sizes.{size_of};
-ghost use Rattle.sdh_terms.specs.Rates.{n_of};
+ghost use Rattle.sdh_ringmap.specs.Rates.{n_of};
 ghost use Rattle.sdh_frame.specs.Fields.{index_of, field_at, payload_place, place_of_pointer};
 
 use crate::{Field, Place, Rate};

@@ -6,7 +6,7 @@ use Rattle.sdh_payload.specs.Room.{written}
 use Rattle.sdh_payload.proofs.Splicing.{written_whole}
 use Rattle.sdh_basics.proofs.CellsLaws.{length-cells}
 use Rattle.sdh_frame.specs.Sizes.{Frame}
-use Rattle.sdh_terms.specs.Rates.{n_of}
+use Rattle.sdh_ringmap.specs.Rates.{n_of}
 use Rattle.sdh_frame.specs.Fields.{index_of, payload_place}
 use Rattle.sdh_frame.specs.Aus.{payload_of}
 use Rattle.sdh_frame.proofs.Moves.{taken}

@@ -5,9 +5,9 @@ use Rattle.std.specs.Prelude.{if◌then◌else◌}
 use Rattle.std.proofs.lemmas.Bool.{cases_Bool, cases_eq, cases_lt, lt-ltb, le-ltb}
 use Rattle.std.proofs.lemmas.List.{get_or-map, length-map}
 use Rattle.sdh_basics.proofs.CellsLaws.{length-map_from, get_or-placed}
-use Rattle.sdh_terms.specs.declared.Rate.{Rate}
+use Rattle.sdh_ringmap.specs.declared.terms.Rate.{Rate}
 use Rattle.sdh_frame.specs.Sizes.{size_of}
-use Rattle.sdh_terms.specs.Rates.{n_of}
+use Rattle.sdh_ringmap.specs.Rates.{n_of}
 use Rattle.sdh_frame.specs.Aus.{payload_byte, pointer_byte, is_pointer, with_pointers, Au, with_aus, ones}
 use Rattle.sdh_frame.proofs.AuProofs.{au_byte, at_pointer, pointer_byte-other}
 use Rattle.sdh_frame.proofs.AllAus.{at_aus}

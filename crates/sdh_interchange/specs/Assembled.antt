@@ -1,7 +1,7 @@
 -- A frame that is put together. The payload of each AU-4 is that of another AU-4 or of a port, or is ones. Its pointer
 -- bytes are given.
 use Rattle.std.specs.Prelude.{ℕ, ◌≡◌, ◌*◌, ◌-◌, List, [], length, take, drop, slice_range, slice_index_or, replicate}
-use Rattle.sdh_terms.specs.declared.Rate.{Rate}
+use Rattle.sdh_ringmap.specs.declared.terms.Rate.{Rate}
 use Rattle.sdh_basics.specs.Indexed.{map_from}
 use Rattle.sdh_interchange.specs.declared.choose.Source.{Source}
 use Rattle.sdh_interchange.specs.declared.choose.Source.TheVariants.{First, Second, Own, Ones}

@@ -1,7 +1,7 @@
 //! Putting a frame together, row by row, from the AU-4s of two other frames and from payloads of a node's own ports.
 ghost use Rattle.std.specs.Prelude.{◌≡◌, ℕ, ◌+◌, ◌%◌, ◌<◌, ◌≤◌, [], length, slice_index, slice_index_or};
 ghost use Rattle.sdh_frame.specs.Sizes.{size_of};
-ghost use Rattle.sdh_terms.specs.Rates.{n_of};
+ghost use Rattle.sdh_ringmap.specs.Rates.{n_of};
 ghost use Rattle.sdh_frame.specs.Aus.{with_aus, pointer_byte};
 ghost use Rattle.sdh_interchange.specs.Assembled.{assembled, HasRow};
 

@@ -2,7 +2,7 @@
 ghost use Rattle.std.specs.Prelude.{◌≡◌, ◌≢◌, ℕ, ◌*◌, ◌/◌, ◌<◌, length, slice_index};
 ghost use Rattle.std.specs.List.{list_any};
 ghost use Rattle.sdh_frame.specs.Sizes.{size_of};
-ghost use Rattle.sdh_terms.specs.Rates.{n_of};
+ghost use Rattle.sdh_ringmap.specs.Rates.{n_of};
 ghost use Rattle.sdh_interchange.specs.Choosing.{chosen, AreSources, is_passed, is_own};
 ghost use Rattle.sdh_interchange.specs.Lanes.{AreLanes};
 ghost use Rattle.sdh_interchange.specs.Passes.{IsPass};
@@ -10,7 +10,7 @@ ghost use Rattle.sdh_interchange.specs.Passes.{IsPass};
 use crate::choose::{Source, any_own, any_passed};
 use crate::lanes::{Lanes, lanes_of};
 use crate::pass::{Inputs, Pass};
-use sdh_terms::Rate;
+use sdh_ringmap::Rate;
 use std::fmt;
 use std::marker::Model;
 
@@ -28,7 +28,7 @@ pub struct Choice<'a> {
 impl<'a> Model for Choice<'a> {
     ghost use Rattle.std.specs.Prelude.{◌≡◌};
     ghost use Rattle.std.specs.List.{list_any};
-    ghost use Rattle.sdh_terms.specs.Rates.{n_of};
+    ghost use Rattle.sdh_ringmap.specs.Rates.{n_of};
     ghost use Rattle.sdh_interchange.specs.Choosing.{AreSources, is_passed, is_own};
     ghost use Rattle.sdh_interchange.specs.Lanes.{AreLanes};
     ghost use Rattle.sdh_interchange.specs.Assembled.{Origins};

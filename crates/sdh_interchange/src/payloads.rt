@@ -2,7 +2,7 @@
 //! own.
 ghost use Rattle.std.specs.Prelude.{◌≡◌, ℕ, ◌+◌, ◌*◌, ◌-◌, ◌/◌, ◌<◌, ◌≤◌, ◌⊎◌, [], length, slice_index, slice_index_or};
 ghost use Rattle.sdh_frame.specs.Sizes.{size_of};
-ghost use Rattle.sdh_terms.specs.Rates.{n_of};
+ghost use Rattle.sdh_ringmap.specs.Rates.{n_of};
 ghost use Rattle.sdh_frame.specs.Aus.{payload_of};
 ghost use Rattle.sdh_interchange.specs.Tables.{cell, IsTable};
 ghost use Rattle.sdh_interchange.specs.Taking.{HaveRoom, KeepsOthers, HasTaken};
@@ -10,7 +10,7 @@ ghost use Rattle.sdh_interchange.specs.Taking.{HaveRoom, KeepsOthers, HasTaken};
 use crate::columns::byte_of;
 use crate::table::{lanes_from, last_two};
 use sdh_payload::Cells;
-use sdh_terms::Rate;
+use sdh_ringmap::Rate;
 use std::simd::prelude::*;
 
 // Puts these sixteen bytes at a place.

@@ -1,6 +1,6 @@
 //! Payloads that are taken out of a frame when they are asked for, those of half of the AU-4s at a time.
 ghost use Rattle.std.specs.Prelude.{◌≡◌, ℕ, ◌+◌, ◌*◌, ◌-◌, ◌<◌, ◌≤◌, ◌⊎◌, true, false, IfOk, [], length, replicate, slice_index_or};
-ghost use Rattle.sdh_terms.specs.Rates.{n_of};
+ghost use Rattle.sdh_ringmap.specs.Rates.{n_of};
 ghost use Rattle.sdh_frame.specs.Aus.{payload_of};
 ghost use Rattle.sdh_interchange.specs.Taking.{HaveRoom, none_taken, IsOf, has};
 

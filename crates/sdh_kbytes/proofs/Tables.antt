@@ -2,15 +2,15 @@
 use Rattle.std.proofs.Common.{◌≡◌, ◌≢◌, ℕ, ◌+◌, ◌*◌, ◌/◌, ◌%◌, ◌<◌, Option, Some, None, refl, arith, inl, inr, ◌⊎◌, ◌↔◌}
 use Rattle.std.proofs.lemmas.Bool.{cond_both, eqb-true}
 use Rattle.std.specs.Prelude.{Bool, true, List, [], ◌∷◌, find, ◌==◌, IfSome, option_and_then}
-use Rattle.sdh_terms.specs.declared.Code.{Code}
-use Rattle.sdh_terms.specs.declared.Code.TheVariants.{Nr, Rr, Wtr, Ms, Sd, Sf, Fs}
+use Rattle.sdh_ringmap.specs.declared.terms.Code.{Code}
+use Rattle.sdh_ringmap.specs.declared.terms.Code.TheVariants.{Nr, Rr, Wtr, Ms, Sd, Sf, Fs}
 use Rattle.sdh_kbytes.specs.declared.Path.{Path}
 use Rattle.sdh_kbytes.specs.declared.Path.TheVariants.{Short, Long}
 use Rattle.sdh_kbytes.specs.declared.Mark.{Mark}
 use Rattle.sdh_kbytes.specs.declared.Mark.TheVariants.{Idle, Bridged, BridgedSwitched, Rdi, MsAis}
 use Rattle.sdh_kbytes.specs.declared.K.{K}
 use Rattle.sdh_kbytes.specs.KBytes.{mark_number, path_number, codes, marks, code_at, mark_at, path_at, decoded, Spells, IsUnlisted}
-use Rattle.sdh_terms.specs.Requests.{code_number}
+use Rattle.sdh_ringmap.specs.Requests.{code_number}
 
 pub code_at-number : (c : Code) → code_at (code_number c) ≡ Some c
 code_at-number Nr = refl

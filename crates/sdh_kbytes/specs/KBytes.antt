@@ -4,9 +4,9 @@
 -- project's own, after ITU-T G.841.
 use Rattle.std.specs.Prelude.{ℕ, ◌≡◌, ◌≢◌, ◌+◌, ◌*◌, ◌/◌, ◌%◌, ◌≤◌, ◌⊎◌, Option, Some, option_and_then, List, [], ◌∷◌, find, ◌==◌}
 use Rattle.std.specs.Prelude.{if◌then◌else◌}
-use Rattle.sdh_terms.specs.declared.Code.{Code}
-use Rattle.sdh_terms.specs.Requests.{code_number}
-use Rattle.sdh_terms.specs.declared.Code.TheVariants.{Nr, Rr, Wtr, Ms, Sd, Sf, Fs}
+use Rattle.sdh_ringmap.specs.declared.terms.Code.{Code}
+use Rattle.sdh_ringmap.specs.Requests.{code_number}
+use Rattle.sdh_ringmap.specs.declared.terms.Code.TheVariants.{Nr, Rr, Wtr, Ms, Sd, Sf, Fs}
 use Rattle.sdh_kbytes.specs.declared.Path.{Path}
 use Rattle.sdh_kbytes.specs.declared.Path.TheVariants.{Short, Long}
 use Rattle.sdh_kbytes.specs.declared.Mark.{Mark}

@@ -1,8 +1,8 @@
 -- When two words are the same.
 use Rattle.std.specs.Prelude.{Bool, true, false, ◌&&◌, ◌==◌, Option, Some, None}
 use Rattle.sdh_kbytes.specs.KBytes.{path_number, mark_number}
-use Rattle.sdh_terms.specs.Requests.{code_number}
-use Rattle.sdh_terms.specs.declared.Code.{Code}
+use Rattle.sdh_ringmap.specs.Requests.{code_number}
+use Rattle.sdh_ringmap.specs.declared.terms.Code.{Code}
 use Rattle.sdh_kbytes.specs.declared.K.{K}
 
 abbrev pub same_code : Code → Code → Bool

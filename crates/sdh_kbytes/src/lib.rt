@@ -8,7 +8,7 @@ ghost use Rattle.sdh_kbytes.specs.KBytes.{path_number, mark_number, code_at, mar
 mod same;
 
 pub use same::{agrees, same_code, same_heard, same_word};
-pub use sdh_terms::Code;
+pub use sdh_ringmap::Code;
 
 /// Which way round the ring a word goes to its destination.
 #[derive(Clone, Copy, Debug, PartialEq, Eq)]

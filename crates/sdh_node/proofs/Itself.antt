@@ -1,9 +1,9 @@
 -- All that is compared is equal to itself.
 use Rattle.std.proofs.Common.{◌≡◌, ℕ, true, List, [], ◌∷◌, Option, Some, None, refl}
 use Rattle.std.proofs.lemmas.Bool.{eq-eqb}
-use Rattle.sdh_terms.specs.declared.Code.{Code}
+use Rattle.sdh_ringmap.specs.declared.terms.Code.{Code}
 use Rattle.sdh_kbytes.specs.declared.K.{K}
-use Rattle.sdh_terms.specs.Requests.{code_number}
+use Rattle.sdh_ringmap.specs.Requests.{code_number}
 use Rattle.sdh_nodestate.proofs.SameStates.{state_itself}
 use Rattle.sdh_pointer.proofs.Sent as sent
 use Rattle.sdh_kbytes.specs.Same.{same_code, same_heard}

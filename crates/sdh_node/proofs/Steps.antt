@@ -1,9 +1,9 @@
 -- What a node's step asks for.
 use Rattle.std.proofs.Common.{◌≡◌, ◌≢◌, ℕ, ◌<◌, ◌≤◌, Bool, true, List, Option, None, length, refl, sym, subst, ◌∙◌}
 use Rattle.sdh_kbytes.specs.declared.K.{K}
-use Rattle.sdh_terms.specs.declared.Code.{Code}
-use Rattle.sdh_terms.specs.declared.Code.TheVariants.{Rr}
-use Rattle.sdh_terms.specs.Requests.{code_number}
+use Rattle.sdh_ringmap.specs.declared.terms.Code.{Code}
+use Rattle.sdh_ringmap.specs.declared.terms.Code.TheVariants.{Rr}
+use Rattle.sdh_ringmap.specs.Requests.{code_number}
 use Rattle.sdh_request.specs.declared.Defect.{Defect}
 use Rattle.sdh_request.specs.declared.Defect.TheVariants as defect
 use Rattle.sdh_nodestate.specs.Rules.{scene}

@@ -1,7 +1,7 @@
 -- What is compared between a round and the round before, and when it is as before.
 use Rattle.std.specs.Prelude.{ℕ, Bool, ◌&&◌, Option, List}
 use Rattle.sdh_kbytes.specs.Same.{same_code, same_word, same_heard}
-use Rattle.sdh_terms.specs.declared.Code.{Code}
+use Rattle.sdh_ringmap.specs.declared.terms.Code.{Code}
 use Rattle.sdh_kbytes.specs.declared.K.{K}
 use Rattle.sdh_nodestate.specs.declared.NodeState.{NodeState}
 use Rattle.sdh_nodestate.specs.Shapes.{same_state}

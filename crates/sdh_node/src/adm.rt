@@ -1,6 +1,6 @@
 //! One multiplexer.
 ghost use Rattle.std.specs.Prelude.{◌≡◌, ◌&&◌, not, nat_le, ◌+◌, ◌-◌, ◌/◌, ◌^◌, ◌<◌, ◌≤◌, ◌≢◌, None, IfOk, IfSome, length, get_or, option_map};
-ghost use Rattle.sdh_terms.specs.Rates.{n_of};
+ghost use Rattle.sdh_ringmap.specs.Rates.{n_of};
 ghost use Rattle.sdh_circuits.specs.Kept.{KeepsRing};
 ghost use Rattle.sdh_kbytes.specs.KBytes.{IsSpellable};
 ghost use Rattle.sdh_ringmap.specs.declared.Pos.{Pos};
@@ -21,9 +21,8 @@ use sdh_overhead::Landed;
 use sdh_payload::{Delivered, Turn};
 use sdh_plant::Arrived;
 use sdh_request::{Command, Moment, Settings};
-use sdh_ringmap::{Pos, RingMap, Side};
+use sdh_ringmap::{Code, Pos, RingMap, Side};
 use sdh_terminal::{Sender, Tributaries, send_both};
-use sdh_terms::Code;
 use std::alloc::{AllocError, Global};
 use std::marker::Model;
 

@@ -1,7 +1,7 @@
 //! The cross-connect: both sides that receive and what they take in, the node's state, and where that state leads what
 //! comes in.
 ghost use Rattle.std.specs.Prelude.{◌≡◌, ◌&&◌, ◌+◌, ◌-◌, ◌<◌, ◌≤◌, ◌≢◌, None, true, false, All, IfOk, length, get_or, option_map};
-ghost use Rattle.sdh_terms.specs.Rates.{n_of};
+ghost use Rattle.sdh_ringmap.specs.Rates.{n_of};
 ghost use Rattle.sdh_ringmap.specs.declared.Pos.{Pos};
 ghost use Rattle.sdh_ringmap.specs.declared.Side.TheVariants.{West, East};
 ghost use Rattle.sdh_circuits.specs.Kept.{KeepsRing};
@@ -24,10 +24,9 @@ use sdh_nodestate::{Heard, Needs, NodeState, Sent, same_shape, shape_of, start, 
 use sdh_overhead::Landed;
 use sdh_plant::Arrived;
 use sdh_request::{Command, Moment, Settings};
-use sdh_ringmap::{Pos, RingMap, Side};
+use sdh_ringmap::{Pos, Rate, RingMap, Side};
 use sdh_squelch::{Origin, Table, drop_origin, protection_origin, working_origin};
 use sdh_terminal::{Feeder, Intake, Matrix, Tributaries};
-use sdh_terms::Rate;
 use std::alloc::{AllocError, Global};
 use std::marker::Model;
 

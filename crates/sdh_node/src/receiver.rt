@@ -1,6 +1,6 @@
 //! One side that receives.
 ghost use Rattle.std.specs.Prelude.{◌≡◌, ◌≢◌, ◌&&◌, ◌-◌, ◌<◌, ◌≤◌, None, IfSome, IfOk, slice_index_or};
-ghost use Rattle.sdh_terms.specs.Rates.{n_of};
+ghost use Rattle.sdh_ringmap.specs.Rates.{n_of};
 ghost use Rattle.sdh_overhead.specs.Landing.{emptied};
 ghost use Rattle.sdh_kbytes.specs.KBytes.{IsSpellable};
 ghost use Rattle.sdh_nodestate.specs.Filtering.{hears};
@@ -20,8 +20,8 @@ use sdh_nodestate::Filter;
 use sdh_overhead::Landed;
 use sdh_plant::Arrived;
 use sdh_request::{Command, Defect, Local, Moment, Settings};
+use sdh_ringmap::Code;
 use sdh_terminal::{Inlet, Intake};
-use sdh_terms::Code;
 use std::alloc::{AllocError, Global};
 use std::marker::Model;
 

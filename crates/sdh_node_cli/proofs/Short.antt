@@ -2,8 +2,8 @@
 use Rattle.std.proofs.Common.{ℕ, ◌^◌, ◌<◌, ◌≤◌, ◌++◌, length, codes, decimal, arith}
 use Rattle.std.proofs.lemmas.List.{length-append}
 use Rattle.std.proofs.lemmas.Fmt.{length-decimal-le}
-use Rattle.sdh_terms.specs.declared.Rate.{Rate}
-use Rattle.sdh_terms.specs.declared.Rate.TheVariants.{Four, Sixteen}
+use Rattle.sdh_ringmap.specs.declared.terms.Rate.{Rate}
+use Rattle.sdh_ringmap.specs.declared.terms.Rate.TheVariants.{Four, Sixteen}
 use Rattle.sdh_frame.specs.Sizes.{size_of}
 use Rattle.sdh_node_cli.specs.Endings.{bad_record_text}
 use Rattle.sdh_node_cli.specs.Bench.{count_line}

@@ -5,9 +5,9 @@ use Rattle.std.specs.Prelude.{ℕ, Bool, true, false, ◌&&◌, ◌||◌, not, n
 use Rattle.std.specs.Prelude.{List, [], ◌∷◌, length, slice_index}
 use Rattle.std.specs.List.{list_all}
 use Rattle.std.specs.Option.{option_map_or}
-use Rattle.sdh_terms.specs.Requests.{code_number}
-use Rattle.sdh_terms.specs.declared.Code.{Code}
-use Rattle.sdh_terms.specs.declared.Code.TheVariants.{Nr, Rr}
+use Rattle.sdh_ringmap.specs.Requests.{code_number}
+use Rattle.sdh_ringmap.specs.declared.terms.Code.{Code}
+use Rattle.sdh_ringmap.specs.declared.terms.Code.TheVariants.{Nr, Rr}
 use Rattle.sdh_kbytes.specs.declared.Path.{Path}
 use Rattle.sdh_kbytes.specs.declared.Path.TheVariants.{Short, Long}
 use Rattle.sdh_kbytes.specs.declared.Mark as m

@@ -1,6 +1,6 @@
 -- The words of a new node, where words come from, and which words two bytes can carry.
 use Rattle.std.specs.Prelude.{ℕ, ◌≡◌, ◌<◌, IfSome, List, length, slice_index}
-use Rattle.sdh_terms.specs.declared.Code.TheVariants.{Nr}
+use Rattle.sdh_ringmap.specs.declared.terms.Code.TheVariants.{Nr}
 use Rattle.sdh_kbytes.specs.declared.Path.TheVariants.{Short}
 use Rattle.sdh_kbytes.specs.declared.Mark.TheVariants as mark
 use Rattle.sdh_kbytes.specs.declared.K.{K}

@@ -21,8 +21,7 @@ mod shape;
 use crate::scene::Scene;
 pub use filter::Filter;
 use sdh_kbytes::{K, Mark, Path};
-use sdh_ringmap::{Chain, Pos, RingMap, Side};
-use sdh_terms::Code;
+use sdh_ringmap::{Chain, Code, Pos, RingMap, Side};
 pub use shape::{Shape, same_shape, shape_of};
 use std::marker::Model;
 

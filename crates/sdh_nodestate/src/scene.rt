@@ -9,8 +9,7 @@ ghost use Rattle.sdh_nodestate.specs.FarEnds.{far_of, IsElsewhere};
 
 use crate::{Heard, Idle, Isolated, Needs, NodeState, PassThrough, SwitchEast, SwitchWest};
 use sdh_kbytes::{K, Mark, Path};
-use sdh_ringmap::{Pos, RingMap, Side};
-use sdh_terms::Code;
+use sdh_ringmap::{Code, Pos, RingMap, Side};
 
 // A node in one round: its ring and position, what it needs and what it hears.
 #[derive(Drop)]

@@ -6,7 +6,7 @@ use Rattle.std.specs.Prelude.{slice_range}
 use Rattle.std.proofs.lemmas.List.{length-append, length-take-le, length-drop, take_all, drop_all, take_at, drop_at, drop-drop, append-nil}
 use borrow.Rule.Slice.PartMut.{put_mid}
 use Rattle.sdh_frame.specs.Sizes.{size_of}
-use Rattle.sdh_terms.specs.Rates.{n_of}
+use Rattle.sdh_ringmap.specs.Rates.{n_of}
 use Rattle.sdh_frame.specs.Lending.{with_row}
 use Rattle.sdh_overhead.specs.Sections.{SectionKept, holding, parities_of, clear_frame, line_frame, next_of, MayWrite}
 use Rattle.sdh_overhead.specs.Rows.{clear_row, line_row, HasSent}

@@ -12,9 +12,9 @@ use borrow.Rule.Slice.PartMut.{put_mid}
 use Rattle.sdh_basics.specs.Indexed.{map_from}
 use Rattle.sdh_basics.proofs.Indexing.{map_from-append}
 use Rattle.sdh_basics.proofs.CellsLaws.{length-map_from}
-use Rattle.sdh_terms.specs.declared.Rate.{Rate}
+use Rattle.sdh_ringmap.specs.declared.terms.Rate.{Rate}
 use Rattle.sdh_frame.specs.Sizes.{size_of}
-use Rattle.sdh_terms.specs.Rates.{n_of}
+use Rattle.sdh_ringmap.specs.Rates.{n_of}
 use Rattle.sdh_parity.specs.Scrambling.{scrambled_byte, scrambled}
 use Rattle.sdh_parity.specs.Pieces.{scrambled_from}
 use Rattle.sdh_overhead.specs.Overhead.{byte_at, with_overhead}

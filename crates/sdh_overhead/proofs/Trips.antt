@@ -7,12 +7,12 @@ use Rattle.std.proofs.lemmas.Bool.{eq-eqb}
 use Rattle.std.proofs.lemmas.List.{ext_get_or, get_or-take, get_or-drop, length-take-le, length-replicate}
 use Rattle.sdh_basics.proofs.CellsLaws.{cells-same, length-map_from, get_or-placed}
 use Rattle.sdh_basics.proofs.Parts.{length-range}
-use Rattle.sdh_terms.specs.declared.Rate.{Rate}
-use Rattle.sdh_terms.specs.declared.Rate.TheVariants.{Four, Sixteen}
+use Rattle.sdh_ringmap.specs.declared.terms.Rate.{Rate}
+use Rattle.sdh_ringmap.specs.declared.terms.Rate.TheVariants.{Four, Sixteen}
 use Rattle.sdh_frame.specs.declared.Field as field
 use Rattle.sdh_frame.specs.declared.Field.TheVariants.{A1, A2, B1, B2, K1, K2}
 use Rattle.sdh_frame.specs.Sizes.{size_of}
-use Rattle.sdh_terms.specs.Rates.{n_of}
+use Rattle.sdh_ringmap.specs.Rates.{n_of}
 use Rattle.sdh_frame.specs.Fields.{field_at}
 use Rattle.sdh_frame.specs.Aus.{payload_of, pointers_of, Au, au_of}
 use Rattle.sdh_frame.proofs.PlaceProofs.{payload_in, pointer_in}

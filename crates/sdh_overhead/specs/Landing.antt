@@ -1,6 +1,6 @@
 -- Frames that are descrambled, and whose parities are taken, while they land.
 use Rattle.std.specs.Prelude.{ℕ, ◌≡◌, ◌*◌, Bool, true, false, Option, Some, None, List, take}
-use Rattle.sdh_terms.specs.declared.Rate.{Rate}
+use Rattle.sdh_ringmap.specs.declared.terms.Rate.{Rate}
 use Rattle.sdh_parity.specs.Scrambling.{scrambled}
 use Rattle.sdh_overhead.specs.Sections.{parities_of}
 

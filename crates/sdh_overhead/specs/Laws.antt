@@ -1,10 +1,10 @@
 -- What a receiving section finds in what a sending section wrote, and at which places of a frame it looks.
 use Rattle.std.specs.Prelude.{ℕ, ◌≡◌, ◌↔◌, ◌+◌, ◌*◌, ◌≤◌, true, Option, Some, None, List, length, slice_index}
-use Rattle.sdh_terms.specs.declared.Rate.{Rate}
+use Rattle.sdh_ringmap.specs.declared.terms.Rate.{Rate}
 use Rattle.sdh_frame.specs.declared.Field.TheVariants.{A1, A2, B1, B2, K1, K2}
 use Rattle.sdh_frame.specs.declared.Place.{Place}
 use Rattle.sdh_frame.specs.Sizes.{size_of}
-use Rattle.sdh_terms.specs.Rates.{n_of}
+use Rattle.sdh_ringmap.specs.Rates.{n_of}
 use Rattle.sdh_frame.specs.Fields.{index_of}
 use Rattle.sdh_frame.specs.Aus.{au_of}
 use Rattle.sdh_frame.specs.PlaceLaws.{IsInFrame, field_of}

@@ -2,7 +2,7 @@
 use Rattle.std.specs.Prelude.{ℕ, ◌≡◌, ◌+◌, ◌*◌, ◌<◌, ◌≤◌, true, Option, Some, None, List, [], ◌++◌, length, nat_le, if◌then◌else◌}
 use Rattle.sdh_basics.specs.Indexed.{map_from}
 use Rattle.sdh_basics.specs.Parity.{bip8}
-use Rattle.sdh_terms.specs.Rates.{n_of}
+use Rattle.sdh_ringmap.specs.Rates.{n_of}
 use Rattle.sdh_parity.specs.Parity.{section_bytes}
 use Rattle.sdh_parity.specs.Scrambling.{scrambled}
 use Rattle.sdh_parity.specs.Pieces.{Position, Running, scrambled_from, after_bytes}

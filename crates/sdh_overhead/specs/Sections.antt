@@ -3,7 +3,7 @@ use Rattle.std.specs.Prelude.{ℕ, ◌≡◌, ◌+◌, ◌*◌, ◌==◌, ◌&&�
 use Rattle.std.specs.Prelude.{replicate, if◌then◌else◌}
 use Rattle.std.specs.List.{list_all}
 use Rattle.sdh_basics.specs.Parity.{bip8}
-use Rattle.sdh_terms.specs.declared.Rate.{Rate}
+use Rattle.sdh_ringmap.specs.declared.terms.Rate.{Rate}
 use Rattle.sdh_frame.specs.Fields.{index_of}
 use Rattle.sdh_parity.specs.Scrambling.{scrambled}
 use Rattle.sdh_parity.specs.Parity.{section_parity}

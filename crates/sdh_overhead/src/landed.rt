@@ -3,7 +3,7 @@
 ghost use Rattle.std.specs.Prelude.{◌≡◌, ◌≢◌, ℕ, ◌+◌, ◌*◌, ◌-◌, ◌⊎◌, List, Some, None, IfOk, length, replicate};
 ghost use Rattle.sdh_basics.specs.Parity.{bip8 as parity_of};
 ghost use Rattle.sdh_frame.specs.Sizes.{size_of};
-ghost use Rattle.sdh_terms.specs.Rates.{n_of};
+ghost use Rattle.sdh_ringmap.specs.Rates.{n_of};
 ghost use Rattle.sdh_parity.specs.Parity.{section_bytes};
 ghost use Rattle.sdh_parity.specs.Pieces.{after_bytes};
 ghost use Rattle.sdh_parity.specs.Scrambling.{scrambled};
@@ -14,7 +14,7 @@ use crate::Received;
 use crate::rows::{Rows, parity_of_rows};
 use crate::section::{Section, is_framed};
 use sdh_frame::{FrameBuf, Landing};
-use sdh_terms::Rate;
+use sdh_ringmap::Rate;
 use std::alloc::{AllocError, Global};
 use std::marker::Model;
 
@@ -31,7 +31,7 @@ pub struct Landed {
 impl Model for Landed {
     ghost use Rattle.std.specs.Prelude.{◌≡◌, length};
     ghost use Rattle.sdh_frame.specs.Sizes.{size_of};
-    ghost use Rattle.sdh_terms.specs.Rates.{n_of};
+    ghost use Rattle.sdh_ringmap.specs.Rates.{n_of};
     ghost use Rattle.sdh_overhead.specs.Landing.{LandedFrame, landed_of, AreSummed};
 
     ghost Value = { LandedFrame };

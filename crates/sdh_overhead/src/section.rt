@@ -3,7 +3,7 @@ ghost use Rattle.std.specs.Prelude.{◌≡◌, ℕ, List, ◌++◌, ◌+◌, ◌
 ghost use Rattle.std.specs.Prelude.{None, Some};
 ghost use Rattle.std.specs.List.{list_all};
 ghost use Rattle.sdh_frame.specs.Sizes.{size_of};
-ghost use Rattle.sdh_terms.specs.Rates.{n_of};
+ghost use Rattle.sdh_ringmap.specs.Rates.{n_of};
 ghost use Rattle.sdh_parity.specs.Pieces.{scrambled_from};
 ghost use Rattle.sdh_overhead.specs.Sections.{SectionKept, holding, clear_frame, line_frame, parities_of, is_framed, found_in, received_in};
 ghost use Rattle.sdh_overhead.specs.Sections.{kept_after, opened, next_of, MayWrite, MayRead};
@@ -14,7 +14,7 @@ use crate::Received;
 use crate::overhead::write_head;
 use crate::rows::{Rows, b1_after, b2_after, k_after, parity_of_rows};
 use sdh_frame::FrameBuf;
-use sdh_terms::Rate;
+use sdh_ringmap::Rate;
 use std::marker::Model;
 
 /// The parities of the last frame in one direction of a section, or none, and the state of a frame with some rows
@@ -30,7 +30,7 @@ pub struct Section {
 
 impl Model for Section {
     ghost use Rattle.std.specs.Prelude.{◌≡◌, length};
-    ghost use Rattle.sdh_terms.specs.Rates.{n_of};
+    ghost use Rattle.sdh_ringmap.specs.Rates.{n_of};
     ghost use Rattle.sdh_overhead.specs.Sections.{SectionKept, last_of, under_way_of, IsBlank};
     ghost use Rattle.sdh_overhead.specs.Rows.{IsPlaced};
 

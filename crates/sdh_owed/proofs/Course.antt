@@ -7,7 +7,7 @@ use Rattle.sdh_plant.specs.Arrivals.{Knows}
 use Rattle.sdh_request.specs.declared.settings.Settings.{Settings}
 use Rattle.sdh_signal.specs.Laws.{StillRingsAreSettled}
 use Rattle.sdh_ringmap.specs.declared.Side.{Side}
-use Rattle.sdh_terms.specs.declared.Condition.{Condition}
+use Rattle.sdh_ringmap.specs.declared.terms.Condition.{Condition}
 use Rattle.sdh_rounds.proofs.Runs.{course_whole, known_course, known_unsettles}
 use Rattle.sdh_node.specs.Stations.{adm}
 use Rattle.sdh_world.specs.Held.{new_ring}

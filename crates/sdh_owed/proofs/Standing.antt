@@ -12,7 +12,7 @@ use Rattle.sdh_payload.specs.declared.clock.Turn.{Turn}
 use Rattle.sdh_payload.specs.declared.clock.Turn.TheVariants.{Up, Down}
 use Rattle.sdh_payload.specs.Clock.{Clock, new_clock, waiting, with_waiting}
 use Rattle.sdh_plant.specs.Fibres.{Fibres}
-use Rattle.sdh_terms.specs.Fibres.{IsConditionAt}
+use Rattle.sdh_ringmap.specs.Fibres.{IsConditionAt}
 use Rattle.sdh_request.specs.declared.settings.Settings.{Settings}
 use Rattle.sdh_terminal.specs.Tributaries.{Tributary, port_of}
 use Rattle.sdh_node.specs.Node.{Node}

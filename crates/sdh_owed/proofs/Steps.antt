@@ -7,7 +7,7 @@ use Rattle.sdh_plant.specs.Calls.{prepared}
 use Rattle.sdh_plant.proofs.Calling.{stay_prepared}
 use Rattle.sdh_circuits.specs.declared.PortId.{PortId}
 use Rattle.sdh_circuits.specs.Provisioned.{same_port}
-use Rattle.sdh_terms.specs.declared.Rate.{Rate}
+use Rattle.sdh_ringmap.specs.declared.terms.Rate.{Rate}
 use Rattle.sdh_world.specs.Clocks.{waiting_at}
 use Rattle.sdh_node.specs.Node.{Node}
 use Rattle.sdh_circuits.specs.Provisioning.{Provisioning}

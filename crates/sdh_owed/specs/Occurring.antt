@@ -1,7 +1,7 @@
 -- A ring of three for which the promise of every round is worked out: after slips, after a cut span, and after a hold.
 use Rattle.std.specs.Prelude.{ℕ, ◌+◌, ◌-◌, ◌<◌, ◌≤◌, List, [], ◌∷◌, ◌++◌, length}
 use Rattle.sdh_ringmap.specs.declared.Side.TheVariants.{West, East}
-use Rattle.sdh_terms.specs.declared.Condition.TheVariants.{Clear, Cut}
+use Rattle.sdh_ringmap.specs.declared.terms.Condition.TheVariants.{Clear, Cut}
 use Rattle.sdh_circuits.specs.declared.End.TheVariants.{A}
 use Rattle.sdh_payload.specs.declared.clock.Turn.TheVariants.{Up}
 use Rattle.sdh_plant.specs.Fibres.{Fibres, IsHonest}

@@ -1,8 +1,8 @@
 -- A document read part by part.
 use Rattle.std.proofs.Common.{◌≡◌, ℕ, ◌/◌, List, ◌++◌, map, Some, None, unwrap_or, codes, ap, sym, subst, ◌∙◌}
 use Rattle.toml.specs.Data.{Members}
-use Rattle.sdh_terms.specs.declared.Rate.{Rate}
-use Rattle.sdh_terms.specs.Rates.{n_of}
+use Rattle.sdh_ringmap.specs.declared.terms.Rate.{Rate}
+use Rattle.sdh_ringmap.specs.Rates.{n_of}
 use Rattle.sdh_request.specs.declared.settings.Settings.{Settings}
 use Rattle.sdh_circuits.specs.Provisioned.{Provisioned}
 use Rattle.sdh_circuits.specs.Provisioning.{Provisioning}

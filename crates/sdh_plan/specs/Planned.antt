@@ -1,7 +1,7 @@
 -- A plan as contracts see it.
 use Rattle.std.specs.Prelude.{◌≡◌, true, ℕ, ◌*◌, ◌/◌, ◌≤◌, List, length}
 use Rattle.sdh_request.specs.declared.settings.Settings.{Settings}
-use Rattle.sdh_terms.specs.Rates.{n_of}
+use Rattle.sdh_ringmap.specs.Rates.{n_of}
 use Rattle.sdh_ringmap.specs.Ids.{AreIds}
 use Rattle.sdh_circuits.specs.Provisioning.{Provisioning, IsProvisioning}
 use Rattle.sdh_plan.specs.Circuits.{provisioned}

@@ -1,7 +1,7 @@
 //! The forms of steps.
 ghost use Rattle.std.specs.Prelude.{◌≡◌, ◌*◌, ◌∷◌, [], map, false, Some, is_none, IfOk, IfErr};
 ghost use Rattle.std.specs.List.{list_any};
-ghost use Rattle.sdh_terms.specs.Rates.{n_of};
+ghost use Rattle.sdh_ringmap.specs.Rates.{n_of};
 ghost use Rattle.sdh_plan.specs.Check.{first_fault, unless};
 ghost use Rattle.sdh_plan.specs.Verbs.{verb_of, node, side, number, circuit, end, turn};
 ghost use Rattle.sdh_plan.specs.Steps.{node_identified, side_at, circuit_named, end_at, turn_at, part_faults, verb_faults};
@@ -15,8 +15,7 @@ use crate::words::{is_word, numeral_in, words_of};
 use sdh_circuits::{CircuitMap, End, PortId};
 use sdh_payload::Turn;
 use sdh_request::{Command, Moment};
-use sdh_ringmap::{Pos, RingMap, Side};
-use sdh_terms::{Condition, FibreEvent, Rate};
+use sdh_ringmap::{Condition, FibreEvent, Pos, Rate, RingMap, Side};
 
 // Returns the position of the node whose identifier the word is.
 #[tactic(auto, unfolding(crate::specs::Steps::node_identified))]

@@ -1,6 +1,6 @@
 //! A plan.
 ghost use Rattle.std.specs.Prelude.{◌≡◌, ◌*◌, ◌≤◌};
-ghost use Rattle.sdh_terms.specs.Rates.{n_of};
+ghost use Rattle.sdh_ringmap.specs.Rates.{n_of};
 ghost use Rattle.sdh_plan.specs.Planned.{IsPlanned, planned, provisioning_of};
 
 use crate::step::Step;

@@ -4,7 +4,7 @@ ghost use Rattle.std.specs.BTreeMap.{keys};
 ghost use Rattle.std.specs.List.{list_all};
 ghost use Rattle.toml.specs.View.{view, table_view};
 ghost use Rattle.sdh_ringmap.specs.Numbering.{magnitude};
-ghost use Rattle.sdh_terms.specs.Rates.{n_of};
+ghost use Rattle.sdh_ringmap.specs.Rates.{n_of};
 ghost use Rattle.sdh_plan.specs.Check.{answer};
 ghost use Rattle.sdh_plan.specs.Document.{is_among, has_only, is_integer, integer_of};
 ghost use Rattle.sdh_plan.specs.Plans.{document_keys, rate_at, rate_in, nodes_in, threshold_at, wait_at, limit_at, number_checks};
@@ -16,8 +16,7 @@ use crate::error::{PlanError, of_document};
 use crate::reason::Reason;
 use arrayvec::ArrayVec;
 use sdh_request::Settings;
-use sdh_ringmap::{MapError, RingMap};
-use sdh_terms::Rate;
+use sdh_ringmap::{MapError, Rate, RingMap};
 use toml::{Table, Value};
 
 // Returns whether a document may have the key.

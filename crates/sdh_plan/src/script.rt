@@ -2,7 +2,7 @@
 ghost use Rattle.std.specs.Prelude.{◌≡◌, ◌≤◌, map, length, true, None, IfOk, OnOk, IfErr, codes};
 ghost use Rattle.std.specs.List.{list_all};
 ghost use Rattle.toml.specs.View.{view, table_view};
-ghost use Rattle.sdh_terms.specs.Rates.{n_of};
+ghost use Rattle.sdh_ringmap.specs.Rates.{n_of};
 ghost use Rattle.sdh_plan.specs.Check.{first_fault, unless, answer};
 ghost use Rattle.sdh_plan.specs.Counted.{past_in};
 ghost use Rattle.sdh_plan.specs.Steps.{step_faults, step_of, steps_checks, new_past, after, ends_settled};
@@ -17,8 +17,7 @@ use crate::past::Past;
 use crate::reason::Reason;
 use crate::step::Step;
 use sdh_circuits::CircuitMap;
-use sdh_ringmap::RingMap;
-use sdh_terms::Rate;
+use sdh_ringmap::{Rate, RingMap};
 use std::alloc::Global;
 use toml::{Table, Value};
 

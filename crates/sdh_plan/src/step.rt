@@ -2,8 +2,7 @@
 use sdh_circuits::PortId;
 use sdh_payload::Turn;
 use sdh_request::{Command, Moment};
-use sdh_ringmap::{Pos, Side};
-use sdh_terms::FibreEvent;
+use sdh_ringmap::{FibreEvent, Pos, Side};
 
 /// A step of a script.
 #[derive(Clone, Copy, Debug, PartialEq, Eq)]

@@ -7,15 +7,15 @@ use Rattle.std.proofs.lemmas.List.{length-set, length-replicate, get_or-replicat
 use Rattle.std.proofs.lemmas.List.Elements.{All-set, All-replicate}
 use Rattle.std.specs.Prelude.{slice_index_or, option_map}
 use Rattle.std.specs.Option.{option_map_or}
-use Rattle.sdh_terms.specs.declared.Rate.{Rate}
-use Rattle.sdh_terms.specs.Rates.{n_of}
+use Rattle.sdh_ringmap.specs.declared.terms.Rate.{Rate}
+use Rattle.sdh_ringmap.specs.Rates.{n_of}
 use Rattle.sdh_ringmap.specs.declared.Side.{Side}
 use Rattle.sdh_ringmap.specs.declared.Side.TheVariants.{West, East}
 use Rattle.sdh_ringmap.specs.Places.{opposite, neighbour}
-use Rattle.sdh_terms.specs.declared.Condition.{Condition}
-use Rattle.sdh_terms.specs.declared.Condition.TheVariants.{Clear, Cut, Degraded}
+use Rattle.sdh_ringmap.specs.declared.terms.Condition.{Condition}
+use Rattle.sdh_ringmap.specs.declared.terms.Condition.TheVariants.{Clear, Cut, Degraded}
 use Rattle.sdh_plant.specs.Fibres.{Arrival, Fibres}
-use Rattle.sdh_terms.specs.Fibres.{IsConditionAt, fibre, fibre_to}
+use Rattle.sdh_ringmap.specs.Fibres.{IsConditionAt, fibre, fibre_to}
 use Rattle.sdh_plant.specs.Arrivals.{arrival, honest_arrival, next_told, through, condition_of}
 use Rattle.sdh_plant.specs.Calls.{told_at_rate, prepared, after_send}
 use Rattle.sdh_plant.specs.Laws.{SentComes, NewIsDark, StayPrepared, StayHonest}

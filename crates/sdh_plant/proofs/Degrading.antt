@@ -8,9 +8,9 @@ use Rattle.std.proofs.lemmas.Bool.Decides.{nat_tests}
 use Rattle.std.proofs.lemmas.List.{ext_get_or}
 use Rattle.sdh_basics.specs.Indexed.{map_from}
 use Rattle.sdh_basics.proofs.CellsLaws.{length-map_from, get_or-placed}
-use Rattle.sdh_terms.specs.declared.Rate.{Rate}
-use Rattle.sdh_terms.specs.declared.Rate.TheVariants.{Four, Sixteen}
-use Rattle.sdh_terms.specs.Rates.{n_of}
+use Rattle.sdh_ringmap.specs.declared.terms.Rate.{Rate}
+use Rattle.sdh_ringmap.specs.declared.terms.Rate.TheVariants.{Four, Sixteen}
+use Rattle.sdh_ringmap.specs.Rates.{n_of}
 use Rattle.sdh_plant.specs.Arrivals.{is_inverted, degraded_byte, degraded}
 
 pub byte_inside : (rate : Rate) (k i x : ℕ) → k ≤ 3 * n_of rate → 1350 * n_of rate ≤ i → i < 1350 * n_of rate + k

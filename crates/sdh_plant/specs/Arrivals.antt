@@ -3,14 +3,14 @@ use Rattle.std.specs.Prelude.{ℕ, ◌≡◌, ◌≢◌, ◌⊎◌, ◌+◌, ◌
 use Rattle.std.specs.Prelude.{None, List, [], ◌∷◌, slice_index_or, option_map}
 use Rattle.std.specs.Option.{option_map_or}
 use Rattle.sdh_basics.specs.Indexed.{map_from}
-use Rattle.sdh_terms.specs.Rates.{n_of}
+use Rattle.sdh_ringmap.specs.Rates.{n_of}
 use Rattle.sdh_ringmap.specs.declared.Side.{Side}
-use Rattle.sdh_terms.specs.declared.Condition.{Condition}
-use Rattle.sdh_terms.specs.declared.Condition.TheVariants.{Clear, Cut, Degraded}
+use Rattle.sdh_ringmap.specs.declared.terms.Condition.{Condition}
+use Rattle.sdh_ringmap.specs.declared.terms.Condition.TheVariants.{Clear, Cut, Degraded}
 use Rattle.sdh_plant.specs.declared.plant.Arrived.{Arrived}
 use Rattle.sdh_plant.specs.declared.plant.Arrived.TheVariants as arrived
 use Rattle.sdh_plant.specs.Fibres.{Arrival, Fibres}
-use Rattle.sdh_terms.specs.Fibres.{fibre_to}
+use Rattle.sdh_ringmap.specs.Fibres.{fibre_to}
 
 -- A fibre that is degraded by k columns inverts the top bit of the byte at this row and column, both counted from 1.
 -- These are columns 1 to k of row 6, section overhead below the bytes B2.

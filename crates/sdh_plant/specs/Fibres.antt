@@ -1,9 +1,9 @@
 -- What a plant means: the fibres of a ring, and what it shows of the frames to come and of those that were sent. All of
 -- it is this project's own. Each span has two fibres, one each way, as in a two-fibre ring of ITU-T G.841.
 use Rattle.std.specs.Prelude.{ℕ, ◌≡◌, ◌*◌, ◌≤◌, true, Bool, Option, None, List, length, All}
-use Rattle.sdh_terms.specs.declared.Rate.{Rate}
-use Rattle.sdh_terms.specs.declared.Condition.{Condition}
-use Rattle.sdh_terms.specs.Fibres.{IsConditionAt}
+use Rattle.sdh_ringmap.specs.declared.terms.Rate.{Rate}
+use Rattle.sdh_ringmap.specs.declared.terms.Condition.{Condition}
+use Rattle.sdh_ringmap.specs.Fibres.{IsConditionAt}
 
 -- what comes to a side in a round: the bytes of a frame, or nothing
 abbrev pub Arrival : Type 0

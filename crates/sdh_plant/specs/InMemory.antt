@@ -1,10 +1,10 @@
 -- The plants in memory.
 use Rattle.std.specs.Prelude.{ℕ, ◌*◌, true, false, Some, None, List, map, replicate, Contains}
 use Rattle.sdh_basics.specs.Causes.{one_more}
-use Rattle.sdh_terms.specs.declared.Rate.{Rate}
+use Rattle.sdh_ringmap.specs.declared.terms.Rate.{Rate}
 use Rattle.sdh_frame.specs.Sizes.{Frame}
-use Rattle.sdh_terms.specs.declared.Condition.{Condition}
-use Rattle.sdh_terms.specs.declared.Condition.TheVariants.{Clear}
+use Rattle.sdh_ringmap.specs.declared.terms.Condition.{Condition}
+use Rattle.sdh_ringmap.specs.declared.terms.Condition.TheVariants.{Clear}
 use Rattle.sdh_plant.specs.declared.failing_plant.PlantCall.{PlantCall}
 use Rattle.sdh_plant.specs.declared.failing_plant.PlantCall.TheVariants.{Prepare, Apply, Send, Receive}
 use Rattle.sdh_plant.specs.Fibres.{Arrival, Fibres}

@@ -3,14 +3,14 @@ use Rattle.std.specs.Prelude.{ℕ, ◌≡◌, ◌*◌, ◌<◌, ◌≤◌, true,
 use Rattle.std.specs.Prelude.{if◌then◌else◌}
 use Rattle.std.specs.List.{list_all}
 use Rattle.std.specs.Global.{Vec}
-use Rattle.sdh_terms.specs.declared.Rate.{Rate}
+use Rattle.sdh_ringmap.specs.declared.terms.Rate.{Rate}
 use Rattle.sdh_frame.specs.Sizes.{Frame, size_of}
-use Rattle.sdh_terms.specs.declared.Condition.{Condition}
+use Rattle.sdh_ringmap.specs.declared.terms.Condition.{Condition}
 use Rattle.sdh_plant.specs.declared.fibre_plant.Fibre.{Fibre}
 use Rattle.sdh_plant.specs.declared.told_plant.Told.{Told}
 use Rattle.sdh_plant.specs.declared.told_plant.Told.TheVariants as told
 use Rattle.sdh_plant.specs.Fibres.{Arrival}
-use Rattle.sdh_terms.specs.Fibres.{IsConditionAt}
+use Rattle.sdh_ringmap.specs.Fibres.{IsConditionAt}
 use Rattle.sdh_plant.specs.Calls.{is_at}
 use Rattle.sdh_plant.specs.InMemory.{HeldFibres}
 

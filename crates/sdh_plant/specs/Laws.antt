@@ -1,12 +1,12 @@
 -- Laws of the calls of a plant.
 use Rattle.std.specs.Prelude.{ℕ, ◌≡◌, ◌<◌, ◌≤◌, Some, None, List}
-use Rattle.sdh_terms.specs.declared.Rate.{Rate}
-use Rattle.sdh_terms.specs.Rates.{n_of}
+use Rattle.sdh_ringmap.specs.declared.terms.Rate.{Rate}
+use Rattle.sdh_ringmap.specs.Rates.{n_of}
 use Rattle.sdh_ringmap.specs.declared.Side.{Side}
 use Rattle.sdh_ringmap.specs.Places.{opposite, neighbour}
-use Rattle.sdh_terms.specs.declared.Condition.{Condition}
+use Rattle.sdh_ringmap.specs.declared.terms.Condition.{Condition}
 use Rattle.sdh_plant.specs.Fibres.{Fibres, IsPrepared, IsHonest}
-use Rattle.sdh_terms.specs.Fibres.{IsConditionAt, fibre}
+use Rattle.sdh_ringmap.specs.Fibres.{IsConditionAt, fibre}
 use Rattle.sdh_plant.specs.Arrivals.{Knows, arrival, honest_arrival, through, condition_of}
 use Rattle.sdh_plant.specs.Calls.{prepared, after_apply, after_send, after_receive}
 

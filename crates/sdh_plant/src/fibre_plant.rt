@@ -2,10 +2,10 @@
 ghost use Rattle.std.specs.Prelude.{◌≡◌, ◌≢◌, true, ◌+◌, ◌*◌, ◌<◌, ◌≤◌, Some, None, Ok, IfOk, IfSome, IfNone, IsOk, OnOk, OnErr, IsOkUnless};
 ghost use Rattle.std.specs.Prelude.{IsErrOf, All, length, replicate, slice_index_or, slice_set, refl};
 ghost use Rattle.sdh_basics.specs.Causes.{Rose, IsCounted, HasCause};
-ghost use Rattle.sdh_terms.specs.Rates.{n_of};
-ghost use Rattle.sdh_terms.specs.declared.Condition.TheVariants.{Clear};
+ghost use Rattle.sdh_ringmap.specs.Rates.{n_of};
+ghost use Rattle.sdh_ringmap.specs.declared.terms.Condition.TheVariants.{Clear};
 ghost use Rattle.sdh_plant.specs.Fibres.{HasNoFibres};
-ghost use Rattle.sdh_terms.specs.Fibres.{IsConditionAt, fibre, fibre_to};
+ghost use Rattle.sdh_ringmap.specs.Fibres.{IsConditionAt, fibre, fibre_to};
 ghost use Rattle.sdh_plant.specs.Arrivals.{Knows, arrival, arrived_in, through, carried_on, honest_arrival};
 ghost use Rattle.sdh_plant.specs.Calls.{prepared, after_apply, after_send, after_receive, carried_or_zeros, IsExchanged};
 ghost use Rattle.sdh_plant.specs.InMemory.{fibres_of, clear_fibres};
@@ -14,8 +14,7 @@ ghost use Rattle.sdh_plant.specs.Kept.{IsFibre, carried_by, conditions, carried}
 use crate::frames::land_degraded;
 use crate::plant::{Arrived, Failed, Plant, PrepareError};
 use sdh_frame::{FrameBuf, Landing};
-use sdh_ringmap::{Pos, Side, neighbour};
-use sdh_terms::{Condition, FibreEvent, Rate};
+use sdh_ringmap::{Condition, FibreEvent, Pos, Rate, Side, neighbour};
 use std::alloc::{AllocError, Global};
 use std::marker::Model;
 

@@ -1,11 +1,11 @@
 //! Frames as a degraded fibre leaves them.
 ghost use Rattle.std.specs.Prelude.{◌≡◌, ◌*◌, ◌≤◌, Some, length};
 ghost use Rattle.sdh_frame.specs.Sizes.{size_of};
-ghost use Rattle.sdh_terms.specs.Rates.{n_of};
+ghost use Rattle.sdh_ringmap.specs.Rates.{n_of};
 ghost use Rattle.sdh_plant.specs.Arrivals.{degraded};
 
 use sdh_frame::{FrameBuf, Landing};
-use sdh_terms::Rate;
+use sdh_ringmap::Rate;
 
 // Inverts the top bit of the first bytes of row 6.
 fn invert_row_6(rate: Rate, columns: usize, bytes: &mut [u8])

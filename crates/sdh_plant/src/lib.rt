@@ -17,5 +17,5 @@ pub use laws::{
 };
 pub use plant::{Arrived, Failed, Plant, PrepareError};
 pub use recording_plant::RecordingPlant;
-pub use sdh_terms::{Condition, FibreEvent};
+pub use sdh_ringmap::{Condition, FibreEvent};
 pub use told_plant::{Told, ToldPlant};

@@ -3,7 +3,7 @@ ghost use Rattle.std.specs.Prelude.{◌≡◌, ◌≢◌, true, ◌+◌, ◌-◌
 ghost use Rattle.std.specs.Prelude.{OnErr, IsOkUnless, IsErrOf, All, length, slice_set, refl};
 ghost use Rattle.sdh_basics.specs.Causes.{Rose, IsCounted, HasCause, one_more};
 ghost use Rattle.sdh_plant.specs.Fibres.{HasNoFibres};
-ghost use Rattle.sdh_terms.specs.Fibres.{IsConditionAt, fibre};
+ghost use Rattle.sdh_ringmap.specs.Fibres.{IsConditionAt, fibre};
 ghost use Rattle.sdh_plant.specs.Arrivals.{Knows, arrival, arrived_in, carried_on};
 ghost use Rattle.sdh_plant.specs.Calls.{prepared, after_apply, after_send, after_receive, IsExchanged};
 ghost use Rattle.sdh_plant.specs.InMemory.{clear_fibres, recorded_of};
@@ -11,8 +11,7 @@ ghost use Rattle.sdh_plant.specs.InMemory.{clear_fibres, recorded_of};
 use crate::fibre_plant::FibrePlant;
 use crate::plant::{Arrived, Failed, Plant, PrepareError};
 use sdh_frame::{FrameBuf, Landing};
-use sdh_ringmap::{Pos, Side};
-use sdh_terms::{FibreEvent, Rate};
+use sdh_ringmap::{FibreEvent, Pos, Rate, Side};
 use std::alloc::{AllocError, Global};
 use std::marker::Model;
 

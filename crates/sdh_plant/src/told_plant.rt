@@ -5,7 +5,7 @@ ghost use Rattle.std.specs.List.{list_all};
 ghost use Rattle.std.proofs.lemmas.Bool.{false≢true};
 ghost use Rattle.sdh_basics.specs.Causes.{Rose, IsCounted, HasCause};
 ghost use Rattle.sdh_plant.specs.Fibres.{HasNoFibres};
-ghost use Rattle.sdh_terms.specs.Fibres.{IsConditionAt, fibre};
+ghost use Rattle.sdh_ringmap.specs.Fibres.{IsConditionAt, fibre};
 ghost use Rattle.sdh_plant.specs.Arrivals.{Knows, arrival, arrived_in, carried_on, next_told};
 ghost use Rattle.sdh_plant.specs.Calls.{is_at, prepared, after_apply, after_send, after_receive, IsExchanged};
 ghost use Rattle.sdh_plant.specs.InMemory.{clear_fibres, told_of};
@@ -14,8 +14,7 @@ ghost use Rattle.sdh_plant.specs.Kept.{arrival_of, IsToldAt};
 use crate::fibre_plant::FibrePlant;
 use crate::plant::{Arrived, Failed, Plant, PrepareError};
 use sdh_frame::{FrameBuf, Landing};
-use sdh_ringmap::{Pos, Side};
-use sdh_terms::{FibreEvent, Rate};
+use sdh_ringmap::{FibreEvent, Pos, Rate, Side};
 use std::alloc::Global;
 use std::marker::Model;
 

@@ -2,7 +2,7 @@
 use Rattle.std.proofs.Common.{◌≡◌, Bool, true, ◌∷◌, refl, ap, arith}
 use Rattle.std.specs.Prelude.{◌==◌, if◌then◌else◌}
 use Rattle.std.proofs.lemmas.Bool.Decides.{nat_tests}
-use Rattle.sdh_terms.specs.Fibres.{fibre, fibre_to}
+use Rattle.sdh_ringmap.specs.Fibres.{fibre, fibre_to}
 use Rattle.sdh_payload.specs.History.{told}
 use Rattle.sdh_promise.specs.Sides.{Holding}
 use Rattle.sdh_promise.specs.Laws.{SidesAreTold, PortsAreTold, OwedByTheOther}

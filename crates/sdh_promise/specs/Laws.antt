@@ -1,8 +1,8 @@
 -- What follows from the definitions of this crate: they say at least this.
 use Rattle.std.specs.Prelude.{ℕ, ◌≡◌, ◌≤◌, ◌+◌, ◌%◌, false, List, [], ◌∷◌}
 use Rattle.sdh_ringmap.specs.declared.Side.{Side}
-use Rattle.sdh_terms.specs.declared.Condition.{Condition}
-use Rattle.sdh_terms.specs.Fibres.{fibre, fibre_to}
+use Rattle.sdh_ringmap.specs.declared.terms.Condition.{Condition}
+use Rattle.sdh_ringmap.specs.Fibres.{fibre, fibre_to}
 use Rattle.sdh_payload.specs.declared.clock.Turn.{Turn}
 use Rattle.sdh_payload.specs.History.{Happening}
 use Rattle.sdh_circuits.specs.declared.End.{End}

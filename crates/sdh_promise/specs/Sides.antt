@@ -3,9 +3,9 @@ use Rattle.std.specs.Prelude.{ℕ, ◌-◌, ◌==◌, nat_lt, if◌then◌else�
 use Rattle.sdh_ringmap.specs.declared.Side.{Side}
 use Rattle.sdh_request.specs.declared.Command.{Command}
 use Rattle.sdh_request.specs.declared.Command.TheVariants as command
-use Rattle.sdh_terms.specs.declared.Condition.{Condition}
-use Rattle.sdh_terms.specs.declared.Condition.TheVariants.{Clear}
-use Rattle.sdh_terms.specs.Fibres.{fibre, fibre_to, is_cut, degraded_by}
+use Rattle.sdh_ringmap.specs.declared.terms.Condition.{Condition}
+use Rattle.sdh_ringmap.specs.declared.terms.Condition.TheVariants.{Clear}
+use Rattle.sdh_ringmap.specs.Fibres.{fibre, fibre_to, is_cut, degraded_by}
 use Rattle.sdh_restoration.specs.History.{SideHistory}
 use Rattle.sdh_promise.specs.Changes.{Change, Fibre, Order, Now, Stretch}
 

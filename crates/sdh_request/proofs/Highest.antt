@@ -1,7 +1,7 @@
 -- Facts on the highest code that applies, for whoever hands it to a node's rules.
 use Rattle.std.proofs.Common.{◌≢◌, ◌≤◌, Bool, true, false, arith}
-use Rattle.sdh_terms.specs.Requests.{code_number}
-use Rattle.sdh_terms.specs.declared.Code.TheVariants.{Rr}
+use Rattle.sdh_ringmap.specs.Requests.{code_number}
+use Rattle.sdh_ringmap.specs.declared.terms.Code.TheVariants.{Rr}
 use Rattle.sdh_request.specs.declared.Defect.{Defect}
 use Rattle.sdh_request.specs.declared.Defect.TheVariants.{None, Sd, Sf}
 use Rattle.sdh_request.specs.declared.Command.{Command}

@@ -1,6 +1,6 @@
 -- The local request as a function of all that happened on a side.
 use Rattle.std.specs.Prelude.{ℕ, Bool, ◌&&◌, not, Option, Some, None, List, [], ◌∷◌, if◌then◌else◌}
-use Rattle.sdh_terms.specs.declared.Code.{Code}
+use Rattle.sdh_ringmap.specs.declared.terms.Code.{Code}
 use Rattle.sdh_request.specs.declared.Defect.{Defect}
 use Rattle.sdh_request.specs.declared.Defect.TheVariants as defect
 use Rattle.sdh_request.specs.declared.Command.{Command}

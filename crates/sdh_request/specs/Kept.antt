@@ -1,6 +1,6 @@
 -- What a side keeps of its history, which is enough for its request.
 use Rattle.std.specs.Prelude.{ℕ, ◌≡◌, Option, Some, List, ◌∷◌, if◌then◌else◌}
-use Rattle.sdh_terms.specs.declared.Code.{Code}
+use Rattle.sdh_ringmap.specs.declared.terms.Code.{Code}
 use Rattle.sdh_request.specs.declared.Defect.{Defect}
 use Rattle.sdh_request.specs.declared.Command.{Command}
 use Rattle.sdh_request.specs.Requests.{waits, highest_code}

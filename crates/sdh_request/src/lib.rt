@@ -4,11 +4,11 @@
 #![tactic(auto)]
 
 ghost use Rattle.std.specs.Prelude.{◌≡◌, ◌≢◌, ℕ, ◌≤◌, List, []};
-ghost use Rattle.sdh_terms.specs.Requests.{code_number};
+ghost use Rattle.sdh_ringmap.specs.Requests.{code_number};
 
 mod settings;
 
-use sdh_terms::Code;
+use sdh_ringmap::Code;
 pub use settings::Settings;
 use std::marker::Model;
 

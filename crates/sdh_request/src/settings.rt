@@ -1,5 +1,5 @@
 //! What an operator sets for all nodes of a ring.
-use sdh_terms::Rate;
+use sdh_ringmap::Rate;
 
 /// What an operator sets for all nodes of a ring.
 #[derive(Clone, Copy, Debug, PartialEq, Eq)]

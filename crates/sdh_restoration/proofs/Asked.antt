@@ -3,8 +3,8 @@ use Rattle.std.proofs.Common.{◌≡◌, ℕ, ◌<◌, ◌≤◌, true, List, []
 use Rattle.std.specs.Prelude.{slice_index, nat_le}
 use Rattle.std.proofs.lemmas.Bool.{le-leb}
 use Rattle.sdh_basics.proofs.CellsLaws.{get_or-cells, length-cells}
-use Rattle.sdh_terms.specs.declared.Code.{Code}
-use Rattle.sdh_terms.specs.Requests.{code_number}
+use Rattle.sdh_ringmap.specs.declared.terms.Code.{Code}
+use Rattle.sdh_ringmap.specs.Requests.{code_number}
 use Rattle.sdh_ringmap.specs.Places.{neighbour, span_at}
 use Rattle.sdh_ringmap.specs.declared.Side.{Side}
 use Rattle.sdh_ringmap.specs.declared.Side.TheVariants.{West, East}

@@ -2,7 +2,7 @@
 use Rattle.std.proofs.Common.{◌≡◌, ℕ, ◌<◌, List, length, max}
 use Rattle.std.specs.Prelude.{slice_index}
 use Rattle.sdh_basics.proofs.CellsLaws.{get_or-cells}
-use Rattle.sdh_terms.specs.Requests.{code_number}
+use Rattle.sdh_ringmap.specs.Requests.{code_number}
 use Rattle.sdh_ringmap.specs.Places.{neighbour}
 use Rattle.sdh_ringmap.specs.declared.Side.TheVariants.{West, East}
 use Rattle.sdh_restoration.specs.declared.applied.LocalRequests.{LocalRequests}

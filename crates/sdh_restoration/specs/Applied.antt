@@ -3,7 +3,7 @@
 use Rattle.std.specs.Prelude.{ℕ, max, Bool, ◌&&◌, nat_lt, nat_le, ◌==◌, if◌then◌else◌, List, [], ◌∷◌, slice_index, count_by}
 use Rattle.std.specs.List.{list_any}
 use Rattle.sdh_basics.specs.Cells.{cells}
-use Rattle.sdh_terms.specs.Requests.{code_number}
+use Rattle.sdh_ringmap.specs.Requests.{code_number}
 use Rattle.sdh_ringmap.specs.Places.{neighbour}
 use Rattle.sdh_ringmap.specs.declared.Side.TheVariants.{West, East}
 use Rattle.sdh_restoration.specs.History.{Asking}

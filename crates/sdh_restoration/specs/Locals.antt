@@ -1,7 +1,7 @@
 -- The local requests of the nodes of a ring, as a list by position.
 use Rattle.std.specs.Prelude.{ℕ, List, length, slice_index_or}
-use Rattle.sdh_terms.specs.declared.Code.{Code}
-use Rattle.sdh_terms.specs.declared.Code.TheVariants.{Nr}
+use Rattle.sdh_ringmap.specs.declared.terms.Code.{Code}
+use Rattle.sdh_ringmap.specs.declared.terms.Code.TheVariants.{Nr}
 use Rattle.sdh_ringmap.specs.declared.Side.{Side}
 use Rattle.sdh_ringmap.specs.declared.Side.TheVariants.{West, East}
 use Rattle.sdh_restoration.specs.declared.applied.LocalRequests.{LocalRequests}

@@ -1,11 +1,10 @@
 //! The applied set: which spans a ring switches away from.
 ghost use Rattle.std.specs.Prelude.{◌≡◌, ◌<◌, ◌+◌, ◌==◌, length, map, count_by, max, slice_index};
-ghost use Rattle.sdh_terms.specs.Requests.{code_number};
+ghost use Rattle.sdh_ringmap.specs.Requests.{code_number};
 ghost use Rattle.sdh_restoration.specs.Applied.{highest, applies, is_applied};
 ghost use Rattle.sdh_restoration.specs.Locals.{requests_of};
 
-use sdh_ringmap::Span;
-use sdh_terms::Code;
+use sdh_ringmap::{Code, Span};
 
 /// The local requests on the two sides of a node.
 #[derive(Clone, Copy, Debug, PartialEq, Eq)]

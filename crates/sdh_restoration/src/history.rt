@@ -5,7 +5,7 @@ ghost use Rattle.sdh_restoration.specs.History.{defect_at, ends_at, last_end, lo
 ghost use Rattle.sdh_restoration.specs.Rounds.{history_of, still_round};
 
 use sdh_request::{Command, Defect, Moment};
-use sdh_terms::Code;
+use sdh_ringmap::Code;
 
 /// One round of a side: the fibre that comes in, the command that holds, and the moment.
 #[derive(Clone, Copy, Debug, PartialEq, Eq)]

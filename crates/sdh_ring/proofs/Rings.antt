@@ -1,7 +1,7 @@
 -- What is true of a ring, call by call.
 use Rattle.std.proofs.Common.{◌≡◌, ℕ, ◌+◌, ◌/◌, ◌<◌, ◌≤◌, Bool, true, false, List, length, map, refl, ap, sym, subst, ◌∙◌, arith}
 use Rattle.std.specs.Prelude.{All, ◌^◌, Result, Ok, Err}
-use Rattle.sdh_terms.specs.Rates.{n_of}
+use Rattle.sdh_ringmap.specs.Rates.{n_of}
 use Rattle.sdh_ringmap.specs.Ids.{AreIds}
 use Rattle.sdh_circuits.specs.Provisioning.{Provisioning, IsProvisioning}
 use Rattle.sdh_circuits.specs.Kept.{KeepsRing}

@@ -2,7 +2,7 @@
 ghost use Rattle.std.specs.Prelude.{◌≡◌, ◌+◌, ◌/◌, ◌^◌, ◌<◌, ◌≤◌, ℕ, true, false, Some, Err, IfOk, OnOk, OnErr};
 ghost use Rattle.std.specs.Prelude.{IsErr, length, slice_get};
 ghost use Rattle.sdh_basics.specs.Causes.{Rose, IsCounted};
-ghost use Rattle.sdh_terms.specs.Rates.{n_of};
+ghost use Rattle.sdh_ringmap.specs.Rates.{n_of};
 ghost use Rattle.sdh_circuits.specs.Kept.{KeepsRing};
 ghost use Rattle.sdh_payload.specs.Clock.{Clock};
 ghost use Rattle.sdh_plant.specs.Fibres.{Fibres, IsPrepared, IsHonest};

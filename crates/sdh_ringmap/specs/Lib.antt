@@ -1,3 +1,6 @@
+pub mod Rates
+pub mod Requests
+pub mod Fibres
 pub mod Ids
 pub mod Numbering
 pub mod Places

@@ -1,7 +1,8 @@
 //! The positions, sides, spans and arcs of a ring, by arithmetic modulo its number of nodes.
 //!
 //! A ring has 2 to 16 nodes at positions from 0. East of position `p` is `p + 1`, and east of the last is 0.
-//! Span `p` joins the east side of position `p` and the west side of the position east of it.
+//! Span `p` joins the east side of position `p` and the west side of the position east of it. The module `terms` has what
+//! plans and promises share with frames, K bytes and fibres.
 #![tactic(auto)]
 
 ghost use Rattle.std.specs.Prelude.{◌≡◌, ◌≢◌, ℕ, ◌+◌, ◌<◌, ◌≤◌, length, slice_index, IfOk, map, pos, not};
@@ -12,8 +13,10 @@ ghost use Rattle.sdh_ringmap.specs.Arcs.{holds_span, arc_between, is_among, is_c
 ghost use Rattle.sdh_ringmap.specs.Numbering.{ring_of};
 
 mod search;
+mod terms;
 
 use crate::search::{as_bytes, first_repeat, first_unfit, index_of};
+pub use crate::terms::{Code, Condition, FibreEvent, Rate};
 use arrayvec::ArrayVec;
 use std::marker::Model;
 use thiserror::Error;

@@ -4,7 +4,7 @@ use Rattle.std.specs.Prelude.{option_map, slice_index_or}
 use Rattle.std.specs.Option.{option_map_or}
 use Rattle.sdh_ringmap.specs.declared.Side.{Side}
 use Rattle.sdh_plant.specs.Fibres.{Arrival, Fibres, IsHonest}
-use Rattle.sdh_terms.specs.Fibres.{fibre}
+use Rattle.sdh_ringmap.specs.Fibres.{fibre}
 use Rattle.sdh_plant.specs.Arrivals.{honest_arrival}
 use Rattle.sdh_rounds.specs.Stations.{Station}
 use Rattle.sdh_rounds.specs.Held.{World}

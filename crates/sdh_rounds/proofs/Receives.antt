@@ -6,7 +6,7 @@ use Rattle.std.proofs.lemmas.List.{length-take-le}
 use Rattle.std.specs.Prelude.{Result, Ok, Err, OnErr, option_map, slice_index_or, ◌==◌, if◌then◌else◌}
 use Rattle.std.specs.Option.{option_map_or}
 use Rattle.sdh_basics.proofs.Indexing.{rest_more, read_here}
-use Rattle.sdh_terms.specs.declared.Rate.{Rate}
+use Rattle.sdh_ringmap.specs.declared.terms.Rate.{Rate}
 use Rattle.sdh_ringmap.specs.declared.Side.TheVariants.{West, East}
 use Rattle.sdh_plant.specs.Fibres.{Arrival, Fibres, IsPrepared}
 use Rattle.sdh_plant.specs.Arrivals.{Knows, arrival, honest_arrival, next_told}

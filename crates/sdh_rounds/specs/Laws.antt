@@ -1,6 +1,6 @@
 -- Laws of rounds and steps over any fibres, for nodes of any kind.
 use Rattle.std.specs.Prelude.{◌≡◌, ℕ, ◌+◌, ◌-◌, ◌%◌, ◌<◌, ◌≤◌, ◌↔◌, Some, None, List, [], ◌∷◌, ◌++◌, length, take, option_map}
-use Rattle.sdh_terms.specs.declared.Rate.{Rate}
+use Rattle.sdh_ringmap.specs.declared.terms.Rate.{Rate}
 use Rattle.sdh_plant.specs.Fibres.{Arrival, Fibres, IsPrepared, IsHonest}
 use Rattle.sdh_plant.specs.Arrivals.{Knows, honest_arrival}
 use Rattle.sdh_ringmap.specs.declared.Side.{Side}

@@ -1,7 +1,7 @@
 //! A ring of nodes of any kind.
 ghost use Rattle.std.specs.Prelude.{◌≡◌, ◌↔◌, ◌+◌, ◌-◌, ◌*◌, ◌/◌, ◌%◌, ◌^◌, ◌<◌, ◌≤◌, ℕ, false, Some, IfOk, IsTrue, All, length, slice_get};
 ghost use Rattle.std.specs.Prelude.{if◌then◌else◌};
-ghost use Rattle.sdh_terms.specs.Rates.{n_of};
+ghost use Rattle.sdh_ringmap.specs.Rates.{n_of};
 ghost use Rattle.sdh_circuits.specs.Kept.{KeepsRing};
 ghost use Rattle.sdh_circuits.specs.Provisioned.{end_of};
 ghost use Rattle.sdh_plant.specs.Fibres.{IsPrepared};

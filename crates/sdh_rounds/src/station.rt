@@ -1,7 +1,7 @@
 //! What a round asks of a node.
 ghost use Rattle.std.specs.Prelude.{◌≡◌, ◌≢◌, ℕ, ◌/◌, ◌<◌, None, IfOk, length};
-ghost use Rattle.sdh_terms.specs.declared.Rate.{Rate};
-ghost use Rattle.sdh_terms.specs.Rates.{n_of};
+ghost use Rattle.sdh_ringmap.specs.declared.terms.Rate.{Rate};
+ghost use Rattle.sdh_ringmap.specs.Rates.{n_of};
 ghost use Rattle.sdh_circuits.specs.Kept.{KeepsRing};
 ghost use Rattle.sdh_ringmap.specs.declared.Side.{Side};
 ghost use Rattle.sdh_ringmap.specs.declared.Side.TheVariants.{West, East};

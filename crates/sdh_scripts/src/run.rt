@@ -15,8 +15,8 @@ use crate::teller::Teller;
 use sdh_plan::Step;
 use sdh_plant::{Plant, PrepareError};
 use sdh_report::{LINE_MAX, Status, Text};
+use sdh_ringmap::Rate;
 use sdh_shell::{Kept, Output};
-use sdh_terms::Rate;
 use std::alloc::{AllocError, Global};
 
 /// The number of settle steps that a script has at most.

@@ -6,11 +6,11 @@ use Rattle.std.proofs.Common.{inr}
 use Rattle.std.specs.Prelude.{nat_le, nat_lt, not, ◌&&◌, if◌then◌else◌, slice_index}
 use Rattle.std.proofs.lemmas.Bool.{and_right, cases_lt, cond-true, cond-false, le-leb, lt-leb, lt-ltb, le-ltb}
 use Rattle.sdh_kbytes.specs.declared.K.{K}
-use Rattle.sdh_terms.specs.declared.Code.{Code}
-use Rattle.sdh_terms.specs.declared.Code.TheVariants.{Nr, Rr}
+use Rattle.sdh_ringmap.specs.declared.terms.Code.{Code}
+use Rattle.sdh_ringmap.specs.declared.terms.Code.TheVariants.{Nr, Rr}
 use Rattle.sdh_kbytes.specs.declared.Path.{Path}
 use Rattle.sdh_kbytes.specs.declared.Path.TheVariants.{Short, Long}
-use Rattle.sdh_terms.specs.Requests.{code_number}
+use Rattle.sdh_ringmap.specs.Requests.{code_number}
 use Rattle.sdh_ringmap.specs.Places.{opposite}
 use Rattle.sdh_ringmap.specs.declared.Side.{Side}
 use Rattle.sdh_nodestate.specs.Rules.{Scene, local, larger, word_on, short, stronger, word}

@@ -4,13 +4,13 @@ use Rattle.std.proofs.Common.{◌≡◌, ◌≢◌, ℕ, true, ◌<◌, ◌≤�
 use Rattle.std.specs.Prelude.{slice_index}
 use Rattle.std.proofs.lemmas.Bool.{cases_lt}
 use Rattle.sdh_kbytes.specs.declared.K.{K}
-use Rattle.sdh_terms.specs.declared.Code.{Code}
-use Rattle.sdh_terms.specs.Requests.{code_number}
+use Rattle.sdh_ringmap.specs.declared.terms.Code.{Code}
+use Rattle.sdh_ringmap.specs.Requests.{code_number}
 use Rattle.sdh_ringmap.specs.Places.{neighbour, opposite}
 use Rattle.sdh_ringmap.specs.declared.Side.{Side}
 use Rattle.sdh_ringmap.specs.declared.Side.TheVariants.{West, East}
 use Rattle.sdh_kbytes.specs.declared.Path.TheVariants.{Short}
-use Rattle.sdh_terms.specs.declared.Code.TheVariants.{Rr}
+use Rattle.sdh_ringmap.specs.declared.terms.Code.TheVariants.{Rr}
 use Rattle.sdh_nodestate.specs.declared.Needs.{Needs}
 use Rattle.sdh_nodestate.specs.Rules.{Scene, local, word_on, short, weight, word}
 use Rattle.sdh_nodestate.specs.Conditions.{MayNeed}

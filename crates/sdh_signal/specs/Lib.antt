@@ -1,3 +1,8 @@
+pub mod Walks
+pub mod Law
+pub mod Rounds
+pub mod RouteLaws
+pub mod Rings
 pub mod Settled
 pub mod Signals
 pub mod Runs

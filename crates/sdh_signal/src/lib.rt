@@ -1,6 +1,7 @@
 //! Signalling without frames: a ring whose nodes send each other K words, one on each side in each round. A word comes
 //! in one round later, and is heard where three rounds in a row brought it. `specs/Signals.antt` has the definition of
-//! a round. The module `settling` has the laws of signalling, among them that a still ring is in the settled states.
+//! a round. The module `settling` has the laws of signalling, among them that a still ring is in the settled states, and
+//! the module `routing` those of routes through a ring that is at rest.
 #![tactic(auto)]
 
 ghost use Rattle.std.specs.Prelude.{◌≡◌, ◌↔◌, ◌+◌, ◌≤◌, ◌<◌, ◌-◌, ◌^◌, min, nat_lt, if◌then◌else◌, [], length, All, IfOk, IsTrue};
@@ -13,9 +14,16 @@ ghost use Rattle.sdh_signal.specs.Signals.{no_filters, round, requests_in};
 ghost use Rattle.sdh_signal.specs.SignalRing.{new_ring, NoneHeld, LeavesWords, IsStill};
 
 mod nodes;
+mod routing;
 mod settling;
 
 use crate::nodes::{Hearing, hear_all, is_free, step_all};
+pub use crate::routing::{
+    a_looped_slot_meets_its_own_circuit, each_port_is_routed, each_walk_ends,
+    each_walk_follows_the_route, each_walk_has_one_end, idle_walks_are_short,
+    no_port_meets_a_stranger, no_way_crosses_an_applied_span, routes_are_short, steadiness_spreads,
+    the_protection_ring_is_open, worked_rings,
+};
 pub use crate::settling::{
     free_rounds, not_all_pass_through, relayed_words_lead_back, rings_settle, runs_settle,
     still_rings_are_settled, words_stay,

@@ -5,7 +5,7 @@ use Rattle.std.specs.Prelude.{slice_get}
 use Rattle.std.proofs.lemmas.Bool.{cases_eq}
 use Rattle.std.proofs.lemmas.List.{ext_get_or}
 use Rattle.std.proofs.lemmas.Option.{get_or_from_slice_get, slice_get_within}
-use Rattle.sdh_terms.specs.Rates.{n_of}
+use Rattle.sdh_ringmap.specs.Rates.{n_of}
 use Rattle.sdh_ringmap.specs.declared.Side.{Side}
 use Rattle.sdh_ringmap.specs.Places.{neighbour, opposite}
 use Rattle.sdh_ringmap.specs.Steps.{going}
@@ -21,8 +21,8 @@ use Rattle.sdh_pointer.specs.declared.reading.Action.TheVariants as action
 use Rattle.sdh_pointer.specs.Reading.{start}
 use Rattle.sdh_pointer.specs.Sending.{word_sent}
 use Rattle.sdh_plant.specs.Arrivals.{condition_of}
-use Rattle.sdh_terms.specs.Fibres.{fibre_to, is_cut}
-use Rattle.sdh_terms.specs.declared.Condition.TheVariants.{Clear}
+use Rattle.sdh_ringmap.specs.Fibres.{fibre_to, is_cut}
+use Rattle.sdh_ringmap.specs.declared.terms.Condition.TheVariants.{Clear}
 use Rattle.sdh_terminal.specs.Passing.{Input, no_input}
 use Rattle.sdh_rounds.specs.Runs as any_run
 use Rattle.sdh_rounds.proofs.Runs.{known_unsettles, known_settles}

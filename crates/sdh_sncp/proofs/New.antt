@@ -17,7 +17,7 @@ use Rattle.sdh_payload.specs.Outlet.{silent}
 use Rattle.sdh_circuits.specs.Provisioning.{Provisioning}
 use Rattle.sdh_nodestate.specs.Words.{first_word}
 use Rattle.sdh_plant.specs.Fibres.{Arrival}
-use Rattle.sdh_terms.specs.Fibres.{fibre}
+use Rattle.sdh_ringmap.specs.Fibres.{fibre}
 use Rattle.sdh_plant.proofs.Calling.{stay_prepared, stay_honest}
 use Rattle.sdh_request.specs.declared.settings.Settings.{Settings}
 use Rattle.sdh_terminal.specs.Tributaries.{Tributary, tributaries_from, tributaries_at, port_of, outlet_of}

@@ -3,8 +3,8 @@ use Rattle.std.proofs.Common.{◌≡◌, ℕ, zero, suc, ◌+◌, ◌*◌, ◌<�
 use Rattle.std.proofs.Common.{arith, inl, inr}
 use Rattle.std.proofs.lemmas.Bool.{cases_lt}
 use Rattle.std.proofs.lemmas.List.{get_or_past}
-use Rattle.sdh_terms.specs.declared.Rate.{Rate}
-use Rattle.sdh_terms.specs.Rates.{n_of}
+use Rattle.sdh_ringmap.specs.declared.terms.Rate.{Rate}
+use Rattle.sdh_ringmap.specs.Rates.{n_of}
 use Rattle.sdh_ringmap.specs.declared.Side.{Side}
 use Rattle.sdh_ringmap.specs.declared.Side.TheVariants.{West, East}
 use Rattle.sdh_ringmap.specs.Places.{neighbour, opposite}
@@ -12,8 +12,8 @@ use Rattle.sdh_ringmap.proofs.Sides.{neighbour_below}
 use Rattle.sdh_kbytes.specs.declared.K.{K}
 use Rattle.sdh_nodestate.specs.Words.{first_word}
 use Rattle.sdh_plant.specs.Fibres.{IsPrepared, IsHonest}
-use Rattle.sdh_terms.specs.Fibres.{IsConditionAt, fibre, fibre_to}
-use Rattle.sdh_terms.specs.declared.Condition.TheVariants.{Clear}
+use Rattle.sdh_ringmap.specs.Fibres.{IsConditionAt, fibre, fibre_to}
+use Rattle.sdh_ringmap.specs.declared.terms.Condition.TheVariants.{Clear}
 use Rattle.sdh_plant.specs.Arrivals.{through, carried_on, condition_of}
 use Rattle.sdh_terminal.specs.Receiving.{Inlet, after_taking}
 use Rattle.sdh_terminal.specs.Lines.{line_on}

@@ -1,15 +1,15 @@
 -- The spans of a path ring: what was sent into an AU-4 comes out of it one round later, or AIS where its fibre is cut.
 use Rattle.std.proofs.Common.{◌≡◌, ◌≢◌, ℕ, ◌+◌, ◌<◌, ◌≤◌, true, false, length, get_or, Option, Some, None, ap, sym, ◌∙◌, subst, arith}
-use Rattle.sdh_terms.specs.declared.Rate.{Rate}
-use Rattle.sdh_terms.specs.Rates.{n_of}
+use Rattle.sdh_ringmap.specs.declared.terms.Rate.{Rate}
+use Rattle.sdh_ringmap.specs.Rates.{n_of}
 use Rattle.sdh_ringmap.specs.Places.{opposite, neighbour}
 use Rattle.sdh_ringmap.specs.declared.Side.{Side}
 use Rattle.sdh_kbytes.specs.declared.Mark.TheVariants as mark
 use Rattle.sdh_payload.specs.Outlet.{Outlet, silent}
 use Rattle.sdh_pointer.specs.Reading.{start}
 use Rattle.sdh_pointer.specs.Sending.{word_sent, next_sending}
-use Rattle.sdh_terms.specs.declared.Condition.{Condition}
-use Rattle.sdh_terms.specs.Fibres.{is_cut}
+use Rattle.sdh_ringmap.specs.declared.terms.Condition.{Condition}
+use Rattle.sdh_ringmap.specs.Fibres.{is_cut}
 use Rattle.sdh_plant.specs.Arrivals.{through}
 use Rattle.sdh_terminal.specs.Passing.{Input}
 use Rattle.sdh_terminal.specs.Receiving.{Inlet, after_taking}

@@ -1,7 +1,7 @@
 -- The part of a node that a path ring's calls never change, and what is true of every path ring.
 use Rattle.std.specs.Prelude.{ℕ, ◌≡◌, ◌/◌, false, Some, List, length, map, All, slice_get}
-use Rattle.sdh_terms.specs.declared.Rate.{Rate}
-use Rattle.sdh_terms.specs.Rates.{n_of}
+use Rattle.sdh_ringmap.specs.declared.terms.Rate.{Rate}
+use Rattle.sdh_ringmap.specs.Rates.{n_of}
 use Rattle.sdh_ringmap.specs.Ids.{AreIds}
 use Rattle.sdh_circuits.specs.Provisioned.{Provisioned}
 use Rattle.sdh_circuits.specs.Provisioning.{IsProvisioning}

@@ -5,7 +5,7 @@ use Rattle.std.specs.Option.{is_some}
 use Rattle.sdh_pointer.specs.declared.reading.Action.TheVariants as action
 use Rattle.sdh_pointer.specs.Reading.{start, is_norm}
 use Rattle.sdh_pointer.specs.Laws.{is_ais_action}
-use Rattle.sdh_terms.specs.Rates.{n_of}
+use Rattle.sdh_ringmap.specs.Rates.{n_of}
 use Rattle.sdh_ringmap.specs.Ids.{AreIds}
 use Rattle.sdh_ringmap.specs.declared.Side.{Side}
 use Rattle.sdh_circuits.specs.declared.End.{End}
@@ -14,9 +14,9 @@ use Rattle.sdh_circuits.specs.Provisioned.{Provisioned}
 use Rattle.sdh_circuits.specs.Provisioning.{Provisioning, AreCircuits}
 use Rattle.sdh_nodestate.specs.Words.{first_word}
 use Rattle.sdh_payload.specs.Outlet.{silent}
-use Rattle.sdh_terms.specs.declared.Condition.{Condition}
+use Rattle.sdh_ringmap.specs.declared.terms.Condition.{Condition}
 use Rattle.sdh_plant.specs.Fibres.{Arrival, Fibres, IsPrepared, IsHonest}
-use Rattle.sdh_terms.specs.Fibres.{IsConditionAt, fibre_to, is_cut}
+use Rattle.sdh_ringmap.specs.Fibres.{IsConditionAt, fibre_to, is_cut}
 use Rattle.sdh_plant.specs.Arrivals.{condition_of}
 use Rattle.sdh_plant.specs.Calls.{prepared, after_apply}
 use Rattle.sdh_request.specs.declared.settings.Settings.{Settings}

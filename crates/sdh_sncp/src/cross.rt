@@ -1,6 +1,6 @@
 //! Both sides that receive, and where the AU-4s that come in on them lead.
 ghost use Rattle.std.specs.Prelude.{◌≡◌, ◌≢◌, ◌&&◌, ◌≤◌, None, IfOk, length};
-ghost use Rattle.sdh_terms.specs.Rates.{n_of};
+ghost use Rattle.sdh_ringmap.specs.Rates.{n_of};
 ghost use Rattle.sdh_plant.specs.Arrivals.{arrived_in};
 ghost use Rattle.sdh_ringmap.specs.Places.{opposite};
 ghost use Rattle.sdh_terminal.specs.Same.{same_readings};
@@ -13,9 +13,8 @@ use sdh_circuits::{CircuitMap, Slot};
 use sdh_overhead::Landed;
 use sdh_plant::Arrived;
 use sdh_pointer::Action;
-use sdh_ringmap::{Pos, Side};
+use sdh_ringmap::{Pos, Rate, Side};
 use sdh_terminal::{Feeder, Inlet, Intake, Matrix};
-use sdh_terms::Rate;
 use std::alloc::{AllocError, Global};
 use std::marker::Model;
 

@@ -8,9 +8,9 @@ use Rattle.std.proofs.lemmas.List.{get_or-set_same, get_or-set_other, get_or-rep
 use Rattle.std.proofs.Math.Nat.{mod-lt}
 use Rattle.sdh_ringmap.specs.declared.Side.{Side}
 use Rattle.sdh_ringmap.specs.declared.Side.TheVariants.{West, East}
-use Rattle.sdh_terms.specs.declared.Condition.{Condition}
-use Rattle.sdh_terms.specs.declared.Condition.TheVariants.{Clear}
-use Rattle.sdh_terms.specs.Fibres.{fibre, fibre_to}
+use Rattle.sdh_ringmap.specs.declared.terms.Condition.{Condition}
+use Rattle.sdh_ringmap.specs.declared.terms.Condition.TheVariants.{Clear}
+use Rattle.sdh_ringmap.specs.Fibres.{fibre, fibre_to}
 use Rattle.sdh_promise.specs.Changes.{Change, Fibre}
 use Rattle.sdh_promise.specs.Sides.{Holding, new_holding, holding_after, all_holding}
 

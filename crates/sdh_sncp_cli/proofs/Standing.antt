@@ -2,10 +2,10 @@
 use Rattle.std.proofs.Common.{◌≡◌, ℕ, ◌+◌, ◌-◌, ◌≤◌, List, [], ◌∷◌, ◌++◌, length, refl, ap, sym, ◌∙◌, subst, arith, inl}
 use Rattle.std.specs.Prelude.{◌/◌, ◌%◌}
 use Rattle.std.proofs.lemmas.List.{length-set}
-use Rattle.sdh_terms.specs.declared.Rate.{Rate}
-use Rattle.sdh_terms.specs.Rates.{n_of}
-use Rattle.sdh_terms.specs.Fibres.{fibre, IsConditionAt}
-use Rattle.sdh_terms.specs.declared.FibreEvent.{FibreEvent}
+use Rattle.sdh_ringmap.specs.declared.terms.Rate.{Rate}
+use Rattle.sdh_ringmap.specs.Rates.{n_of}
+use Rattle.sdh_ringmap.specs.Fibres.{fibre, IsConditionAt}
+use Rattle.sdh_ringmap.specs.declared.terms.FibreEvent.{FibreEvent}
 use Rattle.sdh_circuits.specs.Provisioning.{Provisioning, AreCircuits}
 use Rattle.sdh_request.specs.declared.settings.Settings.{Settings}
 use Rattle.sdh_ringmap.specs.Ids.{AreIds}

@@ -3,7 +3,7 @@ use Rattle.std.proofs.Common.{◌≡◌, ◌≤◌, ℕ, ◌+◌, false, refl, L
 use Rattle.sdh_plant.specs.Fibres.{Fibres, IsPrepared}
 use Rattle.sdh_plant.specs.Calls.{prepared}
 use Rattle.sdh_plant.proofs.Calling.{stay_prepared}
-use Rattle.sdh_terms.specs.declared.Rate.{Rate}
+use Rattle.sdh_ringmap.specs.declared.terms.Rate.{Rate}
 use Rattle.sdh_rounds.proofs.Runs.{held_run}
 use Rattle.sdh_plan.specs.declared.step.Step.{Step}
 use Rattle.sdh_plan.specs.declared.step.Step.TheVariants as step

@@ -2,7 +2,7 @@
 -- the fibres.
 use Rattle.std.specs.Prelude.{ℕ, ◌≡◌, ◌⊎◌, ◌+◌, Bool, List, [], ◌∷◌, ◌++◌, length}
 use Rattle.sdh_ringmap.specs.declared.Side.{Side}
-use Rattle.sdh_terms.specs.Fibres.{is_cut}
+use Rattle.sdh_ringmap.specs.Fibres.{is_cut}
 use Rattle.sdh_circuits.specs.Provisioned.{Provisioned}
 use Rattle.sdh_plan.specs.Planned.{Planned}
 use Rattle.sdh_report.specs.Reports.{PortLine, Report}

@@ -4,8 +4,8 @@ use Rattle.std.specs.Prelude.{nat_le, if◌then◌else◌, ◌==◌, ◌%◌}
 use Rattle.std.specs.Option.{is_some}
 use Rattle.std.proofs.lemmas.Bool.{cases_Bool}
 use Rattle.sdh_basics.proofs.CellsLaws.{length-map_from}
-use Rattle.sdh_terms.specs.declared.Rate.{Rate}
-use Rattle.sdh_terms.specs.Rates.{n_of}
+use Rattle.sdh_ringmap.specs.declared.terms.Rate.{Rate}
+use Rattle.sdh_ringmap.specs.Rates.{n_of}
 use Rattle.sdh_frame.specs.Aus.{au_of}
 use Rattle.sdh_parity.specs.Scrambling.{scrambled}
 use Rattle.sdh_parity.specs.Parity.{section_parity}
@@ -16,8 +16,8 @@ use Rattle.sdh_kbytes.specs.declared.Mark.TheVariants as mark
 use Rattle.sdh_kbytes.specs.KBytes.{first_byte, second_byte, decoded}
 use Rattle.sdh_request.specs.declared.Defect.TheVariants as defect
 use Rattle.sdh_pointer.specs.declared.reading.Reading.{Reading}
-use Rattle.sdh_terms.specs.declared.Condition.{Condition}
-use Rattle.sdh_terms.specs.Fibres.{is_cut, degraded_by}
+use Rattle.sdh_ringmap.specs.declared.terms.Condition.{Condition}
+use Rattle.sdh_ringmap.specs.Fibres.{is_cut, degraded_by}
 use Rattle.sdh_plant.specs.Arrivals.{through}
 use Rattle.sdh_terminal.specs.Receiving.{Inlet, Reception, failure, framed_reception, frame_reception, reception_of, after_frame}
 use Rattle.sdh_terminal.specs.Receiving.{readings_by, actions_by, found, taken_in, after_taking}

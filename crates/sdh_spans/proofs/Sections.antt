@@ -1,8 +1,8 @@
 -- The sections of a side that sends: what its frame says, the parities in it, and those that the side keeps.
 use Rattle.std.proofs.Common.{◌≡◌, ℕ, ◌*◌, Some, ap, sym, subst, ◌∙◌}
 use Rattle.sdh_basics.proofs.CellsLaws.{length-map_from}
-use Rattle.sdh_terms.specs.declared.Rate.{Rate}
-use Rattle.sdh_terms.specs.Rates.{n_of}
+use Rattle.sdh_ringmap.specs.declared.terms.Rate.{Rate}
+use Rattle.sdh_ringmap.specs.Rates.{n_of}
 use Rattle.sdh_parity.specs.Scrambling.{scrambled}
 use Rattle.sdh_parity.proofs.Scrambled.{scrambled-twice}
 use Rattle.sdh_kbytes.specs.KBytes.{first_byte, second_byte}

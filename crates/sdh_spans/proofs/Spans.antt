@@ -2,16 +2,16 @@
 use Rattle.std.proofs.Common.{◌≡◌, ℕ, ◌+◌, ◌*◌, ◌<◌, ◌≤◌, true, false, List, length, get_or, Option, None, ap, sym, ◌∙◌, subst, arith, inl}
 use Rattle.std.proofs.Common.{inr}
 use Rattle.std.proofs.lemmas.Bool.{cases_Bool}
-use Rattle.sdh_terms.specs.declared.Rate.{Rate}
-use Rattle.sdh_terms.specs.Rates.{n_of}
+use Rattle.sdh_ringmap.specs.declared.terms.Rate.{Rate}
+use Rattle.sdh_ringmap.specs.Rates.{n_of}
 use Rattle.sdh_frame.specs.Aus.{Au, au_of}
 use Rattle.sdh_ringmap.specs.declared.Side.{Side}
 use Rattle.sdh_payload.specs.Outlet.{Outlet, silent}
 use Rattle.sdh_pointer.specs.declared.reading.Reading.{Reading}
 use Rattle.sdh_pointer.specs.Reading.{start, after_word}
 use Rattle.sdh_pointer.specs.Sending.{word_sent, next_sending}
-use Rattle.sdh_terms.specs.declared.Condition.{Condition}
-use Rattle.sdh_terms.specs.Fibres.{is_cut}
+use Rattle.sdh_ringmap.specs.declared.terms.Condition.{Condition}
+use Rattle.sdh_ringmap.specs.Fibres.{is_cut}
 use Rattle.sdh_terminal.specs.Passing.{Input, au_sent}
 use Rattle.sdh_terminal.specs.Receiving.{Inlet, pointer_word, pointer_word_at, after_frame, actions_in, taken_in, after_taking}
 use Rattle.sdh_terminal.specs.Lines.{Lines, Line, line_on, received}

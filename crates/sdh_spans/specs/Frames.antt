@@ -1,16 +1,16 @@
 -- Which K word the frame on a fibre has, and what the fibres of a ring carry.
 use Rattle.std.specs.Prelude.{ℕ, ◌≡◌, ◌+◌, ◌*◌, ◌<◌, true, Some, None, List, length, if◌then◌else◌}
-use Rattle.sdh_terms.specs.declared.Rate.{Rate}
+use Rattle.sdh_ringmap.specs.declared.terms.Rate.{Rate}
 use Rattle.sdh_frame.specs.Sizes.{size_of}
-use Rattle.sdh_terms.specs.Rates.{n_of}
+use Rattle.sdh_ringmap.specs.Rates.{n_of}
 use Rattle.sdh_parity.specs.Scrambling.{scrambled}
 use Rattle.sdh_overhead.specs.Sections.{is_framed, byte_in}
 use Rattle.sdh_kbytes.specs.declared.K.{K}
 use Rattle.sdh_kbytes.specs.KBytes.{first_byte, second_byte}
 use Rattle.sdh_ringmap.specs.declared.Side.{Side}
-use Rattle.sdh_terms.specs.declared.Condition.{Condition}
+use Rattle.sdh_ringmap.specs.declared.terms.Condition.{Condition}
 use Rattle.sdh_plant.specs.Fibres.{Arrival, Fibres}
-use Rattle.sdh_terms.specs.Fibres.{fibre, is_cut, degraded_by}
+use Rattle.sdh_ringmap.specs.Fibres.{fibre, is_cut, degraded_by}
 use Rattle.sdh_plant.specs.Arrivals.{carried_on}
 
 -- the bytes on the line are those of a framed frame that has the K bytes of this word, as a section reads them

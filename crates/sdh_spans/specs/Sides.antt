@@ -1,9 +1,9 @@
 -- What a side sends in a round, and what a side makes of what comes through a fibre.
 use Rattle.std.specs.Prelude.{ℕ, ◌≡◌, ◌≢◌, ◌+◌, ◌*◌, ◌≤◌, true, false, nat_le, if◌then◌else◌, Some, None, List, length, replicate}
 use Rattle.std.specs.Prelude.{slice_index_or}
-use Rattle.sdh_terms.specs.declared.Rate.{Rate}
+use Rattle.sdh_ringmap.specs.declared.terms.Rate.{Rate}
 use Rattle.sdh_frame.specs.Sizes.{size_of}
-use Rattle.sdh_terms.specs.Rates.{n_of}
+use Rattle.sdh_ringmap.specs.Rates.{n_of}
 use Rattle.sdh_frame.specs.Aus.{au_of}
 use Rattle.sdh_parity.specs.Scrambling.{scrambled}
 use Rattle.sdh_parity.specs.Parity.{section_parity}
@@ -15,8 +15,8 @@ use Rattle.sdh_kbytes.specs.KBytes.{first_byte, second_byte, decoded}
 use Rattle.sdh_request.specs.declared.Defect.TheVariants as defect
 use Rattle.sdh_pointer.specs.declared.reading.Action.TheVariants as action
 use Rattle.sdh_pointer.specs.Sending.{next_sending}
-use Rattle.sdh_terms.specs.declared.Condition.{Condition}
-use Rattle.sdh_terms.specs.Fibres.{IsConditionAt, is_cut}
+use Rattle.sdh_ringmap.specs.declared.terms.Condition.{Condition}
+use Rattle.sdh_ringmap.specs.Fibres.{IsConditionAt, is_cut}
 use Rattle.sdh_plant.specs.Arrivals.{through}
 use Rattle.sdh_terminal.specs.Passing.{Input, au_sent}
 use Rattle.sdh_terminal.specs.Receiving.{Inlet, after_frame, actions_in, found, taken_in, after_taking}

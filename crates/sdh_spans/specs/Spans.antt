@@ -1,15 +1,15 @@
 -- One span: a side that sends, the fibre, and the side after it; in one round, and in many.
 use Rattle.std.specs.Prelude.{ℕ, suc, ◌≡◌, ◌≢◌, ◌≤◌, Bool, if◌then◌else◌, Option, Some}
-use Rattle.sdh_terms.specs.declared.Rate.{Rate}
-use Rattle.sdh_terms.specs.Rates.{n_of}
+use Rattle.sdh_ringmap.specs.declared.terms.Rate.{Rate}
+use Rattle.sdh_ringmap.specs.Rates.{n_of}
 use Rattle.sdh_kbytes.specs.declared.Mark.TheVariants as mark
 use Rattle.sdh_pointer.specs.declared.reading.Action.{Action}
 use Rattle.sdh_pointer.specs.declared.reading.Reading.{Reading}
 use Rattle.sdh_pointer.specs.Reading.{after_word, action_on}
 use Rattle.sdh_pointer.specs.Sending.{word_sent, next_sending}
 use Rattle.sdh_pointer.specs.Laws.{IsSound}
-use Rattle.sdh_terms.specs.declared.Condition.{Condition}
-use Rattle.sdh_terms.specs.Fibres.{IsConditionAt}
+use Rattle.sdh_ringmap.specs.declared.terms.Condition.{Condition}
+use Rattle.sdh_ringmap.specs.Fibres.{IsConditionAt}
 use Rattle.sdh_plant.specs.Arrivals.{through}
 use Rattle.sdh_terminal.specs.Passing.{Input}
 use Rattle.sdh_terminal.specs.Receiving.{Inlet, taken_in, after_taking}

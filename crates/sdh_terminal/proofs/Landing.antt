@@ -1,8 +1,8 @@
 -- What a frame that landed is to a side.
 use Rattle.std.proofs.Common.{◌≡◌, ◌≢◌, ℕ, ◌*◌, Bool, true, false, List, Option, Some, None, refl, ap, sym, subst, ◌∙◌}
-use Rattle.sdh_terms.specs.declared.Rate.{Rate}
+use Rattle.sdh_ringmap.specs.declared.terms.Rate.{Rate}
 use Rattle.sdh_frame.specs.Sizes.{Frame}
-use Rattle.sdh_terms.specs.Rates.{n_of}
+use Rattle.sdh_ringmap.specs.Rates.{n_of}
 use Rattle.sdh_parity.specs.Scrambling.{scrambled}
 use Rattle.sdh_overhead.specs.declared.Received.{Received}
 use Rattle.sdh_overhead.specs.Sections.{Parities, is_framed, received_in, kept_after, opened}

@@ -4,9 +4,9 @@ use Rattle.std.specs.Prelude.{◌≡◌, ℕ, ◌+◌, ◌*◌, ◌%◌, Bool, �
 use Rattle.std.specs.Prelude.{replicate}
 use Rattle.std.specs.Option.{is_some}
 use Rattle.sdh_basics.specs.Indexed.{map_from}
-use Rattle.sdh_terms.specs.declared.Rate.{Rate}
+use Rattle.sdh_ringmap.specs.declared.terms.Rate.{Rate}
 use Rattle.sdh_frame.specs.Sizes.{Frame, size_of}
-use Rattle.sdh_terms.specs.Rates.{n_of}
+use Rattle.sdh_ringmap.specs.Rates.{n_of}
 use Rattle.sdh_frame.specs.Aus.{pointers_of}
 use Rattle.sdh_overhead.specs.declared.Received.{Received}
 use Rattle.sdh_overhead.specs.declared.Received.TheVariants.{Framed, Unframed}

@@ -1,9 +1,9 @@
 -- One side of a node that sends: its pointer generators, and the section overhead of its frames (ITU-T G.707 clause
 -- 9.2).
 use Rattle.std.specs.Prelude.{◌≡◌, ℕ, Option, Some, None, List, length, replicate}
-use Rattle.sdh_terms.specs.declared.Rate.{Rate}
+use Rattle.sdh_ringmap.specs.declared.terms.Rate.{Rate}
 use Rattle.sdh_frame.specs.Sizes.{Frame, size_of}
-use Rattle.sdh_terms.specs.Rates.{n_of}
+use Rattle.sdh_ringmap.specs.Rates.{n_of}
 use Rattle.sdh_frame.specs.Aus.{with_aus}
 use Rattle.sdh_overhead.specs.Sections as section
 use Rattle.sdh_overhead.specs.Sections.{holding, clear_frame, line_frame, parities_of}

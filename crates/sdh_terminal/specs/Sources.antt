@@ -1,6 +1,6 @@
 -- Where the payload of a sent AU-4 comes from.
 use Rattle.std.specs.Prelude.{ℕ, List}
-use Rattle.sdh_terms.specs.Rates.{n_of}
+use Rattle.sdh_ringmap.specs.Rates.{n_of}
 use Rattle.sdh_interchange.specs.declared.choose.Source.{Source}
 use Rattle.sdh_frame.specs.Aus.{with_aus}
 use Rattle.sdh_interchange.specs.Assembled.{payload_from, assembled}

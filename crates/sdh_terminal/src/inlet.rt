@@ -1,7 +1,7 @@
 //! One side that receives frames.
 ghost use Rattle.std.specs.Prelude.{◌≡◌, ◌≢◌, ◌-◌, ◌≤◌, None, Some, IfSome, IfOk, length, slice_index_or};
 ghost use Rattle.std.specs.Option.{is_some};
-ghost use Rattle.sdh_terms.specs.Rates.{n_of};
+ghost use Rattle.sdh_ringmap.specs.Rates.{n_of};
 ghost use Rattle.sdh_overhead.specs.Landing.{emptied};
 ghost use Rattle.sdh_overhead.specs.Sections.{holding};
 ghost use Rattle.sdh_kbytes.specs.KBytes.{IsSpellable};
@@ -18,7 +18,7 @@ use sdh_overhead::{Landed, Section};
 use sdh_plant::Arrived;
 use sdh_pointer::Interp;
 use sdh_request::Defect;
-use sdh_terms::Rate;
+use sdh_ringmap::Rate;
 use std::alloc::{AllocError, Global};
 use std::marker::Model;
 

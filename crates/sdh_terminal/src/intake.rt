@@ -2,7 +2,7 @@
 ghost use Rattle.std.specs.Prelude.{◌≡◌, ◌+◌, ◌-◌, ◌%◌, ◌<◌, ◌≤◌, ◌≢◌, Option, None, Some, IfSome, IfOk, length, slice_index_or};
 ghost use Rattle.std.specs.Prelude.{replicate};
 ghost use Rattle.std.specs.List.{list_any};
-ghost use Rattle.sdh_terms.specs.Rates.{n_of};
+ghost use Rattle.sdh_ringmap.specs.Rates.{n_of};
 ghost use Rattle.sdh_frame.specs.Aus.{au_of};
 ghost use Rattle.sdh_overhead.specs.Landing.{emptied};
 ghost use Rattle.sdh_overhead.specs.Sections.{Parities, holding};
@@ -19,7 +19,7 @@ use sdh_kbytes::{K, decode};
 use sdh_overhead::{Landed, Received, Section, read_landed};
 use sdh_pointer::{Action, Interp, Word, read_word};
 use sdh_request::Defect;
-use sdh_terms::Rate;
+use sdh_ringmap::Rate;
 use std::alloc::{AllocError, Global};
 use std::marker::Model;
 
@@ -32,7 +32,7 @@ pub struct Intake {
 
 impl Model for Intake {
     ghost use Rattle.std.specs.Prelude.{◌≡◌, length};
-    ghost use Rattle.sdh_terms.specs.Rates.{n_of};
+    ghost use Rattle.sdh_ringmap.specs.Rates.{n_of};
     ghost use Rattle.sdh_terminal.specs.Receiving.{Intake};
 
     ghost Value = { Intake };

@@ -1,14 +1,13 @@
 //! Where AU-4s come from.
 ghost use Rattle.std.specs.Prelude.{◌≡◌, ℕ, ◌*◌, ◌≤◌};
-ghost use Rattle.sdh_terms.specs.Rates.{n_of};
+ghost use Rattle.sdh_ringmap.specs.Rates.{n_of};
 ghost use Rattle.sdh_ringmap.specs.declared.Side.{Side};
 ghost use Rattle.sdh_terminal.specs.declared.matrix.Feeder.{Feeder};
 ghost use Rattle.sdh_terminal.specs.Lines.{Lines, line_on, received, IsFeeder};
 
 use crate::intake::Intake;
 use sdh_circuits::{PortId, Slot};
-use sdh_ringmap::Side;
-use sdh_terms::Rate;
+use sdh_ringmap::{Rate, Side};
 
 /// What an AU-4 is fed with: a port, an AU-4 that a side received, or AIS.
 #[derive(Clone, Copy, Debug, PartialEq, Eq)]

@@ -1,6 +1,6 @@
 //! What the AU-4s of a sent frame are: where each payload comes from, and the pointer bytes.
 ghost use Rattle.std.specs.Prelude.{◌≡◌, ◌≢◌, ℕ, List, ◌+◌, ◌<◌, ◌≤◌, IfOk, length};
-ghost use Rattle.sdh_terms.specs.Rates.{n_of};
+ghost use Rattle.sdh_ringmap.specs.Rates.{n_of};
 ghost use Rattle.sdh_frame.specs.Aus.{au_of};
 ghost use Rattle.std.specs.List.{list_any};
 ghost use Rattle.sdh_pointer.specs.declared.word.Form.{Form};

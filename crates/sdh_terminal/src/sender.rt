@@ -1,6 +1,6 @@
 //! One side that sends.
 ghost use Rattle.std.specs.Prelude.{◌≡◌, None, Some, IfOk, length};
-ghost use Rattle.sdh_terms.specs.Rates.{n_of};
+ghost use Rattle.sdh_ringmap.specs.Rates.{n_of};
 ghost use Rattle.sdh_overhead.specs.Sections.{holding, clear_frame, line_frame, parities_of};
 ghost use Rattle.sdh_kbytes.specs.KBytes.{IsSpellable};
 ghost use Rattle.sdh_ringmap.specs.declared.Side.TheVariants.{West, East};
@@ -22,8 +22,7 @@ use sdh_interchange::{Choice, Payloads, assemble_row};
 use sdh_kbytes::{K, encode, same_word};
 use sdh_overhead::{Section, write_row};
 use sdh_pointer::Gen;
-use sdh_ringmap::Side;
-use sdh_terms::Rate;
+use sdh_ringmap::{Rate, Side};
 use std::alloc::{AllocError, Global};
 use std::marker::Model;
 
@@ -38,7 +37,7 @@ pub struct Sender {
 
 impl Model for Sender {
     ghost use Rattle.std.specs.Prelude.{◌≡◌, ◌*◌, None, length};
-    ghost use Rattle.sdh_terms.specs.Rates.{n_of};
+    ghost use Rattle.sdh_ringmap.specs.Rates.{n_of};
     ghost use Rattle.sdh_terminal.specs.Passing.{states_of};
     ghost use Rattle.sdh_terminal.specs.Sending.{Sending, IsSending};
 

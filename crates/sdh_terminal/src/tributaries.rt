@@ -6,7 +6,7 @@ ghost use Rattle.sdh_terminal.specs.Tributaries.{tributaries_at, is_port, port_o
 ghost use Rattle.sdh_terminal.specs.Tributaries.{all_delivered_with, IsTributary};
 ghost use Rattle.sdh_circuits.specs.Ends.{port_number};
 ghost use Rattle.sdh_terminal.specs.Places.{port_numbered};
-ghost use Rattle.sdh_terms.specs.Rates.{n_of};
+ghost use Rattle.sdh_ringmap.specs.Rates.{n_of};
 ghost use Rattle.sdh_terminal.specs.Lines.{dropped_by};
 
 use crate::matrix::Matrix;

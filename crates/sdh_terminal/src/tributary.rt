@@ -7,7 +7,7 @@ ghost use Rattle.sdh_payload.specs.Stream.{stream_from};
 ghost use Rattle.sdh_payload.specs.Clock.{waiting};
 ghost use Rattle.sdh_terminal.specs.Tributaries.{new_tributary, tributaries_of, tributaries_at, is_port, sent_by, action_of, slipped, fed};
 ghost use Rattle.sdh_terminal.specs.Tributaries.{all_fed, delivered_with, all_delivered_with, IsTributary};
-ghost use Rattle.sdh_terms.specs.Rates.{n_of};
+ghost use Rattle.sdh_ringmap.specs.Rates.{n_of};
 ghost use Rattle.sdh_terminal.specs.Lines.{dropped_by};
 
 use crate::matrix::Matrix;

@@ -14,7 +14,7 @@ use crate::told::arrivals_of;
 use crate::watched::Watched;
 use sdh_outside::MemSink;
 use sdh_plant::{FailingPlant, PlantCall};
-use sdh_terms::Rate;
+use sdh_ringmap::Rate;
 use std::alloc::Global;
 
 // The number that is returned where memory ran out for the objects themselves, so that the program wasn't called.

@@ -1,11 +1,11 @@
 //! Told arrivals, made from bytes.
 ghost use Rattle.std.specs.Prelude.{◌≡◌, ◌+◌, ◌*◌, All, IfOk, length};
-ghost use Rattle.sdh_terms.specs.Rates.{n_of};
+ghost use Rattle.sdh_ringmap.specs.Rates.{n_of};
 ghost use Rattle.sdh_plant.specs.Kept.{IsToldAt};
 
 use sdh_frame::FrameBuf;
 use sdh_plant::Told;
-use sdh_terms::Rate;
+use sdh_ringmap::Rate;
 use std::alloc::{AllocError, Global};
 
 // Returns an arrival from its bytes: a byte that is 0 where nothing comes, and then the bytes of a frame.

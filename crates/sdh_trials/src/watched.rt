@@ -3,7 +3,7 @@ ghost use Rattle.std.specs.Prelude.{◌≡◌, ◌≢◌, ◌≤◌, ◌<◌, tr
 ghost use Rattle.std.proofs.lemmas.Bool.{false≢true};
 ghost use Rattle.sdh_basics.specs.Causes.{Rose, IsCounted, HasCause};
 ghost use Rattle.sdh_plant.specs.Fibres.{HasNoFibres};
-ghost use Rattle.sdh_terms.specs.Fibres.{IsConditionAt};
+ghost use Rattle.sdh_ringmap.specs.Fibres.{IsConditionAt};
 ghost use Rattle.sdh_plant.specs.Arrivals.{Knows, arrival, arrived_in};
 ghost use Rattle.sdh_plant.specs.Calls.{prepared, after_apply, after_send, after_receive};
 ghost use Rattle.sdh_plant.specs.InMemory.{clear_fibres, told_of};
@@ -11,8 +11,7 @@ ghost use Rattle.sdh_plant.specs.Kept.{arrival_of, IsToldAt};
 
 use sdh_frame::{FrameBuf, Landing};
 use sdh_plant::{Arrived, Failed, Plant, PrepareError, Told, ToldPlant};
-use sdh_ringmap::{Pos, Side};
-use sdh_terms::{FibreEvent, Rate};
+use sdh_ringmap::{FibreEvent, Pos, Rate, Side};
 use std::alloc::{AllocError, Global};
 use std::marker::Model;
 

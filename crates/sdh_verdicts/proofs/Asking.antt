@@ -6,9 +6,9 @@ use Rattle.std.proofs.lemmas.List.{get_or-set_same, get_or-set_other, get_or-tak
 use Rattle.sdh_basics.proofs.CellsLaws.{cells-from, get_or-cells}
 use Rattle.sdh_ringmap.specs.Places.{neighbour}
 use Rattle.std.specs.Prelude.{max}
-use Rattle.sdh_terms.specs.declared.Code.{Code}
-use Rattle.sdh_terms.specs.declared.Code.TheVariants.{Nr}
-use Rattle.sdh_terms.specs.Requests.{code_number}
+use Rattle.sdh_ringmap.specs.declared.terms.Code.{Code}
+use Rattle.sdh_ringmap.specs.declared.terms.Code.TheVariants.{Nr}
+use Rattle.sdh_ringmap.specs.Requests.{code_number}
 use Rattle.sdh_ringmap.specs.declared.Side.{Side}
 use Rattle.sdh_ringmap.specs.declared.Side.TheVariants.{West, East}
 use Rattle.sdh_restoration.specs.declared.applied.LocalRequests.{LocalRequests}

@@ -8,7 +8,7 @@ use Rattle.sdh_ringmap.specs.Arcs.{is_clear, is_joined}
 use Rattle.sdh_ringmap.specs.Ids.{AreIds}
 use Rattle.sdh_ringmap.specs.Places.{position_of}
 use Rattle.sdh_ringmap.specs.declared.Side.TheVariants.{West, East}
-use Rattle.sdh_terms.specs.declared.Condition.TheVariants.{Cut}
+use Rattle.sdh_ringmap.specs.declared.terms.Condition.TheVariants.{Cut}
 use Rattle.sdh_circuits.specs.declared.End.TheVariants.{A}
 use Rattle.sdh_circuits.specs.Naming.{is_name}
 use Rattle.sdh_circuits.specs.Provisioned.{Provisioned}

@@ -6,9 +6,9 @@ use Rattle.sdh_request.specs.declared.Command.{Command}
 use Rattle.sdh_request.specs.declared.Defect.{Defect}
 use Rattle.sdh_request.specs.declared.Defect.TheVariants as defect
 use Rattle.sdh_request.specs.Requests.{is_defect_free, waits, highest_code}
-use Rattle.sdh_terms.specs.declared.Condition.{Condition}
-use Rattle.sdh_terms.specs.declared.Condition.TheVariants.{Clear, Cut, Degraded}
-use Rattle.sdh_terms.specs.Fibres.{is_cut, degraded_by}
+use Rattle.sdh_ringmap.specs.declared.terms.Condition.{Condition}
+use Rattle.sdh_ringmap.specs.declared.terms.Condition.TheVariants.{Clear, Cut, Degraded}
+use Rattle.sdh_ringmap.specs.Fibres.{is_cut, degraded_by}
 use Rattle.sdh_restoration.specs.History.{SideHistory, defect_at, ends_at, last_end, local_request}
 use Rattle.sdh_promise.specs.Sides.{Holding}
 use Rattle.sdh_verdicts.specs.Resting.{Resting, fresh, defect_of, at_rest, asks}

@@ -5,7 +5,7 @@ use Rattle.sdh_ringmap.specs.declared.Side.{Side}
 use Rattle.sdh_ringmap.specs.declared.Side.TheVariants.{West, East}
 use Rattle.sdh_ringmap.specs.Places.{neighbour}
 use Rattle.sdh_ringmap.proofs.Sides.{neighbour_below}
-use Rattle.sdh_terms.specs.Requests.{code_number}
+use Rattle.sdh_ringmap.specs.Requests.{code_number}
 use Rattle.sdh_restoration.specs.History.{Asking}
 use Rattle.sdh_restoration.specs.Applied.{span_requests}
 

@@ -1,7 +1,7 @@
 -- A plan of three nodes and a case, for which the laws of `specs/Laws.antt` are worked out. A clock slips and a
 -- controller is held before the plan's settle step, and then a span is cut.
 use Rattle.std.specs.Prelude.{ℕ, ◌≡◌, List, [], ◌∷◌, length, map, replicate, All}
-use Rattle.sdh_terms.specs.declared.Rate.TheVariants.{Four}
+use Rattle.sdh_ringmap.specs.declared.terms.Rate.TheVariants.{Four}
 use Rattle.sdh_ringmap.specs.Places.{position_of}
 use Rattle.sdh_circuits.specs.declared.End.TheVariants.{A}
 use Rattle.sdh_circuits.specs.Provisioned.{Provisioned}

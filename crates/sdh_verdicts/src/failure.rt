@@ -4,8 +4,7 @@ ghost use Rattle.sdh_verdicts.specs.Failures.{IsFailureIn, condition_step, steps
 
 use sdh_plan::Step;
 use sdh_request::Command;
-use sdh_ringmap::{Pos, RingMap, Side};
-use sdh_terms::{Condition, FibreEvent};
+use sdh_ringmap::{Condition, FibreEvent, Pos, RingMap, Side};
 
 /// The largest number of steps that one failure has.
 pub const STEPS_MAX: usize = 4;

@@ -5,7 +5,7 @@ ghost use Rattle.sdh_verdicts.specs.Sides.{resting_of, rests};
 ghost use Rattle.sdh_verdicts.specs.Failures.{IsFailureIn, steps_of, case_steps, side_of};
 ghost use Rattle.sdh_ringmap.specs.Arcs.{is_among, is_clear};
 ghost use Rattle.sdh_circuits.specs.Provisioned.{arc_of};
-ghost use Rattle.sdh_terms.specs.Requests.{code_number};
+ghost use Rattle.sdh_ringmap.specs.Requests.{code_number};
 ghost use Rattle.sdh_restoration.specs.Applied.{is_applied};
 ghost use Rattle.sdh_verdicts.specs.Verdicts.{AreSpans, AreSidesOf, left_by, mends, asks_with, requests_with, is_troubled, verdict_under, hops_under};
 ghost use Rattle.sdh_verdicts.specs.Verdicts.{numbers_of, places_below};
@@ -18,8 +18,7 @@ use sdh_circuits::Circuit;
 use sdh_plan::Plan;
 use sdh_restoration::applied::{LocalRequests, is_applied, span_request};
 use sdh_restoration::routes::{Ends, hops};
-use sdh_ringmap::{Pos, RingMap, Side, Span};
-use sdh_terms::Code;
+use sdh_ringmap::{Code, Pos, RingMap, Side, Span};
 use std::alloc::{AllocError, Global};
 
 /// The sides of a ring, as a plan's script left them.

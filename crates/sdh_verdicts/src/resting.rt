@@ -1,7 +1,7 @@
 //! What a side has come to, step by step of a script.
 ghost use Rattle.std.specs.Prelude.{◌≡◌, ◌<◌, length, option_map};
 ghost use Rattle.sdh_request.specs.Requests as request;
-ghost use Rattle.sdh_terms.specs.Fibres.{fibre, fibre_to, is_cut};
+ghost use Rattle.sdh_ringmap.specs.Fibres.{fibre, fibre_to, is_cut};
 ghost use Rattle.sdh_verdicts.specs.Resting as model;
 ghost use Rattle.sdh_verdicts.specs.Sides.{resting_of};
 ghost use Rattle.sdh_verdicts.specs.Sides as walk;
@@ -9,8 +9,7 @@ ghost use Rattle.sdh_verdicts.specs.Verdicts.{is_forced};
 
 use sdh_plan::Step;
 use sdh_request::{Command, Defect, Moment};
-use sdh_ringmap::{Pos, RingMap, Side};
-use sdh_terms::{Code, Condition};
+use sdh_ringmap::{Code, Condition, Pos, RingMap, Side};
 
 /// What a side has come to: the condition of the fibre that comes in, the command and the moment, the defect that the
 /// side had at the last settle step, and the moment of the settle step at which its last defect was no longer there.

@@ -17,7 +17,7 @@ use Rattle.sdh_restoration.specs.Applied.{is_applied}
 use Rattle.sdh_restoration.specs.Routes.{hops}
 use Rattle.sdh_restoration.specs.Due.{due}
 use Rattle.sdh_circuits.specs.Ends.{other_end}
-use Rattle.sdh_routes.proofs.Ways.{short, few_hops}
+use Rattle.sdh_signal.proofs.Ways.{short, few_hops}
 use Rattle.sdh_world.specs.Held.{outlet_at}
 use Rattle.sdh_world.specs.Rounds.{World, round}
 use Rattle.sdh_world.specs.Runs.{IsRound}

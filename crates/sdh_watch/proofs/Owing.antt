@@ -39,8 +39,8 @@ use Rattle.sdh_laws.specs.Carrying.Laws.{due_by_clocks, IsRestored, SettledRings
 use Rattle.sdh_laws.proofs.carrying.Owed.{port_is_there, offset_small}
 use Rattle.sdh_laws.proofs.carrying.Ways.{layout_run}
 use Rattle.sdh_laws.proofs.converging.Runs.{run_more}
-use Rattle.sdh_routes.specs.Walks.{port_at}
-use Rattle.sdh_routes.proofs.Ways.{end_inside}
+use Rattle.sdh_signal.specs.Walks.{port_at}
+use Rattle.sdh_signal.proofs.Ways.{end_inside}
 use Rattle.sdh_laws.specs.Resting.Rest.{IsAtRest}
 use Rattle.sdh_laws.specs.Resting.Laws.{StepsLeaveAtRest}
 use Rattle.sdh_laws.proofs.resting.Resting.{known_round, rest_goes_on}

@@ -1,7 +1,7 @@
 -- The steps of a line, as its reader takes them out of their field, and as the reader of plans reads those of a script.
 use Rattle.std.specs.Prelude.{ℕ, ◌≡◌, ◌==◌, ◌&&◌, if◌then◌else◌, List, [], ◌∷◌, map, None, All}
 use Rattle.std.specs.List.{slice_split}
-use Rattle.sdh_terms.specs.Rates.{n_of}
+use Rattle.sdh_ringmap.specs.Rates.{n_of}
 use Rattle.sdh_plan.specs.Check.{first_fault}
 use Rattle.sdh_plan.specs.Words.{words}
 use Rattle.sdh_plan.specs.Steps.{step_of, form_faults}

@@ -15,8 +15,7 @@ use crate::forms::{Digits, put_between, put_either};
 use crate::line::Line;
 use sdh_plan::Step;
 use sdh_request::Command;
-use sdh_ringmap::{Pos, RingMap, Side};
-use sdh_terms::Condition;
+use sdh_ringmap::{Condition, Pos, RingMap, Side};
 use sdh_verdicts::{Failure, failure_at, step_of};
 
 // Appends the identifier of a node.

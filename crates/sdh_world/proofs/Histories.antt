@@ -11,10 +11,10 @@ use Rattle.sdh_ringmap.specs.declared.Side.TheVariants.{West, East}
 use Rattle.sdh_ringmap.specs.Places.{opposite, position_of}
 use Rattle.sdh_request.specs.declared.Command.{Command}
 use Rattle.sdh_request.specs.declared.Command.TheVariants as command
-use Rattle.sdh_terms.specs.declared.Condition.{Condition}
-use Rattle.sdh_terms.specs.declared.Condition.TheVariants.{Clear}
+use Rattle.sdh_ringmap.specs.declared.terms.Condition.{Condition}
+use Rattle.sdh_ringmap.specs.declared.terms.Condition.TheVariants.{Clear}
 use Rattle.sdh_plant.specs.Fibres.{Arrival}
-use Rattle.sdh_terms.specs.Fibres.{fibre, fibre_to}
+use Rattle.sdh_ringmap.specs.Fibres.{fibre, fibre_to}
 use Rattle.sdh_node.specs.Receiving.{after_intake, after_overhead, commanded_by}
 use Rattle.sdh_node.specs.Crossing.{after_decision}
 use Rattle.sdh_payload.specs.declared.clock.Turn.{Turn}

@@ -1,12 +1,12 @@
 -- Laws of what happens between rounds, and of clocks.
 use Rattle.std.specs.Prelude.{◌≡◌, ℕ, ◌+◌, ◌<◌, ◌≤◌, List, [], ◌∷◌, length}
-use Rattle.sdh_terms.specs.declared.Rate.{Rate}
+use Rattle.sdh_ringmap.specs.declared.terms.Rate.{Rate}
 use Rattle.sdh_plant.specs.Fibres.{Arrival, Fibres, IsPrepared, IsHonest}
-use Rattle.sdh_terms.specs.Fibres.{IsConditionAt}
+use Rattle.sdh_ringmap.specs.Fibres.{IsConditionAt}
 use Rattle.sdh_ringmap.specs.declared.Side.{Side}
 use Rattle.sdh_request.specs.declared.Command.{Command}
 use Rattle.sdh_circuits.specs.Provisioning.{Provisioning}
-use Rattle.sdh_terms.specs.declared.Condition.{Condition}
+use Rattle.sdh_ringmap.specs.declared.terms.Condition.{Condition}
 use Rattle.sdh_plant.specs.Calls.{prepared, after_apply}
 use Rattle.sdh_request.specs.declared.settings.Settings.{Settings}
 use Rattle.sdh_node.specs.Receiving.{commanded_by}

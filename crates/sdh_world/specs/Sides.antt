@@ -3,8 +3,8 @@ use Rattle.std.specs.Prelude.{ℕ, ◌≡◌, ◌*◌, ◌-◌, nat_lt, if◌the
 use Rattle.sdh_ringmap.specs.declared.Side.{Side}
 use Rattle.sdh_request.specs.declared.Command.{Command}
 use Rattle.sdh_request.specs.declared.Command.TheVariants as command
-use Rattle.sdh_terms.specs.declared.Condition.{Condition}
-use Rattle.sdh_terms.specs.Fibres.{fibre_to}
+use Rattle.sdh_ringmap.specs.declared.terms.Condition.{Condition}
+use Rattle.sdh_ringmap.specs.Fibres.{fibre_to}
 use Rattle.sdh_plant.specs.Arrivals.{condition_of}
 use Rattle.sdh_node.specs.Node.{Node, receiving_on}
 use Rattle.sdh_world.specs.Rounds.{World}

@@ -4,7 +4,7 @@ use crate::called::{CHECK, RUN, SOUND, ends_over};
 use crate::plans::{CUT_OFF, CUT_OFF_TABLES, NO_CIRCUITS, SMALLEST_TABLES};
 use sdh_cli::Status;
 use sdh_plant::{RecordingPlant, ToldPlant};
-use sdh_terms::Rate;
+use sdh_ringmap::Rate;
 use std::test::Fail;
 use test_texts::SMALLEST;
 

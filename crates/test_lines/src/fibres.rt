@@ -1,6 +1,6 @@
 //! What comes out of each plant, and out of degraded fibres, at both rates.
 ghost use Rattle.std.specs.Prelude.{◌≡◌, ◌+◌, ◌*◌, ◌<◌, ◌≤◌, All, IfOk};
-ghost use Rattle.sdh_terms.specs.Rates.{n_of};
+ghost use Rattle.sdh_ringmap.specs.Rates.{n_of};
 ghost use Rattle.sdh_plant.specs.Fibres.{HasNoFibres};
 ghost use Rattle.sdh_plant.specs.Kept.{IsToldAt};
 
@@ -9,8 +9,7 @@ use sdh_plant::{
     Arrived, Condition, FailingPlant, FibreEvent, FibrePlant, Plant, PlantCall, RecordingPlant,
     Told, ToldPlant,
 };
-use sdh_ringmap::{Pos, Side};
-use sdh_terms::Rate;
+use sdh_ringmap::{Pos, Rate, Side};
 use std::alloc::{AllocError, Global};
 use std::test::Fail;
 

@@ -2,7 +2,7 @@
 ghost use Rattle.std.specs.Prelude.{◌≡◌, ◌*◌, ◌<◌, ◌≤◌};
 
 use sdh_frame::{Field, FrameBuf, Place, au_place, place_of, pointer_place};
-use sdh_terms::Rate;
+use sdh_ringmap::Rate;
 use std::test::Fail;
 
 // Returns what a frame has in a row and a column, both counted from 1, and nothing outside of it.

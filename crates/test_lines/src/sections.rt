@@ -3,7 +3,7 @@ ghost use Rattle.std.specs.Prelude.{◌≡◌, ◌≤◌, IfOk, None, length};
 
 use sdh_frame::{FrameBuf, Place};
 use sdh_overhead::{Received, Section, read_row, read_section, write_row, write_section};
-use sdh_terms::Rate;
+use sdh_ringmap::Rate;
 use std::alloc::{AllocError, Global};
 use std::test::Fail;
 

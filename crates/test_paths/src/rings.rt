@@ -6,9 +6,8 @@ use sdh_circuits::{Asked, CircuitMap, End, PortId};
 use sdh_payload::Delivered;
 use sdh_plant::{Condition, FibreEvent, FibrePlant, Plant};
 use sdh_request::Settings;
-use sdh_ringmap::{Pos, RingMap, Side};
+use sdh_ringmap::{Pos, Rate, RingMap, Side};
 use sdh_sncp::{PathError, PathRing};
-use sdh_terms::Rate;
 use std::alloc::Global;
 use std::test::Fail;
 

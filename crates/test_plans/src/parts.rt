@@ -2,8 +2,7 @@
 
 use sdh_circuits::{Circuit, Slot};
 use sdh_plan::{Plan, Step};
-use sdh_ringmap::{Pos, Side};
-use sdh_terms::{Condition, FibreEvent, Rate};
+use sdh_ringmap::{Condition, FibreEvent, Pos, Rate, Side};
 
 /// Returns the step in which a fibre of a position gets a condition.
 pub(crate) fn fibre(at: u8, side: Side, condition: Condition) -> Step {

@@ -6,8 +6,7 @@ use sdh_circuits::{End, PortId};
 use sdh_payload::{Port, Turn};
 use sdh_plan::{Plan, Step, read_plan};
 use sdh_request::{Command, Moment};
-use sdh_ringmap::{Pos, Side};
-use sdh_terms::{Condition, Rate};
+use sdh_ringmap::{Condition, Pos, Rate, Side};
 use std::test::Fail;
 
 // A plan with each key and each step.

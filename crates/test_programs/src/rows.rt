@@ -6,7 +6,7 @@ use crate::plans::{
     WATCHED,
 };
 use sdh_plant::ToldPlant;
-use sdh_terms::Rate;
+use sdh_ringmap::Rate;
 use std::test::Fail;
 use test_texts::{SMALLEST, scripted};
 

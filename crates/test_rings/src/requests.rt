@@ -6,8 +6,7 @@ use crate::rings::{apply, laid, run};
 use sdh_plant::{FibrePlant, Plant};
 use sdh_request::Moment;
 use sdh_ring::Ring;
-use sdh_ringmap::{Pos, Side};
-use sdh_terms::{Code, Condition, FibreEvent, Rate};
+use sdh_ringmap::{Code, Condition, FibreEvent, Pos, Rate, Side};
 use std::alloc::{AllocError, Global};
 
 // Returns what the third node asks for on its west side.

@@ -10,8 +10,7 @@ use sdh_node::{Delivered, Settings};
 use sdh_plant::{Condition, FibrePlant, Plant};
 use sdh_request::{Command, Moment};
 use sdh_ring::Ring;
-use sdh_ringmap::Side;
-use sdh_terms::Rate;
+use sdh_ringmap::{Rate, Side};
 use std::alloc::{AllocError, Global};
 
 const IDLE: &[Line] = &[

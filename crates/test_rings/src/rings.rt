@@ -1,6 +1,6 @@
 //! A ring of four nodes with a circuit from node 1 to node 3, as the tests run it, and what is read of it.
 ghost use Rattle.std.specs.Prelude.{◌≡◌, ◌≤◌, ◌<◌, ◌+◌, ◌/◌, ◌^◌, IfOk, OnOk, false, length};
-ghost use Rattle.sdh_terms.specs.Rates.{n_of};
+ghost use Rattle.sdh_ringmap.specs.Rates.{n_of};
 ghost use Rattle.sdh_plant.specs.Fibres.{HasNoFibres, IsPrepared};
 ghost use Rattle.sdh_circuits.specs.Kept.{KeepsRing};
 
@@ -10,8 +10,7 @@ use sdh_node::Settings;
 use sdh_nodestate::NodeState;
 use sdh_plant::Plant;
 use sdh_ring::{PlantFault, Ring};
-use sdh_ringmap::{Pos, RingMap, Side};
-use sdh_terms::{Condition, FibreEvent, Rate};
+use sdh_ringmap::{Condition, FibreEvent, Pos, Rate, RingMap, Side};
 use std::alloc::{AllocError, Global};
 
 /// A circuit over two spans, with these texts.

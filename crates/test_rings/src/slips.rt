@@ -9,7 +9,7 @@ use sdh_circuits::{Asked, End, PortId};
 use sdh_node::{Delivered, Turn};
 use sdh_plant::{FibrePlant, Plant};
 use sdh_ring::Ring;
-use sdh_terms::Rate;
+use sdh_ringmap::Rate;
 use std::alloc::{AllocError, Global};
 
 /// What a port sends in a round: a number of bytes of its stream from a place on, and the pointer value with them.

@@ -8,8 +8,7 @@ use sdh_node::{Delivered, Settings, Turn};
 use sdh_plant::{FibrePlant, Plant};
 use sdh_request::Command;
 use sdh_ring::Ring;
-use sdh_ringmap::{Pos, Side};
-use sdh_terms::{Condition, Rate};
+use sdh_ringmap::{Condition, Pos, Rate, Side};
 use std::alloc::{AllocError, Global};
 use std::test::Fail;
 

@@ -15,8 +15,7 @@ use sdh_circuits::{Asked, PortId};
 use sdh_node::Delivered;
 use sdh_plant::{FibrePlant, Plant};
 use sdh_ring::Ring;
-use sdh_ringmap::Side;
-use sdh_terms::{Condition, Rate};
+use sdh_ringmap::{Condition, Rate, Side};
 use std::alloc::{AllocError, Global};
 
 /// What befalls a ring of four: the fibre from the second to the third node is degraded at the threshold, or both spans of the second

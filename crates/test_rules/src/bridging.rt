@@ -7,9 +7,8 @@ ghost use Rattle.std.specs.Option.{is_none};
 use sdh_circuits::{Asked, CircuitMap, End, PortId, Slot};
 use sdh_kbytes::{K, decode};
 use sdh_nodestate::{Heard, Needs, NodeState, start, step};
-use sdh_ringmap::{Pos, RingMap, Side};
+use sdh_ringmap::{Code, Pos, RingMap, Side};
 use sdh_squelch::{Origin, Table, drop_origin, protection_origin, working_origin};
-use sdh_terms::Code;
 use std::alloc::Global;
 
 type Bytes = Option<(u8, u8)>;

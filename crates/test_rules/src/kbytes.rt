@@ -2,7 +2,7 @@
 ghost use Rattle.std.specs.Prelude.{◌≤◌};
 
 use sdh_kbytes::{K, Mark, Path, decode, encode};
-use sdh_terms::Code;
+use sdh_ringmap::Code;
 
 // Returns whether a word and two bytes belong together, both ways.
 fn are_one(k: K, k1: u8, k2: u8) -> bool

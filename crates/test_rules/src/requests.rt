@@ -1,7 +1,7 @@
 //! Local requests.
 
 use sdh_request::{Command, Defect, Local, Moment};
-use sdh_terms::Code;
+use sdh_ringmap::Code;
 
 #[test]
 fn waits_by_moments_alone(rt: HostRuntime) {

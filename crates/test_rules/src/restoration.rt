@@ -3,8 +3,7 @@
 use sdh_request::{Command, Moment};
 use sdh_restoration::applied::{LocalRequests, is_applied, span_request};
 use sdh_restoration::history::{SideRound, local_request};
-use sdh_ringmap::Span;
-use sdh_terms::Code;
+use sdh_ringmap::{Code, Span};
 
 const STILL: SideRound = SideRound {
     is_cut: false,

@@ -6,9 +6,8 @@ ghost use Rattle.sdh_nodestate.specs.Conditions.{MayNeed};
 use sdh_kbytes::decode;
 use sdh_nodestate::Shape::{Idle, Isolated, PassThrough, SwitchEast, SwitchWest};
 use sdh_nodestate::{Needs, Shape, same_shape, shape_of};
-use sdh_ringmap::{Pos, RingMap};
+use sdh_ringmap::{Code, Pos, RingMap};
 use sdh_signal::SignalRing;
-use sdh_terms::Code;
 use std::alloc::Global;
 
 type Line = (Shape, (u8, u8), (u8, u8));

@@ -6,8 +6,7 @@ use sdh_kbytes::{K, decode};
 use sdh_nodestate::{
     Filter, Heard, Needs, NodeState, Sent, Shape, same_shape, shape_of, start, step,
 };
-use sdh_ringmap::{Pos, RingMap};
-use sdh_terms::Code;
+use sdh_ringmap::{Code, Pos, RingMap};
 
 type Bytes = Option<(u8, u8)>;
 

@@ -1,8 +1,8 @@
 -- A side that fails asks for a switch, so its span is applied.
 use Rattle.std.proofs.Common.{◌≡◌, ℕ, ◌<◌, ◌≤◌, Bool, true, length, map, get_or, sym, ◌∙◌, subst, arith}
 use Rattle.std.proofs.lemmas.List.{length-map}
-use Rattle.sdh_terms.specs.declared.Code.{Code}
-use Rattle.sdh_terms.specs.Requests.{code_number}
+use Rattle.sdh_ringmap.specs.declared.terms.Code.{Code}
+use Rattle.sdh_ringmap.specs.Requests.{code_number}
 use Rattle.sdh_ringmap.specs.Places.{span_at}
 use Rattle.sdh_ringmap.specs.declared.Side.{Side}
 use Rattle.sdh_request.specs.declared.Defect.{Defect}

@@ -1,7 +1,7 @@
 -- In calm rounds a port sends 2349 bytes, wherever it fills an AU-4: a justification would move its generator.
 use Rattle.std.proofs.Common.{◌≡◌, ℕ, ◌+◌, ◌-◌, ◌<◌, ◌≤◌, true, length, get_or, Option, Some, None, refl, ap, sym, ◌∙◌, subst, arith}
 use Rattle.std.specs.Option.{option_map_or}
-use Rattle.sdh_terms.specs.Rates.{n_of}
+use Rattle.sdh_ringmap.specs.Rates.{n_of}
 use Rattle.sdh_ringmap.specs.declared.Side.{Side}
 use Rattle.sdh_circuits.specs.declared.PortId.{PortId}
 use Rattle.sdh_payload.specs.declared.chunk.ChunkForm.{ChunkForm}

@@ -2,7 +2,7 @@
 use Rattle.std.proofs.Common.{◌≡◌, ℕ, ◌+◌, ◌-◌, ◌<◌, ◌≤◌, true, false, leb, List, length, map, refl, ap, sym, ◌∙◌, arith}
 use Rattle.std.specs.Prelude.{◌/◌}
 use Rattle.std.proofs.lemmas.Bool.{le-leb, lt-leb}
-use Rattle.sdh_terms.specs.Rates.{n_of}
+use Rattle.sdh_ringmap.specs.Rates.{n_of}
 use Rattle.sdh_ringmap.specs.declared.Side.{Side}
 use Rattle.sdh_ringmap.specs.declared.Side.TheVariants.{West}
 use Rattle.sdh_circuits.specs.Provisioned.{Provisioned}
@@ -10,7 +10,7 @@ use Rattle.sdh_squelch.specs.Table.{circuits_at}
 use Rattle.sdh_nodestate.specs.declared.NodeState.{NodeState}
 use Rattle.sdh_squelch.specs.declared.connecting.Origin.TheVariants.{Protection}
 use Rattle.sdh_squelch.specs.Connections.{stands_for, leaves_working, leaves_protection}
-use Rattle.sdh_routes.specs.Walks.{stands_in, working_in, protection_in}
+use Rattle.sdh_signal.specs.Walks.{stands_in, working_in, protection_in}
 use Rattle.sdh_request.specs.declared.settings.Settings.{Settings}
 use Rattle.sdh_node.specs.Receiving.{after_intake, after_overhead}
 use Rattle.sdh_terminal.specs.Lines.{received}

@@ -27,9 +27,9 @@ use Rattle.sdh_signal.specs.Settled.{settled}
 use Rattle.sdh_restoration.specs.Routes.{hops}
 use Rattle.sdh_circuits.specs.Ends.{other_end, port_id}
 use Rattle.sdh_restoration.specs.Due.{due}
-use Rattle.sdh_routes.specs.Walks.{port, port_at, carries_in, stands_in, delivery}
+use Rattle.sdh_signal.specs.Walks.{port, port_at, carries_in, stands_in, delivery}
 use Rattle.sdh_circuits.specs.Ends.{inward}
-use Rattle.sdh_routes.proofs.Ways.{IsKeptOver, end_inside, joined_arrives, parted_arrives}
+use Rattle.sdh_signal.proofs.Ways.{IsKeptOver, end_inside, joined_arrives, parted_arrives}
 use Rattle.sdh_terminal.specs.Passing.{Input, no_input}
 use Rattle.sdh_payload.specs.Outlet.{Outlet, silent}
 use Rattle.sdh_terminal.specs.Outlets.{delivered_from}

@@ -26,11 +26,11 @@ use Rattle.sdh_circuits.specs.declared.PortId.{PortId}
 use Rattle.sdh_restoration.specs.Routes.{hops}
 use Rattle.sdh_restoration.specs.Due.{due}
 use Rattle.sdh_circuits.specs.Ends.{other_end, port_id}
-use Rattle.sdh_terms.specs.Rates.{n_of}
+use Rattle.sdh_ringmap.specs.Rates.{n_of}
 use Rattle.sdh_plant.specs.Fibres.{Fibres}
 use Rattle.sdh_request.specs.declared.settings.Settings.{Settings}
-use Rattle.sdh_routes.specs.Walks.{port_at}
-use Rattle.sdh_routes.proofs.Ways.{short, few_hops, end_inside}
+use Rattle.sdh_signal.specs.Walks.{port_at}
+use Rattle.sdh_signal.proofs.Ways.{short, few_hops, end_inside}
 use Rattle.sdh_world.specs.Sides.{world_in}
 use Rattle.sdh_world.specs.Laws.{MayHappen}
 use Rattle.sdh_world.specs.Clocks.{clock_in, clocks_by, HasPortIn, clock_at, clocks_from}

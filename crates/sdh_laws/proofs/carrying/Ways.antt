@@ -2,7 +2,7 @@
 use Rattle.std.proofs.Common.{◌≡◌, ℕ, zero, suc, ◌+◌, ◌-◌, ◌<◌, ◌≤◌, false, List, length, refl, ap, sym, ◌∙◌, subst, arith, inl, inr}
 use Rattle.std.specs.Prelude.{true}
 use Rattle.std.proofs.lemmas.Bool.{cases_Bool}
-use Rattle.sdh_terms.specs.Rates.{n_of}
+use Rattle.sdh_ringmap.specs.Rates.{n_of}
 use Rattle.sdh_ringmap.specs.Places.{opposite, neighbour, span_at}
 use Rattle.sdh_ringmap.specs.declared.Side.{Side}
 use Rattle.sdh_squelch.specs.declared.connecting.Origin.{Origin}
@@ -10,8 +10,8 @@ use Rattle.sdh_squelch.specs.declared.connecting.Origin.TheVariants.{Add, Workin
 use Rattle.sdh_restoration.specs.Applied.{is_applied}
 use Rattle.sdh_signal.specs.Settled.{settled}
 use Rattle.sdh_payload.specs.Outlet.{Outlet}
-use Rattle.sdh_routes.specs.Walks.{IsArrival, back_from}
-use Rattle.sdh_routes.specs.Law.{IsFree}
+use Rattle.sdh_signal.specs.Walks.{IsArrival, back_from}
+use Rattle.sdh_signal.specs.Law.{IsFree}
 use Rattle.sdh_terminal.specs.Lines.{received}
 use Rattle.sdh_node.specs.Crossing.{is_failed}
 use Rattle.sdh_node.specs.Node.{receiving_on}
@@ -23,7 +23,7 @@ use Rattle.sdh_laws.specs.Hearing.Laws.{IsWhole}
 use Rattle.sdh_laws.proofs.hearing.Nodes.{count}
 use Rattle.sdh_laws.proofs.hearing.Rounds.{neighbour_inside, whole_round}
 use Rattle.sdh_laws.proofs.hearing.Changes.{whole_run}
-use Rattle.sdh_routes.proofs.Ways.{IsKeptOver}
+use Rattle.sdh_signal.proofs.Ways.{IsKeptOver}
 use Rattle.sdh_spans.specs.Brought.{Brings, HasValue}
 use Rattle.sdh_laws.specs.Carrying.Windows.{Layout, layout_of, size_of, slots_of, value_at, sent_at, AreSettled, FailOnApplied, IsQuiet}
 use Rattle.sdh_laws.proofs.carrying.Connections.{BringsProtection, SendsWorking, SendsProtection, sends_working, sends_protection}

@@ -13,7 +13,7 @@ use Rattle.sdh_nodestate.specs.declared.Sent.{Sent}
 use Rattle.sdh_signal.specs.Settled.{settled_states}
 use Rattle.sdh_signal.specs.Signals.{requests_in, request_on, no_needs}
 use Rattle.sdh_signal.specs.Laws.{RingsSettle}
-use Rattle.sdh_terms.specs.declared.Condition.{Condition}
+use Rattle.sdh_ringmap.specs.declared.terms.Condition.{Condition}
 use Rattle.sdh_nodestate.specs.Filtering.{Brought, with_brought, hears, heard_of}
 use Rattle.sdh_node.specs.Node.{Node, receiving_on, sending_on, word_of, sent_of}
 use Rattle.sdh_world.specs.Rounds.{World, round}
@@ -39,7 +39,7 @@ use Rattle.sdh_laws.proofs.converging.Runs.{length_run, condition_run, run_more}
 use Rattle.sdh_laws.proofs.converging.Spreading.{pointers_rest}
 use Rattle.sdh_laws.proofs.converging.Windows.{calm_ends_windows, answers_by}
 use Rattle.sdh_laws.proofs.converging.Calming.{AreSame, calm_round}
-use Rattle.sdh_terms.specs.Fibres.{is_cut}
+use Rattle.sdh_ringmap.specs.Fibres.{is_cut}
 use Rattle.sdh_world.specs.Held.{nowhere, node_at}
 use Rattle.sdh_world.specs.Sides.{condition_to}
 use Rattle.sdh_node.specs.Stations.{adm}

@@ -4,7 +4,7 @@ use Rattle.std.proofs.Common.{sym, ◌∙◌, subst, arith, inl, inr}
 use Rattle.std.specs.Prelude.{◌/◌}
 use Rattle.std.proofs.lemmas.Bool.{cases_lt}
 use Rattle.std.proofs.lemmas.List.{get_or-replicate, length-replicate, get_or_past, ext_get_or}
-use Rattle.sdh_terms.specs.Rates.{n_of}
+use Rattle.sdh_ringmap.specs.Rates.{n_of}
 use Rattle.sdh_ringmap.specs.declared.Side.{Side}
 use Rattle.sdh_ringmap.specs.declared.Side.TheVariants.{West, East}
 use Rattle.sdh_ringmap.specs.Places.{neighbour, opposite, position_of}
@@ -12,11 +12,11 @@ use Rattle.sdh_circuits.specs.Provisioned.{Provisioned}
 use Rattle.sdh_circuits.specs.Provisioning.{Provisioning}
 use Rattle.sdh_squelch.specs.declared.connecting.Origin.{Origin}
 use Rattle.sdh_squelch.specs.declared.connecting.Origin.TheVariants.{Add, Working, Protection, Ais}
-use Rattle.sdh_routes.specs.Law.{Ends, all_idle}
-use Rattle.sdh_routes.specs.Walks.{Stand, stand, IsOver, IsArrival, Leads, back_from, working_in, protection_in}
-use Rattle.sdh_routes.proofs.Idle.{idle_walks_are_short}
-use Rattle.sdh_routes.proofs.Passing.{idle-leaves}
-use Rattle.sdh_routes.proofs.Views.{Idle}
+use Rattle.sdh_signal.specs.Law.{Ends, all_idle}
+use Rattle.sdh_signal.specs.Walks.{Stand, stand, IsOver, IsArrival, Leads, back_from, working_in, protection_in}
+use Rattle.sdh_signal.proofs.Idle.{idle_walks_are_short}
+use Rattle.sdh_signal.proofs.Passing.{idle-leaves}
+use Rattle.sdh_signal.proofs.Views.{Idle}
 use Rattle.sdh_pointer.specs.declared.reading.Reading.{Reading}
 use Rattle.sdh_pointer.specs.declared.reading.Action.TheVariants as action
 use Rattle.sdh_pointer.specs.Reading as interpreter
@@ -26,7 +26,7 @@ use Rattle.sdh_pointer.specs.Spreading.{IsSmall, IsValueOver, action_over, word_
 use Rattle.sdh_pointer.proofs.Spreading.{values_spread, source_sends, action_start, sending_start, reading_start, reading_value}
 use Rattle.sdh_pointer.proofs.Spreading.{sending_stays, reading_stays}
 use Rattle.sdh_plant.specs.Fibres.{Fibres}
-use Rattle.sdh_terms.specs.Fibres.{is_cut}
+use Rattle.sdh_ringmap.specs.Fibres.{is_cut}
 use Rattle.sdh_request.specs.declared.settings.Settings.{Settings}
 use Rattle.sdh_terminal.specs.Passing.{Input}
 use Rattle.sdh_node.specs.Node.{Node, receiving_on, sending_on, new_node}

@@ -1,12 +1,12 @@
 -- What ports of a healthy ring have delivered after each settle step.
 use Rattle.std.proofs.Common.{◌≡◌, ℕ, ◌+◌, ◌-◌, ◌*◌, false, List, [], length, Some, ap, ◌∙◌, arith}
 use Rattle.std.specs.Prelude.{slice_get, ◌/◌}
-use Rattle.sdh_terms.specs.Rates.{n_of}
+use Rattle.sdh_ringmap.specs.Rates.{n_of}
 use Rattle.sdh_circuits.specs.declared.PortId.{PortId}
 use Rattle.sdh_circuits.specs.Provisioning.{Provisioning}
 use Rattle.sdh_payload.specs.Clock.{ticks}
 use Rattle.sdh_plant.specs.Fibres.{Fibres}
-use Rattle.sdh_routes.proofs.Ways.{end_inside}
+use Rattle.sdh_signal.proofs.Ways.{end_inside}
 use Rattle.sdh_request.specs.declared.settings.Settings.{Settings}
 use Rattle.sdh_world.specs.Clocks.{first_clock, clocks_by, HasPortIn, clocks_from}
 use Rattle.sdh_world.proofs.Clocks.{clocks_go_on}

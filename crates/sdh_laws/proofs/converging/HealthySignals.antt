@@ -8,7 +8,7 @@ use Rattle.sdh_basics.proofs.CellsLaws.{length-cells, get_or-cells}
 use Rattle.sdh_ringmap.specs.declared.Side.{Side}
 use Rattle.sdh_ringmap.specs.declared.Side.TheVariants.{West, East}
 use Rattle.sdh_ringmap.specs.Places.{neighbour, opposite, position_of}
-use Rattle.sdh_terms.specs.declared.Code.TheVariants.{Nr}
+use Rattle.sdh_ringmap.specs.declared.terms.Code.TheVariants.{Nr}
 use Rattle.sdh_kbytes.specs.declared.K.{K}
 use Rattle.sdh_kbytes.specs.declared.Path.TheVariants.{Short}
 use Rattle.sdh_kbytes.specs.declared.Mark.TheVariants as mark
@@ -18,9 +18,9 @@ use Rattle.sdh_circuits.specs.Provisioning.{Provisioning}
 use Rattle.sdh_nodestate.specs.declared.NodeState.TheVariants as state
 use Rattle.sdh_nodestate.specs.Rules.{word_on, word, state_after, own_id, id_on}
 use Rattle.sdh_signal.specs.Signals.{no_needs}
-use Rattle.sdh_terms.specs.declared.Condition.TheVariants.{Clear}
+use Rattle.sdh_ringmap.specs.declared.terms.Condition.TheVariants.{Clear}
 use Rattle.sdh_plant.specs.Fibres.{Fibres}
-use Rattle.sdh_terms.specs.Fibres.{fibre_to, is_cut, degraded_by}
+use Rattle.sdh_ringmap.specs.Fibres.{fibre_to, is_cut, degraded_by}
 use Rattle.sdh_request.specs.declared.settings.Settings.{Settings}
 use Rattle.sdh_nodestate.specs.Words.{first_word}
 use Rattle.sdh_nodestate.specs.Filtering.{Brought, with_brought, hears, heard_of}

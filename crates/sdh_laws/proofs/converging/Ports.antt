@@ -19,7 +19,7 @@ use Rattle.sdh_pointer.specs.declared.reading.Action.{Action}
 use Rattle.sdh_pointer.specs.declared.reading.Action.TheVariants as action
 use Rattle.sdh_pointer.specs.Spreading.{IsSmall}
 use Rattle.sdh_pointer.specs.Laws.{IsSound}
-use Rattle.sdh_routes.specs.Walks.{IsOver}
+use Rattle.sdh_signal.specs.Walks.{IsOver}
 use Rattle.sdh_terminal.specs.Passing.{Input, no_input}
 use Rattle.sdh_terminal.specs.Tributaries.{Tributary, action_of, port_of, sent_by, sent_in, input_by, added_by, tributaries_of}
 use Rattle.sdh_terminal.specs.Tributaries.{tributaries_from, new_tributary, tributaries_at}

@@ -8,13 +8,13 @@ use Rattle.sdh_circuits.specs.Naming.{is_name}
 use Rattle.sdh_circuits.specs.Provisioned.{Provisioned}
 use Rattle.sdh_circuits.specs.Provisioning.{IsInRing, IsInSlots, HasOffsets, AreCircuits}
 use Rattle.sdh_signal.specs.Laws.{RingsSettle}
-use Rattle.sdh_terms.specs.declared.Condition.TheVariants.{Cut, Degraded}
+use Rattle.sdh_ringmap.specs.declared.terms.Condition.TheVariants.{Cut, Degraded}
 use Rattle.sdh_circuits.specs.declared.End.TheVariants.{A}
 use Rattle.sdh_circuits.specs.Ends.{port_id}
 use Rattle.sdh_payload.specs.declared.clock.Turn.TheVariants.{Up}
 use Rattle.sdh_payload.specs.Clock.{Clock, waiting}
 use Rattle.sdh_plant.specs.Fibres.{Fibres, IsHonest}
-use Rattle.sdh_terms.specs.Fibres.{IsConditionAt}
+use Rattle.sdh_ringmap.specs.Fibres.{IsConditionAt}
 use Rattle.sdh_request.specs.declared.settings.Settings.{Settings}
 use Rattle.sdh_world.specs.Clocks.{first_clock, waiting_at}
 use Rattle.sdh_promise.specs.Changes.{Fibre, Slip, Stretch}

@@ -1,6 +1,6 @@
 -- What rounds keep of a world, and rounds after rounds.
 use Rattle.std.proofs.Common.{◌≡◌, ℕ, zero, suc, ◌+◌, length, refl, ap, ◌∙◌, arith}
-use Rattle.sdh_terms.specs.Rates.{n_of}
+use Rattle.sdh_ringmap.specs.Rates.{n_of}
 use Rattle.sdh_ringmap.specs.declared.Side.{Side}
 use Rattle.sdh_world.specs.Rounds.{World, round, arrivals_of}
 use Rattle.sdh_world.specs.Runs.{run}

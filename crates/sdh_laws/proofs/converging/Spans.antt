@@ -1,6 +1,6 @@
 -- One span in many rounds.
 use Rattle.std.proofs.Common.{◌≡◌, ℕ, suc, ◌+◌, ◌-◌, ◌<◌, ◌≤◌, length, get_or, Option, None, sym, subst, arith}
-use Rattle.sdh_terms.specs.Rates.{n_of}
+use Rattle.sdh_ringmap.specs.Rates.{n_of}
 use Rattle.sdh_ringmap.specs.declared.Side.{Side}
 use Rattle.sdh_ringmap.specs.Places.{neighbour, opposite}
 use Rattle.sdh_pointer.specs.declared.reading.Reading.{Reading}
@@ -22,7 +22,7 @@ use Rattle.sdh_laws.proofs.carrying.Spans.{generator_step, interpreter_step}
 use Rattle.sdh_laws.specs.Converging.Steady.{went, came}
 use Rattle.sdh_laws.specs.Converging.Laws.{ASpanIsSteady}
 use Rattle.sdh_laws.proofs.converging.Runs.{length_run, rate_run, condition_run}
-use Rattle.sdh_terms.specs.Fibres.{is_cut}
+use Rattle.sdh_ringmap.specs.Fibres.{is_cut}
 use Rattle.sdh_world.specs.Held.{node_at}
 use Rattle.sdh_world.specs.Sides.{condition_to}
 use Rattle.sdh_rounds.specs.Runs as any_run

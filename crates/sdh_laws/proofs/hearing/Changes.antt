@@ -17,7 +17,7 @@ use Rattle.sdh_circuits.specs.Provisioning.{Provisioning}
 use Rattle.sdh_kbytes.specs.declared.K.{K}
 use Rattle.sdh_kbytes.specs.declared.Mark.TheVariants as mark
 use Rattle.sdh_plant.specs.Fibres.{Arrival, Fibres}
-use Rattle.sdh_terms.specs.Fibres.{fibre}
+use Rattle.sdh_ringmap.specs.Fibres.{fibre}
 use Rattle.sdh_plant.specs.Arrivals.{carried_on}
 use Rattle.sdh_plant.specs.Calls.{prepared}
 use Rattle.sdh_plant.proofs.Calling.{stay_prepared}
@@ -26,7 +26,7 @@ use Rattle.sdh_world.specs.Laws.{IsChangeOf, AreChangesOf}
 use Rattle.sdh_world.proofs.Honest.{changes_keep_honest, changes_keep_prepared}
 use Rattle.sdh_request.specs.declared.settings.Settings.{Settings}
 use Rattle.sdh_node.specs.Receiving.{Receiving, commanded_by, inlet_of}
-use Rattle.sdh_terms.specs.declared.Rate.{Rate}
+use Rattle.sdh_ringmap.specs.declared.terms.Rate.{Rate}
 use Rattle.sdh_spans.specs.Frames.{CarriesWord, AreCarried}
 use Rattle.sdh_spans.specs.Sides.{IsInletAt, IsSenderAt}
 use Rattle.sdh_node.specs.Node.{Node, new_node, at_receiving, held_for, slips_at, receiving_on, sending_on, word_of}

@@ -3,16 +3,16 @@ use Rattle.std.proofs.Common.{◌≡◌, ℕ, suc, ◌+◌, ◌-◌, ◌<◌, �
 use Rattle.std.specs.Prelude.{◌&&◌, not, nat_le, if◌then◌else◌}
 use Rattle.std.proofs.lemmas.Bool.{cases_lt, cases_Bool, le-leb}
 use Rattle.std.proofs.lemmas.List.{get_or-map}
-use Rattle.sdh_terms.specs.declared.Rate.{Rate}
+use Rattle.sdh_ringmap.specs.declared.terms.Rate.{Rate}
 use Rattle.sdh_ringmap.specs.declared.Side.{Side}
 use Rattle.sdh_ringmap.specs.Places.{neighbour, opposite}
 use Rattle.sdh_request.specs.declared.Command.TheVariants as command
 use Rattle.sdh_request.specs.declared.Defect.TheVariants as defect
 use Rattle.sdh_restoration.specs.History.{SideHistory, defect_at, local_request}
-use Rattle.sdh_terms.specs.declared.Condition.{Condition}
-use Rattle.sdh_terms.specs.declared.Condition.TheVariants.{Clear}
+use Rattle.sdh_ringmap.specs.declared.terms.Condition.{Condition}
+use Rattle.sdh_ringmap.specs.declared.terms.Condition.TheVariants.{Clear}
 use Rattle.sdh_plant.specs.Fibres.{Arrival}
-use Rattle.sdh_terms.specs.Fibres.{fibre, fibre_to, is_cut, degraded_by}
+use Rattle.sdh_ringmap.specs.Fibres.{fibre, fibre_to, is_cut, degraded_by}
 use Rattle.sdh_plant.specs.Arrivals.{carried_on}
 use Rattle.sdh_request.specs.declared.settings.Settings.{Settings}
 use Rattle.sdh_terminal.specs.Receiving.{Reception}

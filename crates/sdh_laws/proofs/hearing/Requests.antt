@@ -2,7 +2,7 @@
 use Rattle.std.proofs.Common.{◌≡◌, ℕ, ◌+◌, ◌<◌, List, [], ◌∷◌, ◌++◌, length, get_or, map, refl, ap, sym, ◌∙◌, arith}
 use Rattle.std.proofs.lemmas.List.{length-map}
 use Rattle.sdh_ringmap.specs.declared.Side.{Side}
-use Rattle.sdh_terms.specs.declared.Code.{Code}
+use Rattle.sdh_ringmap.specs.declared.terms.Code.{Code}
 use Rattle.sdh_restoration.specs.Applied.{span_requests}
 use Rattle.sdh_signal.specs.Settled.{settled_states}
 use Rattle.sdh_signal.specs.Signals.{requests_in, request_on, no_needs}

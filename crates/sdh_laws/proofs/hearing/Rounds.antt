@@ -1,13 +1,13 @@
 -- A round of a ring whose nodes are in their places and whose fibres carry what they sent.
-use Rattle.sdh_terms.specs.declared.Rate.{Rate}
-use Rattle.sdh_terms.specs.Rates.{n_of}
+use Rattle.sdh_ringmap.specs.declared.terms.Rate.{Rate}
+use Rattle.sdh_ringmap.specs.Rates.{n_of}
 use Rattle.sdh_frame.specs.Aus.{au_of}
 use Rattle.sdh_ringmap.specs.declared.Side.{Side}
 use Rattle.sdh_ringmap.specs.declared.Side.TheVariants.{West, East}
 use Rattle.sdh_ringmap.specs.Ids.{AreIds}
 use Rattle.sdh_ringmap.specs.Places.{neighbour, opposite}
 use Rattle.sdh_ringmap.proofs.Sides.{neighbour_below}
-use Rattle.sdh_terms.specs.declared.Code.{Code}
+use Rattle.sdh_ringmap.specs.declared.terms.Code.{Code}
 use Rattle.sdh_kbytes.specs.declared.Path.{Path}
 use Rattle.sdh_kbytes.specs.declared.K.{K}
 use Rattle.sdh_kbytes.specs.declared.Mark.TheVariants as mark
@@ -27,8 +27,8 @@ use Rattle.sdh_nodestate.specs.Words.{IsMember}
 use Rattle.sdh_kbytes.specs.KBytes.{IsSpellable}
 use Rattle.sdh_pointer.specs.declared.reading.Action.TheVariants as action
 use Rattle.sdh_plant.specs.Fibres.{Arrival, IsPrepared, IsHonest}
-use Rattle.sdh_terms.specs.Fibres.{IsConditionAt, fibre, fibre_to, is_cut}
-use Rattle.sdh_terms.specs.declared.Condition.TheVariants.{Clear}
+use Rattle.sdh_ringmap.specs.Fibres.{IsConditionAt, fibre, fibre_to, is_cut}
+use Rattle.sdh_ringmap.specs.declared.terms.Condition.TheVariants.{Clear}
 use Rattle.sdh_plant.specs.Arrivals.{through, carried_on, condition_of}
 use Rattle.sdh_request.specs.declared.settings.Settings.{Settings}
 use Rattle.sdh_node.specs.Receiving as node

@@ -1,14 +1,14 @@
 -- What changes leave of the parities that sections keep, and the violations that a side counts.
 use Rattle.std.proofs.Common.{◌≡◌, ℕ, ◌*◌, ◌<◌, List, [], ◌∷◌, length, refl, ap, sym, subst, ◌∙◌, inl, inr, arith}
 use Rattle.std.proofs.lemmas.Bool.{cases_Bool}
-use Rattle.sdh_terms.specs.Rates.{n_of}
+use Rattle.sdh_ringmap.specs.Rates.{n_of}
 use Rattle.sdh_ringmap.specs.declared.Side.{Side}
 use Rattle.sdh_ringmap.specs.declared.Side.TheVariants.{West, East}
 use Rattle.sdh_ringmap.specs.Places.{neighbour, opposite}
 use Rattle.sdh_request.specs.declared.Command.{Command}
 use Rattle.sdh_parity.specs.Scrambling.{scrambled}
 use Rattle.sdh_overhead.specs.Sections.{b2_violations}
-use Rattle.sdh_terms.specs.Fibres.{fibre, fibre_to, is_cut}
+use Rattle.sdh_ringmap.specs.Fibres.{fibre, fibre_to, is_cut}
 use Rattle.sdh_plant.specs.Arrivals.{carried_on}
 use Rattle.sdh_node.specs.Receiving.{Receiving, commanded_by}
 use Rattle.sdh_node.specs.Node.{Node, receiving_on, sending_on, at_receiving, held_for, slips_at}

@@ -3,8 +3,8 @@ use Rattle.sdh_basics.specs.Indexed.{map_from}
 use Rattle.sdh_ringmap.specs.declared.Side.{Side}
 use Rattle.sdh_ringmap.specs.declared.Side.TheVariants.{West, East}
 use Rattle.sdh_ringmap.specs.Places.{neighbour, opposite}
-use Rattle.sdh_terms.specs.declared.Code.{Code}
-use Rattle.sdh_terms.specs.Requests.{code_number}
+use Rattle.sdh_ringmap.specs.declared.terms.Code.{Code}
+use Rattle.sdh_ringmap.specs.Requests.{code_number}
 use Rattle.sdh_ringmap.proofs.Sides.{neighbour_below}
 use Rattle.sdh_basics.proofs.CellsLaws.{cells-same}
 use Rattle.sdh_request.specs.declared.Defect.{Defect}
@@ -41,7 +41,7 @@ use Rattle.sdh_world.specs.Runs.{run, course}
 use Rattle.sdh_world.specs.Quiet.{is_calm, IsCalm}
 use Rattle.sdh_rounds.proofs.Runs.{known_settles}
 use Rattle.sdh_laws.specs.Hearing.Placed.{IsPlaced}
-use Rattle.sdh_terms.specs.Fibres.{is_cut}
+use Rattle.sdh_ringmap.specs.Fibres.{is_cut}
 use Rattle.sdh_world.specs.Sides.{condition_to}
 use Rattle.sdh_laws.specs.Hearing.Signalling.{filters_of, signals_of, needs_in, held_in}
 use Rattle.sdh_laws.specs.Hearing.Laws.{IsWhole, RoundsAreSignalRounds, IsStill, CalmRoundsAreStill, ThreeCalmRoundsAreSettled}

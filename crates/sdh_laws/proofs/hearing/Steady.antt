@@ -13,8 +13,8 @@ use Rattle.sdh_signal.specs.Settled.{settled_states}
 use Rattle.sdh_signal.specs.Signals as signal
 use Rattle.sdh_signal.specs.Signals.{Signals, requests_in}
 use Rattle.sdh_signal.specs.Laws.{RingsSettle, Settles}
-use Rattle.sdh_terms.specs.declared.Condition.{Condition}
-use Rattle.sdh_terms.specs.Fibres.{fibre_to, is_cut}
+use Rattle.sdh_ringmap.specs.declared.terms.Condition.{Condition}
+use Rattle.sdh_ringmap.specs.Fibres.{fibre_to, is_cut}
 use Rattle.sdh_plant.specs.Arrivals.{carried_on}
 use Rattle.std.proofs.Common.{◌≡◌, ℕ, zero, suc, ◌+◌, ◌-◌, ◌<◌, ◌≤◌, Bool, false, List, length, Some, refl, ap, sym, subst, ◌∙◌, arith, inl}
 use Rattle.std.proofs.Common.{inr}

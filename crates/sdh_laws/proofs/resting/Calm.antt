@@ -4,7 +4,7 @@ use Rattle.std.proofs.Common.{ap, ap₂, sym, ◌∙◌, subst, arith, inl, inr}
 use Rattle.std.specs.Prelude.{option_map, All}
 use Rattle.std.proofs.lemmas.Bool.{cases_lt}
 use Rattle.std.proofs.lemmas.List.{ext_get_or}
-use Rattle.sdh_terms.specs.Rates.{n_of}
+use Rattle.sdh_ringmap.specs.Rates.{n_of}
 use Rattle.sdh_ringmap.specs.declared.Side.{Side}
 use Rattle.sdh_ringmap.specs.declared.Side.TheVariants.{West, East}
 use Rattle.sdh_ringmap.specs.Places.{neighbour, opposite}
@@ -19,14 +19,14 @@ use Rattle.sdh_squelch.specs.declared.connecting.Origin.TheVariants.{Add, Workin
 use Rattle.sdh_nodestate.specs.declared.NodeState.{NodeState}
 use Rattle.sdh_signal.specs.Settled.{settled}
 use Rattle.sdh_signal.specs.Laws.{StillRingsAreSettled}
-use Rattle.sdh_routes.specs.Walks.{IsOver, IsArrival, back_from, working_in, protection_in}
-use Rattle.sdh_routes.specs.Rounds.{Spreads}
-use Rattle.sdh_routes.proofs.Spread.{steadiness_spreads}
+use Rattle.sdh_signal.specs.Walks.{IsOver, IsArrival, back_from, working_in, protection_in}
+use Rattle.sdh_signal.specs.Rounds.{Spreads}
+use Rattle.sdh_signal.proofs.Spread.{steadiness_spreads}
 use Rattle.sdh_pointer.specs.declared.reading.Reading.{Reading}
 use Rattle.sdh_pointer.specs.declared.reading.Action.{Action}
 use Rattle.sdh_pointer.specs.Reading.{start, after_word, action_on}
 use Rattle.sdh_pointer.specs.Sending.{next_sending}
-use Rattle.sdh_terms.specs.Fibres.{is_cut}
+use Rattle.sdh_ringmap.specs.Fibres.{is_cut}
 use Rattle.sdh_terminal.specs.Passing.{Input}
 use Rattle.sdh_terminal.specs.Tributaries.{action_of}
 use Rattle.sdh_node.specs.Same.{Compared}

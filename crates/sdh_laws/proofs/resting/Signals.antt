@@ -14,8 +14,8 @@ use Rattle.sdh_nodestate.specs.Filtering.{Brought, with_brought, hears}
 use Rattle.sdh_signal.specs.Settled.{settled_states}
 use Rattle.sdh_signal.specs.Signals.{Signals, free_round, request_on, no_needs}
 use Rattle.sdh_signal.specs.Laws.{StillRingsAreSettled}
-use Rattle.sdh_terms.specs.declared.Condition.{Condition}
-use Rattle.sdh_terms.specs.Fibres.{is_cut}
+use Rattle.sdh_ringmap.specs.declared.terms.Condition.{Condition}
+use Rattle.sdh_ringmap.specs.Fibres.{is_cut}
 use Rattle.sdh_node.specs.Same.{Compared}
 use Rattle.sdh_node.specs.Node.{Node, receiving_on, compared, sent_of, word_of}
 use Rattle.sdh_world.specs.Held.{nowhere, node_at}

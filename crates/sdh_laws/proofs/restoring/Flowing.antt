@@ -3,7 +3,7 @@ use Rattle.std.proofs.Common.{◌≡◌, ◌≢◌, ℕ, zero, suc, ◌+◌, ◌
 use Rattle.std.proofs.Common.{Option, Some, None, refl, ap, ap₂, sym, ◌∙◌, subst, arith}
 use Rattle.std.specs.Prelude.{not}
 use Rattle.std.proofs.lemmas.Bool.{cases_lt}
-use Rattle.sdh_terms.specs.Rates.{n_of}
+use Rattle.sdh_ringmap.specs.Rates.{n_of}
 use Rattle.sdh_frame.specs.Aus.{Au}
 use Rattle.sdh_ringmap.specs.declared.Side.{Side}
 use Rattle.sdh_ringmap.specs.Places.{neighbour, opposite}
@@ -26,7 +26,7 @@ use Rattle.sdh_pointer.proofs.Settling.{ais_settles}
 use Rattle.sdh_terminal.specs.Passing.{Input, au_for, au_sent}
 use Rattle.sdh_terminal.specs.Lines.{received}
 use Rattle.sdh_node.specs.Node.{sending_on}
-use Rattle.sdh_terms.specs.Fibres.{is_cut}
+use Rattle.sdh_ringmap.specs.Fibres.{is_cut}
 use Rattle.sdh_world.specs.Held.{node_at}
 use Rattle.sdh_world.specs.Rounds.{World, round}
 use Rattle.sdh_world.specs.Runs.{run}

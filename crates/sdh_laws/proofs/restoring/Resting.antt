@@ -3,7 +3,7 @@ use Rattle.std.proofs.Common.{◌≡◌, ℕ, suc, ◌+◌, ◌-◌, ◌*◌, �
 use Rattle.std.proofs.Common.{inl, inr}
 use Rattle.std.specs.Prelude.{slice_get, if◌then◌else◌}
 use Rattle.std.proofs.lemmas.Bool.{cases_Bool}
-use Rattle.sdh_terms.specs.Rates.{n_of}
+use Rattle.sdh_ringmap.specs.Rates.{n_of}
 use Rattle.sdh_ringmap.specs.Arcs.{is_joined, is_clear}
 use Rattle.sdh_ringmap.specs.Places.{neighbour, opposite, span_at}
 use Rattle.sdh_ringmap.specs.declared.Side.{Side}
@@ -25,10 +25,10 @@ use Rattle.sdh_restoration.specs.Routes.{hops}
 use Rattle.sdh_restoration.specs.Due.{due}
 use Rattle.sdh_circuits.specs.Ends.{other_end, port_id}
 use Rattle.sdh_laws.specs.Carrying.Laws.{due_by_clocks}
-use Rattle.sdh_routes.specs.Walks.{IsArrival, back_from, working_in, protection_in, port, port_at, delivery}
-use Rattle.sdh_routes.specs.Law as routes
-use Rattle.sdh_routes.proofs.Ways.{IsKeptOver, end_inside, short}
-use Rattle.sdh_terms.specs.Fibres.{is_cut}
+use Rattle.sdh_signal.specs.Walks.{IsArrival, back_from, working_in, protection_in, port, port_at, delivery}
+use Rattle.sdh_signal.specs.Law as routes
+use Rattle.sdh_signal.proofs.Ways.{IsKeptOver, end_inside, short}
+use Rattle.sdh_ringmap.specs.Fibres.{is_cut}
 use Rattle.sdh_terminal.specs.Passing.{Input}
 use Rattle.sdh_world.specs.Held.{outlet_at}
 use Rattle.sdh_world.specs.Clocks.{clock_at}

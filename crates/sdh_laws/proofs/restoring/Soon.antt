@@ -19,7 +19,7 @@ use Rattle.sdh_signal.specs.Laws.{RingsSettle}
 use Rattle.sdh_node.specs.Crossing.{is_failed}
 use Rattle.sdh_node.specs.Stations.{adm}
 use Rattle.sdh_node.specs.Node.{receiving_on, is_held}
-use Rattle.sdh_routes.proofs.Ways.{end_inside}
+use Rattle.sdh_signal.proofs.Ways.{end_inside}
 use Rattle.sdh_world.specs.Held.{node_at, outlet_at, AtEach}
 use Rattle.sdh_rounds.proofs.Runs.{known_unsettles}
 use Rattle.sdh_world.specs.Clocks.{clock_at, clocks_from}

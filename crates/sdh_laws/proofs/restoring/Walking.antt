@@ -12,11 +12,11 @@ use Rattle.sdh_restoration.specs.Applied.{is_applied}
 use Rattle.sdh_signal.specs.Settled.{settled}
 use Rattle.sdh_restoration.specs.Routes.{hops}
 use Rattle.sdh_circuits.specs.Ends.{other_end}
-use Rattle.sdh_routes.specs.Walks.{Stand, stand, port, port_at, delivery}
+use Rattle.sdh_signal.specs.Walks.{Stand, stand, port, port_at, delivery}
 use Rattle.sdh_circuits.specs.Ends.{inward}
-use Rattle.sdh_routes.specs.Law.{IsFree, ConnectsFree}
-use Rattle.sdh_routes.proofs.Free.{connects_free}
-use Rattle.sdh_routes.proofs.Ways.{IsKeptOver, along, routed, end_inside}
+use Rattle.sdh_signal.specs.Law.{IsFree, ConnectsFree}
+use Rattle.sdh_signal.proofs.Free.{connects_free}
+use Rattle.sdh_signal.proofs.Ways.{IsKeptOver, along, routed, end_inside}
 
 module _ (rs : List ℕ) (slots : ℕ) (cs : List Provisioned) (form : AreCircuits (length rs) slots cs) (index : ℕ) (c : Provisioned)
     (get : slice_get cs index ≡ Some c) (e : End) where

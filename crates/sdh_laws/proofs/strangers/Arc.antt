@@ -4,14 +4,14 @@ use Rattle.std.proofs.Common.{◌≡◌, ◌≢◌, ℕ, zero, suc, ◌+◌, ◌
 use Rattle.std.proofs.Common.{refl, ap, ap₂, sym, ◌∙◌, subst, arith, inl, inr}
 use Rattle.std.specs.Prelude.{◌==◌, if◌then◌else◌, slice_get}
 use Rattle.std.proofs.lemmas.Bool.{cases_lt, and_parts}
-use Rattle.sdh_terms.specs.declared.Rate.{Rate}
-use Rattle.sdh_terms.specs.Rates.{n_of}
+use Rattle.sdh_ringmap.specs.declared.terms.Rate.{Rate}
+use Rattle.sdh_ringmap.specs.Rates.{n_of}
 use Rattle.sdh_frame.specs.Aus.{Au, au_of}
 use Rattle.sdh_parity.specs.Scrambling.{scrambled}
 use Rattle.sdh_kbytes.specs.declared.K.{K}
-use Rattle.sdh_terms.specs.declared.Code.{Code}
-use Rattle.sdh_terms.specs.declared.Code.TheVariants.{Nr}
-use Rattle.sdh_terms.specs.Requests.{code_number}
+use Rattle.sdh_ringmap.specs.declared.terms.Code.{Code}
+use Rattle.sdh_ringmap.specs.declared.terms.Code.TheVariants.{Nr}
+use Rattle.sdh_ringmap.specs.Requests.{code_number}
 use Rattle.sdh_ringmap.specs.Places.{opposite, neighbour, span_at}
 use Rattle.sdh_ringmap.specs.declared.Side.{Side}
 use Rattle.sdh_ringmap.specs.declared.Side.TheVariants.{West, East}
@@ -35,7 +35,7 @@ use Rattle.sdh_payload.specs.Clock.{Clock}
 use Rattle.sdh_terminal.specs.Tributaries.{sent_in, input_by}
 use Rattle.sdh_pointer.specs.Reading.{start, after_word, action_on}
 use Rattle.sdh_pointer.specs.Sending.{form_sent, word_sent, next_sending}
-use Rattle.sdh_terms.specs.Fibres.{fibre}
+use Rattle.sdh_ringmap.specs.Fibres.{fibre}
 use Rattle.sdh_plant.specs.Arrivals.{carried_on}
 use Rattle.sdh_circuits.specs.Ends.{other_end}
 use Rattle.sdh_terminal.specs.Passing.{Input, h3_of, au_for, au_sent}
@@ -56,12 +56,12 @@ use Rattle.sdh_laws.proofs.carrying.Spans.{state_at, au_left, generator_step, ta
 use Rattle.sdh_spans.proofs.Sends.{word_in_au}
 use Rattle.sdh_laws.proofs.carrying.Connections.{sends_working}
 use Rattle.sdh_laws.proofs.carrying.Applied.{node_asks}
-use Rattle.sdh_routes.specs.Walks.{port, stands_in}
-use Rattle.sdh_routes.proofs.Views.{AreOnRing, arc_length, holds}
-use Rattle.sdh_routes.proofs.Seen.{Seen}
-use Rattle.sdh_routes.proofs.Sights.{found-gives}
-use Rattle.sdh_routes.proofs.OnArcs.{near_at, near_end, seen-on}
-use Rattle.sdh_routes.proofs.Passing.{is_open, open-stands, leaves-on, leaves-own}
+use Rattle.sdh_signal.specs.Walks.{port, stands_in}
+use Rattle.sdh_signal.proofs.Views.{AreOnRing, arc_length, holds}
+use Rattle.sdh_signal.proofs.Seen.{Seen}
+use Rattle.sdh_signal.proofs.Sights.{found-gives}
+use Rattle.sdh_signal.proofs.OnArcs.{near_at, near_end, seen-on}
+use Rattle.sdh_signal.proofs.Passing.{is_open, open-stands, leaves-on, leaves-own}
 use Rattle.sdh_laws.proofs.strangers.Asking.{Harmless, stays_open, word_harmless}
 use Rattle.sdh_laws.proofs.strangers.Slipping.{IsSource, value_in_round, does, state, said, Follows, spreads, does_before, down_back}
 use Rattle.sdh_laws.proofs.strangers.Slipping.{down_form, not_ais}

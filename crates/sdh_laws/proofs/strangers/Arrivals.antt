@@ -5,9 +5,9 @@ use Rattle.std.specs.Prelude.{slice_index}
 use Rattle.std.proofs.lemmas.Bool.{cases_Bool, cases_lt}
 use Rattle.std.proofs.lemmas.List.{get_or-replicate, length-replicate}
 use Rattle.sdh_basics.proofs.CellsLaws.{cells-from}
-use Rattle.sdh_terms.specs.declared.Rate.{Rate}
-use Rattle.sdh_terms.specs.Rates.{n_of}
-use Rattle.sdh_terms.specs.Fibres.{is_cut}
+use Rattle.sdh_ringmap.specs.declared.terms.Rate.{Rate}
+use Rattle.sdh_ringmap.specs.Rates.{n_of}
+use Rattle.sdh_ringmap.specs.Fibres.{is_cut}
 use Rattle.sdh_frame.specs.Sizes.{size_of}
 use Rattle.sdh_frame.specs.Fields.{index_of, payload_place, place_of_pointer}
 use Rattle.sdh_frame.specs.Aus.{au_of, pointers_of, payload_of, ones}

@@ -1,16 +1,16 @@
 -- A side without requests is never switched, and says nothing that asks.
 use Rattle.std.proofs.Common.{◌≡◌, ◌<◌, Bool, true, false, Option, Some, refl, ap, sym, ◌∙◌, arith, inl, inr, ◌⊎◌}
 use Rattle.sdh_kbytes.specs.declared.K.{K}
-use Rattle.sdh_terms.specs.declared.Code.{Code}
-use Rattle.sdh_terms.specs.declared.Code.TheVariants.{Nr}
+use Rattle.sdh_ringmap.specs.declared.terms.Code.{Code}
+use Rattle.sdh_ringmap.specs.declared.terms.Code.TheVariants.{Nr}
 use Rattle.sdh_kbytes.specs.declared.Path.TheVariants.{Short, Long}
-use Rattle.sdh_terms.specs.Requests.{code_number}
+use Rattle.sdh_ringmap.specs.Requests.{code_number}
 use Rattle.sdh_ringmap.specs.Places.{opposite}
 use Rattle.sdh_ringmap.specs.declared.Pos.{Pos}
 use Rattle.sdh_ringmap.specs.declared.Side.{Side}
 use Rattle.sdh_ringmap.specs.declared.Side.TheVariants.{West, East}
 use Rattle.sdh_nodestate.specs.Rules.{Scene, local, word_on, short, far, chosen, is_relay, word, switches, state_by, state_after}
-use Rattle.sdh_routes.proofs.Passing.{is_open}
+use Rattle.sdh_signal.proofs.Passing.{is_open}
 use Rattle.sdh_signal.proofs.OneNode.{IsShortHeard, Kind, a_short, a_long, a_relay, kind, long_from, relayed_from, short_from, weight_is}
 use Rattle.sdh_signal.proofs.OneNode.{switch_none}
 

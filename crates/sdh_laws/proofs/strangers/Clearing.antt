@@ -26,7 +26,7 @@ use Rattle.sdh_laws.proofs.hearing.Nodes.{count}
 use Rattle.sdh_laws.proofs.hearing.Rounds.{whole_round}
 use Rattle.sdh_laws.proofs.hearing.Changes.{whole_changed}
 use Rattle.sdh_laws.specs.Carrying.Windows.{layout_of, slots_of, HasCircuits}
-use Rattle.sdh_routes.proofs.Views.{on-ring}
+use Rattle.sdh_signal.proofs.Views.{on-ring}
 use Rattle.sdh_laws.specs.Strangers.Owners.{AreClocksOf}
 use Rattle.sdh_laws.specs.Strangers.Vouched.{HoldsAtMost, IsVouched}
 use Rattle.sdh_laws.specs.Strangers.Laws.{HoldsNone, NoneHolds}

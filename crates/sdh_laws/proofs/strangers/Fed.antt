@@ -24,8 +24,8 @@ use Rattle.sdh_node.proofs.Decided.{scene_in}
 use Rattle.sdh_world.specs.Held.{node_at}
 use Rattle.sdh_world.specs.Rounds.{World, round}
 use Rattle.sdh_rounds.specs.Rounds as any_round
-use Rattle.sdh_routes.specs.Walks.{port, port_at, working_in, protection_in}
-use Rattle.sdh_routes.proofs.Views.{AreOnRing, on-ring}
+use Rattle.sdh_signal.specs.Walks.{port, port_at, working_in, protection_in}
+use Rattle.sdh_signal.proofs.Views.{AreOnRing, on-ring}
 use Rattle.sdh_signal.proofs.OneNode.{long_from}
 use Rattle.sdh_laws.specs.Hearing.Laws.{IsWhole}
 use Rattle.sdh_laws.proofs.hearing.Nodes.{count, length-after}

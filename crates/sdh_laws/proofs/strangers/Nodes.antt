@@ -33,15 +33,15 @@ use Rattle.sdh_frame.specs.Aus.{Au}
 use Rattle.sdh_pointer.specs.declared.reading.Action.TheVariants as action
 use Rattle.sdh_terminal.specs.Passing.{Input}
 use Rattle.sdh_circuits.specs.Ends.{other_end, port_id}
-use Rattle.sdh_routes.specs.Walks.{carries_in, stands_in, working_in, protection_in, port, port_at}
+use Rattle.sdh_signal.specs.Walks.{carries_in, stands_in, working_in, protection_in, port, port_at}
 use Rattle.sdh_circuits.specs.Ends.{inward}
-use Rattle.sdh_routes.proofs.Views.{AreOnRing, arc_length, end_at, holds, Switch}
-use Rattle.sdh_routes.proofs.Seen.{Seen}
-use Rattle.sdh_routes.proofs.Sights.{found-gives, arc-end}
-use Rattle.sdh_routes.proofs.OnArcs.{near_at, near_end, on-arc, seen-on}
-use Rattle.sdh_routes.proofs.Meets.{meets-own, meets-farther}
-use Rattle.sdh_routes.proofs.Passing.{is_open, open-stands, leaves-on, leaves-own_or_none, leaves-unused, isolated-stands, isolated-leaves}
-use Rattle.sdh_routes.proofs.Passing.{idle-leaves, switched-stands, bridged-leaves, blocked-leaves, away-leaves, passed-leaves}
+use Rattle.sdh_signal.proofs.Views.{AreOnRing, arc_length, end_at, holds, Switch}
+use Rattle.sdh_signal.proofs.Seen.{Seen}
+use Rattle.sdh_signal.proofs.Sights.{found-gives, arc-end}
+use Rattle.sdh_signal.proofs.OnArcs.{near_at, near_end, on-arc, seen-on}
+use Rattle.sdh_signal.proofs.Meets.{meets-own, meets-farther}
+use Rattle.sdh_signal.proofs.Passing.{is_open, open-stands, leaves-on, leaves-own_or_none, leaves-unused, isolated-stands, isolated-leaves}
+use Rattle.sdh_signal.proofs.Passing.{idle-leaves, switched-stands, bridged-leaves, blocked-leaves, away-leaves, passed-leaves}
 use Rattle.sdh_laws.specs.Strangers.Vouched.{sender, told_of, spoken_of, IsAside}
 use Rattle.sdh_laws.specs.Strangers.Vouched.{streams_to}
 use Rattle.sdh_laws.proofs.strangers.Content.{Fine}

@@ -8,7 +8,7 @@ use Rattle.std.proofs.lemmas.Bool.{leb-true, ltb-true, le-leb, cases_lt}
 use Rattle.std.proofs.lemmas.List.Quantifiers.{position-Some}
 use Rattle.sdh_kbytes.specs.declared.K.{K}
 use Rattle.sdh_kbytes.specs.declared.Path.TheVariants.{Long}
-use Rattle.sdh_terms.specs.Requests.{code_number}
+use Rattle.sdh_ringmap.specs.Requests.{code_number}
 use Rattle.sdh_ringmap.specs.Places.{opposite, found_at}
 use Rattle.sdh_ringmap.specs.declared.Pos.{Pos}
 use Rattle.sdh_ringmap.specs.declared.Side.{Side}
@@ -20,7 +20,7 @@ use Rattle.sdh_nodestate.specs.Rules.{relay, rest, is_relay, word, switches, is_
 use Rattle.sdh_nodestate.specs.Urgency.{weight_on}
 use Rattle.sdh_nodestate.proofs.Urgency.{first_words_are_sent}
 use Rattle.sdh_signal.proofs.OneNode.{switch_top, relayed_from, long_from, word_relay, choose_long_top, choose_long}
-use Rattle.sdh_routes.proofs.Views.{Switch}
+use Rattle.sdh_signal.proofs.Views.{Switch}
 
 -- ---- the state by what is switched
 

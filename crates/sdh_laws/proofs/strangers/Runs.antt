@@ -2,7 +2,7 @@
 use Rattle.std.proofs.Common.{◌≡◌, ℕ, suc, ◌+◌, ◌-◌, ◌*◌, ◌<◌, ◌≤◌, List, length, Some, ap, sym, ◌∙◌, subst}
 use Rattle.std.proofs.Common.{arith, inl}
 use Rattle.std.specs.Prelude.{◌/◌, slice_get}
-use Rattle.sdh_terms.specs.Rates.{n_of}
+use Rattle.sdh_ringmap.specs.Rates.{n_of}
 use Rattle.sdh_ringmap.specs.Ids.{AreIds}
 use Rattle.sdh_circuits.specs.Provisioned.{Provisioned}
 use Rattle.sdh_circuits.specs.Provisioning.{Provisioning, AreCircuits}
@@ -29,7 +29,7 @@ use Rattle.sdh_laws.specs.Hearing.Laws.{IsWhole}
 use Rattle.sdh_laws.specs.Carrying.Windows.{Layout, layout_of, slots_of, HasCircuits}
 use Rattle.sdh_laws.proofs.carrying.Ways.{layout_run}
 use Rattle.sdh_laws.proofs.carrying.Owed.{port_is_there}
-use Rattle.sdh_routes.proofs.Ways.{end_inside}
+use Rattle.sdh_signal.proofs.Ways.{end_inside}
 use Rattle.sdh_laws.specs.Strangers.Owners.{NoneMeetsAStranger, AreClocksOf, AreClocksBetween}
 use Rattle.sdh_laws.specs.Strangers.Vouched.{IsVouched}
 use Rattle.sdh_laws.specs.Strangers.Laws.{HoldsAside, HeldAside, KeepsStrangersOutInAll, VouchedRingsStay}

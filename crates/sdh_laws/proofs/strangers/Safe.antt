@@ -22,9 +22,9 @@ use Rattle.sdh_node.proofs.Decided.{turns_left}
 use Rattle.sdh_world.specs.Held.{node_at, AtEach}
 use Rattle.sdh_world.specs.Rounds.{World, round}
 use Rattle.sdh_rounds.specs.Rounds as any_round
-use Rattle.sdh_routes.specs.Walks.{carries_in, stands_in, working_in, protection_in}
-use Rattle.sdh_routes.proofs.Views.{AreOnRing, Switch, on-ring}
-use Rattle.sdh_routes.proofs.Passing.{open-stands, switched-stands, bridged-leaves, blocked-leaves, away-leaves}
+use Rattle.sdh_signal.specs.Walks.{carries_in, stands_in, working_in, protection_in}
+use Rattle.sdh_signal.proofs.Views.{AreOnRing, Switch, on-ring}
+use Rattle.sdh_signal.proofs.Passing.{open-stands, switched-stands, bridged-leaves, blocked-leaves, away-leaves}
 use Rattle.sdh_laws.specs.Hearing.Laws.{IsWhole}
 use Rattle.sdh_laws.proofs.hearing.Nodes.{informed, count, nodes_after, length-after}
 use Rattle.sdh_laws.proofs.hearing.Rounds.{neighbour_inside, whole_round}

@@ -20,7 +20,7 @@ use Rattle.sdh_nodestate.specs.Rules.{Scene, long, word, state_after}
 use Rattle.sdh_squelch.specs.declared.connecting.Origin.{Origin}
 use Rattle.sdh_squelch.specs.declared.connecting.Origin.TheVariants.{Protection, Ais}
 use Rattle.sdh_payload.specs.Clock.{Clock}
-use Rattle.sdh_terms.specs.Fibres.{fibre}
+use Rattle.sdh_ringmap.specs.Fibres.{fibre}
 use Rattle.sdh_plant.specs.Arrivals.{carried_on}
 use Rattle.sdh_terminal.specs.Passing.{Input}
 use Rattle.sdh_terminal.specs.Tributaries.{added_by}
@@ -29,9 +29,9 @@ use Rattle.sdh_node.proofs.Decided.{scene_in, state_is, word_is}
 use Rattle.sdh_world.specs.Held.{node_at}
 use Rattle.sdh_world.specs.Rounds.{World, round}
 use Rattle.sdh_rounds.specs.Rounds as any_round
-use Rattle.sdh_routes.specs.Walks.{carries_in, stands_in, working_in, protection_in}
-use Rattle.sdh_routes.proofs.Views.{AreOnRing, Switch, on-ring}
-use Rattle.sdh_routes.proofs.Passing.{isolated-leaves, idle-leaves, bridged-leaves, blocked-leaves, away-leaves, passed-leaves}
+use Rattle.sdh_signal.specs.Walks.{carries_in, stands_in, working_in, protection_in}
+use Rattle.sdh_signal.proofs.Views.{AreOnRing, Switch, on-ring}
+use Rattle.sdh_signal.proofs.Passing.{isolated-leaves, idle-leaves, bridged-leaves, blocked-leaves, away-leaves, passed-leaves}
 use Rattle.sdh_signal.proofs.OneNode.{long_from}
 use Rattle.sdh_laws.specs.Hearing.Laws.{IsWhole}
 use Rattle.sdh_laws.proofs.hearing.Nodes.{informed, informed_out, count, nodes_after, length-after}

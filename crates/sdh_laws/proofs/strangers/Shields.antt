@@ -22,16 +22,16 @@ use Rattle.sdh_nodestate.specs.declared.NodeState.TheVariants as state
 use Rattle.sdh_nodestate.specs.Rules.{Scene, own_id, stronger, long, long_word, word, own_word, word_by, chosen, Choice, own_short}
 use Rattle.sdh_nodestate.specs.Rules.{own_long, relay, rest, state_after}
 use Rattle.sdh_payload.specs.Clock.{Clock}
-use Rattle.sdh_terms.specs.Fibres.{fibre}
+use Rattle.sdh_ringmap.specs.Fibres.{fibre}
 use Rattle.sdh_plant.specs.Arrivals.{carried_on}
 use Rattle.sdh_node.specs.Node.{word_of}
 use Rattle.sdh_world.specs.Held.{node_at}
 use Rattle.sdh_world.specs.Rounds.{World}
-use Rattle.sdh_routes.specs.Walks.{carries_in}
-use Rattle.sdh_routes.proofs.Views.{AreOnRing, Switch}
-use Rattle.sdh_routes.proofs.OnArcs.{near_at, seen-on}
-use Rattle.sdh_routes.proofs.Meets.{meets-farther}
-use Rattle.sdh_routes.proofs.Passing.{is_open}
+use Rattle.sdh_signal.specs.Walks.{carries_in}
+use Rattle.sdh_signal.proofs.Views.{AreOnRing, Switch}
+use Rattle.sdh_signal.proofs.OnArcs.{near_at, seen-on}
+use Rattle.sdh_signal.proofs.Meets.{meets-farther}
+use Rattle.sdh_signal.proofs.Passing.{is_open}
 use Rattle.sdh_signal.proofs.Ends.{found}
 use Rattle.sdh_signal.proofs.OneNode.{word_long}
 use Rattle.sdh_laws.specs.Carrying.Windows.{layout_of, slots_of}

@@ -13,18 +13,18 @@ use Rattle.sdh_squelch.specs.declared.connecting.Origin.{Origin}
 use Rattle.sdh_squelch.specs.declared.connecting.Origin.TheVariants.{Working, Protection}
 use Rattle.sdh_signal.specs.Settled.{settled}
 use Rattle.sdh_payload.specs.Clock.{Clock}
-use Rattle.sdh_terms.specs.Fibres.{fibre}
+use Rattle.sdh_ringmap.specs.Fibres.{fibre}
 use Rattle.sdh_plant.specs.Arrivals.{carried_on}
 use Rattle.sdh_node.specs.Node.{is_held}
 use Rattle.sdh_world.specs.Held.{AtEach}
 use Rattle.sdh_world.specs.Rounds.{World, round}
 use Rattle.sdh_rounds.specs.Rounds as any_round
-use Rattle.sdh_routes.specs.Walks.{Stand, stand, IsOver, Leads, back_from, working_in, protection_in}
-use Rattle.sdh_routes.specs.Law.{Ends}
-use Rattle.sdh_routes.proofs.Views.{AreOnRing, Switch}
-use Rattle.sdh_routes.proofs.Passing.{bridged-leaves, passed-leaves}
-use Rattle.sdh_routes.proofs.Rest.{resting}
-use Rattle.sdh_routes.proofs.Loops.{sending_end, bridging_end}
+use Rattle.sdh_signal.specs.Walks.{Stand, stand, IsOver, Leads, back_from, working_in, protection_in}
+use Rattle.sdh_signal.specs.Law.{Ends}
+use Rattle.sdh_signal.proofs.Views.{AreOnRing, Switch}
+use Rattle.sdh_signal.proofs.Passing.{bridged-leaves, passed-leaves}
+use Rattle.sdh_signal.proofs.Rest.{resting}
+use Rattle.sdh_signal.proofs.Loops.{sending_end, bridging_end}
 use Rattle.sdh_laws.specs.Hearing.Laws.{IsWhole}
 use Rattle.sdh_laws.proofs.hearing.Nodes.{count, length-after}
 use Rattle.sdh_laws.proofs.hearing.Rounds.{neighbour_inside}

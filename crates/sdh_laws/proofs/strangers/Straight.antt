@@ -6,9 +6,9 @@ use Rattle.std.specs.Option.{option_map_or}
 use Rattle.std.proofs.lemmas.Bool.{cases_lt, lt-ltb, le-ltb, cond-true, cond-false}
 use Rattle.std.proofs.lemmas.List.{get_or-replicate, get_or_past, length-replicate, length-take-le, length-drop}
 use Rattle.std.proofs.lemmas.Option.{get_or_from_slice_get, slice_get_within}
-use Rattle.sdh_terms.specs.Rates.{n_of}
-use Rattle.sdh_terms.specs.Requests.{code_number}
-use Rattle.sdh_terms.specs.declared.Code.TheVariants.{Nr}
+use Rattle.sdh_ringmap.specs.Rates.{n_of}
+use Rattle.sdh_ringmap.specs.Requests.{code_number}
+use Rattle.sdh_ringmap.specs.declared.terms.Code.TheVariants.{Nr}
 use Rattle.sdh_kbytes.specs.declared.Path.TheVariants.{Short}
 use Rattle.sdh_ringmap.specs.Places.{opposite, span_at, position_of}
 use Rattle.sdh_ringmap.specs.declared.Side.{Side}
@@ -68,12 +68,12 @@ use Rattle.sdh_laws.specs.Carrying.Windows.{value_at}
 use Rattle.sdh_terminal.proofs.Found.{port-found}
 use Rattle.sdh_laws.proofs.carrying.Connections.{node_of, state_in_turn}
 use Rattle.sdh_laws.proofs.carrying.Owed.{found, clock_is, port_is_there, found_arrives, outlet_there}
-use Rattle.sdh_routes.specs.Walks.{port, port_at, stands_in}
+use Rattle.sdh_signal.specs.Walks.{port, port_at, stands_in}
 use Rattle.sdh_circuits.specs.Ends.{inward}
-use Rattle.sdh_routes.proofs.Views.{AreOnRing, arc_length, holds, on-ring}
-use Rattle.sdh_routes.proofs.Passing.{is_open}
-use Rattle.sdh_routes.proofs.Sights.{arc-end}
-use Rattle.sdh_routes.proofs.OnArcs.{near_at, near_end, seen-on}
+use Rattle.sdh_signal.proofs.Views.{AreOnRing, arc_length, holds, on-ring}
+use Rattle.sdh_signal.proofs.Passing.{is_open}
+use Rattle.sdh_signal.proofs.Sights.{arc-end}
+use Rattle.sdh_signal.proofs.OnArcs.{near_at, near_end, seen-on}
 use Rattle.sdh_laws.specs.Strangers.Undisturbed.{NoneAsks, straight, UndisturbedPortsDeliver}
 use Rattle.sdh_laws.proofs.strangers.Slipping.{IsSource, value_in_round, state, Follows, does_before, state_before, does_zero, long_down}
 use Rattle.sdh_laws.proofs.strangers.Slipping.{chunk_is, not_ais}

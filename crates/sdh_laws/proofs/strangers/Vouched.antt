@@ -23,7 +23,7 @@ use Rattle.sdh_pointer.specs.declared.word.Form.TheVariants as form
 use Rattle.sdh_pointer.specs.declared.reading.Action.{Action}
 use Rattle.sdh_pointer.specs.declared.reading.Action.TheVariants as action
 use Rattle.sdh_plant.specs.Fibres.{Fibres, IsHonest}
-use Rattle.sdh_terms.specs.Fibres.{fibre}
+use Rattle.sdh_ringmap.specs.Fibres.{fibre}
 use Rattle.sdh_plant.specs.Arrivals.{carried_on}
 use Rattle.sdh_terminal.specs.Passing.{Input, no_input, h3_of, au_with}
 use Rattle.sdh_terminal.specs.Outlets.{chunk_form, delivered_by, delivered_from}
@@ -49,10 +49,10 @@ use Rattle.sdh_laws.specs.Carrying.Windows.{layout_of, slots_of, HasCircuits, va
 use Rattle.sdh_terminal.proofs.Found.{port-found}
 use Rattle.sdh_laws.proofs.carrying.Connections.{node_of, state_in_turn}
 use Rattle.sdh_laws.proofs.carrying.Owed.{found, clock_is, found_arrives, outlet_there, slot_inside}
-use Rattle.sdh_routes.specs.Walks.{port_at, stands_in}
+use Rattle.sdh_signal.specs.Walks.{port_at, stands_in}
 use Rattle.sdh_circuits.specs.Ends.{inward, port_id}
-use Rattle.sdh_routes.proofs.Views.{AreOnRing, on-ring}
-use Rattle.sdh_routes.proofs.Ways.{end_inside}
+use Rattle.sdh_signal.proofs.Views.{AreOnRing, on-ring}
+use Rattle.sdh_signal.proofs.Ways.{end_inside}
 use Rattle.sdh_laws.specs.Strangers.Owners.{other_port, put_by, HasBytesOf, Holds, nobodys, customers, MeetsNoStranger}
 use Rattle.sdh_laws.specs.Strangers.Owners.{ais_comes, bytes_come, NoneMeetsAStranger, AreClocksOf}
 use Rattle.sdh_laws.specs.Strangers.Vouched.{streams_to, spoken_of, HoldsAtMost, au_in, IsVouched, IsAside, MissesAside}

@@ -11,7 +11,7 @@ use Rattle.sdh_squelch.specs.Table.{circuits_at}
 use Rattle.sdh_signal.specs.Laws.{StillRingsAreSettled}
 use Rattle.sdh_signal.specs.Settled.{settled}
 use Rattle.sdh_payload.specs.Clock.{Clock}
-use Rattle.sdh_terms.specs.Fibres.{fibre}
+use Rattle.sdh_ringmap.specs.Fibres.{fibre}
 use Rattle.sdh_plant.specs.Arrivals.{carried_on}
 use Rattle.sdh_node.specs.Node.{Node, is_held, word_of}
 use Rattle.sdh_world.specs.Held.{node_at, AtEach}
@@ -20,7 +20,7 @@ use Rattle.sdh_world.specs.Runs.{run, course}
 use Rattle.sdh_world.specs.Quiet.{is_calm, EndsWindow}
 use Rattle.sdh_rounds.specs.Rounds as any_round
 use Rattle.sdh_rounds.specs.Runs as any_run
-use Rattle.sdh_routes.proofs.Views.{AreOnRing, Switch, on-ring}
+use Rattle.sdh_signal.proofs.Views.{AreOnRing, Switch, on-ring}
 use Rattle.sdh_laws.specs.Hearing.Laws.{IsWhole}
 use Rattle.sdh_laws.proofs.hearing.Nodes.{count, length-after}
 use Rattle.sdh_laws.proofs.hearing.Rounds.{whole_round}

@@ -3,8 +3,8 @@ use Rattle.std.proofs.Common.{◌≡◌, ℕ, ◌+◌, ◌-◌, ◌*◌, ◌<◌
 use Rattle.std.proofs.Common.{inl, inr}
 use Rattle.std.specs.Prelude.{if◌then◌else◌, slice_get}
 use Rattle.std.proofs.lemmas.Bool.{cases_Bool, cases_lt}
-use Rattle.sdh_terms.specs.declared.Rate.{Rate}
-use Rattle.sdh_terms.specs.Rates.{n_of}
+use Rattle.sdh_ringmap.specs.declared.terms.Rate.{Rate}
+use Rattle.sdh_ringmap.specs.Rates.{n_of}
 use Rattle.sdh_frame.specs.Aus.{Au}
 use Rattle.sdh_kbytes.specs.declared.K.{K}
 use Rattle.sdh_ringmap.specs.Places.{opposite, neighbour}
@@ -20,7 +20,7 @@ use Rattle.sdh_nodestate.specs.Words.{IsMember}
 use Rattle.sdh_nodestate.specs.Rules.{Scene, long, word, state_after}
 use Rattle.sdh_squelch.specs.declared.connecting.Origin.TheVariants.{Working, Protection, Ais}
 use Rattle.sdh_pointer.specs.declared.reading.Action.TheVariants as action
-use Rattle.sdh_terms.specs.Fibres.{fibre}
+use Rattle.sdh_ringmap.specs.Fibres.{fibre}
 use Rattle.sdh_plant.specs.Arrivals.{carried_on}
 use Rattle.sdh_terminal.specs.Lines.{Lines, received}
 use Rattle.sdh_terminal.specs.Passing.{Input}
@@ -36,8 +36,8 @@ use Rattle.sdh_laws.proofs.hearing.Rounds.{reads, neighbour_inside, scene_ids, s
 use Rattle.sdh_laws.specs.Carrying.Windows.{layout_of, slots_of, value_at, sent_at}
 use Rattle.sdh_laws.proofs.carrying.Spans.{state_at, au_left}
 use Rattle.sdh_laws.proofs.carrying.Connections.{sends_working, sends_protection, brings_protection}
-use Rattle.sdh_routes.specs.Walks.{port, port_at, stands_in, working_in, protection_in}
-use Rattle.sdh_routes.proofs.Views.{AreOnRing}
+use Rattle.sdh_signal.specs.Walks.{port, port_at, stands_in, working_in, protection_in}
+use Rattle.sdh_signal.proofs.Views.{AreOnRing}
 use Rattle.sdh_laws.specs.Strangers.Vouched.{streams_to, spoken_of, au_in, IsAside}
 use Rattle.sdh_laws.proofs.strangers.Content.{IsCarried, Bears, Fine, bears_sent}
 use Rattle.sdh_laws.proofs.strangers.Lags.{place_on, working_lag, spoken_lag, AreLags}

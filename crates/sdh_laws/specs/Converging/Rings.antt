@@ -1,13 +1,13 @@
 -- A ring, and changes that may happen to it, for which the laws hold.
 use Rattle.std.specs.Prelude.{ℕ, Some, List, [], ◌∷◌, replicate}
-use Rattle.sdh_terms.specs.declared.Rate.TheVariants.{Four}
+use Rattle.sdh_ringmap.specs.declared.terms.Rate.TheVariants.{Four}
 use Rattle.sdh_ringmap.specs.Places.{position_of}
 use Rattle.sdh_ringmap.specs.declared.Side.TheVariants.{West, East}
 use Rattle.sdh_request.specs.declared.Command.TheVariants as command
 use Rattle.sdh_payload.specs.Customer.{Customer}
 use Rattle.sdh_circuits.specs.Provisioned.{Provisioned}
 use Rattle.sdh_circuits.specs.Provisioning.{Provisioning}
-use Rattle.sdh_terms.specs.declared.Condition.TheVariants.{Cut, Degraded}
+use Rattle.sdh_ringmap.specs.declared.terms.Condition.TheVariants.{Cut, Degraded}
 use Rattle.sdh_plant.specs.Fibres.{Fibres, IsHonest}
 use Rattle.sdh_request.specs.declared.settings.Settings.{Settings}
 use Rattle.sdh_circuits.specs.declared.End.TheVariants.{A}

@@ -2,7 +2,7 @@
 -- controllers of certain nodes are held. These are nodes that stand aside, and after a quiet window all nodes but those
 -- that pass traffic through.
 use Rattle.std.specs.Prelude.{ℕ, ◌≡◌, ◌⊎◌, ◌+◌, ◌-◌, ◌*◌, ◌<◌, ◌≤◌, ◌/◌, List, [], ◌∷◌, ◌++◌, length}
-use Rattle.sdh_terms.specs.Rates.{n_of}
+use Rattle.sdh_ringmap.specs.Rates.{n_of}
 use Rattle.sdh_nodestate.specs.declared.NodeState.{NodeState}
 use Rattle.sdh_nodestate.specs.declared.NodeState.TheVariants as state
 use Rattle.sdh_ringmap.specs.Ids.{AreIds}

@@ -1,7 +1,7 @@
 -- The law that a circuit on whose arc nothing is ever asked delivers as if nothing happened elsewhere.
 use Rattle.std.specs.Prelude.{ℕ, ◌≡◌, ◌<◌, ◌-◌, ◌/◌, true, nat_lt, if◌then◌else◌, Some, List, length, slice_get}
-use Rattle.sdh_terms.specs.Rates.{n_of}
-use Rattle.sdh_terms.specs.declared.Code.TheVariants.{Nr}
+use Rattle.sdh_ringmap.specs.Rates.{n_of}
+use Rattle.sdh_ringmap.specs.declared.terms.Code.TheVariants.{Nr}
 use Rattle.sdh_ringmap.specs.Arcs.{holds_span}
 use Rattle.sdh_ringmap.specs.Places.{span_at}
 use Rattle.sdh_ringmap.specs.declared.Side.{Side}

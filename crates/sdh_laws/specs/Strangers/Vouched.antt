@@ -2,7 +2,7 @@
 -- of a ring and its fibres between rounds.
 use Rattle.std.specs.Prelude.{ℕ, ◌≡◌, ◌⊎◌, ◌+◌, ◌*◌, ◌<◌, ◌≤◌, Option, Some, None, option_map, List, length}
 use Rattle.std.specs.Option.{option_and_then}
-use Rattle.sdh_terms.specs.Rates.{n_of}
+use Rattle.sdh_ringmap.specs.Rates.{n_of}
 use Rattle.sdh_frame.specs.Aus.{Au, au_of, ones}
 use Rattle.sdh_parity.specs.Scrambling.{scrambled}
 use Rattle.sdh_kbytes.specs.declared.K.{K}
@@ -20,7 +20,7 @@ use Rattle.sdh_nodestate.specs.Rules.{long_word}
 use Rattle.sdh_nodestate.specs.declared.NodeState.{NodeState}
 use Rattle.sdh_nodestate.specs.declared.NodeState.TheVariants as state
 use Rattle.sdh_payload.specs.Clock.{Clock}
-use Rattle.sdh_terms.specs.Fibres.{fibre}
+use Rattle.sdh_ringmap.specs.Fibres.{fibre}
 use Rattle.sdh_plant.specs.Arrivals.{carried_on}
 use Rattle.sdh_node.specs.Node.{Node, word_of}
 use Rattle.sdh_world.specs.Held.{node_at, AtEach}

@@ -1,5 +1,5 @@
 use Rattle.std.proofs.Common.{◌≡◌}
-use Rattle.sdh_terms.specs.Rates.{n_of}
+use Rattle.sdh_ringmap.specs.Rates.{n_of}
 use Rattle.sdh_bench.proofs.frames.sdh_bench_read_sections.Given as goal
 
 abbrev pub invariant-loop : goal.invariant-loop

@@ -1,5 +1,5 @@
 use Rattle.std.proofs.Common.{◌≡◌}
-use Rattle.sdh_terms.specs.Rates.{n_of}
+use Rattle.sdh_ringmap.specs.Rates.{n_of}
 use Rattle.sdh_bench.proofs.frames.sdh_bench_write_sections.Given as goal
 
 abbrev pub invariant-loop-round : goal.invariant-loop-round

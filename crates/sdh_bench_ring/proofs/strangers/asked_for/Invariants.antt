@@ -1,6 +1,6 @@
 use Rattle.std.specs.Prelude.{◌≡◌, ◌/◌, IfSome}
-use Rattle.sdh_terms.specs.Rates.{n_of}
-use Rattle.sdh_terms.specs.declared.Rate.TheVariants.{Four}
+use Rattle.sdh_ringmap.specs.Rates.{n_of}
+use Rattle.sdh_ringmap.specs.declared.terms.Rate.TheVariants.{Four}
 use Rattle.sdh_circuits.specs.Kept.{KeepsRing}
 use Rattle.sdh_bench_ring.proofs.strangers.asked_for.Given as goal
 

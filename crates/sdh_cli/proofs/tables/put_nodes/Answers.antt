@@ -1,6 +1,6 @@
 use Rattle.std.proofs.Common.{rules, ◌/◌, ◌++◌, ◌∙◌, ap, sym, append_assoc, arith}
 use Rattle.std.specs.List.{flat_map, range_with_len}
-use Rattle.sdh_terms.specs.Rates.{n_of}
+use Rattle.sdh_ringmap.specs.Rates.{n_of}
 use Rattle.sdh_cli.specs.Tables.{node_lines, tables_of}
 use Rattle.sdh_cli.proofs.TableLines.{lines_more}
 use Rattle.sdh_cli.proofs.tables.put_nodes.Goals as goal

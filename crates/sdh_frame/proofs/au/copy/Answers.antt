@@ -1,6 +1,6 @@
 use Rattle.std.proofs.Common.{◌≡◌, ap, refl, inl, inr, arith}
-use Rattle.sdh_terms.specs.declared.Rate.TheVariants.{Four, Sixteen}
-use Rattle.sdh_terms.specs.Rates.{n_of}
+use Rattle.sdh_ringmap.specs.declared.terms.Rate.TheVariants.{Four, Sixteen}
+use Rattle.sdh_ringmap.specs.Rates.{n_of}
 use Rattle.sdh_frame.proofs.ByColumns.{column_small}
 use Rattle.sdh_frame.proofs.Moves.{copied}
 use Rattle.sdh_frame.proofs.au.copy.Goals as goal

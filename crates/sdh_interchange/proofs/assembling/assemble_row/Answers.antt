@@ -1,6 +1,6 @@
 use Rattle.std.proofs.Common.{◌≡◌, ℕ, ◌+◌, ◌-◌, ◌%◌, List, [], length, get_or, ap, sym, ◌∙◌, subst, arith}
 use Rattle.sdh_frame.specs.Sizes.{size_of}
-use Rattle.sdh_terms.specs.Rates.{n_of}
+use Rattle.sdh_ringmap.specs.Rates.{n_of}
 use Rattle.sdh_frame.specs.Aus.{with_aus, pointer_byte}
 use Rattle.sdh_interchange.specs.Assembled.{assembled, HasRow}
 use Rattle.sdh_interchange.proofs.ByBytes.{HereAt, same-here}

@@ -1,6 +1,6 @@
 use Rattle.std.proofs.Common.{◌≡◌, ◌+◌, [], length, get_or, refl, ap, ◌∙◌, arith}
 use Rattle.sdh_frame.specs.Sizes.{Frame}
-use Rattle.sdh_terms.specs.Rates.{n_of}
+use Rattle.sdh_ringmap.specs.Rates.{n_of}
 use Rattle.sdh_frame.specs.Aus.{with_pointers}
 use Rattle.sdh_frame.proofs.AuProofs.{length-with_pointers}
 use Rattle.sdh_interchange.proofs.Pointing.{pointed-none, pointed-more, pointed-all}

@@ -1,6 +1,6 @@
 use Rattle.std.specs.Prelude.{◌≡◌, ℕ, ◌<◌, length, slice_index}
 use Rattle.sdh_frame.specs.Sizes.{size_of}
-use Rattle.sdh_terms.specs.Rates.{n_of}
+use Rattle.sdh_ringmap.specs.Rates.{n_of}
 use Rattle.sdh_interchange.proofs.Pointing.{pointed}
 use Rattle.sdh_interchange.proofs.assembling.point_all.Given as goal
 

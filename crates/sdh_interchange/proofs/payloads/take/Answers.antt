@@ -1,6 +1,6 @@
 use Rattle.std.proofs.Common.{◌≡◌, ◌/◌, ap, subst, arith}
 use Rattle.sdh_interchange.specs.Taking.{HaveRoom}
-use Rattle.sdh_terms.specs.Rates.{n_of}
+use Rattle.sdh_ringmap.specs.Rates.{n_of}
 use Rattle.sdh_interchange.proofs.Holding.{half_taken}
 use Rattle.sdh_interchange.proofs.payloads.take.Goals as goal
 

@@ -1,5 +1,5 @@
 use Rattle.std.proofs.Common.{◌≡◌, ◌*◌, ◌≤◌, length, ap, sym, ◌∙◌, arith, Option, None}
-use Rattle.sdh_terms.specs.Rates.{n_of}
+use Rattle.sdh_ringmap.specs.Rates.{n_of}
 use Rattle.sdh_overhead.specs.Sections.{Parities, found_in}
 use Rattle.sdh_overhead.specs.Landing.{LandedFrame}
 use Rattle.sdh_overhead.proofs.Opening.{unframed-result, unframed-kept, landed-found, landed-kept}

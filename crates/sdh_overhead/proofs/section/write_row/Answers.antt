@@ -1,6 +1,6 @@
 use Rattle.std.proofs.Common.{◌*◌, ◌++◌, ap, sym, subst, ◌∙◌, arith}
-use Rattle.sdh_terms.specs.declared.Rate.{Rate}
-use Rattle.sdh_terms.specs.Rates.{n_of}
+use Rattle.sdh_ringmap.specs.declared.terms.Rate.{Rate}
+use Rattle.sdh_ringmap.specs.Rates.{n_of}
 use Rattle.sdh_overhead.specs.Sections.{MayWrite}
 use Rattle.sdh_overhead.specs.Rows.{HasSent}
 use Rattle.sdh_overhead.proofs.Passing.{rate_some, sent-more, sent-all}

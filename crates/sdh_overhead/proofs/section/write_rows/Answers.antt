@@ -1,5 +1,5 @@
 use Rattle.std.proofs.Common.{◌≡◌, ℕ, ◌+◌, ◌*◌, ◌-◌, ◌≤◌, length, ap, subst, ◌∙◌, arith}
-use Rattle.sdh_terms.specs.Rates.{n_of}
+use Rattle.sdh_ringmap.specs.Rates.{n_of}
 use Rattle.sdh_overhead.specs.Sections.{SectionKept}
 use Rattle.sdh_basics.proofs.Parts.{length-part}
 use Rattle.sdh_overhead.proofs.Nine.{SentTo, none-sent, sent-next, row-within, all-sent, all-kept}

@@ -1,6 +1,6 @@
 use Rattle.std.proofs.Common.{◌/◌, arith}
 use Rattle.std.proofs.lemmas.Result.{err_from_is_err_and}
-use Rattle.sdh_terms.specs.Rates.{n_of}
+use Rattle.sdh_ringmap.specs.Rates.{n_of}
 use Rattle.sdh_plan.proofs.Provisions.{added_next, added_fails, added_len, added_circuits}
 use Rattle.sdh_plan.proofs.circuit.circuits_of.Goals as goal
 

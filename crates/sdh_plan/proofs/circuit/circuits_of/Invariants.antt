@@ -1,5 +1,5 @@
 use Rattle.std.proofs.Common.{◌/◌}
-use Rattle.sdh_terms.specs.Rates.{n_of}
+use Rattle.sdh_ringmap.specs.Rates.{n_of}
 use Rattle.sdh_plan.proofs.Provisions.{Added}
 use Rattle.sdh_plan.proofs.circuit.circuits_of.Given as goal
 

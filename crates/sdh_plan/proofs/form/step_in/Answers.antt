@@ -1,5 +1,5 @@
 use Rattle.std.proofs.Common.{ℕ, List, [], Bor, arith}
-use Rattle.sdh_terms.specs.Rates.{n_of}
+use Rattle.sdh_ringmap.specs.Rates.{n_of}
 use Rattle.sdh_plan.proofs.Forms.{told_whole}
 use Rattle.sdh_plan.proofs.form.step_in.Goals as goal
 

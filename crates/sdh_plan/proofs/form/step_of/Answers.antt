@@ -1,5 +1,5 @@
 use Rattle.std.proofs.Common.{map, ap, sym, ◌∙◌}
-use Rattle.sdh_terms.specs.Rates.{n_of}
+use Rattle.sdh_ringmap.specs.Rates.{n_of}
 use Rattle.sdh_plan.specs.Words.{words}
 use Rattle.sdh_plan.proofs.Forms.{told, told_kept, told_empty}
 use Rattle.sdh_plan.proofs.form.step_of.Goals as goal

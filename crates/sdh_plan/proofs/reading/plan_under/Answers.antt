@@ -2,7 +2,7 @@ use Rattle.std.proofs.Common.{◌≡◌, true, length, ◌/◌, ◌++◌, ap, sy
 use Rattle.std.proofs.lemmas.Result.{err_from_is_err_and}
 use Rattle.toml.specs.Data.{Members}
 use Rattle.toml.specs.View.{table_view}
-use Rattle.sdh_terms.specs.Rates.{n_of}
+use Rattle.sdh_ringmap.specs.Rates.{n_of}
 use Rattle.sdh_plan.specs.Plans.{ring_checks, settings_checks, provision_checks, script_checks, n_in, nodes_in, circuits_in, checks}
 use Rattle.sdh_plan.proofs.Checking.{refused_before}
 use Rattle.sdh_plan.specs.Steps.{new_past, ends_settled}

@@ -1,6 +1,6 @@
 use Rattle.std.proofs.Common.{ap, ◌∙◌}
 use Rattle.std.proofs.lemmas.Result.{err_from_is_err_and}
-use Rattle.sdh_terms.specs.Rates.{n_of}
+use Rattle.sdh_ringmap.specs.Rates.{n_of}
 use Rattle.sdh_plan.specs.Words.{words}
 use Rattle.sdh_plan.specs.Counted.{past_in}
 use Rattle.sdh_plan.specs.Steps.{form_faults, form_step, past_faults, after}

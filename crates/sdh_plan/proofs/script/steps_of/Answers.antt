@@ -1,6 +1,6 @@
 use Rattle.std.proofs.Common.{◌≡◌, ◌+◌, Ok, Err, sym, ◌∙◌, rules}
 use Rattle.std.proofs.lemmas.Result.{err_from_is_err_and, IfOk-at_ok}
-use Rattle.sdh_terms.specs.Rates.{n_of}
+use Rattle.sdh_ringmap.specs.Rates.{n_of}
 use Rattle.sdh_plan.specs.declared.reason.Reason.{Reason}
 use Rattle.sdh_plan.specs.declared.error.PlanError.TheVariants as error
 use Rattle.sdh_plan.specs.Counted.{past_in}

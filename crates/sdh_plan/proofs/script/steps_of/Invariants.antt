@@ -1,4 +1,4 @@
-use Rattle.sdh_terms.specs.Rates.{n_of}
+use Rattle.sdh_ringmap.specs.Rates.{n_of}
 use Rattle.sdh_plan.specs.Counted.{past_in}
 use Rattle.sdh_plan.proofs.Scripts.{Read}
 use Rattle.sdh_plan.proofs.script.steps_of.Given as goal

@@ -1,6 +1,6 @@
 use Rattle.std.proofs.Common.{◌≡◌, ◌-◌, ◌≤◌, length, replicate, None}
 use Rattle.std.specs.Prelude.{All}
-use Rattle.sdh_terms.specs.declared.Condition.TheVariants.{Clear}
+use Rattle.sdh_ringmap.specs.declared.terms.Condition.TheVariants.{Clear}
 use Rattle.sdh_plant.specs.Kept.{conditions, carried, IsFibre}
 use Rattle.sdh_plant.proofs.fibre_plant.new_fibres.Given as goal
 

@@ -1,5 +1,5 @@
-use Rattle.sdh_terms.specs.Requests.{code_number}
-use Rattle.sdh_terms.specs.declared.Code.TheVariants.{Nr}
+use Rattle.sdh_ringmap.specs.Requests.{code_number}
+use Rattle.sdh_ringmap.specs.declared.terms.Code.TheVariants.{Nr}
 use Rattle.sdh_restoration.proofs.Highest.{highest_step}
 use Rattle.sdh_restoration.proofs.applied.highest.Goals as goal
 

@@ -1,5 +1,5 @@
 use Rattle.std.proofs.Common.{◌≡◌, map, take}
-use Rattle.sdh_terms.specs.Requests.{code_number}
+use Rattle.sdh_ringmap.specs.Requests.{code_number}
 use Rattle.sdh_restoration.specs.Applied.{highest}
 use Rattle.sdh_restoration.proofs.applied.highest.Given as goal
 

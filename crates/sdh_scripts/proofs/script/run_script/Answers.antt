@@ -1,7 +1,7 @@
 use Rattle.std.proofs.Common.{◌<◌, Err, [], ◌∷◌, length, take, drop, get_or, ◌+◌, ◌∙◌, ap, refl, sym, subst, arith, rules}
 use Rattle.std.proofs.lemmas.List.{take_more}
 use Rattle.sdh_ringmap.specs.declared.Side.TheVariants.{West}
-use Rattle.sdh_terms.specs.declared.Condition.TheVariants.{Clear}
+use Rattle.sdh_ringmap.specs.declared.terms.Condition.TheVariants.{Clear}
 use Rattle.sdh_rounds.specs.Held.{world}
 use Rattle.sdh_plan.specs.declared.step.Step.{Step}
 use Rattle.sdh_plan.specs.declared.step.Step.TheVariants.{Fibre}

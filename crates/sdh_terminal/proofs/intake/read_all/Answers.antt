@@ -2,7 +2,7 @@ use Rattle.std.proofs.Common.{◌+◌, ap, sym, ◌∙◌, arith, rules}
 use Rattle.std.specs.Prelude.{not}
 use Rattle.std.specs.List.{list_any}
 use Rattle.sdh_basics.proofs.Indexing.{step_more, made_more, place_all, rest_more}
-use Rattle.sdh_terms.specs.Rates.{n_of}
+use Rattle.sdh_ringmap.specs.Rates.{n_of}
 use Rattle.sdh_pointer.specs.Reading.{Interpreter, after_step, action_on}
 use Rattle.sdh_terminal.specs.Same.{same_readings}
 use Rattle.sdh_terminal.specs.Receiving.{pointer_word_at, readings_of, after_frame, actions_in}

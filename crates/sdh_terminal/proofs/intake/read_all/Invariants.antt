@@ -1,6 +1,6 @@
 use Rattle.std.proofs.Common.{◌≡◌, ◌+◌, take, drop, length}
 use Rattle.sdh_basics.specs.Indexed.{map_from}
-use Rattle.sdh_terms.specs.Rates.{n_of}
+use Rattle.sdh_ringmap.specs.Rates.{n_of}
 use Rattle.sdh_pointer.specs.Reading.{after_step, action_on}
 use Rattle.sdh_terminal.specs.Receiving.{pointer_word_at}
 use Rattle.sdh_terminal.proofs.intake.read_all.Given as goal

@@ -1,5 +1,5 @@
 use Rattle.std.proofs.Common.{◌≡◌, ◌-◌, slice_index_or, ap, sym, ◌∙◌}
-use Rattle.sdh_terms.specs.Rates.{n_of}
+use Rattle.sdh_ringmap.specs.Rates.{n_of}
 use Rattle.sdh_frame.specs.Aus.{Au, au_of}
 use Rattle.sdh_pointer.specs.declared.reading.Action.TheVariants.{Ais}
 use Rattle.sdh_pointer.specs.Sending.{form_sent, word_sent}

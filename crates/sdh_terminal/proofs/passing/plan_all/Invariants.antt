@@ -1,6 +1,6 @@
 use Rattle.std.proofs.Common.{◌≡◌, ◌+◌, take, drop, length}
 use Rattle.sdh_basics.specs.Indexed.{map_from}
-use Rattle.sdh_terms.specs.Rates.{n_of}
+use Rattle.sdh_ringmap.specs.Rates.{n_of}
 use Rattle.sdh_pointer.specs.Sending.{Generator, after_action}
 use Rattle.sdh_terminal.specs.Passing.{states_of}
 use Rattle.sdh_terminal.specs.Tributaries.{added_last}

@@ -1,4 +1,4 @@
-use Rattle.sdh_terms.specs.Rates.{n_of}
+use Rattle.sdh_ringmap.specs.Rates.{n_of}
 use Rattle.sdh_terminal.proofs.passing.send_one.Goals as goal
 
 pub returns-in-Port-clause-source : goal.returns-in-Port-clause-source

@@ -1,6 +1,6 @@
 use Rattle.std.proofs.Common.{◌≡◌, length, refl, ap, sym, ◌∙◌, arith}
 use Rattle.sdh_frame.specs.Sizes.{size_of}
-use Rattle.sdh_terms.specs.Rates.{n_of}
+use Rattle.sdh_ringmap.specs.Rates.{n_of}
 use Rattle.sdh_frame.proofs.AllAus.{length-with_aus}
 use Rattle.sdh_overhead.proofs.Built.{none-built}
 use Rattle.sdh_interchange.specs.Assembled.{assembled}

@@ -1,5 +1,5 @@
 use Rattle.std.specs.Prelude.{◌≡◌, ◌≤◌}
-use Rattle.sdh_terms.specs.Rates.{n_of}
+use Rattle.sdh_ringmap.specs.Rates.{n_of}
 use Rattle.sdh_overhead.proofs.Built.{BuiltTo}
 use Rattle.sdh_terminal.specs.Sources.{put_together}
 use Rattle.sdh_terminal.proofs.sender.send_rows.Given as goal

@@ -1,7 +1,7 @@
 use Rattle.std.proofs.Common.{◌≤◌, ◌*◌, sym, subst, arith, rules}
 use Rattle.sdh_basics.proofs.Indexing.{read_here, step_more, rest_more, place_all}
 use Rattle.sdh_terminal.specs.Tributaries.{Tributary}
-use Rattle.sdh_terms.specs.Rates.{n_of}
+use Rattle.sdh_ringmap.specs.Rates.{n_of}
 use Rattle.sdh_terminal.specs.Tributaries.{delivered_with}
 use Rattle.sdh_terminal.specs.Lines.{dropped_by}
 use Rattle.sdh_terminal.proofs.tributary.deliver_all.Goals as goal

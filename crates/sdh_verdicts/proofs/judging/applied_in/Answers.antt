@@ -1,6 +1,6 @@
 use Rattle.std.proofs.Common.{◌∙◌, Bool, false, map, arith}
 use Rattle.std.proofs.lemmas.List.{length-set}
-use Rattle.sdh_terms.specs.Requests.{code_number}
+use Rattle.sdh_ringmap.specs.Requests.{code_number}
 use Rattle.sdh_restoration.specs.Applied.{is_applied}
 use Rattle.sdh_verdicts.proofs.Asking.{set_next}
 use Rattle.sdh_verdicts.proofs.Sets.{of_marks}

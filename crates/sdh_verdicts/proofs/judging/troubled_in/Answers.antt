@@ -1,6 +1,6 @@
 use Rattle.std.proofs.Common.{◌∙◌, Bool, false, map, arith}
 use Rattle.std.proofs.lemmas.List.{length-set}
-use Rattle.sdh_terms.specs.Requests.{code_number}
+use Rattle.sdh_ringmap.specs.Requests.{code_number}
 use Rattle.sdh_verdicts.specs.Verdicts.{is_troubled}
 use Rattle.sdh_verdicts.proofs.Asking.{set_next}
 use Rattle.sdh_verdicts.proofs.Sets.{of_marks}

@@ -1,5 +1,5 @@
 use Rattle.std.proofs.Common.{◌≡◌, ◌<◌, ℕ, false, length, get_or, map}
-use Rattle.sdh_terms.specs.Requests.{code_number}
+use Rattle.sdh_ringmap.specs.Requests.{code_number}
 use Rattle.sdh_verdicts.specs.Verdicts.{is_troubled}
 use Rattle.sdh_verdicts.proofs.judging.troubled_in.Given as goal
 

@@ -1,7 +1,7 @@
 use Rattle.std.proofs.Common.{sym, ap, ◌∙◌, length}
 use Rattle.sdh_plan.specs.declared.step.Step.TheVariants.{Fibre}
 use Rattle.sdh_ringmap.specs.declared.Side.TheVariants.{West}
-use Rattle.sdh_terms.specs.declared.Condition.TheVariants.{Clear}
+use Rattle.sdh_ringmap.specs.declared.terms.Condition.TheVariants.{Clear}
 use Rattle.sdh_verdicts.specs.Sides.{rest_after}
 use Rattle.sdh_verdicts.specs.Sides.{resting_of}
 use Rattle.sdh_verdicts.proofs.Rests.{rests_next}

@@ -1,5 +1,5 @@
 use Rattle.std.proofs.Common.{◌≡◌, length}
-use Rattle.sdh_terms.specs.declared.Rate.TheVariants.{Four}
+use Rattle.sdh_ringmap.specs.declared.terms.Rate.TheVariants.{Four}
 use Rattle.sdh_overhead.specs.Sections.{next_of, MayRead}
 use Rattle.test_lines.proofs.sections.read_by_rows.Given as goal
 

@@ -1,5 +1,5 @@
 use Rattle.std.proofs.Common.{◌≡◌, ◌<◌, length, None}
-use Rattle.sdh_terms.specs.declared.Rate.TheVariants.{Four}
+use Rattle.sdh_ringmap.specs.declared.terms.Rate.TheVariants.{Four}
 use Rattle.sdh_overhead.specs.Sections.{next_of, MayWrite}
 use Rattle.test_lines.proofs.sections.write_by_rows.Given as goal
 

@@ -1,5 +1,5 @@
 use Rattle.std.specs.Prelude.{◌≡◌, ◌/◌, IfSome}
-use Rattle.sdh_terms.specs.Rates.{n_of}
+use Rattle.sdh_ringmap.specs.Rates.{n_of}
 use Rattle.sdh_circuits.specs.Kept.{KeepsRing}
 use Rattle.test_rings.proofs.rings.circuits_of.Given as goal
 

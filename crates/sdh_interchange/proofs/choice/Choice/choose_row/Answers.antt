@@ -1,6 +1,6 @@
 use Rattle.std.proofs.Common.{◌≡◌, ap, sym, ◌∙◌, subst}
-use Rattle.sdh_terms.specs.declared.Rate.TheVariants.{Four, Sixteen}
-use Rattle.sdh_terms.specs.Rates.{n_of}
+use Rattle.sdh_ringmap.specs.declared.terms.Rate.TheVariants.{Four, Sixteen}
+use Rattle.sdh_ringmap.specs.Rates.{n_of}
 use Rattle.sdh_interchange.specs.Assembled.{Origins}
 use Rattle.sdh_interchange.specs.Choosing.{AreSources}
 use Rattle.sdh_interchange.proofs.ByBytes.{PickedAt, picked-same, chosen-here}

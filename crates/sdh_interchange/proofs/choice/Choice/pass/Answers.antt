@@ -1,5 +1,5 @@
 use Rattle.std.proofs.Common.{◌≡◌, ◌*◌, ap, ◌∙◌, subst}
-use Rattle.sdh_terms.specs.Rates.{n_of}
+use Rattle.sdh_ringmap.specs.Rates.{n_of}
 use Rattle.sdh_interchange.specs.Assembled.{Origins}
 use Rattle.sdh_interchange.specs.Choosing.{AreSources}
 use Rattle.sdh_interchange.specs.Lanes.{AreLanes}

@@ -1,6 +1,6 @@
 use Rattle.std.proofs.Common.{◌+◌, ◌/◌, ◌<◌, ap, refl, sym, subst, arith, ◌∙◌}
 use Rattle.std.specs.Prelude.{All, ◌^◌, ◌&&◌, not, nat_le}
-use Rattle.sdh_terms.specs.Rates.{n_of}
+use Rattle.sdh_ringmap.specs.Rates.{n_of}
 use Rattle.sdh_terminal.specs.Tributaries.{Tributary, IsTributary}
 use Rattle.sdh_node.specs.Receiving.{Receiving}
 use Rattle.sdh_terminal.specs.Sending.{Sending}

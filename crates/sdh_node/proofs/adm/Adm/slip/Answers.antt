@@ -1,6 +1,6 @@
 use Rattle.std.proofs.Common.{◌+◌, ◌/◌, ◌≤◌, sym, subst}
 use Rattle.std.specs.Prelude.{All}
-use Rattle.sdh_terms.specs.Rates.{n_of}
+use Rattle.sdh_ringmap.specs.Rates.{n_of}
 use Rattle.sdh_terminal.specs.Tributaries.{waiting_of, IsTributary}
 use Rattle.sdh_node.specs.Node.{Node}
 use Rattle.sdh_terminal.proofs.Slips.{slips_are}

@@ -1,5 +1,5 @@
 use Rattle.std.proofs.Common.{rules, Some, length, ap, ◌∙◌}
-use Rattle.sdh_terms.specs.Rates.{n_of}
+use Rattle.sdh_ringmap.specs.Rates.{n_of}
 use Rattle.sdh_overhead.proofs.Opening.{lent-whole, lands, lands-summed}
 use Rattle.sdh_overhead.proofs.landed.LandedLanding.land.Goals as goal
 

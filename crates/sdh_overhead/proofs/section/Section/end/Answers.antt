@@ -1,5 +1,5 @@
 use Rattle.std.proofs.Common.{◌≡◌, ℕ, List, ◌*◌, take, ap, sym, subst, ◌∙◌, Some, None}
-use Rattle.sdh_terms.specs.Rates.{n_of}
+use Rattle.sdh_ringmap.specs.Rates.{n_of}
 use Rattle.sdh_overhead.specs.Sections.{SectionKept, UnderWay, under_way_of, parities_of}
 use Rattle.sdh_overhead.specs.Rows.{ArePassed}
 use Rattle.sdh_overhead.proofs.Passing.{as-passed, none-under-way, rows-kept}

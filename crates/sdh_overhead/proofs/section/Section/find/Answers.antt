@@ -1,5 +1,5 @@
 use Rattle.std.proofs.Common.{refl, ap, ◌∙◌}
-use Rattle.sdh_terms.specs.Rates.{n_of}
+use Rattle.sdh_ringmap.specs.Rates.{n_of}
 use Rattle.sdh_overhead.specs.Sections.{SectionKept, found_in}
 use Rattle.sdh_overhead.proofs.Opening.{finds}
 use Rattle.sdh_overhead.proofs.section.Section.find.Goals as goal

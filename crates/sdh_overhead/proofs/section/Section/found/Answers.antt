@@ -1,5 +1,5 @@
 use Rattle.std.proofs.Common.{◌≡◌, ◌+◌, true, ap, sym, subst, ◌∙◌}
-use Rattle.sdh_terms.specs.Rates.{n_of}
+use Rattle.sdh_ringmap.specs.Rates.{n_of}
 use Rattle.sdh_overhead.specs.Sections.{SectionKept, UnderWay, next_of, is_framed, last_of, received_in}
 use Rattle.sdh_overhead.specs.Rows.{AreRead}
 use Rattle.sdh_overhead.proofs.Passing.{rows-next}

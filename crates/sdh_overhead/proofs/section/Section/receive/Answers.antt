@@ -1,6 +1,6 @@
 use Rattle.std.proofs.Common.{◌≡◌, ◌+◌, ◌*◌, ◌-◌, ◌++◌, true, length, take, drop, get_or, ap, sym, subst, refl, ◌∙◌}
 use Rattle.std.specs.Prelude.{◌==◌, if◌then◌else◌}
-use Rattle.sdh_terms.specs.Rates.{n_of}
+use Rattle.sdh_ringmap.specs.Rates.{n_of}
 use Rattle.sdh_parity.specs.Pieces.{after_bytes, scrambled_from}
 use Rattle.sdh_parity.specs.Violations.{differing_bits, violations_of}
 use Rattle.sdh_overhead.specs.Sections.{SectionKept, UnderWay, next_of, under_way_of, is_framed}

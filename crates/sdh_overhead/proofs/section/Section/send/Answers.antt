@@ -1,5 +1,5 @@
 use Rattle.std.proofs.Common.{◌≡◌, ◌+◌, ◌*◌, ◌++◌, length, drop, ap, sym, subst, ◌∙◌}
-use Rattle.sdh_terms.specs.Rates.{n_of}
+use Rattle.sdh_ringmap.specs.Rates.{n_of}
 use Rattle.sdh_parity.specs.Pieces.{after_bytes}
 use Rattle.sdh_overhead.specs.Sections.{SectionKept, UnderWay, under_way_of, next_of}
 use Rattle.sdh_overhead.specs.Rows.{ArePassed, skipped}

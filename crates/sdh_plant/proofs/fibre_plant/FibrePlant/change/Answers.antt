@@ -1,7 +1,7 @@
 use Rattle.std.proofs.Common.{◌≡◌, ◌*◌, length, rules}
 use Rattle.std.specs.Prelude.{All}
 use Rattle.std.proofs.lemmas.List.{take_at}
-use Rattle.sdh_terms.specs.Fibres.{IsConditionAt}
+use Rattle.sdh_ringmap.specs.Fibres.{IsConditionAt}
 use Rattle.sdh_plant.specs.Kept.{IsFibre}
 use Rattle.sdh_plant.proofs.fibre_plant.FibrePlant.change.Goals as goal
 

@@ -1,6 +1,6 @@
 use Rattle.std.proofs.Common.{length, ap, sym, ◌∙◌}
 use Rattle.sdh_basics.proofs.CellsLaws.{length-cells}
-use Rattle.sdh_terms.specs.Rates.{n_of}
+use Rattle.sdh_ringmap.specs.Rates.{n_of}
 use Rattle.sdh_terminal.specs.Receiving.{Inlet, Intake}
 use Rattle.sdh_sncp.specs.Slots.{uses_at}
 use Rattle.sdh_sncp.proofs.cross.PathCross.try_new.Goals as goal

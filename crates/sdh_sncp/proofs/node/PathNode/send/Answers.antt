@@ -1,6 +1,6 @@
 use Rattle.std.proofs.Common.{◌+◌, ◌/◌, ◌<◌, ap, sym, subst, arith, ◌∙◌}
 use Rattle.std.specs.Prelude.{All, ◌^◌}
-use Rattle.sdh_terms.specs.Rates.{n_of}
+use Rattle.sdh_ringmap.specs.Rates.{n_of}
 use Rattle.sdh_terminal.specs.Tributaries.{Tributary, IsTributary}
 use Rattle.sdh_terminal.proofs.Ports.{few_rounds, delivered_are, fed_are}
 use Rattle.sdh_sncp.specs.Node.{PathNode, dropped_to, node_round, GoesOn}

@@ -1,6 +1,6 @@
 use Rattle.std.proofs.Common.{◌/◌, ap, sym, subst, ◌∙◌}
 use Rattle.std.specs.Prelude.{All}
-use Rattle.sdh_terms.specs.Rates.{n_of}
+use Rattle.sdh_ringmap.specs.Rates.{n_of}
 use Rattle.sdh_terminal.specs.Sending.{Sending}
 use Rattle.sdh_terminal.specs.Tributaries.{IsTributary}
 use Rattle.sdh_sncp.specs.Node.{PathCross}

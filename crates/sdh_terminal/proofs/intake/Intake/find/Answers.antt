@@ -1,6 +1,6 @@
 use Rattle.std.proofs.Common.{◌≡◌, None, ap, sym, ◌∙◌}
 use Rattle.sdh_frame.specs.Sizes.{Frame}
-use Rattle.sdh_terms.specs.Rates.{n_of}
+use Rattle.sdh_ringmap.specs.Rates.{n_of}
 use Rattle.sdh_terminal.specs.Receiving.{Reception, Intake}
 use Rattle.sdh_terminal.proofs.Landing.{by_landing}
 use Rattle.sdh_terminal.proofs.intake.Intake.find.Goals as goal

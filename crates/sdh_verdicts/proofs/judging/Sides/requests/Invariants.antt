@@ -1,7 +1,7 @@
 use Rattle.std.proofs.Common.{◌≡◌, ◌<◌, ℕ, length, get_or, take}
 use Rattle.std.specs.Prelude.{slice_index}
-use Rattle.sdh_terms.specs.Requests.{code_number}
-use Rattle.sdh_terms.specs.declared.Code.TheVariants.{Nr}
+use Rattle.sdh_ringmap.specs.Requests.{code_number}
+use Rattle.sdh_ringmap.specs.declared.terms.Code.TheVariants.{Nr}
 use Rattle.sdh_restoration.specs.Locals.{no_requests, requests_of}
 use Rattle.sdh_plan.specs.Planned.{Planned}
 use Rattle.sdh_verdicts.specs.Verdicts.{AreSidesOf, asked_at}

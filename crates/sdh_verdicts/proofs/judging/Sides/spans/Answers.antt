@@ -1,6 +1,6 @@
 use Rattle.std.proofs.Common.{◌≡◌, ◌≤◌, ◌∙◌, ℕ, List, ap, subst, length, map, take, arith}
 use Rattle.std.proofs.lemmas.List.{length-take-le}
-use Rattle.sdh_terms.specs.Requests.{code_number}
+use Rattle.sdh_ringmap.specs.Requests.{code_number}
 use Rattle.sdh_restoration.specs.Applied.{is_applied}
 use Rattle.sdh_verdicts.specs.Verdicts.{AreSpans, is_troubled}
 use Rattle.sdh_verdicts.proofs.judging.Sides.spans.Goals as goal

@@ -1,0 +1,12 @@
+use Rattle.std.proofs.Common.{length}
+use Rattle.sdh_signal.proofs.Views.{on-ring}
+use Rattle.sdh_signal.proofs.Rest.{resting}
+use Rattle.sdh_signal.proofs.Inhabited.{some-nodes}
+use Rattle.sdh_signal.proofs.Routes.{routes}
+use Rattle.sdh_signal.proofs.routing.each_port_is_routed.Goals as goal
+
+pub returns : goal.returns
+unfolding resting
+returns c = λ rs slots cs form index circuit is e.
+    let ring = on-ring (length rs) slots cs form in
+    routes (length rs) (resting rs (some-nodes (length rs) cs ring index circuit is)) cs ring index circuit is e

@@ -1,3 +1,0 @@
-pub mod Rates
-pub mod Requests
-pub mod Fibres

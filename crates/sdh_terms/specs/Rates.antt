@@ -1,9 +1,0 @@
--- The rates of a ring: STM-4 and STM-16 (ITU-T G.707).
-use Rattle.std.specs.Prelude.{ℕ}
-use Rattle.sdh_terms.specs.declared.Rate.{Rate}
-use Rattle.sdh_terms.specs.declared.Rate.TheVariants.{Four, Sixteen}
-
--- N, the number of AU-4s in a frame
-abbrev pub n_of : Rate → ℕ
-n_of Four = 4
-n_of Sixteen = 16
