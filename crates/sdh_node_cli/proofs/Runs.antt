@@ -122,15 +122,15 @@ cut_by first b left mid now old_text mid_text new_text count w f = record {
 }
 
 -- as many records were done as may be
-pub served_all : (first b : Bench) (left now old_text new_text : Option (List ℕ)) (count : ℕ) → count ≡ records_max
+pub served_all : (first b : Bench) (left now old_text new_text : Option (List ℕ)) (count number : ℕ) → count ≡ records_max → number ≡ count + 1
     → Went first b left now old_text new_text count
-    → (text : List ℕ) × Served first [] left now (count + 1) (stop.Bad flaw.Many) text × Appends old_text new_text text
-served_all first b left now old_text new_text count all w = (
+    → (text : List ℕ) × Served first [] left now number (stop.Bad flaw.Many) text × Appends old_text new_text text
+served_all first b left now old_text new_text count number all next w = (
   answers first w.records,
   record {
     records = w.records;
     are = w.are;
-    numbered = omega (arith, w.counted);
+    numbered = omega (arith, w.counted, next);
     tail = [];
     read = subst (Consumes left now) (sym (append-nil (stream_of w.records))) w.read;
     so = inr (record { many = refl; all = w.counted ∙ all; unread = refl });

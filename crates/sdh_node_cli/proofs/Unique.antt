@@ -1,6 +1,6 @@
 -- The bytes of a stream tell its records.
 use Rattle.std.proofs.Common.{◌≡◌, ◌≢◌, ℕ, ◌+◌, ◌<◌, ◌≤◌, List, [], ◌∷◌, ◌++◌, length, drop, get_or, refl, ap, sym, subst, ◌∙◌, arith, ◌⊎◌, inl, inr, append_assoc}
-use Rattle.std.specs.Prelude.{Option, Some, None, Ok, Err}
+use Rattle.std.specs.Prelude.{Option, Some, None, Result, Ok, Err}
 use Rattle.std.proofs.lemmas.List.{length-append}
 use Rattle.std.proofs.lemmas.List.Elements.{All-head, All-tail, All-get_or}
 use Rattle.std.proofs.Math.Seq.{get_or-append_seam}
@@ -49,14 +49,14 @@ fronts_same (x ∷ a) (y ∷ b) xs ys n e =
 
 -- ---- one record
 
-opened : (l frames xs : List ℕ) → (whole_line l ++ frames) ++ xs ≡ l ++ 10 ∷ frames ++ xs
+opened : (l frames xs : List ℕ) → (whole_line l ++ frames) ++ xs ≡ l ++ 10 ∷ (frames ++ xs)
 opened l frames xs = append_assoc (whole_line l) frames xs ∙ append_assoc l (10 ∷ []) (frames ++ xs)
 
-ok_same : (r s : Record) → Ok {E = Reason} r ≡ Ok s → r ≡ s
-ok_same r s e = cc
+ok_same : (x : Result Record Reason) (r s : Record) → x ≡ Ok r → x ≡ Ok s → r ≡ s
+ok_same x r s p q = cc
 
 reads_same : (b : Bench) (l m : List ℕ) (r s : Record) → l ≡ m → record_of b.circuits b.at l ≡ Ok r → record_of b.circuits b.at m ≡ Ok s → r ≡ s
-reads_same b l m r s same p q = ok_same r s (sym p ∙ ap (record_of b.circuits b.at) same ∙ q)
+reads_same b l m r s same p q = ok_same (record_of b.circuits b.at l) r s p (ap (record_of b.circuits b.at) same ∙ q)
 
 parts_same : (g h : Given) → g.line ≡ h.line → g.record_is ≡ h.record_is → g.west ≡ h.west → g.east ≡ h.east → g ≡ h
 parts_same g h a b c d =
@@ -75,7 +75,7 @@ given_same b g h x y p q e =
     lines_same g.line h.line _ _ p.said.line_is.one q.said.line_is.one
     (sym (opened g.line (g.west ++ g.east) x) ∙ e ∙ opened h.line (h.west ++ h.east) y) in
     let r = reads_same b g.line h.line g.record_is h.record_is lines.0 p.said.reads q.said.reads in
-    let rest : g.west ++ g.east ++ x ≡ h.west ++ h.east ++ y = sym (append_assoc g.west g.east x) ∙ lines.1 ∙ append_assoc h.west h.east y in
+    let rest : g.west ++ (g.east ++ x) ≡ h.west ++ (h.east ++ y) = sym (append_assoc g.west g.east x) ∙ lines.1 ∙ append_assoc h.west h.east y in
     let west : (g.west ≡ h.west) × (g.east ++ x ≡ h.east ++ y) =
     fronts_same g.west h.west (g.east ++ x) (h.east ++ y) (p.west_whole ∙ ap (λ s. size_after rate (west_of s)) r ∙ sym q.west_whole) rest in
     let east : (g.east ≡ h.east) × (x ≡ y) =
@@ -84,11 +84,11 @@ given_same b g h x y p q e =
 
 -- ---- what a record can't be
 
-none_some : (why : Reason) → None ≡ Some why → ⊥
-none_some why e = cc
+none_some : (o : Option Reason) (why : Reason) → o ≡ None → o ≡ Some why → ⊥
+none_some o why p q = cc
 
-ok_err : (r : Record) (why : Reason) → Ok r ≡ Err why → ⊥
-ok_err r why e = cc
+ok_err : (x : Result Record Reason) (r : Record) (why : Reason) → x ≡ Ok r → x ≡ Err why → ⊥
+ok_err x r why p q = cc
 
 -- less than a record
 no_part : (b : Bench) (g : Given) (x tail : List ℕ) → IsGiven b g → IsCutFrame b tail → bytes_of g ++ x ≡ tail → ⊥
@@ -117,16 +117,16 @@ no_line b g x tail one e =
 -- one that can't be done
 no_refused : (b : Bench) (g : Given) (x tail line : List ℕ) (why : Reason) → IsGiven b g → tail ≡ whole_line line → IsLine line
     → IsRefusedFor b line why → bytes_of g ++ x ≡ tail → ⊥
-no_refused b g x tail line why p is one no e = by no
+no_refused b g x tail line why p is one because e = by because
   where
     same : g.line ≡ line
     same = (lines_same g.line line ((g.west ++ g.east) ++ x) [] p.said.line_is.one one.one
         (sym (opened g.line (g.west ++ g.east) x) ∙ e ∙ is)).0
 
     by : IsRefusedFor b line why → ⊥
-    by (inl err) = ok_err g.record_is why (sym p.said.reads ∙ ap (record_of b.circuits b.at) same ∙ err)
+    by (inl err) = ok_err (record_of b.circuits b.at g.line) g.record_is why p.said.reads (ap (record_of b.circuits b.at) same ∙ err)
     by (inr (r, ok, refused)) =
-        none_some why (sym p.said.may ∙ ap (refusal b) (reads_same b g.line line g.record_is r same p.said.reads ok) ∙ refused)
+        none_some (refusal b g.record_is) why p.said.may (ap (refusal b) (reads_same b g.line line g.record_is r same p.said.reads ok) ∙ refused)
 
 -- what was read where no record more was done
 no_stop : (b : Bench) (g : Given) (x tail : List ℕ) (why : Stop) (now : Option (List ℕ)) → IsGiven b g → StopsSo b why tail now
