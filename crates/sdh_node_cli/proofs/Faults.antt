@@ -30,6 +30,16 @@ counted_before exact Fault Far a b f g x = record {
   none = λ e no. x.none e (λ fault. no (g fault));
 }
 
+-- a read fault is no write fault, and no write fault is a usage or a lack of memory
+pub read_or_write : (end : Ending) → end ≡ ending.Shared status.ReadFault → end ≢ ending.Shared status.WriteFault
+read_or_write end e w = cc
+
+pub write_or_usage : ending.Shared status.WriteFault ≢ ending.Shared status.Usage
+write_or_usage e = cc
+
+pub write_or_memory : ending.Shared status.WriteFault ≢ ending.Shared status.Memory
+write_or_memory e = cc
+
 -- an ending that is no write fault is the one that was to be returned
 pub ended_so : (how end : Ending) (line : List ℕ) (old new : Option (List ℕ)) → WroteEnding bench_endings how line end old new
     → end ≢ ending.Shared status.WriteFault → end ≡ how
