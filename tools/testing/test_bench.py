@@ -2,11 +2,13 @@
 
 import io
 import random
+import subprocess
 import sys
 import tempfile
 import tomllib
 import unittest
 from contextlib import redirect_stdout
+from functools import cache
 from importlib.machinery import SourceFileLoader
 from importlib.util import module_from_spec, spec_from_loader
 from pathlib import Path
@@ -18,6 +20,7 @@ from ringtools.rows import read_rows
 
 TOP = TOOLS.parent
 NODE = TOOLS / "testing" / "node"
+SDHAPS, SDHNODE = TOP / "dist" / "sdhaps", TOP / "dist" / "sdhnode"
 sys.path[:0] = [str(TOP / "bench" / name) for name in ("node", "aps", "outage")]
 
 import model  # noqa: E402
@@ -62,6 +65,53 @@ class Rings(unittest.TestCase):
             wanted = b"".join([*told.wanted, b"done\n"])
             self.assertEqual(model.answer(b"".join(told.given), plan["nodes"][told.p], told.with_frames), (0, wanted))
             self.assertIn(b"switch-" if told.p in (1, 2) else b"idle", wanted)
+
+
+@unittest.skipUnless(SDHNODE.is_file(), "dist/ has no sdhnode")
+class Fed(unittest.TestCase):
+    """The proved sdhnode, fed with what the proved sdhaps writes of its neighbours."""
+
+    ROUNDS = 420
+    PLAN = (TOP / "examples" / "round-by-round.toml").read_bytes()
+
+    def asked(self, program, *words, given):
+        done = subprocess.run([program, *words], input=given, capture_output=True, timeout=600)
+        self.assertEqual(done.returncode, 0, done.stderr)
+        return done.stdout
+
+    @cache
+    def sent(self, node, side):
+        """What a node of the ring sends on a side, frame by frame."""
+        text = self.asked(SDHAPS, "frames", str(node), side, "0", str(self.ROUNDS), given=self.PLAN)
+        size = len(text) // self.ROUNDS
+        self.assertEqual((size, len(text)), (9720, 9720 * self.ROUNDS))
+        return [text[at : at + size] for at in range(0, len(text), size)]
+
+    def stream(self):
+        """What comes to node 2. Its settle steps take 129 rounds at first, and then 128; behind the first one its span to node 3 is cut."""
+        parts = [self.PLAN, model.END]
+        for t in range(self.ROUNDS):
+            dark = 129 <= t < 257
+            parts += [b"moment 10\n"] * (t == 385)
+            parts.append(f"round {'frame' if t else 'none'} {'dark' if dark else 'frame' if t else 'none'}\n".encode())
+            parts += [self.sent(1, "east")[t - 1]] * (t > 0) + [self.sent(3, "west")[t - 1]] * (t > 0 and not dark)
+        return b"".join(parts)
+
+    def test_a_node_that_is_fed_with_its_neighbours_frames_sends_its_own(self):
+        answers, last = read_answers(self.asked(SDHNODE, "2", "frames", given=self.stream()))
+        self.assertEqual((len(answers), last), (self.ROUNDS, "done"))
+        states = [answer.fields["state"] for answer in answers]
+        self.assertEqual((states[128], states[256], states[300], states[419]), ("idle", "switch-east", "switch-east", "idle"))
+        for t, answer in enumerate(answers):
+            self.assertTrue(answer.frames == self.sent(2, "west")[t] + self.sent(2, "east")[t], f"the frames of round {t}")
+
+    def test_its_lines_are_those_of_the_ring(self):
+        text = self.asked(SDHNODE, "2", given=self.stream()).decode().splitlines()
+        lines = [line.split(" ", 2) for line in text if line.startswith("round ")]
+        changed = [" ".join(line) for before, line in zip([None, *lines], lines) if before is None or before[2] != line[2]]
+        ring = self.asked(SDHAPS, "node", "2", given=self.PLAN).decode().splitlines()
+        self.assertEqual(changed, [line for line in ring if line.startswith("round ") and int(line.split(" ")[1]) < self.ROUNDS])
+        self.assertGreater(len(changed), 10)
 
 
 class Comparing(unittest.TestCase):

@@ -30,6 +30,16 @@ counted_before exact Fault Far a b f g x = record {
   none = λ e no. x.none e (λ fault. no (g fault));
 }
 
+-- a read fault is no write fault, and no write fault is a usage or a lack of memory
+pub read_or_write : (end : Ending) → end ≡ ending.Shared status.ReadFault → end ≢ ending.Shared status.WriteFault
+read_or_write end e w = cc
+
+pub write_or_usage : ending.Shared status.WriteFault ≢ ending.Shared status.Usage
+write_or_usage e = cc
+
+pub write_or_memory : ending.Shared status.WriteFault ≢ ending.Shared status.Memory
+write_or_memory e = cc
+
 -- an ending that is no write fault is the one that was to be returned
 pub ended_so : (how end : Ending) (line : List ℕ) (old new : Option (List ℕ)) → WroteEnding bench_endings how line end old new
     → end ≢ ending.Shared status.WriteFault → end ≡ how
@@ -39,16 +49,13 @@ ended_so how end line old new (inr x) not = absurd (not x.0)
 -- so the ending is of a kind only where the one that was to be returned is, or where a write failed
 pub ended_not : (how end other : Ending) (line : List ℕ) (old new : Option (List ℕ)) → WroteEnding bench_endings how line end old new
     → how ≢ other → ending.Shared status.WriteFault ≢ other → end ≢ other
-ended_not how end other line old new (inl x) no never e = no (sym x.0 ∙ e)
-ended_not how end other line old new (inr x) no never e = never (sym x.0 ∙ e)
+ended_not how end other line old new (inl x) other_is never e = other_is (sym x.0 ∙ e)
+ended_not how end other line old new (inr x) other_is never e = never (sym x.0 ∙ e)
 
 -- ---- of a stream without a plan
 
 pub err_of : {T : Type 0} (r : Result T NoHead) (why other : NoHead) → r ≡ Err why → r ≡ Err other → why ≡ other
-err_of r why other p q = err_same (sym p ∙ q)
-  where
-    err_same : Err {T = T} why ≡ Err other → why ≡ other
-    err_same h = cc
+err_of r why other p q = cc
 
 pub fault_of : (why : NoHead) (how : Ending) → Some how ≡ refusal_of why → how ≡ ending.Shared status.ReadFault
     → why ≡ nohead.Refused status.ReadFault

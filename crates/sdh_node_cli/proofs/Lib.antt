@@ -8,3 +8,4 @@ pub mod Heads
 pub mod Turning
 pub mod Faults
 pub mod Told
+pub mod Unique

@@ -1,5 +1,5 @@
 -- Records that were done, one after the other, and one more.
-use Rattle.std.proofs.Common.{◌≡◌, ◌≢◌, ℕ, suc, ◌+◌, List, [], ◌∷◌, ◌++◌, length, refl, ap, sym, subst, ◌∙◌, arith, append_assoc, append-nil}
+use Rattle.std.proofs.Common.{◌≡◌, ◌≢◌, ℕ, suc, ◌+◌, ◌<◌, inl, inr, List, [], ◌∷◌, ◌++◌, length, refl, ap, sym, subst, ◌∙◌, arith, append_assoc, append-nil}
 use Rattle.std.specs.Prelude.{Option, Some, None}
 use Rattle.std.specs.List.{flat_map}
 use Rattle.std.specs.Io.KnownBytes.{Appends, Consumes, Keeps}
@@ -12,7 +12,7 @@ use Rattle.sdh_node_cli.specs.declared.ending.Flaw.TheVariants as flaw
 use Rattle.sdh_node_cli.specs.declared.stop.Stop.{Stop}
 use Rattle.sdh_node_cli.specs.declared.stop.Stop.TheVariants as stop
 use Rattle.sdh_node_cli.specs.Bench.{Bench}
-use Rattle.sdh_node_cli.specs.Streams.{Given, IsGiven, bytes_of, after, answer, AreGiven, after_all, answers, stream_of}
+use Rattle.sdh_node_cli.specs.Streams.{Given, IsGiven, bytes_of, after, answer, AreGiven, after_all, answers, stream_of, records_max}
 use Rattle.sdh_node_cli.specs.Turns.{Goes, Halts, Fails, StopsSo, StopsBy}
 use Rattle.sdh_node_cli.specs.Outcome.{Served, CutShort}
 
@@ -89,10 +89,10 @@ halts b stop.ReadFault left now old_text new_text not s = s
 halts b stop.WriteFault left now old_text new_text not s = absurd (not refl)
 
 -- the records so far, and why there was no other
-pub served_by : (first b : Bench) (left mid now old_text mid_text new_text : Option (List ℕ)) (count : ℕ) (why : Stop)
+pub served_by : (first b : Bench) (left mid now old_text mid_text new_text : Option (List ℕ)) (count : ℕ) (why : Stop) → count < records_max
     → Went first b left mid old_text mid_text count → why ≢ stop.WriteFault → StopsBy b why mid now mid_text new_text
     → (text : List ℕ) × Served first [] left now (count + 1) why text × Appends old_text new_text text
-served_by first b left mid now old_text mid_text new_text count why w not s =
+served_by first b left mid now old_text mid_text new_text count why few w not s =
     let h = halts b why mid now mid_text new_text not s in (
       answers first w.records,
       record {
@@ -101,7 +101,7 @@ served_by first b left mid now old_text mid_text new_text count why w not s =
         numbered = omega (arith, w.counted);
         tail = h.0.0;
         read = Consumes-trans left mid now _ _ w.read h.0.2;
-        so = subst (λ x. StopsSo x why h.0.0 now) w.bench h.0.1;
+        so = inl (omega (arith, few, w.counted), subst (λ x. StopsSo x why h.0.0 now) w.bench h.0.1);
         text_is = refl;
       },
       keeps_behind old_text mid_text new_text _ w.wrote h.1,
@@ -122,18 +122,18 @@ cut_by first b left mid now old_text mid_text new_text count w f = record {
 }
 
 -- as many records were done as may be
-pub served_all : (first b : Bench) (left now old_text new_text : Option (List ℕ)) (count : ℕ)
+pub served_all : (first b : Bench) (left now old_text new_text : Option (List ℕ)) (count number : ℕ) → count ≡ records_max → number ≡ count + 1
     → Went first b left now old_text new_text count
-    → (text : List ℕ) × Served first [] left now (count + 1) (stop.Bad flaw.Many) text × Appends old_text new_text text
-served_all first b left now old_text new_text count w = (
+    → (text : List ℕ) × Served first [] left now number (stop.Bad flaw.Many) text × Appends old_text new_text text
+served_all first b left now old_text new_text count number all next w = (
   answers first w.records,
   record {
     records = w.records;
     are = w.are;
-    numbered = omega (arith, w.counted);
+    numbered = omega (arith, w.counted, next);
     tail = [];
     read = subst (Consumes left now) (sym (append-nil (stream_of w.records))) w.read;
-    so = (refl, tt);
+    so = inr (record { many = refl; all = w.counted ∙ all; unread = refl });
     text_is = refl;
   },
   w.wrote,

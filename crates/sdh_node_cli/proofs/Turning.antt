@@ -1,6 +1,6 @@
 -- One record, by its parts.
 use Rattle.std.proofs.Common.{◌≡◌, ℕ, ◌+◌, ◌<◌, ◌≤◌, List, [], ◌∷◌, ◌++◌, length, refl, ap, sym, subst, ◌∙◌, arith, inl, inr, append-nil}
-use Rattle.std.specs.Prelude.{Option, Some, None, Ok, Err}
+use Rattle.std.specs.Prelude.{Option, Some, None, Result, Ok, Err}
 use Rattle.std.specs.Io.KnownBytes.{Appends, Consumes, IsAtEnd, Keeps}
 use Rattle.std.proofs.KnownBytes.{Appends-nil, Consumes-trans, Keeps-refl}
 use Rattle.std.proofs.lemmas.List.{length-append}
@@ -55,7 +55,7 @@ round_rounds : (now : ℕ) (n : Node) → (node_round now n).0.rounds ≡ n.roun
 unfolding node_round with_calm after_crossing
 round_rounds now n = refl
 
-came_node : Came → List ℕ → Came → List ℕ → Bench → Node
+abbrev came_node : Came → List ℕ → Came → List ℕ → Bench → Node
 came_node west w east e b = after_coming East east e (after_coming West west w b.node)
 
 -- a record leaves the settings and the circuits, and at most one round more was run
@@ -126,7 +126,7 @@ takes_both b c d west east left mid now w e first is_c second is_d = record {
 pub west_part : (b : Bench) (west east : Came) (why : Stop) (left now : Option (List ℕ))
     → TakesPart (size_after b.node.settings.rate west) left now why → TakesPart (both_sizes b west east) left now why
 west_part b west east (stop.Bad flaw.Cut) left now p = (p.0, omega (arith, p.1), p.2, p.3)
-west_part b west east stop.ReadFault left now p = p
+west_part b west east stop.ReadFault left now p = (p.0, omega (arith, p.1), p.2)
 west_part b west east (stop.Bad (flaw.Said r)) left now p = absurd p
 west_part b west east (stop.Bad flaw.Long) left now p = absurd p
 west_part b west east (stop.Bad flaw.Many) left now p = absurd p
@@ -140,7 +140,9 @@ pub east_part : (b c : Bench) (west east : Came) (why : Stop) (left mid now : Op
 east_part b c west east (stop.Bad flaw.Cut) left mid now w first is p =
     let size = ap (λ (s : Settings). size_after s.rate east) (coming_is West west w b c is).0 in
     (w ++ p.0, omega (arith, p.1, size, first.whole, length-append w p.0), Consumes-trans left mid now w p.0 first.read p.2, p.3)
-east_part b c west east stop.ReadFault left mid now w first is p = (w ++ p.0, Consumes-trans left mid now w p.0 first.read p.1)
+east_part b c west east stop.ReadFault left mid now w first is p =
+    let size = ap (λ (s : Settings). size_after s.rate east) (coming_is West west w b c is).0 in
+    (w ++ p.0, omega (arith, p.1, size, first.whole, length-append w p.0), Consumes-trans left mid now w p.0 first.read p.2)
 east_part b c west east (stop.Bad (flaw.Said r)) left mid now w first is p = absurd p
 east_part b c west east (stop.Bad flaw.Long) left mid now w first is p = absurd p
 east_part b c west east (stop.Bad flaw.Many) left mid now w first is p = absurd p
@@ -233,8 +235,8 @@ line_stops b stop.WriteFault left now text h = absurd h.1
 
 pub told_stops : (b : Bench) (line : List ℕ) (t : Told) (why : Reason) (left now text : Option (List ℕ)) → HasLine b line (what.Told t) left now
     → refusal_of b t ≡ Some why → StopsBy b (stop.Bad (flaw.Said why)) left now text text
-told_stops b line t why left now text l no =
-    ((whole_line line, ((line, refl, l.line_is, inr (what.Told t, l.reads, no)), tt), l.read), Keeps-refl text)
+told_stops b line t why left now text l refused =
+    ((whole_line line, ((line, refl, l.line_is, inr (what.Told t, l.reads, refused)), tt), l.read), Keeps-refl text)
 
 pub round_stops : (b : Bench) (line : List ℕ) (west east : Came) (why : Stop) (left mid now old_text new_text : Option (List ℕ))
     → HasLine b line (what.Round west east) left mid → StopsRound b west east why mid now old_text new_text
@@ -270,7 +272,22 @@ round_stops b line west east (stop.Bad flaw.Cut) left mid now old_text new_text 
       s.1,
     )
 round_stops b line west east stop.ReadFault left mid now old_text new_text l s =
-    ((whole_line line ++ s.0.0, tt, Consumes-trans left mid now (whole_line line) s.0.0 l.read s.0.1), s.1)
+    let p = s.0 in (
+      (
+        whole_line line ++ p.0,
+        inr
+            (record {
+              line = line;
+              record_is = what.Round west east;
+              part = p.0;
+              said = record { line_is = l.line_is; reads = l.reads; may = refl };
+              tail_is = refl;
+              short = p.1;
+            }),
+        Consumes-trans left mid now (whole_line line) p.0 l.read p.2,
+      ),
+      s.1,
+    )
 round_stops b line west east (stop.Bad (flaw.Said r)) left mid now old_text new_text l s = absurd s.0
 round_stops b line west east (stop.Bad flaw.Long) left mid now old_text new_text l s = absurd s.0
 round_stops b line west east (stop.Bad flaw.Many) left mid now old_text new_text l s = absurd s.0
@@ -278,10 +295,10 @@ round_stops b line west east stop.Done left mid now old_text new_text l s = absu
 
 -- ---- what telling answers
 
-pub unless_ok : (o : Option Reason) → unless o tt ≡ Ok tt → o ≡ None
-unless_ok None e = refl
-unless_ok (Some why) e = cc
+pub unless_ok : (o : Option Reason) (r : Result (Unit {0}) Reason) → r ≡ unless o tt → r ≡ Ok tt → o ≡ None
+unless_ok None r is e = refl
+unless_ok (Some why) r is e = cc
 
-pub unless_err : (o : Option Reason) (why : Reason) → unless o tt ≡ Err why → o ≡ Some why
-unless_err None why e = cc
-unless_err (Some other) why e = cc
+pub unless_err : (o : Option Reason) (r : Result (Unit {0}) Reason) (why : Reason) → r ≡ unless o tt → r ≡ Err why → o ≡ Some why
+unless_err None r why is e = cc
+unless_err (Some other) r why is e = cc

@@ -5,3 +5,4 @@ pub mod Bench
 pub mod Streams
 pub mod Turns
 pub mod Outcome
+pub mod Laws

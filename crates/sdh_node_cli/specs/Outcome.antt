@@ -1,6 +1,6 @@
 -- How a call of the program ends: each ending, when it is answered, the text that goes with it, and what was read by
 -- then.
-use Rattle.std.specs.Prelude.{ℕ, ◌≡◌, ◌⊎◌, ◌+◌, List, [], ◌++◌, length, codes, Option, Some, None}
+use Rattle.std.specs.Prelude.{ℕ, ◌≡◌, ◌⊎◌, ◌+◌, ◌<◌, List, [], ◌++◌, length, codes, Option, Some, None}
 use Rattle.std.specs.Io.KnownBytes.{Consumes, IsAtEnd}
 use Rattle.sdh_outside.specs.Writing.{AppendsFewer}
 use Rattle.sdh_ringmap.specs.declared.Pos.{Pos}
@@ -22,7 +22,7 @@ use Rattle.sdh_node_cli.specs.declared.stop.Stop.TheVariants as stop
 use Rattle.sdh_node_cli.specs.Endings.{line_of, bench_endings}
 use Rattle.sdh_node_cli.specs.Bench.{Bench, new_bench}
 use Rattle.sdh_node_cli.specs.Streams.{end_of_plan, HasNoEnd, IsDocument, head_max, Given, IsGiven, bytes_of, answer, AreGiven, after_all}
-use Rattle.sdh_node_cli.specs.Streams.{answers, stream_of}
+use Rattle.sdh_node_cli.specs.Streams.{answers, stream_of, records_max}
 use Rattle.sdh_node_cli.specs.Turns.{StopsSo}
 
 -- how the program is called
@@ -82,6 +82,17 @@ TellsNone left now (none.Refused how) = RefusesHead left now how
 
 -- ---- records, one after the other, behind these bytes
 
+-- as many records were done as may be, and nothing more was read
+pub record IsFull (records : List Given) (why : Stop) (tail : List ℕ) : Type 0 where
+  pub many : why ≡ stop.Bad flaw.Many
+  pub all : length records ≡ records_max
+  pub unread : tail ≡ []
+
+-- why no record more was done after these, where this was read of the next one
+abbrev pub StopsAfter : Bench → List Given → Stop → List ℕ → Option (List ℕ) → Type 0
+StopsAfter b records why tail now =
+    ((length records < records_max) × StopsSo (after_all b records) why tail now) ⊎ IsFull records why tail
+
 -- records were done up to one that isn't, which has this number, and their answers are this text
 pub record Served (b : Bench) (head : List ℕ) (left now : Option (List ℕ)) (number : ℕ) (why : Stop) (text : List ℕ) : Type 0 where
   pub records : List Given
@@ -89,7 +100,7 @@ pub record Served (b : Bench) (head : List ℕ) (left now : Option (List ℕ)) (
   pub numbered : number ≡ length records + 1
   pub tail : List ℕ
   pub read : Consumes left now (head ++ (stream_of records ++ tail))
-  pub so : StopsSo (after_all b records) why tail now
+  pub so : StopsAfter b records why tail now
   pub text_is : text ≡ answers b records
 
 -- A write failed in the answer to a record after some: a front of the answers was written, and nothing more was read

@@ -117,6 +117,10 @@ answers b (g ∷ gs) = answer g b ++ answers (after g b) gs
 abbrev pub stream_of : List Given → List ℕ
 stream_of gs = flat_map bytes_of gs
 
+-- the most records that are done
+abbrev pub records_max : ℕ
+records_max = 4294967295
+
 -- ---- where they end
 
 -- the line can't be done for this reason: it is no record, or the node can't do it
@@ -138,13 +142,16 @@ pub record IsCutFrame (b : Bench) (tail : List ℕ) : Type 0 where
   pub tail_is : tail ≡ whole_line line ++ part
   pub short : length part < size_after b.node.settings.rate (west_of record_is) + size_after b.node.settings.rate (east_of record_is)
 
--- What was read of a record that can't be done. `Many` is said after the last record that may be done, and nothing more
--- is read.
+-- less than a record: a front of a line, without its newline byte, or the line and not all of its frames
+abbrev pub IsPart : Bench → List ℕ → Type 0
+IsPart b tail = IsLine tail ⊎ IsCutFrame b tail
+
+-- what was read of a record that can't be done
 abbrev pub IsFlawed : Bench → Flaw → List ℕ → Type 0
 IsFlawed b (flaw.Said why) tail = (line : List ℕ) × (tail ≡ whole_line line) × IsLine line × IsRefusedFor b line why
 IsFlawed b flaw.Cut tail = IsCutLine tail ⊎ IsCutFrame b tail
 IsFlawed b flaw.Long tail = IsOneLine tail × (length tail ≡ 65)
-IsFlawed b flaw.Many tail = tail ≡ []
+IsFlawed b flaw.Many tail = ⊥
 
 -- the stream has ended where it was cut
 abbrev pub EndsIf : Flaw → Option (List ℕ) → Type 0

@@ -10,7 +10,7 @@ use Rattle.sdh_node_cli.specs.declared.stop.Stop.{Stop}
 use Rattle.sdh_node_cli.specs.declared.stop.Stop.TheVariants as stop
 use Rattle.sdh_node_cli.specs.Records.{record_of}
 use Rattle.sdh_node_cli.specs.Bench.{Bench, size_after, with_arrivals, after_round, answer_to, answer_room}
-use Rattle.sdh_node_cli.specs.Streams.{IsLine, Given, IsGiven, bytes_of, after, answer, IsFlawed, EndsIf}
+use Rattle.sdh_node_cli.specs.Streams.{IsLine, Given, IsGiven, bytes_of, after, answer, IsPart, IsFlawed, EndsIf}
 
 -- room enough for an answer of a bench
 abbrev pub room_for : Bench → ℕ
@@ -34,7 +34,7 @@ pub record Takes (b : Bench) (came : Came) (left now : Option (List ℕ)) (bytes
 -- fewer than this number of bytes were read: the source has ended, or a read failed
 abbrev pub TakesPart : ℕ → Option (List ℕ) → Option (List ℕ) → Stop → Type 0
 TakesPart size left now (stop.Bad flaw.Cut) = (bytes : List ℕ) × (length bytes < size) × Consumes left now bytes × IsAtEnd now
-TakesPart size left now stop.ReadFault = (bytes : List ℕ) × Consumes left now bytes
+TakesPart size left now stop.ReadFault = (bytes : List ℕ) × (length bytes < size) × Consumes left now bytes
 TakesPart size left now why = ⊥
 
 -- whole frames were read of what came on both sides, that from the west first, and both are kept for the next round
@@ -88,11 +88,11 @@ pub record Goes (b new : Bench) (left now old_text new_text : Option (List ℕ))
   pub bench : new ≡ after given b
 
 -- Why no record more is done, where this was read of the next one. The source has ended; the next record is flawed; or
--- a read failed. Where a write failed a record was done, and this says nothing of it.
+-- a read failed within it. Where a write failed a record was done, and this says nothing of it.
 abbrev pub StopsSo : Bench → Stop → List ℕ → Option (List ℕ) → Type 0
 StopsSo b stop.Done tail now = (tail ≡ []) × IsAtEnd now
 StopsSo b (stop.Bad f) tail now = IsFlawed b f tail × EndsIf f now
-StopsSo b stop.ReadFault tail now = Unit {0}
+StopsSo b stop.ReadFault tail now = IsPart b tail
 StopsSo b stop.WriteFault tail now = ⊥
 
 -- the source was read so far

@@ -6,6 +6,8 @@
 //! stream of records has `specs/Streams.antt`, and what a call comes to `Tells` in `specs/Outcome.antt`.
 #![tactic(auto)]
 
+ghost use Rattle.sdh_node_cli.specs.Laws.{RecordsAreTold};
+
 mod answer;
 mod bench;
 mod ending;
@@ -19,3 +21,9 @@ mod words;
 
 pub use ending::{Ending, Flaw};
 pub use top::sdhnode;
+
+/// The bytes that were read tell which records were done: there is no other way to read them. So what is written is
+/// determined by what was read.
+pub fn records_are_told()
+    ensures { RecordsAreTold }
+{}

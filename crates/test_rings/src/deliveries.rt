@@ -48,8 +48,8 @@ fn has_delivered(ring: &Ring, port: PortId, other: Sender<'_>, sent: Sent) -> bo
     }
 }
 
-/// Returns whether both ports of the one circuit have delivered all that the other end sent as many rounds before as there
-/// are hops.
+/// Returns whether both ports of the one circuit have delivered all that the other end sent as many rounds before as
+/// there are hops.
 pub(crate) fn have_delivered(ring: &Ring, asked: &Asked<'_>, hops: u32) -> bool {
     let (a, b) = (sender_at(asked, End::A), sender_at(asked, End::B));
     let rounds = ring.rounds();

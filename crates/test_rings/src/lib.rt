@@ -1,4 +1,5 @@
-//! Worked rings and path rings as tests, over the public calls of the crates that make them. No other crate stands on this one.
+//! Worked rings and path rings as tests, over the public calls of the crates that make them. No other crate stands on
+//! this one.
 #![tactic(auto)]
 
 #[cfg(test)]

@@ -95,8 +95,8 @@ fn settles<P: Plant>(
     Ok(ring.settle(plant, 1000).is_ok() && ring.rounds() == 129)
 }
 
-// Returns whether the ports of a circuit from node 1 to another deliver AIS at first, and these bytes once the fibres are
-// cut.
+// Returns whether the ports of a circuit from node 1 to another deliver AIS at first, and these bytes once the fibres
+// are cut.
 fn come_out<P: Plant>(
     alloc: Global,
     plant: &mut P,

@@ -1,5 +1,5 @@
-//! Rings of four nodes that are cut, mended and wait to restore, and that are switched before works: what each node does and sends,
-//! and all that each port delivers, after each settle step.
+//! Rings of four nodes that are cut, mended and wait to restore, and that are switched before works: what each node
+//! does and sends, and all that each port delivers, after each settle step.
 ghost use Rattle.sdh_plant.specs.Fibres.{HasNoFibres};
 
 use crate::rings::{ALPHABETS, AT_FOUR, Line, State, laid_as};

@@ -18,10 +18,11 @@ pub(crate) enum Seen {
     Met(u32),
     /// What the third node asks for on its west side.
     Asks(Code),
-    /// The number of the last round, each node's line, and how many rounds before the other end of the one circuit sent what each of
-    /// its ports delivers.
+    /// The number of the last round, each node's line, and how many rounds before the other end of the one circuit sent
+    /// what each of its ports delivers.
     Delivers(u64, &'static [Line], u32),
-    /// The number of the last round, each node's line, and the hops of the circuits of a full ring from its second node.
+    /// The number of the last round, each node's line, and the hops of the circuits of a full ring from its second
+    /// node.
     Full(u64, &'static [Line], u32),
     /// What both ports show after round 128, where no slip waits.
     Shows(Shown, Shown),
@@ -76,7 +77,8 @@ fn has_letter(ring: &Ring, circuit: u8, a: u8, b: u8) -> bool {
     at_a == a || at_a == b || at_b == a || at_b == b
 }
 
-/// Returns whether a port gets the bytes of the other circuit: those of the first are A and B, and of the second C and D.
+/// Returns whether a port gets the bytes of the other circuit: those of the first are A and B, and of the second C and
+/// D.
 pub(crate) fn meets(ring: &Ring) -> bool {
     has_letter(ring, 0, b'C', b'D') || has_letter(ring, 1, b'A', b'B')
 }
@@ -95,7 +97,8 @@ fn shows(ring: &Ring, port: PortId, shown: Shown) -> bool {
     }
 }
 
-// Returns whether both ports deliver what the other end sent so many rounds before round 128, once these slips of each were made good.
+// Returns whether both ports deliver what the other end sent so many rounds before round 128, once these slips of each
+// were made good.
 fn are_owed(ring: &Ring, a: (u8, u8), b: (u8, u8), hops: u64) -> bool {
     let round = 128 - hops.min(128);
     ring.rounds() == 129
@@ -116,9 +119,9 @@ fn shows_at(ring: &Ring, port: PortId, front: &[u8], j1: u8) -> bool
     }
 }
 
-// Returns whether all ports of a full ring show the other end's text. The last round has a number that is a multiple of 128, so that
-// J1 is the trace's first byte where it was sent one round before, and a space of its padding where it was sent three
-// rounds before: the circuits from the second node have `hops` hops, or one as all others.
+// Returns whether all ports of a full ring show the other end's text. The last round has a number that is a multiple of
+// 128, so that J1 is the trace's first byte where it was sent one round before, and a space of its padding where it was
+// sent three rounds before: the circuits from the second node have `hops` hops, or one as all others.
 fn all_show(ring: &Ring, hops: u32) -> bool {
     if ring.circuits().len() != 32 {
         return false;

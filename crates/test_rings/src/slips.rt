@@ -14,7 +14,8 @@ use sdh_ring::Ring;
 use sdh_ringmap::Condition;
 use std::alloc::{AllocError, Global};
 
-/// The slips of a port's clock: those that wait, those that were made good, and the number of the last round in which one was.
+/// The slips of a port's clock: those that wait, those that were made good, and the number of the last round in which
+/// one was.
 #[derive(Clone, Copy)]
 struct Slips {
     ups: u64,
@@ -153,8 +154,8 @@ impl Chance {
     }
 }
 
-/// One end of the circuit: what it sends and with which B3, its slips, what it sent last, and how often its pointer value went over
-/// the largest one and under 0.
+/// One end of the circuit: what it sends and with which B3, its slips, what it sent last, and how often its pointer
+/// value went over the largest one and under 0.
 #[derive(Drop)]
 struct Far<'a> {
     port: PortId,
@@ -250,8 +251,8 @@ fn go<P: Plant>(
     Ok(deliver && has_waiting(ring, PORT_A, a.slips) && has_waiting(ring, PORT_B, b.slips))
 }
 
-/// In how many rounds all was as it is to be, how often both pointer values rose and fell, and how often they went over the largest
-/// value and under 0.
+/// In how many rounds all was as it is to be, how often both pointer values rose and fell, and how often they went over
+/// the largest value and under 0.
 #[derive(Clone, Copy)]
 struct Tally {
     right: u64,
@@ -333,8 +334,8 @@ fn neighbours_interpret_random_slips(rt: HostRuntime) {
 
 // ---- slips before a settle step
 
-/// Returns what a port sends in a round by which these slips up and down were made good, where none was pending for that
-/// round.
+/// Returns what a port sends in a round by which these slips up and down were made good, where none was pending for
+/// that round.
 pub(crate) fn settled(offset: u64, made: (u8, u8), round: u64) -> Sent {
     let slips = Slips {
         raised: u64::from(made.0),

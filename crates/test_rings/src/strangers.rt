@@ -1,4 +1,5 @@
-//! What a controller that is held while the ring switches lets through: two circuits whose ports get each other's bytes.
+//! What a controller that is held while the ring switches lets through: two circuits whose ports get each other's
+//! bytes.
 
 use crate::scripts::{Case, Segment, Step, all_come_out};
 use crate::seen::Seen;
@@ -47,9 +48,10 @@ const FOUR: Case = Case {
     segments: &[],
 };
 
-// Span 0 is cut and mended, and span 1 cut while node 2 is held and mended while node 3 is, so that it goes on passing traffic
-// through; then both spans are cut. Node 3 has 88 turns left to miss when both are. In the first two of these rounds its
-// neighbours hear that, and from the third one on they switch towards each other and away from their own customers.
+// Span 0 is cut and mended, and span 1 cut while node 2 is held and mended while node 3 is, so that it goes on passing
+// traffic through; then both spans are cut. Node 3 has 88 turns left to miss when both are. In the first two of these
+// rounds its neighbours hear that, and from the third one on they switch towards each other and away from their own
+// customers.
 const HELD: &[Case] = &[Case {
     segments: &[Segment {
         moment: 0,
@@ -77,7 +79,8 @@ fn a_node_that_is_held_while_it_passes_through_lets_strangers_meet(rt: HostRunti
     all_come_out(&rt, rt.alloc(), HELD);
 }
 
-// A plan's holds come in a ring that is quiet. Five nodes, circuit v from node 2 to node 3, and u from node 1 to node 2.
+// A plan's holds come in a ring that is quiet. Five nodes, circuit v from node 2 to node 3, and u from node 1 to node
+// 2.
 const V: Asked<'static> = Asked {
     name: "v",
     from: 2,
@@ -116,8 +119,8 @@ const FIVE: Case = Case {
     segments: &[],
 };
 
-// The fibres that leave nodes 1 and 2 eastwards are cut, so that node 2 is cut off, node 3 is switched and node 0 passes traffic
-// through. Once that is quiet, the one is degraded and the other is mended.
+// The fibres that leave nodes 1 and 2 eastwards are cut, so that node 2 is cut off, node 3 is switched and node 0
+// passes traffic through. Once that is quiet, the one is degraded and the other is mended.
 const CUT_1: Step = Step::Fibre(1, Side::East, Condition::Cut);
 
 const CUT_2: Step = Step::Fibre(2, Side::East, Condition::Cut);
@@ -133,8 +136,8 @@ const SWITCHED: Step = Step::Hold(3, 4);
 
 const AFTER: Step = Step::Rounds(40);
 
-// While node 3 is held, node 2 puts onto protection what goes to it. That has come round by node 0, under the old word, when
-// node 2 is switched to the other side and takes it for what comes from node 1.
+// While node 3 is held, node 2 puts onto protection what goes to it. That has come round by node 0, under the old word,
+// when node 2 is switched to the other side and takes it for what comes from node 1.
 const BOTH_HELD: Segment = Segment {
     moment: 0,
     steps: &[
@@ -226,8 +229,8 @@ const AGAIN: Segment = Segment {
     seen: Seen::Met(0),
 };
 
-// A stranger comes in the first step, and in no later one whose own changes hold no node that passes traffic through. It comes again in
-// a later one that holds one.
+// A stranger comes in the first step, and in no later one whose own changes hold no node that passes traffic through.
+// It comes again in a later one that holds one.
 const IN_TURN: &[Case] = &[
     Case {
         segments: &[BOTH_HELD, AGAIN, ONE_HELD],
@@ -244,8 +247,8 @@ fn a_hold_spoils_its_own_step_alone(rt: HostRuntime) {
     all_come_out(&rt, rt.alloc(), IN_TURN);
 }
 
-// The same as in the first ring, and none is held; and slips that wait, a cut, a degraded and a commanded span, and others while
-// the ring is switching.
+// The same as in the first ring, and none is held; and slips that wait, a cut, a degraded and a commanded span, and
+// others while the ring is switching.
 const FREE: &[Case] = &[
     Case {
         segments: &[Segment {

@@ -1,11 +1,12 @@
 //! Settle steps that are worked out by hand: both clocks slipped, and a fibre is degraded or a node is cut off.
 //!
-//! Each step ends with round 128, and a port delivers what the other end sent h rounds before, in round 128 - h. All slips are made
-//! good by then, the k-th in round 4 k. So the pointer value is the offset, plus the ups, less the downs, modulo 783, and the first
-//! byte has place 2349 (128 - h) - 3 ups + 3 downs in the stream. At offset 781 a VC-4 begins at index 783 + 3 * 781 - 2349 = 777 of the
-//! AU-4, so that the stream begins with byte 2349 - 777 = 1572 of the first VC-4; at offset 1 it begins with byte 2349 - 786 = 1563. Byte i
-//! of a VC-4 is that of row i / 261 and column i % 261; the first column is path overhead, and byte j of the text stands behind it
-//! in the others, where j is 2340 for each VC-4 before and 260 for each row before, modulo the seven letters.
+//! Each step ends with round 128, and a port delivers what the other end sent h rounds before, in round 128 - h. All
+//! slips are made good by then, the k-th in round 4 k. So the pointer value is the offset, plus the ups, less the
+//! downs, modulo 783, and the first byte has place 2349 (128 - h) - 3 ups + 3 downs in the stream. At offset 781 a VC-4
+//! begins at index 783 + 3 * 781 - 2349 = 777 of the AU-4, so that the stream begins with byte 2349 - 777 = 1572 of the
+//! first VC-4; at offset 1 it begins with byte 2349 - 786 = 1563. Byte i of a VC-4 is that of row i / 261 and column i
+//! % 261; the first column is path overhead, and byte j of the text stands behind it in the others, where j is 2340 for
+//! each VC-4 before and 260 for each row before, modulo the seven letters.
 
 use crate::rings::{ALPHABETS, AT_FOUR, AT_SIXTEEN, PORT_A, PORT_B};
 use crate::scripts::{Case, Segment, Step, all_come_out};
@@ -29,19 +30,22 @@ const FOUR: Case = Case {
     segments: &[],
 };
 
-// The fibre from the second to the third node is degraded at the threshold, and each span of the second node is cut both ways.
+// The fibre from the second to the third node is degraded at the threshold, and each span of the second node is cut
+// both ways.
 const DEGRADE: Step = Step::Fibre(1, Side::East, Condition::Degraded(3));
 
 const CUT_BEFORE: Step = Step::Span(0, Condition::Cut);
 
 const CUT_BEHIND: Step = Step::Span(1, Condition::Cut);
 
-// The span is applied, and the way has four spans: to the second node and back, and on by the fourth, h = 4. 2349 * 124 is 291276.
+// The span is applied, and the way has four spans: to the second node and back, and on by the fourth, h = 4. 2349 * 124
+// is 291276.
 //
-// From port a: 781 + 2 is 783, so 0. 291276 - 6 + 1572 = 124 * 2349 + 1566, and 1566 is column 0 of row 6, which is F3, a 0. Then
-// 2340 * 124 + 260 * 6 = 291720, which is 2 modulo 7: C.
+// From port a: 781 + 2 is 783, so 0. 291276 - 6 + 1572 = 124 * 2349 + 1566, and 1566 is column 0 of row 6, which is F3,
+// a 0. Then 2340 * 124 + 260 * 6 = 291720, which is 2 modulo 7: C.
 //
-// From port b: 1 - 3 is -2, so 781. 291276 + 9 + 1563 = 124 * 2349 + 1572, column 6 of row 6. 291720 + 5 is 0 modulo 7: a.
+// From port b: 1 - 3 is -2, so 781. 291276 + 9 + 1563 = 124 * 2349 + 1572, column 6 of row 6. 291720 + 5 is 0 modulo 7:
+// a.
 const DEGRADED: &[Segment] = &[Segment {
     moment: 0,
     steps: &[
@@ -55,11 +59,11 @@ const DEGRADED: &[Segment] = &[Segment {
 
 // The way round by the fourth node has two spans, h = 2. 2349 * 126 is 295974.
 //
-// From port a: 781 - 5 is 776. 295974 + 15 + 1572 = 126 * 2349 + 1587, column 21 of row 6. 2340 * 126 + 260 * 6 + 20 = 296420, which is
-// 5 modulo 7: F.
+// From port a: 781 - 5 is 776. 295974 + 15 + 1572 = 126 * 2349 + 1587, column 21 of row 6. 2340 * 126 + 260 * 6 + 20 =
+// 296420, which is 5 modulo 7: F.
 //
-// From port b: 1 + 7 - 2 is 6. 295974 - 21 + 6 + 1563 = 126 * 2349 + 1548, column 243 of row 5. 2340 * 126 + 260 * 5 + 242 = 296382, which
-// is 2 modulo 7: c.
+// From port b: 1 + 7 - 2 is 6. 295974 - 21 + 6 + 1563 = 126 * 2349 + 1548, column 243 of row 5. 2340 * 126 + 260 * 5 +
+// 242 = 296382, which is 2 modulo 7: c.
 const CUT_OFF: &[Segment] = &[Segment {
     moment: 0,
     steps: &[

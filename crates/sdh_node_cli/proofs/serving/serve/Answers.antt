@@ -1,5 +1,6 @@
 use Rattle.std.proofs.Common.{◌≡◌, ◌≤◌, ap, sym, subst, ◌∙◌, arith, refl}
 use native.Mathlib.Nat.{le_refl}
+use Rattle.sdh_node_cli.specs.declared.stop.Stop.{Stop}
 use Rattle.sdh_node_cli.specs.Bench.{Bench}
 use Rattle.sdh_node_cli.specs.Turns.{room_for, StopsBy}
 use Rattle.sdh_node_cli.proofs.Runs.{went_none, went_on, served_by, cut_by, served_all}
@@ -38,12 +39,17 @@ loop-done-preserved g c =
 
 pub returns-in-Err-clause-served : goal.returns-in-Err-clause-served
 returns-in-Err-clause-served g c = λ not.
-    served_by _ c.loop-done.bench _ _ _ _ _ _ c.loop-done.done c.in-Err.stop c.loop-done.invariant.went not c.in-Err.ensures.stops
+    served_by _ c.loop-done.bench _ _ _ _ _ _ c.loop-done.done c.in-Err.stop (omega (arith, c.loop-done-test.true)) c.loop-done.invariant.went not c.in-Err.ensures.stops
 
 pub returns-in-Err-clause-cut : goal.returns-in-Err-clause-cut
 returns-in-Err-clause-cut g c = λ is.
+    let left = g.R.Source.left in
+    let text = g.W.Sink.written in
     cut_by _ c.loop-done.bench _ _ _ _ _ _ c.loop-done.done c.loop-done.invariant.went
-    (subst (λ x. StopsBy c.loop-done.bench x _ _ _ _) is c.in-Err.ensures.stops)
+    (subst (λ (x : Stop). StopsBy c.loop-done.bench x (left c.loop-done.source) (left c.turn.new.source) (text c.loop-done.sink)
+    (text c.turn.new.sink)) is c.in-Err.ensures.stops)
 
 pub returns-clause-served : goal.returns-clause-served
-returns-clause-served g c = λ not. served_all _ _ _ _ _ _ c.loop-done.done c.loop-done.invariant.went
+returns-clause-served g c = λ not.
+    served_all _ _ _ _ _ _ c.loop-done.done _ (omega (arith, c.loop-done-test.false)) (omega (arith, c.loop-done-test.false))
+    c.loop-done.invariant.went

@@ -8,7 +8,7 @@ use Rattle.sdh_shell.proofs.Pieces.{rose}
 use Rattle.sdh_node_cli.specs.Endings.{line_of, bench_endings}
 use Rattle.sdh_node_cli.specs.declared.ending.Ending.TheVariants as ending
 use Rattle.sdh_node_cli.proofs.Told.{none_shown, tells_planned, tells_refusal, wrote_line}
-use Rattle.sdh_node_cli.proofs.Faults.{counted_behind, counted_before, ended_so, ended_not, err_of, fault_of, of_fault, none_own}
+use Rattle.sdh_node_cli.proofs.Faults.{counted_behind, counted_before, read_or_write, write_or_usage, write_or_memory, ended_so, ended_not, err_of, fault_of, of_fault, none_own}
 use Rattle.sdh_node_cli.proofs.top.answer.Goals as goal
 
 pub returns-in-Ok-clause-outcome : goal.returns-in-Ok-clause-outcome
@@ -22,8 +22,11 @@ returns-in-Ok-clause-outcome g c =
 pub write_ended-requires : goal.write_ended-requires
 write_ended-requires g c =
     let left = g.R.Source.left in
-    subst (IsShown bench_endings) (sym c.ended.ensures.ending) (none_shown (left c.args.source.now) (left c.plan_in.new.source) c.in-Err.why
-    c.in-Some.how c.in-Err.ensures.refused (sym c.in-Some.is ∙ c.refusal_of.ensures))
+    record {
+      shown =
+          subst (IsShown bench_endings) (sym c.ended.ensures.ending) (none_shown (left c.args.source.now) (left c.plan_in.new.source)
+          c.in-Err.why c.in-Some.how c.in-Err.ensures.refused (sym c.in-Some.is ∙ c.refusal_of.ensures));
+    }
 
 pub returns-in-Some-clause-outcome : goal.returns-in-Some-clause-outcome
 returns-in-Some-clause-outcome g c =
@@ -49,7 +52,7 @@ returns-in-Ok-clause-reads g c =
 
 pub returns-in-Some-clause-read : goal.returns-in-Some-clause-read
 returns-in-Some-clause-read g c = λ e.
-    let same = ended_so _ _ _ _ _ c.write_ended.ensures.wrote (λ w. cc) in
+    let same = ended_so _ _ _ _ _ c.write_ended.ensures.wrote (read_or_write _ e) in
     let how = sym c.ended.ensures.ending ∙ sym same ∙ e in
     c.plan_in.ensures.fault (c.in-Err.is ∙ ap Err (fault_of c.in-Err.why c.in-Some.how (sym c.in-Some.is ∙ c.refusal_of.ensures) how))
 
@@ -67,6 +70,6 @@ returns-in-Some-clause-own g c =
     let own = none_own (left c.args.source.now) (left c.plan_in.new.source) c.in-Err.why c.in-Some.how c.in-Err.ensures.refused
     (sym c.in-Some.is ∙ c.refusal_of.ensures) in
     let is = c.ended.ensures.ending in (
-      ended_not _ _ (ending.Shared status.Usage) _ _ _ c.write_ended.ensures.wrote (λ e. own.0 (sym is ∙ e)) (λ e. cc),
-      ended_not _ _ (ending.Shared status.Memory) _ _ _ c.write_ended.ensures.wrote (λ e. own.1 (sym is ∙ e)) (λ e. cc),
+      ended_not _ _ (ending.Shared status.Usage) _ _ _ c.write_ended.ensures.wrote (λ e. own.0 (sym is ∙ e)) write_or_usage,
+      ended_not _ _ (ending.Shared status.Memory) _ _ _ c.write_ended.ensures.wrote (λ e. own.1 (sym is ∙ e)) write_or_memory,
     )

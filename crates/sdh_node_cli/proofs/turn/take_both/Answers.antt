@@ -2,7 +2,7 @@ use Rattle.sdh_node_cli.proofs.Turning.{takes_both, west_part, east_part}
 use Rattle.sdh_node_cli.proofs.turn.take_both.Goals as goal
 
 pub returns-in-Err-clause-part : goal.returns-in-Err-clause-part
-returns-in-Err-clause-part g c = west_part _ _ c.args.came.1 c.in-Err.stop _ _ c.in-Err.ensures.part
+returns-in-Err-clause-part g c = west_part c.args.bench.now c.args.came.0 c.args.came.1 c.in-Err.stop _ _ c.in-Err.ensures.part
 
 pub returns-in-Ok-take_in-clause-ok : goal.returns-in-Ok-take_in-clause-ok
 returns-in-Ok-take_in-clause-ok g c =
@@ -10,7 +10,7 @@ returns-in-Ok-take_in-clause-ok g c =
     let second = c.in-Ok-take_in.ensures.ok in
     takes_both _ _ _ _ _ _ _ _ first.0 second.0 first.1 first.2 second.1 second.2
 
-pub returns-clause-part : goal.returns-clause-part
-returns-clause-part g c =
+pub returns-in-Err-take_in-clause-part : goal.returns-in-Err-take_in-clause-part
+returns-in-Err-take_in-clause-part g c =
     let first = c.in-Ok.ensures.ok in
     east_part _ _ _ _ c.in-Err-take_in.stop _ _ _ first.0 first.1 first.2 c.in-Err-take_in.ensures.part

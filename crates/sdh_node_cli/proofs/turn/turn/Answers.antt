@@ -1,26 +1,41 @@
-use Rattle.std.proofs.Common.{subst, sym, ◌∙◌}
+use Rattle.std.proofs.Common.{subst}
+use Rattle.sdh_node_cli.specs.declared.record.Record.{Record}
 use Rattle.sdh_node_cli.specs.Turns.{HasLine}
 use Rattle.sdh_node_cli.proofs.Turning.{goes_round, goes_told, line_stops, told_stops, round_stops, unless_ok, unless_err}
 use Rattle.sdh_node_cli.proofs.turn.turn.Goals as goal
 
 pub returns-in-Ok-run_round-clause-goes : goal.returns-in-Ok-run_round-clause-goes
 returns-in-Ok-run_round-clause-goes g c =
-    goes_round _ _ _ _ _ _ _ _ _ _ (subst (λ r. HasLine _ _ r _ _) c.in-Round.is c.in-Ok.ensures.line) c.in-Ok-run_round.ensures.ran
+    let left = g.R.Source.left in
+    let b = c.args.bench.now in
+    let line = c.next_record.new.line.bytes in
+    goes_round _ _ _ _ _ _ _ _ _ _ (subst (λ (r : Record). HasLine b line r (left c.args.source.now) (left c.next_record.new.source)) c.in-Round.is
+    c.in-Ok.ensures.line) c.in-Ok-run_round.ensures.ran
 
-pub returns-in-Round-clause-stops : goal.returns-in-Round-clause-stops
-returns-in-Round-clause-stops g c =
-    round_stops _ _ _ _ c.in-Err-run_round.stop _ _ _ _ _ (subst (λ r. HasLine _ _ r _ _) c.in-Round.is c.in-Ok.ensures.line)
-    c.in-Err-run_round.ensures.stops
+pub returns-in-Err-run_round-clause-stops : goal.returns-in-Err-run_round-clause-stops
+returns-in-Err-run_round-clause-stops g c =
+    let left = g.R.Source.left in
+    let b = c.args.bench.now in
+    let line = c.next_record.new.line.bytes in
+    round_stops _ _ _ _ c.in-Err-run_round.stop _ _ _ _ _ (subst (λ (r : Record). HasLine b line r (left c.args.source.now)
+    (left c.next_record.new.source)) c.in-Round.is c.in-Ok.ensures.line) c.in-Err-run_round.ensures.stops
 
 pub returns-in-Ok-tell-clause-goes : goal.returns-in-Ok-tell-clause-goes
 returns-in-Ok-tell-clause-goes g c =
-    goes_told _ _ _ c.in-Told.told _ _ _ (subst (λ r. HasLine _ _ r _ _) c.in-Told.is c.in-Ok.ensures.line)
-    (unless_ok _ (sym c.tell.ensures.refused ∙ c.in-Ok-tell.is)) c.in-Ok-tell.ensures.ok
+    let left = g.R.Source.left in
+    let b = c.args.bench.now in
+    let line = c.next_record.new.line.bytes in
+    goes_told _ _ _ c.in-Told.told _ _ _ (subst (λ (r : Record). HasLine b line r (left c.args.source.now) (left c.next_record.new.source))
+    c.in-Told.is c.in-Ok.ensures.line) (unless_ok _ c.tell.result c.tell.ensures.refused c.in-Ok-tell.is) c.in-Ok-tell.ensures.ok
 
-pub returns-in-Told-clause-stops : goal.returns-in-Told-clause-stops
-returns-in-Told-clause-stops g c =
-    told_stops _ _ c.in-Told.told c.in-Err-tell.reason _ _ _ (subst (λ r. HasLine _ _ r _ _) c.in-Told.is c.in-Ok.ensures.line)
-    (unless_err _ _ (sym c.tell.ensures.refused ∙ c.in-Err-tell.is))
+pub returns-in-Err-tell-clause-stops : goal.returns-in-Err-tell-clause-stops
+returns-in-Err-tell-clause-stops g c =
+    let left = g.R.Source.left in
+    let b = c.args.bench.now in
+    let line = c.next_record.new.line.bytes in
+    told_stops _ _ c.in-Told.told c.in-Err-tell.reason _ _ _ (subst (λ (r : Record). HasLine b line r (left c.args.source.now)
+    (left c.next_record.new.source)) c.in-Told.is c.in-Ok.ensures.line)
+    (unless_err _ c.tell.result _ c.tell.ensures.refused c.in-Err-tell.is)
 
-pub returns-clause-stops : goal.returns-clause-stops
-returns-clause-stops g c = line_stops _ c.in-Err.stop _ _ _ c.in-Err.ensures.stop
+pub returns-in-Err-clause-stops : goal.returns-in-Err-clause-stops
+returns-in-Err-clause-stops g c = line_stops _ c.in-Err.stop _ _ _ c.in-Err.ensures.stop
