@@ -1,4 +1,4 @@
-//! The text of a plan's squelch tables: what each node knows beforehand of the circuits that pass it.
+//! The text of a plan's squelch tables: what each node knows beforehand of the circuits on its two spans.
 ghost use Rattle.std.specs.Prelude.{◌≡◌, ◌+◌, ◌*◌, ◌/◌, ◌≤◌, ◌<◌, ◌++◌, length, slice_index, IfOk, OnOk};
 ghost use Rattle.sdh_report.specs.Lines.{table_line};
 ghost use Rattle.sdh_ringmap.specs.Rates.{n_of};

@@ -118,8 +118,8 @@ IsBlank false b1 b2 = (b1 ≡ 0) × (b2 ≡ replicate 48 0)
 abbrev pub under_way_of : UnderWay → Option UnderWay
 under_way_of u = if u.rows == 0 then None else Some u
 
--- A row may be written where no row has passed, or rows that were written. It may be read where no row has passed, or
--- rows that were read.
+-- A row may be written where no row has passed, or where those that passed were written. It may be read where no row
+-- has passed, or where those that passed were read.
 abbrev pub MayWrite : Option UnderWay → Type 0
 MayWrite None = Unit {0}
 MayWrite (Some u) = u.written ≡ true

@@ -119,6 +119,6 @@ pub trait Plant {
         ensures err { OnErr result (fibres self.new ≡ fibres self.old) }
         ensures cause { HasCause exact (faults self.old) (faults self.new) result };
 
-    /// An honest plant has no told arrivals: what arrives is what was sent.
+    /// An honest plant has no told arrivals, none that are given in advance: what arrives is what was sent.
     ghost honest_tells_none: { (p : Self) → (fibres p).honest ≡ true → (fibres p).told ≡ None };
 }

@@ -34,7 +34,7 @@ module _ (n : ℕ) (applied : ℕ → Bool) (arc : Arc) where
       if is_clear n applied arc then arc.spans else (2 * f + n + arc.spans) - 2 * (l + 1)
 
   -- the k spans from place i on, in the direction of the arc; the places from the arc's length to n - 1 are those of
-  -- the opposite arc
+  -- the opposite arc, and from place n on those of the arc come again
   abbrev pub spans_from : ℕ → ℕ → List ℕ
   spans_from i zero = []
   spans_from i (suc k) = arc_span n arc i ∷ spans_from (suc i) k

@@ -94,7 +94,8 @@ impl Ring {
         requires kept { KeepsRing circuits map }
         ensures ring { IfOk result (λ ring. ring ≡ new_ring settings map circuits) }
 
-        // Over honest fibres that were just prepared for it, what is carried is what was sent.
+        // Over honest fibres that were just prepared for it, a new ring is whole (`IsWhole`): its nodes are in their
+        // places, and the fibres carry what was sent.
         ensures whole { IfOk result (λ ring. (f : Fibres) → IsHonest f → IsWhole (world ring (prepared settings.rate (length map) f))) }
 
         // A new ring is vouched for (`IsVouched`), whatever the clocks of its ports will be: each frame that is under

@@ -43,7 +43,7 @@ pub trait Station: Drop {
         requires kept { KeepsRing circuits.now map.now }
         ensures { IfOk result (λ node. node ≡ kind.new settings map.now circuits.now.circuits at) };
 
-    /// Keeps what arrived on a side for the node's next round, in place of what arrived there since the last one. A
+    /// Keeps what arrived on a side for the node's next round, in place of what arrived there since its last round. A
     /// frame that landed is kept without a copy: its buffer is exchanged for another one of the same rate, in which
     /// nothing has landed.
     fn receive_landed(&mut self, side: Side, arrived: Arrived, inbox: &mut Landed)

@@ -1,4 +1,4 @@
-//! The squelch table: what a node knows beforehand of the circuits that pass it. For each side and slot it has the
+//! The squelch table: what a node knows beforehand of the circuits on its two spans. For each side and slot it has the
 //! circuit there and the positions of its ends. A node that switches decides by it which slots it may carry round the
 //! ring, and squelches the others.
 #![tactic(auto)]
