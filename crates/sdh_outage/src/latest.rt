@@ -117,7 +117,7 @@ impl Latest {
             self.plain
                 .put_chunk(scratch.part(CHUNK * (number - first) as usize));
         } else {
-            self.plain.put_chunk(scratch.chunk(own, number));
+            scratch.put_chunk(own, number, &mut self.plain);
         }
     }
 }

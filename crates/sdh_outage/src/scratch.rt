@@ -1,9 +1,11 @@
 //! Room for the bytes of one customer that can be on their way.
 ghost use Rattle.std.specs.Prelude.{◌≡◌, ◌+◌, ◌-◌, ◌*◌, ◌^◌, ◌<◌, ◌≤◌, [], IfOk, true, take, drop, length, vec_len, vec_capacity};
+ghost use Rattle.sdh_payload.specs.declared.delivered.Delivered.{Delivered};
 ghost use Rattle.sdh_payload.specs.Stream.{stream_from, chunk_of};
 ghost use Rattle.sdh_outage.specs.Near.{near};
 ghost use Rattle.sdh_outage.specs.Kept.{IsReach};
 
+use crate::last::Last;
 use crate::reach::{CHUNK, Reach, put_chunk};
 use sdh_payload::{Cells, Feed, Port};
 use std::alloc::{AllocError, Global};
@@ -113,15 +115,14 @@ impl Scratch {
         self.bytes()
     }
 
-    /// Returns a chunk of a port's stream.
-    pub(crate) fn chunk(&mut self, port: &Port, number: u32) -> &[u8]
-        ensures bytes { result.now ≡ chunk_of port.now number }
-        ensures few { length result.now ≤ 2352 }
+    /// Makes a chunk of a port's stream, and keeps it as what came last.
+    pub(crate) fn put_chunk(&mut self, port: &Port, number: u32, last: &mut Last)
+        ensures chunk { last.new ≡ Delivered.Chunk (chunk_of port.now number) }
         ensures same { self.new ≡ self.old }
     {
         let mut feed = feed_before(port, &mut self.chunk, number);
         feed.next(&mut self.chunk);
-        self.chunk.as_slice()
+        last.put_chunk(self.chunk.as_slice());
     }
 
     /// Makes the next chunk of a stream, and returns whether it is this one. It is the only one that is kept then where
