@@ -1,5 +1,6 @@
 -- What is reported of a plan that is run.
 use Rattle.std.proofs.Common.{◌≡◌, ◌≢◌, ◌≤◌, true, ℕ, zero, suc, ◌+◌, List, [], ◌∷◌, ◌++◌, length, refl, ap, ap₂, sym, subst, ◌∙◌, arith, inl, inr}
+use Rattle.std.proofs.Common.{append_assoc}
 use Rattle.std.specs.Prelude.{◌⊎◌, Option, map, All}
 use Rattle.std.specs.List.{flat_map}
 use Rattle.std.specs.Io.KnownBytes.{Appends}
@@ -8,10 +9,12 @@ use Rattle.sdh_basics.specs.Causes.{IsCounted}
 use Rattle.sdh_outside.specs.Writing.{AppendsFewer}
 use Rattle.sdh_plant.specs.Fibres.{Fibres, IsHonest}
 use Rattle.sdh_plant.specs.Arrivals.{Knows}
+use Rattle.sdh_ringmap.specs.declared.terms.Rate.{Rate}
 use Rattle.sdh_world.specs.Held.{HeldRing}
 use Rattle.sdh_world.specs.Rounds.{World}
+use Rattle.sdh_world.specs.Steps.{after_step}
 use Rattle.sdh_plan.specs.Planned.{Planned, IsPlanned, provisioning_of}
-use Rattle.sdh_plan.specs.Steps.{new_past}
+use Rattle.sdh_plan.specs.Steps.{Past, new_past, after}
 use Rattle.sdh_plan.specs.declared.step.Step.{Step}
 use Rattle.sdh_plan.specs.declared.step.Step.TheVariants as step
 use Rattle.sdh_plan.specs.Scripts.{AreSteps}
@@ -23,10 +26,12 @@ use Rattle.sdh_shell.proofs.Endings.{has_run}
 use Rattle.sdh_promise.specs.Changes.{scenes}
 use Rattle.sdh_promise.specs.Plans.{ring_of}
 use Rattle.sdh_scripts.specs.Scripts.{Runs}
+use Rattle.sdh_scripts.specs.Scripts as scripts
 use Rattle.sdh_scripts.specs.Outcomes.{with_fibres}
 use Rattle.sdh_scripts.specs.Texts.{WriteFailed}
-use Rattle.sdh_scripts.specs.Streams.{NoneMade, WroteSteps, LastTold, StoppedTold}
+use Rattle.sdh_scripts.specs.Streams.{NoneMade, WroteSteps, LastTold, StoppedTold, CutTold}
 use Rattle.sdh_scripts.specs.declared.run.NewScript.{NewScript}
+use Rattle.sdh_scripts.proofs.Outcomes.{refused_ends}
 use Rattle.sdh_scripts.proofs.Streams.{stopped_told, cut_told}
 use Rattle.sdh_scripts.specs.Plans.{Comes}
 use Rattle.sdh_scripts.specs.Plans as plans
@@ -40,10 +45,10 @@ use Rattle.sdh_aps_cli.specs.Endings.{frames_end}
 use Rattle.sdh_aps_cli.specs.Signalled.{Signalled}
 use Rattle.sdh_aps_cli.specs.Scripts.{signalling_walk}
 use Rattle.sdh_aps_cli.specs.Listing.{begun_of, ended_of}
-use Rattle.sdh_aps_cli.specs.Owed.{AreOfTheNext}
+use Rattle.sdh_aps_cli.specs.Owed.{AreSignalled, AreOfTheNext}
 use Rattle.sdh_aps_cli.specs.Laws.{ScriptsGoAsSignals, StepsGoAsSignals}
 use Rattle.sdh_aps_cli.specs.Plans.{signalling_account, Owes, IsRunOf, Piece, Ended, Begun, piece_text, pieces_text, pieces_of, rounds_in}
-use Rattle.sdh_aps_cli.specs.Plans.{AreFirstRounds, IsSignalledRun, IsCutRun, has_rounds, ends_by, MaySettle, IsScriptOf, Failures, CameOfRun}
+use Rattle.sdh_aps_cli.specs.Plans.{AreFirstRounds, IsSignalledRun, CutOwes, IsCutRun, has_rounds, ends_by, MaySettle, IsScriptOf, Failures, CameOfRun}
 use Rattle.sdh_aps_cli.specs.declared.ending.Ending.TheVariants as ending
 use Rattle.sdh_aps_cli.specs.declared.listing.PlanListing.{PlanListing}
 use Rattle.sdh_aps_cli.specs.declared.listing.PlanListing.TheVariants as listed
@@ -68,6 +73,47 @@ module _ (listing : PlanListing) where
       flat_map-append (piece_text listing) (map Ended ended) (map Begun begun)
       ∙ ap₂ (λ (l m : List ℕ). l ++ m) (ended_pieces ended) (begun_pieces begun)
 
+-- ---- the first steps of a script
+
+steps_front : (rate : Rate) (size circuits : ℕ) (past : Past) (gone later : List Step) → AreSteps rate size circuits past (gone ++ later)
+    → AreSteps rate size circuits past gone
+steps_front rate size circuits past [] later fit = tt
+steps_front rate size circuits past (s ∷ gone) later fit = (fit.0, steps_front rate size circuits (after past s) gone later fit.1)
+
+-- steps that were done, and a settle step after them that ended
+settled_more : (limit before : ℕ) (gone : List Step) (w mid : World) (told : List Signalled) (one : Signalled) (left : World) (number : ℕ)
+    → number ≡ before + length told + 1 → Runs signalling_walk limit before gone w told status.Ok mid
+    → scripts.Ended signalling_walk limit number mid one left
+    → Runs signalling_walk limit before (gone ++ step.Settle ∷ []) w (told ++ one ∷ []) status.Ok left
+settled_more limit before [] w mid told one left number is x done =
+    let same : number ≡ before + 1 = let none = ap (λ (l : List Signalled). length l) x.1.0 in omega (arith, none, is) in
+    inl (
+      one,
+      left,
+      [],
+      subst (λ (v : World). scripts.Ended signalling_walk limit (before + 1) v one left) x.0
+          (subst (λ k. scripts.Ended signalling_walk limit k mid one left) same done),
+      ap (λ (l : List Signalled). l ++ one ∷ []) x.1.0,
+      (refl, (refl, refl)),
+    )
+settled_more limit before (step.Settle ∷ gone) w mid told one left number is (inl (first, next, rest, ended, are, x)) done =
+    let size = ap (λ (l : List Signalled). length l) are in
+    inl (
+      first,
+      next,
+      rest ++ one ∷ [],
+      ended,
+      ap (λ (l : List Signalled). l ++ one ∷ []) are,
+      settled_more limit (before + 1) gone next mid rest one left number (omega (arith, size, is)) x done,
+    )
+settled_more limit before (step.Settle ∷ gone) w mid told one left number is (inr (inl x)) done = absurd (let e = x.1.1 in grind arith)
+settled_more limit before (step.Settle ∷ gone) w mid told one left number is (inr (inr x)) done = absurd (let e = x.1.1 in grind arith)
+settled_more limit before (this ∷ gone) w mid told one left number is x done =
+    elim x [
+      | inl goes ↦ inl (settled_more limit before gone (after_step this w) mid told one left number is goes done)
+      | inr refused ↦ absurd (let e = (refused_ends {T = Signalled} this w told status.Ok mid refused).1 in grind arith)
+    ]
+
 -- ---- a run
 
 module _ (settles : ScriptsSettle) (signals : ScriptsGoAsSignals) (steps_go : StepsGoAsSignals) (plan : Planned) (listing : PlanListing) (f : Fibres)
@@ -91,6 +137,10 @@ module _ (settles : ScriptsSettle) (signals : ScriptsGoAsSignals) (steps_go : St
     of_one is zero d low = is
     of_one is (suc k) d low = absurd (omega (arith, low))
 
+  -- the plan's steps can be done one after the other
+  steps_as : (l : List Step) → plan.steps ≡ l → AreSteps plan.settings.rate (length plan.nodes) (length plan.circuits) new_past l
+  steps_as l are = subst (λ l. AreSteps plan.settings.rate (length plan.nodes) (length plan.circuits) new_past l) are fits.steps_fit
+
   first_rounds : f.honest ≡ true → (reports begun : List Signalled) (end : Status) (left : World) (gone : List Step) (stops : Step)
       (later : List Step) (mid : World) → plan.steps ≡ gone ++ stops ∷ later
       → Runs signalling_walk plan.limit 0 gone (world_of plan f) reports status.Ok mid
@@ -99,8 +149,7 @@ module _ (settles : ScriptsSettle) (signals : ScriptsGoAsSignals) (steps_go : St
       let x = last.1 in
       let so =
       steps_go plan.settings plan.nodes (provisioning_of plan) f (may_start plan f fits (honest h)) plan.limit new_past gone later
-      (subst (λ l. AreSteps plan.settings.rate (length plan.nodes) (length plan.circuits) new_past l) are fits.steps_fit)
-      reports mid went (length reports + 1) x.told x.mid x.so_far in
+      (steps_as (gone ++ step.Settle ∷ later) are) reports mid went (length reports + 1) x.told x.mid x.so_far in
       let one : AreFirstRounds plan reports end x.told = record {
         count = so.count;
         few = so.few;
@@ -191,6 +240,56 @@ module _ (settles : ScriptsSettle) (signals : ScriptsGoAsSignals) (steps_go : St
             done_rounds plan.limit plan.steps (world_of plan f) (adm_new.rounds plan) reports left
             (subst (λ (how : Status). Runs signalling_walk plan.limit 0 plan.steps (world_of plan f) reports how left) ok runs)
 
+  -- the first steps of the plan's script, where they came to their end
+  gone_shown : f.honest ≡ true → (gone later : List Step) → plan.steps ≡ gone ++ later → (reports : List Signalled) (left : World)
+      → Runs signalling_walk plan.limit 0 gone (world_of plan f) reports status.Ok left
+      → AreSignalled (ring_of plan) plan.nodes plan.limit [] 0 (scenes [] gone) reports status.Ok
+  gone_shown h gone later are reports left went =
+      signals plan.settings plan.nodes (provisioning_of plan) f (may_start plan f fits (honest h)) plan.limit new_past gone
+      (steps_front plan.settings.rate (length plan.nodes) (length plan.circuits) new_past gone later (steps_as (gone ++ later) are))
+      reports status.Ok left went
+
+  -- what was to be written where a write failed
+  cut_owes : f.honest ≡ true → (ended begun : List Signalled) (left : World)
+      → CutTold signalling_walk plan.limit plan.steps (world_of plan f) ended begun left → CutOwes plan ended begun
+  cut_owes h ended begun left x = elim x.was [
+    | inl b ↦ (let so =
+        steps_go plan.settings plan.nodes (provisioning_of plan) f (may_start plan f fits (honest h)) plan.limit new_past x.gone x.later
+        (steps_as (x.gone ++ step.Settle ∷ x.later) x.steps_are) x.reports x.mid x.went (length x.reports + 1) b.0.told b.0.mid b.0.so_far in
+        let one : AreFirstRounds plan x.reports status.WriteFault b.0.told = record {
+          count = so.count;
+          few = so.few;
+          all = λ k unsettled. absurd (grind arith);
+          shown =
+              subst (λ l. AreOfTheNext (ring_of plan) plan.nodes [] (scenes [] l) x.reports so.count b.0.told.changes) (sym x.steps_are)
+              so.shown;
+        } in
+        record {
+          gone = x.gone;
+          later = step.Settle ∷ x.later;
+          steps_are = x.steps_are;
+          shown = subst (ShownOf x.gone) (sym b.1) (gone_shown h x.gone (step.Settle ∷ x.later) x.steps_are x.reports x.mid x.went);
+          next =
+              subst (λ l. All (AreFirstRounds plan ended status.WriteFault) l) (sym b.2)
+              (of_one ended status.WriteFault (subst (λ rs. AreFirstRounds plan rs status.WriteFault b.0.told) (sym b.1) one));
+        })
+    | inr e ↦ (let all = x.gone ++ step.Settle ∷ [] in
+        let are : plan.steps ≡ all ++ x.later = x.steps_are ∙ sym (append_assoc x.gone (step.Settle ∷ []) x.later) in
+        record {
+          gone = all;
+          later = x.later;
+          steps_are = are;
+          shown =
+              subst (ShownOf all) (sym e.2)
+              (gone_shown h all x.later are (x.reports ++ e.0 ∷ []) left
+              (settled_more plan.limit 0 x.gone (world_of plan f) x.mid x.reports e.0 left (length x.reports + 1) (omega arith) x.went e.1));
+          next = subst (λ l. All (AreFirstRounds plan ended status.WriteFault) l) (sym e.3) (no_rounds ended status.WriteFault);
+        })
+  ]
+    where
+      ShownOf : List Step → List Signalled → Type 0
+      ShownOf gone rs = AreSignalled (ring_of plan) plan.nodes plan.limit [] 0 (scenes [] gone) rs status.Ok
+
   -- a run in which a write failed
   cut_run : (old new : Option (List ℕ)) (left : World)
       → WriteFailed signalling_walk plan.limit (ended_of listing) (begun_of listing) plan.steps (world_of plan f) old new left
@@ -198,7 +297,15 @@ module _ (settles : ScriptsSettle) (signals : ScriptsGoAsSignals) (steps_go : St
   cut_run old new left y =
       let told = cut_told signalling_walk plan.limit (ended_of listing) (begun_of listing) plan.steps (world_of plan f) old new left y in (
         pieces_of told.0 told.1,
-        record { ended = told.0; begun = told.1; last = left; last_is = refl; cut = told.2; pieces_are = refl },
+        record {
+          ended = told.0;
+          begun = told.1;
+          last = left;
+          last_is = refl;
+          cut = told.2;
+          owed = λ h. cut_owes h told.0 told.1 left told.2;
+          pieces_are = refl;
+        },
         subst (AppendsFewer old new) (sym (all_pieces listing told.0 told.1)) told.3,
       )
 

@@ -10,6 +10,7 @@ use Rattle.sdh_plant.specs.Arrivals.{Knows}
 use Rattle.sdh_node.specs.Node.{Node}
 use Rattle.sdh_world.specs.Rounds.{World}
 use Rattle.sdh_plan.specs.Planned.{Planned}
+use Rattle.sdh_plan.specs.declared.step.Step.{Step}
 use Rattle.sdh_report.specs.declared.status.Status.{Status}
 use Rattle.sdh_report.specs.declared.status.Status.TheVariants as status
 use Rattle.sdh_promise.specs.Changes.{scenes}
@@ -103,6 +104,15 @@ pub record IsSignalledRun (plan : Planned) (f : Fibres) (pieces : List Piece) (e
   pub begun_owed : f.honest ≡ true → All (AreFirstRounds plan reports end) begun
   pub pieces_are : pieces ≡ pieces_of reports begun
 
+-- Over honest fibres: what was to be written when a write failed is what the ring of signals does. `gone` are the steps whose
+-- settle steps ended, and each of these shows what it does; of the next settle step its first rounds are reported, or nothing.
+pub record CutOwes (plan : Planned) (ended begun : List Signalled) : Type 0 where
+  pub gone : List Step
+  pub later : List Step
+  pub steps_are : plan.steps ≡ gone ++ later
+  pub shown : AreSignalled (ring_of plan) plan.nodes plan.limit [] 0 (scenes [] gone) ended status.Ok
+  pub next : All (AreFirstRounds plan ended status.WriteFault) begun
+
 -- a write failed while the plan ran, and no round ran after it: these pieces were to be written
 pub record IsCutRun (plan : Planned) (f : Fibres) (pieces : List Piece) (left : Fibres) : Type 0 where
   pub ended : List Signalled
@@ -110,6 +120,7 @@ pub record IsCutRun (plan : Planned) (f : Fibres) (pieces : List Piece) (left : 
   pub last : World
   pub last_is : last.fibres ≡ left
   pub cut : CutTold signalling_walk plan.limit plan.steps (world_of plan f) ended begun last
+  pub owed : f.honest ≡ true → CutOwes plan ended begun
   pub pieces_are : pieces ≡ pieces_of ended begun
 
 -- ---- how it ends
