@@ -104,8 +104,9 @@ pub record IsSignalledRun (plan : Planned) (f : Fibres) (pieces : List Piece) (e
   pub begun_owed : f.honest ≡ true → All (AreFirstRounds plan reports end) begun
   pub pieces_are : pieces ≡ pieces_of reports begun
 
--- Over honest fibres: what was to be written when a write failed is what the ring of signals does. `gone` are the steps whose
--- settle steps ended, and each of these shows what it does; of the next settle step its first rounds are reported, or nothing.
+-- Over honest fibres: what was to be written when a write failed is what the ring of signals does. `gone` are the steps
+-- whose settle steps ended, and each of these shows what it does; of the next settle step its first rounds are
+-- reported, or nothing.
 pub record CutOwes (plan : Planned) (ended begun : List Signalled) : Type 0 where
   pub gone : List Step
   pub later : List Step
