@@ -44,15 +44,25 @@ text_b = \"BETA!\"\n\
 end of plan\n\
 ";
 
-/// The records, one after the other.
-pub const RECORDS: [&str; 3] = ["round none none\n", "forced east\n", "round dark none\n"];
+/// A record: the first round.
+pub const FIRST: &str = "round none none\n";
 
-/// What is written for each of them, as the rules make it.
-pub const ANSWERS: [&str; 3] = [
-    "round 0 node 2 idle far - west 01 20 east 03 20 heard - - - - asks nr nr\nport c1 b ais\n",
-    "",
-    "round 1 node 2 isolated far - west b1 26 east d3 20 heard - - - - asks sf fs\nport c1 b ais\n",
-];
+/// A record, for which nothing is written.
+pub const FORCED: &str = "forced east\n";
+
+/// A record: a round in which the west is dark.
+pub const DARK: &str = "round dark none\n";
+
+/// The records of the stream, one after the other.
+pub const RECORDS: [&str; 3] = [FIRST, FORCED, DARK];
+
+/// What is written for the first round, as the rules make it.
+pub const IDLE: &str =
+    "round 0 node 2 idle far - west 01 20 east 03 20 heard - - - - asks nr nr\nport c1 b ais\n";
+
+/// What is written for the round in which the west is dark.
+pub const ISOLATED: &str =
+    "round 1 node 2 isolated far - west b1 26 east d3 20 heard - - - - asks sf fs\nport c1 b ais\n";
 
 /// Returns the ending, the source with what is left of the stream, and the sink with what was written.
 pub fn call(
@@ -80,5 +90,5 @@ pub fn joined(alloc: Global, texts: &[&str]) -> Result<Vec<u8>, AllocError> {
 
 /// Returns the plan and the records.
 pub fn stream(alloc: Global) -> Result<Vec<u8>, AllocError> {
-    joined(alloc, &[PLAN, RECORDS[0], RECORDS[1], RECORDS[2]])
+    joined(alloc, &[PLAN, FIRST, FORCED, DARK])
 }

@@ -1,6 +1,9 @@
 //! What is outside fails, and how far the stream was read by then.
 
-use crate::called::{ANSWERS, NODE_2, Outside, PLAN, RECORDS, SOUND, call, joined, stream};
+use crate::called::{
+    DARK, FIRST, FORCED, IDLE, ISOLATED, NODE_2, Outside, PLAN, RECORDS, SOUND, call, joined,
+    stream,
+};
 use sdh_node_cli::Ending;
 use sdh_outside::read_all;
 use std::test::Fail;
@@ -9,9 +12,9 @@ use std::test::Fail;
 type Row = (u32, &'static [&'static str], &'static [&'static str]);
 
 const ROWS: &[Row] = &[
-    (1, &[], &[RECORDS[1], RECORDS[2]]),
-    (2, &[ANSWERS[0]], &[]),
-    (3, &[ANSWERS[0], ANSWERS[2]], &[]),
+    (1, &[], &[FORCED, DARK]),
+    (2, &[IDLE], &[]),
+    (3, &[IDLE, ISOLATED], &[]),
 ];
 
 // No byte is read after the record whose answer can't be written.
@@ -45,10 +48,10 @@ fn each_read_of_a_record_that_fails_is_told(rt: HostRuntime) -> Result<(), Fail>
     for (at, record) in RECORDS.iter().enumerate() {
         let written = joined(
             rt.alloc(),
-            &[if at > 0 { ANSWERS[0] } else { "" }, "read fault\n"],
+            &[if at > 0 { IDLE } else { "" }, "read fault\n"],
         )?;
         for byte in 1..=record.len() {
-            let failing = [(before + byte) as u32];
+            let failing = [u32::try_from(before.saturating_add(byte)).unwrap_or(u32::MAX)];
             let outside = Outside {
                 reads: &failing,
                 ..SOUND
@@ -59,7 +62,7 @@ fn each_read_of_a_record_that_fails_is_told(rt: HostRuntime) -> Result<(), Fail>
                 "{record} {byte}"
             );
         }
-        before += record.len();
+        before = before.saturating_add(record.len());
     }
     Ok(())
 }
@@ -73,7 +76,7 @@ fn what_comes_in_pieces_is_the_same(rt: HostRuntime) -> Result<(), Fail> {
         writes: &[4],
         ..SOUND
     };
-    let wanted = joined(rt.alloc(), &[ANSWERS[0], ANSWERS[2], "done\n"])?;
+    let wanted = joined(rt.alloc(), &[IDLE, ISOLATED, "done\n"])?;
     for outside in [SOUND, pieces, after] {
         let (ending, _, sink) = call(rt.alloc(), NODE_2, &stream(rt.alloc())?, outside)?;
         assert!(rt; ending.number() == 0 && sink.bytes() == wanted.as_slice());
@@ -84,12 +87,12 @@ fn what_comes_in_pieces_is_the_same(rt: HostRuntime) -> Result<(), Fail> {
 // A record that can't be done is read up to its newline byte, and what follows is left.
 #[test]
 fn a_bad_record_is_told_with_its_number(rt: HostRuntime) -> Result<(), Fail> {
-    let given = joined(rt.alloc(), &[PLAN, RECORDS[0], "cut 2 east\n", RECORDS[2]])?;
+    let given = joined(rt.alloc(), &[PLAN, FIRST, "cut 2 east\n", DARK])?;
     let (ending, mut source, sink) = call(rt.alloc(), NODE_2, &given, SOUND)?;
     assert!(rt; matches!(ending, Ending::BadRecord(_, 2)) && ending.number() == 17);
-    let wanted = joined(rt.alloc(), &[ANSWERS[0], "bad record 22 at 2\n"])?;
+    let wanted = joined(rt.alloc(), &[IDLE, "bad record 22 at 2\n"])?;
     assert!(rt; sink.bytes() == wanted.as_slice());
     let rest = read_all(rt.alloc(), &mut source)?;
-    assert!(rt; rest.as_slice() == RECORDS[2].as_bytes());
+    assert!(rt; rest.as_slice() == DARK.as_bytes());
     Ok(())
 }

@@ -1,6 +1,6 @@
 //! Calls that run out of memory.
 
-use crate::called::{ANSWERS, NO_WORDS, NODE_2, PLAN, RECORDS, SOUND, USAGE, call, joined};
+use crate::called::{FIRST, IDLE, NO_WORDS, NODE_2, PLAN, SOUND, USAGE, call, joined};
 use std::test::Fail;
 
 // The words, the stream, and the number and the text of the answer.
@@ -12,16 +12,16 @@ type Row = (
 );
 
 const ROWS: &[Row] = &[
-    (NODE_2, &[PLAN, RECORDS[0]], 0, &[ANSWERS[0], "done\n"]),
+    (NODE_2, &[PLAN, FIRST], 0, &[IDLE, "done\n"]),
     (NODE_2, &["rate = \nend of plan\n"], 5, &["not toml\n"]),
-    (NODE_2, &[RECORDS[0]], 17, &["bad record 32 at 0\n"]),
-    (&["4"], &[PLAN, RECORDS[0]], 15, &["no such node\n"]),
+    (NODE_2, &[FIRST], 17, &["bad record 32 at 0\n"]),
+    (&["4"], &[PLAN, FIRST], 15, &["no such node\n"]),
     (NO_WORDS, &[PLAN], 2, &[USAGE]),
 ];
 
 // It shows most where one of the allocations is made to fail.
 #[test]
-fn want_of_memory_writes_nothing(rt: HostRuntime) -> Result<(), Fail> {
+fn nothing_is_written_out_of_memory(rt: HostRuntime) -> Result<(), Fail> {
     for (words, given, number, wanted) in ROWS {
         let given = joined(rt.alloc(), given)?;
         let (ending, _, sink) = call(rt.alloc(), words, &given, SOUND)?;
