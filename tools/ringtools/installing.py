@@ -10,7 +10,7 @@ from .build import HOME, PROGRAMS, record_of, version, write_build
 
 TOOLS = ("sdhring-availability", "sdhring-capture", "sdhring-desk", "sdhring-explain", "sdhring-plan", "sdhring-report", "sdhring-view", "sdhring-whatif")
 DOCUMENTS = (
-    *("AVAILABILITY.md", "DESK.md", "FORMATS.md", "LOOKING.md", "OUTAGES.md", "PATHS.md", "RETIMING.md", "RING.md", "TABLES.md", "WATCHING.md"),
+    *("AVAILABILITY.md", "BENCH.md", "DESK.md", "FORMATS.md", "LOOKING.md", "OUTAGES.md", "PATHS.md", "RETIMING.md", "RING.md", "TABLES.md", "WATCHING.md"),
     *("SIGNALLED.md", "WHATIF.md"),
 )
 LIB, DOC, MAN = "lib/sdhring", "share/doc/sdhring", "share/man/man1"

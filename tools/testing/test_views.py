@@ -11,9 +11,8 @@ CRATES = Path(__file__).resolve().parents[2] / "crates"
 LAYER = {
     "sdh_basics": [],
     "sdh_ringmap": ["arrayvec", "thiserror"],
-    "sdh_terms": ["sdh_ringmap"],
-    "sdh_frame": ["sdh_basics", "sdh_terms"],
-    "test_frames": ["sdh_frame", "sdh_terms"],
+    "sdh_frame": ["sdh_basics", "sdh_ringmap"],
+    "test_frames": ["sdh_frame", "sdh_ringmap"],
 }
 AFTER = "    second.set_payload(0, 7);\n"
 
