@@ -21,7 +21,7 @@ const RUNS: &[(Program, &str, &str, &[&str])] = &[
 #[test]
 fn each_read_that_fails_is_told(rt: HostRuntime) -> Result<(), Fail> {
     for (program, plan, text, _) in RUNS {
-        let last = plan.len().div_ceil(READ) as u32 + 1;
+        let last = plan.len().div_ceil(READ).min(1_000) as u32 + 1;
         for number in 1..=last + 1 {
             let failing = [number];
             let given = Given {
@@ -65,7 +65,7 @@ fn front<'a>(text: &'a str, pieces: &[&str], writes: u32) -> &'a str {
 #[test]
 fn each_write_that_fails_is_told(rt: HostRuntime) -> Result<(), Fail> {
     for (program, plan, text, pieces) in RUNS {
-        let last = writes_of(pieces) as u32;
+        let last = writes_of(pieces).min(1_000) as u32;
         for number in 1..=last + 1 {
             let failing = [number];
             let given = Given {
