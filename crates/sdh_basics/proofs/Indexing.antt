@@ -9,7 +9,7 @@ map_from-append f i [] ys = ap (λ k. map_from f k ys) (omega arith)
 map_from-append f i (x ∷ xs) ys =
     ap (λ r. f i x ∷ r) (map_from-append f (i + 1) xs ys ∙ ap (λ k. map_from f (i + 1) xs ++ map_from f k ys) (omega arith))
 
--- the place at i is made, from the element at i of another list
+-- the element at i is made from the element at i of another list
 pub place_more : {X Y : Type 0} (f : ℕ → X → Y) (xs : List X) (ys : List Y) (i : ℕ) (d : X) (y : Y) → i < length xs → i < length ys
     → y ≡ f i (get_or xs i d) → take i ys ≡ map_from f 0 (take i xs) → take (i + 1) (set ys i y) ≡ map_from f 0 (take (i + 1) xs)
 place_more f xs ys i d y hx hy is done =
@@ -24,7 +24,7 @@ pub place_all : {X Y : Type 0} (f : ℕ → X → Y) (xs : List X) (ys : List Y)
     → take n ys ≡ map_from f 0 (take n xs) → ys ≡ map_from f 0 xs
 place_all f xs ys n hx hy e = sym (take_all n ys hy) ∙ e ∙ ap (map_from f 0) (take_all n xs hx)
 
--- what is left after the place at i
+-- writing place i leaves the elements after it as they were
 pub rest_more : {X : Type 0} (xs ns : List X) (i : ℕ) (y : X) → drop i xs ≡ drop i ns → drop (i + 1) (set xs i y) ≡ drop (i + 1) ns
 rest_more xs ns i y e = drop-set-lt (i + 1) xs i y (omega arith) ∙ sym (drop-drop 1 i xs) ∙ ap (drop 1) e ∙ drop-drop 1 i ns
 
@@ -44,7 +44,7 @@ pub step_more : {X : Type 0} (f : ℕ → X → X) (old now : List X) (i : ℕ) 
     → take i now ≡ map_from f 0 (take i old) → take (i + 1) (set now i y) ≡ map_from f 0 (take (i + 1) old)
 step_more f old now i x y ho hn rest read is done = place_more f old now i x y ho hn (is ∙ ap (f i) (read_here now old i x rest read)) done
 
--- from the element x at i of one list y is made at i of another
+-- the element y at i of one list is made from the element x at i of another
 pub made_more : {X Y : Type 0} (f : ℕ → X → Y) (old now : List X) (ys : List Y) (i : ℕ) (x : X) (y : Y) → i < length old → i < length ys
     → drop i now ≡ drop i old → x ≡ get_or now i x → y ≡ f i x
     → take i ys ≡ map_from f 0 (take i old) → take (i + 1) (set ys i y) ≡ map_from f 0 (take (i + 1) old)

@@ -1,4 +1,4 @@
--- A part of a list: how long it is and what stands in it, and the list once a part was written in its place.
+-- A part of a list: its length and its elements, and the list after another part was written in its place.
 use Rattle.std.proofs.Common.{rules, ◌≡◌, ℕ, ◌+◌, ◌-◌, ◌<◌, ◌≤◌, List, length, get_or, take, drop, arith}
 use Rattle.std.specs.Prelude.{slice_range}
 use Rattle.std.proofs.lemmas.List.{places, length-take, length-drop}

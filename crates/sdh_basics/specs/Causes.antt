@@ -9,8 +9,8 @@ one_more n = min (n + 1) (2 ^ 64 - 1)
 abbrev pub Rose : ℕ → ℕ → Type 0
 Rose before now = min (before + 1) (2 ^ 64 - 1) ≤ now
 
--- A count that is exact shows every failed call. It rose by one where this fault ended the operation, and stayed where
--- it did not.
+-- A count that is exact shows every failed call. It rose by one where the operation ended with this fault, and stayed
+-- as it was where the operation ended otherwise.
 pub record IsCounted (exact : Bool) (Fault : Type 0) (before now : ℕ) : Type 0 where
   pub one : exact ≡ true → Fault → now ≡ one_more before
   pub none : exact ≡ true → (Fault → ⊥) → now ≡ before

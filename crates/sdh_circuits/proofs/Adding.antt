@@ -23,13 +23,13 @@ pushed [] x y (suc i) e = cc
 pushed (z ∷ zs) x y zero e = inl e
 pushed (z ∷ zs) x y (suc i) e = elim (pushed zs x y i e) [ inl f ↦ inl f | inr f ↦ inr (ap suc f.0, f.1) ]
 
--- what is got at a place stands there
+-- the element that is got at a place stands there, and the place is in the list
 got : {X : Type 0} (xs : List X) (x : X) (i : ℕ) → slice_get xs i ≡ Some x → (i < length xs) × (get_or xs i x ≡ x)
 got [] x i e = cc
 got (z ∷ zs) x zero e = (omega arith, cc)
 got (z ∷ zs) x (suc i) e = let is = got zs x i e in (omega arith, is.1)
 
--- what no element is, none at a place is
+-- a test that holds of no element of a list holds of none at any place
 none_at : {X : Type 0} (p : X → Bool) (xs : List X) (x : X) (i : ℕ) → list_any p xs ≡ false → slice_get xs i ≡ Some x → p x ≡ true → ⊥
 none_at p xs x i none e marked =
     let at = got xs x i e in
@@ -37,7 +37,7 @@ none_at p xs x i none e marked =
     let no : false ≡ true = sym none ∙ some in
     cc
 
--- two places with a mark that no two elements share
+-- no two elements of a longer list are related, where those of the list are not, nor the new one to any of them
 two_places : {X : Type 0} (R : X → X → Type 0) (xs : List X) (x : X)
     → ((i j : ℕ) (c d : X) → slice_get xs i ≡ Some c → slice_get xs j ≡ Some d → R c d → i ≡ j)
     → ((j : ℕ) (d : X) → slice_get xs j ≡ Some d → R x d → ⊥) → ((j : ℕ) (d : X) → slice_get xs j ≡ Some d → R d x → ⊥)

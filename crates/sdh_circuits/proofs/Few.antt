@@ -1,4 +1,4 @@
--- There are at most as many circuits as spans with slots.
+-- There are at most as many circuits as pairs of a span and a working slot.
 use Rattle.std.proofs.Common.{◌≡◌, ℕ, ◌+◌, ◌-◌, ◌*◌, ◌<◌, ◌≤◌, List, [], ◌∷◌, length, map, get_or, true, sym, ap, ◌∙◌, arith, inl, inr}
 use Rattle.std.specs.List.{list_any, IsDistinct}
 use Rattle.std.proofs.Math.Dec.{eqb}
@@ -14,7 +14,7 @@ use Rattle.sdh_circuits.specs.declared.Slot.{Slot}
 use Rattle.sdh_circuits.specs.Provisioned.{Provisioned, arc_of}
 use Rattle.sdh_circuits.specs.Provisioning.{Provisioning, IsProvisioning, AreCircuits, ring_size}
 
--- the number of a circuit's first span with its slot
+-- the number of the pair of a circuit's first span and its slot
 key : Provisioned → ℕ
 key c = c.from.0 + 16 * (c.slot.0 - 1)
 

@@ -1,4 +1,4 @@
--- The last check, and that all passed.
+-- Where all checks but the last one pass, the last one decides.
 use Rattle.std.proofs.Common.{◌≡◌, ℕ, List, length, Bool, true, false, not, cond, Option, Some, None, refl, sym, ap, ◌∙◌}
 use Rattle.std.specs.List.{list_any}
 use Rattle.sdh_circuits.specs.Provisioned.{Provisioned}

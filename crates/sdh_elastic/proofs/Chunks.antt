@@ -75,7 +75,7 @@ kept (a ∷ b ∷ c ∷ []) given k = record {
 }
 kept (a ∷ b ∷ c ∷ d ∷ more) given k = absurd k
 
--- what is held, and a chunk after it
+-- the bytes held once a chunk was taken in: those held before, and then the chunk
 pub renewed : (chunks : List (List ℕ)) (given : ℕ) (x : List ℕ) → IsKept chunks given
     → drop (given - length (get_or chunks 0 [])) (joined (drop 1 chunks ++ x ∷ [])) ≡ drop given (joined chunks) ++ x
 renewed [] given x k = absurd k
@@ -84,7 +84,7 @@ renewed (a ∷ b ∷ []) given x k = absurd k
 renewed (a ∷ b ∷ c ∷ []) given x k = behind a (b ∷ c ∷ []) x given k.oldest (kept (a ∷ b ∷ c ∷ []) given k).there
 renewed (a ∷ b ∷ c ∷ d ∷ more) given x k = absurd k
 
--- how many bytes are held then
+-- the number of bytes held once a chunk was taken in and `count` bytes were given
 pub long_after : (chunks : List (List ℕ)) (given : ℕ) (x : List ℕ) (len count : ℕ) → IsKept chunks given
     → len ≡ length (joined chunks) - given
     → len + length x - count ≡ length (joined (drop 1 chunks ++ x ∷ [])) - (given - length (get_or chunks 0 []) + count)

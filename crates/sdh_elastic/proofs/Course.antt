@@ -145,7 +145,7 @@ store_after first x past h =
     (sym (next_lengths (length x) (lengths past)))
     (ap (λ (b : Bool). is_steady (lengths past) && b) (same_steady (length x) (lengths past)))
 
--- the fill after it
+-- the fill after the next turn
 pub same_fill : (first : ℕ) (x : List ℕ) (past : List (List ℕ)) → lasts (lengths past) ≡ true
     → fill_after (store_of first past) (length x) ≡ fill (lengths (x ∷ past))
 unfolding store_of
@@ -153,7 +153,7 @@ same_fill first x past h =
     ap (λ (n : ℕ). n + length x - given (action_at (store_of first past))) (length-held past)
     ∙ ap (λ (b : Action). fill (lengths past) + length x - given b) (action_of_turn first x past) ∙ sym (fill_step x past h)
 
--- the bytes that it gives
+-- the bytes that the next turn gives
 pub same_given : (first : ℕ) (x : List ℕ) (past : List (List ℕ)) → lasts (lengths past) ≡ true
     → given_at (store_of first past) x ≡ last_given (x ∷ past)
 unfolding store_of

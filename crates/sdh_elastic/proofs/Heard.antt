@@ -59,7 +59,7 @@ heard_down v small =
     by_row r (word_of form.Down v) mode.Norm event.Down action.Down (settled mode.Norm (one_down v) 0) refl
     (of_down r refl (omega arith) small) (norm_down_action r) (norm_down r)
 
--- what a turn in a stage does is read as that
+-- the word of a turn in a stage is read as what the turn does
 pub turn_is_heard : (st : Stage) (v f : ℕ) → v ≤ 782
     → IsHeard (reading_in st v) (word_for (store.action_in st f) v) (store.action_in st f)
     (reading_in (stage_after st (store.action_in st f)) (value_after (store.action_in st f) v))

@@ -82,7 +82,7 @@ near_after Free (Three a b c) f n at near chunks chunk four =
     ]
 near_after _ _ f n at near chunks chunk four = absurd at
 
--- so it is held
+-- the fill of a steady run is within its bounds after one more turn
 pub held_after : (st : Stage) (ls : Lengths) (f n : ℕ) → IsAt st ls f → IsNear st ls f → AreChunks ls → IsChunk n → keeps_steady n ls ≡ true
     → (2340 ≤ f + n - given (action_in st f)) × (f + n - given (action_in st f) ≤ 2358)
 held_after First Empty f n at near chunks chunk four = (omega arith, omega arith)

@@ -59,8 +59,8 @@ impl Course {
     }
 }
 
-/// An elastic store. In each turn it takes in one chunk, and from the second turn on it gives the bytes of a frame. In
-/// clauses its value is what it keeps of its history.
+/// An elastic store. In each turn it takes in one chunk, and from the second turn on it gives the bytes of a frame.
+/// Contracts see what it keeps of its history.
 #[derive(Debug, Drop)]
 pub struct Elastic {
     held: Held,
@@ -145,7 +145,7 @@ impl Elastic {
         self.held.len()
     }
 
-    /// Returns whether each four turns in a row so far took in 9393 to 9399 bytes.
+    /// Returns whether any four turns in a row so far took in 9393 to 9399 bytes.
     pub fn is_steady(&self) -> bool
         ensures kept { result ≡ self.now.steady }
         ensures history { (first : ℕ) (past : List (List ℕ)) → CameBy first past self.now → result ≡ is_steady (lengths past) }

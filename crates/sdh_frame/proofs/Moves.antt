@@ -12,7 +12,7 @@ use Rattle.sdh_ringmap.specs.Rates.{n_of}
 use Rattle.sdh_frame.specs.Fields.{index_of, payload_place}
 use Rattle.sdh_frame.specs.Aus.{payload_of, payload_byte, pointer_byte, with_payload, with_pointers, is_payload, is_pointer}
 
--- two lists that are f of each place and old byte
+-- two lists are equal if each has at every place f of that place and the old byte there
 placed : (f : ℕ → ℕ → ℕ) (old new : List ℕ) → length new ≡ length old → ((i : ℕ) → i < length old → get_or new i 0 ≡ f i (get_or old i 0))
     → (zs : List ℕ) → length zs ≡ length old → ((i : ℕ) → i < length old → get_or zs i 0 ≡ f i (get_or old i 0)) → new ≡ zs
 placed f old new len h zs len2 h2 = ext_get_or 0 new zs (len ∙ sym len2) (λ i lt. h i (omega arith) ∙ sym (h2 i (omega arith)))

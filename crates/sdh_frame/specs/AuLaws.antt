@@ -9,13 +9,13 @@ use Rattle.sdh_frame.specs.Fields.{index_of}
 use Rattle.sdh_frame.specs.Aus.{Au, payload_of, pointers_of, with_payload, with_pointers, au_of, with_au, with_aus}
 use Rattle.sdh_frame.specs.PlaceLaws.{IsInFrame, field_of}
 
--- the lists of an AU-4 have their lengths
+-- the lists of an AU-4 have 9 and 2349 bytes
 pub record IsAu (is : Au) : Type 0 where
   pub pointers : length is.pointers ≡ 9
   pub payload : length is.payload ≡ 2349
 
--- What is true of a frame once this AU-4 was written as number au: it reads back, and every byte that is not its own
--- stays, so all other AU-4s and all overhead do.
+-- What is true of a frame once this AU-4 was written as number au. The AU-4 reads back. Every byte outside it stays,
+-- and so do all other AU-4s and all overhead.
 pub record IsWritten (rate : Rate) (au : ℕ) (is : Au) (bytes : List ℕ) : Type 0 where
   pub size : length (with_au (n_of rate) au is bytes) ≡ size_of rate
   pub found : au_of (n_of rate) au (with_au (n_of rate) au is bytes) ≡ is
@@ -29,7 +29,7 @@ WritingKeeps =
     (rate : Rate) (au : ℕ) (is : Au) (bytes : List ℕ) → length bytes ≡ size_of rate → 1 ≤ au → au ≤ n_of rate → IsAu is
     → IsWritten rate au is bytes
 
--- writing one list of an AU-4 is writing the AU-4 with its other list as it stands there
+-- writing one list of an AU-4 is the same as writing the AU-4 with its other list as the frame has it
 pub record WritingOneList : Type 0 where
   pub payload : (rate : Rate) (au : ℕ) (payload bytes : List ℕ) → length bytes ≡ size_of rate → 1 ≤ au → au ≤ n_of rate
       → with_payload (n_of rate) au payload bytes ≡ with_au (n_of rate) au

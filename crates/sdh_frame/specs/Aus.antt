@@ -1,5 +1,5 @@
 -- The AU-4s of a frame as lists (ITU-T G.707 clause 8.1): each has 9 pointer bytes and 2349 bytes of payload, and the
--- bytes of the N AU-4s take turns. An AU-4 is named by its number, 1 to N.
+-- N AU-4s are byte-interleaved. An AU-4 is named by its number, 1 to N.
 use Rattle.std.specs.Prelude.{ℕ, ◌+◌, ◌*◌, ◌-◌, ◌/◌, ◌%◌, ◌==◌, ◌&&◌, Bool, nat_le, nat_lt, if◌then◌else◌, List, [], ◌∷◌, slice_index}
 use Rattle.std.specs.Prelude.{replicate}
 use Rattle.sdh_basics.specs.Indexed.{map_from}

@@ -1,4 +1,4 @@
-//! Where a frame that leaves a fibre goes.
+//! The destination of a frame that comes out of a fibre.
 ghost use Rattle.std.specs.Prelude.{◌≡◌, Some};
 
 use crate::FrameBuf;

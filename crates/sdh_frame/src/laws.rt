@@ -19,12 +19,12 @@ pub fn writing_an_au_keeps_the_rest()
     ensures { WritingKeeps }
 {}
 
-/// Writing only the payload or only the pointer bytes is the same as writing the AU-4 with the other of them unchanged.
+/// Writing only the payload, or only the pointer bytes, is the same as writing the AU-4 with its other list unchanged.
 pub fn writing_one_list_writes_the_au()
     ensures { WritingOneList }
 {}
 
-/// AU-4s that were all written read back, overhead stays, and nothing of their former contents is left.
+/// Once all AU-4s are written, each reads back, overhead stays, and nothing of their former contents is left.
 pub fn writing_all_aus_keeps_overhead()
     ensures keeps { WritingAllKeeps }
     ensures covers { WritingAllCovers }

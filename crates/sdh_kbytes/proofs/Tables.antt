@@ -67,7 +67,7 @@ decoded_spelled k k1 k2 s =
     let e5 : k2 % 8 ≡ mark_number k.mark = rw s.second (lowest _ _ _ hp hm) in
     rw (e1, e2, e3, e4, e5, code_at-number k.code, mark_at-number k.mark, path_at-number k.path) refl
 
--- what a look into a table finds passes its test
+-- what a lookup in a table finds passes its test
 find-passes : {X : Type 0} (p : X → Bool) (xs : List X) → IfSome (find p xs) (λ x. p x ≡ true)
 find-passes p [] = tt
 find-passes p (x ∷ xs) =
@@ -99,7 +99,7 @@ code_at-other n none c e = let found : code_at n ≡ Some c = rw (← e) (code_a
 mark_at-other : (n : ℕ) → mark_at n ≡ None → (m : Mark) → mark_number m ≢ n
 mark_at-other n none m e = let found : mark_at n ≡ Some m = rw (← e) (mark_at-number m) in cc
 
--- where both looks find something, there is a word
+-- where both lookups find something, there is a word
 one_missing : {X Y Z : Type 0} (f : X → Y → Z) (o : Option X) (p : Option Y)
     → option_and_then (λ x. option_and_then (λ y. Some (f x y)) p) o ≡ None → (o ≡ None) ⊎ (p ≡ None)
 one_missing f None p h = inl refl

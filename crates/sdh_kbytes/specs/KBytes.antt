@@ -60,7 +60,7 @@ mark_at bits = find (λ m. mark_number m == bits) marks
 abbrev pub path_at : ℕ → Path
 path_at bit = if bit == 0 then Short else Long
 
--- the word that two bytes spell, by a look into the two tables
+-- the word that two bytes spell, by a lookup in each of the two tables
 abbrev pub decoded : ℕ → ℕ → Option K
 decoded k1 k2 =
     option_and_then (λ c. option_and_then (λ m. Some (record {

@@ -31,7 +31,7 @@ pub enum Mark {
     BridgedSwitched,
     /// Remote defect indication: the side on which the source sends the word fails.
     Rdi,
-    /// Alarm indication of the multiplex section. No node sends it, and a side that it comes to fails.
+    /// Alarm indication of the multiplex section. No node sends it; a side that receives it fails.
     MsAis,
 }
 

@@ -80,7 +80,7 @@ none_longer (kind ∷ kinds) (l ∷ later) run earlier e o =
     let tail : kinds ≡ later ++ run ++ earlier = cc in
     omega (arith, none_longer kinds later run earlier tail o, longest_kept (is_out kind) (runs kinds))
 
--- what ends them is one of them
+-- a run with which the rounds end is a run of them
 ends_has : (kinds : List Kind) (n m : ℕ) → n ≡ m → Ends kinds n → HasRun kinds m
 ends_has kinds n m same x = record { later = []; run = x.run; earlier = x.earlier; whole = x.whole; long = x.long ∙ same; out = x.out }
 

@@ -78,7 +78,7 @@ pub occurs_whole : (bytes others : List ℕ) → bytes ≡ others → OccursAt o
 occurs_whole bytes others e =
     same_occurs bytes others 0 (omega arith) (e ∙ sym (take_all (length bytes) others (omega (arith, ap length e))))
 
--- the second part of some
+-- the second part of bytes that stand in others stands there too
 occurs_second : (first second others : List ℕ) (at : ℕ) → OccursAt others (first ++ second) at → OccursAt others second (at + length first)
 occurs_second first second others at o = record {
   fits = omega (arith, o.fits, length-append first second);
@@ -98,7 +98,7 @@ stands_at false last chunk others more at inside e = (
   occurs_second last chunk others at (occurs_front (last ++ chunk) others more at inside (e ∙ sym (append_assoc last chunk more))),
 )
 
--- with others around them
+-- bytes with other bytes before and after them stand in the whole
 occurs_around : (bytes before others behind : List ℕ) (at : ℕ) → OccursAt others bytes at
     → OccursAt (before ++ (others ++ behind)) bytes (length before + at)
 occurs_around bytes before others behind at o = record {

@@ -48,7 +48,7 @@ reach_none port feed n = record {
   bytes_are = sym (no_chunk feed.port (2349 * 0) 0);
 }
 
--- none any more
+-- all chunks are dropped
 pub reach_cleared : (feed : Fed) (first made : ℕ) (bytes : List ℕ) → IsReach feed first made bytes → IsReach feed made made []
 reach_cleared feed first made bytes r = record {
   still = r.still;
@@ -58,7 +58,7 @@ reach_cleared feed first made bytes r = record {
   bytes_are = sym (no_chunk feed.port (2349 * made) made);
 }
 
--- without the first ones
+-- the first chunks are dropped
 pub reach_dropped : (feed : Fed) (first from made : ℕ) (bytes : List ℕ) → first ≤ from → from ≤ made → IsReach feed first made bytes
     → IsReach feed from made (drop (2349 * (from - first)) bytes)
 reach_dropped feed first from made bytes after before r =
@@ -122,7 +122,7 @@ reach_pushed feed next first made bytes chunk n e r =
 
 -- ---- chunks among those that are near
 
--- as many chunks from the first on
+-- the near bytes are 78 chunks from the first on
 pub near_is : (port : Customer) (round first : ℕ) (bytes : List ℕ) → first ≡ round - 71 → bytes ≡ stream_from port (2349 * first) (2349 * 78)
     → bytes ≡ near port round
 unfolding near
@@ -177,7 +177,7 @@ later_follows port round number chunk after before e =
 pub near_stream : (port : Customer) (round first : ℕ) → first ≡ round - 71 → near port round ≡ stream_from port (2349 * first) (2349 * 78)
 near_stream port round first begins = sym (near_is port round first (stream_from port (2349 * first) (2349 * 78)) begins refl)
 
--- one of them
+-- a chunk among the near bytes
 pub part_of : (port : Customer) (first number : ℕ) → first ≤ number → number - first < 78
     → take 2349 (drop (2349 * (number - first)) (stream_from port (2349 * first) (2349 * 78))) ≡ chunk_of port number
 part_of port first number after before =

@@ -1,5 +1,5 @@
--- The rounds of a settle step from which on a port delivers something of another kind. The number of changes that are
--- kept is this project's own.
+-- The rounds of a settle step in which the kind of what a port delivers changes. The number of changes that are kept is
+-- this project's own.
 use Rattle.std.specs.Prelude.{ℕ, ◌+◌, Bool, true, false, not, if◌then◌else◌, List, [], ◌∷◌, ◌++◌, take, length, Option, Some, None}
 use Rattle.sdh_outage.specs.declared.kind.Kind.{Kind}
 use Rattle.sdh_outage.specs.declared.kind.Kind.TheVariants as kind
@@ -21,7 +21,7 @@ abbrev pub is_change : Option Kind → Kind → Bool
 is_change None now = true
 is_change (Some before) now = not (same_kind before now)
 
--- the kind of the last round, where there is one, of these, the latest first
+-- the kind of the last of these rounds, which stand the latest first; None where there is none
 abbrev pub last_kind : List Kind → Option Kind
 last_kind [] = None
 last_kind (kind ∷ earlier) = Some kind
@@ -44,6 +44,6 @@ pub record Traced : Type 0 where
   -- what the last round was
   pub last : Option Kind
 
--- by the number of the settle step's first round, and what its rounds were, the latest first
+-- what a trace holds after rounds of these kinds, the latest first, from round `first` on
 abbrev pub traced : ℕ → List Kind → Traced
 traced first past = record { changes = take 64 (kind_changes first past); count = length (kind_changes first past); last = last_kind past }

@@ -16,21 +16,21 @@ use Rattle.sdh_outage.specs.Changes.{Traced, traced}
 
 -- ---- the bytes that are near
 
--- whose they are, and in which round
+-- the port whose bytes they are, and the round
 pub record Nearby : Type 0 where
   pub port : Customer
   pub round : ℕ
 
 -- ---- chunks of a stream, one after the other
 
--- whose they are, from which one on up to which one they were made, and for how many there is room
+-- the port, the first chunk that is kept, the chunk after the last that was made, and for how many there is room
 pub record Reached : Type 0 where
   pub port : Customer
   pub first : ℕ
   pub made : ℕ
   pub most : ℕ
 
--- what is true of them: the feed has come to the chunk after them
+-- what is true of such chunks: the feed stands at the chunk after the last one
 pub record IsReach (feed : Fed) (first made : ℕ) (bytes : List ℕ) : Type 0 where
   pub still : waiting feed.clock ≡ 0
   pub rounds_are : feed.clock.rounds ≡ made
@@ -61,8 +61,8 @@ pub record Heard : Type 0 where
   -- the changes since the settle step began
   pub trace : Traced
 
--- by the far customer and whose bytes else came, the number of the settle step's first round, what came before that,
--- and what came in its rounds, the latest first
+-- what a listener holds, by the far customer, whose other bytes came, the number of the settle step's first round, what
+-- came before that round, and what came in the step's rounds, the latest first
 abbrev pub heard : Customer → Whose → ℕ → Delivered → List Delivered → Heard
 heard port whose first before past = record {
   round = first + length past;
@@ -71,7 +71,7 @@ heard port whose first before past = record {
   trace = traced first (kinds_of port whose first before past);
 }
 
--- all rounds that are counted
+-- the number of all rounds that are counted
 abbrev pub are_few : Outage → ℕ
 are_few o = o.ais + o.ones + o.jump + o.torn + o.strange + o.foreign
 

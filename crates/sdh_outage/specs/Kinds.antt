@@ -1,4 +1,4 @@
--- What a round is to a port, by what the port delivered in it and in the round before. The kinds are this project's
+-- The kind of a round at a port, by what the port delivered in it and in the round before. The kinds are this project's
 -- own.
 use Rattle.std.specs.Prelude.{ℕ, ◌+◌, Bool, false, not, ◌&&◌, ◌==◌, if◌then◌else◌, List, [], ◌∷◌, ◌++◌, length, Option, Some, None}
 use Rattle.std.specs.List.{list_all}
@@ -14,7 +14,7 @@ use Rattle.sdh_outage.specs.Near.{near, is_part, is_torn}
 abbrev pub are_ones : List ℕ → Bool
 are_ones bytes = list_all (λ byte. byte == 255) bytes
 
--- a chunk doesn't follow what came in the round before, where these bytes of a stream are near: that was a chunk of
+-- a chunk doesn't follow what came in the round before, by these near bytes of a stream: what came was a chunk of
 -- these bytes too, and the two don't stand there one after the other
 abbrev pub jumps : List ℕ → Delivered → List ℕ → Bool
 jumps others Ais bytes = false
@@ -25,9 +25,8 @@ jumps others (Chunk last) bytes = is_part last others && not (is_part (last ++ b
 abbrev pub kind_of_pieces : List ℕ → List ℕ → Option Kind
 kind_of_pieces bytes others = if is_torn bytes others then Some kind.Torn else None
 
--- The kind of a round by the far customer's bytes that are near alone, and what came in the round before it and in this
--- one. It is None where no such bytes came, nor AIS or ones. What comes first after AIS, ones or others' bytes is in
--- order.
+-- The kind of a round by the far customer's near bytes (`near`), what came in the round before it, and what came in it.
+-- It is None where no such bytes came, nor AIS or ones. What comes first after AIS, ones or others' bytes is in order.
 abbrev pub own_kind : List ℕ → Delivered → Delivered → Option Kind
 own_kind others before Ais = Some kind.Ais
 own_kind others before (Chunk bytes) =
@@ -50,14 +49,14 @@ settled_kind (Some kind) whose = kind
 abbrev pub Whose : Type 0
 Whose = ℕ → Delivered → Option PortId
 
--- What a round is, by the far customer, whosever bytes else it may have brought, the number of the round, and what came
--- in the round before it and in this one.
+-- The kind of a round, by the far customer, the port of another circuit whose bytes it may have brought (`whose`), the
+-- number of the round, and what came in the round before it and in this one.
 abbrev pub kind_of : Customer → Whose → ℕ → Delivered → Delivered → Kind
 kind_of port whose round before now = settled_kind (own_kind (near port round) before now) (whose round now)
 
 -- ---- round after round: what was delivered, the latest first
 
--- what came last, where this came before all of it
+-- what came last; `before` where no round has run
 abbrev pub last_heard : Delivered → List Delivered → Delivered
 last_heard before [] = before
 last_heard before (now ∷ earlier) = now

@@ -11,7 +11,7 @@ use Rattle.sdh_outage.specs.declared.outage.Stretch.{Stretch}
 use Rattle.sdh_outage.specs.declared.summary.Summary.{Summary}
 use Rattle.sdh_outage.specs.Outages.{out}
 
--- a number below 1000, with three digits always
+-- a number below 1000 with exactly three digits
 abbrev pub three_digits : ℕ → List ℕ
 three_digits n = decimal (n / 100) ++ decimal (n / 10 % 10) ++ decimal (n % 10)
 
@@ -19,7 +19,7 @@ three_digits n = decimal (n / 100) ++ decimal (n / 10 % 10) ++ decimal (n % 10)
 abbrev pub ms_text : ℕ → List ℕ
 ms_text us = decimal (us / 1000) ++ codes "." ++ three_digits (us % 1000)
 
--- a number of rounds, and how long they are
+-- a number of rounds, and their time in milliseconds
 abbrev pub rounds_text : ℕ → List ℕ
 rounds_text rounds = decimal rounds ++ codes " ms " ++ ms_text (125 * rounds)
 

@@ -5,7 +5,7 @@ use Rattle.std.specs.List.{list_any, range_with_len}
 use Rattle.sdh_payload.specs.Customer.{Customer}
 use Rattle.sdh_payload.specs.Stream.{stream_from}
 
--- the byte with which it begins: that of the chunk 71 rounds before, and in the first rounds that of the stream
+-- the first near byte of a round: that of the chunk of 71 rounds before, and up to round 71 that of the stream
 abbrev pub near_from : ℕ → ℕ
 near_from round = 2349 * (round - 71)
 
@@ -33,6 +33,6 @@ back bytes = drop (length bytes - 1560) bytes
 abbrev pub is_torn : List ℕ → List ℕ → Bool
 is_torn bytes others = is_part (front bytes) others && is_part (back bytes) others
 
--- one of its pieces does
+-- one of the pieces of a chunk stands in these bytes
 abbrev pub holds : List ℕ → List ℕ → Bool
 holds bytes others = is_part (front bytes) others || is_part (back bytes) others

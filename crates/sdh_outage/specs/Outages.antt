@@ -56,7 +56,7 @@ abbrev pub up_to : ℕ → Option Stretch → Option Stretch
 up_to round None = Some (record { from = round; to = round })
 up_to round (Some s) = Some (record s { to = round })
 
--- the first port whose bytes came, where those of this port came last
+-- the first port whose bytes came, once bytes of this port came too
 abbrev pub first_port : Option PortId → PortId → Option PortId
 first_port None port = Some port
 first_port (Some first) port = Some first
@@ -86,8 +86,8 @@ abbrev pub with_round : ℕ → Kind → Outage → Outage
 with_round round kind o =
     record (with_kind kind o) { runs = with_run (is_out kind) o.runs; stretch = stretch_with round kind o.stretch }
 
--- the outage of the rounds of these kinds from round `first` on, the latest first: a run that came before them is none
--- of them, and one that goes on after them ends with the last of them
+-- the outage of the rounds of these kinds from round `first` on, the latest first; runs are counted within these rounds
+-- alone, whatever came before them and comes after them
 abbrev pub outage_of : ℕ → List Kind → Outage
 outage_of first [] = no_outage
 outage_of first (kind ∷ earlier) = with_round (first + length earlier) kind (outage_of first earlier)
@@ -102,7 +102,7 @@ out o = o.ais + o.ones + o.strange + o.foreign
 abbrev pub no_ports : Summary
 no_ports = record { longest = 0; over = 0; none = 0; still = 0; foreign = 0 }
 
--- the port had its own customer's bytes in the last round
+-- the port had its own customer's bytes in the last round, or there was no round
 abbrev pub is_back : Outage → Bool
 is_back o = o.runs.going == 0
 
@@ -110,8 +110,9 @@ is_back o = o.runs.going == 0
 abbrev pub is_over : Outage → Bool
 is_over o = nat_le 401 o.runs.longest
 
--- The summary with a port more that had this outage. Of the ports that came back it has the longest run, and how many
--- had one that is over; of all ports, how many were never out, are still out, and got bytes of another circuit.
+-- The summary with one more port, which had this outage. Of the ports that came back it has the longest run, and how
+-- many had one of more than 400 rounds; of all ports, how many were never out, are still out, and got bytes of another
+-- circuit.
 abbrev pub with_outage : Summary → Outage → Summary
 with_outage s o = record {
   longest = if is_back o then max s.longest o.runs.longest else s.longest;

@@ -1,4 +1,4 @@
-//! The rounds in which a port comes to deliver something of another kind.
+//! The rounds in which the kind of what a port delivers changes.
 ghost use Rattle.std.specs.Prelude.{◌≡◌};
 ghost use Rattle.sdh_outage.specs.Changes.{same_kind, is_change};
 
@@ -9,7 +9,7 @@ use crate::kind::Kind;
 pub struct Change {
     /// The number of the round.
     pub round: u32,
-    /// What it is to the port.
+    /// The kind of the round at the port.
     pub kind: Kind,
 }
 
@@ -29,7 +29,7 @@ fn same_kind(one: Kind, other: Kind) -> bool
     }
 }
 
-/// Returns whether a round of this kind is a change, where the last one is the round before, if there is one.
+/// Returns whether a round of this kind is a change after one of kind `last`. The first round is one.
 pub(crate) fn is_change(last: Option<Kind>, kind: Kind) -> bool
     ensures { result ≡ is_change last kind }
 {

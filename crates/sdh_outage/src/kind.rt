@@ -1,10 +1,10 @@
-//! What a round is to a port.
+//! The kind of a round at a port.
 ghost use Rattle.std.specs.Prelude.{◌≡◌};
 ghost use Rattle.sdh_outage.specs.Kinds.{kind_of_others};
 
 use sdh_circuits::PortId;
 
-/// What a round is to a port, by what the port delivered in it.
+/// The kind of a round at a port, by what the port delivered in it.
 #[derive(Clone, Copy, Debug, PartialEq, Eq)]
 pub enum Kind {
     /// AIS: nothing came.
@@ -16,7 +16,7 @@ pub enum Kind {
     InOrder,
     /// A chunk of the far customer's bytes that doesn't follow the one of the round before.
     Jump,
-    /// A chunk of the far customer's bytes in two pieces, with other bytes amid, or without some of the customer's.
+    /// A chunk of the far customer's bytes in two pieces, with other bytes between them or with some bytes left out.
     Torn,
     /// A chunk that isn't the far customer's and has bytes that a port of another circuit sends: the first such port.
     Foreign(PortId),

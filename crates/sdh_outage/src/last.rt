@@ -79,15 +79,15 @@ impl Last {
         !self.is_chunk
     }
 
-    /// Returns how many bytes a chunk has.
+    /// Returns the number of bytes that were delivered last, 0 for AIS.
     pub(crate) fn len(&self) -> usize
         ensures { result ≤ 2352 }
     {
         self.bytes.len()
     }
 
-    /// Returns whether a chunk stands among bytes of a stream after the last one, which stands at this place; where the
-    /// last was AIS, whether the chunk stands at the place itself.
+    /// Returns whether the last chunk stands at place `at` of some bytes of a stream, and this chunk right after it.
+    /// Where AIS came last, returns whether this chunk stands at that place.
     pub(crate) fn stands_before(&self, chunk: &[u8], others: &[u8], at: usize) -> bool
         ensures { result ≡ true → Stands self.now chunk.now others.now }
     {
@@ -100,7 +100,7 @@ impl Last {
         rest.starts_with(&self.bytes) && behind.starts_with(chunk)
     }
 
-    /// Returns whether a chunk doesn't follow the last one, where these are the bytes of a stream that are near.
+    /// Returns whether the last chunk stands in these near bytes of a stream, and this chunk doesn't follow it there.
     pub(crate) fn jumps(&mut self, others: &[u8], chunk: &[u8]) -> bool
         requires { length chunk.now ≤ 2352 }
         ensures answer { result ≡ jumps others.now self.old chunk.now }

@@ -10,8 +10,8 @@ use crate::scratch::{CHUNKS, Scratch};
 use sdh_payload::{Delivered, Port};
 use std::alloc::{AllocError, Global};
 
-/// What came to a port in the round before. Of a chunk that is known to be one of a port's stream the port and the
-/// number are kept, and not its bytes, so that they aren't copied in each round.
+/// What came to a port in the round before. Where that is known to be a chunk of a port's stream, the port and the
+/// number of the chunk are kept in place of its bytes, so that these aren't copied in each round.
 #[derive(Debug, Drop)]
 pub(crate) struct Latest {
     pub(crate) plain: Last,
@@ -63,7 +63,7 @@ impl Latest {
         self.number = number;
     }
 
-    /// Returns whether it is known to be the chunk before this one of a port's stream.
+    /// Returns whether what came is known to be chunk `number` - 1 of a port's stream.
     pub(crate) fn is_before(&self, port: &Port, number: u32) -> bool
         requires { 0 < number }
         ensures { result ≡ true → (self.now.port ≡ Some port.now) × (self.now.number + 1 ≡ number) }
@@ -102,8 +102,8 @@ impl Latest {
         }
     }
 
-    /// Keeps the bytes of what came also where its number is known. The scratch has the chunks of a port's stream from
-    /// chunk `first` on, among which it mostly is.
+    /// Keeps the bytes of what came, where only its port and number were kept. The scratch has the chunks of a port's
+    /// stream from chunk `first` on, and mostly what came is one of them.
     pub(crate) fn spell(&mut self, scratch: &mut Scratch, port: &Port, first: u32)
         requires { scratch.old ≡ stream_from port.now (2349 * first) (2349 * 78) }
         ensures plain { self.new.plain ≡ came self.old }

@@ -40,7 +40,7 @@ fn runs_are_few(runs: Runs)
     rounds_are_few(runs.count, runs.longest);
 }
 
-/// The front of the line of any outage of a port of any name of at most 16 bytes has at most 223 bytes.
+/// The front of any outage's line has at most 223 bytes, for a port of any name of at most 16 bytes.
 pub fn outage_front_is_short(outage: &Outage)
     ensures { (name : List ℕ) (end : End) → length name ≤ 16 → length (outage_front name end outage.now) ≤ 223 }
 {
@@ -79,7 +79,7 @@ pub fn summary_line_is_short(summary: &Summary)
     rounds_are_few(summary.foreign, summary.foreign);
 }
 
-/// The longest run that is counted is one of those that there were, and none was longer.
+/// The longest run that is counted is a run of the rounds, and none of theirs is longer.
 pub fn longest_is_longest()
     ensures { LongestIsLongest }
 {}

@@ -14,7 +14,7 @@ use sdh_report::Text;
 /// Room for any line of an outage, a change or a summary, in bytes.
 pub const LINE_MAX: usize = 250;
 
-// Appends a number, with three digits always.
+// Appends a number with exactly three digits.
 fn put_three(text: &mut Text, number: u64)
     requires small { number < 1000 }
     requires room { length (three_digits number) ≤ text.old.room }
@@ -35,7 +35,7 @@ fn put_ms(text: &mut Text, rounds: u64)
     put_three(text, rounds % 8 * 125);
 }
 
-// Appends a number of rounds, and how long they are.
+// Appends a number of rounds, and their time in milliseconds.
 fn put_rounds(text: &mut Text, rounds: u64)
     requires { length (rounds_text rounds) ≤ text.old.room }
     ensures { text.new ≡ with_part text.old (rounds_text rounds) }
@@ -99,7 +99,7 @@ fn put_runs(text: &mut Text, runs: &Runs)
     put_rounds(text, u64::from(runs.longest));
 }
 
-/// Puts the front of the line of the port at an end of the circuit of this name, which had this outage.
+/// Appends the front of the line of a port with this outage: the port at an end of the circuit of this name.
 pub fn outage_front(text: &mut Text, name: &Name, end: End, outage: &Outage)
     requires { length (outage_front name.now end outage.now) ≤ text.old.room }
     ensures { text.new ≡ with_part text.old (outage_front name.now end outage.now) }
@@ -112,7 +112,7 @@ pub fn outage_front(text: &mut Text, name: &Name, end: End, outage: &Outage)
     put_counts(text, outage);
 }
 
-/// Puts the end of that line where foreign bytes came: the port that sends them, at an end of the circuit of this name.
+/// Appends the end of a port's line where foreign bytes came: the port that sends them, by its circuit's name and end.
 pub fn of_port(text: &mut Text, name: &Name, end: End)
     requires { length (of_port name.now end) ≤ text.old.room }
     ensures { text.new ≡ with_part text.old (of_port name.now end) }
@@ -124,7 +124,7 @@ pub fn of_port(text: &mut Text, name: &Name, end: End)
     text.put(b"\n");
 }
 
-/// Puts the end of that line where none came.
+/// Appends the end of a port's line where no foreign bytes came.
 pub fn of_nobody(text: &mut Text)
     requires { length of_nobody ≤ text.old.room }
     ensures { text.new ≡ with_part text.old of_nobody }
@@ -181,7 +181,7 @@ fn put_foreign(text: &mut Text, ports: u32)
     }
 }
 
-// Appends the longest run of rounds of a port that came back, and how many had one that is over.
+// Appends the longest run of the ports that came back, and how many of these had one of more than 400 rounds.
 fn put_longest(text: &mut Text, summary: &Summary)
     requires { length (longest_text summary.now) ≤ text.old.room }
     ensures { text.new ≡ with_part text.old (longest_text summary.now) }
@@ -192,8 +192,9 @@ fn put_longest(text: &mut Text, summary: &Summary)
     text.put_number(u64::from(summary.over));
 }
 
-/// Appends the line of a settle step: the longest run of rounds of a port that came back, and the number of ports of
-/// each kind. A second line says how many got bytes of another circuit, where any did.
+/// Appends the line of a settle step: the longest run of the ports that came back, how many of these had one of more
+/// than 400 rounds, and how many ports were never out and are out still. A second line has the number of ports that got
+/// bytes of another circuit, where any did.
 pub fn summary_line(text: &mut Text, summary: &Summary)
     requires { length (summary_line summary.now) ≤ text.old.room }
     ensures { text.new ≡ with_part text.old (summary_line summary.now) }

@@ -51,8 +51,8 @@ impl Listener {
         })
     }
 
-    /// Begins a settle step before the next round: nothing is counted, no run of rounds goes on, and this was delivered
-    /// last.
+    /// Begins a settle step before the next round: nothing is counted, no run of rounds goes on, and `before` is what
+    /// was delivered last.
     pub fn begin(&mut self, before: &Delivered)
         ensures { (port : Customer) (whose : Whose) → self.new ≡ heard port whose self.old.round before.now [] }
     {
@@ -61,9 +61,8 @@ impl Listener {
         self.trace.begin();
     }
 
-    /// Returns the kind of a round in which this was delivered, by the far customer's bytes that are near; None where
-    /// it is neither AIS, nor ones, nor any of these bytes. It is kept as what was delivered last; the round is counted
-    /// by `hear`.
+    /// Returns the kind of a round that delivers `now`, by the near bytes of the far customer; `None` where `now` is
+    /// neither AIS, nor ones, nor any of these bytes. Keeps `now` as what was delivered last. `hear` counts the round.
     pub fn own_kind(
         &mut self,
         far: &mut Window,
@@ -84,7 +83,7 @@ impl Listener {
         }
     }
 
-    /// Hears of one round more, of this kind, in which that was delivered which is kept as what was delivered last.
+    /// Counts one round more, of this kind. What the round delivered is kept already, as what was delivered last.
     pub fn hear(&mut self, kind: Kind)
         requires { self.old.round + 8 ≤ 2 ^ 32 }
         ensures history { (port : Customer) (whose : Whose) (first : ℕ) (before : Delivered) (past : List Delivered)
@@ -105,7 +104,7 @@ impl Listener {
         self.outage
     }
 
-    /// Returns the changes since then.
+    /// Returns the changes since the settle step began.
     pub fn trace(&self) -> &Trace
         ensures { result.now ≡ self.now.trace }
     {

@@ -26,7 +26,7 @@ pub struct Runs {
     pub count: u32,
     /// The number of rounds of the longest run.
     pub longest: u32,
-    /// The number of rounds of the run with which the rounds end; 0 where they end with the customer's bytes.
+    /// The number of rounds of the run that still goes on; 0 where the last round brought the customer's bytes.
     pub going: u32,
 }
 
@@ -37,13 +37,13 @@ pub struct Outage {
     pub ais: u32,
     /// The number of rounds that brought a chunk all of ones.
     pub ones: u32,
-    /// The number of rounds that brought the far customer's bytes, but not those after the ones before.
+    /// The number of rounds that brought a chunk of the far customer's that doesn't follow the one before.
     pub jump: u32,
-    /// The number of rounds that brought the far customer's bytes with others amid, or without some of them.
+    /// The number of rounds that brought the far customer's bytes with others between them or with some left out.
     pub torn: u32,
     /// The number of rounds that brought bytes that a port of another circuit sends.
     pub foreign: u32,
-    /// The first such port, where there is one.
+    /// The first port of another circuit whose bytes came, where there is one.
     pub whose: Option<PortId>,
     /// The number of rounds that brought any other chunk.
     pub strange: u32,
@@ -199,14 +199,14 @@ impl Outage {
             + u64::from(self.foreign)
     }
 
-    /// Returns whether the last round brought its own customer's bytes, or there was none.
+    /// Returns whether the last round brought the bytes of the port's own customer, or there was no round.
     pub fn is_back(&self) -> bool
         ensures { result ≡ is_back self.now }
     {
         self.runs.going == 0
     }
 
-    /// Returns whether it was out for more than 400 rounds at a time.
+    /// Returns whether the port was out for more than 400 rounds at a time.
     pub fn is_over(&self) -> bool
         ensures { result ≡ is_over self.now }
     {

@@ -6,8 +6,8 @@ ghost use Rattle.sdh_outage.specs.Near.{is_part, front, back, is_torn, holds};
 use crate::kind::Kind;
 use memchr::memmem;
 
-/// The bytes of a chunk before the place where an AU-4 is justified, and the fewest after all that a justification
-/// changes there.
+/// The number of bytes of a chunk before the place of a justification, and the least number of bytes after all that a
+/// justification changes there.
 const FRONT: usize = 783;
 
 const BACK: usize = 1560;

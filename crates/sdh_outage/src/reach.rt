@@ -13,8 +13,8 @@ use std::marker::Model;
 /// The bytes of a chunk where no clock slips.
 pub(crate) const CHUNK: usize = 2349;
 
-/// Chunks of a port's stream, one after the other. Later ones are made as they are asked for. The memory for the chunks
-/// is taken when this is made, and used once the chunks are there.
+/// Chunks of a port's stream, one after the other. Later ones are made as they are asked for. Memory for all of them is
+/// allocated when this is made, and is written only when a chunk is made.
 #[derive(Drop)]
 pub(crate) struct Reach {
     feed: Feed,
@@ -55,7 +55,7 @@ fn copy_down(bytes: &mut [u8], count: usize)
     front[..rest].copy_from_slice(back);
 }
 
-// Puts the bytes after a place to the front, whatever comes after them then.
+// Moves the bytes after the first `count` to the front. What then stands after them is not determined.
 fn move_down(bytes: &mut [u8], count: usize)
     requires { count ≤ length bytes.old }
     ensures front { take (length bytes.old - count) bytes.new ≡ drop count bytes.old }
@@ -120,7 +120,7 @@ impl Reach {
         self.first
     }
 
-    /// Returns the number of the one after the last that is kept.
+    /// Returns the number of the chunk after the last one that is kept.
     pub(crate) fn made(&self) -> u32
         ensures { result ≡ self.now.made }
     {
@@ -205,7 +205,7 @@ impl Reach {
         self.first = 0;
     }
 
-    /// Drops all chunks that are kept, and makes those before this one, so that it is next.
+    /// Drops all chunks that are kept, and makes those before chunk `from`, which is then the next one.
     pub(crate) fn pass_to(&mut self, from: u32)
         requires later { self.old.made ≤ from }
         requires few { from + 1 < 2 ^ 32 }
@@ -217,8 +217,8 @@ impl Reach {
         }
     }
 
-    /// Drops all chunks that are kept, makes those before chunk `end` until one is this one, and returns whether there
-    /// was one.
+    /// Drops all chunks that are kept. Then makes the next ones before chunk `end`, until one equals `chunk`, and
+    /// returns whether one did.
     pub(crate) fn seek(&mut self, end: u32, out: &mut Cells, chunk: &[u8]) -> bool
         requires order { self.old.made ≤ end }
         ensures found { result ≡ true → (self.old.made < self.new.made) × (self.new.made ≤ end) × (chunk.now ≡ chunk_of self.old.port (self.new.made - 1)) }
@@ -245,7 +245,7 @@ impl Reach {
         self.first = from;
     }
 
-    // Makes all chunks up to this one.
+    // Makes all chunks before chunk `end`.
     fn fill_to(&mut self, end: u32)
         requires room { end ≤ self.old.first + self.old.most }
         requires few { end < 2 ^ 32 }
@@ -257,8 +257,8 @@ impl Reach {
         }
     }
 
-    // Makes room for `count` chunks from this one on, and drops those before `low`. No more are dropped than that
-    // needs.
+    // Makes room for `count` chunks from chunk `from` on. Where there is too little, or where chunks before `low` are
+    // kept, it drops all chunks before `from`.
     fn make_room(&mut self, low: u32, from: u32, count: u32)
         requires order { low ≤ from }
         requires later { self.old.first ≤ from }

@@ -18,8 +18,8 @@ pub(crate) const CHUNKS: u32 = 78;
 /// The number of near chunks before a round's own.
 pub(crate) const BEHIND: u32 = 71;
 
-/// Room for the bytes of a customer that are near in a round, made anew for each look. Its memory is taken when it is
-/// made, and serves for all customers.
+/// Room for the near bytes of a customer in a round, which are made anew for each lookup. Its memory is allocated when
+/// it is made, and serves for all customers.
 #[derive(Drop)]
 pub struct Scratch {
     chunk: Cells,
@@ -55,7 +55,7 @@ fn feed_before(port: &Port, chunk: &mut Cells, first: u32) -> Feed
     feed
 }
 
-// Puts as many chunks as are near, from the feed's next one on.
+// Appends 78 chunks, as many as are near, from the feed's next one on.
 fn put_near(feed: &mut Feed, chunk: &mut Cells, bytes: &mut Vec<u8>)
     requires at { IsReach feed.old feed.old.clock.rounds feed.old.clock.rounds [] }
     requires few { feed.old.clock.rounds + 80 < 2 ^ 32 }
@@ -125,8 +125,8 @@ impl Scratch {
         last.put_chunk(self.chunk.as_slice());
     }
 
-    /// Makes the next chunk of a stream, and returns whether it is this one. It is the only one that is kept then where
-    /// `keeps` holds, and else none is.
+    /// Makes the next chunk of a stream, and returns whether it equals `chunk`. Where `keeps` holds, the stream then
+    /// keeps the chunk that was made and no other, and else none.
     pub(crate) fn is_next(&mut self, next: &mut Reach, keeps: bool, chunk: &[u8]) -> bool
         requires few { next.old.made + 1 < 2 ^ 32 }
         requires room { 1 ≤ next.old.most }
@@ -142,8 +142,8 @@ impl Scratch {
         self.chunk.as_slice() == chunk
     }
 
-    /// Makes the chunks of a stream from chunk `from` up to chunk `end`, until one is this one, and returns whether
-    /// there was one. None is kept.
+    /// Makes the chunks of a stream from chunk `from` on and before chunk `end`, until one equals `chunk`, and returns
+    /// whether one did. None is kept.
     pub(crate) fn seek(&mut self, next: &mut Reach, from: u32, end: u32, chunk: &[u8]) -> bool
         requires later { next.old.made ≤ from }
         requires order { from ≤ end }

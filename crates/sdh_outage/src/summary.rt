@@ -1,4 +1,4 @@
-//! What is said of the outages of all ports.
+//! The summary of the outages of all ports.
 ghost use Rattle.std.specs.Prelude.{◌≡◌, ◌+◌, ◌^◌, ◌<◌, ◌≤◌, if◌then◌else◌, List, [], ◌∷◌, ◌++◌};
 ghost use Rattle.sdh_outage.specs.declared.outage.Outage.{Outage};
 ghost use Rattle.sdh_outage.specs.Outages.{with_outage, summary_of};
@@ -6,7 +6,7 @@ ghost use Rattle.sdh_outage.specs.Kept.{ports_in};
 
 use crate::outage::Outage;
 
-/// What is said of the outages of all ports of a settle step.
+/// The summary of the outages of all ports in a settle step.
 #[derive(Clone, Copy, Debug, PartialEq, Eq)]
 pub struct Summary {
     /// The number of rounds of the longest run of the ports that came back.

@@ -17,22 +17,22 @@ use std::alloc::{AllocError, Global};
 use std::fmt;
 use std::marker::Model;
 
-/// The number of chunks that hold the last one and the one after it, wherever they begin, and where both are whole
-/// chunks of the stream.
+/// The number of the stream's chunks in which the last chunk that came and the next one lie: wherever they begin
+/// (`AHEAD`), and where both are whole chunks of the stream (`WHOLE`).
 const AHEAD: u32 = 3;
 
 const WHOLE: u32 = 2;
 
-/// The number of chunks that there is room for where the next ones are looked for, so that the bytes aren't moved in
-/// each round.
+/// The number of chunks for which there is room in `next`: more than are needed in one round, so that the bytes aren't
+/// moved in each round.
 const ROOM: u32 = 6;
 
 /// A settle step ends after a round whose number is a multiple of this. The bytes of its chunk are kept, since the next
 /// step begins with them.
 const TURN: u32 = 128;
 
-/// The bytes of a port's stream that are near in a round. They are made where they are looked at: mostly only the chunk
-/// that comes next, and all of them in a scratch.
+/// The bytes of a port's stream that are near in a round. They are made only when they are needed: mostly just the
+/// chunk that comes next; where all are needed, they are made in a scratch.
 #[derive(Drop)]
 pub struct Window {
     port: Port,
@@ -84,7 +84,7 @@ impl Window {
         self.at = index % CHUNK;
     }
 
-    // Returns whether a chunk stands where it is looked for first: after the last one, where that was a chunk.
+    // Returns whether a chunk stands at the place that is tried first: right after the last chunk, if one came last.
     fn comes_next(&mut self, last: &Last, chunk: &[u8]) -> bool
         requires { self.old.round + 88 ≤ 2 ^ 32 }
         ensures answer { result ≡ true → (is_part chunk.now (near self.old.port self.old.round) ≡ true)
@@ -111,7 +111,7 @@ impl Window {
         stands
     }
 
-    // Returns what a round is that brings this chunk, by all bytes that are near.
+    // Returns the kind of a round that brings this chunk, by all near bytes, which `others` has.
     fn looked_up(&mut self, others: &[u8], last: &mut Last, chunk: &[u8]) -> Option<Kind>
         requires others { others.now ≡ near self.old.port self.old.round }
         requires length { length chunk.now ≤ 2352 }
@@ -131,7 +131,7 @@ impl Window {
         }
     }
 
-    // Returns what a round is that brings this chunk, by all bytes that are near, which are made.
+    // Returns the kind of a round that brings this chunk, by all near bytes, which it makes in the scratch.
     fn sought(&mut self, scratch: &mut Scratch, last: &mut Latest, chunk: &[u8]) -> Option<Kind>
         requires few { self.old.round + 88 ≤ 2 ^ 32 }
         requires length { length chunk.now ≤ 2352 }
@@ -144,8 +144,8 @@ impl Window {
         self.looked_up(scratch.bytes(), &mut last.plain, chunk)
     }
 
-    // Returns whether a chunk is the stream's chunk after the last one, where that is known by its number. Then it is
-    // kept as what came last.
+    // Returns whether the last chunk is known by its number, and this chunk is the next one of the stream. If so, keeps
+    // this chunk as what came last.
     fn goes_on(&mut self, scratch: &mut Scratch, last: &mut Latest, chunk: &[u8]) -> bool
         requires { self.old.round + 88 ≤ 2 ^ 32 }
         ensures answer { result ≡ true → (is_part chunk.now (near self.old.port self.old.round) ≡ true)
@@ -168,7 +168,7 @@ impl Window {
         follows
     }
 
-    // Returns whether a chunk is one that the port sent later, where AIS came last. Then it is kept as what came last.
+    // Returns whether AIS came last, and a chunk is one that the port sent later. If so, keeps it as what came last.
     fn comes_later(&mut self, scratch: &mut Scratch, last: &mut Latest, chunk: &[u8]) -> bool
         requires { self.old.round + 88 ≤ 2 ^ 32 }
         ensures answer { result ≡ true → (is_part chunk.now (near self.old.port self.old.round) ≡ true)
@@ -217,7 +217,7 @@ impl Window {
         last.put_chunk(chunk);
     }
 
-    /// Returns what a round is that brings this chunk, where it is the port's or ones, and keeps it as what came last.
+    /// Returns the kind of a round that brings this chunk, where it is the port's or ones. Keeps it as what came last.
     pub(crate) fn own_chunk(
         &mut self,
         scratch: &mut Scratch,
@@ -252,7 +252,7 @@ impl Window {
         kind
     }
 
-    /// Returns whether a chunk holds some of them.
+    /// Returns whether one of the pieces of a chunk stands in the near bytes.
     pub fn holds(&self, scratch: &mut Scratch, chunk: &[u8]) -> bool
         requires { self.now.round + 88 ≤ 2 ^ 32 }
         ensures { result ≡ holds chunk.now (near self.now.port self.now.round) }

@@ -1,6 +1,6 @@
-//! The outside of the programs. Sources and sinks of bytes count their faults. Calls read a source to its end, and
-//! write a text whole. There are sources and sinks in memory that fail by a list, and adapters of standard input and
-//! output.
+//! The outside of the programs. Sources and sinks of bytes count their faults. Functions read a source to its end, and
+//! write a whole text. There are sources and sinks in memory, whose calls fail as a list says, and adapters of standard
+//! input and output.
 #![tactic(auto)]
 
 mod calls;

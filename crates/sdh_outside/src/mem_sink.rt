@@ -11,8 +11,8 @@ use std::alloc::{AllocError, Global};
 use std::fmt;
 use std::marker::Model;
 
-/// A buffer of fixed room that takes at most `piece` bytes a call. A call fails where the list has its number, or where
-/// there are bytes to write and no room is left. No other call fails.
+/// A buffer of fixed room. A write takes at most `piece` bytes. A write fails where `failing` has its number, or where
+/// there are bytes to write and no room is left. No other write fails.
 #[derive(Drop)]
 pub struct MemSink {
     bytes: Vec<u8>,

@@ -10,8 +10,8 @@ use std::alloc::{AllocError, Global};
 use std::fmt;
 use std::marker::Model;
 
-/// A source of bytes in memory that gives at most `piece` of them a call. A call fails where the list has its number,
-/// and no other call fails.
+/// A source of bytes in memory. A read gives at most `piece` bytes. A read fails where `failing` has its number, and no
+/// other read fails.
 #[derive(Drop)]
 pub struct MemSource {
     bytes: Vec<u8>,

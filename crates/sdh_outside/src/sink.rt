@@ -29,7 +29,7 @@ pub trait Sink {
         ensures cause { HasCause exact (faults self.old) (faults self.new) result };
 }
 
-// Returns what a writer's answer means to a sink. An error is a fault, and so is an answer of 0 for a non-empty piece.
+// Returns the number of bytes taken, or `Failed` where the writer reports an error or took none of a non-empty piece.
 fn write_answer(answer: io::Result<usize>, piece: &[u8]) -> Result<usize, Failed>
     ensures ok { IfOk answer (λ count. (0 < count) ⊎ (piece.now ≡ []) → result ≡ Ok count) }
     ensures none { IfOk answer (λ count. count ≡ 0 → piece.now ≢ [] → IsErr result) }

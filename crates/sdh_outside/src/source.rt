@@ -33,7 +33,7 @@ pub trait Source {
         ensures cause { HasCause exact (faults self.old) (faults self.new) result };
 }
 
-// Returns what a reader's answer means to a source: an error is a fault, and nothing else is.
+// Returns the number of bytes that a reader gave, or `Failed` where the reader reports an error.
 fn read_answer(answer: io::Result<usize>) -> Result<usize, Failed>
     ensures ok { IfOk answer (λ count. result ≡ Ok count) }
     ensures err { OnErr answer (IsErr result) }

@@ -14,7 +14,7 @@ use thiserror::Error;
 pub struct WriteFault;
 
 /// Appends the whole text to the sink, or the beginning of it where a write fails. Each write takes at least one byte.
-/// It takes no memory.
+/// The function allocates no memory.
 pub fn write_text<W: Sink>(sink: &mut W, text: &[u8]) -> Result<(), WriteFault>
     ensures ok { OnOk result (Appends (W.written sink.old) (W.written sink.new) text.now) }
     ensures fault { OnErr result (Rose (W.faults sink.old) (W.faults sink.new)) }

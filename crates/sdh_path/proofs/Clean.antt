@@ -58,7 +58,7 @@ module _ (port : Customer) (p n value : ℕ) (some : 1 ≤ n) (small : value ≤
       (length-part (s + 2349 * i) 2349 x (omega (arith, long)))
       (λ k h. sym (get_or-part (s + 2349 * i) 2349 x k h ∙ byte_at i k h (omega arith))))
 
-  -- its bytes B3 and C2
+  -- the bytes B3 and C2 of the VC-4s in a run of the stream
   b3_byte : (i : ℕ) → s + 2349 * (i + 1) ≤ 2349 * n → get_or (vc4_in x s i) 261 0 ≡ b3_of port (first + i)
   b3_byte i fits =
       ap (λ l. get_or l 261 0) (vc4_is i fits) ∙ get_or-cells (vc4_byte port (b3_of port (first + i)) (first + i)) 2349 261 0 (omega arith)

@@ -40,7 +40,7 @@ ChunksAreClean =
     (port : Customer) (p n value : ℕ) → 1 ≤ n → value ≤ 782 → BeginsAt port.offset p value
     → path_report_of port.trace (chunks_from port p value n) ≡ clean_report n value
 
--- the place in the stream to which a clock has come is in step with its pointer value, however the clock slips
+-- the place in the stream that a clock has reached agrees with its pointer value, however the clock slips
 pub record ClocksAreInStep : Type 0 where
   pub first : (offset : ℕ) → offset ≤ 782 → BeginsAt offset (new_clock offset).sent (new_clock offset).value
   pub told : (offset : ℕ) (turn : Turn) (count : ℕ) (c : Clock) → BeginsAt offset c.sent c.value

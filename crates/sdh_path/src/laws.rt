@@ -11,8 +11,8 @@ pub fn chunks_are_clean()
     ensures { ChunksAreClean }
 {}
 
-/// The place in a stream to which a clock has come is in step with its pointer value: from there on VC-4s begin where
-/// the value says.
+/// The place in the stream that a clock has reached agrees with its pointer value: from there on VC-4s begin where the
+/// value says.
 pub fn clocks_are_in_step()
     ensures { ClocksAreInStep }
 {}

@@ -38,8 +38,8 @@ pub struct Tally {
     pub label_byte: u8,
 }
 
-// Returns the byte at a place of an unfinished VC-4, to which a piece is added after its first `index` bytes: the byte
-// of the piece there, or else `kept`, which was known before.
+// Returns the byte at a place of an unfinished VC-4 of `index` bytes after a piece was added: the byte of the piece, if
+// the piece reaches that place, and otherwise `kept`, which was known before.
 fn byte_with(kept: u8, index: usize, piece: &[u8], place: usize) -> u8
     ensures { (part : List ℕ) → length part ≡ index → kept ≡ slice_index part place → result ≡ slice_index (part ++ piece.now) place }
 {
@@ -110,7 +110,7 @@ impl Tally {
         }
     }
 
-    // Returns the counts with the unfinished VC-4 counted, if it is whole, and as they are if it isn't.
+    // Returns the counts with the last VC-4 counted too, if all its bytes have come, and otherwise as they are.
     fn closed(self) -> Tally
         requires b3 { self.b3 ≤ 8 * self.vcs }
         requires label { self.label ≤ self.vcs }

@@ -29,7 +29,7 @@ pub enum TraceWord {
     Short,
 }
 
-/// What a watch reports of the chunks since it began anew.
+/// What a watch reports of the chunks since it last began anew, which it does at AIS and at a new pointer value.
 #[derive(Clone, Copy, Debug, PartialEq, Eq)]
 pub struct PathReport {
     /// The number of whole VC-4s in these chunks.
@@ -42,7 +42,7 @@ pub struct PathReport {
     pub trace: TraceWord,
 }
 
-/// A watch on the chunks that a port delivers. It keeps running sums of them, and takes no memory.
+/// A watch on the chunks that a port delivers. It keeps running counts, and allocates no memory.
 #[derive(Debug, Drop)]
 pub struct Watch {
     trace: [u8; TRACE_LEN],

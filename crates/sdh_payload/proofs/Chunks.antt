@@ -35,7 +35,7 @@ stream_from-append port p n m =
 
 -- ---- rounds one after the other
 
--- a round sends as many bytes as it says
+-- a round moves a clock on by the number of bytes of its chunk
 pub sent_grows : (f : ChunkForm) (c : Clock) → (after_form f c).sent ≡ c.sent + taken_len f
 sent_grows Plain c = refl
 sent_grows Short c = refl
@@ -138,7 +138,7 @@ begins port v =
 begun_then : (f j : ℕ) → 0 < f → (if f == 0 then j else j + 1) ≡ j + 1
 begun_then f j h = grind arith
 
--- from the phase f of chunk j it is a whole number of VC-4s to the first
+-- the byte with phase f in chunk j comes a whole number of VC-4s after the start of VC-4 number 0
 whole : (f j : ℕ) → f < 2349 → 2349 * j + f + (2349 - f) % 2349 ≡ 2349 * (if f == 0 then j else j + 1)
 whole zero j h = omega arith
 whole (suc f) j h = let rest : 2349 * j + suc f + (2349 - suc f) % 2349 ≡ 2349 * (j + 1) =

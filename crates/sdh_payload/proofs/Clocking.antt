@@ -50,7 +50,7 @@ form_ticked c = form_after (next_form c) c
 
 -- ---- slips run out
 
--- the rounds that slips take, one of rest at least and three after each
+-- the number of rounds in which all pending slips are used up: the rest, and four for each slip
 abbrev left_in : Clock → ℕ
 left_in c = c.rest + 4 * waiting c
 
@@ -99,7 +99,7 @@ goes_plain c none = go (nat_le 1 c.rest) (nat_le 1 c.ups) (nat_le 1 c.downs) ref
     go false false true r u d = let some : 1 ≤ c.downs = grind (arith, nat_tests) in absurd (omega (arith, none, some))
     go false false false r u d = refl
 
--- such a clock keeps its value, and goes on by 2349 bytes a round
+-- a clock for which no slip waits keeps its value, and goes on by 2349 bytes a round
 pub record GoesPlain (c : Clock) (k : ℕ) : Type 0 where
   pub none : waiting (ticks k c) ≡ 0
   pub value : (ticks k c).value ≡ c.value

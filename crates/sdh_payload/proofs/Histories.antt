@@ -31,7 +31,7 @@ rest_few (Plain ∷ before) = omega (arith, rest_few before)
 rest_few (Short ∷ before) = omega arith
 rest_few (Long ∷ before) = omega arith
 
--- fewer after a round
+-- after a round a clock rests for at most three rounds
 rest_fewer : (f : ChunkForm) (before : List ChunkForm) → rest_after (f ∷ before) ≤ 3
 rest_fewer Plain before = omega (arith, rest_few before)
 rest_fewer Short before = omega arith
@@ -68,7 +68,7 @@ both_once Plain = omega arith
 both_once Short = omega arith
 both_once Long = omega arith
 
--- at most once in each round
+-- a port justifies at most once in each round
 counts_few : (before : List ChunkForm) → count_by justifies_up before + count_by justifies_down before ≤ length before
 counts_few [] = omega arith
 counts_few (f ∷ before) =

@@ -54,7 +54,7 @@ repeated_piece bytes len place rest count r here rest_is few =
 xor_back : (x y : ℕ) → bit_xor x (bit_xor x y) ≡ y
 xor_back x y = sym (xor_assoc x x y) ∙ ap (λ z. bit_xor z y) (xor_self x) ∙ xor_zero_l y
 
--- the parity of a piece, by those of what is before it and of what is up to its end
+-- the parity of a piece, from the parities of the bytes before it and of those up to its end
 pub piece_parity : (bytes sums : List ℕ) (len place count : ℕ) → Repeats len bytes → AreFrontParities bytes sums
     → place < length (take len bytes) → count ≤ 260 → bit_xor (get_or sums place 0) (get_or sums (place + count) 0)
     ≡ bip8 (repeated_from (take len bytes) place count)
@@ -92,7 +92,7 @@ row_long place len step here is h =
     sym (mod-eq_of_lt below) ∙ sym (add-mod_right (place + step - len) len) ∙ ap (λ n. n % len) back
     ∙ behind_row place len step (omega arith) is
 
--- one byte more
+-- the parities of the first bytes, with one byte more
 pub front_more : (bytes parities : List ℕ) (i : ℕ) → i < length bytes → i + 1 < length parities → get_or bytes i 0 < 2 ^ 8
     → ((k : ℕ) → k ≤ i → get_or parities k 0 ≡ bip8 (take k bytes))
     → (k : ℕ) → k ≤ i + 1 → get_or (set parities (i + 1) (bit_xor (get_or parities i 0) (get_or bytes i 0))) k 0 ≡ bip8 (take k bytes)

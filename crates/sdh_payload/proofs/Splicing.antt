@@ -19,7 +19,7 @@ written_whole room bytes e =
     ∙ ap (take (length room)) (append-nil bytes) ∙ ap (λ n. take n bytes) (sym e)
     ∙ sym (ap (take (length bytes)) (append-nil bytes)) ∙ take-append_seam bytes []
 
--- the bytes at the back, then those at the front, then others; and the whole turned back
+-- the list of the bytes at the back, those at the front and the new ones, rotated back, has the new ones in between
 pub turned : (front back behind : ℕ) (xs mid ys : List ℕ) → front ≤ back → behind ≡ length (drop back xs)
     → ys ≡ take (behind + front) (drop back xs ++ take back xs) ++ mid
     → drop behind ys ++ take behind ys ≡ around front mid back xs

@@ -17,6 +17,6 @@ new_feed port = record { port = port; clock = new_clock port.offset }
 abbrev pub next_feed : Fed → Fed
 next_feed feed = record feed { clock = ticked feed.clock }
 
--- what is true of every feed whose walk along the VC-4s has come to byte `at`
+-- what is true of every feed whose walk along the VC-4s stands at byte `at`
 pub record IsFeed (feed : Fed) (at : ℕ) : Type 0 where
   pub at_is : at ≡ feed.clock.sent + start_of feed.port.offset

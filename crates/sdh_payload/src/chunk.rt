@@ -16,8 +16,8 @@ pub enum ChunkForm {
     Long,
 }
 
-/// Puts the bytes that a port delivers of an AU-4 into `out`, in place of what it held. They come from the 2349 bytes
-/// of the payload and the three H3 bytes. It takes no memory.
+/// Puts the bytes that a port takes from an AU-4 into `out`, in place of what it held. They come from the 2349 bytes of
+/// the payload and the three H3 bytes. The function allocates no memory.
 #[tactic(auto, using(crate::proofs::Splicing::written_whole))]
 pub fn take_chunk(payload: &[u8], h3: &[u8], form: ChunkForm, out: &mut Cells)
     requires payload { length payload.now ≡ 2349 }

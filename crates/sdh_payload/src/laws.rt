@@ -18,8 +18,8 @@ pub fn begins_at_the_offset()
     ensures { BeginsAtTheOffset }
 {}
 
-/// Every clock goes by its history. The slips ordered and the rounds run, in their order, decide the pending slips, the
-/// forms of the last chunk and of the next, the byte of the stream with which the next begins, and the pointer value.
+/// Every clock goes by its history: the list of its slips and its rounds decides the pending slips, the forms of the
+/// last chunk and of the next, the byte of the stream with which the next begins, and the pointer value.
 pub fn clocks_go_by_history()
     ensures { ClocksGoByHistory }
 {}

@@ -87,7 +87,7 @@ impl Repeated {
         self.len
     }
 
-    /// Returns `count` bytes of the repeated text from a place in the text on, at most the 260 of a row.
+    /// Returns `count` bytes, at most 260, of the repeated text from a place in the text on.
     pub fn from(&self, place: usize, count: usize) -> &[u8]
         requires place { place < length self.now }
         requires count { count ≤ 260 }

@@ -21,8 +21,8 @@ const SPACE: u8 = 0x20;
 /// The signal label C2, equipped and non-specific (ITU-T G.707 clause 9.3).
 const EQUIPPED: u8 = 1;
 
-/// A place in a port's VC-4s, which is that of the next byte. With it are kept B3 of the VC-4, the parity of the VC-4's
-/// bytes so far, and the place in the text of the next text byte.
+/// The place of the next byte in a port's VC-4s, with B3 of its VC-4, the parity of the bytes before it in that VC-4,
+/// and the place in the text of the next text byte.
 #[derive(Debug, Drop)]
 pub struct Walk {
     port: Port,

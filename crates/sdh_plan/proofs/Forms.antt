@@ -50,7 +50,7 @@ long : (n : ℕ) (nodes : List ℕ) (circuits : List Provisioned) (o : Option Ve
 long n nodes circuits None others h = refl
 long n nodes circuits (Some v) others h = mismatch nodes (parts_of n circuits v) others (omega (arith, few_parts n circuits v))
 
--- what is true of words
+-- the step that words give, or the reason of the first check of them that fails
 abbrev pub told : ℕ → List ℕ → List Provisioned → List (List ℕ) → Result Step Reason
 told n nodes circuits ws = unless (first_fault (form_faults n nodes circuits ws)) (form_step n nodes circuits ws)
 

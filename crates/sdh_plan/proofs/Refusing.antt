@@ -37,7 +37,7 @@ pub same_checks : (p : Provisioning) (nodes : List ℕ) (wish : Wish)
 unfolding wish_faults refusal checks
 same_checks p nodes wish = eight _ _ _ _ _ _ _ _
 
--- a circuit is refused for its first check that fails, and for a lack of memory only where none does
+-- a circuit is refused for its first check that fails, and because memory ran out only where no check fails
 pub refused_for : (X : Type 0) (p : Provisioning) (nodes : List ℕ) (wish : Wish) (why : AddError)
     → IfSome (refusal p nodes wish) (λ first. ◌≡◌ {A = Result X AddError} (Err why) (Err first))
     → IfNone (refusal p nodes wish) (why ≡ refused.Memory) → first_fault (wish_faults p.slots nodes p.circuits wish) ≡ reason_of why

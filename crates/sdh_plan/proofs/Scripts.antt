@@ -16,7 +16,7 @@ use Rattle.sdh_plan.specs.Steps.{Past, step_of, step_faults, steps_checks, new_p
 use Rattle.sdh_plan.specs.Plans.{texts_checks, last_check}
 use Rattle.sdh_plan.proofs.Checking.{answer_behind, passes, refuses, place_passes, place_fails}
 
--- what was answered of a step, by what comes of it once its reason has a place
+-- the answer to a step's text, from the answer in which its reason has a place
 pub placed_step : (told : Result Step Reason) (s : Step) (Q : Reason → Type 0)
     → MatchResult told (λ t. ◌≡◌ {A = Result Step PlanError} (Ok s) (Ok t)) Q → ((why : Reason) → Q why → ⊥) → told ≡ Ok s
 placed_step (Ok t) s Q h never = let e : ◌≡◌ {A = Result Step PlanError} (Ok s) (Ok t) = h in let same : t ≡ s = cc in ap Ok same

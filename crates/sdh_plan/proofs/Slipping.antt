@@ -30,7 +30,7 @@ module _ {X : Type 0} (p : X → Bool) where
   untold : (at n : ℕ) → at ≡ n → cond (nat_lt at n) (Some at) None ≡ None
   untold at n e = grind (arith, nat_tests)
 
-  -- none of a list passes it
+  -- no element of a list passes a test
   pub none_at : (xs : List X) → ((k : ℕ) (d : X) → k < length xs → p (get_or xs k d) ≡ false) → position p xs ≡ None
   none_at [] h = refl
   none_at (x ∷ xs) h =

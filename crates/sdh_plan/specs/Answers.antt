@@ -12,8 +12,8 @@ use Rattle.sdh_plan.specs.Plans.{checks, plan_of}
 abbrev pub IsPlanOf : List ℕ → Planned → Type 0
 IsPlanOf bytes plan = (ms : Members) × IsDocument bytes ms × (answer (checks ms) ≡ None) × (plan ≡ plan_of ms)
 
--- why there is no plan: a lack of memory, possible at any time; the bytes are no document; or they are one, and the
--- first of its checks that fails has this reason and this place
+-- why there is no plan: memory ran out, which is possible at any time; the bytes are no document; or they are one, and
+-- the first of its checks that fails has this reason and this place
 abbrev pub IsWhy : List ℕ → PlanError → Type 0
 IsWhy bytes error.Memory = Unit {0}
 IsWhy bytes error.NotToml = IsNoDocument bytes

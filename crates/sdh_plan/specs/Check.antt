@@ -31,7 +31,7 @@ abbrev pub first_fault : List Fault → Option Reason
 first_fault [] = None
 first_fault (fault ∷ later) = if fault.1 then Some fault.0 else first_fault later
 
--- what is read, or why not
+-- the value that is read, or the reason for which there is none
 abbrev pub unless : {X : Type 0} → Option Reason → X → Result X Reason
 unless None x = Ok x
 unless (Some reason) x = Err reason

@@ -16,7 +16,7 @@ circuit_keys =
     codes "name" ∷ codes "from" ∷ codes "to" ∷ codes "slot" ∷ codes "text_a" ∷ codes "text_b"
     ∷ codes "trace_a" ∷ codes "trace_b" ∷ codes "offset_a" ∷ codes "offset_b" ∷ []
 
--- the text at a key, and another where the key is missing
+-- the text at a key, or `other` where the key is missing
 abbrev pub text_or : List ℕ → List ℕ → Members → Option (List ℕ)
 text_or other key ms = option_map_or as_str (get_member key ms) (Some other)
 
@@ -77,7 +77,7 @@ wish_of_table ms = unwrap_or (wish_in ms) no_wish
 abbrev pub circuit_of_table : List ℕ → Members → Provisioned
 circuit_of_table nodes ms = circuit_of nodes (wish_of_table ms)
 
--- the checks of what is asked for, after circuits that were asked for before
+-- the checks of a circuit that is asked for, given the circuits before it
 unfoldable pub wish_faults : ℕ → List ℕ → List Provisioned → Wish → List Fault
 wish_faults slots nodes before wish =
     (reason.Slot, not (has_slot slots wish))

@@ -62,7 +62,7 @@ steps_in ms = map (λ d. step_of (n_in ms) (nodes_in ms) (circuits_in (nodes_in 
 abbrev pub whole : Reason → Bool → Check
 whole reason fails = record { reason = reason; place = 0; fails = fails }
 
--- a check that fails where there is such a node, at the first of them; its place is counted from 0 here
+-- a check that fails where `at` is there: the place, counted from 0, of the first node that breaks a rule
 abbrev pub first_node : Reason → Option ℕ → Check
 first_node reason at = record { reason = reason; place = option_map_or (λ i. i + 1) at 0; fails = is_some at }
 

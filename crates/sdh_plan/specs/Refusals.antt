@@ -8,7 +8,7 @@ use Rattle.sdh_plan.specs.declared.error.PlanError.TheVariants as error
 use Rattle.sdh_plan.specs.declared.reason.Reason.{Reason}
 use Rattle.sdh_plan.specs.declared.reason.Reason.TheVariants as reason
 
--- the reason and the place are these; a lack of memory is possible at any time
+-- the reason and the place are these; memory can run out at any time
 abbrev pub IsRefused : Option Refusal → PlanError → Type 0
 IsRefused refusal error.Memory = Unit {0}
 IsRefused refusal error.NotToml = ⊥
@@ -18,7 +18,7 @@ IsRefused refusal (error.BadPlan reason place) = refusal ≡ Some (record { reas
 abbrev pub refusal_at : ℕ → Option Reason → Option Refusal
 refusal_at place reason = option_map (λ r. record { reason = r; place = place }) reason
 
--- the reason for which a circuit is not added; a lack of memory has none
+-- the reason for which a circuit is not added; None where memory ran out
 abbrev pub reason_of : AddError → Option Reason
 reason_of refused.Memory = None
 reason_of refused.Slot = Some reason.Slot

@@ -210,7 +210,7 @@ is_settle (step.Slip port turn count) = false
 is_settle (step.Moment m) = false
 is_settle step.Settle = true
 
--- the step gives a port more slips than 16 since the last settle step
+-- with the step a port's slips since the last settle step are more than 16
 abbrev pub is_too_many : (PortId → ℕ) → Step → Bool
 is_too_many slips (step.Fibre event) = false
 is_too_many slips (step.Order at on c) = false

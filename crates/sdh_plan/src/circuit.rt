@@ -40,7 +40,7 @@ fn has_circuit_keys(table: &Table) -> bool
     table.keys().all(|key| is_circuit_key(key.as_str()))
 }
 
-// Returns the text at a key, and another where the key is missing.
+// Returns the text at a key, or `other` where the key is missing.
 fn text_or<'a>(table: &'a Table, key: &str, other: &'a str) -> Option<&'a str>
     ensures { option_map (λ text. text.now) result ≡ text_or other.now key.now (table_view table.now) }
 {
@@ -140,7 +140,7 @@ fn add_table(
     }
 }
 
-// Adds the circuit that a value asks for. One that is no table has no key.
+// Adds the circuit that a value asks for. A value that is no table is refused as a table without keys.
 #[tactic(auto, unfolding(crate::specs::Circuits::circuit_faults, crate::specs::Circuits::wish_in, crate::specs::Document::has_only))]
 fn add_circuit(
     circuits: &mut CircuitMap,

@@ -1,4 +1,4 @@
-//! The document that bytes are, and the values at its keys.
+//! The TOML document in some bytes, and the values at its keys.
 ghost use Rattle.std.specs.Prelude.{◌≡◌, ◌≤◌, IfSome, Some, None, option_map, option_copied, IfOk, IsErrOf, map};
 ghost use Rattle.std.specs.Str.{bytes_eq};
 ghost use Rattle.toml.specs.Data.{get_member};
@@ -19,7 +19,7 @@ pub enum DocumentError {
     NotToml,
 }
 
-/// Returns the document that the bytes are.
+/// Returns the TOML document that the bytes hold.
 pub fn document_of(alloc: Global, bytes: &[u8]) -> Result<Table, DocumentError>
     ensures ok { IfOk result (λ table. IsDocument bytes.now (table_view table)) }
     ensures not_toml { IsErrOf result DocumentError.NotToml → IsNoDocument bytes.now }

@@ -95,7 +95,7 @@ fn node_and_side(ring: &RingMap, node: &[u8], side: &[u8]) -> Result<(Pos, Side)
     Ok((at, side))
 }
 
-// Returns the step that gives the fibre named by the words a condition.
+// Returns the step that sets the condition of the fibre named by the words.
 #[tactic(auto, unfolding(crate::specs::Steps::part_faults))]
 fn fibre(ring: &RingMap, others: &[&[u8]], condition: Condition) -> Result<Step, Reason>
     ensures { result ≡ unless (first_fault (part_faults ring.now (node ∷ side ∷ []) (map (λ word. word.now) others.now)))
@@ -134,7 +134,7 @@ fn degrade(ring: &RingMap, rate: Rate, others: &[&[u8]]) -> Result<Step, Reason>
     }))
 }
 
-// Returns the step that gives the side named by the words a command.
+// Returns the step that gives a command to the side named by the words.
 #[tactic(auto, unfolding(crate::specs::Steps::part_faults))]
 fn order(ring: &RingMap, others: &[&[u8]], command: Command) -> Result<Step, Reason>
     ensures { result ≡ unless (first_fault (part_faults ring.now (node ∷ side ∷ []) (map (λ word. word.now) others.now)))
@@ -162,7 +162,7 @@ fn moment(ring: &RingMap, others: &[&[u8]]) -> Result<Step, Reason>
     Ok(Step::Moment(Moment(u64::from(number))))
 }
 
-// Returns the step by which the node's controller misses `count` rounds.
+// Returns the step by which a node's controller misses `turns` rounds.
 #[tactic(auto, unfolding(crate::specs::Steps::part_faults))]
 fn hold(ring: &RingMap, others: &[&[u8]]) -> Result<Step, Reason>
     ensures { result ≡ unless (first_fault (part_faults ring.now (node ∷ number 1 100 ∷ []) (map (λ word. word.now) others.now)))
@@ -218,7 +218,7 @@ fn settle(ring: &RingMap, others: &[&[u8]]) -> Result<Step, Reason>
     }
 }
 
-// Returns the step that a first word and those after it give at a rate.
+// Returns the step that a first word and the words after it give, at a rate.
 fn told(
     ring: &RingMap,
     circuits: &CircuitMap,

@@ -28,7 +28,7 @@ impl Past {
         }
     }
 
-    /// Goes on after the step, or returns the reason why the step can't stand there.
+    /// Adds a step to what the script has led to, or returns the reason why the step can't stand there.
     #[tactic(auto, unfolding(crate::specs::Steps::past_faults))]
     pub fn follow(&mut self, step: Step) -> Result<(), Reason>
         ensures reason { result ≡ unless (first_fault (past_faults (past_in self.old) step)) tt }

@@ -39,7 +39,7 @@ pub enum Reason {
     Wait = 16,
     /// The limit is missing, no integer, or not 1 to 65,536.
     Limit = 17,
-    /// The circuits are there and no array of tables.
+    /// The circuits are there, but they are no array of tables.
     Circuits = 18,
     /// A needed key of a circuit is missing, or the value of a listed key has the wrong kind.
     CircuitField = 19,

@@ -23,7 +23,7 @@ impl Slips {
         }
     }
 
-    /// Returns how many the port was given.
+    /// Returns the number of slips that the port was given.
     #[tactic(auto, unfolding(crate::specs::Counted::slips_in))]
     pub fn count(&self, port: PortId) -> u8
         ensures { result ≡ slips_in self.now port }

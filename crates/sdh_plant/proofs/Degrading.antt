@@ -29,7 +29,7 @@ unfolding degraded_byte
 byte_behind Four k i x few low = grind (arith, nat_tests)
 byte_behind Sixteen k i x few low = grind (arith, nat_tests)
 
--- a place is before the part, in it or after it
+-- a frame is the degraded one if the top bit of the first k bytes of row 6 is inverted in it, and nothing else
 pub degraded-from : (rate : Rate) (k : ℕ) (old new : List ℕ) → k ≤ 3 * n_of rate → length new ≡ length old
     → ((i : ℕ) → i < 1350 * n_of rate → slice_index new i ≡ slice_index old i)
     → ((i : ℕ) → 1350 * n_of rate ≤ i → i < 1350 * n_of rate + k → slice_index new i ≡ bit_xor (slice_index old i) 0x80)

@@ -14,7 +14,7 @@ use Rattle.sdh_plant.specs.Calls.{is_at, told_at_rate, prepared}
 use Rattle.sdh_plant.specs.InMemory.{HeldFibres, HeldTold, clear_fibres, told_of}
 use Rattle.sdh_plant.specs.Kept.{arrival_of}
 
--- what was found of those that are left
+-- whether all arrivals left are of this rate, by the slice that the code tests
 pub all_left : (rate : Rate) (xs : List Told) (next : ℕ) (b : Bool)
     → b ≡ list_all (λ told. is_at rate (arrival_of told)) (take (length xs - next) (drop next xs))
     → list_all (is_at rate) (map arrival_of (drop next xs)) ≡ b

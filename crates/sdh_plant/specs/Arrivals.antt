@@ -25,7 +25,7 @@ degraded_byte n k i x = if is_inverted k (i / (270 * n) + 1) (i % (270 * n) + 1)
 unfoldable pub degraded : ℕ → ℕ → List ℕ → List ℕ
 degraded n k bytes = map_from (degraded_byte n k) 0 bytes
 
--- what comes out of a fibre in this condition that carries this
+-- what comes out of a fibre that is in this condition and carries `carried`
 abbrev pub through : ℕ → Condition → Arrival → Arrival
 through n Clear carried = carried
 through n Cut carried = None
@@ -56,12 +56,12 @@ arrival f p d = option_map_or next_told f.told (honest_arrival f p d)
 abbrev pub Knows : Fibres → Type 0
 Knows f = (f.honest ≡ true) ⊎ (f.told ≢ None)
 
--- what arrived, by the answer of a call and the bytes that it left in the frame that it was given
+-- what arrived, from the answer of a receive and the bytes of the frame that it filled
 abbrev pub as_arrival : Arrived → List ℕ → Arrival
 as_arrival arrived.Frame bytes = Some bytes
 as_arrival arrived.Dark bytes = None
 
--- what arrived, by the answer of a call and what landed where a frame arrived
+-- what arrived, from the answer of a receive and the bytes that landed
 abbrev pub arrived_in : Arrived → Option (List ℕ) → Arrival
 arrived_in arrived.Frame landed = landed
 arrived_in arrived.Dark landed = None

@@ -26,7 +26,7 @@ pub enum PlantCall {
     Receive,
 }
 
-/// Honest fibres in memory, as a `FibrePlant` has them. The calls that a list names fail, and no others, though
+/// Honest fibres in memory, as a `FibrePlant` has them. The calls that a list names fail. No other call fails, though
 /// `prepare` can run out of memory.
 #[derive(Debug, Drop)]
 pub struct FailingPlant {

@@ -1,4 +1,4 @@
-//! Frames as a degraded fibre leaves them.
+//! Frames as they come out of a degraded fibre.
 ghost use Rattle.std.specs.Prelude.{◌≡◌, ◌*◌, ◌≤◌, Some, length};
 ghost use Rattle.sdh_frame.specs.Sizes.{size_of};
 ghost use Rattle.sdh_ringmap.specs.Rates.{n_of};
@@ -7,7 +7,7 @@ ghost use Rattle.sdh_plant.specs.Arrivals.{degraded};
 use sdh_frame::{FrameBuf, Landing};
 use sdh_ringmap::Rate;
 
-// Inverts the top bit of the first bytes of row 6.
+// Inverts the top bit of each of the first `columns` bytes of row 6.
 fn invert_row_6(rate: Rate, columns: usize, bytes: &mut [u8])
     requires size { length bytes.old ≡ size_of rate }
     requires columns { columns ≤ 3 * n_of rate }
@@ -19,7 +19,7 @@ fn invert_row_6(rate: Rate, columns: usize, bytes: &mut [u8])
     }
 }
 
-// Degrades a frame as a fibre does that is degraded by this number of columns.
+// Degrades a frame as a fibre that is degraded by `columns` columns does.
 fn degrade(frame: &mut FrameBuf, columns: u16)
     requires { columns ≤ 3 * n_of frame.old.rate }
     ensures { frame.new ≡ record frame.old { bytes = degraded (n_of frame.old.rate) columns frame.old.bytes } }

@@ -31,8 +31,8 @@ pub enum Told {
 pub struct ToldPlant {
     plant: FibrePlant,
     arrivals: Vec<Told>,
-    // The number of arrivals that were given; or that of all arrivals, where `prepare` dropped those left because one
-    // of them is a frame of another rate.
+    // The number of arrivals that were given or dropped. `prepare` drops all arrivals left, where one of them is a
+    // frame of another rate.
     next: usize,
 }
 

@@ -143,7 +143,7 @@ pub same_event : (r : Reading) (v : ℕ) → r.mode ≡ mode.Norm → r.value �
 unfolding normal_event
 same_event r v norm is = let e : eqb v r.value ≡ true = eq-eqb _ _ (sym is) in rw (norm, e) refl
 
--- out of mode Norm each such word is a new value
+-- outside mode Norm each normal word is a new value
 pub new_outside : (r : Reading) (v : ℕ) → is_norm r.mode ≡ false → v ≤ 782 → normal_event r v ≡ event.New v
 unfolding normal_event
 new_outside r v out h = let e : leb v 782 ≡ true = le-leb _ _ h in rw (out, e) refl

@@ -33,7 +33,7 @@ inputs_last s action.Down v sound = let a =
 not_both : (b : Bool) → b ≡ true → b ≡ false → ⊥
 not_both b t f = cc
 
--- no answer has a value out of Norm
+-- outside Norm no answer has a value
 sound_out : (last : Reading) (w : ℕ) → after_word last w ≡ last → is_norm last.mode ≡ false → IsSound (action_on last w) last.value
 sound_out last w kept out =
     λ e. absurd (not_both (is_ais_action (action_on last w))

@@ -96,7 +96,7 @@ module _ (w v : ℕ) (normal : is_normal w ≡ true) (carries : value_in w ≡ v
     some_news : (r : Reading) → 0 < news_with r v
     some_news r = elim (cases_Bool (eqb 0 r.news || not (eqb r.candidate v))) [ inl t ↦ rw t (omega arith) | inr f ↦ rw f (omega arith) ]
 
-    -- a new value out of mode Norm
+    -- a new value outside mode Norm
     out_third : (m : Mode) (r : Reading) → r.mode ≡ m → is_norm m ≡ false → 3 ≤ news_with r v → after_word r w ≡ settled mode.Norm v 0
     out_third mode.Norm r is out third = absurd (cc)
     out_third mode.Ais r is out third =
@@ -295,7 +295,7 @@ reads_ones m r is = by_event r 65535 m event.Ais is (of_ones r)
 pub ais_stays : (x : ℕ) → after_word (settled mode.Ais x 0) 65535 ≡ settled mode.Ais x 0
 ais_stays x = reads_ones mode.Ais (settled mode.Ais x 0) refl ∙ ais_ais (settled mode.Ais x 0)
 
--- out of mode Ais the third such word leads to it
+-- outside mode Ais the third AIS word in a row leads to it
 ais_third : (m : Mode) (r : Reading) → r.mode ≡ m → m ≢ mode.Ais → 2 ≤ r.ais → after_word r 65535 ≡ settled mode.Ais r.value 0
 ais_third mode.Norm r is other two =
     reads_ones mode.Norm r is ∙ norm_ais r ∙ (let e : leb 3 (r.ais + 1) ≡ true = le-leb _ _ (omega arith) in rw e refl)

@@ -194,7 +194,7 @@ sending_start (Some v) h t le = sending_before v h t le
 pub reading_value : (v h t : ℕ) → h < t → (reading_over (Some v) h t).value ≡ v
 reading_value v h t late = ap (λ (r : Reading). r.value) (reading_after v h t late)
 
--- four rounds after the source came there nothing changes any more
+-- four rounds after the source's value came there nothing changes any more
 pub reading_stays : (o : Option ℕ) (h t : ℕ) → h + 4 ≤ t → reading_over o h (t + 1) ≡ reading_over o h t
 reading_stays None h t late = refl
 reading_stays (Some v) h t late =

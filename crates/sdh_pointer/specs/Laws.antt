@@ -1,5 +1,5 @@
--- What holds of every interpreter and every generator: each table has one row for each case, one word for ever
--- settles, and an interpreter reads what the generator before it sends.
+-- What holds of every interpreter and every generator: each table has one row for each case, an interpreter that reads
+-- one word for ever settles, and an interpreter reads what the generator before it sends.
 use Rattle.std.specs.Prelude.{◌≡◌, ◌≢◌, ◌↔◌, ℕ, ◌+◌, ◌≤◌, Bool, true, false, not, [], ◌∷◌, Option, Some, None}
 use Rattle.std.specs.List.{filter}
 use Rattle.sdh_pointer.specs.declared.reading.Reading.{Reading}
@@ -55,7 +55,7 @@ AnswerTellsMode = (r : Reading) (w : ℕ) → is_ais_action (action_on r w) ≡ 
 abbrev pub BoundsAreKept : Type 0
 BoundsAreKept = IsBounded start × ((r : Reading) (w : ℕ) → IsBounded r → IsBounded (after_word r w))
 
--- a step moved nothing exactly where all that is kept is as before
+-- `moved` is false after a step exactly where the step left all that is kept as it was
 abbrev pub InterpreterMoves : Type 0
 InterpreterMoves = (i : Interpreter) (w : ℕ) → ((after_step i w).moved ≡ false) ↔ ((after_step i w).reading ≡ i.reading)
 
@@ -118,8 +118,8 @@ EnabledWordSettles =
 abbrev pub AisSettles : Type 0
 AisSettles = (r : Reading) (k : ℕ) → 3 ≤ k → after_rounds k 0xFFFF r ≡ settled mode.Ais r.value 0
 
--- one word for ever brings an interpreter to rest: in seven rounds it keeps what that word leaves as it is, and answers
--- one action with one value
+-- one word for ever brings an interpreter to rest: after seven rounds it stays in one state, which that word leaves as
+-- it is, and answers one action with one value
 pub record ComesToRest (w : ℕ) (r : Reading) : Type 0 where
   pub last : Reading
   pub there : (k : ℕ) → 7 ≤ k → after_rounds k w r ≡ last
@@ -132,7 +132,7 @@ RepeatedWordsRest = (a : Action) (v : ℕ) → IsSound a v → (r : Reading) →
 
 -- ---- steps that move nothing
 
--- a step that read a normal word and moved nothing answered Normal at the value of the word
+-- where a step reads a normal word and changes nothing, its answer is Normal at the value of the word
 pub record IsPassed (i : Interpreter) (w : ℕ) : Type 0 where
   pub kept : i.reading ≡ settled mode.Norm (value_in w) 3
   pub answer : action_on i.reading w ≡ action.Normal
@@ -142,7 +142,7 @@ abbrev pub UnmovedIsNormal : Type 0
 UnmovedIsNormal =
     (i : Interpreter) (w : ℕ) → is_normal w ≡ true → value_in w ≤ 782 → (after_step i w).moved ≡ false → IsPassed i w
 
--- a step that read all ones and moved nothing answered Ais
+-- where a step reads all ones and changes nothing, its answer is Ais
 abbrev pub UnmovedIsAis : Type 0
 UnmovedIsAis = (i : Interpreter) → (after_step i 0xFFFF).moved ≡ false → action_on i.reading 0xFFFF ≡ action.Ais
 

@@ -75,14 +75,14 @@ with_ais r since = record { mode = r.mode; value = r.value; ais = r.ais + 1; bad
 abbrev pub with_bad : Reading → ℕ → Reading
 with_bad r since = record { mode = r.mode; value = r.value; ais = 0; bad = r.bad + 1; candidate = 0; news = 0; since = since }
 
--- how many equal new values stand in a row with this one
+-- the number of equal new values in a row, this one included
 abbrev pub news_with : Reading → ℕ → ℕ
 news_with r v = if (0 == r.news) || not (r.candidate == v) then 1 else r.news + 1
 
 abbrev pub with_new : Reading → ℕ → ℕ → Reading
 with_new r v since = record { mode = r.mode; value = r.value; ais = 0; bad = 0; candidate = v; news = news_with r v; since = since }
 
--- how many events of this kind stand in a row with this one, where they are counted
+-- the number of events of this kind in a row, this one included; 1 for a kind that is not counted
 abbrev pub in_a_row : Reading → Event → ℕ
 in_a_row r event.Ais = r.ais + 1
 in_a_row r event.Bad = r.bad + 1

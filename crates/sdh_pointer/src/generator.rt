@@ -7,8 +7,8 @@ use crate::reading::{Action, one_down, one_up};
 use crate::word::{Form, Word, word_of};
 use std::marker::Model;
 
-/// A generator, which sends one pointer word a frame. Its value in clauses is its state, the word of
-/// its last step, and whether that step changed the state.
+/// A generator, which sends one pointer word a frame. Contracts see its state, the word of its last step, and whether
+/// that step changed the state.
 #[derive(Debug, Drop)]
 pub struct Gen {
     sending: Option<u16>,
@@ -83,8 +83,8 @@ impl Gen {
         }
     }
 
-    /// Makes the word of the next frame for an action and the value that holds after it. The forms `Up` and `Down` are
-    /// sent only where that value is one step up or down from the value sent last.
+    /// Makes the word of the next frame for an action and the value that holds after it, and returns the word's form.
+    /// The forms `Up` and `Down` are sent only where that value is one step up or down from the value sent last.
     #[tactic(auto, unfolding(crate::specs::Sending::after_action, crate::specs::Sending::word_sent))]
     pub fn step(&mut self, action: Action, value: u16) -> Form
         requires { value ≤ 782 }

@@ -6,8 +6,8 @@ use crate::reading::{Action, Mode, Reading, event_of, same_reading, step_at};
 use crate::word::Word;
 use std::marker::Model;
 
-/// An interpreter, which reads one pointer word a frame. Its value in clauses is what it keeps, and
-/// whether the last step changed that.
+/// An interpreter, which reads one pointer word a frame. Contracts see what it keeps, and whether its last step changed
+/// that.
 #[derive(Debug, Drop)]
 pub struct Interp {
     reading: Reading,
@@ -43,7 +43,7 @@ impl Interp {
         }
     }
 
-    /// Reads the word of the next frame.
+    /// Reads the word of the next frame, and returns the action that it asks of the generator after the interpreter.
     #[tactic(auto, unfolding(crate::specs::Reading::after_step, crate::specs::Reading::after_word, crate::specs::Reading::action_on))]
     pub fn step(&mut self, word: Word) -> Action
         ensures next { self.new ≡ after_step self.old word.0 }

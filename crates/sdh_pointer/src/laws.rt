@@ -23,12 +23,12 @@ pub fn bounds_are_kept()
     ensures { BoundsAreKept }
 {}
 
-/// An interpreter's step moved nothing exactly where all that it keeps is as before.
+/// An interpreter has `moved` false after a step exactly where the step left all that it keeps as it was.
 pub fn interpreter_moves()
     ensures { InterpreterMoves }
 {}
 
-/// A generator's step moved nothing exactly where its state is as before.
+/// A generator has `moved` false after a step exactly where the step left its state as it was.
 pub fn generator_moves()
     ensures { GeneratorMoves }
 {}
@@ -53,12 +53,12 @@ pub fn ais_settles()
     ensures { AisSettles }
 {}
 
-/// A step that read a normal word and moved nothing answered `Normal` at the word's value.
+/// Where a step reads a normal word and changes nothing, its answer is `Normal` at the word's value.
 pub fn unmoved_is_normal()
     ensures { UnmovedIsNormal }
 {}
 
-/// A step that read all ones and moved nothing answered `Ais`.
+/// Where a step reads all ones and changes nothing, its answer is `Ais`.
 pub fn unmoved_is_ais()
     ensures { UnmovedIsAis }
 {}

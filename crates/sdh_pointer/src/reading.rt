@@ -109,7 +109,7 @@ fn with_bad(reading: Reading, since: u8) -> Reading
     }
 }
 
-// Returns how many equal new values stand in a row with this one.
+// Returns the number of equal new values in a row, this one included.
 fn news_with(reading: &Reading, value: u16) -> u8
     requires { IsBounded reading.now }
     ensures { result ≡ news_with reading.now value }

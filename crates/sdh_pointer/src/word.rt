@@ -4,7 +4,7 @@ ghost use Rattle.sdh_pointer.specs.Words.{differing, n_bits, i_bits, d_bits, is_
 
 use byteorder::{BigEndian, ByteOrder};
 
-/// The number of the bytes H1 and H2, with H1 first: `NNNNSSIDIDIDIDID`.
+/// The bytes H1 and H2 as one number, H1 first: `NNNNSSIDIDIDIDID`.
 #[derive(Clone, Copy, Debug, PartialEq, Eq)]
 pub struct Word(pub u16);
 
@@ -62,7 +62,7 @@ fn n_changes(word: u16, bits: u16) -> u32
     differences(word / 4096, bits, N_MASK)
 }
 
-// Returns whether the N bits are 0110 but for at most one.
+// Returns whether at most one of the N bits differs from 0110.
 #[tactic(auto, unfolding(crate::specs::Words::is_normal))]
 pub fn is_normal(word: Word) -> bool
     ensures { result ≡ is_normal word.0 }
@@ -70,7 +70,7 @@ pub fn is_normal(word: Word) -> bool
     n_changes(word.0, NORMAL) <= 1
 }
 
-// Returns whether the N bits are 1001 but for at most one.
+// Returns whether at most one of the N bits differs from 1001.
 #[tactic(auto, unfolding(crate::specs::Words::is_enabled))]
 pub fn is_enabled(word: Word) -> bool
     ensures { result ≡ is_enabled word.0 }

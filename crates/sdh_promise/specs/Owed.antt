@@ -16,15 +16,15 @@ use Rattle.sdh_promise.specs.Changes.{Change, Stretch, rounds_in}
 use Rattle.sdh_promise.specs.Sides.{side_history}
 use Rattle.sdh_promise.specs.Happened.{happened}
 
--- what is compared of a report with what is owed: its settle step, counted from 1; the last round of that step; and the
--- line of each port in the order of the circuits, a before b
+-- the part of a report that is compared with what is owed: its settle step, counted from 1; the last round of that
+-- step; and the line of each port in the order of the circuits, a before b
 pub record PortReport : Type 0 where
   pub number : ℕ
   pub round : ℕ
   pub ports : List PortLine
 
--- What of a ring decides what its reports owe: the number of nodes, the least number of violations that degrades a
--- side, the number of moments that a side waits to restore, and the circuits in their order.
+-- The parts of a ring that decide what its reports owe: the number of nodes, the least number of violations that
+-- degrades a side, the number of moments that a side waits to restore, and the circuits in their order.
 pub record Ring : Type 0 where
   pub nodes : ℕ
   pub threshold : ℕ

@@ -6,7 +6,7 @@ use Rattle.sdh_report.specs.Reports.{Report}
 use Rattle.sdh_promise.specs.Changes.{scenes}
 use Rattle.sdh_promise.specs.Owed.{Ring, PortReport, AreOwed}
 
--- what of a plan's ring decides what its reports owe
+-- the parts of a plan's ring that decide what its reports owe
 abbrev pub ring_of : Planned → Ring
 ring_of plan = record {
   nodes = length plan.nodes;

@@ -32,7 +32,7 @@ rows_more chunk i =
 pub rows_none : (chunk : List ℕ) → chunk_rows chunk 0 ≡ []
 rows_none chunk = ap (flat_map row_line) (cells-zero (row chunk))
 
--- fewer rows are no longer
+-- the lines of fewer rows have at most as many bytes
 pub rows_below : (chunk : List ℕ) (i k : ℕ) → length (chunk_rows chunk i) ≤ length (chunk_rows chunk (i + k))
 rows_below chunk i zero = omega (arith, ap (λ j. length (chunk_rows chunk j)) (let e : i + 0 ≡ i = omega arith in e))
 rows_below chunk i (suc k) =
@@ -41,7 +41,7 @@ rows_below chunk i (suc k) =
     let e : i + suc k ≡ i + k + 1 = omega arith in
     omega (arith, rows_below chunk i k, more, ap (λ j. length (chunk_rows chunk j)) e)
 
--- each of the nine rows and those before it are no longer than all
+-- the line of one of the nine rows and the lines before it have at most as many bytes as all nine lines
 pub rows_room : (chunk : List ℕ) (i : ℕ) → i < 9 → length (chunk_rows chunk i) + length (row_line (row chunk i))
     ≤ length (chunk_rows chunk 9)
 rows_room chunk i h =

@@ -53,7 +53,7 @@ impl Text {
         self.put(b"\n");
     }
 
-    // Appends how the lines of a settle step begin: its number and its last round, with no newline byte.
+    // Appends the beginning of the lines of a settle step: its number and its last round, with no newline byte.
     fn put_step(&mut self, number: u32, round: u64)
         requires { length (step_ended number round) ≤ self.old.room }
         ensures { self.new ≡ with_part self.old (step_ended number round) }
@@ -110,8 +110,8 @@ impl Text {
         }
     }
 
-    /// Appends how each line of a port begins: the word `port`, the circuit's name and the port's letter, with no space
-    /// after them.
+    /// Appends the beginning of each line of a port: the word `port`, the circuit's name and the port's letter, with no
+    /// space after them.
     pub fn put_port(&mut self, name: &Name, end: End)
         requires { length (port_named name.now end) ≤ self.old.room }
         ensures { self.new ≡ with_part self.old (port_named name.now end) }
@@ -199,7 +199,7 @@ impl Text {
         }
     }
 
-    // Appends how a line of a squelch table begins: the node, the side and the slot.
+    // Appends the beginning of a line of a squelch table: the node, the side and the slot.
     fn put_place(&mut self, id: u8, side: Side, slot: Slot)
         requires { length (table_place id side slot) ≤ self.old.room }
         ensures { self.new ≡ with_part self.old (table_place id side slot) }
@@ -212,7 +212,7 @@ impl Text {
         self.put_number(u64::from(slot.0));
     }
 
-    // Appends how a line of a squelch table ends: the identifiers of the nodes at the circuit's ends.
+    // Appends the end of a line of a squelch table: the identifiers of the nodes at the circuit's ends.
     fn put_ends(&mut self, from: u8, to: u8)
         requires { length (table_ends from to) ≤ self.old.room }
         ensures { self.new ≡ with_part self.old (table_ends from to) }

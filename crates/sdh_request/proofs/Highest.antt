@@ -1,4 +1,4 @@
--- Facts on the highest code that applies, for whoever hands it to a node's rules.
+-- Facts about the highest code that applies, for callers that hand it to a node's rules.
 use Rattle.std.proofs.Common.{◌≢◌, ◌≤◌, Bool, true, false, arith}
 use Rattle.sdh_ringmap.specs.Requests.{code_number}
 use Rattle.sdh_ringmap.specs.declared.terms.Code.TheVariants.{Rr}
@@ -21,7 +21,7 @@ never_rr Clear Sf w e = cc
 never_rr Clear None true e = cc
 never_rr Clear None false e = cc
 
--- a side that fails asks for a switch that no neighbour's lower request holds up
+-- a side that fails asks for at least SF
 pub at_least_sf : (c : Command) (w : Bool) → 11 ≤ code_number (highest_code c Sf w)
 at_least_sf Forced w = omega arith
 at_least_sf Manual w = omega arith

@@ -8,7 +8,7 @@ step : (threshold : ℕ) (h : SideHistory) (u : ℕ) (b : Bool) → ends_at thre
 unfolding last_end
 step threshold h u b e = ap (λ x. if x then Some (suc u) else last_end threshold h u) e
 
--- a round before which no round ends: round u, where one round less is u - 1
+-- a defect ends in round u, which is here written as u - 1 + 1
 pub last_end-here : (threshold : ℕ) (h : SideHistory) (u : ℕ) → 0 < u → ends_at threshold h (u - 1 + 1) ≡ true
     → last_end threshold h u ≡ Some (u - 1 + 1)
 last_end-here threshold h zero some e = absurd (omega arith)

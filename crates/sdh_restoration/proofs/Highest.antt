@@ -9,7 +9,7 @@ pub highest-push : (rs : List ℕ) (r : ℕ) → highest (rs ++ r ∷ []) ≡ ma
 highest-push [] r = refl
 highest-push (x ∷ rs) r = let h = highest-push rs r in omega arith
 
--- one item more of a list, by its number
+-- the highest number of the items of a list, with one more item
 pub highest_more : {X : Type 0} (f : X → ℕ) (xs : List X) (i : ℕ) (d : X) → i < length xs
     → highest (map f (take (i + 1) xs)) ≡ max (f (get_or xs i d)) (highest (map f (take i xs)))
 highest_more f xs i d h =

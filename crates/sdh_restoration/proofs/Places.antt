@@ -1,4 +1,4 @@
--- The first or none of some places, place by place.
+-- Places tested one after the other: whether none passes, and the first one that does.
 use Rattle.std.proofs.Common.{◌≡◌, ℕ, zero, suc, ◌+◌, ◌-◌, ◌<◌, Bool, false, ap, ◌∙◌, arith}
 use Rattle.std.specs.Prelude.{not, ◌&&◌, if◌then◌else◌}
 use Rattle.sdh_ringmap.specs.Arcs.{none_of}

@@ -17,8 +17,8 @@ pub record SideHistory : Type 0 where
   pub command : ℕ → Command
   pub moment : ℕ → ℕ
 
--- The frame that arrives in round t shows the degradation of the round before, where that round's frame arrived too,
--- with at least `threshold` inverted bits. Round 0 brings no frame, so t is at least 2.
+-- The frame that arrives in round t shows a degradation: the frame of the round before arrived too, and the fibre
+-- inverted at least `threshold` bits of it. Round 0 brings no frame, so t is at least 2.
 abbrev pub shows_degraded : ℕ → SideHistory → ℕ → Bool
 shows_degraded threshold h t = nat_le 2 t && (not (h.is_cut (t - 1)) && nat_le threshold (h.degraded (t - 1)))
 

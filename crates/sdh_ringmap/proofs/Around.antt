@@ -8,14 +8,14 @@ use Rattle.sdh_ringmap.specs.Arcs.{Arc, arc_between, opposite_arc, holds_span}
 abbrev arc_of : ℕ → ℕ → Arc
 arc_of start spans = record { start = start; spans = spans }
 
--- without the span from the last position to the first
+-- eastwards without the span from the last position to the first
 pub eastwards_on : (n from to : ℕ) → from ≤ to → to < n → eastwards n from to ≡ to - from
 eastwards_on n from to le lt =
     let e : to + (n - from) ≡ n + (to - from) = omega arith in
     let small : to - from < n = omega arith in
     ap (λ k. k % n) e ∙ add-mod_left n (to - from) ∙ mod-eq_of_lt small
 
--- over that span
+-- eastwards over the span from the last position to the first
 pub eastwards_round : (n from to : ℕ) → to < from → from < n → eastwards n from to ≡ to + (n - from)
 eastwards_round n from to lt inside = let small : to + (n - from) < n = omega arith in mod-eq_of_lt small
 
@@ -41,7 +41,7 @@ both_ways n from to hf ht ne = elim (cases_lt to from) [
   | inr le ↦ (let up : from < to = omega arith in omega (arith, eastwards_on n from to le ht, eastwards_round n to from up ht))
 ]
 
--- the opposite of the arc from one position to another is the arc from the other to the one
+-- the opposite of the arc from `from` to `to` is the arc from `to` to `from`
 pub opposite_between : (n from to : ℕ) → from < n → to < n → from ≢ to → opposite_arc n (arc_between n from to) ≡ arc_between n to from
 opposite_between n from to hf ht ne =
     let start : (from + eastwards n from to) % n ≡ to = arc_end n from to hf ht in
@@ -59,7 +59,7 @@ eastwards_some n from to hf ht ne = elim (cases_lt to from) [
   | inr le ↦ omega (arith, eastwards_on n from to le ht)
 ]
 
--- either way of going round
+-- the two cases: without the span from the last position to the first, and over it
 eastwards_cases : (n from to : ℕ) → from < n → to < n → ((from ≤ to) × (eastwards n from to ≡ to - from))
     ⊎ ((to < from) × (eastwards n from to ≡ to + (n - from)))
 eastwards_cases n from to hf ht = elim (cases_lt to from) [

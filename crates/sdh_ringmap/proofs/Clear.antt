@@ -10,7 +10,7 @@ use Rattle.sdh_ringmap.specs.Arcs.{Arc, arc_span, opposite_arc, none_of, holds_s
 use Rattle.sdh_ringmap.specs.declared.Span.{Span}
 use Rattle.sdh_ringmap.proofs.Around.{arc_end, eastwards-place, holds, held_inside, held_near}
 
--- p holds nowhere there
+-- p holds at none of the k places from i on
 pub none_of-never : (p : ℕ → Bool) (i k : ℕ) → ((j : ℕ) → i ≤ j → j < i + k → p j ≡ false) → none_of p i k ≡ true
 none_of-never p i zero none = refl
 none_of-never p i (suc k) none =
@@ -18,7 +18,7 @@ none_of-never p i (suc k) none =
     let here : p i ≡ false = none i (omega arith) (omega arith) in
     ap (λ b. not b && none_of p (suc i) k) here ∙ rest
 
--- p holds at a place there
+-- p holds at place j, which is one of the k places from i on
 pub none_of-met : (p : ℕ → Bool) (i k j : ℕ) → i ≤ j → j < i + k → p j ≡ true → none_of p i k ≡ false
 none_of-met p i zero j low high e = absurd (omega arith)
 none_of-met p i (suc k) j low high e = elim (cases_eq j i) [
@@ -26,7 +26,7 @@ none_of-met p i (suc k) j low high e = elim (cases_eq j i) [
   | inr other ↦ and_right (not (p i)) (none_of p (suc i) k) (none_of-met p (suc i) k j (omega arith) (omega arith) e)
 ]
 
--- where p holds at none of these places, it doesn't hold at one of them
+-- where p holds at none of the k places from i on, it doesn't hold at place j, which is one of them
 pub none_of-at : (p : ℕ → Bool) (i k : ℕ) → none_of p i k ≡ true → (j : ℕ) → i ≤ j → j < i + k → p j ≡ false
 none_of-at p i k none j low high = false_from_ne_true (p j) (λ e. both_ways (none_of p i k) (none_of-met p i k j low high e) none)
 
@@ -46,7 +46,7 @@ is_clear-opposite n applied arc =
     none_of-same (λ i. applied (arc_span n (opposite_arc n arc) i)) (λ i. applied (arc_span n arc i)) 0 arc.spans (n - arc.spans)
     (λ x. ap applied (mod-add-mod (arc.start + arc.spans) n (0 + x) ∙ ap (λ k. k % n) (omega arith)))
 
--- at none of two
+-- two tests hold nowhere, taken together and each by itself
 both_none : (a b x y : Bool) → (not (a || b) && (x && y)) ≡ ((not a && x) && (not b && y))
 both_none true b x y = refl
 both_none false true true y = refl

@@ -12,7 +12,7 @@ use Rattle.std.proofs.lemmas.Bool.Decides.{Decides-int_eq}
 use Rattle.sdh_ringmap.specs.Ids.{AreIds}
 use Rattle.sdh_ringmap.specs.Numbering.{is_id, magnitude, first_unfit, first_repeat, stood_before}
 
--- no number is marked where the first search goes on
+-- where a search finds nothing, the first number is not marked
 unmarked_first : (b : Bool) (x : ℕ) (o : Option ℕ) → cond b (Some x) o ≡ None → (b ≡ false)
 unmarked_first true x o e = cc
 unmarked_first false x o e = refl

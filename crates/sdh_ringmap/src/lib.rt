@@ -204,7 +204,7 @@ impl RingMap {
         self.distance(chain.first, at) < chain.count
     }
 
-    /// Returns whether the arc that leads eastwards from `from` to `to` holds a span.
+    /// Returns whether the arc that leads eastwards from `from` to `to` holds the span `span`.
     #[tactic(auto, unfolding(crate::specs::Arcs::holds_span))]
     pub fn holds(&self, from: Pos, to: Pos, span: Span) -> bool
         requires from { from.0 < length self.now }

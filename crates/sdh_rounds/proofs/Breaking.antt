@@ -83,7 +83,7 @@ module _ {N : Type 0} (st : Station N) where
   first_none now [] = refl
   first_none now (n ∷ ns) = refl
 
-  -- while nodes received
+  -- what a fault leaves that came while the nodes received
   pub breaks_hearing : (r : HeldRing N) (f h : Fibres) (ns : List N) → length r.nodes ≡ length r.ids → 2 ≤ length r.ids
       → SomeReceive st (receivers_in r.rounds (length r.nodes)) f h r.nodes ns
       → BreaksRound st (world r f) (world (record r { nodes = ns; broken = true }) h)

@@ -18,7 +18,7 @@ pub placed_at : {N : Type 0} (change : N → N) (i : ℕ) (ns : List N) (x y : N
     → set ns i y ≡ at_place i change ns
 placed_at change i ns x y h read is = ap (set ns i) is ∙ placed change i ns x h read
 
--- a change of one leaves their number
+-- a change of one node leaves the number of nodes
 pub count_placed : {N : Type 0} (change : N → N) (i : ℕ) (ns : List N) → length (at_place i change ns) ≡ length ns
 count_placed change i [] = refl
 count_placed change zero (n ∷ ns) = refl

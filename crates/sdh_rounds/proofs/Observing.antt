@@ -15,7 +15,7 @@ module _ {N : Type 0} (st : Station N) where
     pub on : GoesOn st w now k calm
     pub kept : heard (course_with st on.went.rounds w) k
 
-  -- the last of them may have ended one
+  -- as in `Observes`, but the last of the k rounds may have ended a window
   pub record HasLooked (heard : (ℕ → World N) → ℕ → Type 0) (w now : World N) (k calm : ℕ) : Type 0 where
     pub went : Went st w now k calm
     pub kept : heard (course_with st went.rounds w) k
@@ -71,7 +71,7 @@ module _ {N : Type 0} (st : Station N) where
   looked_more before later w now after k calm n few same look x is counted =
       looked_with w now after k calm n x.on is counted before later few same look x.kept
 
-  -- before it looks
+  -- one round more, before the observer looks
   pub one_more : (heard : (ℕ → World N) → ℕ → Type 0) (w now after : World N) (k calm : ℕ) → k < 65536
       → ((at bt : ℕ → World N) → ((j : ℕ) → j ≤ k → at j ≡ bt j) → heard at k → heard bt k)
       → Observes heard w now k calm → IsRound st now after → (at : ℕ → World N) × (j : ℕ) × RanOne st at j after.ring

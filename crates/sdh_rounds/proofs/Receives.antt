@@ -107,7 +107,7 @@ module _ {N : Type 0} (st : Station N) where
 
   -- ---- node after node
 
-  -- before the first
+  -- before the first node has received
   pub hears_none : (f : Fibres) (ns : List N) → FirstReceive st 0 f f ns ns
   hears_none f ns = record { arrivals = []; count = refl; known = λ h. refl; nodes = refl; fibres = taken_none f }
 

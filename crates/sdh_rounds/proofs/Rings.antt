@@ -129,7 +129,7 @@ module _ {N : Type 0} (st : Station N) where
         ∙ sym (map-append f (take k ns) (drop k ns))
         ∙ ap (map f) (take-append-drop k ns)
 
-  -- what arrivals leave true of a node, all have that received
+  -- what stays true of a node through each arrival stays true of all nodes when they receive
   module _ (P : N → Type 0) (told_stays : (d : Side) (a : Arrival) (n : N) → P n → P (st.told d a n)) where
     pub all_heard : (xs : List Arrival) (ns : List N) → All P ns → All P (all_with_arrivals st xs ns)
     unfolding with_arrivals

@@ -34,7 +34,7 @@ sent_one : (o : Option (List (List ℕ))) (frames : List (List ℕ)) (w : List �
 sent_one None frames w = refl
 sent_one (Some fs) frames w = ap Some (append_assoc fs frames (w ∷ []))
 
--- one write at the seam
+-- one write at place k of the list
 carried_one : (done old : List Arrival) (k : ℕ) (w : Arrival) → length done ≡ k → k < length old
     → set (done ++ drop k old) k w ≡ (done ++ w ∷ []) ++ drop (k + 1) old
 carried_one done old k w len h =

@@ -77,7 +77,7 @@ module _ {N : Type 0} (st : Station N) where
         before = λ j low e. never_same st (course_with st old w) (course_with st more w) k same on.never j (omega arith) e;
       }
 
-  -- up to the last round its course is the one before
+  -- up to the round before, the course with one more round is the course without it
   pub along : (w now after : World N) (k calm n : ℕ) (on : GoesOn w now k calm) (is : IsRound st now after)
       (counted : n ≡ (if is_calm st after.ring.nodes then calm + 1 else 0)) (j : ℕ)
       → j ≤ k → course_with st on.went.rounds w j ≡ course_with st (went_more w now after k calm n on is counted).rounds w j

@@ -16,7 +16,7 @@ use Rattle.sdh_rounds.specs.declared.faults.SettleError.TheVariants.{Unsettled, 
 use Rattle.sdh_rounds.proofs.Laws.{settled_numbers}
 use Rattle.sdh_rounds.proofs.Settling.{GoesOn, unsettles, held_went}
 
--- what holds at all holds after an error
+-- what holds in any case holds after an error
 pub err_by : {A E : Type 0} (r : Result A E) (P : Type 0) → P → OnErr r P
 err_by (Ok a) P p = tt
 err_by (Err e) P p = p
@@ -57,7 +57,7 @@ module _ {N : Type 0} (st : Station N) where
     counted = record { one = λ x _. one x; none = λ x no. absurd (no refl) };
   }
 
-  -- a round of it failed, after some that all counted nothing
+  -- a round of the step failed, after rounds in which no call failed
   pub fails_step : (exact : Bool) (w now left : World N) (limit k calm before between after : ℕ) → GoesOn st w now k calm → k < limit
       → BreaksRound st now left → before ≤ between → (exact ≡ true → between ≡ before) → between ≤ after → Rose between after
       → (exact ≡ true → after ≡ one_more between) → (result : Result (Unit {0}) SettleError) → IsErrAnd result (λ e. e ≡ PlantFault)

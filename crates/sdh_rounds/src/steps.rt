@@ -134,14 +134,14 @@ pub fn settle_recording<R: RunsRounds, P: Plant, L, O: Recorder<R, L>>(
     ensures step { IfOk result (λ ended. IsStep R.Node.kind P.exact (world (R.held ring.old) (P.fibres plant.old)) limit ended
         (world (R.held ring.new) (P.fibres plant.new)) (P.faults plant.old) (P.faults plant.new)) }
 
-    // What is recorded of a step that ended with a quiet window is what is to be recorded of all its rounds, and of no
-    // other round.
+    // After a step that ended with a quiet window, recorder and log are what `Records` says of all its rounds, and of
+    // no other round.
     ensures heard { IfOk result (λ ended. OnOk ended
         (Hears R.Node.kind (λ at k. O.Records recorder.old log.old at k recorder.new log.new)
         (world (R.held ring.old) (P.fibres plant.old)) limit (world (R.held ring.new) (P.fibres plant.new)))) }
 
-    // What is recorded of a step that ended with an error is what is to be recorded of its whole rounds. Where it was
-    // unsettled these are all its rounds.
+    // After a step that ended with an error, recorder and log are what `Records` says of its whole rounds. Where the
+    // step was unsettled these are all its rounds.
     ensures begun { IfOk result (λ ended. OnErr ended
         (HearsSome R.Node.kind (λ at k. O.Records recorder.old log.old at k recorder.new log.new)
         (world (R.held ring.old) (P.fibres plant.old)) limit (world (R.held ring.new) (P.fibres plant.new)))) }
@@ -184,8 +184,8 @@ pub fn settle<R: RunsRounds, P: Plant, O: Observer<R>>(
     ensures step { IsStep R.Node.kind P.exact (world (R.held ring.old) (P.fibres plant.old)) limit result
         (world (R.held ring.new) (P.fibres plant.new)) (P.faults plant.old) (P.faults plant.new) }
 
-    // What the observer keeps of a step that ended with a quiet window is what it is to keep of all its rounds, and of
-    // no other round.
+    // After a step that ended with a quiet window, the observer keeps what `Heard` says of all its rounds, and of no
+    // other round.
     ensures heard { OnOk result (Hears R.Node.kind (λ at k. O.Heard at k observer.new)
         (world (R.held ring.old) (P.fibres plant.old)) limit (world (R.held ring.new) (P.fibres plant.new))) }
 {

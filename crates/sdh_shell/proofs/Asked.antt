@@ -1,4 +1,4 @@
--- What the words ask a program for that is asked for one thing.
+-- What the words ask of a program that does one thing alone.
 use Rattle.std.proofs.Common.{◌≡◌, ℕ, Bool, true, false, List, Some, None, refl, ap, arith}
 use Rattle.std.specs.Prelude.{if◌then◌else◌, Option, is_some}
 use Rattle.sdh_shell.specs.Calls.{is_run, asked_to_run}

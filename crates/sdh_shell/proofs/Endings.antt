@@ -1,4 +1,4 @@
--- How a call may end that read a plan.
+-- How a call that read a plan may end.
 use Rattle.std.proofs.Common.{◌≡◌, ◌≢◌, ℕ, None, Some, refl, ap, sym, ◌∙◌, subst, inl, inr, arith}
 use Rattle.std.specs.Prelude.{◌⊎◌, Option}
 use Rattle.sdh_report.specs.declared.status.Status.{Status}
@@ -38,7 +38,7 @@ refusal_whole None h = refl
 refusal_whole (Some status.NoSuchPort) h = refl
 refusal_whole (Some how) h = absurd h
 
--- no script ends so with which a plan is refused
+-- no script ends with a status with which a plan is refused
 none_runs : (how : Status) → refuses_plan (Some how) → HasRun how → ⊥
 none_runs status.NoSuchPort h run = run
 none_runs how h run = h
@@ -66,7 +66,7 @@ module _ {E : Type 0} (endings : Endings E) where
   ran_whole how s is h = ap telling_if (shared_is how s is) ∙ run_whole s h
 
   module _ (how : E) where
-    -- it is none of these
+    -- the ending isn't one that stands for another status, with which neither a script ends nor a plan is refused
     otherwise : (other : Status) → EndsPlan endings how → (HasRun other → ⊥) → (refuses_plan (Some other) → ⊥) → how ≢ endings.of other
     otherwise other (inl x) no_run no_refusal e = no_run (subst HasRun (one_status x.0 other (sym x.1 ∙ e)) x.2)
     otherwise other (inr x) no_run no_refusal e = no_refusal (subst refuses_plan (shared_is how other e) x)

@@ -19,7 +19,7 @@ not_err x e d = not_err_eq x e (Ok x) refl d
 pub counted_none : {A : Type 0} (exact : Bool) (before now : ℕ) → (A → ⊥) → (exact ≡ true → now ≡ before) → IsCounted exact A before now
 counted_none exact before now never same = record { one = λ e a. absurd (never a); none = λ e other. same e }
 
--- what is counted by one fault is counted by another that comes where it comes
+-- a count that shows one kind of fault shows another kind that occurs exactly where the first does
 pub counted_as : {A B : Type 0} (exact : Bool) (before now : ℕ) → (B → A) → (A → B) → IsCounted exact A before now
     → IsCounted exact B before now
 counted_as exact before now to from x = record { one = λ e b. x.one e (to b); none = λ e other. x.none e (λ a. other (from a)) }

@@ -13,7 +13,7 @@ use Rattle.sdh_shell.specs.Writing.{Wrote, room_in}
 no_err : {T : Type 0} (E : Type 0) (x : T) → IsErr {T = T} {E = E} (Ok x) → ⊥
 no_err E x d = grind (arith, d)
 
--- a later rise is one
+-- a count that rose from y on rose from any smaller or equal x on
 pub rose : (x y z : ℕ) → x ≤ y → Rose y z → Rose x z
 rose x y z later h = omega (arith, later, h)
 
@@ -21,7 +21,7 @@ rose x y z later h = omega (arith, later, h)
 pub kept_part : (w : Written) (part : List ℕ) → length part ≤ w.room → room_in (with_part w part) ≡ room_in w
 kept_part w part fits = omega (arith, fits, length-append w.bytes part)
 
--- a front after what was appended
+-- a beginning of a text, after what was appended before
 pub fewer_behind : (a b c : Option (List ℕ)) (s t : List ℕ) → Appends a b s → AppendsFewer b c t → AppendsFewer a c (s ++ t)
 fewer_behind a b c s t whole front =
     let n = front.0 in
@@ -67,7 +67,7 @@ module _ {T E : Type 0} (exact : Bool) where
     };
   }
 
-  -- a piece that wasn't written is the end
+  -- where a piece wasn't written whole, nothing more is written
   pub stopped : (a b : Option (List ℕ)) (x y : ℕ) (s t : List ℕ) (e : E) → Wrote {T = T} {E = E} exact a b x y s (Err e)
       → Wrote {T = T} {E = E} exact a b x y (s ++ t) (Err e)
   stopped a b x y s t e f =

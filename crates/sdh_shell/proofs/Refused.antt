@@ -1,4 +1,4 @@
--- What is not where a source has no plan.
+-- What cannot be where a source has no plan.
 use Rattle.std.proofs.Common.{◌≡◌, ℕ, List, ap, sym, ◌∙◌}
 use Rattle.std.specs.Prelude.{Result, Err}
 use Rattle.sdh_plan.specs.Planned.{Planned}

@@ -30,26 +30,26 @@ cause_of reads calls (Some how) = HasCause reads calls how
 abbrev pub EndsWithCause : {E : Type 0} → Endings E → Counts → Counts → E → Type 0
 EndsWithCause endings reads calls how = cause_of reads calls (endings.shared how)
 
--- What a source had come to when something was to be reported: a read fault (`ReadFault`), too many bytes (`TooLong`)
--- or neither. Where its count is exact, one read failed if a read fault was to be reported, and none otherwise. If too
--- many bytes were to be reported, one byte more was taken from the source than a plan may have.
+-- What had happened at a source by the time that a result was to be reported: a read fault (`ReadFault`), too many
+-- bytes (`TooLong`) or neither. Where the source's count is exact, one read failed if a read fault was to be reported,
+-- and none otherwise. If too many bytes were, one byte more was taken from the source than a plan may have.
 pub record CameOfSource (exact : Bool) (reads : Counts) (left now : Option (List ℕ)) (ReadFault TooLong : Type 0) : Type 0 where
   pub counted : IsCounted exact ReadFault reads.before reads.after
   pub too_long : TooLong → TakesCount left now 1048577
 
--- What a source and a plant had come to when something was to be reported. Where the plant's count is exact, one of its
--- calls failed if a plant fault was to be reported, and none otherwise.
+-- What had happened at a source and a plant by the time that a result was to be reported. Where the plant's count is
+-- exact, one of its calls failed if a plant fault was to be reported, and none otherwise.
 pub record CameToFaults (source_exact plant_exact : Bool) (reads calls : Counts) (left now : Option (List ℕ))
     (ReadFault PlantFault TooLong : Type 0) : Type 0 where
   pub source : CameOfSource source_exact reads left now ReadFault TooLong
   pub plant : IsCounted plant_exact PlantFault calls.before calls.after
 
--- what source and plant had come to when this ending was to be reported
+-- what had happened at source and plant by the time that this ending was to be reported
 abbrev pub CameToEnding : {E : Type 0} → Endings E → Bool → Bool → Counts → Counts → Option (List ℕ) → Option (List ℕ) → E → Type 0
 CameToEnding endings source_exact plant_exact reads calls left now how =
     CameToFaults source_exact plant_exact reads calls left now (how ≡ endings.of status.ReadFault) (how ≡ endings.of status.PlantFault)
     (how ≡ endings.of status.TooLong)
 
--- what source and plant had come to when this status was to be reported
+-- what had happened at source and plant by the time that this status was to be reported
 abbrev pub CameTo : Bool → Bool → Counts → Counts → Option (List ℕ) → Option (List ℕ) → Status → Type 0
 CameTo = CameToEnding statuses

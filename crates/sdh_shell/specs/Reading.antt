@@ -1,4 +1,4 @@
--- What the bytes of a source come to: a plan, or why there is none.
+-- What the bytes of a source are: a plan, or the reason why they are none.
 use Rattle.std.specs.Prelude.{◌≡◌, ℕ, Bool, true, false, ◌<◌, ◌≤◌, List, [], length, Option, Some, None}
 use Rattle.sdh_plan.specs.declared.error.PlanError.TheVariants as error
 use Rattle.sdh_plan.specs.declared.reason.Reason.{Reason}
@@ -40,7 +40,7 @@ abbrev pub HasPlan : Option (List ℕ) → Type 0
 HasPlan None = ⊥
 HasPlan (Some bytes) = (plan : Planned) × TellsPlan bytes plan
 
--- a result without a plan has its reason in the bytes, except a read fault and a lack of memory, which need none
+-- a result without a plan has its reason in the bytes, except where a read failed or memory ran out
 abbrev pub IsWhyNone : List ℕ → NoPlan → Type 0
 IsWhyNone bytes none.Memory = Unit {0}
 IsWhyNone bytes (none.Refused how) = HasNoPlan bytes how

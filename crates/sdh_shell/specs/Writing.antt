@@ -80,12 +80,12 @@ TellsAs Front may cut how old new = WritesAs Front may how old new ⊎ cut
 TellsAs Nothing may cut how old new = WritesAs Nothing may how old new
 TellsAs Whole may cut how old new = WritesAs Whole may how old new
 
--- what was written when this ending was answered
+-- what was written when this ending was returned
 abbrev pub TellsWith : {E : Type 0} → Endings E → (E → List ℕ → Type 0) → Type 0 → E → Option (List ℕ) → Option (List ℕ) → Type 0
 TellsWith endings may cut how old new = TellsAs (telling_in endings how) may cut how old new
 
--- An ending was to be returned, with a text. It was, and all of the text was written; or a write failed, and a front of
--- the text was written.
+-- An ending was to be returned, with a text. It was, and all of the text was written; or a write failed, and only a
+-- beginning of the text was written.
 abbrev pub WroteEnding : {E : Type 0} → Endings E → E → List ℕ → E → Option (List ℕ) → Option (List ℕ) → Type 0
 WroteEnding endings how text end old new =
     ((end ≡ how) × Appends old new text) ⊎ ((end ≡ endings.of status.WriteFault) × AppendsFewer old new text)

@@ -32,7 +32,7 @@ fibre_low : (n p : ℕ) (d : Side) → p < n → fibre p d < 2 * n
 fibre_low n p West h = omega arith
 fibre_low n p East h = omega arith
 
--- what the side of a place was
+-- the state of a side after the plan's script, as the program keeps it
 pub kept_at : (plan : Planned) (s : Sides) (p i : ℕ) (d : Side) (r : Resting) → AreSidesOf plan s → p < length plan.nodes → i ≡ fibre p d
     → r ≡ get_or s.rests.items i r
     → resting_of r ≡ walk.rests plan.settings.threshold (length plan.nodes) p d plan.steps model.fresh
@@ -50,7 +50,7 @@ kept_at plan s p i d r are low at is =
     ∙ ap (λ x. walk.rests plan.settings.threshold n x (side_of (fibre p d)) plan.steps model.fresh) (place_is p d)
     ∙ ap (λ x. walk.rests plan.settings.threshold n p x plan.steps model.fresh) (side_is p d)
 
--- what it asks for
+-- the request of a side in a case
 pub asks_is : (plan : Planned) (case : List Failure) (p : ℕ) (d : Side)
     → asks_with plan case p d ≡ model.asks plan.settings.wait
     (walk.at_rest_now plan.settings.threshold (walk.rests plan.settings.threshold (length plan.nodes) p d

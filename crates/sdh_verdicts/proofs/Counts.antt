@@ -43,7 +43,7 @@ first_is p i b e = ap (λ c. counted p i + one c) e
 pub not_equal : (a b : ℕ) → (a ≡ b → ⊥) → nat_eq a b ≡ false
 not_equal a b h = false_from_ne_true (nat_eq a b) (λ e. h (eqb-true a b e))
 
--- a test holds nowhere there exactly where nothing is counted there
+-- a test holds at none of the k places from i on exactly where the two counts are equal
 pub none_by : (p : ℕ → Bool) (i k : ℕ) → none_of p i k ≡ nat_eq (counted p (i + k)) (counted p i)
 none_by p i zero = let place : i + 0 ≡ i = omega arith in sym (eq-eqb (counted p (i + 0)) (counted p i) (ap (counted p) place))
 none_by p i (suc k) = by (p i) refl (none_by p (suc i) k)

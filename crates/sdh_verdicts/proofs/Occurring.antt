@@ -1,4 +1,4 @@
--- A plan and a case for which the laws of tables hold.
+-- A plan and a case for which the laws of `specs/Laws.antt` hold.
 use Rattle.std.proofs.Common.{◌≡◌, ℕ, zero, suc, ◌+◌, ◌<◌, ◌≤◌, true, List, [], ◌∷◌, length, Some, refl, sym, ◌∙◌, arith, inl}
 use Rattle.std.specs.Prelude.{slice_get, slice_index}
 use Rattle.std.specs.List.{All}

@@ -1,4 +1,4 @@
--- Each report of a script shows what is owed under the requests that its changes come to.
+-- Each report of a script shows what is owed under the requests that follow from the changes before it.
 use Rattle.std.proofs.Common.{◌≡◌, ℕ, ◌+◌, ◌-◌, ◌≤◌, List, [], ◌∷◌, ◌++◌, refl, ap, ◌∙◌, subst, arith, inl, inr, append_assoc}
 use Rattle.sdh_report.specs.declared.status.Status.{Status}
 use Rattle.sdh_report.specs.declared.status.Status.TheVariants as status
@@ -71,7 +71,7 @@ module _ (ring : Ring) (limit : ℕ) where
     pub changes : changes_in (stretches_by earlier scenes reports) ≡ changes_in earlier ++ scenes
     pub shows : IsForetold ring (stretches_by earlier scenes reports) last
 
-  -- the last one, after a scene that is there
+  -- the last report of a script that has a settle step
   last_of : (earlier : List Stretch) (before : ℕ) (changes : List Change) (later : List (List Change)) (reports : List PortReport)
       → AreOwed ring limit earlier before (changes ∷ later) reports status.Ok → AreForetold ring earlier (changes ∷ later) reports
       → LastOf earlier (changes ∷ later) reports

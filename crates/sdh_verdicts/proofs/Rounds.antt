@@ -21,7 +21,7 @@ module _ (threshold : ℕ) (least : 1 ≤ threshold) (g : SideHistory) where
     pub command : g.command t ≡ h.command
     pub moment : g.moment t ≡ h.moment
 
-  -- in round t, which isn't one of the first two, the side has come to this
+  -- in round t, which isn't one of the first two, the side is in this state
   pub record At (t : ℕ) (r : Resting) : Type 0 where
     pub late : 2 ≤ t
     pub same : Same t r.holding
@@ -209,7 +209,7 @@ module _ (threshold : ℕ) (least : 1 ≤ threshold) (g : SideHistory) where
   asked c defect.Sd wait now one two same = refl
   asked c defect.Sf wait now one two same = refl
 
-  -- the request there
+  -- the local request of a side in this state
   pub request_is : (wait t : ℕ) (r : Resting) → At t r → local_request threshold wait g t ≡ asks wait r
   unfolding local_request
   request_is wait t r x =

@@ -1,4 +1,4 @@
--- An answer that is there is one.
+-- Two answers that are there are equal only where what they hold is equal.
 use Rattle.std.proofs.Common.{◌≡◌, Some, arith}
 use Rattle.std.specs.Prelude.{Option}
 

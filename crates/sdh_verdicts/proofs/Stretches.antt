@@ -89,7 +89,7 @@ module _ (threshold : ℕ) (least : 1 ≤ threshold) (n p : ℕ) (d : Side) (g :
       subst (λ u. Is u (rest_in threshold n p d (changes_in ss) (next s fresh))) last
       (walk ss (s.rounds - 1) (next s fresh) whole long.1 (later 0 (suc (s.rounds - 1)) s ss new_holding (omega arith) all))
 
--- what a side asks for there
+-- the request of a side in the last round of such stretches
 asks_rest : (ring : Ring) (ss : List Stretch) (t p : ℕ) (d : Side) → 1 ≤ ring.threshold → AreLong ss → rounds_in ss ≡ t + 1
     → asked_in ring.threshold ring.wait ring.nodes ss t p d ≡ asks ring.wait (rest_in ring.threshold ring.nodes p d (changes_in ss) fresh)
 asks_rest ring [] t p d least long many = absurd (omega arith)

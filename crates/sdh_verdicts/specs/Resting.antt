@@ -1,5 +1,5 @@
--- What each side of a ring has come to at a settle step of a script, by the changes before each settle step alone: no
--- round is counted. So what a report shows can be said without running one.
+-- The state of each side of a ring at a settle step of a script, by the changes before each settle step alone: no round
+-- is counted. So what a report shows can be computed without running a round.
 use Rattle.std.specs.Prelude.{ℕ, ◌&&◌, not, nat_le, if◌then◌else◌, Option, Some, None, List, [], ◌∷◌}
 use Rattle.sdh_ringmap.specs.declared.Side.{Side}
 use Rattle.sdh_ringmap.specs.declared.terms.Code.{Code}
@@ -13,7 +13,7 @@ use Rattle.sdh_promise.specs.Changes.{Change}
 use Rattle.sdh_promise.specs.Sides.{Holding, new_holding, all_holding}
 use Rattle.sdh_promise.specs.Owed.{Ring}
 
--- what a side has come to: what holds on it now, the defect that it had at the last settle step, and the moment of the
+-- the state of a side: what holds on it now, the defect that it had at the last settle step, and the moment of the
 -- settle step at which its last defect was no longer there
 pub record Resting : Type 0 where
   pub holding : Holding
@@ -30,7 +30,7 @@ defect_of threshold Clear = defect.None
 defect_of threshold Cut = defect.Sf
 defect_of threshold (Degraded k) = if nat_le threshold k then defect.Sd else defect.None
 
--- what a side has come to after a settle step at which h holds on it: the step lets the side come to rest
+-- the state of a side after a settle step at which h holds on it: the side comes to rest in that step
 abbrev pub at_rest : ℕ → Holding → Resting → Resting
 at_rest threshold h r =
     (let now = defect_of threshold h.condition in
@@ -41,16 +41,16 @@ at_rest threshold h r =
           then Some h.moment else r.ended;
     })
 
--- what side d of position p in a ring of n has come to after these changes and a settle step
+-- the state of side d of position p in a ring of n after these changes and a settle step
 abbrev pub rest_after_changes : ℕ → ℕ → ℕ → Side → List Change → Resting → Resting
 rest_after_changes threshold n p d changes r = at_rest threshold (all_holding n p d changes r.holding) r
 
--- what a side has come to after some settle steps, with these changes before each
+-- the state of a side after some settle steps, with these changes before each
 abbrev pub rest_in : ℕ → ℕ → ℕ → Side → List (List Change) → Resting → Resting
 rest_in threshold n p d [] r = r
 rest_in threshold n p d (changes ∷ later) r = rest_in threshold n p d later (rest_after_changes threshold n p d changes r)
 
--- the local request of a side that has come to this at a settle step
+-- the local request of a side that is in this state after a settle step
 abbrev pub asks : ℕ → Resting → Code
 asks wait r = highest_code r.holding.command r.defect (waits wait r.defect r.holding.moment r.ended)
 

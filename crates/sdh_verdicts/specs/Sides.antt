@@ -16,17 +16,17 @@ resting_of r = record {
   ended = option_map (λ m. m.0) r.ended;
 }
 
--- what a side has come to after a settle step, with what holds on it now
+-- the state of a side after a settle step, with what holds on it now
 abbrev pub at_rest_now : ℕ → rest.Resting → rest.Resting
 at_rest_now threshold r = rest.at_rest threshold r.holding r
 
--- what side d of position p in a ring of n has come to after a step: a change is in force at once, and a settle step
--- lets the side come to rest
+-- the state of side d of position p in a ring of n after a step: a change is in force at once, and in a settle step the
+-- side comes to rest
 abbrev pub rest_after : ℕ → ℕ → ℕ → Side → Step → rest.Resting → rest.Resting
 rest_after threshold n p d step.Settle r = at_rest_now threshold r
 rest_after threshold n p d s r = record r { holding = all_holding n p d (changes_of s) r.holding }
 
--- what side d of position p in a ring of n has come to after some steps
+-- the state of side d of position p in a ring of n after some steps
 abbrev pub rests : ℕ → ℕ → ℕ → Side → List Step → rest.Resting → rest.Resting
 rests threshold n p d [] r = r
 rests threshold n p d (s ∷ later) r = rests threshold n p d later (rest_after threshold n p d s r)

@@ -79,7 +79,7 @@ hops_of plan case c = hops_under (length plan.nodes) (is_applied (requests_with 
 
 -- ---- failures that would mend something
 
--- what side d of position p has come to after the plan's script
+-- the state of side d of position p after the plan's script
 abbrev pub left_by : Planned → ℕ → Side → rest.Resting
 left_by plan p d = rests plan.settings.threshold (length plan.nodes) p d plan.steps rest.fresh
 
@@ -109,7 +109,7 @@ asks_with plan case p d =
 abbrev pub asked_at : Planned → List Failure → ℕ → LocalRequests
 asked_at plan case p = record { west = asks_with plan case p West; east = asks_with plan case p East }
 
--- what the side that has this number has come to after the plan's script
+-- the state of the side that has this number after the plan's script
 abbrev pub numbered : Planned → ℕ → rest.Resting
 numbered plan number = left_by plan (number / 2) (side_of number)
 

@@ -7,14 +7,14 @@ pub fn requests_rest()
     ensures { RequestsRest }
 {}
 
-/// Where the reports of a script show what they owe, the requests by which they owe it follow from the script's changes
+/// Where the reports of a script show what they owe, the requests that decide it follow from the script's changes
 /// alone.
 pub fn reports_are_foretold()
     ensures { ReportsAreForetold }
 {}
 
-/// Where a script runs to its end and its reports show what they owe, the requests by which the last one owes it follow
-/// from all the script's changes.
+/// Where a script runs to its end and its reports show what they owe, the requests that decide what the last one owes
+/// follow from all the script's changes.
 pub fn last_reports_are_foretold()
     ensures { LastReportsAreForetold }
 {}

@@ -27,7 +27,7 @@ pub struct Sides<'a> {
     map: &'a RingMap,
     threshold: u16,
     wait: u32,
-    // What each side has come to, by position, west before east.
+    // The state of each side after the plan's script, by position, west before east.
     rests: Vec<Resting>,
 }
 
@@ -76,7 +76,7 @@ fn place_at(number: usize) -> Place
     }
 }
 
-// Returns what a side has come to after the steps of a failure, where it had come to `from` before them.
+// Returns the state of a side after the steps of a failure, where its state before them was `from`.
 fn with_failure(
     map: &RingMap,
     threshold: u16,
@@ -98,7 +98,7 @@ fn with_failure(
     rest
 }
 
-// Returns what a side has come to after the steps of a case, where it had come to `from` before them.
+// Returns the state of a side after the steps of a case, where its state before them was `from`.
 fn with_case(
     map: &RingMap,
     threshold: u16,
@@ -143,7 +143,7 @@ impl<'a> Sides<'a> {
         })
     }
 
-    // Returns what a side has come to after the plan's script.
+    // Returns the state of a side after the plan's script.
     fn kept(&self, place: Place) -> Resting
         requires sides { length self.now.rests.items ≡ 2 * length self.now.map.now }
         requires at { place.at.0 < length self.now.map.now }

@@ -35,8 +35,8 @@ pub fn told_hops(plan: &Plan, applied: &SpanSet, number: u8) -> u8
     way(plan.map(), applied, circuits.get(number))
 }
 
-/// Returns whether the own arc of circuit `number` of the plan has a span in trouble, in the case with these spans in
-/// trouble.
+/// Returns whether the arc of circuit `number` of the plan holds a span in trouble. `troubled` has the spans in trouble
+/// in the case.
 pub fn told_impaired(plan: &Plan, troubled: &SpanSet, number: u8) -> bool
     requires number { number < length plan.now.circuits }
     requires case { (case : List Failure) × AreSpans (length plan.now.nodes) (is_troubled (requests_with plan.now case)) troubled.now }

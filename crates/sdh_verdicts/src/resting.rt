@@ -1,4 +1,4 @@
-//! What a side has come to, step by step of a script.
+//! The state of a side, step by step of a script.
 ghost use Rattle.std.specs.Prelude.{◌≡◌, ◌<◌, length, option_map};
 ghost use Rattle.sdh_request.specs.Requests as request;
 ghost use Rattle.sdh_ringmap.specs.Fibres.{fibre, fibre_to, is_cut};
@@ -11,8 +11,8 @@ use sdh_plan::Step;
 use sdh_request::{Command, Defect, Moment};
 use sdh_ringmap::{Code, Condition, Pos, RingMap, Side};
 
-/// What a side has come to: the condition of the fibre that comes in, the command and the moment, the defect that the
-/// side had at the last settle step, and the moment of the settle step at which its last defect was no longer there.
+/// The state of a side: the condition of the fibre that comes in, the command and the moment, the defect that the side
+/// had at the last settle step, and the moment of the settle step at which its last defect was no longer there.
 #[derive(Clone, Copy, Debug, PartialEq, Eq)]
 pub struct Resting {
     pub condition: Condition,
@@ -103,7 +103,7 @@ fn is_clear(defect: Defect) -> bool
     }
 }
 
-/// Returns what a side has come to after a settle step, which lets it come to rest.
+/// Returns the state of a side after a settle step, in which the side comes to rest.
 pub fn at_rest(threshold: u16, rest: Resting) -> Resting
     ensures { resting_of result ≡ walk.at_rest_now threshold (resting_of rest) }
 {
@@ -120,7 +120,7 @@ pub fn at_rest(threshold: u16, rest: Resting) -> Resting
     }
 }
 
-/// Returns what the side at `place` has come to after one more step of a script.
+/// Returns the state of the side at `place` after one more step of a script.
 pub fn rest_after(
     threshold: u16,
     map: &RingMap,
@@ -155,7 +155,7 @@ pub fn rest_after(
     }
 }
 
-/// Returns what the side at `place` has come to after some steps of a script, where it had come to `from` before them.
+/// Returns the state of the side at `place` after some steps of a script, where its state before them was `from`.
 pub fn rests(threshold: u16, map: &RingMap, place: Place, steps: &[Step], from: Resting) -> Resting
     requires { place.at.0 < length map.now }
     ensures { resting_of result ≡ walk.rests threshold (length map.now) place.at.0 place.side steps.now (resting_of from) }
@@ -180,7 +180,7 @@ fn waits(wait: u32, rest: &Resting) -> bool
     }
 }
 
-/// Returns the local request of a side at a settle step, by what the side had come to in that step.
+/// Returns the local request of a side at a settle step, by the state of the side after that step.
 pub fn asks(wait: u32, rest: &Resting) -> Code
     ensures { result ≡ model.asks wait (resting_of rest.now) }
 {
