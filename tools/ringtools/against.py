@@ -46,7 +46,7 @@ def cases_of_table(name):
 
 
 def change(before, now):
-    """What becomes of a circuit from the other to this one."""
+    """How a circuit's fate changes from the other plan or table to this one."""
     return GAINS if before == "lost" else LOSES if now == "lost" else CHANGED
 
 
@@ -69,7 +69,7 @@ class Against:
         self.depths = sorted({len(key) for key in here})
 
     def changes_of(self):
-        """Each case and circuit of which something else becomes."""
+        """Each case and circuit whose fate differs."""
         for key, now in self.this.cases.items():
             before = self.other.cases.get(key)
             if before is None or before == now:

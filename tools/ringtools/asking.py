@@ -78,7 +78,7 @@ def folder_of(asked, name):
 
 
 def warn_of(program, plan=None):
-    """What has to be known before hours are spent."""
+    """Warns of what would spoil a run of hours."""
     if not program.proved:
         say(f"warning: the program {shlex.join(program.words)} is {program.proof}")
     if plan is not None and plan.limit < enough(plan.size):

@@ -1,7 +1,7 @@
 """For which part of the time a circuit is lost, exactly, where all components fail and are repaired independently of one another.
 
 Of all that fails only this counts for a circuit: whether fibres are cut eastwards or westwards, on its own arc or on the opposite one.
-These are four bits; so a circuit has 16 states, and their probabilities are had by putting one component after the other.
+These are four bits; so a circuit has 16 states, and their probabilities are computed by adding one component after the other.
 """
 
 import math

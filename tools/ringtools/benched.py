@@ -16,7 +16,7 @@ FIRST = re.compile(
 )
 PORT = re.compile(r"port (?P<name>[a-z0-9_-]{1,16} [ab]) (?P<delivers>ais|norm (?:0|[1-9][0-9]*) (?:[0-9a-f]{2})*)")
 BYTES = re.compile(r"bytes (0|[1-9][0-9]*)")
-# By which rule of a node's round (docs/RING.md) each field comes to be, the first ones first.
+# The rule of a node's round (docs/RING.md) that decides each field, in the order of the rules.
 RULES = (
     ("round", "the round's number", "the order of answers: one for each round"),
     ("node", "the node's identifier", "the node that is on the bench"),
@@ -117,7 +117,7 @@ def first_difference(ours, theirs):
 
 
 def first_byte(ours, theirs):
-    """The first byte of two pairs of frames that differs. A text without frames is held against any."""
+    """The first byte of two pairs of frames that differs. Where one of the texts has no frames there is none."""
     if ours is None or theirs is None or ours == theirs:
         return None
     if len(ours) != len(theirs):

@@ -83,7 +83,7 @@ class CaseTables:
         return f'<div class="wide"><table class="customers"><thead>{heads(titles)}</thead><tbody>\n{rows}</tbody></table></div>'
 
     def later_cell(self, verdict, name):
-        """How it is after mending, against how it was before the failure."""
+        """How it is after mending, compared with how it was before the failure."""
         now, before = verdict.stage(name), verdict.stage("before")
         if now is None:
             return "–"

@@ -173,7 +173,7 @@ def data_of(desk, drawing):
 
 
 def triples_of(desk, outcomes):
-    """The cases of three failures, in the order of their numbers: of each the place of its outcome, counted from 1, and 0 where there is none; and outcomes that no other case has."""
+    """The cases of three failures, in the order of their numbers: for each the place of its outcome, counted from 1, or 0 where there is none. Then the outcomes that no case of fewer failures has."""
     count, found, cases = len(outcomes), dict(outcomes), desk.table.cases
     places = array("H")
     for numbers in combinations(range(len(desk.table.failures)), 3):
@@ -186,7 +186,7 @@ def triples_of(desk, outcomes):
 
 
 def key_of(numbers, count):
-    """Where a case stands in the list: nothing, then each alone, then each two, without gaps but for those that aren't told."""
+    """The place of a case in the list: nothing, then each failure alone, then each two. Cases that are left out leave gaps."""
     if len(numbers) < 2:
         return numbers[0] + 1 if numbers else 0
     first, second = numbers

@@ -1,6 +1,6 @@
 """The cases of a ring: which failures, which spans are applied, and what becomes of each circuit. This module alone knows the form of sdhwhatif's table.
 
-The table has all of it. The restoration model has it once more, and no case is taken whose record isn't that of the model, byte for byte.
+The table has all of it. The restoration model computes it again, and a case whose record differs from the model's in any byte is refused.
 """
 
 import subprocess
@@ -116,7 +116,7 @@ class Table:
 
 
 class Namer:
-    """Names of failures: with places in place of numbers, and as labels with numbers alone. In a ring of two nodes a side parts two that would be alike."""
+    """Names of failures: with places in place of numbers, and as labels with numbers alone. In a ring of two nodes a side distinguishes two names that would be alike."""
 
     def __init__(self, plan, places):
         self.plan, self.places = plan, places
@@ -188,8 +188,8 @@ def last_scene(plan):
 class Model:
     """What the restoration model says of a case, beside what the plan's script leaves.
 
-    A failure only ever raises what spans ask for, so a case asks for the highest of what the script left and of its failures. For each a set
-    of spans is kept for each request; of signal failures and forced switches, which are applied side by side, one.
+    A failure only ever raises what spans ask for, so a case asks for the highest of what the script left and of its failures. For each
+    of these a set of spans is kept for each request; signal failures and forced switches, which are applied side by side, share one.
     """
 
     LEVELS = (FAIL, DEGRADE, MANUAL, WAIT)

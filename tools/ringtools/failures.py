@@ -143,7 +143,7 @@ class Beforehand:
         return self.settled(self.also + self.works)
 
     def settled(self, more):
-        """The plan's own script, and these steps with a settle step after them. A script that only settles isn't wanted before others."""
+        """The plan's own script, and these steps with a settle step after them. A script that only settles is left out where steps come after it."""
         texts = [step.text for step in self.own] if self.own_texts() or not more else []
         return texts + [step.text for step in more] + ["settle"] if more or not texts else texts
 
@@ -174,7 +174,7 @@ class Beforehand:
         return [commands(place) if is_command else self.condition_step(place, before.conditions[place]) for is_command, place in places]
 
     def script(self, case):
-        """The settle steps before, failed, mended to what was before, and after waiting; or before, during and after the works. Of a case by its steps two."""
+        """The script of a case: up to `before`, then the failure, its mending and the wait, or the works, their end and the wait. A case by its steps isn't mended."""
         if case.kind == "told":
             return [*self.settled_texts(), *case.steps, "settle"]
         waited = ["settle", f"moment {self.later()}", "settle"]

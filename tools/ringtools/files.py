@@ -24,5 +24,5 @@ def read_input(name):
 
 
 def end_with_reader():
-    """Has the tool end without a word where nobody reads what it writes any longer, as `head` does."""
+    """Makes the tool end without a message where its reader stops reading, as `head` does."""
     signal.signal(signal.SIGPIPE, signal.SIG_DFL)

@@ -5,7 +5,7 @@ from dataclasses import dataclass
 from .kbytes import Word
 from .plan import SIDES
 
-FRAMES = 3  # a word is heard once so many frames in a row have brought it
+FRAMES = 3  # a word is heard once this number of frames in a row have brought it
 OTHER = {"west": "east", "east": "west"}
 
 

@@ -86,7 +86,7 @@ def try_nothing(store, beforehand):
 
 
 def estimate(beforehand, left, seconds, jobs):
-    """By the time that the ring without a failure took, and the settle steps of it and of the cases."""
+    """Estimated from the time that the ring without a failure took, and from the settle steps of it and of the cases."""
     times = sum(len(case.stages) for case in left) / beforehand.settled_texts().count("settle")
     return times * seconds / min(jobs, len(left))
 

@@ -148,7 +148,7 @@ def read_circuits(name, ring, rate):
 
 
 def sides_of(ring, circuits, laid, circuit, slots):
-    """For each way that a circuit may take, what is in its way beside the laid ones."""
+    """For each way round that a circuit may take, why it doesn't fit beside the laid ones."""
     size, loads = len(ring.nodes), loads_of(len(ring.nodes), laid)
     for start, end in arcs_of(size, circuit.wanted):
         way = "eastwards" if start == circuit.wanted.start else "westwards"
@@ -179,7 +179,7 @@ def misfits(ring, circuits, slots, is_sure):
 
 
 def written_of(circuit, laid, ring):
-    """The circuit as it stands in the plan; where it leads from the table's `to`, what is of its ends changes places."""
+    """The circuit as it stands in the plan. Where it leads eastwards from the table's `to`, its ends are exchanged, with their texts, traces and offsets."""
     row, ends = circuit.row, "ab" if laid.start == circuit.wanted.start else "ba"
     trace = circuit.called if circuit.called != circuit.name and is_sent(circuit.called) else ""
     port = lambda end, here: (row[f"text_{end}"] or text_of(circuit.name, here), row[f"trace_{end}"] or row["trace"] or trace, row.whole(f"offset_{end}", 0, 782) or 0)

@@ -18,7 +18,7 @@ COMPLETIONS = "share/bash-completion/completions"
 FILES = f"{LIB}/FILES"
 # What is about the repository alone, from the one comment to the other, of a document, a man page or a script.
 OF_REPOSITORY = re.compile(r"<!-- repository -->.*?<!-- end -->\n?\n?|^(?:\.\\\"|#) repository\n.*?^(?:\.\\\"|#) end\n\n?", re.M | re.S)
-# What is of use before it is installed alone.
+# What is of use only before it is installed.
 OF_UNPACKED = re.compile(r"<!-- unpacked -->.*?<!-- end -->\n?\n?", re.S)
 TEXTS = {".md", ".1", ".toml", ".json", ""}
 
@@ -37,7 +37,7 @@ class Piece:
 
 
 def unlinked(found):
-    """A link to a document that a release doesn't have, as words; in brackets, that name it alone, nothing."""
+    """The words of a link to a document that a release doesn't have. Nothing remains of brackets that only name such a document."""
     before, words, name = found[1] or "", found[2], found[3]
     if name in DOCUMENTS or name in ("README.md", "CHANGELOG.md", "WORDS.md"):
         return found[0]
@@ -172,7 +172,7 @@ def remove(root, names):
 
 
 def install(places, prefix, root=None, with_list=True):
-    """Puts everything below a prefix, or below a root that stands for it, and removes what an earlier install had more."""
+    """Puts everything below a prefix, or below a root that stands for it, and removes what only an earlier install had."""
     root, found = root or prefix, pieces(places, prefix)
     before = set(listed(root))
     for name, piece in found.items():

@@ -40,7 +40,7 @@ class Interruptions:
         return Origin(self.store.program, plan, plan_sum, (self.answer.date,) if self.answer else ())
 
     def put_beside(self, settled):
-        """Has the settle steps of the works' report know what was counted of them; returns where that stands, or None."""
+        """Gives the settle steps of the works' report what was counted of them; returns where that stands, or None."""
         if not self.steps:
             return None
         put_beside(self.steps, settled)

@@ -60,7 +60,7 @@ def file_of(word):
 
 
 def settled_words(words):
-    """The words with each path of a file made whole, so that they mean the same in any folder."""
+    """The words with each path of a file made absolute, so that they mean the same in any folder."""
     return tuple(str(Path(word).resolve()) if "/" in word and Path(word).is_file() else word for word in words)
 
 

@@ -193,7 +193,7 @@ def read_outages(text, plan):
 
 
 def put_beside(steps, settled):
-    """Has each settle step of a report know its outages, where both are of the same rounds."""
+    """Gives each settle step of a report its outages, where both are of the same rounds."""
     ends = [(told.number, told.round) for told in steps]
     wanted = [(step.number, step.round) for step in settled]
     if [number for number, _ in ends] != [number for number, _ in wanted]:

@@ -30,7 +30,7 @@ def stem_of(name):
 
 
 def need_names(names):
-    """Raises where two files would have what is made of them under one name."""
+    """Raises where what is made of two files would have one name."""
     twice = [stem for stem, count in Counter(map(stem_of, names)).items() if count > 1]
     if twice:
         raise FileProblem(f"two plans have one name, {twice[0]}, and so would what is written of them")

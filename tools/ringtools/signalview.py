@@ -16,7 +16,7 @@ from .signals import read_signalling
 from .spacetime import SpaceTime
 from .ticks import broken, read_trace, ticks
 
-TRACES = 16  # so many ports are traced at most
+TRACES = 16  # the most ports that are traced
 
 
 def beside(name):

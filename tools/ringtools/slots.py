@@ -9,7 +9,7 @@ from dataclasses import dataclass
 from itertools import combinations
 
 EXACT_NODES = 8  # up to this size all choices are tried before it is said that there is none
-QUICK_CHOICES = 30  # choices of ways that are drawn by chance before all are gone through
+QUICK_CHOICES = 30  # choices of ways that are drawn at random before all are gone through
 CHOICES, STEPS = 400, 20_000  # in larger rings: choices of ways, and steps of the search for slots in each
 
 
@@ -284,7 +284,7 @@ class Search:
         return None if slots is None else tuple(Laid(*arc, slot) for arc, slot in zip(arcs, slots))
 
     def quick(self, most):
-        """A layout by the first choice of ways of a few searches in chance orders; None where they find none."""
+        """A layout by the first choice of ways of a few searches in random orders; None where they find none."""
         for number in range(QUICK_CHOICES):
             ways = Ways(self.size, self.wanted, most, random.Random(number) if number else None, STEPS)
             try:

@@ -58,7 +58,7 @@ class Told:
         return f"told-{sum_of(self.steps(case).encode())[:12]}"
 
     def of(self, case, letter):
-        """The names of the circuits of which this becomes."""
+        """The names of the circuits that have this fate."""
         key = case.outcome, letter
         if key not in self.by:
             self.by[key] = tuple(name for name, found in zip(self.names, case.results) if found == letter)
@@ -136,7 +136,7 @@ class Told:
 
 
 def drawn(told, wanted):
-    """The cases to be run: as many as a number says, drawn by chance, and those that are named; and the words of those that there aren't."""
+    """The cases to be run: a number of cases drawn at random, and those that are named. Then the words that name no case."""
     found, unknown, cases = {}, [], list(told.all())
     for word in wanted:
         if word.isdecimal():
@@ -167,5 +167,5 @@ def differences(told, case, verdict):
 
 
 def part_name(part):
-    """What the names of a part's files have besides."""
+    """What is added to the names of a part's files."""
     return "" if part == WHOLE else f"-{part[0]}-of-{part[1]}"

@@ -1,4 +1,4 @@
-"""How long each failure of a plan's ring and its repair interrupt whom, as sdhoutage counts it: a table, and the worst of all in words."""
+"""For how long each failure of a plan's ring, and its repair, interrupt which ports, as sdhoutage counts it: a table, and the worst of all in words."""
 
 import csv
 from dataclasses import dataclass

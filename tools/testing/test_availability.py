@@ -164,7 +164,7 @@ class Enumeration(unittest.TestCase):
 
 class InTime(unittest.TestCase):
     def test_a_simulation_in_time_comes_to_the_same(self):
-        """Components fail and are repaired by chance, one event after the other, for many years; each batch of them is one measurement."""
+        """Components fail and are repaired at random, one event after the other, for many years; each batch of them is one measurement."""
         plan = read_plan(document(random.Random(5), 4, ["settle"]))
         circuit, size = plan.circuits[0], 4
         components = [Component(f"span {span}", "span", both(size, span), 20, 30.0 + span) for span in range(size)]

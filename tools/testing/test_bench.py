@@ -88,7 +88,7 @@ class Fed(unittest.TestCase):
         return [text[at : at + size] for at in range(0, len(text), size)]
 
     def stream(self):
-        """What comes to node 2. Its settle steps take 129 rounds at first, and then 128; behind the first one its span to node 3 is cut."""
+        """What comes to node 2. Its settle steps take 129 rounds at first, and then 128; after the first one its span to node 3 is cut."""
         parts = [self.PLAN, model.END]
         for t in range(self.ROUNDS):
             dark = 129 <= t < 257

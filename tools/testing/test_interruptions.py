@@ -75,7 +75,7 @@ class Interruptions(Asking):
         self.assertNotIn("from then on", self.words())
 
     def test_works_after_the_plan_s_script(self):
-        """Its settle steps come before those of the works, and what it leaves cut stays cut: one who has lost one way loses the other."""
+        """Its settle steps come before those of the works, and what it leaves cut stays cut: a customer who has lost one way loses the other."""
         self.plan.write_text(self.plan.read_text().replace('["settle"]', '["settle", "cut 4 west", "settle", "moment 3", "settle"]'))
         self.order("span 5-2")
         wanted, rows = self.check_table(), self.touched()

@@ -1,4 +1,4 @@
-"""The tools' restoration model against the same once more from its definitions, over scripts by chance."""
+"""The tools' restoration model against the same once more from its definitions, over random scripts."""
 
 import random
 import tomllib

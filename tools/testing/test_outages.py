@@ -256,7 +256,7 @@ class Rows(unittest.TestCase):
                 self.check_runs(PORT.fullmatch(port), ends, kinds)
 
     def check_runs(self, port, ends, kinds):
-        """Runs of rounds without own bytes, put together of the changes: one of AIS and one of ones behind it are one run."""
+        """Runs of rounds without own bytes, put together of the changes: one of AIS and one of ones after it are one run."""
         runs, before = [], False
         for start, end, kind in zip(ends, ends[1:], kinds):
             is_out = kind in ("ais", "ones", "strange", "foreign")
@@ -294,7 +294,7 @@ class Rows(unittest.TestCase):
         self.assertEqual({path.name for path in OUTAGES.glob("*.t*") if f"| {path.name} |" not in listed}, set())
 
     def summary_of(self, step):
-        """The lines behind those of the ports, by what these tell. A port is out still where its last round wasn't in order."""
+        """The lines after those of the ports, by what these show. A port is out still where its last round wasn't in order."""
         ports = step.ports.values()
         back = [told["longest"] for told in ports if told["to"] != step.last]
         longest, over, none = max(back, default=0), sum(run > 400 for run in back), sum(told["out"] == 0 for told in ports)

@@ -7,7 +7,7 @@ use Rattle.sdh_report.specs.declared.node_line.WordBytes.{WordBytes}
 use Rattle.sdh_report.specs.Lines.{state_text, word_text}
 use Rattle.sdh_aps.specs.declared.shown.Shown.{Shown}
 
--- what a side asks for
+-- the letters of a request code
 abbrev pub code_text : Code → List ℕ
 code_text Nr = codes "nr"
 code_text Rr = codes "rr"
@@ -17,12 +17,12 @@ code_text Sd = codes "sd"
 code_text Sf = codes "sf"
 code_text Fs = codes "fs"
 
--- the identifier of the far end, where there is one
+-- the identifier of the far end, or `-` where there is none
 abbrev pub far_text : Option ℕ → List ℕ
 far_text None = codes "-"
 far_text (Some id) = decimal id
 
--- the word that is heard, where one is: two fields always
+-- the two bytes of the word that is heard, or `- -` where none is
 abbrev pub heard_text : Option WordBytes → List ℕ
 heard_text None = codes "- -"
 heard_text (Some w) = word_text w
@@ -43,6 +43,6 @@ heard_and_asked_text s =
 abbrev pub place_text : ℕ → ℕ → List ℕ
 place_text round id = codes "round " ++ decimal round ++ codes " node " ++ decimal id ++ codes " "
 
--- what the node of this identifier shows in a round
+-- the line of the node with this identifier in a round
 abbrev pub signal_line : ℕ → ℕ → Shown → List ℕ
 signal_line round id s = place_text round id ++ sent_text s ++ heard_and_asked_text s ++ codes "\n"

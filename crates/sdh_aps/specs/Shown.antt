@@ -9,13 +9,13 @@ use Rattle.sdh_aps.specs.declared.shown.Shown.{Shown}
 abbrev pub same_bytes : WordBytes → WordBytes → Bool
 same_bytes v w = (v.first == w.first) && (v.second == w.second)
 
--- one word is heard both times, or none both times
+-- the same word is heard in both rounds, or none in both
 abbrev pub same_heard : Option WordBytes → Option WordBytes → Bool
 same_heard None None = true
 same_heard (Some v) (Some w) = same_bytes v w
 same_heard v w = false
 
--- there is one far end both times, or none both times
+-- the far end is the same in both rounds, or there is none in both
 abbrev pub same_far : Option ℕ → Option ℕ → Bool
 same_far None None = true
 same_far (Some a) (Some b) = a == b

@@ -7,7 +7,7 @@ use Rattle.sdh_report.specs.declared.node_line.StateWord.{StateWord}
 use Rattle.sdh_report.specs.declared.node_line.StateWord.TheVariants as word
 use Rattle.sdh_report.specs.declared.node_line.WordBytes.{WordBytes}
 
--- the word of a node's state
+-- the word that shows a node's state
 abbrev pub state_word : NodeState → StateWord
 state_word (state.Idle x) = word.Idle
 state_word (state.PassThrough x) = word.Pass
@@ -15,6 +15,6 @@ state_word (state.SwitchWest far) = word.SwitchWest
 state_word (state.SwitchEast far) = word.SwitchEast
 state_word (state.Isolated x) = word.Isolated
 
--- the bytes of a word
+-- the bytes K1 and K2 of a K word
 abbrev pub bytes_told : K → WordBytes
 bytes_told k = record { first = first_byte k; second = second_byte k }

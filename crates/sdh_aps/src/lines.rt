@@ -115,7 +115,7 @@ fn far_is_small(far: Option<u8>)
     }
 }
 
-/// Appends the line of the node of an identifier in a round.
+/// Appends the line of the node with identifier `id` in round `round`. It has at most 128 bytes.
 pub fn signal_line(text: &mut Text, round: u64, id: u8, shown: &Shown)
     requires { 128 ≤ text.old.room }
     ensures bytes { text.new.bytes ≡ text.old.bytes ++ signal_line round id shown.now }

@@ -22,7 +22,7 @@ fn heard_told(word: Option<K>) -> Option<WordBytes>
     }
 }
 
-/// Returns what a node shows since the last round.
+/// Returns what a node shows after the last round.
 #[tactic(auto, unfolding(crate::specs::Showing::shown_of))]
 pub fn shown_of(node: &Adm) -> Shown
     ensures { result ≡ shown_of node.now }

@@ -5,7 +5,7 @@ ghost use Rattle.sdh_aps.specs.Shown.{same_bytes, same_heard, same_far, same_sta
 use sdh_report::{StateWord, WordBytes};
 use sdh_ringmap::Code;
 
-/// A word of each side.
+/// Two words: one for the west side, one for the east side.
 #[derive(Clone, Copy, Debug, PartialEq, Eq)]
 pub struct WordPair {
     pub west: WordBytes,
@@ -32,7 +32,7 @@ fn same_bytes(left: WordBytes, right: WordBytes) -> bool
     left.first == right.first && left.second == right.second
 }
 
-// Returns whether one word is heard both times, or none both times.
+// Returns whether `left` and `right` are the same word, or both are none.
 fn same_heard(left: Option<WordBytes>, right: Option<WordBytes>) -> bool
     ensures { result ≡ same_heard left right }
 {
@@ -43,7 +43,7 @@ fn same_heard(left: Option<WordBytes>, right: Option<WordBytes>) -> bool
     }
 }
 
-// Returns whether there is one far end both times, or none both times.
+// Returns whether `left` and `right` are the same far end, or both are none.
 fn same_far(left: Option<u8>, right: Option<u8>) -> bool
     ensures { result ≡ same_far left right }
 {
@@ -54,7 +54,7 @@ fn same_far(left: Option<u8>, right: Option<u8>) -> bool
     }
 }
 
-// Returns whether two states have one word.
+// Returns whether two states are shown by the same word.
 fn same_state(left: StateWord, right: StateWord) -> bool
     ensures { result ≡ same_state left right }
 {
@@ -80,7 +80,7 @@ fn same_words(left: &Shown, right: &Shown) -> bool
         && left.asks_east.number() == right.asks_east.number()
 }
 
-/// Returns whether a node shows in two rounds what is equal in all parts.
+/// Returns whether `left` and `right`, which a node shows in two rounds, are equal in all parts.
 pub fn same_shown(left: &Shown, right: &Shown) -> bool
     ensures { result ≡ same_shown left.now right.now }
 {

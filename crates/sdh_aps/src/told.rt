@@ -6,7 +6,7 @@ use sdh_kbytes::{K, encode};
 use sdh_nodestate::NodeState;
 use sdh_report::{StateWord, WordBytes};
 
-/// Returns the word of a state.
+/// Returns the word that shows a node's state.
 pub fn state_told(state: &NodeState) -> StateWord
     ensures { result ≡ state_word state.now }
 {
@@ -19,7 +19,7 @@ pub fn state_told(state: &NodeState) -> StateWord
     }
 }
 
-/// Returns the bytes of a word.
+/// Returns the bytes K1 and K2 of a K word.
 pub fn bytes_told(word: K) -> WordBytes
     requires to { word.to ≤ 15 }
     requires from { word.from ≤ 15 }

@@ -33,7 +33,7 @@ alike_then u v w a b = record { signals = a.signals ∙ b.signals; needs = a.nee
 
 -- ---- changes
 
--- a change of one node that leaves all that
+-- a change of one node that leaves its state, its words, its filters and its needs
 module _ (f : Node → Node) (state : (n : Node) → (f n).state ≡ n.state) (sent : (n : Node) → sent_of (f n) ≡ sent_of n)
     (filters : (n : Node) → filters_of (f n) ≡ filters_of n) (need : (n : Node) → needed (f n) ≡ needed n) where
   alike_node : (p : ℕ) (w : World) → Alike (with_node p f w) w
@@ -96,7 +96,7 @@ alike_begin (s ∷ ss) w =
           (alike_then u v w (alike_same u v back) (alike_all s.changes w)))
     ]
 
--- that in which each later one begins is as the round before left it
+-- the world in which each later round begins is as the round before left it
 pub alike_next : (ss : List Stretch) (w : World) (t : ℕ) → t < rounds_in ss → Alike (world_in ss w (suc t)) (round (world_in ss w t))
 alike_next [] w t h = absurd (omega arith)
 alike_next (s ∷ ss) w t h =

@@ -16,13 +16,13 @@ as_cells f g d ns n size each =
     sym (cells-from g n d (map f ns) (length-map ns f ∙ size)
     (λ p low. (let inside : p < length ns = omega (arith, size) in sym (get_or-map f ns p nowhere d inside ∙ each p low))))
 
--- what comes of one place more
+-- the lists that f gives for k + 1 places are those for k places, and that of the last place
 pub flat_more : {X : Type 0} (f : ℕ → List X) (h : ℕ → ℕ) (k : ℕ) → flat_map f (cells h (suc k)) ≡ flat_map f (cells h k) ++ f (h k)
 flat_more f h k =
     ap (flat_map f) (ap (cells h) (suc-eq-add-one k) ∙ cells-more h k) ∙ flat_map-append f (cells h k) (h k ∷ [])
     ∙ ap (λ l. flat_map f (cells h k) ++ l) (append-nil (f (h k)))
 
--- what comes of all of them, by what comes of each
+-- two functions that agree at each place give the same list for all places
 pub flat_same : {X : Type 0} (f g : ℕ → List X) (n : ℕ) → ((p : ℕ) → p < n → f p ≡ g p)
     → flat_map f (cells (λ p. p) n) ≡ flat_map g (cells (λ p. p) n)
 flat_same f g zero h = ap (flat_map f) (cells-zero (λ p. p)) ∙ sym (ap (flat_map g) (cells-zero (λ p. p)))

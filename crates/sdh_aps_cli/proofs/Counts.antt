@@ -54,7 +54,7 @@ begun_rounds limit number w told mid (inr x) =
 
 -- ---- a script
 
--- one that was done
+-- the number of rounds of a script that was done
 runs_rounds : (limit before : ℕ) (steps : List Step) (w : World) (reports : List Signalled) (left : World)
     → Runs signalling_walk limit before steps w reports status.Ok left
     → left.ring.rounds ≡ rounds_from w.ring.rounds (map Done reports)
@@ -73,7 +73,7 @@ runs_rounds limit before (this ∷ later) w reports left x =
       | inr refused ↦ absurd (let e = (refused_ends this w reports status.Ok left refused).1 in grind arith)
     ]
 
--- a step with which one stopped, but for a plant's fault
+-- the number of rounds after the step with which a script stopped, if that was no plant fault
 last_rounds : (limit before : ℕ) (s : Step) (w : World) (begun : List Signalled) (end : Status) (left : World)
     → LastTold signalling_walk limit before s w begun end left → end ≢ status.PlantFault
     → left.ring.rounds ≡ rounds_from w.ring.rounds (map Open begun)
@@ -111,7 +111,7 @@ module _ (limit : ℕ) (steps : List Step) (w : World) (new : w.ring.rounds ≡ 
       ∙ ap (λ n. rounds_from n (map Open begun)) (runs_rounds limit 0 x.gone w reports x.mid x.went)
       ∙ sym (rounds_append w.ring.rounds (map Done reports) (map Open begun)))
 
--- a script that stopped before its end wasn't done
+-- a settle step without a report isn't the end of a script that was done
 settle_other : (limit before : ℕ) (w left : World) → Runs {T = Signalled} signalling_walk limit before (step.Settle ∷ []) w [] status.Ok left → ⊥
 settle_other limit before w left (inl (told, next, rest, ended, is, x)) =
     let size : 0 ≡ length (told ∷ rest) = ap (λ (l : List Signalled). length l) is in omega (arith, size)

@@ -69,7 +69,7 @@ is_placed (asked.Frames a) ids l e =
 
 -- ---- endings
 
--- a run doesn't end with a plant's fault that wasn't one
+-- a run that ends with a plant fault is of a script that ended with one
 pub fault_is : (listing : PlanListing) (rounds : ℕ) (s : Status) → HasRun s → ends_by listing rounds s ≡ ending.Shared status.PlantFault
     → s ≡ status.PlantFault
 fault_is (listed.Lines l) rounds s h e = one_status signalling_endings s status.PlantFault e
@@ -85,7 +85,7 @@ pub is_fault : (listing : PlanListing) (rounds : ℕ) (s : Status) → s ≡ sta
 is_fault (listed.Lines l) rounds s e = ap ending.Shared e
 is_fault (listed.Frames ask) rounds s e = ap (frames_end (has_rounds ask rounds)) e
 
--- a run ends as one does whose plan was read
+-- the ending of a run is one that a plan may lead to
 pub run_end : (listing : PlanListing) (rounds : ℕ) (s : Status) → HasRun s → EndsPlan signalling_endings (ends_by listing rounds s)
 run_end listing rounds s h = elim (ends_run listing rounds s h) [
   | inl as_script ↦ inl as_script

@@ -46,13 +46,13 @@ use Rattle.sdh_aps_cli.specs.Owed.{changes_by, all_changes_by, ShowsSignals, Are
 use Rattle.sdh_aps_cli.specs.Laws.{Runs, ScriptsGoAsSignals, FirstRounds, StepsGoAsSignals}
 use Rattle.sdh_aps_cli.proofs.Signals.{Laws, goes, rounds_show}
 
--- where no settle step is shown, nothing is wrong after a fault
+-- after a fault no more settle steps have to be shown
 pub none_shown : (ring : Ring) (ids : List ℕ) (limit : ℕ) (earlier : List Stretch) (before : ℕ) (later : List (List Change)) (end : Status)
     → end ≡ status.PlantFault → AreSignalled ring ids limit earlier before later [] end
 none_shown ring ids limit earlier before [] end h = (refl, inr h)
 none_shown ring ids limit earlier before (changes ∷ later) end h = inr h
 
--- no rounds show nothing
+-- where no round of the next settle step ran, nothing is shown of it
 pub none_next : (ring : Ring) (ids : List ℕ) (later : List (List Change)) (told : List Signalled) (earlier : List Stretch)
     → AreOfTheNext ring ids earlier later told 0 []
 none_next ring ids [] told earlier = refl
@@ -112,7 +112,7 @@ module _ (laws : Laws) (s : Settings) (ids : List ℕ) (circuits : Provisioning)
     abbrev last : ℕ → Stretch
     last k = record { changes = changes; rounds = k }
 
-    -- with k rounds more
+    -- the stretches so far, and one with k rounds of the settle step
     abbrev with_rounds : ℕ → List Stretch
     with_rounds k = earlier ++ last k ∷ []
 

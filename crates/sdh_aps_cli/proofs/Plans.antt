@@ -369,7 +369,7 @@ fits_ring plan r script form is same =
 
 -- ---- how it ends
 
--- the ways in which it ends, and that one that settles is done
+-- the status with which a run ends is one of a script that was run
 pub run_ends : (plan : Planned) (f left : Fibres) (pieces : List Piece) (end : Status) → IsSignalledRun plan f pieces end left → HasRun end
 run_ends plan f left pieces end x = has_run end (ends_of signalling_account plan f left end x.reports x.came)
 
@@ -378,7 +378,7 @@ lines_done : (plan : Planned) (f left : Fibres) (pieces : List Piece) (end : Sta
     → plans.MaySettle signalling_account plan f → (end ≡ status.PlantFault → ⊥) → end ≡ status.Ok
 lines_done plan f left pieces end x may fine = done_of signalling_account plan f left end x.reports x.came may fine
 
--- where arrivals are known, all is reported of one that is done that the script comes to
+-- where arrivals are known, a run that is done reports all that the script comes to
 known_pieces : (plan : Planned) (f left : Fibres) (pieces : List Piece) (end : Status) → IsSignalledRun plan f pieces end left
     → Knows (world_of plan f).fibres → end ≡ status.Ok → pieces ≡ pieces_of (plans.ran_of signalling_account plan f).reports []
 known_pieces plan f left pieces end x knows done =

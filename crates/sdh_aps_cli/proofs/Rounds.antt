@@ -34,7 +34,7 @@ module _ (at : ℕ → World) (k : ℕ) (ring : HeldRing) (ran : RanOne at k rin
   pub has_run : 1 ≤ ring.rounds
   has_run = let grown = ap (λ (r : HeldRing). r.rounds) held in omega (arith, grown)
 
-  -- the lines of its changes
+  -- the lines of the round's changes
   module _ (listing : SignalListing) (text : List ℕ) (items : List Shown) (are : AreShown (shown_at (at k).ring) items)
       (made : (was : ℕ → Shown) → AreShown was items → text ≡ changes_text listing (changes_to was ring (length ring.ids))) where
     text_is : text ≡ changes_text listing (changes_of (at k).ring (at (suc k)).ring)
@@ -64,7 +64,7 @@ module _ (at : ℕ → World) (k : ℕ) (ring : HeldRing) (ran : RanOne at k rin
               subst (Appends old new) all_text (Appends-trans old mid new (changes_text listing (changes_in k at)) text x.written wrote);
         }
 
-    -- a front of them was
+    -- what is recorded where only the first bytes of the round's lines were written
     pub cut_more : (before : Written) (old mid new : Option (List ℕ)) → IsRecorded listing at k items before old mid
         → AppendsFewer mid new text → IsCut listing at (suc k) old new
     cut_more before old mid new x front =

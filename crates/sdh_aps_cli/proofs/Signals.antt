@@ -301,7 +301,7 @@ module _ (laws : Laws) (s : Settings) (ids : List ℕ) (circuits : Provisioning)
       ap (λ (l : List ℕ). flat_map (change_at was now) (cells (λ p. p) (length l))) (ids_at (suc t) (omega arith))
       ∙ flat_same (change_at was now) (λ p. if is_news ring ids ss t p then change_by ring ids ss t p ∷ [] else []) n (one_is t h)
 
-  -- and so do the rounds of a course
+  -- the first k rounds of a course show what the ring of signals does in them
   pub rounds_show : (course : ℕ → World) (first k : ℕ) → ((j : ℕ) → j ≤ k → course j ≡ at (first + j)) → first + k ≤ rounds_in ss
       → changes_in k course ≡ all_changes_by ring ids ss first k
   rounds_show course first zero same h = sym (ap (flat_map (changes_by ring ids ss)) (cells-zero (λ j. first + j)))

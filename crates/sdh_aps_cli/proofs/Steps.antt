@@ -43,7 +43,7 @@ ids_at w left limit s =
     let at : left ≡ course_with s.rounds w (length s.rounds) = s.left_is ∙ course_whole adm s.rounds w in
     ap (λ (v : World). length v.ring.ids) (sym at) ∙ ap (λ (r : HeldRing). length r.ids) (settled_held w left limit s)
 
--- whatever is written of its rounds and of it
+-- a settle step, whatever is written of its rounds and at its end
 module _ (w left : World) (limit number : ℕ) (text_of begun_of : Signalled → List ℕ) (old new : Option (List ℕ))
     (kept_of : (ℕ → World) → ℕ → Type 0) where
   -- whole rounds of a settle step are in the step
@@ -76,7 +76,7 @@ module _ (w left : World) (limit number : ℕ) (text_of begun_of : Signalled →
         wrote at k x.ran.kept,
       )
 
-  -- it was unsettled, and these rounds are all that ran
+  -- an unsettled settle step, where these rounds are all that ran
   pub unsettled_some : RanSome adm kept_of w limit left
       → ((at : ℕ → World) (k : ℕ) → kept_of at k → Appends old new (begun_of (signalled_in number at k)))
       → (text : List ℕ) × (x : Begun signalling_walk limit number begun_of w text left) × (left ≡ x.mid) × Appends old new text
@@ -95,7 +95,7 @@ module _ (w left : World) (limit number : ℕ) (text_of begun_of : Signalled →
         wrote at k x.kept,
       )
 
-  -- a write failed in it, and a front of what is written of its rounds was written
+  -- a settle step in which a write failed: only the first bytes of what is written of its rounds were written
   pub cut_some : RanSome adm kept_of w limit left
       → ((at : ℕ → World) (k : ℕ) → kept_of at k → AppendsFewer old new (begun_of (signalled_in number at k)))
       → (text : List ℕ) × WasToWrite signalling_walk limit number text_of begun_of w text left × AppendsFewer old new text
@@ -113,7 +113,7 @@ module _ (w left : World) (limit number : ℕ) (text_of begun_of : Signalled →
         front at k x.kept,
       )
 
-  -- it ended, and what is written of it was written
+  -- a settle step that ended, and what is written of it was written
   pub wrote_ended : (x : Hears adm kept_of w limit left)
       → ((at : ℕ → World) (k : ℕ) → kept_of at k → Appends old new (text_of (signalled_in number at k)))
       → WroteStep signalling_walk limit number text_of w left old new
@@ -126,7 +126,7 @@ module _ (w left : World) (limit number : ℕ) (text_of begun_of : Signalled →
         text = wrote at k x.kept;
       }
 
--- lines, with the line of the step
+-- a settle step whose lines are written, with its own line
 module _ (w left : World) (limit number : ℕ) (listing : SignalListing) (old new : Option (List ℕ))
     (kept_of : (ℕ → World) → ℕ → Type 0) (x : Hears adm kept_of w limit left) where
   abbrev at : ℕ → World
@@ -153,7 +153,7 @@ module _ (w left : World) (limit number : ℕ) (listing : SignalListing) (old ne
         (subst (λ l. Appends old mid (changes_text l (changes_in ran at))) same before) (subst (Appends mid new) line_is line);
   }
 
-  -- a front of that was
+  -- only the first bytes of these lines were written
   pub cut_line : (first : SignalListing) → first ≡ listing → (mid : Option (List ℕ)) → Appends old mid (changes_text first (changes_in ran at))
       → AppendsFewer mid new (settle_line number (left.ring.rounds - 1))
       → (text : List ℕ) × WasToWrite signalling_walk limit number (ended_text listing) (begun_text listing) w text left

@@ -94,7 +94,7 @@ size_run : (k : ℕ) (w : World) → length (run k w).ring.nodes ≡ length w.ri
 size_run zero w = ap (λ (v : World). length v.ring.nodes) (no_run w)
 size_run (suc k) w = ap (λ (v : World). length v.ring.nodes) (one_run w k) ∙ length-after (run k w) ∙ size_run k w
 
--- each takes one turn away
+-- each round takes one turn away
 turns_run : (k : ℕ) (w : World) → IsWhole w → (p : ℕ) → p < length w.ring.nodes → turns_at (run k w) p ≡ turns_at w p - k
 turns_run zero w whole p low = ap (λ (v : World). turns_at v p) (no_run w) ∙ (let e : turns_at w p ≡ turns_at w p - zero = omega arith in e)
 turns_run (suc k) w whole p low =

@@ -23,7 +23,7 @@ line_of ending.NoSuchNode = own_line (codes "no such node")
 line_of ending.NoSuchRound = own_line (codes "no such round")
 line_of (ending.Shared s) = status.last_line s
 
--- the shared status that an ending is
+-- the status that an ending shares with other programs; none where the ending is this program's own
 abbrev pub shared : Ending → Option Status
 shared ending.NoSuchNode = None
 shared ending.NoSuchRound = None
@@ -39,7 +39,7 @@ signalling_endings = record {
   line = line_of;
 }
 
--- ---- a run of which frames are written
+-- ---- a run whose frames are written
 
 -- A plant's fault is reported as one, whichever rounds came. Else the run is done where it had all rounds that are
 -- asked for (`came`), also if a settle step was unsettled after them. Where it hadn't, it ends with `NoSuchRound`.

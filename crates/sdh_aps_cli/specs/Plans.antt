@@ -41,8 +41,8 @@ signalling_account = record { walk = signalling_walk; new_ring = new_ring_of }
 abbrev pub Owes : ReportsOwe Signalled
 Owes plan f reports end left = AreSignalled (ring_of plan) plan.nodes plan.limit [] 0 (scenes [] plan.steps) reports end
 
--- What holds of one list, of what is shown of the settle steps that ended. Over every plant it is of the rounds that
--- ran. Where the arrivals are known, it is what the script comes to; after a fault, the first of that. Over honest
+-- What holds of the list of what the settle steps that ended show. Over every plant they show the rounds that ran.
+-- Where the arrivals are known, the list is what the script comes to; after a fault, the first of that. Over honest
 -- fibres it is what the ring of signals does, and no settle step with a limit that is always enough is unsettled.
 abbrev pub IsRunOf : Planned → Fibres → List Signalled → Status → Fibres → Type 0
 IsRunOf = plans.IsRunOf signalling_account Owes
@@ -126,11 +126,11 @@ pub record IsCutRun (plan : Planned) (f : Fibres) (pieces : List Piece) (left : 
 
 -- ---- how it ends
 
--- the run had all rounds of which frames are asked for
+-- the run had all rounds whose frames are asked for
 abbrev pub has_rounds : FrameWindow → ℕ → Bool
 has_rounds ask rounds = nat_le (ask.first + ask.count) rounds
 
--- how a run of so many rounds ends, by what is written of it
+-- the ending of a run of this number of rounds, by what is written of it
 abbrev pub ends_by : PlanListing → ℕ → Status → Ending
 ends_by (listing.Lines l) rounds end = ending.Shared end
 ends_by (listing.Frames ask) rounds end = frames_end (has_rounds ask rounds) end
@@ -188,7 +188,7 @@ pub record CameOfRun (plan : Planned) (listing : PlanListing) (f left : Fibres) 
   pub counted : IsCounted failures.calls_exact (end ≡ status.PlantFault) failures.calls.before failures.calls.after
   pub writes_counted : IsCounted failures.writes_exact (end ≡ status.WriteFault) failures.writes.before failures.writes.after
 
--- the node whose frames are written is one of so many
+-- the node whose frames are written is one of n
 abbrev pub IsPlaced : ℕ → PlanListing → Type 0
 IsPlaced n (listing.Lines l) = Unit {0}
 IsPlaced n (listing.Frames ask) = ask.at.0 < n

@@ -39,12 +39,12 @@ IsCut listing at k old new = AppendsFewer old new (changes_text listing (changes
 
 -- ---- writes that failed, which a count of faults shows, exactly where `exact` says so
 
--- none did
+-- no write failed between these two counts of faults
 pub record NoneFailed (exact : Bool) (before after : ℕ) : Type 0 where
   pub later : before ≤ after
   pub none : exact ≡ true → after ≡ before
 
--- one did
+-- one write failed between these two counts of faults
 pub record OneFailed (exact : Bool) (before after : ℕ) : Type 0 where
   pub later : before ≤ after
   pub rose : Rose before after

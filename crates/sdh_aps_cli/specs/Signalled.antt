@@ -1,5 +1,5 @@
 -- What is shown of how a ring signals, round by round: in the first round what every node shows, and in each later one
--- what a node shows wherever that is something else than in the round before.
+-- what those nodes show that show something else than in the round before.
 use Rattle.std.specs.Prelude.{ℕ, zero, suc, ◌-◌, ◌==◌, ◌||◌, Bool, not, List, [], ◌∷◌, ◌++◌, length, get_or}
 use Rattle.std.specs.Prelude.{if◌then◌else◌}
 use Rattle.std.specs.List.{flat_map}

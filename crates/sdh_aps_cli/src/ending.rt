@@ -10,7 +10,7 @@ use sdh_shell::Ends;
 pub enum Ending {
     /// The plan has no node of the identifier.
     NoSuchNode,
-    /// The run ended before all rounds of which frames are asked for.
+    /// The run ended before it had all rounds whose frames are asked for.
     NoSuchRound,
     /// An ending that the program `sdhring` has too: `Ok`, `Usage`, `ReadFault`, `WriteFault`, `NotToml`, `BadPlan`,
     /// `Unsettled`, `PlantFault`, `TooLong` or `Memory`.

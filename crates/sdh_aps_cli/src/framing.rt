@@ -1,4 +1,4 @@
-//! A ring that a script is run over, with the frames of one fibre written.
+//! A ring over which a script is run, with the frames of one fibre written.
 ghost use Rattle.std.specs.Prelude.{◌<◌, length};
 ghost use Rattle.sdh_node.specs.Node.{Node as AddDrop};
 ghost use Rattle.sdh_owed.specs.Running.{MayRun as MayRunRing};

@@ -19,7 +19,7 @@ use sdh_scripts::StreamsPlans;
 use sdh_shell::{EndedText, ended, write_ended};
 use std::alloc::{AllocError, Global};
 
-// Returns how a run ends of which frames are written.
+// Returns the ending of a run whose frames are written.
 fn frames_ending(ask: &FrameWindow, ran: &RanPlan) -> Ending
     ensures { result ≡ frames_end (has_rounds ask.now ran.now.rounds) ran.now.status }
 {
@@ -33,7 +33,7 @@ fn frames_ending(ask: &FrameWindow, ran: &RanPlan) -> Ending
     }
 }
 
-// Returns how a run ends, by what is written of it.
+// Returns the ending of a run, by what is written of it.
 fn ending_after(listing: &PlanListing, ran: &RanPlan) -> Ending
     ensures { result ≡ ends_by listing.now ran.now.rounds ran.now.status }
 {

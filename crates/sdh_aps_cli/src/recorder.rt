@@ -50,7 +50,7 @@ fn put_change(text: &mut Text, ring: &Ring, at: Pos, now: &Shown, listing: Signa
 }
 
 // Appends the line of the node at a position, where the last round was the ring's first, or the node shows something
-// else since.
+// else after it than `was`.
 #[tactic(auto, unfolding(crate::specs::Signalled::is_told))]
 fn put_new(text: &mut Text, ring: &Ring, at: Pos, was: &Shown, listing: SignalListing)
     requires at { at.0 < length ring.now.ids }
@@ -81,7 +81,7 @@ fn put_round(text: &mut Text, ring: &Ring, before: &Vec<Shown>, listing: SignalL
     }
 }
 
-// Keeps what all nodes show since the last round.
+// Keeps what all nodes show after the last round.
 fn keep_all(before: &mut Vec<Shown>, ring: &Ring)
     requires { length before.old.items ≡ length ring.now.ids }
     ensures many { length before.new.items ≡ length before.old.items }
@@ -144,7 +144,7 @@ impl SignalRecorder {
         keep_all(&mut self.before, ring);
     }
 
-    /// Makes the lines of the last round, and keeps what the nodes show since then.
+    /// Makes the lines of the last round, and keeps what the nodes show after it.
     pub fn look(&mut self, ring: &Ring)
         requires many { length self.old.before.items ≡ length ring.now.ids }
         requires ran { 1 ≤ ring.now.rounds }

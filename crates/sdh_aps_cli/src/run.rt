@@ -18,8 +18,8 @@ use sdh_report::Status;
 use sdh_scripts::start_over;
 use std::alloc::{AllocError, Global};
 
-/// How the script of a run ended: `Ok`, `Unsettled` or `PlantFault`, or `WriteFault`, where a write failed, and nothing
-/// more was run. And the number of rounds that ran.
+/// How the script of a run ended, and the number of rounds that ran. It ended with `Ok`, `Unsettled` or `PlantFault`,
+/// or with `WriteFault`, where a write failed, and nothing more was run.
 #[derive(Clone, Copy, Debug)]
 pub struct RanPlan {
     pub status: Status,
@@ -115,7 +115,7 @@ pub fn run_plan<W: Sink, P: Plant>(
         (W.written sink.old) (W.written sink.new)) }
     ensures later { (P.faults plant.old ≤ P.faults plant.new) × (W.faults sink.old ≤ W.faults sink.new) }
 
-    // Without memory nothing was written, no fibre was made, and no round has run.
+    // Where memory ran out nothing was written, no fibre was made, and no round has run.
     ensures memory { OnErr result ((sink.new ≡ sink.old) × (P.fibres plant.new ≡ P.fibres plant.old)) }
     ensures uncounted { OnErr result (P.exact ≡ true → P.faults plant.new ≡ P.faults plant.old) }
 {

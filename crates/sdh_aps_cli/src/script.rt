@@ -1,4 +1,4 @@
-//! A ring that a script is run over, with each round shown.
+//! A ring over which a script is run, with the lines of each round written.
 ghost use Rattle.sdh_node.specs.Node.{Node as AddDrop};
 ghost use Rattle.sdh_owed.specs.Running.{MayRun as MayRunRing};
 ghost use Rattle.sdh_aps_cli.specs.Signalled.{Signalled};

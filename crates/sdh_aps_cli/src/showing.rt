@@ -6,7 +6,7 @@ use sdh_aps::{Shown, shown_of};
 use sdh_ring::Ring;
 use sdh_ringmap::Pos;
 
-/// Returns what the node at a position shows since the last round.
+/// Returns what the node at a position shows after the last round.
 pub fn shown_at(ring: &Ring, at: Pos) -> Shown
     requires { at.0 < length ring.now.ids }
     ensures { result ≡ shown_at ring.now at.0 }

@@ -25,12 +25,12 @@ use sdh_scripts::call_over;
 use std::alloc::Global;
 
 /// Does all that the program does, and returns how it ended. With the word `run` it reads a plan from the source and
-/// runs its ring over the plant. Of the first round it writes what each node shows, and of each later one what each
-/// node shows that showed something else before: its state and far end, the words that it sent, those that it hears,
-/// and what its sides ask for. With `node` and an identifier it writes this of that node alone. Each round is written
-/// before the next one runs, and the last line says how it ended. With `frames`, an identifier, a side, a first round
-/// and a number of rounds it writes the frames that the node sent on that side in that number of rounds from the first
-/// one on, scrambled as on the line, and nothing else. There is a last line then only where the ending isn't `Ok`.
+/// runs its ring over the plant. It writes a line for each node in the first round, and in each later round for each
+/// node that shows something new: its state and far end, the words that it sent, those that it hears, and what its
+/// sides ask for. With `node` and an identifier it writes the lines of that node alone. Each round is written before
+/// the next one runs, and the last line says how it ended. With `frames`, an identifier, a side, a first round and a
+/// number of rounds it writes the frames that the node sent on that side in these rounds, scrambled as on the line, and
+/// nothing else. There is a last line then only where the ending isn't `Ok`.
 pub fn sdhaps<R: Source, W: Sink, P: Plant>(
     alloc: Global,
     words: &[String],
@@ -40,9 +40,9 @@ pub fn sdhaps<R: Source, W: Sink, P: Plant>(
 ) -> Ending
     requires fresh { HasNoFibres (P.fibres plant.old) }
 
-    // The ending and the text that is written, for a source whose bytes are known, where it is read, and a sink that
-    // shows what was written. Where a write failed while a plan was run, a front of what was to be reported of it was
-    // written.
+    // The ending and the text that is written, where the bytes of a source that is read are known, and where the sink
+    // shows what was written. Where a write failed while a plan was run, only the first bytes of what was to be
+    // reported of it were written.
     ensures outcome { let ask = asked (words_of words.now) in
         let reads : Counts = record { before = R.faults source.old; after = R.faults source.new } in
         let calls : Counts = record { before = P.faults plant.old; after = P.faults plant.new } in
@@ -51,7 +51,7 @@ pub fn sdhaps<R: Source, W: Sink, P: Plant>(
         (IsCutShort signalling IsCutRun ask bytes (P.fibres plant.old) (W.written sink.old) (W.written sink.new) (P.fibres plant.new))
         result (W.written sink.old) (W.written sink.new)) }
 
-    // Over every source, sink and plant.
+    // These clauses hold over every source, sink and plant.
     ensures usage { result ≡ Ending.Shared Status.Usage → asked (words_of words.now) ≡ None }
     ensures usage_only { asked (words_of words.now) ≡ None → (result ≡ Ending.Shared Status.Usage)
         ⊎ (result ≡ Ending.Shared Status.WriteFault) ⊎ (result ≡ Ending.Shared Status.Memory) }
@@ -60,9 +60,9 @@ pub fn sdhaps<R: Source, W: Sink, P: Plant>(
     ensures plant_fault { result ≡ Ending.Shared Status.PlantFault → Rose (P.faults plant.old) (P.faults plant.new) }
     ensures write_fault { result ≡ Ending.Shared Status.WriteFault → Rose (W.faults sink.old) (W.faults sink.new) }
 
-    // Where an object's count is exact, each of its calls that failed is reported by its fault, and none is tried
-    // again; a write fault may stand in place of what was to be reported. With TooLong, one byte more was taken
-    // from the source than a plan may have.
+    // Where the count of faults of a source, sink or plant is exact, each of its calls that failed is reported by its
+    // fault, and none is tried again. A write fault may stand in place of what was to be reported. With TooLong, one
+    // byte more was taken from the source than a plan may have.
     ensures came { let reads : Counts = record { before = R.faults source.old; after = R.faults source.new } in
         let calls : Counts = record { before = P.faults plant.old; after = P.faults plant.new } in
         (how : Ending) × ((result ≡ how) ⊎ (result ≡ Ending.Shared Status.WriteFault))
@@ -73,8 +73,8 @@ pub fn sdhaps<R: Source, W: Sink, P: Plant>(
     ensures later { (R.faults source.old ≤ R.faults source.new) × (W.faults sink.old ≤ W.faults sink.new)
         × (P.faults plant.old ≤ P.faults plant.new) }
 
-    // With the bytes of a plan that has the node and settles, and no fault, everything is done, or there is no memory.
-    // For frames the run has to have all rounds that are asked for.
+    // Where the plan has the node and settles, and no call fails, everything is done, or memory runs out. For frames
+    // the run has to have all rounds that are asked for.
     ensures complete { (ask : Asked) → asked (words_of words.now) ≡ Some ask
         → MayBeDone signalling ask (told signalling (Some ask) (R.left source.old)) (P.fibres plant.old)
         → ¬ (Rose (R.faults source.old) (R.faults source.new)) → ¬ (Rose (W.faults sink.old) (W.faults sink.new))

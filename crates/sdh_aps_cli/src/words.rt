@@ -57,7 +57,7 @@ fn asked_of_frames(word: &str, id: &str, side: &str, first: &str, count: &str) -
     }
 }
 
-/// Returns what the words ask for, or `None` where they have none of the forms that there are.
+/// Returns what the words ask for, or `None` where they have no form that the program knows.
 pub fn asked(words: &[String]) -> Option<SignalAsk>
     ensures { result ≡ asked (words_of words.now) }
 {

@@ -21,7 +21,7 @@ run_ends plan listing f left run text now how is text_is x =
     run_outcome ringing refl adm_account listing plan f left (listed listing) (λ told. refl) (λ told end came. came) run text now how is
     (text_is ∙ ap (λ e. run ++ last_line e) (sym is)) x
 
--- what is listed is what is done
+-- a plan that has a listing is run
 pub listed_deed : (ask : Ask) (plan : Planned) (listing : Listing) → listing_of ask plan ≡ Some listing
     → ◌≡◌ {A = Deed Listing Status} (Runs listing) (deed_of ask plan)
 listed_deed Run plan listing is = sym (ap deed_listing is)

@@ -49,7 +49,7 @@ name_passes : (p : ℕ → ℕ → Bool) (slot number : ℕ) → names_pass p �
 name_passes p slot number all a b c d =
     ranged (p slot) 1 16 number (ranged (λ k. list_all (p k) (range_with_len 1 16)) 1 2 slot all a (omega arith)) c (omega arith)
 
--- all names have the form of a name, and they and the texts made of them that of a text
+-- each name has the form of a name, and the name and the texts made of it have the form of a text
 abbrev is_formed : ℕ → ℕ → Bool
 is_formed slot number =
     is_name (name_in slot number) && (is_text (name_in slot number)
@@ -158,7 +158,7 @@ unshared slot l d is some was =
     let e : false ≡ true = sym none ∙ any in
     cc)
 
--- nor its name
+-- the next circuit doesn't have the name of one that was laid
 unlike : (slot : ℕ) (l : Laying) (d : Provisioned) → IsLaying l → 0 < l.left → 1 ≤ slot → slot ≤ 2 → IsLaid slot l d
     → bytes_eq d.name (name_in slot l.number) ≡ false
 unlike slot l d is some low high was =
@@ -227,13 +227,13 @@ not_refused slot l p two low high is some were =
     (passes _ _ _ (both _ _ a.0 (ap not free))
     (passes _ _ _ (ap (λ d. not (list_any (do_share 16 d) p.circuits)) given ∙ ap not room) refl)))))))
 
--- where no check refuses, a lack of memory is the only answer
+-- where no check refuses, out of memory is the only error
 pub memory_alone : (o : Option AddError) (r : Result (Unit {0}) AddError) (why : AddError) → o ≡ None → r ≡ Err why
     → IfNone o (IfErr r (λ why. why ≡ refused.Memory)) → why ≡ refused.Memory
 memory_alone None r why e f h = let P : Result (Unit {0}) AddError → Type 0 = λ q. IfErr q (λ why. why ≡ refused.Memory) in subst P f h
 memory_alone (Some w) r why e f h = cc
 
--- what is asked for by equal parts
+-- what is asked for, from its parts, is the circuit that is laid, as it is asked for
 pub wish_same : (slot number at spans x y : ℕ) (name text_a text_b : List ℕ) (offset_a offset_b : ℕ) → name ≡ name_in slot number
     → text_a ≡ name_in slot number ++ codes "a" → text_b ≡ name_in slot number ++ codes "b"
     → y ≡ next x → offset_a ≡ drawn x % 783 → offset_b ≡ drawn y % 783

@@ -26,7 +26,7 @@ use Rattle.sdh_cli.proofs.Deeds.{listed_deed, run_alone}
 abbrev Said : Type 1
 Said = Planned → List Report → Status → Type 0
 
--- what is asked, if anything, has the plan and the listing that it shows
+-- what holds of each run holds of the run whose reports the text shows
 shown : (ask : Option Ask) (f left : Fibres) (reads calls : Counts) (bytes : List ℕ) (how : Status) (old new : Option (List ℕ))
     → Writes (λ how text. MayEnd ask bytes f reads calls how text left) how old new → (P : Said)
     → ((plan : Planned) (reports : List Report) (end : Status) → IsRunOf plan f reports end left → P plan reports end)

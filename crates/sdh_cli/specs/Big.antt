@@ -53,7 +53,7 @@ with_next l = record { number = l.number + 1; at = laying_end l; left = l.left -
 abbrev pub name_in : ℕ → ℕ → List ℕ
 name_in slot number = codes "c" ++ (decimal slot ++ (codes "-" ++ decimal number))
 
--- what is sent at an end: the circuit's name and a letter as the text, and the name as the path trace
+-- the customer at an end of a circuit: its text is the circuit's name and a letter, its path trace the name
 abbrev pub customer_of : List ℕ → List ℕ → ℕ → Customer
 customer_of name letter offset = record { text = name ++ letter; trace = name; offset = offset }
 

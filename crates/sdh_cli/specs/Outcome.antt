@@ -57,6 +57,6 @@ LeavesPlant = outcome.LeavesPlant ringing
 abbrev pub HasRead : Option Ask → Option (List ℕ) → Type 0
 HasRead ask left = outcome.HasRead (outcome.reads_by own_plan ask) left
 
--- an outcome whose read fault or plant fault, if it is one, has its cause in a call that failed
+-- an outcome that, if it is a read fault or a plant fault, has its cause in a call that failed
 abbrev pub MayEnd : Option Ask → List ℕ → Fibres → Counts → Counts → Status → List ℕ → Fibres → Type 0
 MayEnd = outcome.MayEnd ringing

@@ -62,8 +62,8 @@ pub fn run_plan<P: Plant>(
     requires fresh { HasNoFibres (P.fibres plant.old) }
     requires listing { MayList (length plan.circuits) listing }
 
-    // The text is what is listed of one list of reports. Of these it is said what holds over every plant, what holds
-    // where the arrivals are known, and what holds over honest fibres, with every round that gave them.
+    // The text is what is listed of one list of reports. The clause says what holds of these over every plant, where
+    // the arrivals are known, and over honest fibres, there with every round that gave them.
     ensures came { IfOk result (λ run. Tells plan listing (P.fibres plant.old) run.text.bytes run.status (P.fibres plant.new)) }
 
     // A plant fault comes only where a call of the plant failed. Where none failed, a script that settles runs to its
@@ -79,7 +79,7 @@ pub fn run_plan<P: Plant>(
     ensures later { P.faults plant.old ≤ P.faults plant.new }
     ensures room { IfOk result (λ run. 96 ≤ run.text.room) }
 
-    // Without memory no fibre was made, and no round has run.
+    // Where memory ran out no fibre was made, and no round has run.
     ensures unsent { OnErr result (P.fibres plant.new ≡ P.fibres plant.old) }
 {
     sdh_owed::reports_are_owed();

@@ -1,4 +1,4 @@
-//! A ring of add-drop multiplexers that a script is run over.
+//! A ring of add-drop multiplexers over which a script is run.
 ghost use Rattle.std.specs.Prelude.{length};
 ghost use Rattle.sdh_node.specs.Node.{Node as AddDrop};
 ghost use Rattle.sdh_report.specs.Reports.{Report, listed};

@@ -55,7 +55,7 @@ fn asked_with_port<'a>(word: &str, name: &'a str, letter: &str) -> Option<Comman
     Some(Command::Drop(name, end))
 }
 
-/// Returns what the words ask for, or `None` where they have none of the forms that there are.
+/// Returns what the words ask for, or `None` where they have no form that the program knows.
 pub fn command_of(words: &[String]) -> Option<Command<'_>>
     ensures { option_map ask_of result ≡ asked (words_of words.now) }
 {

@@ -18,7 +18,7 @@ pub fn pointers_rest()
     ensures { PointersRest }
 {}
 
-/// Where all rounds are calm from one on, a window ends at most 3n + 128 rounds later.
+/// Where all rounds are calm from some round on, a window ends at most 3n + 128 rounds later.
 pub fn calm_ends_windows()
     ensures { CalmEndsWindows }
 {}

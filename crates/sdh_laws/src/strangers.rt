@@ -60,7 +60,7 @@ pub fn a_hold_spoils_its_own_step_alone()
     sdh_signal::still_rings_are_settled();
 }
 
-/// Every whole ring comes to be vouched for, whatever it carries. That takes n(n + 1) rounds after the last one that a
+/// Every whole ring becomes vouched for, whatever it carries. That takes n(n + 1) rounds after the last one that a
 /// controller missed.
 pub fn rings_come_to_be_vouched_for()
     ensures { RingsComeToBeVouchedFor }

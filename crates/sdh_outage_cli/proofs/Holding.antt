@@ -23,7 +23,7 @@ rest_from [] i c there = absurd (cc)
 rest_from (d ∷ cs) zero c there = ap (λ (x : Provisioned). x ∷ cs) (same_Some d c there)
 rest_from (d ∷ cs) (suc i) c there = rest_from cs i c there
 
--- one circuit more is looked at
+-- the first port that sends the bytes, from circuit i on, is at circuit i or at a later one
 pub holder_next : (own i : ℕ) (cs : List Provisioned) (c : Provisioned) (round : ℕ) (bytes : List ℕ) (held : Option End)
     → slice_get cs i ≡ Some c → (if i == own then None else end_held c round bytes) ≡ held
     → holder_from own i (drop i cs) round bytes ≡ port_or held i (holder_from own (i + 1) (drop (i + 1) cs) round bytes)
@@ -34,7 +34,7 @@ holder_next own i cs c round bytes held there is =
     ∙ ap (λ h. port_or h i (holder_from own (i + 1) (drop (suc i) cs) round bytes)) is
     ∙ ap (λ n. port_or held i (holder_from own (i + 1) (drop n cs) round bytes)) next
 
--- all were looked at
+-- no port sends the bytes once all circuits were looked at
 pub holder_end : (own i : ℕ) (cs : List Provisioned) (round : ℕ) (bytes : List ℕ) → length cs ≤ i
     → holder_from own i (drop i cs) round bytes ≡ None
 unfolding holder_from

@@ -44,7 +44,7 @@ began_is far whose r port at rounds after is round began =
     began ∙ ap (λ n. heard far whose n (delivered_at r port) []) round
     ∙ ap (λ (x : HeldRing). heard far whose x.rounds (delivered_at x port) []) is
 
--- before the first round
+-- the bytes that are near before the first round
 no_more : (at : ℕ → World) (streams : List StreamPair) → AreNear (at 0).ring.circuits.circuits (at 0).ring.rounds streams
     → AreNear (at 0).ring.circuits.circuits ((at 0).ring.rounds + 0) streams
 no_more at streams x =
@@ -97,7 +97,7 @@ near_more circuits round old new x many each = record {
       });
 }
 
--- a listener that heard one more
+-- a listener that heard one more round
 module _ (at : ℕ → World) (k : ℕ) (r : HeldRing) (streams : List StreamPair) (i : ℕ) (c : Provisioned) (end : End)
     (ring : r ≡ (at (suc k)).ring)
     (there : slice_get (at 0).ring.circuits.circuits i ≡ Some c)
@@ -211,7 +211,7 @@ module _ (at : ℕ → World) where
   last_is port zero = refl
   last_is port (suc k) = refl
 
-  -- what the rounds were to it
+  -- the kinds of the rounds for a port follow from what it delivered
   kinds_are : (far : Customer) (whose : Whose) (port : PortId) (k : ℕ) → ((j : ℕ) → j ≤ k → (at j).ring.rounds ≡ (at 0).ring.rounds + j)
       → kinds_of far whose (at 0).ring.rounds (delivered_at (at 0).ring port) (delivered_in port k at) ≡ kinds_in far whose port k at
   kinds_are far whose port zero rounds = refl

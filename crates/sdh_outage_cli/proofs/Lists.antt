@@ -15,7 +15,7 @@ all_pushed P (z ∷ xs) (suc i) y long here before zero x get = before zero x ge
 all_pushed P (z ∷ xs) (suc i) y long here before (suc j) x get =
     all_pushed (λ k. P (suc k)) xs i y (omega arith) here (λ k v there. before (suc k) v there) j x get
 
--- an element is written that was there
+-- writing an element in a place where it already is changes nothing
 pub set_there : {X : Type 0} (xs : List X) (i : ℕ) (x y : X) → slice_get xs i ≡ Some x → y ≡ x → set xs i y ≡ xs
 set_there [] i x y there is = absurd (cc)
 set_there (z ∷ xs) zero x y there is = ap (λ v. v ∷ xs) (is ∙ sym (same_Some z x there))

@@ -19,7 +19,7 @@ use Rattle.sdh_outage_cli.proofs.Known.{keeps_rounds}
 
 -- ---- all that is reported
 
--- the run settles as a script does that reports the ring
+-- all that is said of a run; it settles because the same script settles where the ring is reported
 pub tells : ScriptsSettle → (plan : Planned) (listing : OutageListing) (f left : Fibres) (text : List ℕ) (end : Status) → IsPlanned plan
     → (f.honest ≡ true → IsHonest f)
     → Came outage_walk plan.limit (listed listing) plan.steps (world_of plan f) f text end left → Tells plan listing f text end left

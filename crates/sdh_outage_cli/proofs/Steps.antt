@@ -30,7 +30,7 @@ use Rattle.sdh_outage_cli.specs.declared.ports.ListenerPair.{ListenerPair}
 use Rattle.sdh_outage_cli.specs.declared.streams.StreamPair.{StreamPair}
 use Rattle.sdh_outage_cli.proofs.Listening.{ready_then, shown_is, trace_is}
 
--- before it the ring has run few rounds
+-- before a settle step the ring has run at most 2 ^ 31 rounds
 pub few_before : (before : ℕ) (steps : List Step) (r : HeldRing) (f : _) → ring.MayRun 65536 before steps r f → r.rounds ≤ 2 ^ 31
 few_before before steps r f may = let few = may.few in let rounds = may.rounds in omega arith
 

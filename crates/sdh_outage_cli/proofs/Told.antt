@@ -27,7 +27,7 @@ pub shown_more : (cs : List Provisioned) (items : List ListenerPair) (i : ℕ) (
 shown_more cs items i c both there here =
     (let next : i + 1 ≡ suc i = omega arith in ap (λ n. shown (take n cs) (take n items)) next) ∙ shown_suc cs items i c both there here
 
--- what is said of all of them
+-- the summary of all ports, with the two ports of one circuit more
 fold_two : (start : Summary) (outages : List Outage) (a b : Outage)
     → fold with_outage start (outages ++ a ∷ b ∷ []) ≡ with_outage (with_outage (fold with_outage start outages) a) b
 fold_two start [] a b = refl

@@ -29,7 +29,7 @@ heard_same far index port k at bt same =
     let past = delivered_same port k at bt same in
     λ i. heard far (holder_of (first i).ring.circuits.circuits index) (first i).ring.rounds (delivered_at (first i).ring port) (past i)
 
--- listeners that have come to what one course gives have come to what an equal course gives
+-- listeners in the state that one course gives are in the state that an equal course gives
 pub listening_same : (at bt : ℕ → World) (k : ℕ) (items : List ListenerPair) (streams : List StreamPair) → ((j : ℕ) → j ≤ k → at j ≡ bt j)
     → AreListening at k items streams → AreListening bt k items streams
 listening_same at bt k items streams same x =

@@ -37,8 +37,8 @@ kinds_in far whose port (suc k) at =
 abbrev pub outage_in : Customer → Whose → PortId → ℕ → (ℕ → World) → Outage
 outage_in far whose port k at = outage_of (at 0).ring.rounds (kinds_in far whose port k at)
 
--- whose bytes the ports of the circuit of this number get that aren't their own customers': it is looked for among the
--- other circuits of the course's ring
+-- for the ports of the circuit of this number: whose bytes come that aren't their own customers', among the other
+-- circuits of the course's ring
 abbrev pub whose_in : (ℕ → World) → ℕ → Whose
 whose_in at index = holder_of (at 0).ring.circuits.circuits index
 

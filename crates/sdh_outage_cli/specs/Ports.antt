@@ -1,4 +1,4 @@
--- What the listeners on a ring's ports have come to.
+-- The state of the listeners on a ring's ports.
 use Rattle.std.specs.Prelude.{ℕ, zero, suc, ◌≡◌, ◌+◌, ◌-◌, ◌^◌, ◌≤◌, Option, Some, List, [], ◌∷◌, ◌++◌, length, slice_get}
 use Rattle.sdh_circuits.specs.declared.End.{End}
 use Rattle.sdh_circuits.specs.declared.End.TheVariants.{A, B}
@@ -40,16 +40,16 @@ abbrev pub delivered_in : PortId → ℕ → (ℕ → World) → List Delivered
 delivered_in port zero at = []
 delivered_in port (suc k) at = delivered_at (at (suc k)).ring port ∷ delivered_in port k at
 
--- what a listener on a port has come to in these rounds, which it began with what the port delivered before them
+-- the state of a listener on a port after these rounds, which it began with what the port delivered before them
 abbrev pub heard_in : Customer → Whose → PortId → ℕ → (ℕ → World) → Heard
 heard_in far whose port k at = heard far whose (at 0).ring.rounds (delivered_at (at 0).ring port) (delivered_in port k at)
 
--- the listeners on both ports of a circuit have come to this in these rounds
+-- the listeners on both ports of a circuit are in the state that the first k rounds of a course give
 pub record IsListening (k : ℕ) (at : ℕ → World) (c : Provisioned) (index : ℕ) (both : ListenerPair) : Type 0 where
   pub at_a : both.a ≡ heard_in c.b (whose_in at index) (port_id index A) k at
   pub at_b : both.b ≡ heard_in c.a (whose_in at index) (port_id index B) k at
 
--- the listeners of all circuits have come to this in these rounds
+-- the listeners of all circuits are in the state that the first k rounds of a course give
 pub record AreListening (at : ℕ → World) (k : ℕ) (items : List ListenerPair) (streams : List StreamPair) : Type 0 where
   pub few : (at 0).ring.rounds ≤ 2 ^ 31
   pub many : length items ≡ length (at k).ring.circuits.circuits

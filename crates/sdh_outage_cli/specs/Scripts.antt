@@ -1,4 +1,4 @@
--- What comes of a script whose outages are listed. A settle step has no more rounds after its quiet window (`behind`).
+-- What comes of a script whose outages are listed. No round is run after a settle step (`behind` is 0).
 use Rattle.sdh_node.specs.Node.{Node}
 use Rattle.sdh_node.specs.Stations.{adm}
 use Rattle.sdh_scripts.specs.Walks.{Walk}

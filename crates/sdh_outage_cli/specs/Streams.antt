@@ -57,7 +57,7 @@ abbrev pub AreEarly : List StreamPair → Type 0
 AreEarly streams = (i : ℕ) (pair : StreamPair) → slice_get streams i ≡ Some pair
     → (pair.a.round ≤ 2 ^ 31 + 65536) × (pair.b.round ≤ 2 ^ 31 + 65536)
 
--- a round later
+-- the bytes that are near one round later
 pub record HaveStepped (before after : StreamPair) : Type 0 where
   pub a : after.a ≡ record before.a { round = before.a.round + 1 }
   pub b : after.b ≡ record before.b { round = before.b.round + 1 }

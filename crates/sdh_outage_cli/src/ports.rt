@@ -102,7 +102,7 @@ pub fn begin_all(ring: &Ring, items: &mut Vec<ListenerPair>)
     }
 }
 
-// Returns what the last round was to a port, whose listener keeps what was delivered in it.
+// Returns the kind of the last round for a port. The port's listener keeps what was delivered in that round.
 fn kind_at(
     listener: &mut Listener,
     ring: &Ring,

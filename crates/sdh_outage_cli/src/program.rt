@@ -20,7 +20,7 @@ use sdh_scripts::RunsPlans;
 use sdh_shell::{EndedText, ended, ended_line};
 use std::alloc::{AllocError, Global};
 
-// Returns a plan that is run.
+// Runs a plan. Returns the text of what is listed of its settle steps, with the last line, and how the run ended.
 fn ended_run<P: Plant>(
     alloc: Global,
     plan: Plan,

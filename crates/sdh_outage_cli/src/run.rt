@@ -77,15 +77,15 @@ pub fn run_plan<P: Plant>(
     requires fresh { HasNoFibres (P.fibres plant.old) }
     requires listing { MayList (length plan.circuits) listing }
 
-    // The text is what is listed of one list of settle steps. What is so of these is said over every plant, where the
-    // arrivals are known, and over honest fibres.
+    // The text is what is listed of one list of settle steps. The clause says what holds of these over every plant,
+    // where the arrivals are known, and over honest fibres.
     ensures came { IfOk result (λ run. Tells plan listing (P.fibres plant.old) run.text.bytes run.status (P.fibres plant.new)) }
 
-    // A fault has a cause, and without one a script that settles is done.
+    // A plant fault has its cause in a call that failed. Where no call fails, a script that settles is done.
     ensures failed { IfOk result (λ run. run.status ≡ Status.PlantFault → Rose (P.faults plant.old) (P.faults plant.new)) }
 
-    // Where the plant's count is exact: one call failed if the run ended with a plant fault, and none if it ended
-    // otherwise, or if memory ran out.
+    // Where the plant's count of faults is exact, one call failed if the run ended with a plant fault. None failed with
+    // any other ending, and none where memory ran out.
     ensures counted { IfOk result (λ run. IsCounted P.exact (run.status ≡ Status.PlantFault) (P.faults plant.old) (P.faults plant.new)) }
     ensures uncounted { OnErr result (P.exact ≡ true → P.faults plant.new ≡ P.faults plant.old) }
     ensures complete { IfOk result
@@ -93,7 +93,7 @@ pub fn run_plan<P: Plant>(
     ensures later { P.faults plant.old ≤ P.faults plant.new }
     ensures room { IfOk result (λ run. 96 ≤ run.text.room) }
 
-    // Without memory no fibre was made, and no round has run.
+    // Where memory ran out no fibre was made, and no round has run.
     ensures unsent { OnErr result (P.fibres plant.new ≡ P.fibres plant.old) }
 {
     sdh_owed::scripts_settle();

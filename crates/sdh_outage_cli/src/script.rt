@@ -1,4 +1,4 @@
-//! A ring that a script is run over with listeners.
+//! A ring with listeners on its ports, over which a script is run.
 ghost use Rattle.std.specs.Prelude.{length};
 ghost use Rattle.sdh_node.specs.Node.{Node as AddDrop};
 ghost use Rattle.sdh_outage_cli.specs.Outages.{Outaged};

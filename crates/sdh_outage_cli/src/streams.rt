@@ -20,8 +20,8 @@ pub struct StreamPair {
 }
 
 impl StreamPair {
-    /// Returns the kind of a round to the port at an end by its own customer's bytes; None where the port delivered
-    /// neither AIS, nor ones, nor any of these bytes. The listener keeps what was delivered.
+    /// Returns the kind of a round for the port at an end, by its own customer's bytes. Returns `None` where the port
+    /// delivered neither AIS, nor ones, nor any of these bytes. The listener keeps what was delivered.
     pub fn own_kind(
         &mut self,
         scratch: &mut Scratch,

@@ -19,10 +19,10 @@ use sdh_report::Status;
 use sdh_scripts::call;
 use std::alloc::Global;
 
-/// Does all that the program does, and returns how it ended. With the word `run` it reads a plan from the source and
-/// runs its ring over the plant; of each settle step that ends it writes, for each port, in how many of the step's
-/// rounds the port was without its own customer's bytes, and how; with `trace`, a name and `a` or `b`, from which round
-/// on this port got what. The last line says how it ended. All is written once, at the end.
+/// Does all that the program does, and returns how it ended. It reads a plan from the source and runs its ring over the
+/// plant. With the word `run` it writes of each settle step that ends in how many of the step's rounds each port was
+/// without its own customer's bytes, and how. With `trace`, a circuit's name and `a` or `b` it writes what this port
+/// got from which round on. The last line says how it ended. All is written once, at the end.
 pub fn sdhoutage<R: Source, W: Sink, P: Plant>(
     alloc: Global,
     words: &[String],
@@ -32,7 +32,7 @@ pub fn sdhoutage<R: Source, W: Sink, P: Plant>(
 ) -> Status
     requires fresh { HasNoFibres (P.fibres plant.old) }
 
-    // The status and the text that is written, for a source whose bytes are known, where it is read, and a sink that
+    // The status and the text that is written, where the bytes of a source that is read are known, and where the sink
     // shows what was written.
     ensures outcome { let ask = asked (words_of words.now) in
         let reads : Counts = record { before = R.faults source.old; after = R.faults source.new } in
@@ -50,7 +50,7 @@ pub fn sdhoutage<R: Source, W: Sink, P: Plant>(
     ensures unsettled { (ask : Ask) → asked (words_of words.now) ≡ Some ask
         → IfSome (R.left source.old) (λ bytes. EndsAsItRuns bytes (P.fibres plant.old) result) }
 
-    // Over every source, sink and plant.
+    // These clauses hold over every source, sink and plant.
     ensures usage { result ≡ Status.Usage → asked (words_of words.now) ≡ None }
     ensures usage_only { asked (words_of words.now) ≡ None
         → (result ≡ Status.Usage) ⊎ (result ≡ Status.WriteFault) ⊎ (result ≡ Status.Memory) }
@@ -59,9 +59,9 @@ pub fn sdhoutage<R: Source, W: Sink, P: Plant>(
     ensures plant_fault { result ≡ Status.PlantFault → Rose (P.faults plant.old) (P.faults plant.new) }
     ensures write_fault { result ≡ Status.WriteFault → Rose (W.faults sink.old) (W.faults sink.new) }
 
-    // Where an object's count is exact, each of its calls that failed is reported by its fault, and none is tried
-    // again; a write fault may stand in place of what was to be reported. With TooLong, one byte more was taken
-    // from the source than a plan may have.
+    // Where the count of faults of a source, sink or plant is exact, each of its calls that failed is reported by its
+    // fault, and none is tried again. A write fault may stand in place of what was to be reported. With TooLong, one
+    // byte more was taken from the source than a plan may have.
     ensures came { let reads : Counts = record { before = R.faults source.old; after = R.faults source.new } in
         let calls : Counts = record { before = P.faults plant.old; after = P.faults plant.new } in
         (how : Status) × ((result ≡ how) ⊎ (result ≡ Status.WriteFault))
@@ -73,7 +73,7 @@ pub fn sdhoutage<R: Source, W: Sink, P: Plant>(
     ensures later { (R.faults source.old ≤ R.faults source.new) × (W.faults sink.old ≤ W.faults sink.new)
         × (P.faults plant.old ≤ P.faults plant.new) }
 
-    // With all that a run needs, and no fault, everything is done, or there is no memory.
+    // Where all that a run needs is given and no call fails, everything is done, or memory runs out.
     ensures complete { (ask : Ask) → asked (words_of words.now) ≡ Some ask
         → MayBeDone listening ask (R.left source.old) (P.fibres plant.old) → ¬ (Rose (R.faults source.old) (R.faults source.new))
         → ¬ (Rose (W.faults sink.old) (W.faults sink.new)) → ¬ (Rose (P.faults plant.old) (P.faults plant.new))

@@ -50,13 +50,13 @@ happens_then : (ss later : List Stretch) (w : World) → MayHappen w ss → MayH
 happens_then [] later w may then = then
 happens_then (s ∷ ss) later w may then = (may.0, happens_then ss later (after_stretch s w) may.1 then)
 
--- the last of some may have any number of rounds
+-- where stretches may happen, they may also happen up to one of them with any number of rounds
 happens_cut : (ss : List Stretch) (last : Stretch) (later : List Stretch) (k : ℕ) (w : World) → MayHappen w (ss ++ last ∷ later)
     → MayHappen w (ss ++ stretch last.changes k ∷ [])
 happens_cut [] last later k w may = (may.0, tt)
 happens_cut (s ∷ ss) last later k w may = (may.0, happens_cut ss last later k (after_stretch s w) may.1)
 
--- the first of some ends with a window, and so do those after it
+-- stretches end quietly if the first of them ends with a window and those after it end quietly
 ends_quietly : (s : Stretch) (w : World) (ss : List Stretch) → EndsWindow (course (all_changed s.changes w)) s.rounds
     → EndQuietly (after_stretch s w) ss → EndQuietly w (s ∷ ss)
 ends_quietly s w [] window behind = tt
@@ -95,7 +95,7 @@ refused_leaves : (s : Step) (w : World) (reports : List Report) (end : Status) (
 refused_leaves (step.Fibre e) w reports end left x = x.0
 refused_leaves s w reports end left x = absurd x
 
--- a condition among some changes is among more
+-- changes that hold a condition still hold it with more changes after them
 condition_more : (cs ds : List Change) → HaveCondition cs → HaveCondition (cs ++ ds)
 condition_more [] ds h = absurd h
 condition_more (change.Fibre p d condition ∷ cs) ds h = tt
@@ -116,7 +116,7 @@ more_so : (cs ds : List Change) (ran : ℕ) → (ran ≡ 0) ⊎ HaveCondition cs
 more_so cs ds ran (inl none) = inl none
 more_so cs ds ran (inr h) = inr (condition_more cs ds h)
 
--- where a fault ended the script and the plant may have refused a condition nothing has to have run
+-- a fault may end the script without any stretch, if no round had run or the plant may have refused a condition
 none_through : (n limit ran : ℕ) (changes : List Change) (steps : List Step) (end : Status) → end ≡ status.PlantFault
     → (ran ≡ 0) ⊎ HaveCondition changes → WentThrough n limit ran (scenes changes steps) [] end []
 none_through n limit ran changes [] end is h = (refl, refl)
@@ -184,7 +184,7 @@ module _ (s : Settings) (ids : List ℕ) (circuits : Provisioning) (f : Fibres) 
     knows : Knows w.fibres
     knows = inl (whole s ids circuits f may past earlier changes w h).paired.honest.honest
 
-    -- `k` rounds from there on
+    -- `k` rounds after the changes are the stretch of these changes with `k` rounds
     after_rounds : (k : ℕ) → run k w ≡ after_stretches (earlier ++ stretch changes k ∷ []) from
     after_rounds k = ap (run k) h.is ∙ sym (after_last earlier (stretch changes k) from)
 

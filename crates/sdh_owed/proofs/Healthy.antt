@@ -42,7 +42,7 @@ use Rattle.sdh_circuits.specs.Provisioned.{customer_at}
 use Rattle.sdh_node.specs.Stations.{adm}
 use Rattle.sdh_rounds.specs.Runs as any_run
 
--- one number of rounds
+-- a step settles in one number of rounds
 same_rounds : (o : Option ℕ) (k m : ℕ) → o ≡ Some k → o ≡ Some m → k ≡ m
 same_rounds (Some n) k m a b = grind arith
 same_rounds None k m a b = grind arith
@@ -74,7 +74,7 @@ module _ (settle : HealthyStepsSettle) (deliver : HealthyStepsDeliver) (s : Sett
       same_rounds (settles_in (run (128 * before + 1) from) limit) k 128 e
       (ap (λ w. settles_in w limit) (sym (steps_are.left before some)) ∙ steps_are.later limit before (omega arith) some)
 
-  -- how many rounds the next step runs
+  -- the next step ends with round 128 (before + 1)
   next : (before m k : ℕ) → Reached before m → settles_in (run m from) limit ≡ Some k → (k + m ≡ 128 * (before + 1) + 1) × (129 ≤ limit)
   unfolding any_run.run
   next before m k (inl h) e = let there : settles_in from limit ≡ Some k = ap (λ j. settles_in (run j from) limit) (sym h.1) ∙ e in let r =

@@ -31,7 +31,7 @@ use Rattle.sdh_owed.specs.Laws.{ring_by, ReportsAreOwed}
 use Rattle.sdh_owed.proofs.Standing.{Stands, layout_is, changed_then, stretch_to, Ended, settled_then, stands_new}
 use Rattle.sdh_owed.proofs.Ports.{owed_now}
 
--- no report shows nothing wrong, after a fault
+-- after a fault no more reports are owed
 pub owed_none : (l : Ring) (limit : ℕ) (earlier : List Stretch) (before : ℕ) (later : List (List Change)) (end : Status)
     → end ≡ status.PlantFault → AreOwed l limit earlier before later [] end
 owed_none l limit earlier before [] end h = (refl, inr h)

@@ -66,7 +66,7 @@ longest_later most (change.Hold p turns) later long = (let less = le-max_right t
 longest_later most (change.Slip port turn count) later long = long
 longest_later most (change.Now t) later long = long
 
--- none for longer than the longest hold among some changes
+-- changes hold no controller for longer than the longest hold among them
 pub held_by_all : (most : ℕ) (cs : List Change) (w : World) → longest_hold cs ≤ most → AreHeldFor most w → AreHeldFor most (all_changed cs w)
 held_by_all most [] w long few = few
 held_by_all most (c ∷ cs) w long few =

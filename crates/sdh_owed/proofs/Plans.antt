@@ -23,6 +23,6 @@ adm_new = record {
 pub may_start : (plan : Planned) (f : Fibres) → IsPlanned plan → IsHonest f → MayStart plan.settings plan.nodes f
 may_start plan f fits honest = record { ids_ok = fits.nodes_fit; honest = honest; least = fits.threshold_from_1 }
 
--- its circuits fit it
+-- a plan's circuits fit the plan's ring
 pub circuits_fit : (plan : Planned) → IsPlanned plan → HasCircuits (layout_in (new_ring_of plan))
 circuits_fit plan fits = circuits_are (provisioning_of plan) plan.nodes fits.circuits_fit (circuits_keep_the_ring plan)

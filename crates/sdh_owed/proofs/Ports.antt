@@ -45,12 +45,12 @@ sends_told customer history small =
 abbrev other_of : ℕ → End → PortId
 other_of index e = record { circuit = index; end = other_end e }
 
--- its offset is that of its customer
+-- the offset of the other port is that of its customer
 offset_is : (circuits : List Provisioned) (index : ℕ) (c : Provisioned) (e : End) → slice_get circuits index ≡ Some c
     → offset_of circuits (other_of index e) ≡ (customer_at c (other_end e)).offset
 offset_is circuits index c e get = ap (λ o. option_map_or (λ (d : Provisioned). (customer_at d (other_end e)).offset) o 0) get
 
--- a port is owed by the clocks of a run what it is owed by what happened
+-- what a port is owed by the clocks of a run equals what it is owed by what happened
 pub due_told : (n : ℕ) (applied : ℕ → Bool) (circuits : List Provisioned) (ss : List Stretch) (index : ℕ) (c : Provisioned) (e : End)
     (t : ℕ) → slice_get circuits index ≡ Some c → (customer_at c (other_end e)).offset ≤ 782
     → due_by_clocks n applied c e (clocks_by circuits ss (other_of index e)) t
@@ -87,7 +87,7 @@ ports_are r n applied before t index (c ∷ cs) h =
     let next : index + suc k ≡ index + 1 + k = omega arith in
     subst (Shows d e) next (h (suc k) d get e))))
 
--- the report of a ring that is restored by the clocks of a run shows what is owed by what happened
+-- the report of a ring that is restored under the clocks of a run shows what is owed under what happened
 pub owed_now : (ss : List Stretch) (w : World) (number : ℕ) (requests : List ℕ) → HasCircuits (layout_of w)
     → IsRestored (clocks_by w.ring.circuits.circuits ss) w requests
     → IsOwed (length w.ring.ids) requests (happened ss) w.ring.circuits.circuits (ports_of (report_of number w.ring))

@@ -44,7 +44,7 @@ use Rattle.sdh_owed.specs.Course.{stretch, SlipsNone, SlipNone, IsLate, ShowsWha
 use Rattle.sdh_owed.proofs.Ports.{owed_now}
 use Rattle.sdh_owed.proofs.Standing.{Begins, waiting_waits}
 
--- the laws that it follows from
+-- the laws from which it follows that each port soon has what it is owed
 pub record RestoredSoon : Type 0 where
   pub stretches : StretchesAreRestoredSoon
   pub free : FreeRingsAreRestoredSoon
@@ -70,7 +70,7 @@ ready_new s ids circuits f = record {
   none = each_new (λ p n. NoneWait n.ports) s ids circuits.circuits (λ p low. new_unslipped s ids circuits.circuits p);
 }
 
--- changes that hold none
+-- changes that hold no controller leave none held
 free_changed : (c : Change) (w : World) → HoldsNone c → NoneHeld w → NoneHeld (changed c w)
 unfolding changed
 free_changed (change.Fibre p d condition) w none free = free
@@ -109,7 +109,7 @@ unslipped_all (c ∷ cs) w none all = unslipped_all cs (changed c w) none.1 (uns
 
 -- ---- stretches that ended with quiet windows
 
--- each has enough rounds that no held turn is left, and no slip
+-- each of these stretches has at least 100 rounds, which use up all held turns and all slips
 abbrev AllLong : List Stretch → Type 0
 AllLong [] = Unit {0}
 AllLong (s ∷ ss) = (100 ≤ s.rounds) × AllLong ss
@@ -138,7 +138,7 @@ long_front (s ∷ r ∷ earlier) last more w two begins quiet = (
   long_front (r ∷ earlier) last more (after_stretch s w) (omega (arith, size s w two begins quiet.0, two)) (inr quiet.0.place) quiet.1,
 )
 
--- after them no controller is held and no slip waits
+-- after stretches of at least 100 rounds no controller is held and no slip waits
 ready_after : (ss : List Stretch) (w : World) → IsWhole w → MayHappen w ss → AllLong ss → IsReady w → IsReady (after_stretches ss w)
 ready_after [] w whole may long ready = ready
 ready_after (s ∷ ss) w whole may long ready =

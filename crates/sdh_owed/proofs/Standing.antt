@@ -97,7 +97,7 @@ true_false e = cc
 abbrev pub WaitAtMost : World → (PortId → ℕ) → Type 0
 WaitAtMost w slips = (port : PortId) → waiting_at w.ring port ≤ slips port
 
--- slips that wait at a clock, and the count of those that a port was given, after `count` more at some port
+-- `slips` still bounds the slips that wait at a port's clock, once `count` more were added at some port
 slips_grow : (port other : PortId) (turn : Turn) (count : ℕ) (slips : PortId → ℕ) (c : Clock) → waiting c ≤ slips port
     → waiting (if same_port port other then with_waiting turn count c else c) ≤ more_slips other count slips port
 slips_grow port other turn count slips c few = by (same_port port other)
@@ -106,12 +106,12 @@ slips_grow port other turn count slips c few = by (same_port port other)
     by true = omega (arith, waiting_waits turn count c, few)
     by false = few
 
--- after a change that gives no port slips
+-- the bounds stay the same over a change that adds no slips
 few_same : (c : Change) (w : World) (slips : PortId → ℕ) → ((port : PortId)
     → clock_after port c (clock_at w.ring port) ≡ clock_at w.ring port) → WaitAtMost w slips → WaitAtMost (changed c w) slips
 few_same c w slips same few port = omega (arith, waits_changed c w port, ap (λ (x : Clock). waiting x) (same port), few port)
 
--- after any step but a settle step
+-- no more slips wait than `slips` gives after any step but a settle step either
 pub few_after : (this : Step) (past : Past) (w : World) → is_settle this ≡ false → WaitAtMost w past.slips
     → WaitAtMost (after_step this w) (after past this).slips
 few_after (step.Fibre e) past w other few = few_same (change.Fibre e.at.0 e.side e.condition) w past.slips (λ port. refl) few
@@ -196,7 +196,7 @@ module _ (s : Settings) (ids : List ℕ) (circuits : Provisioning) (f : Fibres) 
 
     -- ---- a settle step
 
-    -- the stretch of one that left this world
+    -- the stretch of the settle step that left this world
     abbrev pub stretch_to : World → Stretch
     stretch_to mid = record { changes = changes; rounds = mid.ring.rounds - 1 + 1 - rounds_in earlier }
 

@@ -33,7 +33,7 @@ use Rattle.sdh_node.specs.Stations.{adm}
 
 -- ---- fewer slips
 
--- a past that is another's, with no more settle steps and slips
+-- past a has the moment of past b, and no more settle steps and slips
 pub record IsLess (a b : Past) : Type 0 where
   pub moment : a.moment ≡ b.moment
   pub settles : a.settles ≤ b.settles
@@ -147,7 +147,7 @@ next_by each before k w left held most begins none prepared later h =
 
 -- ---- any other step
 
--- a step can be done by itself, as in a script's beginning
+-- the next step of a script may also be done alone, as if no settle step had ended before
 pub alone : (each before : ℕ) (s : Step) (later : List Step) (r : HeldRing) (f : Fibres) → MayRun each before (s ∷ later) r f
     → AreSteps r.settings.rate (length r.ids) (length r.circuits.circuits) (past_of 0 r) (s ∷ [])
 alone each before s later r f may =
@@ -159,7 +159,7 @@ alone each before s later r f may =
     steps_less r.settings.rate (length r.ids) (length r.circuits.circuits) (s ∷ []) (past_of 0 r) (past_of before r) less
     (may.steps_fit.0, tt)
 
--- the past that it leads to, by what waits then
+-- the past after a step bounds the slips that wait then
 few_now : (before : ℕ) (s : Step) (w : World) → is_settle s ≡ false → WaitAtMost (after_step s w) (after (past_of before w.ring) s).slips
 few_now before s w other = few_after s (past_of before w.ring) w other (λ port. omega arith)
 

@@ -69,13 +69,13 @@ clock_from first clocks port r high =
     let b : nat_lt r first ≡ false = grind (arith, nat_tests) in
     ap (λ (x : Bool). if x then clocks port first else clocks port r) b
 
--- these clocks are a ring's from then on
+-- from round `first` on these clocks are those of the ring
 tells_since : (first : ℕ) (clocks : PortId → ℕ → Clock) (r : HeldRing) → first ≤ r.rounds → AreClocksOf clocks r
     → AreClocksOf (clocks_since first clocks) r
 tells_since first clocks r late told i c get e =
     told i c get e ∙ sym (clock_from first clocks (port_id i e) r.rounds late)
 
--- what was put in by one of these clocks was put in since then
+-- what was put in under one of these clocks was put in from round `first` on
 module _ (circuits : List Provisioned) (clocks : PortId → ℕ → Clock) (first t : ℕ) (late : (first ≡ 0) ⊎ (first < t)) where
   put_at : (port : PortId) (a : Au) (c : Provisioned) (r : ℕ) → slice_get circuits port.circuit ≡ Some c → r < t → (first ≡ 0) ⊎ (first < t)
       → HasBytesOf (put_by (customer_at c port.end) (clocks_since first clocks port r)) a → HoldsSince circuits clocks first t port a
@@ -98,7 +98,7 @@ module _ (circuits : List Provisioned) (clocks : PortId → ℕ → Clock) (firs
   meets_since port o (owner.ais_comes is) = since.ais_comes is
   meets_since port o (owner.bytes_come value form a is own) = since.bytes_come value form a is (holds_since (other_port port) a own)
 
--- in a ring's last round
+-- no port met a stranger in the ring's last round, nor bytes from before round `first`
 none_since : (first : ℕ) (clocks : PortId → ℕ → Clock) (r : HeldRing) → (first ≡ 0) ⊎ (first < r.rounds - 1)
     → NoneMeetsAStranger (clocks_since first clocks) r → NoneMeetsAStrangerSince first clocks r
 none_since first clocks r late none i c get e =
@@ -122,7 +122,7 @@ none_longer : (a b : ℕ) (clocks : PortId → ℕ → Clock) (r : HeldRing) →
 none_longer a b clocks r less none i c get e =
     meets_longer r.circuits.circuits clocks a b (r.rounds - 1) (port_id i e) (outlet_at r (port_id i e)) less (none i c get e)
 
--- since the first one
+-- bytes from any earlier round are bytes from round 0 on
 from_first : (clocks : PortId → ℕ → Clock) (r : HeldRing) → NoneMeetsAStranger clocks r → NoneMeetsAStrangerSince 0 clocks r
 from_first clocks r none i c get e = meets (port_id i e) (outlet_at r (port_id i e)) (none i c get e)
   where
@@ -138,7 +138,7 @@ from_first clocks r none i c get e = meets (port_id i e) (outlet_at r (port_id i
 
 -- ---- stretches
 
--- the last of some
+-- stretches that aren't empty end with a last one
 snoc : (x : Stretch) (xs : List Stretch) → (before : List Stretch) × (last : Stretch) × (x ∷ xs ≡ before ++ last ∷ [])
 snoc x [] = ([], x, refl)
 snoc x (y ∷ xs) = (let parted = snoc y xs in (x ∷ parted.0, parted.1, ap (λ ss. x ∷ ss) parted.2))
@@ -317,7 +317,7 @@ module _ (s : Settings) (ids : List ℕ) (circuits : Provisioning) (f : Fibres) 
     long_prev : 3 * n ≤ prev.rounds
     long_prev = omega (arith, window_prev.long, size_prev prev.rounds)
 
-    -- where the window_prev begins
+    -- the round with which the quiet window of the stretch before begins
     abbrev lead : ℕ
     lead = prev.rounds - 3 * n
 
@@ -362,7 +362,7 @@ module _ (s : Settings) (ids : List ℕ) (circuits : Provisioning) (f : Fibres) 
     shields_next =
         subst (AllShielded known_next) until_now (window_shields known_next law opened form_then whole_then (3 * n) window_then told_then)
 
-    -- the rounds after it
+    -- the world in which the rounds after the changes of the next stretch begin
     abbrev start : World
     start = all_changed next.changes closed
 

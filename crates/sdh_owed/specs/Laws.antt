@@ -1,4 +1,4 @@
--- The laws of scripts.
+-- The laws of scripts over honest fibres: what their reports show, and when they settle.
 use Rattle.std.specs.Prelude.{ℕ, ◌≤◌, List, [], length, map}
 use Rattle.sdh_circuits.specs.Provisioned.{Provisioned}
 use Rattle.sdh_circuits.specs.Provisioning.{Provisioning}
@@ -22,7 +22,7 @@ use Rattle.sdh_promise.specs.Owed.{Ring, AreOwed}
 use Rattle.sdh_promise.specs.Plans.{ports_of}
 use Rattle.sdh_owed.specs.Healthy.{AllSettle, IsHealthy}
 
--- what of a ring of n with these settings and circuits decides what its reports owe
+-- the part of a ring of n, with these settings and circuits, that decides what its reports owe
 abbrev pub ring_by : Settings → ℕ → List Provisioned → Ring
 ring_by s n circuits = record { nodes = n; threshold = s.threshold; wait = s.wait; circuits = circuits }
 

@@ -56,7 +56,7 @@ pub usage_is : (words : List (List ℕ)) (s : Status) (text : List ℕ) → (¬ 
     → text ≡ own_line (codes "usage: sdhretime DIGITS") → IsOutcome words [] s text
 usage_is words s text other is line = subst (λ (how : Status). IsOutcome words [] how text) (sym is) (other, line)
 
--- there was no memory, and no read failed
+-- memory ran out, and no read failed
 pub came_without : (exact : Bool) (before after : ℕ) (left now : Option (List ℕ)) → (exact ≡ true → after ≡ before)
     → CameTo exact before after left now status.Memory
 came_without exact before after left now same =

@@ -8,7 +8,7 @@ use Rattle.sdh_pointer.specs.declared.reading.Action.{Action}
 use Rattle.sdh_pointer.specs.declared.reading.Action.TheVariants.{Normal, New, Up, Down, Ais}
 use Rattle.sdh_retime_cli.specs.Lines.{action_word, turn_line, given_line, left_line, drift_line}
 
--- a number of a u64
+-- a number of 64 bits has at most 20 digits
 short : (n : ℕ) → n < 2 ^ 64 → length (decimal n) ≤ 20
 short n h = length-decimal-le 20 n (omega arith) (omega arith) h
 

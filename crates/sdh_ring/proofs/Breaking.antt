@@ -53,12 +53,12 @@ found_among id ns p = by (slice_get ns p) ∙ sym (ap (option_and_then (port_of 
     by None = refl
     by (Some n) = refl
 
--- where no port has changed
+-- a port is found as before where no node's ports have changed
 found_same : (id : PortId) (ns ms : List Node) (p : ℕ) → map ports_of ms ≡ map ports_of ns → port_at id ns p ≡ port_at id ms p
 found_same id ns ms p same =
     found_among id ns p ∙ ap (λ l. option_and_then (port_of id) (slice_get l p)) (sym same) ∙ sym (found_among id ms p)
 
--- its clock has gone on by a round at one of the first k
+-- the port's clock has gone on by one round, if the port's node is one of the first k
 abbrev Goes : PortId → ℕ → List Node → List Node → ℕ → Type 0
 Goes id k ns ms p = Follows (ticks (if nat_lt p k then 0 + 1 else 0)) (port_at id ns p) (port_at id ms p)
 
@@ -93,7 +93,7 @@ went_on r ns b k size goes = λ port there.
     subst (λ q. IsSome (port_at port ns q) × (clock_of (port_at port ns q) ≡ ticks (if nat_lt p k then 0 + 1 else 0) (clock_at r port)))
     (sym place) (goes port p there)
 
--- a fault
+-- what a round that a fault broke off leaves of the clocks
 pub breaks_clocks : (w left : World) → breaking.BreaksRound adm w left → BreaksRound w left
 breaks_clocks w left b =
     let r = w.ring in
@@ -126,7 +126,7 @@ place_run rounds w port =
     ∙ ap (λ n. option_map_or (λ (c : Provisioned). (end_of c port.end).0) (slice_get w.ring.circuits.circuits port.circuit) n)
     (runs_keep adm rounds w).0.size
 
--- after whole rounds
+-- a port's clock after whole rounds
 pub went_by : (rounds : List (List Arrival)) (w left : World) (port : PortId) → left ≡ run_with rounds w → HasPortIn w.ring port
     → clock_at left.ring port ≡ clocks_from w port left.ring.rounds
 went_by rounds w left port is there =

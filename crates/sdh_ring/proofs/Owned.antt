@@ -35,7 +35,7 @@ place_at : (r : HeldRing) (id : PortId) (c : Provisioned) → slice_get r.circui
 unfolding place_of_port
 place_at r id c is = ap (λ o. option_map_or (λ (c : Provisioned). (end_of c id.end).0) o (length r.nodes)) is
 
--- the place of its node, and that it is there
+-- the port is at the node in this place, and the ring has that node
 pub record IsOwned (r : HeldRing) (id : PortId) (p : ℕ) : Type 0 where
   pub place : p ≡ place_of_port r id
   pub inside : p < length r.nodes

@@ -64,7 +64,7 @@ ring_later r m h later within = ring_with r r.nodes m r.rounds r.broken h refl w
 
 -- ---- a new ring
 
--- is that of any kind
+-- a new ring is a new ring as `sdh_rounds` defines it for any kind of node
 pub fresh_is : (s : Settings) (ids : List ℕ) (circuits : Provisioning) → held.new_ring adm s ids circuits ≡ new_ring s ids circuits
 unfolding new_nodes
 fresh_is s ids circuits = refl
@@ -105,7 +105,7 @@ ring_broke w left h b =
     subst IsRing (sym b.ring)
     (ring_with r left.ring.nodes r.moment r.rounds true h (broke_fixed w left b) h.moment (λ e. true_is_not_false e))
 
--- whatever it answered
+-- a ring stays one over a round, whatever the round answered
 pub ring_after : (exact : Bool) (w left : World) (before after : ℕ) (result : Result (Unit {0}) Fault) → IsRing w.ring
     → w.ring.broken ≡ false → IsOneRound adm exact w result left before after → IsRing left.ring
 ring_after exact w left before after (Ok u) h whole one = ring_ran w left h whole one.ok

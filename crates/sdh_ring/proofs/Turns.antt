@@ -21,7 +21,7 @@ held_more from now after w k held is r =
     ∙ ap (λ n. record from { nodes = after.ring.nodes; rounds = n })
     (let e : from.rounds + k + 1 ≡ from.rounds + (k + 1) = omega arith in e)
 
--- fibres that were just prepared are so for the ring
+-- fibres that were just prepared with the ring's rate and size are prepared for the ring
 pub prepared_for : (rate its_rate : Rate) (n nodes : ℕ) (f now : Fibres) → 2 ≤ n → n ≤ 16 → now ≡ prepared rate n f → rate ≡ its_rate
     → n ≡ nodes → IsPrepared its_rate nodes now
 prepared_for rate its_rate n nodes f now enough few laid same size =

@@ -1,4 +1,4 @@
--- What is so of an answer, from others that are.
+-- What holds of one result, by what holds of others.
 use Rattle.std.proofs.Common.{◌≡◌, arith}
 use Rattle.std.specs.Prelude.{Result, Ok, Err, IfOk, OnErr}
 

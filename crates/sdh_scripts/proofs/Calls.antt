@@ -47,7 +47,7 @@ module _ {E : Type 0} (endings : Endings E) where
   pub fault_ok : endings.of status.WriteFault ≢ endings.of status.Ok
   fault_ok = no_fault status.Ok (λ e. grind arith)
 
-  -- a write fault goes with a front of a text
+  -- after a write fault only the front of a text was written
   pub fault_front : telling_in endings (endings.of status.WriteFault) ≡ Front
   fault_front = ap telling_if (endings.shared_of status.WriteFault)
 
@@ -70,7 +70,7 @@ module _ {A L T E : Type 0} (program : Program A L T E) where
       by None y = y.2.3
       by (Some plan) y = y.3
 
-  -- and what it wrote is written at an end
+  -- what a program wrote whose runs are never cut off is written at an end
   pub wrote_at_end : (asked : Option A) (source : Option (List ℕ)) (f left : Fibres) (reads calls : Counts) (how : E) (old new : Option (List ℕ))
       → IfSome (told program asked source) (λ bytes. TellsWith program.endings
       (λ h text. MayEnd program asked bytes f reads calls h text left)
@@ -419,7 +419,7 @@ module _ {E : Type 0} (own its : Endings E) (same : own ≡ its) where
       wrote_as said (own.of s) text (own.line (own.of s)) end old new (as_given ∙ is)
       (line ∙ ap (λ l. l ++ its.line given) empty ∙ ap (λ (e : Endings E). e.line given) (sym same) ∙ ap own.line is) x
 
--- the words' answer is that of what they ask for
+-- an answer to `a` is an answer to what is equal to `a`
 pub asked_answer : {A L T E : Type 0} (program : Program A L T E) (Cut : CutRun T) (a b : Option A) (seen : Seen) (end : E)
     (old new : Option (List ℕ)) → a ≡ b → IsAnswer program Cut a seen end old new → IsAnswer program Cut b seen end old new
 asked_answer program Cut a b seen end old new is x = subst (λ o. IsAnswer program Cut o seen end old new) is x

@@ -1,4 +1,4 @@
--- What is done with a plan, where it is run or has no such port; and what its run comes to.
+-- What is done with a plan that is run, or that has no such port; and what its run comes to.
 use Rattle.std.proofs.Common.{◌≡◌, ℕ, None, Some, List, ◌++◌, ap, sym, ◌∙◌, arith}
 use Rattle.std.specs.Prelude.{Option}
 use Rattle.std.specs.List.{flat_map}
@@ -13,7 +13,7 @@ use Rattle.sdh_scripts.proofs.Plans.{ends_of}
 
 -- ---- what is listed
 
--- no text is written of it alone
+-- where a plan is listed or refused, no text is written of it alone
 pub listing_writes : {L : Type 0} (o : Option L) (told : List ℕ) → Writes told ≡ deed_listing o → ⊥
 listing_writes None told e = grind arith
 listing_writes (Some listing) told e = grind arith

@@ -147,7 +147,7 @@ module _ {N : Type 0} (st : Station N) where
         ++ take out (frames_with st (arrivals_of (run st j w)) (run st j w))) left
     pub few : out < 2 * length w.ring.ids
 
-  -- there are no fewer in that round
+  -- a round has at least as many frames as were sent of it
   pub small_of : (w : World N) (j out : ℕ) → length w.ring.nodes ≡ length w.ring.ids → out < 2 * length w.ring.ids
       → out ≤ length (frames_with st (arrivals_of (run st j w)) (run st j w))
   small_of w j out size few = omega (arith, few, length-one (arrivals_of (run st j w)) (run st j w), (left_run j w).nodes, size)

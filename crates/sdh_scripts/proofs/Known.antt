@@ -1,4 +1,4 @@
--- Where arrivals are known, what comes of a script is determined, and after a fault it is the front of that.
+-- Where arrivals are known they determine what comes of a script; after a fault the front of that came.
 use Rattle.std.proofs.Common.{◌≡◌, ◌⊎◌, ℕ, ◌+◌, ◌-◌, ◌*◌, ◌<◌, ◌≤◌, Bool, true, false, None, Some, List, [], ◌∷◌, ◌++◌, length, take, refl}
 use Rattle.std.proofs.Common.{ap, sym, ◌∙◌, subst, arith, inl, inr, append-nil}
 use Rattle.std.specs.Prelude.{Option, option_map, nat_le, if◌then◌else◌}
@@ -28,8 +28,8 @@ use Rattle.sdh_scripts.specs.Laws.{KeepsRounds, KnownScripts}
 use Rattle.sdh_scripts.proofs.Frames.{more_of, grows, take_past, appended, none_appended, left_run, frames_sent, knows_after, length-all}
 use Rattle.sdh_scripts.proofs.Frames.{front, run_on, arrive_on, IsSentTo, small_of, sent_to}
 
--- a script that came to this, or was cut short, in a world that is as another but for the conditions, commands and
--- moment
+-- a script from world w came to all of `a`, or a fault broke it off; `before` frames had been sent in the rounds
+-- before it
 abbrev Came : {N T : Type 0} → Walk N T → Ran N T → ℕ → ℕ → World N → List T → Status → World N → Type 0
 Came walk a n before w reports end left = IsRan a reports end left ⊎ ((end ≡ status.PlantFault) × IsCutShort walk a n before w reports left)
 
@@ -63,7 +63,7 @@ module _ {N T : Type 0} (walk : Walk N T) (law : KeepsRounds walk) where
   abbrev of_step : ℕ → ℕ → World N → T
   of_step number k w = walk.tells number (course st w) k
 
-  -- the number of rounds that run then
+  -- the number of rounds of a settle step that ends with its k-th round, and of those after it
   abbrev whole : ℕ → ℕ
   whole k = k + walk.behind
 
@@ -74,7 +74,7 @@ module _ {N T : Type 0} (walk : Walk N T) (law : KeepsRounds walk) where
     left_is : left ≡ run st (whole rounds) w
     told_is : told ≡ of_step number rounds w
 
-  -- its rounds, and those after it
+  -- the rounds of a settle step that ended, and those after it
   module _ (w : World N) (limit : ℕ) (mid : World N) (knows : Knows w.fibres) (s : Settles st w limit mid) (behind : List (List Arrival))
       (arrive : ArriveIn st behind mid) where
     all : List (List Arrival)
@@ -92,7 +92,7 @@ module _ {N T : Type 0} (walk : Walk N T) (law : KeepsRounds walk) where
         ∙ ap (course_with st (s.rounds ++ behind) w) (length-append s.rounds behind)
         ∙ same_all (length s.rounds + length behind) (omega arith)
 
-    -- a settle step ends with as many rounds as are known
+    -- a settle step that leaves the world after k known rounds ran k rounds
     count_all : (k : ℕ) → mid ≡ run st k w → k ≡ length s.rounds
     count_all k there =
         let held = ap (λ (r : HeldRing N). r.rounds) (held_run st s.rounds w) in
@@ -189,7 +189,7 @@ module _ {N T : Type 0} (walk : Walk N T) (law : KeepsRounds walk) where
       let last : walk.last (of_step number k w) ≡ (run st k w).ring.rounds - 1 = law.last number (course st w) k in
       omega (arith, long, same, some, last, (left_run st k w).rounds)
 
-  -- at least one round runs then
+  -- a settle step that ends runs at least one round
   some_rounds : (w : World N) (limit k : ℕ) → 1 ≤ length w.ring.ids → SettlesAt st (course st w) limit k → 1 ≤ k
   some_rounds w limit k some s =
       let long = s.window.long in
@@ -209,7 +209,7 @@ module _ {N T : Type 0} (walk : Walk N T) (law : KeepsRounds walk) where
       option_map_or (λ k. ran_settled walk k (before + 1) w (script walk limit (before + 1) later (run st (whole k) w))) o
       (ran_unsettled walk limit (before + 1) w)
 
-  -- no report of a script is sent with so few frames as rounds before had
+  -- where fewer frames were sent than the next round ends with, no report of the script is complete
   pub none_sent : (limit before n frames : ℕ) (steps : List Step) (w : World N) → 1 ≤ length w.ring.ids
       → frames < 2 * n * (w.ring.rounds + 1) → reports_within walk n frames (script walk limit before steps w).reports ≡ []
   none_sent limit before n frames [] w some low = refl

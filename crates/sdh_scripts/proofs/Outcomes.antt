@@ -21,7 +21,7 @@ pub refused_ends : {N T : Type 0} (s : Step) (w : World N) (reports : List T) (e
 refused_ends (step.Fibre e) w reports end left x = x.1
 refused_ends s w reports end left x = absurd x
 
--- an end that is no unsettled step
+-- an ending that equals a settled one is settled
 pub settled_by : (end how : Status) → end ≡ how → IsSettled how → IsSettled end
 settled_by end how is h k e = h k (sym is ∙ e)
 
@@ -68,8 +68,8 @@ module _ {N T : Type 0} (walk : Walk N T) where
   known_done r n f left reports end (inl x) done fine = x.end_is ∙ done
   known_done r n f left reports end (inr x) done fine = absurd (fine x.0)
 
-  -- where the arrivals are known, from a world in which no round has run and over fibres that report their sent frames
-  -- as those did that weren't prepared
+  -- where the arrivals are known, no round has run yet, and the prepared fibres have the sent frames of the fibres f
+  -- before they were prepared
   module _ (law : KeepsRounds walk) (limit : ℕ) (steps : List Step) (w : World N) (f : Fibres) (new : w.ring.rounds ≡ 0)
       (sent : w.fibres.sent ≡ f.sent) (some : 1 ≤ length w.ring.ids) (size : length w.ring.nodes ≡ length w.ring.ids) where
     came : (left : Fibres) (reports : List T) (end : Status) (last : World N) → last.fibres ≡ left

@@ -100,14 +100,14 @@ starts ring room MayRun run x = record {
 
 -- ---- the run of a plan
 
--- no round has run in the ring of a plan, which is of its rate and has as many nodes
+-- the ring of a plan has the plan's rate and identifiers, a node for each, and no round has run in it
 pub record IsNew {N : Type 0} (new_ring : Planned → HeldRing N) : Type 0 where
   pub rate : (plan : Planned) → (new_ring plan).settings.rate ≡ plan.settings.rate
   pub ids : (plan : Planned) → (new_ring plan).ids ≡ plan.nodes
   pub nodes : (plan : Planned) → length (new_ring plan).nodes ≡ length plan.nodes
   pub rounds : (plan : Planned) → (new_ring plan).rounds ≡ 0
 
--- what holds of its ring, its steps and fibres that are prepared for it
+-- what holds of the plan's steps, its new ring and fibres prepared for it holds of what equals these
 pub as_planned : {N : Type 0} (Holds : List Step → HeldRing N → Fibres → Type 0) (plan : Planned) (new r : HeldRing N) (rate : Rate) (n : ℕ)
     (steps : List Step) (f : Fibres) → r ≡ new → rate ≡ plan.settings.rate → n ≡ length plan.nodes → steps ≡ plan.steps
     → Holds plan.steps new (prepared plan.settings.rate (length plan.nodes) f) → Holds steps r (prepared rate n f)
@@ -137,7 +137,7 @@ module _ {N T R : Type 0} (ring : R → HeldRing N) (t : Account N T) (plan : Pl
         empty = empty;
       }
 
-  -- what it came to is what the plan's script comes to
+  -- what the run of a plan came to is what the plan's script comes to
   pub came_of : (text_of : T → List ℕ) (f left : Fibres) (text : List ℕ) (end : Status)
       → Came t.walk run.limit text_of run.steps.items (with_fibres (ring run.runner) f) f text end left
       → Came t.walk plan.limit text_of plan.steps (world_of t plan f) f text end left
@@ -159,7 +159,7 @@ module _ {N T : Type 0} (t : Account N T) (plan : Planned) (f left : Fibres) (en
       (known_comes t.walk law plan.limit plan.steps (world_of t plan f) f (new.rounds plan) refl some
       (new.nodes plan ∙ sym size) left reports end x knows)
 
-  -- whatever came over any plant settles, where what the script gave does
+  -- where each run of the script settles, so does what came over any plant
   pub settles_then : ((reports : List T) (last : World N) → Runs t.walk plan.limit 0 plan.steps (world_of t plan f) reports end last
       → IsSettled end) → (reports : List T) → Comes t plan f reports end left → IsSettled end
   settles_then law reports (inl x) = settled_by end status.PlantFault x.0 fault_settles
@@ -181,7 +181,7 @@ module _ {N T : Type 0} (t : Account N T) (plan : Planned) (f left : Fibres) (en
     };
   }
 
-  -- the ways in which it ends
+  -- the ways in which the run of a plan ends
   pub ends_of : {Owes : ReportsOwe T} (reports : List T) → IsRunOf t Owes plan f reports end left → EndsIn end
   ends_of reports x = comes_ends t.walk plan.limit plan.steps (world_of t plan f) f left reports end x.ran
 

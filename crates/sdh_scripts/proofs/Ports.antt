@@ -1,4 +1,4 @@
--- The ports of one circuit more, and ports with equal deliveries.
+-- The ports of a list of circuits and of one circuit more, and ports with equal deliveries.
 use Rattle.std.proofs.Common.{◌≡◌, ℕ, suc, ◌+◌, ◌*◌, ◌<◌, List, [], ◌∷◌, ◌++◌, length, take, Some, refl, ap, sym, ◌∙◌, arith, append-nil}
 use Rattle.std.specs.Prelude.{slice_get}
 use Rattle.std.specs.List.{flat_map}
@@ -18,7 +18,7 @@ module _ {L : Type 0} (tells : ℕ → Provisioned → End → L) where
       let next : i + 1 + length xs ≡ i + length (c ∷ xs) = omega arith in
       ap (λ l. tells i c A ∷ tells i c B ∷ l) (ports-append (i + 1) xs ys ∙ ap (λ j. of_ports tells (i + 1) xs ++ of_ports tells j ys) next)
 
-  -- two of each circuit
+  -- each circuit has two ports
   pub length-ports : (i : ℕ) (cs : List Provisioned) → length (of_ports tells i cs) ≡ 2 * length cs
   length-ports i [] = refl
   length-ports i (c ∷ cs) = omega (arith, length-ports (i + 1) cs)
@@ -31,7 +31,7 @@ module _ {L : Type 0} (tells : ℕ → Provisioned → End → L) where
       ap (of_ports tells 0) (take_more cs i c lt ∙ ap (λ x. take i cs ++ x ∷ []) (get_or_from_slice_get cs i c c get))
       ∙ ports-append 0 (take i cs) (c ∷ []) ∙ ap (λ j. of_ports tells 0 (take i cs) ++ of_ports tells j (c ∷ [])) long
 
-  -- their lines
+  -- the lines of the ports of the first circuits, and those of the next one
   pub ports_more : (line : L → List ℕ) (cs : List Provisioned) (i : ℕ) (c : Provisioned) → i < length cs → slice_get cs i ≡ Some c
       → flat_map line (of_ports tells 0 (take (i + 1) cs)) ≡ flat_map line (of_ports tells 0 (take i cs))
       ++ (line (tells i c A) ++ line (tells i c B))

@@ -20,8 +20,8 @@ use Rattle.sdh_scripts.specs.Programs.{Deed, Refuses, Writes, Runs, Closing, as_
 use Rattle.sdh_scripts.specs.Outcome.{IsRunOutcome, OfDeed, OfPlan, OfOwnPlan, MayEnd, told}
 use Rattle.sdh_scripts.specs.Headline.{is_plan_for, IsPlanFor, Shows}
 
--- what is so of a run by its plan and its ending, whatever it reports: with a limit that is always enough each step was
--- settled
+-- a run with a limit that is always enough settled each step, whatever it reports; `told` is named only to fit the
+-- form that `shows` takes
 abbrev pub SettlesLarge : (T : Type 0) → Planned → List T → Status → Type 0
 SettlesLarge T plan told how = enough_for (length plan.nodes) ≤ plan.limit → IsSettled how
 
@@ -40,7 +40,7 @@ abbrev pub NeverWrites : {A L T E : Type 0} → Program A L T E → A → Type 0
 NeverWrites program ask = (plan : Planned) (told : List ℕ) → program.Does ask plan (Writes told) → ⊥
 
 module _ {A L T E : Type 0} (program : Program A L T E) (ask : A) (f left : Fibres) where
-  -- a script came to its end: what is asked came to this with its plan
+  -- where a script came to its end, a plan came of what was asked, and this is its outcome
   of_own : (own : Option Planned) (bytes : List ℕ) (how : E) (text : List ℕ) (plan : Planned) (s : Status) → how ≡ program.endings.of s
       → HasRun s → is_plan_for own bytes plan → OfOwnPlan program ask own bytes f how text left → OfPlan program ask plan f how text left
   of_own None bytes how text plan s is h tells (inl x) =
@@ -68,7 +68,7 @@ module _ {A L T E : Type 0} (program : Program A L T E) (ask : A) (f left : Fibr
         (ran_whole program.endings how s is h) wrote in
         (w.0, of_own (program.own_plan ask) bytes how w.0 plan s is h tells w.1.0, w.2)
 
-    -- what is so of each run is shown
+    -- what holds of each run of a plan holds of the one that was shown
     pub shows : (P : Planned → List T → Status → Type 0) → RunsAlone program ask
         → ((plan : Planned) (told : List T) (end : Status) → program.IsRunOf plan f told end left → P plan told end)
         → Shows program ask P bytes how old new
@@ -83,7 +83,7 @@ module _ {A L T E : Type 0} (program : Program A L T E) (ask : A) (f left : Fibr
         let same : r.status ≡ s = one_status program.endings r.status s (sym ends ∙ is) in
         (r.told, subst (Appends old new) line w.2, so plan r.told s (subst (λ t. program.IsRunOf plan f r.told t left) same r.came))
 
-    -- what is so of runs is so of the run of a plan, where the program never writes a text of one alone
+    -- what holds of each run holds of the run that was reported, where the program never writes a text without a run
     so_of : (P : Planned → List T → Status → Type 0) → RunsAlone program ask → NeverWrites program ask
         → ((plan : Planned) (told : List T) (end : Status) → program.IsRunOf plan f told end left → P plan told end)
         → (plan : Planned) (s : Status) → IsPlanFor program ask bytes plan → how ≡ program.endings.of s → HasRun s

@@ -41,7 +41,7 @@ module _ {N T : Type 0} (walk : Walk N T) (none : walk.behind ≡ 0) where
       subst (Settles walk.station w limit) (sym (e.left_is ∙ ap (λ rs. run_with walk.station rs e.mid)
       (no_rounds e.behind (e.count ∙ none)))) e.settles
 
-  -- a fault that broke it off broke one of its own rounds off
+  -- a fault that broke a settle step off broke off one of the step's own rounds
   pub breaks_with : (limit : ℕ) (w : World N) (left : Fibres) → Breaks walk limit w left → BreaksOff walk.station w limit left
   breaks_with limit w left (inl b) = b
   breaks_with limit w left (inr b) = let few = b.few in absurd (omega (arith, none))

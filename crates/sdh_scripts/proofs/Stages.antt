@@ -21,7 +21,7 @@ use Rattle.sdh_scripts.specs.Outcome.{HasRead, LeavesPlant, reads_without, reads
 use Rattle.sdh_scripts.specs.Headline.{is_plan_for, MayGo, MayBeDone}
 
 module _ {A L T E : Type 0} (program : Program A L T E) (plan : Planned) (f left : Fibres) (how : E) (text : List ℕ) where
-  -- how it ends, whatever is done
+  -- how a deed ends, whichever it is
   deed_ends : (deed : Deed L E) → OfDeed program deed plan f how text left → EndsPlan program.endings how
   deed_ends (Refuses why) x = inr x.1
   deed_ends (Writes told) x = inl (status.Ok, x.0, tt)
@@ -118,7 +118,7 @@ module _ {A L T E : Type 0} (program : Program A L T E) (a : Option A) (source :
       told_whole program.endings (told program a source) (λ bytes how text. IsOutcome program a bytes f how text left) reads calls how text
       old new cause outcome shown appends
 
--- a program with no plan of its own reads what it is asked with
+-- a program that never has a plan of its own reads the source whenever something is asked
 pub reads_all : {A L T E : Type 0} (program : Program A L T E) → ((ask : A) → program.own_plan ask ≡ None) → (a : Option A)
     → reads_source program a ≡ is_some a
 reads_all program none None = refl

@@ -103,7 +103,7 @@ module _ {N T : Type 0} (walk : Walk N T) (limit : ℕ) (text_of : T → List �
             (x.goes (more ++ later) (b ++ rest) end last (y.goes later rest end last z)));
       }
 
-  -- what came of them
+  -- what came of the steps so far
   pub went_to : (gone : List Step) (number : ℕ) (w left : World N) (old new : Option (List ℕ))
       → (x : Went walk limit text_of 0 gone w old new number left) → Runs walk limit 0 gone w x.reports status.Ok left
   went_to gone number w left old new x =
@@ -138,7 +138,7 @@ module _ {N T : Type 0} (walk : Walk N T) (limit : ℕ) (text_of begun_of : T �
 
   -- ---- a script
 
-  -- nothing is left
+  -- no step is left: the script came to its end
   pub went_all : (i : ℕ) (steps : List Step) (number : ℕ) (w left : World N) (old new : Option (List ℕ)) → length steps ≤ i
       → Went walk limit text_of 0 (take i steps) w old new number left → Lists walk limit text_of begun_of steps w old new status.Ok left
   went_all i steps number w left old new all x = record {
@@ -208,7 +208,7 @@ module _ {N T : Type 0} (walk : Walk N T) (limit : ℕ) where
   silent_last step.Settle before w text end left x = x.1.text_is
   silent_last s before w text end left x = x.1
 
-  -- no more is written than of the reports
+  -- nothing is written after the reports
   pub silent_tail : (steps : List Step) (w : World N) (f : Fibres) (reports : List T) (tail : List ℕ) (end : Status) (left : World N)
       → IsTail walk limit (λ told. []) steps w f reports tail end left → tail ≡ []
   silent_tail steps w f reports tail end left (inl x) = x.0

@@ -19,8 +19,8 @@ is_plan_for (Some own) bytes plan = plan ≡ own
 abbrev pub IsPlanFor : {A L T E : Type 0} → Program A L T E → A → List ℕ → Planned → Type 0
 IsPlanFor program ask bytes plan = is_plan_for (program.own_plan ask) bytes plan
 
--- Where a plan is run and the run came to its end: what was written is what is listed of the settle steps' reports, and
--- the last line; and `P` holds of the plan, the reports and how the run ended.
+-- Where a plan is run and the run came to its end, the text is what is listed of the settle steps' reports, and the
+-- last line. `P` holds of the plan, the reports and how the run ended.
 abbrev pub Shows : {A L T E : Type 0} → Program A L T E → A → (Planned → List T → Status → Type 0) → List ℕ → E → Option (List ℕ)
     → Option (List ℕ) → Type 0
 Shows {L = L} {T = T} program ask P bytes how old new = (plan : Planned) (listing : L) (end : Status) → IsPlanFor program ask bytes plan
@@ -46,15 +46,15 @@ may_do_by MaySettle (Runs listing) plan f = MaySettle listing plan f
 abbrev pub may_do : {A L T E : Type 0} → Program A L T E → Deed L E → Planned → Fibres → Type 0
 may_do program = may_do_by program.MaySettle
 
--- what is asked leads with this plan to a deed for which all is given
+-- with this plan, what is asked is a deed that has all it needs
 abbrev pub may_go_by : {A L E : Type 0} → (A → Planned → Deed L E → Type 0) → (L → Planned → Fibres → Type 0) → A → Planned → Fibres → Type 0
 may_go_by {L = L} {E = E} Does MaySettle ask plan f = (deed : Deed L E) × Does ask plan deed × may_do_by MaySettle deed plan f
 
 abbrev pub MayGo : {A L T E : Type 0} → Program A L T E → A → Planned → Fibres → Type 0
 MayGo program = may_go_by program.Does program.MaySettle
 
--- what is asked can be done: the source's bytes are known, and all is given with the plan that it names by itself, or
--- else with that of the bytes
+-- What is asked can be done. The source's bytes are known, and the deed has all it needs with the plan that what is
+-- asked names by itself, or else with the plan of the bytes.
 abbrev pub may_be_done_by : {A : Type 0} → (A → Option Planned) → (A → Planned → Fibres → Type 0) → A → Option (List ℕ) → Fibres → Type 0
 may_be_done_by own_plan May ask None f = ⊥
 may_be_done_by own_plan May ask (Some bytes) f = (plan : Planned) × is_plan_for (own_plan ask) bytes plan × May ask plan f

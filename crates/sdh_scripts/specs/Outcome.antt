@@ -35,7 +35,7 @@ OfDeed program (Writes told) plan f how text left =
     (how ≡ program.endings.of status.Ok) × Says (told ++ program.endings.line how) text f left
 OfDeed program (Runs listing) plan f how text left = IsRunOutcome program listing plan f how text left
 
--- what is asked ends so with a plan
+-- with this plan, what is asked has this ending and this text, and leaves these fibres
 abbrev pub OfPlan : {A L T E : Type 0} → Program A L T E → A → Planned → Fibres → E → List ℕ → Fibres → Type 0
 OfPlan {L = L} {E = E} program ask plan f how text left =
     (deed : Deed L E) × program.Does ask plan deed × OfDeed program deed plan f how text left
@@ -50,14 +50,14 @@ pub record HasRefused {A L T E : Type 0} (program : Program A L T E) (bytes : Li
   pub none : HasNoPlan bytes status
   pub says : Says (program.endings.line how) text f left
 
--- the bytes are refused, or what is asked ends so with their plan
+-- the bytes are refused, or what is asked has this ending and this text with the plan of the bytes
 abbrev pub OfBytes : {A L T E : Type 0} → Program A L T E → A → List ℕ → Fibres → E → List ℕ → Fibres → Type 0
 OfBytes program ask bytes f how text left =
     HasRefused program bytes f how text left ⊎ ((plan : Planned) × TellsPlan bytes plan × OfPlan program ask plan f how text left)
 
 -- ---- with the words
 
--- what is asked ends so, with a plan of its own or with the bytes of a source
+-- what is asked has this ending and this text, with the plan that it names or with the bytes of a source
 abbrev pub OfOwnPlan : {A L T E : Type 0} → Program A L T E → A → Option Planned → List ℕ → Fibres → E → List ℕ → Fibres → Type 0
 OfOwnPlan program ask None bytes f how text left = OfBytes program ask bytes f how text left
 OfOwnPlan program ask (Some plan) bytes f how text left = OfPlan program ask plan f how text left
@@ -68,7 +68,7 @@ abbrev pub IsOutcome : {A L T E : Type 0} → Program A L T E → Option A → L
 IsOutcome program None bytes f how text left = (how ≡ program.endings.of status.Usage) × Says (own_line program.usage) text f left
 IsOutcome program (Some ask) bytes f how text left = OfOwnPlan program ask (program.own_plan ask) bytes f how text left
 
--- an outcome whose read fault or plant fault, if it is one, has its cause in a call that failed
+-- an outcome that, if it is a read fault or a plant fault, has its cause in a call that failed
 abbrev pub MayEnd : {A L T E : Type 0} → Program A L T E → Option A → List ℕ → Fibres → Counts → Counts → E → List ℕ → Fibres → Type 0
 MayEnd program asked bytes f reads calls how text left =
     IsOutcome program asked bytes f how text left × EndsWithCause program.endings reads calls how

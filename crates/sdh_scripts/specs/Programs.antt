@@ -15,7 +15,7 @@ pub data Deed (L E : Type 0) : Type 0 where
   Writes : List ℕ → Deed L E
   Runs : L → Deed L E
 
--- a plan is run where there is something to list of it; else it is refused, as it hasn't the port that is asked for
+-- a plan is run where there is something to list of it; otherwise it lacks the port that is asked for, and is refused
 abbrev pub deed_listing : {L : Type 0} → Option L → Deed L Status
 deed_listing None = Refuses status.NoSuchPort
 deed_listing (Some listing) = Runs listing
@@ -24,10 +24,10 @@ deed_listing (Some listing) = Runs listing
 abbrev pub IsRunEnd : {E : Type 0} → Endings E → E → Type 0
 IsRunEnd endings how = ((status : Status) × (how ≡ endings.of status) × HasRun status) ⊎ (endings.shared how ≡ None)
 
--- How a run is closed that came to its end, by what is listed of it (`L`) and by what is reported of its settle steps
--- (`T`).
+-- How a run that came to its end is closed: its ending and its last line. `L` is what is listed of the run, `T` what is
+-- reported of a settle step.
 pub record Closing {E : Type 0} (L T : Type 0) (endings : Endings E) : Type 0 where
-  -- the ending of a run that reported this and whose script ended so
+  -- the ending of a run, by what it reported and how its script ended
   pub ends : L → List T → Status → E
   pub ends_run : (listing : L) (told : List T) (status : Status) → HasRun status → IsRunEnd endings (ends listing told status)
   -- the last line

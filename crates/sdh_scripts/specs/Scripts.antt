@@ -114,9 +114,9 @@ reports_within walk n frames (r ∷ reports) =
     if nat_le (2 * n * (walk.last r + 1 + walk.behind)) frames
     then r ∷ reports_within walk n frames reports else reports_within walk n frames reports
 
--- A fault broke the script off when `count` of its frames were sent, after `before` that had been sent in rounds
--- before. Its reports are those of the settle steps that had sent all their frames, which are those of the step's own
--- rounds and of the rounds that are run after it.
+-- A fault broke the script off when `count` of its frames were sent, after `before` frames of earlier rounds. Its
+-- reports are those of the settle steps that had sent all their frames, which are those of the step's own rounds and of
+-- the rounds that are run after it.
 pub record IsCutShort {N T : Type 0} (walk : Walk N T) (r : Ran N T) (n before : ℕ) (w : World N) (reports : List T)
     (left : World N) : Type 0 where
   pub count : ℕ

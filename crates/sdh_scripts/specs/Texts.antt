@@ -12,8 +12,8 @@ use Rattle.sdh_scripts.specs.Walks.{Walk}
 use Rattle.sdh_scripts.specs.Scripts.{Refuses, Runs}
 use Rattle.sdh_scripts.specs.Tellers.{Begun, WasToWrite}
 
--- room enough for what is written after `before` of at most 64 settle steps, with `each` bytes for each of those that
--- are left, and for a last line
+-- room enough, in bytes, once `before` of at most 64 settle steps have ended: `each` for each settle step that is left,
+-- and 96 for a last line
 abbrev pub room_for : ℕ → ℕ → ℕ
 room_for each before = each * (64 - before) + 96
 

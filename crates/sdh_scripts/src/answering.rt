@@ -1,4 +1,4 @@
-//! From the words to an ending, and what is written.
+//! The answer to a call: its words lead to an ending and to the text that is written.
 ghost use Rattle.std.specs.Prelude.{◌≡◌, ◌≤◌, true, false, Some, IfOk, OnErr};
 ghost use Rattle.sdh_basics.specs.Causes.{Rose, IsCounted};
 ghost use Rattle.sdh_plant.specs.Fibres.{HasNoFibres};
@@ -16,14 +16,14 @@ use sdh_report::{LINE_MAX, Status, Text};
 use sdh_shell::{EndedText, Ends, NoPlan, ended, plan_in, write_ended};
 use std::alloc::{AllocError, Global};
 
-/// Returns the ending that a shared status is.
+/// Returns the program's own ending for a status that all programs share.
 pub fn ending_of<'a, W: Sink, M: StreamsPlans<'a, W>>(status: Status) -> M::Ending
     ensures { result ≡ M.program.endings.of status }
 {
     M::Ending::of(status)
 }
 
-// The endings of a program are those of its type.
+// The endings of a program are those that its type `Ending` has.
 fn endings_agree<'a, W: Sink, M: StreamsPlans<'a, W>>()
     ensures { M.program.endings ≡ M.Ending.endings }
 {}
@@ -48,8 +48,8 @@ fn answer_usage<'a, W: Sink, M: StreamsPlans<'a, W>>(
     Ok(write_ended(sink, EndedText { ending, text }))
 }
 
-// Does what is asked, with a plan of its own or the one that a source has, and writes what comes of it. Returns the
-// ending.
+// Does what is asked with the plan that it names, or else with the plan that is read from the source. Writes the
+// result, and returns the ending.
 fn answer_asked<'a, W: Sink, M: StreamsPlans<'a, W>, R: Source, P: Plant>(
     alloc: Global,
     asked: M,
@@ -97,7 +97,7 @@ fn answer_asked<'a, W: Sink, M: StreamsPlans<'a, W>, R: Source, P: Plant>(
     }
 }
 
-/// Writes what the words, the source and the plant come to, and returns the ending.
+/// Does what the words ask for with `source` and `plant`, writes the result to `sink`, and returns the ending.
 pub fn answer<'a, W: Sink, M: StreamsPlans<'a, W>, R: Source, P: Plant>(
     alloc: Global,
     words: &'a [String],

@@ -1,4 +1,4 @@
-//! What is written at an end: of a settle step once it has ended, and of a plan once its run has ended.
+//! Programs that write at an end: a settle step's report once the step has ended, and all text once the run has ended.
 ghost use Rattle.std.specs.Prelude.{◌≡◌, [], refl};
 
 use crate::program::RunsPlans;
@@ -52,12 +52,12 @@ impl<R: Runner> crate::teller::Teller<Kept> for R {
     ghost few = { R.few };
 }
 
-// The endings of a program are those of its type.
+// The endings of a program are those that its type `Ending` has.
 fn ends_agree<'a, M: RunsPlans<'a>>()
     ensures { M.program.endings ≡ M.Ending.endings }
 {}
 
-/// What a program is asked for where it keeps its text in memory, and writes it once the run of a plan has ended.
+/// What is asked of a program that keeps its text in memory, and writes it once the run of a plan has ended.
 #[derive(Drop)]
 pub struct AtEnd<M> {
     pub asked: M,

@@ -1,4 +1,4 @@
-//! The call.
+//! The call of a program that runs plans, over any source, sink and plant.
 ghost use Rattle.std.specs.Prelude.{◌≡◌, ◌⊎◌, ◌≤◌, false, None, Some, IfSome};
 ghost use Rattle.sdh_basics.specs.Causes.{Rose, IsCounted};
 ghost use Rattle.sdh_plant.specs.Fibres.{HasNoFibres};
@@ -31,9 +31,9 @@ pub fn call_over<'a, W: Sink, M: StreamsPlans<'a, W>, R: Source, P: Plant>(
 ) -> M::Ending
     requires fresh { HasNoFibres (P.fibres plant.old) }
 
-    // The ending and the text that is written. The clause speaks where the bytes of a source that is read are known,
-    // and where the sink shows what was written. Where a write failed while a plan was run, only the first bytes of
-    // what was to be reported of it were written.
+    // The ending and the text that is written, where the bytes of a source that is read are known, and where the sink
+    // shows what was written. Where a write failed while a plan was run, only the first bytes of what was to be
+    // reported of it were written.
     ensures outcome { let ask = M.program.asked (words_of words.now) in
         let reads : Counts = record { before = R.faults source.old; after = R.faults source.new } in
         let calls : Counts = record { before = P.faults plant.old; after = P.faults plant.new } in
@@ -94,8 +94,8 @@ pub fn call<'a, M: RunsPlans<'a>, R: Source, W: Sink, P: Plant>(
 ) -> M::Ending
     requires fresh { HasNoFibres (P.fibres plant.old) }
 
-    // The ending and the text that is written. The clause speaks where the bytes of a source that is read are known,
-    // and where the sink shows what was written.
+    // The ending and the text that is written, where the bytes of a source that is read are known, and where the sink
+    // shows what was written.
     ensures outcome { let ask = M.program.asked (words_of words.now) in
         let reads : Counts = record { before = R.faults source.old; after = R.faults source.new } in
         let calls : Counts = record { before = P.faults plant.old; after = P.faults plant.new } in

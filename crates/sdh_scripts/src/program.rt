@@ -39,7 +39,7 @@ pub trait RunsPlans<'a>: Copy {
         ensures line { result.now ≡ program.usage }
         ensures short { length result.now ≤ 95 };
 
-    /// Returns what the words ask for, or `None` where they have none of the forms that there are.
+    /// Returns what the words ask for, or `None` where they have no form that the program knows.
     fn asked(words: &'a [String]) -> Option<Self>
         ensures { option_map ask_of result ≡ program.asked (words_of words.now) };
 
@@ -72,6 +72,6 @@ pub trait RunsPlans<'a>: Copy {
         ensures later { P.faults plant.old ≤ P.faults plant.new }
         ensures unsent { OnErr result (P.fibres plant.new ≡ P.fibres plant.old) };
 
-    /// The endings are those of its type.
+    /// The endings of the program are those that its type `Ending` has.
     ghost same_endings: { program.endings ≡ Self.Ending.endings };
 }

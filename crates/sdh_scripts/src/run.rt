@@ -19,7 +19,7 @@ use sdh_ringmap::Rate;
 use sdh_shell::{Kept, Output};
 use std::alloc::{AllocError, Global};
 
-/// The number of settle steps that a script has at most.
+/// The largest number of settle steps in a script.
 const SETTLES_MAX: usize = 64;
 
 /// A run before its fibres are there: a ring in which no round has run, the rate and the number of its nodes, the
@@ -76,8 +76,8 @@ pub fn start_over<O: Output, R: Teller<O>, P: Plant>(
     requires ready { MayStart R.ring R.MayRun runner.old script }
     requires room { O.Takes (room_for (R.room runner.old) 0) output.old }
 
-    // What was written is of one list of reports, which came over the fibres that were prepared for the ring, and of
-    // the step with which the script stopped before its end; or no fibres were made.
+    // Either no fibres were made. Or the text lists reports that came over the fibres prepared for the ring, and then
+    // what is written of the step that stopped the script before its end, if one did.
     ensures wrote { IfOk result (λ end. end ≢ Status.WriteFault → WroteSteps R.walk script.limit (R.text_of runner.old)
         (R.begun_of runner.old) script.steps.items (with_fibres (R.ring runner.old) (P.fibres plant.old)) (P.fibres plant.old)
         (O.written output.old) (O.written output.new) end (world (R.ring runner.new) (P.fibres plant.new))) }
@@ -95,7 +95,7 @@ pub fn start_over<O: Output, R: Teller<O>, P: Plant>(
     ensures later { (P.faults plant.old ≤ P.faults plant.new) × (O.faults output.old ≤ O.faults output.new) }
     ensures room { OnOk result (O.Takes 96 output.new) }
 
-    // Without memory nothing was written, no fibre was made, and no round has run.
+    // Where memory ran out nothing was written, no fibre was made, and no round has run.
     ensures unwritten { OnErr result (output.new ≡ output.old) }
     ensures unsent { OnErr result (P.fibres plant.new ≡ P.fibres plant.old) }
 {
@@ -129,7 +129,7 @@ pub fn start<R: Runner + Drop, P: Plant>(
     ensures later { P.faults plant.old ≤ P.faults plant.new }
     ensures room { IfOk result (λ run. 96 ≤ run.text.room) }
 
-    // Without memory no fibre was made, and no round has run.
+    // Where memory ran out no fibre was made, and no round has run.
     ensures unsent { OnErr result (P.fibres plant.new ≡ P.fibres plant.old) }
 {
     let NewRun {

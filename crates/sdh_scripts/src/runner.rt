@@ -12,7 +12,7 @@ use sdh_plant::Plant;
 use sdh_report::Text;
 use sdh_rounds::{PlantFault, SettleError};
 
-/// A ring that steps of a script are run over. A settle step that ended is reported from what it left.
+/// A ring over which the steps of a script run. A settle step is reported once it has ended, from what it left.
 pub trait Runner {
     /// What its nodes are.
     ghost Node: { Type 0 };
@@ -32,7 +32,7 @@ pub trait Runner {
     /// Room enough for what is written of a settle step, in bytes.
     ghost room: { Self → ℕ };
 
-    /// These steps may be run over fibres after a number of settle steps that have ended.
+    /// Whether these steps may run over these fibres, once a number of settle steps have ended.
     ghost MayRun: { ℕ → List Step → Self → Fibres → Type 0 };
 
     /// Does a step that runs no round. A fault leaves the fibres as they were.
@@ -48,8 +48,8 @@ pub trait Runner {
         ensures same_room { OnOk result (room self.new ≡ room self.old) }
         ensures cause { HasCause P.exact (P.faults plant.old) (P.faults plant.new) result };
 
-    /// Runs a settle step, and then the rounds that `walk` has after it (`behind` in `specs/Walks.antt`). It writes the
-    /// report once all these have run. Before the step `number` settle steps have ended.
+    /// Runs a settle step, and then the rounds that `walk` has after it (`behind` in `specs/Walks.antt`). Writes the
+    /// report once all these have run. `number` is the number of settle steps that have ended before.
     fn settle<P: Plant>(
         &mut self,
         plant: &mut P,

@@ -12,8 +12,8 @@ use sdh_plant::Plant;
 use sdh_report::Status;
 use sdh_shell::Output;
 
-// Runs one step, after `number` settle steps that have ended. Returns how many have ended then, or how the script
-// ended.
+// Runs one step, before which `number` settle steps have ended. Returns the number that have ended after it, or how
+// the script ended.
 fn run_step<O: Output, R: Teller<O>, P: Plant>(
     runner: &mut R,
     plant: &mut P,

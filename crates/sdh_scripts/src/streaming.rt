@@ -43,7 +43,7 @@ pub trait StreamsPlans<'a, W: Sink>: Drop {
         ensures line { result.now ≡ program.usage }
         ensures short { length result.now ≤ 95 };
 
-    /// Returns what the words ask for, or `None` where they have none of the forms that there are.
+    /// Returns what the words ask for, or `None` where they have no form that the program knows.
     fn asked(words: &'a [String]) -> Option<Self>
         ensures { option_map ask_of result ≡ program.asked (words_of words.now) };
 
@@ -76,6 +76,6 @@ pub trait StreamsPlans<'a, W: Sink>: Drop {
         ensures unwritten { OnErr result (sink.new ≡ sink.old) }
         ensures unsent { OnErr result (P.fibres plant.new ≡ P.fibres plant.old) };
 
-    /// The endings are those of its type.
+    /// The endings of the program are those that its type `Ending` has.
     ghost same_endings: { program.endings ≡ Self.Ending.endings };
 }

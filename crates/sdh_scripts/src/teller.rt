@@ -23,7 +23,7 @@ pub enum StepError {
     WriteFault,
 }
 
-/// A ring that steps of a script are run over. All that is reported of it is written to an output as it comes.
+/// A ring over which the steps of a script run. All that is reported of it is written to an output as it comes.
 pub trait Teller<O: Output> {
     ghost use Rattle.sdh_scripts.specs.Tellers.{StopsBy, WroteBegun};
 
@@ -48,7 +48,7 @@ pub trait Teller<O: Output> {
     /// Room enough for what is written of a settle step, in bytes.
     ghost room: { Self → ℕ };
 
-    /// These steps may be run over fibres after a number of settle steps that have ended.
+    /// Whether these steps may run over these fibres, once a number of settle steps have ended.
     ghost MayRun: { ℕ → List Step → Self → Fibres → Type 0 };
 
     /// Does a step that runs no round. A fault leaves the fibres as they were.

@@ -84,7 +84,7 @@ module _ (run : Run) (R : IsRun run) where
       pub top : stronger (at t p) d ≡ top_code p d
       pub answer : short_code (at t p) d ≡ answer_code p d
 
-    -- by its own request
+    -- p knows the span's request by its own local request
     by_local : (t p : ℕ) (d : Side) → c ≤ asks p d → outdone p d ≡ false → code_number (short (at t p) d) ≤ asks p d → Knows t p d
     by_local t p d g o l =
         let lo = local_is run R t p d in
@@ -98,7 +98,7 @@ module _ (run : Run) (R : IsRun run) where
               (le-leb _ _ (omega arith)) ∙ lo ∙ sym (cond-false (outdone p d) Rr (code p d) o);
         }
 
-    -- by its neighbour's request
+    -- p knows the span's request by the short word of its neighbour, who asks for more
     by_other : (t p : ℕ) (d : Side) → c ≤ asks (nx p d) (opposite d) → asks p d < asks (nx p d) (opposite d) → outdone p d ≡ true
         → short (at t p) d ≡ code (nx p d) (opposite d) → Knows t p d
     by_other t p d g l o is =
@@ -123,11 +123,11 @@ module _ (run : Run) (R : IsRun run) where
     not_outdone : (p : ℕ) (d : Side) → asks (nx p d) (opposite d) ≤ asks p d → outdone p d ≡ false
     not_outdone p d l = and_right (not (fails_on (run.need p) d)) (nat_lt (asks p d) (asks (nx p d) (opposite d))) (le-ltb _ _ l)
 
-    -- the end with the larger request knows it at once
+    -- the end with the larger request knows the span's request at once
     first_end : (t p : ℕ) (d : Side) → 0 < t → p < n → c ≤ asks p d → asks (nx p d) (opposite d) ≤ asks p d → Knows t p d
     first_end t p d l h g m = by_local t p d g (not_outdone p d m) (let s = short_le run R t p d l h in omega arith)
 
-    -- and the other end where it hears of it
+    -- the other end knows the span's request once it hears the short word
     by_heard : (t p : ℕ) (d : Side) (w : K) → p < n → c ≤ asks (nx p d) (opposite d) → asks p d < asks (nx p d) (opposite d)
         → fails_on (run.need p) d ≡ false
         → word_on (at t p) d ≡ Some w → bare w ≡ plain (nx p d) (opposite d) (code (nx p d) (opposite d)) Short → Knows t p d
@@ -149,7 +149,7 @@ module _ (run : Run) (R : IsRun run) where
         let no : answer_code q o ≡ code q o = cond-false (outdone q o) Rr (code q o) (not_outdone q o m) in
         known_word t q o l h (first_end t q o (omega arith) h g m) ∙ ap (λ x. plain q o x Short) no
 
-    -- three rounds later
+    -- the end with the smaller request knows the span's request three rounds later
     second_by : (t p : ℕ) (d : Side) → n < t → p < n → c ≤ asks (nx p d) (opposite d) → asks p d < asks (nx p d) (opposite d) → (b : Bool)
         → fails_on (run.need p) d ≡ b → Knows (suc (suc (suc t))) p d
     second_by t p d l h g m true e =

@@ -32,7 +32,7 @@ module _ (n : ℕ) (r : Resting n) (cs : List Provisioned) (m : ℕ) where
   more_span p (Working d) a b h = refl
   more_span p (Protection d) a b h = refl
 
-  -- a walk that goes on
+  -- the spans of a walk of j + k steps are those of its first j steps, and then those of the k others
   pub crossed-on : (j k : ℕ) (x y : Stand) → Leads n r.state cs m j x y
       → crossed n r.state cs m (j + k) x ≡ crossed n r.state cs m j x ++ crossed n r.state cs m k y
   crossed-on zero k x y w = ap (λ i. crossed n r.state cs m i x) (omega arith) ∙ ap (crossed n r.state cs m k) w

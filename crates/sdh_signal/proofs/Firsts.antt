@@ -53,7 +53,7 @@ module _ (run : Run) (R : IsRun run) (c : ℕ) (level : IsLevel run R c) where
   first_by m p e h l there (inl none) = let less = none m (omega arith) in absurd (omega arith)
   first_by m p e h l there (inr (k, less, first)) = first_is k m p e h l (omega arith) first
 
-  -- m steps lead to one, so the first is no further
+  -- where m steps lead to a position whose next span is at the level, the first such position is no further
   pub first_within : (m p : ℕ) (e : Side) → p < n → asked p e < c → c ≤ asked (going n e p m) e → HasFirst m p e
   first_within m p e h l there = first_by m p e h l there (searched (suc m) p e)
 

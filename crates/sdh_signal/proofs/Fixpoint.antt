@@ -50,7 +50,7 @@ module _ (needs : List Needs) (s : Signals) (may : MayGo needs s) where
   same_requests : run_requests run ≡ requests_in needs
   same_requests = ap (λ m. span_requests m (λ p d. request_on (get_or needs p no_needs) d)) (sym may.size)
 
-  -- after 4n + 8 rounds
+  -- the states are the settled states after 4n + 8 rounds
   pub settled_after : (t : ℕ) → 4 * n + 7 ≤ t → (ring (suc t)).states ≡ settled_states (requests_in needs)
   unfolding round
   settled_after t late =
@@ -66,7 +66,7 @@ module _ (needs : List Needs) (s : Signals) (may : MayGo needs s) where
       ∙ ap state_after (sym (scene_is needs s may t k))
       ∙ sym (get_or-placed f needs k no_needs idle (omega arith))))
 
-  -- after 5n + 8 rounds
+  -- the words stay the same after 5n + 8 rounds
   pub words_after : (t : ℕ) → 5 * n + 7 ≤ t → (ring (suc (suc t))).words ≡ (ring (suc t)).words
   unfolding round
   words_after t late =
@@ -81,7 +81,7 @@ module _ (needs : List Needs) (s : Signals) (may : MayGo needs s) where
           ap (λ w. record { west = w; east = word (at_round run (suc t) k) East }) (words_stay run (is_run needs s may) t k West late few)
           ∙ ap (λ w. record { west = word (at_round run t k) West; east = w }) (words_stay run (is_run needs s may) t k East late few)
 
--- after three rounds that changed no word
+-- the states are the settled states after three rounds that changed no word
 pub still_rings_are_settled : StillRingsAreSettled
 still_rings_are_settled first second third s c1 c2 c3 =
     let s2 = free_round second (free_round first s) in
@@ -90,7 +90,7 @@ still_rings_are_settled first second third s c1 c2 c3 =
     ap (λ (r : Signals). r.states) (sym (stays_on first second third s c1 c2 c3 (suc t)))
     ∙ settled_after third s3 (may_go_on third [] s2 c3.may) t (omega arith)
 
--- that no node is held
+-- a list of held nodes that holds none changes nothing of a round
 pub free_rounds : FreeRounds
 unfolding round
 free_rounds needs held s none =

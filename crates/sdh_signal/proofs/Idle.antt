@@ -43,7 +43,7 @@ at_ease n some = record {
 }
 
 module _ (n : ℕ) (some : 0 < n) (cs : List Provisioned) (ring : AreOnRing n cs) where
-  -- from a place of a circuit's arc
+  -- a walk ends that begins at step x of a circuit's arc
   on_way : (d : Side) (p index : ℕ) (c : Provisioned) (near distant : End) (seen : Seen n cs index c d p near distant) (x : ℕ)
       → x < arc_length n c
       → Ends n all_idle cs c.slot.0 (n - 1) (stand (going n d p x) (working_in n cs (going n d p x) Idle d c.slot.0))

@@ -22,7 +22,7 @@ module _ (n : ℕ) (applied : ℕ → Bool) (c : Provisioned) where
   unfolding is_clear arc_length
   clear-is = refl
 
-  -- the arc itself, or round the other way
+  -- the hops of a route: over the arc itself, or back the other way round
   pub straight-hops : is_clear n applied (arc_of n c) ≡ true → hops n applied (arc_of n c) ≡ arc_length n c
   unfolding hops arc_length
   straight-hops t = cond-true (is_clear n applied (arc_of n c)) _ _ t

@@ -74,7 +74,7 @@ module _ (run : Run) (R : IsRun run) where
     pub light : (c ≡ 11) ⊎ ((p : ℕ) (d : Side) → p < n → asked p d ≤ c)
 
   module _ (c : ℕ) (level : IsLevel c) where
-    -- a way to say that c is above what may be sent
+    -- c is 11, or neither a side nor a relayed word weighs more than c
     abbrev IsLight : ℕ → ℕ → Side → Type 0
     IsLight t p d = (c ≡ 11) ⊎ ((weight_at t p d ≤ c) × (weight_at t p (opposite d) ≤ c) × (weight_of (relayed (at t p) d) ≤ c))
 

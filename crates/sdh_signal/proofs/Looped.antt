@@ -20,7 +20,7 @@ use Rattle.sdh_squelch.specs.Table.{circuit_from}
 
 module _ (n : ℕ) (cs : List Provisioned) (some : 0 < n) (d : Side) (p : ℕ) (index : ℕ) (c : Provisioned) (near distant : End)
     (seen : Seen n cs index c d p near distant) where
-  -- the node is at step x of the arc; f is the other end of its chain, k steps after it
+  -- the node is at step x of the arc; f is the other end of its chain, from which k steps on side d lead to the node
   module _ (x f k : ℕ) (inside : x < arc_length n c) (f_inside : f < n) (k_few : k < n) (chain : going n d f k ≡ going n d p x)
       (both : (is_in_chain n d (going n d p x) f (port_at c A) && is_in_chain n d (going n d p x) f (port_at c B)) ≡ true)
       (p_inside : p < n) where

@@ -102,8 +102,8 @@ module _ (n : ℕ) (r : Resting n) (cs : List Provisioned) (ring : AreOnRing n c
           ∙ ap₂ ◌&&◌ (chain_passes n d q f (port_at c A)) (chain_passes n d q f (port_at c B))
           ∙ seen.both test ∙ and_right (test (going n d p 0)) (test (going n d p (arc_length n c))) missed
 
-      -- a node on the arc, whose span ahead is applied and whose span behind is free, bridges the circuit home or
-      -- nothing
+      -- a node on the arc, whose span ahead is applied and whose span behind is free, bridges the circuit back to its
+      -- own port, or bridges nothing
       module _ (x : ℕ) (inside : x < (arc_length n c)) (ahead : hit x ≡ true) (behind : hit (x + (n - 1)) ≡ false) where
         abbrev l : ℕ
         l = last_place hit (x + n)
@@ -255,7 +255,7 @@ module _ (n : ℕ) (r : Resting n) (cs : List Provisioned) (ring : AreOnRing n c
       abbrev struck : ℕ → Bool
       struck i = on n r some d p i
 
-      -- beyond an applied span
+      -- the walk from the node right beyond an applied span
       module _ (i : ℕ) (yet : struck i ≡ true) where
         abbrev node : ℕ
         node = going n d p (suc i)
@@ -289,7 +289,7 @@ module _ (n : ℕ) (r : Resting n) (cs : List Provisioned) (ring : AreOnRing n c
         pub after_end : Ends n r.state cs c.slot.0 (2 * n) taken
         after_end = by_ahead (struck (suc i)) refl
 
-      -- at an inner position
+      -- the walk from an inner position of the arc
       module _ (x : ℕ) (some_way : 0 < x) (inside : x < (arc_length n c)) where
         abbrev place : Stand
         place = taking n r cs some d p c.slot.0 (going n d p x)

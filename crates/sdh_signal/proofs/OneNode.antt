@@ -258,7 +258,7 @@ pub switch_none : (s : Scene) (d : Side) → weight s d < 5 → switches s d ≡
 unfolding switches
 switch_none s d h = rw (lt-leb 11 (weight s d) (omega arith), lt-leb 5 (weight s d) h)
 
--- nor one below 11 that isn't heavier than the other
+-- a side whose weight is below 11 isn't switched if it isn't heavier than the other side
 pub switch_lighter : (s : Scene) (d : Side) → weight s d < 11 → weight s d ≤ weight s (opposite d) → switches s d ≡ false
 unfolding switches
 switch_lighter s d h l =
@@ -270,7 +270,7 @@ below_false : (s : Scene) (d x : Side) → is_below s d x ≡ false → list_all
 below_false s d West e = and_left (is_below s d West) (is_below s d East && true) e
 below_false s d East e = and_right (is_below s d West) (is_below s d East && true) (and_left (is_below s d East) true e)
 
--- nor one below 11 beside a long word that isn't about it and isn't lighter
+-- a side whose weight is below 11 isn't switched where a long word is heard that isn't about it and isn't lighter
 pub switch_blocked : (s : Scene) (d x : Side) (k : K) → weight s d < 11 → long s x ≡ Some k → is_about s d x k ≡ false
     → weight s d ≤ code_number k.code → switches s d ≡ false
 unfolding switches
@@ -290,7 +290,7 @@ below_about s d x k e a =
     ap (λ o. option_map_or (λ k. is_about s d x k || nat_lt (code_number k.code) (weight s d)) o true) e
     ∙ ap (λ b. b || nat_lt (code_number k.code) (weight s d)) a
 
--- a side from 5 to 8 is switched where the other is lighter and no word stands against it
+-- a side whose weight is 5 to 8 is switched where the other side is lighter and no long word speaks against it
 pub switch_alone : (s : Scene) (d : Side) → 5 ≤ weight s d → weight s d ≤ 8 → weight s (opposite d) < weight s d → is_below s d West ≡ true
     → is_below s d East ≡ true → switches s d ≡ true
 unfolding switches

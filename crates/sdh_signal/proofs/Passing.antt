@@ -81,7 +81,7 @@ module _ (n : ℕ) (cs : List Provisioned) (q : ℕ) where
   open-stands (state.PassThrough i) d m e = refl
   open-stands (state.Idle i) d m e = refl
 
-  -- by the circuit there
+  -- what is taken from the other side goes on, if the circuit in the slot doesn't end here
   goes_by : (st : NodeState) (d : Side) (m : ℕ) (k : Option Row) → circuits_at n cs q m d ≡ k
       → (sent_of (position_of q) k (stands_in n cs q st (opposite d) m) ≡ stands_in n cs q st (opposite d) m)
       → working_in n cs q st d m ≡ stands_in n cs q st (opposite d) m
@@ -149,7 +149,7 @@ module _ (n : ℕ) (cs : List Provisioned) (q : ℕ) where
         none_carried None = refl
         none_carried (Some k) = refl
 
-  -- with a far end, by the circuit there
+  -- what may be carried to a far end, by the circuit in the slot
   pub carries-by : (d : Side) (m f : ℕ) → carries_in n cs q d m (far_at f) ≡ carried n q (circuits_at n cs q m d) d f
   unfolding may_carry
   carries-by West m f = refl

@@ -37,7 +37,7 @@ pub record Made (ids : List ℕ) (needs : List Needs) (held : List Bool) (states
   pub words_are : now_words ≡ map_from (next_sent ids now_filters held words) 0 needs
   pub count : later ≡ min (rounds + 1) (2 ^ 64 - 1)
 
--- from what each part says: the words that are on their way, and the filters, were read from those lists
+-- what a round made, put together from what each of its calls made
 pub made_by : {ids : List ℕ} {needs : List Needs} {held : List Bool} {states : List NodeState} {words way : List Sent} {filters through : List Filters} {rounds : ℕ}
     {now_states : List NodeState} {now_words : List Sent} {now_filters : List Filters} {later : ℕ}
     → way ≡ (if nat_lt 0 rounds then words else []) → through ≡ now_filters
@@ -65,7 +65,7 @@ module _ {ids : List ℕ} {needs : List Needs} {held : List Bool} {states : List
   unfolding round filters_after
   new_filters = made.filters_are
 
-  -- what a position then hears through
+  -- the filters of a position after the round
   filters_at : (p : ℕ) → p < length needs → get_or now_filters p no_filters ≡ filters_after old p (get_or needs p no_needs)
   filters_at p h = ap (λ (fs : List Filters). get_or fs p no_filters) new_filters ∙ filters_in needs held old p h
 
@@ -198,7 +198,7 @@ module _ (needs : List Needs) (held : List Bool) (s : Signals) (may : MayGo need
   counted_ran true u rounds later some h count = let g = some refl in omega arith
   counted_ran false u rounds later some h count = omega arith
 
-  -- what a ring keeps, it keeps in a round
+  -- what is true of every ring stays true over a round
   pub ring_after : (goes_on : Bool) (u rounds later : ℕ) → IsRing s rounds u → later ≡ min (rounds + 1) (2 ^ 64 - 1)
       → (IsTrue goes_on → 0 < rounds) → (IsTrue goes_on → LeavesWords held s (round needs held s))
       → IsRing (round needs held s) later (if goes_on then min (u + 1) 3 else 0)

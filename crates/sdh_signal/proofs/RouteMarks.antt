@@ -62,7 +62,7 @@ pub last-is : (p : ℕ → Bool) (f k : ℕ) → f < k → p f ≡ true → IsLa
 last-is p f zero h hit = absurd (omega arith)
 last-is p f (suc k) h hit = last_by p f k (p k) refl h hit (λ g. last-is p f k g hit)
 
--- from place 0, where there is one
+-- the first and the last marked place below k, where there is one
 module _ (p : ℕ → Bool) (k : ℕ) (some : none_of p 0 k ≡ false) where
   pub first-place : IsFirst p 0 k (places_before p 0 k)
   first-place = subst (IsFirst p 0 k) {x = 0 + places_before p 0 k} (omega arith) (first-is p 0 k some)

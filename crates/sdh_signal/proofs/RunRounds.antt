@@ -29,7 +29,7 @@ use Rattle.sdh_ringmap.proofs.Sides.{neighbour_below}
 use Rattle.sdh_signal.proofs.OneNode.{if_not_some}
 use Rattle.sdh_signal.proofs.Sources.{word_source, IsOwnOrRelayed}
 
--- what stands by side
+-- what is kept of each side
 
 pub sent_is : (s : Scene) (d : Side) → sent_on (sent_after s) d ≡ word s d
 sent_is s West = refl
@@ -124,7 +124,7 @@ module _ (s : Signals) (sourced : All (IsSourced s.ids) s.words) where
   by_hold true p x said h = All-get_or (IsSourced s.ids) s.words p (record { west = unsaid; east = unsaid }) (omega arith) sourced
   by_hold false p x said h = words_sourced p x h
 
--- a round keeps that
+-- after a round each word has a source in the ring, if each word before it has
 pub round_sourced : (needs : List Needs) (held : List Bool) (s : Signals) → length needs ≡ length s.ids → length s.words ≡ length s.ids
     → All (IsSourced s.ids) s.words → All (IsSourced s.ids) (round needs held s).words
 unfolding round

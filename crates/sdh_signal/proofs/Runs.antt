@@ -20,7 +20,7 @@ use Rattle.sdh_ringmap.proofs.Sides.{neighbour_back, neighbour_below, opposite_t
 use Rattle.sdh_signal.proofs.OneNode.{at_least_five, weight_is, IsShortHeard, short_from, long_from, relayed_from, Kind, a_short, a_long}
 use Rattle.sdh_signal.proofs.OneNode.{a_relay, kind}
 
--- what a round may need, side by side
+-- what the needs of a position may be, for either side
 pub failing : (need : ℕ → Needs) (p : ℕ) (d : Side) → MayNeed (need p) → fails_on (need p) d ≡ true
     → 11 ≤ code_number (request_on (need p) d)
 failing need p West may e = may.west_fails e

@@ -24,7 +24,7 @@ may_step ids p x f h may silent = record {
   east_silent = λ e. nothing_heard f.east (silent.east e);
 }
 
--- what a round brought
+-- a round brought nothing on a failing side
 silent_with : (words : List Sent) (n p : ℕ) (x : Needs) (f : Filters) → IsSilent x (filters_with words n p x f)
 silent_with words n p x f = record {
   west = λ e. ap (λ b. if b then None else option_map (λ (s : Sent). s.east) (slice_get words (neighbour n p West))) e;

@@ -63,7 +63,7 @@ module _ (n : ℕ) (r : Resting n) (cs : List Provisioned) where
     abbrev pub taking : ℕ → ℕ → Stand
     taking m q = stand q (stands_in n cs q (r.state q) (opposite d) m)
 
-    -- a node that passes through
+    -- the protection slot of a node that passes through comes from the node ahead
     pub passed-on : (m i : ℕ) → r.state (going n d p (suc i)) ≡ PassThrough
         → bridge m (neighbour n (going n d p i) d) ≡ stand (going n d p (suc i)) (Protection d)
     passed-on m i here =
@@ -94,7 +94,7 @@ module _ (n : ℕ) (r : Resting n) (cs : List Provisioned) where
         ∙ state-between n r some d p (j - 1) any (ap (on n r some d p) before ∙ free j (omega arith) g)
         (free (j - 1) (omega arith) (omega arith))
 
-    -- such are the nodes between free spans, where some span is applied
+    -- a protection slot is followed ahead over free spans, where some span of the ring is applied
     pub passing : (m k i : ℕ) → IsAnyApplied n r → ((j : ℕ) → i ≤ j → j ≤ i + k → IsFree j)
         → Leads n r.state cs m (suc k) (stand (going n d p i) (Protection d)) (bridge m (going n d p (suc (i + k))))
     passing m k i any free = past m k i (between k i any free)
@@ -112,7 +112,7 @@ module _ (n : ℕ) (r : Resting n) (cs : List Provisioned) where
         ap (λ x. stand x (working_in n cs x (r.state x) (opposite (opposite d)) m)) (going-back n some d p i)
         ∙ ap (λ e. stand (going n d p i) (working_in n cs (going n d p i) (r.state (going n d p i)) e m)) (opposite_twice d)
 
-    -- a working slot from behind, over a free span
+    -- a walk from the working slot behind goes on over a free span
     pub over_free : (m i k : ℕ) (z : Stand) → IsFree i → Leads n r.state cs m k (sending m (going n d p i)) z
         → Leads n r.state cs m (suc k) (taking m (going n d p (suc i))) z
     over_free m i k z free rest =
@@ -129,7 +129,7 @@ module _ (n : ℕ) (r : Resting n) (cs : List Provisioned) where
       abbrev pub own : Stand
       own = stand (going n d p 0) (port index near)
 
-      -- over free spans back to the circuit's end
+      -- a working slot is followed over k free spans back to the circuit's end
       pub home : (k : ℕ) (y : Side) → k < (arc_length n c) → ((j : ℕ) → j < k → IsFree j) → is_open (r.state (going n d p k)) y ≡ true
           → Leads n r.state cs c.slot.0 k (sending c.slot.0 (going n d p k)) own
       home zero y h free o =

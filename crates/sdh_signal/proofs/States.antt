@@ -84,7 +84,7 @@ module _ (n : ℕ) (r : Resting n) where
     state-behind i k hk hn e free hit =
         state-at i false true (ap on (omega arith) ∙ free 0 hk) e ∙ ap (Switch (opposite d)) (far-ahead k (suc i) hk hn free hit)
 
-    -- the span ahead is applied, k spans after are free, and the one before them is applied
+    -- the span ahead is applied, k spans behind are free, and the one behind these is applied
     pub state-ahead : (i k : ℕ) → 0 < k → k < n → on i ≡ true → ((j : ℕ) → i < j → j ≤ i + k → on j ≡ false) → on (suc (i + k)) ≡ true
         → r.state (going n d p (suc (i + k))) ≡ Switch d (far_at (going n d p (suc i)))
     state-ahead i k hk hn e free hit =

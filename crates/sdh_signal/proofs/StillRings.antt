@@ -118,7 +118,7 @@ module _ (first second third : List Needs) (s : Signals)
   ids3 : s3.ids ≡ s2.ids
   ids3 = round_ids third [] s2
 
-  -- what one round brings on a side, in the first, in the second and in the third
+  -- the first and the second round bring on each side what the third brings
   same_second : (p : ℕ) (d : Side) → p < length s2.ids → came second s1 p d ≡ came third s2 p d
   same_second p d h = same_came second third s1 s2 c2 c3 (sym ids2) (sym c2.words) p d (subst (λ (is : List ℕ). p < length is) ids2 h)
 

@@ -81,7 +81,7 @@ module _ (n : ℕ) (r : Resting n) (cs : List Provisioned) (some : 0 < n) (d : S
   detour f l = (2 * f + n + (arc_length n c)) - 2 * (l + 1)
 
   module _ (f l : ℕ) (hit : Struck f l) where
-    -- from the last applied span ahead to the first
+    -- the number of free spans from the last applied span on, the other way round, to the first
     abbrev pub gap : ℕ
     gap = n + f - suc l
 

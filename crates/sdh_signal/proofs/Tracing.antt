@@ -78,7 +78,7 @@ module _ (run : Run) (R : IsRun run) (t : ℕ) (still : IsStillAfter run t) wher
   abbrev nx : ℕ → Side → ℕ
   nx p d = neighbour (length run.ids) p d
 
-  -- no step, and one step more
+  -- no step leads to p itself; j steps from the neighbour are j + 1 steps from p
   none : (p : ℕ) (d : Side) → p < n → going n d p zero ≡ p
   none p d h = going-none n (some_nodes run R) d p h
 
@@ -94,7 +94,7 @@ module _ (run : Run) (R : IsRun run) (t : ℕ) (still : IsStillAfter run t) wher
       let f = relays_foreign (at_round run (suc t) p) d e in
       R.past t p d (away p d) h f.heard ∙ sym (still (nx p d) (opposite d) (next_below run R p d))
 
-  -- the way back from p, which may be no step long
+  -- the way back from p, of `steps` steps, which may be none
   pub record Back (most p : ℕ) (d : Side) : Type 0 where
     pub steps : ℕ
     pub few : steps ≤ most

@@ -51,7 +51,7 @@ module _ (n : ℕ) (applied : ℕ → Bool) (state : ℕ → NodeState) (cs : Li
   back_inside p (Working d) lt = neighbour_below n p d (omega arith)
   back_inside p (Protection d) lt = neighbour_below n p d (omega arith)
 
-  -- from the end of a walk, k rounds back, to its start
+  -- P holds at the start of a walk of k spans, if it held k rounds before at the walk's end
   pub along : (P : ℕ → ℕ → Origin → Type 0) (first last : ℕ) → IsKeptOver n applied state cs m P first last
       → (k t : ℕ) (x y : Stand) → x.at < n → IsFree n applied x.at x.origin → first ≤ t → t + k ≤ last → Leads n state cs m k x y
       → P t y.at y.origin → P (t + k) x.at x.origin

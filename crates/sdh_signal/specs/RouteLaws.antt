@@ -59,8 +59,8 @@ abbrev pub TheProtectionRingIsOpen : Type 0
 TheProtectionRingIsOpen = (rs : List ℕ) (d : Side) (p : ℕ) → p < length rs
     → (k : ℕ) × (k < length rs) × (is_pass (settled rs (going (length rs) d p (suc k))) ≡ false)
 
--- where the circuit in slot m may be carried over a chain, the same circuit is in that slot on the far end's span away
--- from the chain
+-- where the circuit in slot m may be carried over a chain, the same circuit is in that slot on the span at the far end
+-- that leads away from the chain
 abbrev pub ALoopedSlotMeetsItsOwnCircuit : Type 0
 ALoopedSlotMeetsItsOwnCircuit = (n slots : ℕ) (cs : List Provisioned) → AreCircuits n slots cs
     → (d : Side) (q m : ℕ) (f : Pos) → q < n → f.0 < n → carries_in n cs q d m (Some f) ≡ true

@@ -108,7 +108,7 @@ fn leaves_words(rounds: u64, held: &[bool], words: bool) -> bool
     rounds > 0 && is_free(held) && words
 }
 
-/// Returns the count of rounds in a row after one more round: one more, up to 3, where the row goes on, and else 0.
+/// Returns how many rounds in a row there are after one more: `count + 1`, at most 3, where the row goes on, or else 0.
 fn counted(count: u8, goes_on: bool) -> u8
     requires { count ≤ 3 }
     ensures { result ≡ (if goes_on then min (count + 1) 3 else 0) }

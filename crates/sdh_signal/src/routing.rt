@@ -45,8 +45,8 @@ pub fn the_protection_ring_is_open()
     ensures { TheProtectionRingIsOpen }
 {}
 
-/// Where a node may carry the circuit in a slot over its chain, the same circuit is in that slot on the far end's span
-/// away from the chain.
+/// Where a node may carry the circuit in a slot over its chain, the same circuit is in that slot on the span at the
+/// far end that leads away from the chain.
 pub fn a_looped_slot_meets_its_own_circuit()
     ensures { ALoopedSlotMeetsItsOwnCircuit }
 {}

@@ -54,7 +54,7 @@ same_unchanged a b is =
     ap (λ xs. same_generators xs b.east_out.generators) (is.generators East) ∙ generators_itself b.east_out.generators in
     rw (west, east, west_out, east_out) refl
 
--- a calm round isn't the node's first one
+-- a calm round isn't the node's first one, and changes no interpreter and no generator
 calm_leaves : (n : PathNode) → (node_after n).calm ≡ true → (1 ≤ n.rounds) × AreSame (node_after n) n
 unfolding node_round with_calm
 calm_leaves n e =

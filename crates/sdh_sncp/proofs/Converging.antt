@@ -48,8 +48,8 @@ use Rattle.sdh_sncp.proofs.Owed.{offset_small, quiet_delivers}
 
 -- ---- one AU-4 in many rounds
 
--- what went into AU-4 number au that left position p on side d in round k of a run, and what came in the one that came
--- there
+-- what went into AU-4 number au that left position p on side d in round k of a run (`went`), and what came in AU-4
+-- number au that arrived there (`came`)
 abbrev pub went : World → ℕ → Side → ℕ → ℕ → Input
 went w p d au k = sent_at (run k w) p d au
 
@@ -315,7 +315,7 @@ rounds_get_calm w whole form j late = gets_calm w whole form j (omega arith)
 at_place : (s : ℕ) → (s - s % 128) % 128 ≡ 0
 at_place s = omega arith
 
--- a window ends with this round, which is at most so late
+-- a window ends with round `ends` of a run, which is at most round `most`
 pub record WindowBy (w : World) (most : ℕ) : Type 0 where
   pub ends : ℕ
   pub soon : ends ≤ most

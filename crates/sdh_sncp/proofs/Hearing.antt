@@ -12,7 +12,7 @@ use Rattle.sdh_terminal.specs.Receiving.{pointer_word_at, after_frame, actions_i
 use Rattle.sdh_spans.proofs.Reading.{action_there, reading_there}
 use Rattle.sdh_sncp.specs.Laws.{ComesIsNorm}
 
--- its AU-4 comes with a pointer exactly where its mode is Norm then
+-- an AU-4 comes with a pointer exactly where its interpreter's mode is Norm after the frame
 norm_there : (n : ℕ) (bytes : List ℕ) (rs : List Reading) (k : ℕ) → k < length rs
     → not (is_ais_action (get_or (actions_in n bytes rs) k action.Ais)) ≡ is_norm (get_or (after_frame n bytes rs) k start).mode
 norm_there n bytes rs k few =

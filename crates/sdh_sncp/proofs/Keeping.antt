@@ -51,7 +51,7 @@ get-map f [] i d = refl
 get-map f (x ∷ xs) zero d = refl
 get-map f (x ∷ xs) (suc i) d = get-map f xs i d
 
--- is what the new node there is
+-- the node at a position has the fixed part of the new node there
 pub node_is : (s : Settings) (ids : List ℕ) (cs : List Provisioned) (n : ℕ) (ns : List PathNode) (p : ℕ) (d : PathNode)
     → map fixed ns ≡ map fixed (new_nodes s ids cs n) → p < n → fixed (get_or ns p d) ≡ fixed (new_node s ids cs (position_of p))
 node_is s ids cs n ns p d same low =
@@ -109,7 +109,7 @@ some_before : {X Y : Type 0} (f : X → Y) (o : Option X) → IsSome (option_map
 some_before f None h = h
 some_before f (Some x) h = refl
 
--- ports with equal fixed parts have equal names
+-- nodes with equal fixed parts have ports of the same names
 pub has_fixed : (id : PortId) (m n : PathNode) → fixed m ≡ fixed n → HasPort n.ports id → HasPort m.ports id
 unfolding fixed
 has_fixed id m n same h =
@@ -123,7 +123,7 @@ pub new_has : (s : Settings) (ids : List ℕ) (cs : List Provisioned) (p : ℕ) 
 unfolding new_node
 new_has s ids cs p id h = h
 
--- what the port delivered is read at that node
+-- what a port delivered is read at the node where it is
 pub outlet_is : (r : HeldPath) (id : PortId) (c : Provisioned) (n : PathNode) → slice_get r.circuits.circuits id.circuit ≡ Some c
     → slice_get r.nodes (end_of c id.end).0 ≡ Some n → outlet_at r id ≡ outlet_of id n.ports
 unfolding outlet_at

@@ -59,7 +59,7 @@ each_heard P keep (a ∷ b ∷ later) (n ∷ ns) each (suc p) h =
 
 -- ---- one node in its round
 
--- what goes into the AU-4s that leave it on a side
+-- what goes into the AU-4s that leave a node on a side
 abbrev pub puts : PathNode → Side → ℕ → Input
 puts n d = input_at (crossing n) n.ports d
 
@@ -69,7 +69,7 @@ module _ (n : PathNode) where
   inlet_after West = refl
   inlet_after East = refl
 
-  -- the side in the cross-connect of the round
+  -- what a side is in the cross-connect of the round
   pub line_taken : (d : Side) → line_on (lines_of (crossing n)) d ≡ line_after n.threshold (inlet_on d n)
   unfolding crossing
   line_taken West = refl
@@ -131,7 +131,7 @@ pub fixed_ports_after : (n : PathNode) → map fixed_port (node_after n).ports �
 unfolding node_round with_calm after_crossing
 fixed_ports_after n = ports_kept (crossing n) n.ports
 
--- what holds of each port's feed, by what the round makes of it
+-- Q holds of each port's feed after a round, if P held before it and the round makes Q of P
 feeds_after : (P Q : Fed → Type 0) → ((f : Fed) → P f → Q (next_feed f)) → (x : PathCross) (i j : ℕ) (ts : List Tributary)
     → All (λ (t : Tributary). P t.feed) ts
     → All (λ (t : Tributary). Q t.feed) (map_from (λ i t. fed t) i (map_from (λ i t. delivered_with (dropped_to x) t) j ts))
@@ -222,7 +222,7 @@ module _ (w : World) where
 
 -- ---- what arrives at a node
 
--- to a side before the round that begins with this world: in round 0 nothing
+-- what arrives on a side before the round that begins with this world: nothing in round 0
 abbrev pub told_to : World → ℕ → Side → Option Arrival
 told_to w p d = if w.ring.rounds == 0 then None else Some (arrival_at w.fibres p d)
 

@@ -96,7 +96,7 @@ outlet_there r index c e get lt =
     (slice_get r.nodes (end_of c e).0) silent) found silent) get
     ∙ ap (λ found. option_map_or (λ (n : PathNode). outlet_of id n.ports) found silent) node
 
--- in the round that begins with v
+-- what a port delivers in the round that begins with v
 outlet_after : (v : World) (whole : IsWhole v) (index : ℕ) (c : Provisioned) (e : End) → slice_get v.ring.circuits.circuits index ≡ Some c
     → (end_of c e).0 < length v.ring.nodes
     → outlet_at (round v).ring (port_id index e) ≡ delivered_from

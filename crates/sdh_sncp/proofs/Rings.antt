@@ -64,7 +64,7 @@ may_send r h whole few = λ p d lt. (let e = h.going whole p d lt in omega arith
 
 -- ---- a new ring
 
--- is that of any kind
+-- a new path ring is a new ring as `sdh_rounds` defines it for any kind of node
 pub fresh_is : (s : Settings) (ids : List ℕ) (circuits : Provisioning) → held.new_ring path_node s ids circuits ≡ new_ring s ids circuits
 unfolding new_nodes
 fresh_is s ids circuits = refl
@@ -101,7 +101,7 @@ ring_broke w left h b =
     ∙ first_keep path_node fixed w.ring.moment fixed_next (had_round b.off) (told_some path_node b.told w.ring.nodes)
     ∙ some_keep path_node fixed fixed_told b.told w.ring.nodes) (λ e. true_is_not_false e) (λ e. true_is_not_false e))
 
--- whatever it answered
+-- a ring stays one over a round, whatever the round answered
 pub ring_after : (exact : Bool) (w left : World) (before after : ℕ) (result : Result (Unit {0}) Fault) → IsRing w.ring
     → w.ring.broken ≡ false → IsOneRound path_node exact w result left before after → IsRing left.ring
 ring_after exact w left before after (Ok u) h whole one = ring_ran w left h whole one.ok

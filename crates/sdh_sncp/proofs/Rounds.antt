@@ -49,7 +49,7 @@ module _ (w : World) (whole : IsWhole w) where
   abbrev new_on : ℕ → Side → Inlet
   new_on p d = inlet_on d (node_at (round w).ring.nodes p)
 
-  -- the word that the neighbour of position p on a side says this way
+  -- the word that the neighbour on a side of position p sends towards p
   abbrev pub word_to : ℕ → Side → K
   word_to p d = first_word w.ring.ids (neighbour size p d) (opposite d)
 
@@ -83,7 +83,7 @@ module _ (w : World) (whole : IsWhole w) where
 
   -- ---- a side
 
-  -- with what arrives there
+  -- side d of position p with what arrives there
   abbrev pub inlet_at : ℕ → Side → Inlet
   inlet_at p d = record (old_on p d) { arrived = told_to w p d }
 
@@ -102,13 +102,13 @@ module _ (w : World) (whole : IsWhole w) where
         told = told_later w p d some ∙ ap Some (arrival_is p d ∙ ap (through (n_of rate) (condition_to w p d)) sent.there);
       }
 
-  -- what the round leaves of it
+  -- what the round leaves of the side
   pub side_is : (p : ℕ) (d : Side) → p < length w.ring.nodes → new_on p d ≡ after_taking (threshold_at p) (inlet_at p d)
   side_is p d h =
       ap (inlet_on d) (nodes_after w whole.placed p h) ∙ inlet_after (informed w p) d
       ∙ ap (after_taking (threshold_at p)) (informed_on w p d)
 
-  -- and in the cross-connect of the round
+  -- what the side is in the cross-connect of the round
   pub line_is : (p : ℕ) (d : Side) → line_on (lines_of (crossing (informed w p))) d ≡ line_after (threshold_at p) (inlet_at p d)
   line_is p d = line_taken (informed w p) d ∙ ap (line_after (threshold_at p)) (informed_on w p d)
 

@@ -13,7 +13,7 @@ use Rattle.sdh_terminal.proofs.Ports.{holds-adds}
 use Rattle.sdh_sncp.specs.Node.{PathCross, PathNode, after_taken, lines_of, leads, crossing, dropped_to, input_at, ports_after, unchanged}
 use Rattle.sdh_sncp.specs.Node.{after_crossing, node_frames, with_calm, node_round, GoesOn}
 
--- the node that holds these
+-- the node with these parts
 abbrev pub node_of : ℕ → ℕ → PathCross → List Tributary → Sending → Sending → Bool → PathNode
 node_of threshold rounds x ports west east calm = record {
   threshold = threshold;
@@ -66,7 +66,7 @@ module _ (threshold rounds : ℕ) (x0 : PathCross) (ports : List Tributary) (wo 
 
     module _ (wa ea : Sending) (west_send : wa ≡ after_sending (all_fed_by (lines_of x) (added_last fs) (leads x West)) wo)
         (east_send : ea ≡ after_sending (all_fed_by (lines_of x) (added_last fs) (leads x East)) eo) where
-      -- what the calls return is what is compared over the whole round
+      -- what the calls of a round return says together whether the round was calm
       pub calm_is : (ran taken west_made east_made : Bool) → ran ≡ nat_le 1 rounds
           → taken ≡ (same_readings x.west.readings x0.west.readings && same_readings x.east.readings x0.east.readings)
           → west_made ≡ same_generators wa.generators wo.generators → east_made ≡ same_generators ea.generators eo.generators

@@ -57,7 +57,7 @@ none_use at m i [] none = refl
 none_use at m i (x ∷ cs) none = let other : (x.slot.0 == m) ≡ false =
     ne_eqb x.slot.0 m (none 0 x refl) in rw other (none_use at m (i + 1) cs (λ j d is. none (suc j) d is))
 
--- the slot of a circuit is used for it alone
+-- what a node does with a circuit's slot is what it does for that circuit
 pub use_is : (cs : List Provisioned) → AreAlone cs → (at index : ℕ) (c : Provisioned) → slice_get cs index ≡ Some c
     → use_of cs at c.slot.0 ≡ use_by at index c
 unfolding use_of

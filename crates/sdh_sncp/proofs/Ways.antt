@@ -113,7 +113,7 @@ module _ (w : World) (whole : IsWhole w) (alone : AreAlone w.ring.circuits.circu
   abbrev sender : Customer
   sender = customer_at c (other_end e)
 
-  -- what a world of the run keeps of the first
+  -- what the world after i rounds of the run keeps of the first world
   module _ (i : ℕ) where
     abbrev u : World
     u = run i w

@@ -146,7 +146,7 @@ input_at x ports side = all_fed_by (lines_of x) (added_by ports) (leads x side)
 unfoldable pub ports_after : PathCross → List Tributary → List Tributary
 ports_after x ports = all_fed (all_delivered_with (dropped_to x) ports)
 
--- interpreters and generators keep what they kept before the round; nothing else is compared
+-- all interpreters and generators are as they were before the round; nothing else is compared
 abbrev pub unchanged : PathNode → PathNode → Bool
 unchanged new old =
     same_readings new.west.readings old.west.readings && same_readings new.east.readings old.east.readings

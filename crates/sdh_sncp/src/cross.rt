@@ -86,8 +86,8 @@ impl PathCross {
         }
     }
 
-    /// Lets both sides take what arrived, and the interpreters read. Returns whether the interpreters keep what they
-    /// kept before.
+    /// Lets both sides take what arrived, and the interpreters read. Returns whether no interpreter's state has
+    /// changed.
     #[tactic(auto, unfolding(crate::specs::Node::after_taken))]
     pub fn take(&mut self, threshold: u16) -> bool
         ensures cross { self.new ≡ after_taken threshold self.old }

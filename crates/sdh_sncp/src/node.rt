@@ -148,8 +148,8 @@ fn has_run(rounds: u64) -> bool
     rounds >= 1
 }
 
-// The signs by which a round is calm. `ran` says whether a round ran before it. Each other sign says of one call
-// whether what it compares is as before.
+// What decides whether a round is calm. `ran` says whether a round ran before it. Each other field says of one call
+// of the round whether it changed none of the interpreters or generators that it compares.
 #[derive(Drop)]
 struct Signs {
     ran: bool,

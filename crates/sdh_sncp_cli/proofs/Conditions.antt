@@ -58,7 +58,7 @@ told_more n q e c changes conditions some same told = record {
       ∙ ap (λ (x : Holding). x.condition) (sym (held_more n p d changes (Fibre q e c ∷ []) new_holding)));
 }
 
--- new fibres have none
+-- new fibres are in the conditions that no change gives: all are clear
 pub told_new : (n : ℕ) → 0 < n → AreTold n [] (replicate (2 * n) Clear)
 told_new n some = record {
   size = length-replicate (2 * n) Clear;

@@ -31,7 +31,7 @@ none_share plan i j A alone x =
     absurd (let same : i ≡ j = alone i j x.share.first x.share.second x.share.first_is x.share.second_is x.share.slot in omega
     (arith, x.order, same))
 
--- steps that are a path ring's have none that isn't
+-- where a path ring has all steps, no step is the first that it doesn't have
 none_strange : (plan : Planned) (step : ℕ) (A : Type 0) → first_strange plan.steps ≡ None → first_strange plan.steps ≡ Some step → A
 none_strange plan step A known strange = absurd (both known strange)
   where

@@ -30,7 +30,7 @@ use Rattle.sdh_sncp_cli.specs.Promise.{cut_after, due_ports, AreDue}
 use Rattle.sdh_sncp_cli.specs.Laws.{ReportsAreDue, PathScriptsSettle}
 use Rattle.sdh_sncp_cli.proofs.Standing.{Stands, stands_new, fibre_then, settled_then}
 
--- no report shows nothing wrong, after a fault
+-- after a fault no more reports are owed
 pub due_none : (n : ℕ) (circuits : List Provisioned) (limit : ℕ) (earlier : List Change) (ran before : ℕ) (later : List (List Change))
     (end : Status) → end ≡ status.PlantFault → AreDue n circuits limit earlier ran before later [] end
 due_none n circuits limit earlier ran before [] end h = (refl, inr h)

@@ -10,7 +10,7 @@ use Rattle.sdh_plan.specs.Steps.{Past, after, new_past}
 use Rattle.sdh_plan.specs.Scripts.{AreSteps}
 use Rattle.sdh_sncp_cli.specs.Steps.{is_strange, first_strange, AreKnown, MayDo}
 
--- the first that is strange is after them all
+-- where no step is strange, the search for one goes past the last step
 none_here : (steps : List Step) → AreKnown steps → length steps ≤ position_or_len is_strange steps
 unfolding first_strange
 none_here steps none = by (nat_lt (position_or_len is_strange steps) (length steps)) refl none

@@ -25,8 +25,8 @@ pub record IsRunPlan (words : List (List ℕ)) (bytes : List ℕ) (plan : Planne
   pub known : AreKnown plan.steps
   pub alone : AreAlone plan.circuits
 
--- The number with which the program ends where the script came to an end so: 0 where it is done, 7 where a settle step
--- was unsettled, and 8 where a call of the plant failed.
+-- The number with which the program ends where the script ended with this status: 0 where it is done, 7 where a settle
+-- step was unsettled, and 8 where a call of the plant failed.
 abbrev pub RanTo : ℕ → Status → Type 0
 RanTo number status.Ok = number ≡ 0
 RanTo number (status.Unsettled k) = number ≡ 7

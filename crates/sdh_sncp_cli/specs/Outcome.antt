@@ -16,8 +16,8 @@ use Rattle.sdh_sncp_cli.specs.Endings.{path_endings}
 use Rattle.sdh_sncp_cli.specs.declared.ending.Ending.{Ending}
 use Rattle.sdh_sncp_cli.specs.declared.ending.Ending.TheVariants as ending
 
--- What is done with a plan. If a step is none of a path ring's, the first such step is refused by its number. Else, if
--- two circuits share a slot, the first two are refused. Else the plan is run.
+-- What is done with a plan. If a path ring doesn't have one of its steps, the first such step is refused by its number.
+-- Else, if two circuits share a slot, the first two are refused. Else the plan is run.
 abbrev pub Does : Planned → Deed (Unit {0}) Ending → Type 0
 Does plan (Refuses (ending.NoSuchStep step)) = first_strange plan.steps ≡ Some step
 Does plan (Refuses (ending.SameSlot first second)) = AreKnown plan.steps × AreFirstToShare plan.circuits first second

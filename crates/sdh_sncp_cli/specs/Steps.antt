@@ -5,7 +5,7 @@ use Rattle.sdh_ringmap.specs.Fibres.{IsConditionAt}
 use Rattle.sdh_plan.specs.declared.step.Step.{Step}
 use Rattle.sdh_plan.specs.declared.step.Step.TheVariants as step
 
--- a step is none of a path ring's: a path ring's steps give a fibre a condition, or settle
+-- a path ring doesn't have the step: a path ring's steps give a fibre a condition, or settle
 abbrev pub is_strange : Step → Bool
 is_strange (step.Fibre e) = false
 is_strange (step.Order p d c) = true
@@ -14,7 +14,7 @@ is_strange (step.Hold p turns) = true
 is_strange (step.Slip port turn count) = true
 is_strange step.Settle = false
 
--- the first step that is none of a path ring's, counted from 1
+-- the number of the first step that a path ring doesn't have, counted from 1
 unfoldable pub first_strange : List Step → Option ℕ
 first_strange steps = option_map (λ i. i + 1) (position is_strange steps)
 

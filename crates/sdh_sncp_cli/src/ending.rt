@@ -9,7 +9,7 @@ use sdh_shell::Ends;
 /// How the program ends.
 #[derive(Clone, Copy, Debug, PartialEq, Eq)]
 pub enum Ending {
-    /// This step of the script, counted from 1, is the first that is none of a path ring's.
+    /// This step of the script, counted from 1, is the first that a path ring doesn't have.
     NoSuchStep(u32),
     /// These two circuits, counted from 0, are the first that share a slot.
     SameSlot { first: u8, second: u8 },
@@ -58,7 +58,7 @@ fn put_same_slot(text: &mut Text, first: u8, second: u8)
     text.put(b"\n");
 }
 
-// Appends the last line for a step that is none of a path ring's.
+// Appends the last line for a step that a path ring doesn't have.
 fn put_no_such_step(text: &mut Text, step: u32)
     requires { length (no_such_step_line step) ≤ text.old.room }
     ensures { text.new ≡ with_part text.old (no_such_step_line step) }

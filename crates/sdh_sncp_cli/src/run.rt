@@ -48,8 +48,8 @@ pub fn run_plan<P: Plant>(alloc: Global, plan: Plan, plant: &mut P) -> Result<Ru
     requires fresh { HasNoFibres (P.fibres plant.old) }
     requires known { AreKnown plan.steps }
 
-    // The text is that of one list of reports. Of these it is said what holds over every plant, what holds where the
-    // arrivals are known, and what holds over honest fibres.
+    // The text is that of one list of reports. The clause says what holds of these over every plant, where the arrivals
+    // are known, and over honest fibres.
     ensures came { IfOk result (λ run. Tells plan (P.fibres plant.old) run.text.bytes run.status (P.fibres plant.new)) }
 
     // The first two circuits that share a slot are refused.

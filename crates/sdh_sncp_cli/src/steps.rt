@@ -4,14 +4,14 @@ ghost use Rattle.sdh_sncp_cli.specs.Steps.{is_strange, first_strange};
 
 use sdh_plan::Step;
 
-// Returns whether a step is none of a path ring's.
+// Returns whether a step is one that a path ring doesn't have.
 fn is_strange(step: &Step) -> bool
     ensures { result ≡ is_strange step.now }
 {
     !matches!(step, Step::Fibre(_) | Step::Settle)
 }
 
-// Returns the place of the first step that is none of a path ring's, or `None` where all are.
+// Returns the place of the first step that a path ring doesn't have, counted from 0, or `None` where it has all.
 fn strange_place(steps: &[Step]) -> Option<usize>
     ensures place { result ≡ position is_strange steps.now }
     ensures within { IfSome result (λ i. i < length steps.now) }
@@ -19,8 +19,8 @@ fn strange_place(steps: &[Step]) -> Option<usize>
     steps.iter().position(|step| is_strange(step))
 }
 
-/// Returns the first step that is none of a path ring's, counted from 1, or `None` where all are a path ring's. Those
-/// give a fibre a condition, or settle.
+/// Returns the number of the first step that a path ring doesn't have, counted from 1, or `None` where it has all. The
+/// steps of a path ring give a fibre a condition, or settle.
 #[tactic(auto, unfolding(crate::specs::Steps::first_strange))]
 pub fn first_strange(steps: &[Step]) -> Option<u32>
     requires few { length steps.now ≤ 1000 }

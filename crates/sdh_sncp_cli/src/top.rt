@@ -17,8 +17,8 @@ use sdh_scripts::call;
 use std::alloc::Global;
 
 /// Does all that the program does, and returns the number with which it ends. With the word `run` it reads a plan from
-/// the source, runs its path ring over the plant, and writes the report of every settle step: a line of the step and
-/// one of each port. The last line says how the run ended. The text is written once, at the end.
+/// the source, runs its path ring over the plant, and writes the report of each settle step that settles: a line of the
+/// step and one of each port. The last line says how the run ended. The text is written once, at the end.
 pub fn sdhpath<R: Source, W: Sink, P: Plant>(
     alloc: Global,
     words: &[String],
@@ -28,9 +28,9 @@ pub fn sdhpath<R: Source, W: Sink, P: Plant>(
 ) -> u8
     requires fresh { HasNoFibres (P.fibres plant.old) }
 
-    // The number and the text that is written. It is said where the bytes of a source that is read are known, and where
-    // the sink shows what was written. Over every plant the frames sent are those of the run. Where the arrivals are
-    // known, all of these frames are known.
+    // The number and the text that is written, where the bytes of a source that is read are known, and where the sink
+    // shows what was written. Over every plant the frames sent are those of the run. Where the arrivals are known, all
+    // of these frames are known.
     ensures outcome { let reads : Counts = record { before = R.faults source.old; after = R.faults source.new } in
         let calls : Counts = record { before = P.faults plant.old; after = P.faults plant.new } in
         IfSome (told (words_of words.now) (R.left source.old)) (λ bytes. Answers (words_of words.now) bytes (P.fibres plant.old)

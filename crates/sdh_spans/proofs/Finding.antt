@@ -124,7 +124,7 @@ module _ (at : Rate) (c : Condition) (k : K) (line : List ℕ) (threshold : ℕ)
     same_b2 : b2_violations n last (scrambled (9 * n) out) ≡ b2_violations n last (scrambled (9 * n) line)
     same_b2 = b2_by n last _ _ (b2_through at c line out is.says.size comes.there)
 
-  -- what is so after a cut fibre, and after any other
+  -- x is a after a cut fibre, and b after any other
   by_cut : {X : Type 0} (x a b : X) → (is_cut c ≡ true → x ≡ a) → (is_cut c ≡ false → x ≡ b) → x ≡ (if is_cut c then a else b)
   by_cut x a b behind_cut behind_clear = elim (cases_Bool (is_cut c)) [
     | inl cut ↦ behind_cut cut ∙ sym (ap (λ (t : Bool). if t then a else b) cut)

@@ -75,7 +75,7 @@ module _ (at : Rate) (c : Condition) (w : K) (line : List ℕ) (i : Inlet) (thre
             ∙ ap (λ (r : Reading). r.value) (sym next);
       }
 
-  -- where the interpreters don't move
+  -- where the interpreters don't change
   module _ (still : (after_taking threshold i).readings ≡ i.readings) where
     stands : after_frame n taken i.readings ≡ i.readings
     stands = sym took_in.left ∙ ap (λ (y : Line). y.readings) there ∙ still

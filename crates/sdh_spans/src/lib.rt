@@ -62,14 +62,14 @@ pub fn cut_spans_bring_ais()
     ensures { CutSpansBringAis }
 {}
 
-/// One round after the input of a generator has come to keep one action and one pointer value, whatever its bytes are,
-/// the generator is in one state for good.
+/// Where the input of a generator has one action and one pointer value from some round on, whatever its bytes are, the
+/// generator is in one state from the next round on.
 pub fn generators_rest()
     ensures { GeneratorsRest }
 {}
 
-/// Nine rounds after the input of a generator has come to keep one action and one pointer value, the interpreter after
-/// the span changes no more, and what comes keeps one action and one pointer value too.
+/// Where the input of a generator has one action and one pointer value from some round on, then from nine rounds later
+/// on the interpreter after the span changes no more, and what comes has one action and one pointer value too.
 pub fn spans_are_steady()
     ensures { SpansAreSteady }
 {}

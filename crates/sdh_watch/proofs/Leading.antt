@@ -37,7 +37,7 @@ held_one w left is =
     subst (λ (v : World). v.ring ≡ record w.ring { nodes = v.ring.nodes; rounds = w.ring.rounds + 1 }) (sym is.after_is)
     (held_round adm is.arrivals w)
 
--- after one round more
+-- what k + 1 rounds leave of a ring, from what k rounds and one more leave
 pub held_more : (w mid left : World) (k : ℕ) → mid.ring ≡ record w.ring { nodes = mid.ring.nodes; rounds = w.ring.rounds + k }
     → IsRound mid left → left.ring ≡ record w.ring { nodes = left.ring.nodes; rounds = w.ring.rounds + (k + 1) }
 held_more w mid left k held is =

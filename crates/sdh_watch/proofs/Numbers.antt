@@ -4,7 +4,7 @@ use Rattle.sdh_report.specs.declared.status.Status.{Status}
 use Rattle.sdh_report.specs.declared.status.Status.TheVariants as status
 use Rattle.sdh_report.specs.Statuses.{number_of}
 
--- the whole number of a status that has no parts gives it
+-- only the status Ok has the number 0
 pub is_done : (how : Status) → number_of how ≡ 0 → how ≡ status.Ok
 is_done status.Ok e = refl
 is_done status.Usage e = absurd (omega (arith, e))

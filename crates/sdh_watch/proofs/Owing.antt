@@ -65,7 +65,7 @@ use Rattle.sdh_watch.proofs.Rounds.{watched_by}
 use Rattle.sdh_watch.proofs.Clean.{rest_shows, last_due}
 use Rattle.sdh_watch.proofs.Plainly.{GoesPlainly, IsInStep, step_first, plainly}
 
--- where nothing is reported, nothing wrong is, after a fault
+-- after a fault no more reports are owed
 pub clean_none : (ring : Ring) (limit : ℕ) (earlier : List Stretch) (before : ℕ) (later : List (List Change)) (end : Status)
     → end ≡ status.PlantFault → AreClean ring limit earlier before later [] end
 clean_none ring limit earlier before [] end h = (refl, inr h)

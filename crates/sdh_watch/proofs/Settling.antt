@@ -38,7 +38,7 @@ module _ (converge : StretchesConverge) (law : SettledRingsRestore) (rest : Step
   abbrev Now : Past → List Stretch → List Change → World → Type 0
   Now past earlier changes w = Stands s ids circuits f may past earlier changes w
 
-  -- a step with so large a limit
+  -- a step with a large limit is never unsettled
   never : (past : Past) (earlier : List Stretch) (changes : List Change) (w left : World) (limit : ℕ) → Now past earlier changes w
       → enough_for (length ids) ≤ limit → Unsettles w limit left → ⊥
   unfolding any_run.run

@@ -31,8 +31,8 @@ pub fn sdhwatch<R: Source, W: Sink, P: Plant>(
 ) -> u8
     requires fresh { HasNoFibres (P.fibres plant.old) }
 
-    // The number and the text that is written. It is said where the bytes of a source that is read are known, and where
-    // the sink shows what was written.
+    // The number and the text that is written, where the bytes of a source that is read are known, and where the sink
+    // shows what was written.
     ensures outcome { let ask = asked (words_of words.now) in
         let reads : Counts = record { before = R.faults source.old; after = R.faults source.new } in
         let calls : Counts = record { before = P.faults plant.old; after = P.faults plant.new } in

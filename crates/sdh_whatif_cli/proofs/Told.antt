@@ -1,4 +1,4 @@
--- What is so of an answer by two clauses.
+-- What two clauses for Ok say together of one result.
 use Rattle.std.proofs.Common.{Result, Ok, Err}
 use Rattle.std.specs.Prelude.{IfOk}
 

@@ -34,7 +34,7 @@ use Rattle.sdh_whatif_cli.specs.Counting.{fate_of, counts_of}
 use Rattle.sdh_whatif_cli.specs.Singles.{singles_text}
 use Rattle.sdh_whatif_cli.specs.Cases.{numbers_of, is_of_ring, base_of, digits_at, case_at, entry_at}
 
--- texts, with this between each two of them
+-- the texts as one, with `between` between each two of them
 abbrev pub joined : List ℕ → List (List ℕ) → List ℕ
 joined between [] = []
 joined between (text ∷ more) = text ++ flat_map (λ t. between ++ t) more
@@ -48,7 +48,7 @@ is_json form.Table = false
 is_json form.Headed = false
 is_json form.Summary = false
 
--- the one text in JSON, and the other in the table
+-- `json` where the form is JSON, and `table` where it is the table
 abbrev pub either : Form → List ℕ → List ℕ → List ℕ
 either f json table = if is_json f then json else table
 
@@ -172,7 +172,7 @@ fate_cell f fate.Impaired hops = either f (codes "\"impaired\"") (codes "i")
 fate_cell f fate.Over hops = decimal hops
 fate_cell f fate.Lost hops = either f (codes "\"lost\"") (codes "x")
 
--- what stands before it: in JSON the circuit's name
+-- what stands before the fate of a circuit: in JSON the circuit's name, in the table a comma
 abbrev pub before_fate : Form → List ℕ → List ℕ
 before_fate f name = if is_json f then codes "\"" ++ name ++ codes "\":" else codes ","
 

@@ -40,7 +40,7 @@ all_there [] = Some []
 all_there (None ∷ more) = None
 all_there (Some failure ∷ more) = option_map (λ others. failure ∷ others) (all_there more)
 
--- the failures that a text names, or nothing where it has more than 16 names, or one that is none of the ring's
+-- the failures that a text names, or nothing where it has more than 16 names, or a name of no failure
 unfoldable pub together : List ℕ → List ℕ → Option (List Failure)
 together nodes text = if nat_lt 16 (length (names_in text)) then None else all_there (map (failure_named nodes) (names_in text))
 

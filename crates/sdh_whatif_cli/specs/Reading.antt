@@ -10,13 +10,13 @@ use Rattle.sdh_plan.specs.declared.step.Step.{Step}
 use Rattle.sdh_whatif_cli.specs.declared.ask.Form.{Form}
 use Rattle.sdh_whatif_cli.specs.Lines.{is_json}
 
--- what a field of the table says that stands in quotes, by RFC 4180: two quotes in it are one
+-- the text of a field of the table that stands in quotes, by RFC 4180: two quotes in it stand for one
 abbrev pub unquoted : List ℕ → List ℕ
 unquoted [] = []
 unquoted (a ∷ []) = a ∷ []
 unquoted (a ∷ b ∷ more) = if (a == 34) && (b == 34) then a ∷ unquoted more else a ∷ unquoted (b ∷ more)
 
--- in JSON it is as it stands
+-- the text of a field: in JSON as it stands, in the table with two quotes read as one
 abbrev pub field_read : Form → List ℕ → List ℕ
 field_read f text = if is_json f then text else unquoted text
 

@@ -55,7 +55,7 @@ abbrev pub tally_record : Kind → Tally → List ℕ
 tally_record k t =
     kind_text k ++ codes "," ++ decimal t.cases ++ codes "," ++ decimal t.losing ++ codes "," ++ decimal t.most ++ codes "\r\n"
 
--- where a ring of n has the failures of a kind: from which number on, and how many; it has none of the user's own
+-- the number of the first failure of a kind in a ring of n, and how many there are; the ring has none of the user's own
 abbrev pub first_of : ℕ → Kind → ℕ
 first_of n kind.Degraded = 0
 first_of n kind.Fibres = 2 * n

@@ -22,7 +22,7 @@ depth_named word =
     if bytes_eq word (codes "single") then Some Single else if bytes_eq word (codes "double")
     then Some Double else if bytes_eq word (codes "triple") then Some Triple else None
 
--- which failures
+-- the kind of failures that a word names
 abbrev pub kind_named : List ℕ → Option Kind
 kind_named word =
     if bytes_eq word (codes "degraded") then Some kind.Degraded
@@ -100,7 +100,7 @@ begun depth = record { ask = all_of depth; awaited = awaited.Any; is_parted = fa
 abbrev pub ask_kind : Ask → Kind → Option Ask
 ask_kind ask k = if has_kind ask.kinds k then None else Some (record ask { kinds = with_kind ask.kinds k })
 
--- no form is asked for
+-- the form is the one that stands where none is asked for
 abbrev pub is_plain : Form → Bool
 is_plain form.Table = true
 is_plain form.Headed = false
@@ -148,7 +148,7 @@ with_own r = record {
 abbrev pub with_part : Ask → ℕ → ℕ → Ask
 with_part ask part parts = record ask { part = part; parts = parts }
 
--- which part
+-- the number of a part is read
 abbrev pub read_part : AskedSoFar → List ℕ → Option AskedSoFar
 read_part r word =
     option_map (λ k. record { ask = with_part r.ask k (2 ^ 32 - 1); awaited = awaited.Parts; is_parted = r.is_parted })
@@ -166,11 +166,11 @@ read_awaited awaited.Part r word = read_part r word
 read_awaited awaited.Parts r word = read_parts r word
 read_awaited awaited.Own r word = Some (with_own r)
 
--- one word more
+-- one word more is read
 abbrev pub read_word : AskedSoFar → List ℕ → Option AskedSoFar
 read_word r word = read_awaited r.awaited r word
 
--- these words, one after the other
+-- these words are read, one after the other
 abbrev pub read_words : AskedSoFar → List (List ℕ) → Option AskedSoFar
 read_words r [] = Some r
 read_words r (word ∷ more) = option_and_then (λ next. read_words next more) (read_word r word)
@@ -182,7 +182,7 @@ is_whole awaited.Part = false
 is_whole awaited.Parts = false
 is_whole awaited.Own = false
 
--- what each failure alone takes comes in one piece
+-- cases may be listed in parts; the counts of each failure alone come in one piece
 abbrev pub may_be_parted : Form → Bool
 may_be_parted form.Table = true
 may_be_parted form.Headed = true

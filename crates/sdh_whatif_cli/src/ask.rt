@@ -165,7 +165,7 @@ impl Kinds {
             || self.own
     }
 
-    /// Returns whether failures of the kind are taken: it is named, or none is.
+    /// Returns whether failures of a kind are among the cases: the kind is named, or none is.
     pub fn takes(self, kind: Kind) -> bool
         ensures { result ≡ takes self kind }
     {
@@ -237,7 +237,7 @@ fn ask_kind(ask: Ask, kind: Kind) -> Option<Ask>
     Some(Ask { kinds, ..ask })
 }
 
-// Returns whether no form is asked for.
+// Returns whether a form is the one that stands where none is asked for.
 fn is_plain(form: Form) -> bool
     ensures { result ≡ is_plain form }
 {
@@ -410,7 +410,7 @@ fn is_whole(awaited: Awaited) -> bool
     }
 }
 
-// Returns whether a form has parts.
+// Returns whether cases in a form may be listed in parts.
 fn may_be_parted(form: Form) -> bool
     ensures { result ≡ may_be_parted form }
 {
@@ -451,7 +451,7 @@ fn begun(depth: Depth) -> AskedSoFar
     }
 }
 
-/// Returns what the words ask for, or `None` where they have none of the forms that there are.
+/// Returns what the words ask for, or `None` where they have no form that the program knows.
 #[tactic(auto, unfolding(crate::specs::Words::asked))]
 pub fn asked(words: &[String]) -> Option<Ask>
     ensures is { result ≡ asked (words_of words.now) }

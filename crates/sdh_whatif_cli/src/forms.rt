@@ -31,7 +31,7 @@ pub fn is_json(form: Form) -> bool
     }
 }
 
-/// Appends the one text in JSON, and the other in the table.
+/// Appends `json` where the form is JSON, and `table` where it is the table.
 pub fn put_either(line: &mut Line, form: Form, json: &[u8], table: &[u8])
     requires short { (length json.now ≤ 13) × (length table.now ≤ 13) }
     requires room { length line.old + 13 ≤ 20480 }
@@ -45,7 +45,7 @@ pub fn put_either(line: &mut Line, form: Form, json: &[u8], table: &[u8])
     }
 }
 
-/// Appends what parts the text of this number from the one before it; nothing before the first.
+/// Appends what stands between text number `i`, counted from 0, and the one before it; nothing before the first.
 pub fn put_between(line: &mut Line, form: Form, json: &[u8], table: &[u8], i: usize)
     requires short { (length json.now ≤ 13) × (length table.now ≤ 13) }
     requires room { length line.old + 13 ≤ 20480 }

@@ -5,7 +5,7 @@ use itoa::Buffer;
 use std::alloc::{AllocError, Global};
 use std::marker::Model;
 
-/// Room for any one line, in bytes.
+/// The room that a line has, in bytes: enough for any one.
 pub const LINE_ROOM: usize = 20480;
 
 /// The bytes of a line. Its room is reserved when it is made, so no part of a line takes memory.
@@ -41,7 +41,7 @@ impl Line {
         &self.bytes
     }
 
-    /// Takes all of it away.
+    /// Empties the line.
     pub fn clear(&mut self)
         ensures { self.new ≡ [] }
     {

@@ -69,7 +69,7 @@ fn put_case(line: &mut Line, plan: &Plan, spans: &CaseSpans, entry: Entry, case:
 
 // ---- counts
 
-// Counts of circuits, and the longest way.
+// Appends the counts of circuits, and the number of spans of the longest way.
 fn put_counts(line: &mut Line, form: Form, counts: Counts)
     requires room { length line.old + 90 ≤ 20480 }
     ensures text { line.new ≡ line.old ++ counts_text form counts }

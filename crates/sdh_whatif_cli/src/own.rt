@@ -57,7 +57,7 @@ impl OwnFailures {
 /// Why there are no failures of the user's own.
 #[derive(Clone, Copy, Debug, PartialEq, Eq)]
 pub enum OwnError {
-    /// There was no memory.
+    /// Memory ran out.
     Memory,
     /// The text at this place, counted from 1, has more than 16 names or a name of no failure of the ring, or is the
     /// 17th.
@@ -129,7 +129,7 @@ fn cut(text: &[u8]) -> (&[u8], Option<&[u8]>)
     }
 }
 
-// Returns the failures that a text names, or `None` where it has more than 16 names, or one that is none of the ring's.
+// Returns the failures that a text names, or `None` where it has more than 16 names, or a name of no failure.
 fn together(
     alloc: Global,
     line: &mut Line,

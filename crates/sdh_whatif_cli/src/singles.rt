@@ -1,4 +1,4 @@
-//! What each failure alone takes, kind by kind.
+//! How many circuits are lost in each failure alone, kind by kind.
 ghost use Rattle.std.specs.Prelude.{◌≡◌, ◌+◌, ◌*◌, ◌<◌, ◌≤◌, ◌++◌, codes, decimal, length, []};
 ghost use Rattle.sdh_verdicts.specs.Verdicts.{AreSidesOf};
 ghost use Rattle.sdh_whatif_cli.specs.Singles.{with_case, tallied, tally_of, kind_text, tally_record, first_of, number_of, kind_record, singles_text};
@@ -106,7 +106,7 @@ fn put_tally(line: &mut Line, kind: Kind, tally: Tally)
     line.put(b"\r\n");
 }
 
-// Returns where a ring has the failures of a kind: from which number on, and how many.
+// Returns the number of the first failure of a kind in a ring, and how many of that kind there are.
 fn numbers_of(nodes: usize, kind: Kind) -> (usize, usize)
     requires few { nodes ≤ 16 }
     ensures first { result.0 ≡ first_of nodes kind }

@@ -108,7 +108,7 @@ fn tell<W: Sink>(
     })
 }
 
-// Returns what is asked for, with the plan that a source has.
+// Does what is asked for with the plan that a source has, or refuses it. Returns how that ended.
 fn answer_ask<R: Source, W: Sink>(
     alloc: Global,
     ask: Ask,
@@ -138,7 +138,7 @@ fn answer_ask<R: Source, W: Sink>(
     }
 }
 
-// Returns all that is done with memory.
+// Does all that the program does, and returns how that ended, or an error where memory runs out.
 fn answer<R: Source, W: Sink>(
     alloc: Global,
     words: &[String],
@@ -180,7 +180,7 @@ pub fn whatif<R: Source, W: Sink>(
     source: &mut R,
     sink: &mut W,
 ) -> Status
-    // The status and the text that is written, for a source whose bytes are known, where it is read, and a sink that
+    // The status and the text that is written, where the bytes of a source that is read are known, and where the sink
     // shows what was written.
     ensures outcome { IfSome (told (asked (words_of words.now)) (R.left source.old))
         (λ bytes. Writes (λ how text. IsOutcome (asked (words_of words.now)) (own_texts (words_of words.now)) bytes how text) result (W.written sink.old)
@@ -189,7 +189,7 @@ pub fn whatif<R: Source, W: Sink>(
     // What each line says is what reports show: the last one of the plan with the line's steps after its script.
     ensures lines { LinesAreTrue }
 
-    // Over every source and sink.
+    // These clauses hold over every source and sink.
     ensures usage { result ≡ Status.Usage → asked (words_of words.now) ≡ None }
     ensures usage_only { asked (words_of words.now) ≡ None
         → (result ≡ Status.Usage) ⊎ (result ≡ Status.WriteFault) ⊎ (result ≡ Status.Memory) }
@@ -204,8 +204,8 @@ pub fn whatif<R: Source, W: Sink>(
     ensures read_whole { result ≡ Status.Ok → IsAtEnd (R.left source.new) }
     ensures later { (R.faults source.old ≤ R.faults source.new) × (W.faults sink.old ≤ W.faults sink.new) }
 
-    // With the words, the bytes of a plan in whose ring the user's own failures are, and no fault, everything is
-    // written, or there is no memory.
+    // Where the words ask for something, the plan's ring has the user's own failures and no call fails, everything is
+    // written, or memory runs out.
     ensures complete { asked (words_of words.now) ≢ None → HasPlanFor (own_texts (words_of words.now)) (R.left source.old)
         → ¬ (Rose (R.faults source.old) (R.faults source.new)) → ¬ (Rose (W.faults sink.old) (W.faults sink.new))
         → (result ≡ Status.Ok) ⊎ (result ≡ Status.Memory) }

@@ -55,7 +55,7 @@ same_ends B B h = refl
 same_ends A B h = absurd (cc)
 same_ends B A h = absurd (cc)
 
--- a name is that of one port alone
+-- two ports with the same name are one port
 pub one_port : (p q : PortId) → same_port p q ≡ true → p ≡ q
 one_port p q h =
     let circuit = eqb-true p.circuit q.circuit (left_true (p.circuit == q.circuit) (same_end p.end q.end) h) in
@@ -77,7 +77,7 @@ Follows f before after = IsSome before → IsSome after × (clock_of after ≡ f
 follows_same : (o : Option Tributary) → Follows (λ c. c) o o
 follows_same o = λ there. (there, refl)
 
--- among changed ports, where the change is none of its name
+-- a port is found among changed ports too, where the change keeps all names
 follows_mapped : (id : PortId) (f : Clock → Clock) (g : ℕ → Tributary → Tributary)
     → ((k : ℕ) (t : Tributary) → is_port id (g k t) ≡ is_port id t) → ((k : ℕ) (t : Tributary) → (g k t).feed.clock ≡ f t.feed.clock)
     → (i : ℕ) (ts : List Tributary) → Follows f (find (is_port id) ts) (find (is_port id) (map_from g i ts))
@@ -110,7 +110,7 @@ node_met : (id : PortId) (west east : Arrival) (n : Node) → NodeFollows id (λ
 unfolding any_round.with_arrivals
 node_met id west east n = follows_same (port_of id n.ports)
 
--- its own slips
+-- slips at a port change the port's clock
 ports_slipped : (id : PortId) (turn : Turn) (count : ℕ) (ts : List Tributary)
     → Follows (with_waiting turn count) (port_of id ts) (port_of id (with_slips id turn count ts))
 unfolding port_of with_slips
@@ -149,7 +149,7 @@ ports_apart id other turn count (t ∷ ts) apart = by (is_port id t) refl (is_po
 
 -- ---- after slips
 
--- what is true of all ports stays so, where it does of the one that is found
+-- what is true of all ports stays true after slips, if it stays true of the port that gets them
 pub slips_keep : (P : Tributary → Type 0) (id : PortId) (turn : Turn) (count : ℕ) (ts : List Tributary)
     → ((t : Tributary) → port_of id ts ≡ Some t → P t → P (slipped turn count t)) → All P ts → All P (with_slips id turn count ts)
 unfolding port_of with_slips
@@ -219,7 +219,7 @@ rest_waits : (turn : Turn) (count : ℕ) (c : Clock) → (with_waiting turn coun
 rest_waits Up count c = refl
 rest_waits Down count c = refl
 
--- the nodes of a ring go on so
+-- after slips the nodes of a ring have run as many rounds, and the clocks of their ports are still rested
 pub all_on_slipped : (r : HeldRing) (id : PortId) (turn : Turn) (count rounds moment : ℕ) → waiting_at r id + count ≤ 16
     → All (IsOn rounds moment) r.nodes → All (IsOn rounds moment) (at_place (place_of_port r id) (slips_at id turn count) r.nodes)
 all_on_slipped r id turn count rounds moment most =
@@ -342,7 +342,7 @@ goes_changes id (c ∷ cs) w =
     goes_twice id (clock_after id c) (clock_changed id cs) w (changed c w) (all_changed cs (changed c w)) (goes_changed id c w)
     (goes_changes id cs (changed c w))
 
--- a number of rounds after changes
+-- a port's clock after the changes of a stretch and t rounds
 abbrev part_in : PortId → Stretch → ℕ → Clock → Clock
 part_in id s t c = ticks t (clock_changed id s.changes c)
 
@@ -351,7 +351,7 @@ goes_part id s t w =
     goes_twice id (clock_changed id s.changes) (ticks t) w (all_changed s.changes w) (run t (all_changed s.changes w))
     (goes_changes id s.changes w) (goes_run id t (all_changed s.changes w))
 
--- before a round of the stretches
+-- the clock before round t of the stretches
 pub goes_in : (id : PortId) (ss : List Stretch) (t : ℕ) (w : World) → t < rounds_in ss
     → Goes id (λ c. clock_in id ss c t) w (world_in ss w t)
 goes_in id [] t w low = absurd (omega arith)
@@ -377,7 +377,7 @@ goes_behind id (s ∷ ss) w =
 
 -- ---- a new ring
 
--- as of a port of this name among these circuits
+-- a port whose clock is the first one of the port with its name among these circuits
 abbrev IsFirst : List Provisioned → Tributary → Type 0
 IsFirst circuits t = t.feed.clock ≡ first_clock circuits t.port
 

@@ -92,7 +92,7 @@ pub all_next : (now : ℕ) (ns : List Node) → map fixed (map (node_after now) 
 all_next now [] = refl
 all_next now (n ∷ ns) = ap (λ f. f ∷ map fixed (map (node_after now) ns)) (fixed_next now n) ∙ ap (λ fs. fixed n ∷ fs) (all_next now ns)
 
--- what a change of one node leaves of it stays of all
+-- what a change of one node keeps of that node, it keeps of all nodes
 pub all_placed : {Y : Type 0} (f : Node → Y) (change : Node → Node) → ((n : Node) → f (change n) ≡ f n) → (i : ℕ) (ns : List Node)
     → map f (at_place i change ns) ≡ map f ns
 all_placed f change same i [] = refl
@@ -113,7 +113,7 @@ all_slipped i id turn count ns = all_placed fixed (slips_at id turn count) (fixe
 
 -- ---- the feeds of ports
 
--- what holds of each port's feed, by what the round makes of it
+-- Q holds of each port's feed after a round, if P held before it and the round makes Q of P
 feeds_after : (P Q : Fed → Type 0) → ((f : Fed) → P f → Q (next_feed f)) → (x : Cross) (i j : ℕ) (ts : List Tributary)
     → All (λ (t : Tributary). P t.feed) ts → All (λ (t : Tributary). Q t.feed)
     (map_from (λ i t. fed t) i (map_from (λ i t. delivered_to x t) j ts))
@@ -224,7 +224,7 @@ pub length-fixed : (s : Settings) (ids : List ℕ) (cs : List Provisioned) (n : 
 length-fixed s ids cs n ns same =
     sym (length-map ns fixed) ∙ ap length same ∙ length-map (new_nodes s ids cs n) fixed ∙ length-new s ids cs n
 
--- is what the new node there is
+-- the node at a position has the fixed part of the new node there
 pub node_is : (s : Settings) (ids : List ℕ) (cs : List Provisioned) (n : ℕ) (ns : List Node) (p : ℕ) (d : Node)
     → map fixed ns ≡ map fixed (new_nodes s ids cs n) → p < n → fixed (get_or ns p d) ≡ fixed (new_node s ids cs (position_of p))
 node_is s ids cs n ns p d same low =

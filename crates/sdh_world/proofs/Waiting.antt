@@ -71,7 +71,7 @@ like_run (xs ∷ later) w =
 
 -- ---- what waits
 
--- by the port that is found
+-- P holds of the clock at a name, by the two cases: the ring has the port, or it hasn't
 by_found : (r : HeldRing) (id : PortId) (P : Clock → Type 0) → P (new_clock 0) → (HasPortIn r id → P (clock_at r id)) → P (clock_at r id)
 unfolding clock_at
 by_found r id P none some = by (port_in r id) refl
@@ -88,7 +88,7 @@ waits_changed c w id =
     let goes = goes_changed id c w (was_there id w.ring (changed c w).ring (like_changed c w) there) in
     omega (arith, ap (λ (k : Clock). waiting k) goes.1)))
 
--- in a new ring none waits
+-- in a new ring no slip waits
 pub waits_new : (s : Settings) (ids : List ℕ) (circuits : Provisioning) (id : PortId) → waiting_at (new_ring s ids circuits) id ≡ 0
 unfolding first_clock
 waits_new s ids circuits id =

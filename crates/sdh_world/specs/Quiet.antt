@@ -26,8 +26,8 @@ SettlesAt = quiet.SettlesAt adm
 abbrev pub NeverSettles : (ℕ → World) → ℕ → Type 0
 NeverSettles = quiet.NeverSettles adm
 
--- after how many rounds of a step from this world the first window ends, if one does within a limit, where arrivals are
--- known
+-- the number of rounds of a step from this world up to the end of the first window, if one ends within a limit, where
+-- arrivals are known
 abbrev pub settles_in : World → ℕ → Option ℕ
 settles_in = quiet.settles_in adm
 

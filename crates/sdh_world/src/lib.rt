@@ -11,7 +11,7 @@ pub fn changes_keep_honest()
     ensures { ChangesKeepHonest }
 {}
 
-/// What each call between rounds does to a ring or its fibres is a change.
+/// Each call between rounds does to a ring or its fibres what a `Change` does.
 #[tactic(auto, using(crate::proofs::Histories::calls_change))]
 pub fn calls_change()
     ensures { CallsChange }

@@ -7,10 +7,10 @@ use sdh_plant::FibrePlant;
 use std::process::ExitCode;
 use std::{env, io};
 
-/// There is no memory for the words.
+/// The number with which the program ends where memory runs out for its words.
 const NO_MEMORY: u8 = 70;
 
-/// A word isn't UTF-8, or the machine gives no words.
+/// The number with which the program ends where a word isn't UTF-8, or the system gives no words.
 const NO_WORDS: u8 = 71;
 
 fn main(rt: HostRuntime) -> ExitCode {

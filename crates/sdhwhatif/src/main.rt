@@ -1,4 +1,4 @@
-//! The program: its word, standard input and standard output, and the call that does all the rest.
+//! The program: its words, standard input and standard output, and the call that does all the rest.
 #![tactic(auto)]
 
 use sdh_outside::{StdSink, StdSource};
@@ -6,10 +6,10 @@ use sdh_whatif_cli::whatif;
 use std::process::ExitCode;
 use std::{env, io};
 
-/// There is no memory for the words.
+/// The number with which the program ends where memory runs out for its words.
 const NO_MEMORY: u8 = 70;
 
-/// A word isn't UTF-8, or the machine gives no words.
+/// The number with which the program ends where a word isn't UTF-8, or the system gives no words.
 const NO_WORDS: u8 = 71;
 
 fn main(rt: HostRuntime) -> ExitCode {

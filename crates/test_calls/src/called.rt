@@ -27,7 +27,7 @@ pub const SOUND: Outside<'static> = Outside {
     room: ROOM,
 };
 
-/// The words of the commands that read a plan, the last of which names no circuit of these tests.
+/// The words of the commands that read a plan. The last names no circuit of these tests.
 pub const RUN: &[&str] = &["run"];
 
 pub const CHECK: &[&str] = &["check"];
@@ -77,7 +77,7 @@ pub fn call(
 /// How a call ends: its status, the number of it, and all that is written.
 pub type Ending<'a> = (Status, u8, &'a [u8]);
 
-/// Stops where a call doesn't end so.
+/// Asserts that a call ends with this ending.
 pub fn ends_over<P: Plant>(
     rt: &impl Abort,
     alloc: Global,
@@ -97,7 +97,7 @@ pub fn ends_over<P: Plant>(
     Ok(())
 }
 
-/// Asserts how a call over honest fibres that never fail ends.
+/// Asserts that a call over honest fibres that never fail ends with this ending.
 pub fn ends(
     rt: &impl Abort,
     alloc: Global,

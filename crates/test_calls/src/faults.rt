@@ -96,7 +96,7 @@ fn each_write_that_fails_is_told(rt: HostRuntime) -> Result<(), Fail> {
     Ok(())
 }
 
-// Its first call writes the front of a text, and the next one a whole one after it.
+// The first call over a sink writes the front of a text, and the next call a whole text after it.
 const WRITTEN_ON: &[(Status, &str)] = &[
     (Status::WriteFault, "node 1 east slot 1 c"),
     (

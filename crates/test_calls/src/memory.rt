@@ -18,7 +18,7 @@ const ROWS: &[Row] = &[
     (NO_WORDS, SMALLEST, Status::Usage, USAGE),
 ];
 
-// Returns whether a call has no memory and writes nothing, or ends so.
+// Returns whether a call runs out of memory and writes nothing, or ends with this status and this text.
 fn answers(
     alloc: Global,
     words: &[&str],
@@ -32,7 +32,7 @@ fn answers(
     Ok(answer == ended.0 && sink.bytes() == ended.1.as_bytes())
 }
 
-// It shows most where one of the allocations is made to fail.
+// This test shows most where one of its allocations is made to fail (`rt try --test --fail-alloc`).
 #[test]
 fn want_of_memory_writes_nothing(rt: HostRuntime) -> Result<(), Fail> {
     for (words, document, status, text) in ROWS {

@@ -10,7 +10,7 @@ port c1 b norm 0 00414c504841414c504841414c504841
 done
 ";
 
-/// What is written where its first settle step ended and a fault came in a second one.
+/// What is written of the smallest plan where its first settle step ended and a fault came in a second one.
 pub const SMALLEST_BROKEN: &str = "settle 1 round 128
 node 1 idle west 03 10 east 02 10
 node 2 idle west 01 20 east 03 20

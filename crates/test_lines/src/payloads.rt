@@ -30,7 +30,7 @@ const PORTS: &[Row] = &[
     (LONGEST, LONGEST, 0, None),
 ];
 
-// Returns whether a port is refused so, or is made, and shows what it was made with.
+// Returns whether a port is refused with `wrong`, or, where that is none, is made and shows what it was made with.
 fn is_answered(text: &[u8], trace: &[u8], offset: u16, wrong: Option<PortError>) -> bool {
     match Port::new(text, trace, offset) {
         Ok(port) => {

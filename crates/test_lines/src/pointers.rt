@@ -35,7 +35,7 @@ fn after(runs: &[(u16, usize)]) -> Interp {
     interp
 }
 
-// In Norm with value 0 and ready for a justification.
+// Words that lead an interpreter to Norm with value 0, and then words after which it is ready for a justification.
 const NORM: (u16, usize) = (0x9800, 1);
 
 const READY: (u16, usize) = (0x6800, 3);

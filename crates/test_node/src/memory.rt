@@ -19,7 +19,7 @@ const ROWS: &[Row] = &[
     (NO_WORDS, &[PLAN], 2, &[USAGE]),
 ];
 
-// It shows most where one of the allocations is made to fail.
+// This test shows most where one of its allocations is made to fail (`rt try --test --fail-alloc`).
 #[test]
 fn nothing_is_written_out_of_memory(rt: HostRuntime) -> Result<(), Fail> {
     for (words, given, number, wanted) in ROWS {

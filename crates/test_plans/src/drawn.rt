@@ -30,7 +30,7 @@ const OF_0: &[Drawn] = &[
     ("c2-5", 7, 10, 2, 14, 332),
 ];
 
-// Those of the greatest number.
+// The circuits of the large plan of the greatest number.
 const OF_GREATEST: &[Drawn] = &[
     ("c1-1", 5, 7, 1, 222, 627),
     ("c1-2", 7, 12, 1, 125, 305),

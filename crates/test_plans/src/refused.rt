@@ -320,12 +320,12 @@ fn answer_to(alloc: Global, document: &[u8]) -> Answer {
     }
 }
 
-// Stops where a document isn't answered as it is to be.
+// Asserts that a document is answered with `wanted`.
 fn ends(rt: &impl Abort, alloc: Global, document: &[u8], wanted: Answer) {
     assert_eq!(rt; answer_to(alloc, document), wanted, "{document:?}");
 }
 
-// Stops where a change of the smallest run isn't answered as it is to be.
+// Asserts that each change of the smallest run is answered with its reason and its place.
 fn answers(rt: &impl Abort, alloc: Global, cases: &[Case]) -> Result<(), Fail> {
     for (old, new, reason, place) in cases {
         let document = SMALLEST.replacen(alloc, old, new, 1)?;

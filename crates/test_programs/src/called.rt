@@ -65,7 +65,7 @@ fn call_over<P: Plant>(
     Ok((number, sink))
 }
 
-/// Returns whether a call over these fibres ends so.
+/// Returns whether a call over these fibres ends with this ending.
 pub fn ends_over<P: Plant>(
     alloc: Global,
     program: Program,
@@ -79,7 +79,7 @@ pub fn ends_over<P: Plant>(
     Ok(number == ending.0 && sink.bytes() == ending.1.as_bytes())
 }
 
-/// Returns whether a call over honest fibres that never fail ends so.
+/// Returns whether a call over honest fibres that never fail ends with this ending.
 pub fn ends(
     alloc: Global,
     program: Program,

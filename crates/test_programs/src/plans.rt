@@ -7,15 +7,15 @@ watch c1 b vcs 127 b3 0 label 0 trace ok
 done
 ";
 
-/// What is written where its first settle step was watched to the end and a fault came in a second one.
+/// What is written where the smallest plan's first settle step was watched to the end and a fault came in a second one.
 pub const WATCHED_BROKEN: &str = "settle 1 round 128
 watch c1 a vcs 127 b3 0 label 0 trace ok
 watch c1 b vcs 127 b3 0 label 0 trace ok
 plant fault
 ";
 
-/// What is written of how its ring signals, piece by piece: in the first round each node says to both neighbours that
-/// it asks for nothing, and in the fourth each hears it, as three frames in a row have come.
+/// What is written of how the smallest plan's ring signals, piece by piece. In the first round each node says to both
+/// neighbours that it asks for nothing, and in the fourth each hears it, as three frames in a row have come.
 pub const SIGNAL_PIECES: &[&str] = &[
     "round 0 node 1 idle far - west 03 10 east 02 10 heard - - - - asks nr nr
 round 0 node 2 idle far - west 01 20 east 03 20 heard - - - - asks nr nr
@@ -29,7 +29,7 @@ round 3 node 3 idle far - west 02 30 east 01 30 heard 03 20 03 10 asks nr nr
     "done\n",
 ];
 
-/// The same as one text.
+/// The pieces of `SIGNAL_PIECES` as one text.
 pub const SIGNALLED: &str =
     "round 0 node 1 idle far - west 03 10 east 02 10 heard - - - - asks nr nr
 round 0 node 2 idle far - west 01 20 east 03 20 heard - - - - asks nr nr
@@ -41,7 +41,7 @@ settle 1 round 128
 done
 ";
 
-/// What is written where a fault came in its first settle step after the fourth round.
+/// What is written of how the smallest plan's ring signals where a fault came in its first settle step, after round 3.
 pub const SIGNALS_BROKEN: &str =
     "round 0 node 1 idle far - west 03 10 east 02 10 heard - - - - asks nr nr
 round 0 node 2 idle far - west 01 20 east 03 20 heard - - - - asks nr nr
@@ -52,7 +52,7 @@ round 3 node 3 idle far - west 02 30 east 01 30 heard 03 20 03 10 asks nr nr
 plant fault
 ";
 
-/// What is written where its first settle step ended and a fault came in a second one.
+/// What is written in place of `SIGNALLED` where the first settle step ended and a fault came in a second one.
 pub const SIGNALLED_BROKEN: &str =
     "round 0 node 1 idle far - west 03 10 east 02 10 heard - - - - asks nr nr
 round 0 node 2 idle far - west 01 20 east 03 20 heard - - - - asks nr nr
@@ -64,7 +64,7 @@ settle 1 round 128
 plant fault
 ";
 
-/// What is written of its second node alone.
+/// What is written of the second node of the smallest plan's ring alone.
 pub const SIGNALS_OF_2: &str =
     "round 0 node 2 idle far - west 01 20 east 03 20 heard - - - - asks nr nr
 round 3 node 2 idle far - west 01 20 east 03 20 heard 02 10 02 30 asks nr nr
@@ -105,14 +105,14 @@ text_a = "ABCDEFG"
 text_b = "abcdefg"
 "#;
 
-/// What its ports deliver over a path ring.
+/// What the ports of `TWO_SPANS` deliver over a path ring.
 pub const BOTH_WAYS: &str = "settle 1 round 128
 port c1 a norm 0 00676162636465666761626364656667
 port c1 b norm 0 00474142434445464741424344454647
 done
 ";
 
-/// What is written where its first settle step ended and a fault came in a second one.
+/// What is written of `TWO_SPANS` where its first settle step ended and a fault came in a second one.
 pub const BOTH_WAYS_BROKEN: &str = "settle 1 round 128
 port c1 a norm 0 00676162636465666761626364656667
 port c1 b norm 0 00474142434445464741424344454647
@@ -158,7 +158,7 @@ text_a = "ABCDEFG"
 text_b = "abcdefg"
 "#;
 
-/// Its limit is too small for a settle step.
+/// A plan whose limit is too small for a settle step.
 pub const UNSETTLED: &str = r#"rate = 4
 nodes = [1, 2, 3, 4]
 threshold = 3

@@ -111,7 +111,7 @@ fn all_taken<P: Plant>(ring: &mut Ring, plant: &mut P, steps: &[Step]) -> Result
     Ok(met)
 }
 
-/// Returns how many segments come out before the first that doesn't.
+/// Returns how many segments show what they should, before the first that doesn't.
 pub(crate) fn right_segments<P: Plant>(
     ring: &mut Ring,
     plant: &mut P,
@@ -137,7 +137,7 @@ pub(crate) fn right_segments<P: Plant>(
     Ok(segments.len())
 }
 
-// Returns how many segments of a case come out before the first that doesn't.
+// Returns how many segments of a case show what they should, before the first that doesn't.
 fn right_of_case<P: Plant>(alloc: Global, plant: &mut P, case: &Case) -> Result<usize, AllocError>
     requires { HasNoFibres (P.fibres plant.old) }
 {
@@ -145,7 +145,7 @@ fn right_of_case<P: Plant>(alloc: Global, plant: &mut P, case: &Case) -> Result<
     right_segments(&mut ring, plant, case.segments)
 }
 
-// Returns how many cases come out before the first that doesn't, each over fibres of its own.
+// Returns how many cases show what they should, before the first that doesn't. Each has fibres of its own.
 fn right_cases(alloc: Global, cases: &[Case]) -> usize {
     for i in 0..cases.len() {
         let mut plant = FibrePlant::new();
@@ -156,7 +156,7 @@ fn right_cases(alloc: Global, cases: &[Case]) -> usize {
     cases.len()
 }
 
-/// Stops where not all cases come out, and tells how many do before the first that doesn't.
+/// Asserts that all cases show what they should. The text of a failure names the first that doesn't, counted from 0.
 pub(crate) fn all_come_out(rt: &impl Abort, alloc: Global, cases: &[Case]) {
     let right = right_cases(alloc, cases);
     assert!(rt; right == cases.len(), "case {right}, counted from 0");

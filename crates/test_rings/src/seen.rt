@@ -31,7 +31,7 @@ pub(crate) enum Seen {
     Owes((u8, u8), (u8, u8), u64),
 }
 
-/// Returns whether this is seen of a ring, and that a port met a stranger in so many rounds.
+/// Returns whether this is seen of a ring in which a port met a stranger in `met` rounds.
 pub(crate) fn is_seen(ring: &Ring, met: u32, seen: Seen) -> bool {
     match seen {
         Seen::Met(count) => met == count,
@@ -97,7 +97,7 @@ fn shows(ring: &Ring, port: PortId, shown: Shown) -> bool {
     }
 }
 
-// Returns whether both ports deliver what the other end sent so many rounds before round 128, once these slips of each
+// Returns whether both ports deliver what the other end sent `hops` rounds before round 128, once these slips of each
 // were made good.
 fn are_owed(ring: &Ring, a: (u8, u8), b: (u8, u8), hops: u64) -> bool {
     let round = 128 - hops.min(128);

@@ -223,8 +223,8 @@ fn slip_by_chance(ring: &mut Ring, far: &mut Far<'_>, chance: &mut Chance)
     }
 }
 
-// Runs one round, before which both clocks slip by chance. Returns whether each port delivers what the other end sent
-// in the round before, and as many slips wait as are to.
+// Runs one round, before which both clocks slip at random. Returns whether each port delivers what the other end sent
+// in the round before, and the right number of slips wait.
 fn go<P: Plant>(
     ring: &mut Ring,
     plant: &mut P,
@@ -251,8 +251,8 @@ fn go<P: Plant>(
     Ok(deliver && has_waiting(ring, PORT_A, a.slips) && has_waiting(ring, PORT_B, b.slips))
 }
 
-/// In how many rounds all was as it is to be, how often both pointer values rose and fell, and how often they went over
-/// the largest value and under 0.
+/// In how many rounds all was right, how often both pointer values rose and fell, and how often they went over the
+/// largest value and under 0.
 #[derive(Clone, Copy)]
 struct Tally {
     right: u64,

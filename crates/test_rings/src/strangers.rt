@@ -129,7 +129,7 @@ const DEGRADE_1: Step = Step::Fibre(1, Side::East, Condition::Degraded(12));
 
 const MEND_2: Step = Step::Fibre(2, Side::East, Condition::Clear);
 
-// Then node 0, which passes through, and node 3, which is switched, are held for as many turns, where they are.
+// Then node 0, which passes through, is held for 7 turns and node 3, which is switched, for 4, or one of them alone.
 const PASSING: Step = Step::Hold(0, 7);
 
 const SWITCHED: Step = Step::Hold(3, 4);
@@ -167,7 +167,7 @@ const ONE_HELD: Segment = Segment {
     seen: Seen::Met(0),
 };
 
-// Both are held, or nothing is, or one of them alone, or both as long.
+// In turn: node 0 is held for 7 turns and node 3 for 4; none; node 0 alone; node 3 alone; both for 7.
 const QUIET: &[Case] = &[
     Case {
         segments: &[BOTH_HELD],
@@ -247,8 +247,8 @@ fn a_hold_spoils_its_own_step_alone(rt: HostRuntime) {
     all_come_out(&rt, rt.alloc(), IN_TURN);
 }
 
-// The same as in the first ring, and none is held; and slips that wait, a cut, a degraded and a commanded span, and
-// others while the ring is switching.
+// In the ring of four nothing is held. The first case has the steps of `HELD` without the holds. The second has slips
+// that wait, a cut, a degraded and a commanded span, and more changes while the ring is switching.
 const FREE: &[Case] = &[
     Case {
         segments: &[Segment {

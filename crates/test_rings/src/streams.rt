@@ -110,7 +110,7 @@ pub(crate) fn is_stream(sender: Sender<'_>, from: u64, bytes: &[u8]) -> bool {
     true
 }
 
-/// Returns the B3 of `count` VC-4s from the first one on, each of which `is_stream` would else make of all VC-4s
+/// Returns the B3 of `count` VC-4s from the first one on. Without them `is_stream` works each B3 out from all VC-4s
 /// before it.
 pub(crate) fn parities_of(
     alloc: Global,

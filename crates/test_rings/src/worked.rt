@@ -5,8 +5,8 @@
 //! downs, modulo 783, and the first byte has place 2349 (128 - h) - 3 ups + 3 downs in the stream. At offset 781 a VC-4
 //! begins at index 783 + 3 * 781 - 2349 = 777 of the AU-4, so that the stream begins with byte 2349 - 777 = 1572 of the
 //! first VC-4; at offset 1 it begins with byte 2349 - 786 = 1563. Byte i of a VC-4 is that of row i / 261 and column i
-//! % 261; the first column is path overhead, and byte j of the text stands behind it in the others, where j is 2340 for
-//! each VC-4 before and 260 for each row before, modulo the seven letters.
+//! % 261. The first column is path overhead. In the others each row begins with byte j of the text, where j is 2340
+//! for each VC-4 before and 260 for each row before, modulo the seven letters.
 
 use crate::rings::{ALPHABETS, AT_FOUR, AT_SIXTEEN, PORT_A, PORT_B};
 use crate::scripts::{Case, Segment, Step, all_come_out};

@@ -18,7 +18,7 @@ const FROM_2: Bytes = Some((0xb3, 0x2a));
 
 const FROM_3: Bytes = Some((0xb2, 0x3a));
 
-// The same of the first node, whose east span has failed.
+// The word that the first node sends the long way where its east span has failed.
 const FROM_1: Bytes = Some((0xb2, 0x1a));
 
 fn heard(bytes: Bytes) -> Option<K> {

@@ -43,7 +43,7 @@ text_a = \"ALPHA\"\n\
 text_b = \"BETA!\"\n\
 ";
 
-/// Its table, as the rules make it.
+/// The table of that plan, as the rules make it.
 pub const TABLE: &str = "number,failures,steps,applied,kept,impaired,over,lost,hops,c1\r\n\
 0,,\"\"\"settle\"\"\",,1,0,0,0,1,\r\n\
 1,degraded 1>3,\"\"\"degrade 1 west 3\"\", \"\"settle\"\"\",3-1,1,0,0,0,1,\r\n\

@@ -13,7 +13,7 @@ const ROWS: &[Row] = &[
     (NO_WORDS, PLAN, Status::Usage, USAGE),
 ];
 
-// It shows most where one of the allocations is made to fail.
+// This test shows most where one of its allocations is made to fail (`rt try --test --fail-alloc`).
 #[test]
 fn want_of_memory_writes_nothing(rt: HostRuntime) -> Result<(), Fail> {
     for (words, document, status, text) in ROWS {

@@ -67,14 +67,14 @@ same_some v x e = cc
 abbrev pub port_there : World → ℕ → PortId → Option Tributary
 port_there v q id = port_of id (node_at v.ring.nodes q).ports
 
--- what it sends in the round that begins with v
+-- the form of the chunk that a port at position q sends in the round that begins with v
 abbrev pub form_there : World → ℕ → PortId → ChunkForm
 form_there v q id = next_form (clock_of (port_there v q id))
 
 abbrev brings_port : Option Tributary → Input
 brings_port o = option_map_or (λ (t : Tributary). input_by (sent_in t.feed)) o no_input
 
--- where it fills an AU-4 in two rounds, the second of them calm
+-- a port that fills an AU-4 in two rounds, the second of them calm
 module _ (v : World) (whole : IsWhole v) (q : ℕ) (d : Side) (au m : ℕ) (id : PortId) (h : q < length v.ring.nodes) (low : 1 ≤ au)
     (high : au ≤ n_of v.ring.settings.rate)
     (first : sent_at v q d au ≡ value_at v q m (Add id)) (second : sent_at (round v) q d au ≡ value_at (round v) q m (Add id))

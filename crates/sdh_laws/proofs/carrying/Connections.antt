@@ -104,7 +104,7 @@ module _ (w : World) (whole : IsWhole w) (p : ℕ) (h : p < length w.ring.nodes)
       ap (λ (x : Cross). x.state) turned_is ∙ state_turned w.ring.moment (informed w p)
       ∙ ap (λ (y : Node). y.state) (sym (nodes_after w whole.placed p h))
 
-  -- in a state
+  -- the connections of a node whose state is known
   module _ (m : ℕ) (d : Side) (st : NodeState) (state : x.state ≡ st) where
     working_is : leaves_working (length x.ids) x.at (circuit_in x m) x.state d ≡ working_in n cs p st d m
     working_is =

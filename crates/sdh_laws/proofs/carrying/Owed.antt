@@ -67,19 +67,20 @@ sends_it : (t : Tributary) (sender : Customer) → t.feed.port ≡ sender → ne
 sends_it t sender from plain =
     subst (λ (s : Customer). Brings (input_by (sent_in t.feed)) (plainly s t.feed.clock)) from (ports_bring t.feed plain)
 
--- in a ring of this layout, by the clock that the port has in the round that begins with v
+-- In a ring of this layout a port that justifies nothing in the round that begins with v sends the next bytes of its
+-- customer, by the clock that it has in that round.
 abbrev pub Sends : Layout → World → Type 0
 Sends l v = (m index : ℕ) (c : Provisioned) (e : End) → slice_get l.circuits index ≡ Some c → port_at c e < size_of l
     → form_there v (port_at c e) (port_id index e) ≡ Plain → Brings (value_at v (port_at c e) m (port index e))
     (plainly (customer_at c e) (clock_at v.ring (port_id index e)))
 
--- its value is one of a pointer
+-- the clock of each port has a pointer value of at most 782
 abbrev pub HasSmall : Layout → World → Type 0
 HasSmall l v =
     (index : ℕ) (c : Provisioned) (e : End) → slice_get l.circuits index ≡ Some c → port_at c e < size_of l → (customer_at c e).offset ≤ 782
     → (clock_at v.ring (port_id index e)).value ≤ 782
 
--- and it is in the ring
+-- the port of each circuit is in the ring
 abbrev pub IsThere : Layout → World → Type 0
 IsThere l v =
     (index : ℕ) (c : Provisioned) (e : End) → slice_get l.circuits index ≡ Some c → port_at c e < size_of l
@@ -118,7 +119,7 @@ module _ (v : World) (whole : IsWhole v) (index : ℕ) (c : Provisioned) (e : En
   there : HasPortIn v.ring id
   there = subst (λ o. IsSome o) (sym (port_is ∙ found.is)) refl
 
-  -- where no slip waits at its node's ports, none waits at it, and it sends 2349 bytes
+  -- where no slip waits at any port of its node, none waits at the port, and it sends 2349 bytes
   pub none_here : NoneWait (node_at v.ring.nodes p).ports → waiting (clock_at v.ring id) ≡ 0
   none_here none =
       ap waiting clock_is ∙ (found_has (λ (t : Tributary). waiting t.feed.clock ≡ 0) id

@@ -153,7 +153,7 @@ world_last (s ∷ ss) last w t low high =
     world_high s (ss ++ last ∷ []) w t (omega arith) ∙ world_last ss last (after_stretch s w) (t - s.rounds) (omega arith) (omega arith)
     ∙ ap (λ k. run k (all_changed last.changes (after_stretches (s ∷ ss) w))) left
 
--- what is owed is owed by one clock alone
+-- what a port is owed in round t depends on one clock alone: the other port's in the round in which it sent
 pub due_by : (n : ℕ) (applied : ℕ → Bool) (c : Provisioned) (e : End) (f g : ℕ → Clock) (t : ℕ)
     → f (t - hops n applied (arc_of n c)) ≡ g (t - hops n applied (arc_of n c))
     → due_by_clocks n applied c e f t ≡ due_by_clocks n applied c e g t
@@ -197,7 +197,7 @@ module _ (s : Settings) (ids : List ℕ) (circuits : Provisioning) (f : Fibres) 
       let none : begun.ring.rounds ≡ 0 = refl in
       omega (arith, ap (λ (y : World). y.ring.rounds) (after_last earlier last begun), (left_stretches ss begun).rounds, none)
 
-  -- the clock of a port, from the last of them on and by the history of all
+  -- a port's clock as rounds take it on from the last stretch is its clock by the history of all stretches
   module _ (id : PortId) (there : HasPortIn begun.ring id) (there_v : HasPortIn v.ring id) (k : ℕ) (low : rounds_in earlier ≤ k)
       (high : k < rounds_in earlier + last.rounds) where
     clock_same : clocks_from v id k ≡ clocks_by circuits.circuits ss id k
@@ -208,7 +208,7 @@ module _ (s : Settings) (ids : List ℕ) (circuits : Provisioning) (f : Fibres) 
         ∙ (goes_in id ss k begun (omega (arith, rounds_u, rounds_all, high)) there).1
         ∙ ap (λ c. clock_in id ss c k) (clocks_go_on.new s ids circuits id there)
 
-  -- where the last of them had enough rounds for a window, and left the ring restored under the requests of its last
+  -- where the last stretch had enough rounds for a window, and left the ring restored under the requests of its last
   -- round
   module _ (long : 3 * length u.ring.ids ≤ last.rounds) (settled_u : IsRestored (clocks_from v) u (requests_of u)) where
     restored : IsRestored (clocks_from v) u qs

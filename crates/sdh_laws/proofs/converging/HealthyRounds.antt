@@ -30,8 +30,8 @@ use Rattle.sdh_rounds.specs.Runs as any_run
 
 -- ---- windows of a course that is calm
 
--- a ring of n in which b rounds have run before a step: round k of the step is the first that can end a window, where
--- its number is a multiple of 128 and it is one of the first 133
+-- A ring of n in which b rounds have run before a step. Round k of the step is one of the first 133, and its number is
+-- a multiple of 128. It is the first that can end a window.
 module _ (v : World) (n b k : ℕ) (two : 2 ≤ n) (sizes : (j : ℕ) → length (run j v).ring.ids ≡ n)
     (numbers : (j : ℕ) → (run j v).ring.rounds ≡ b + j) (place : (b + k - 1) % 128 ≡ 0) (few : k < 134) where
   none_before : (j : ℕ) → j < k → EndsWindow (course v) j → ⊥

@@ -161,7 +161,7 @@ module _ (s : Settings) (ids : List ℕ) (circuits : Provisioning) (f : Fibres) 
   abbrev count : ℕ
   count = length ids
 
-  -- after one round more, where each was healthy
+  -- one round more, before which each node was healthy
   module _ (k : ℕ) (before : (q : ℕ) → q < count → IsHealthy q k) (p : ℕ) (h : p < count) where
     abbrev u : World
     u = run k begin

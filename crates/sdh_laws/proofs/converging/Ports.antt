@@ -65,7 +65,7 @@ sound_by (Some v) small = λ e. small
 abbrev pub clock_there : World → ℕ → PortId → Option Clock
 clock_there w q id = option_map_or (λ (t : Tributary). Some t.feed.clock) (port_of id (node_at w.ring.nodes q).ports) None
 
--- its pointer value
+-- the pointer value of that clock
 abbrev pub value_there : World → ℕ → PortId → Option ℕ
 value_there w q id = option_map (λ (c : Clock). c.value) (clock_there w q id)
 
@@ -82,7 +82,7 @@ clock_next w whole q id h =
     mapped None = refl
     mapped (Some t) = refl
 
--- after j rounds
+-- the clock of the port after j rounds
 clock_later : (w : World) → IsWhole w → (q : ℕ) (id : PortId) → q < length w.ring.nodes → (j : ℕ)
     → clock_there (run j w) q id ≡ option_map (ticks j) (clock_there w q id)
 unfolding any_run.run ticks
@@ -99,7 +99,7 @@ clock_later w whole q id h (suc j) =
     twice None = refl
     twice (Some c) = refl
 
--- where none of its slips waits it sends its value for ever
+-- a port at which no slip waits sends bytes with its pointer value, in this round and in all later ones
 sends_value : (t : Tributary) → waiting t.feed.clock ≡ 0 → IsSent (input_by (sent_in t.feed)) (Some t.feed.clock.value)
 unfolding sent_by
 sends_value t none = record {
@@ -119,7 +119,7 @@ added_sends ts id o none is =
     by_found None e = record { does = refl; value = refl }
     by_found (Some t) e = sends_value t (found_has (λ (t : Tributary). waiting t.feed.clock ≡ 0) id ts t none e).0
 
--- none waits there
+-- no slip waits at a port whose node has no slip that waits
 none_there : (w : World) (q : ℕ) (id : PortId) → NoneWait (node_at w.ring.nodes q).ports → IfSome (clock_there w q id) (λ c. waiting c ≡ 0)
 none_there w q id none = by_found (port_of id (node_at w.ring.nodes q).ports) refl
   where
@@ -128,7 +128,7 @@ none_there w q id none = by_found (port_of id (node_at w.ring.nodes q).ports) re
     by_found None e = tt
     by_found (Some t) e = (found_has (λ (t : Tributary). waiting t.feed.clock ≡ 0) id (node_at w.ring.nodes q).ports t none e).0
 
--- its value is that of the first round, where none waits there
+-- a clock at which no slip waits has the same pointer value after j rounds
 value_stays : (o : Option Clock) (j : ℕ) → IfSome o (λ c. waiting c ≡ 0)
     → option_map (λ (c : Clock). c.value) (option_map (ticks j) o) ≡ option_map (λ (c : Clock). c.value) o
 value_stays None j none = refl
@@ -136,7 +136,7 @@ value_stays (Some c) j none = ap Some (goes_on c j none).value
 
 -- ---- where a walk is over
 
--- what is sent there from this world on
+-- what an origin at which a walk is over sends from this world on: AIS (None), or a pointer value
 abbrev pub source_at : World → ℕ → Origin → Option ℕ
 source_at w q Ais = None
 source_at w q (Add id) = value_there w q id
@@ -193,7 +193,7 @@ source_small w whole all q (Add id) h = by_found (port_of id (node_at w.ring.nod
         (whole.placed.between q h).gone e).0.value_small
         (found_has HasSmall id (node_at w.ring.nodes q).ports t (ports_small w whole all q h) e).0
 
--- it is brought in each round from this world on, where no slip waits in it
+-- round j brings at each such origin what the source sends, if no slip waits in this world
 abbrev pub SourcesSend : World → ℕ → Type 0
 SourcesSend w j = (q m : ℕ) (o : Origin) → q < length w.ring.ids → IsOver o → IsSent (value_at (run j w) q m o) (source_at w q o)
 

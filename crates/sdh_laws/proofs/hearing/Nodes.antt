@@ -110,7 +110,7 @@ placed_round xs w placed =
 
 -- ---- what arrives at a node
 
--- to a side before the round that begins with this world: in round 0 nothing
+-- what arrives on a side before the round that begins with this world: nothing in round 0
 abbrev pub told_to : World → ℕ → Side → Option Arrival
 told_to w p d = if w.ring.rounds == 0 then None else Some (arrival_at w.fibres p d)
 

@@ -62,7 +62,7 @@ module _ (s : Settings) (ids : List ℕ) (circuits : Provisioning) (f : Fibres) 
   abbrev w : World
   w = new_world s ids circuits f
 
-  -- the world in which its rounds begin, and that after them
+  -- v is the world in which the rounds of the last stretch begin, and u the one after them
   abbrev v : World
   v = all_changed last.changes (after_stretches earlier w)
 
@@ -79,7 +79,7 @@ module _ (s : Settings) (ids : List ℕ) (circuits : Provisioning) (f : Fibres) 
   ids_last : v.ring.ids ≡ ids
   ids_last = (left_all last.changes (after_stretches earlier w)).ids ∙ (left_stretches earlier w).ids
 
-  -- the requests of its last round are those of the histories
+  -- the requests of the last stretch's last round are those of the histories
   pub requests_last : (t : ℕ) → rounds_in ss ≡ t + 1 → requests_in (needs_in u)
       ≡ span_requests (length ids) (asked_in s.threshold s.wait (length ids) ss t)
   requests_last t many =

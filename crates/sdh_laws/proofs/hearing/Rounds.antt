@@ -141,11 +141,11 @@ module _ (w : World) (whole : IsWhole w) where
   abbrev pub made : ℕ → Side → Reception
   made p d = found s.threshold (inlet_at p d)
 
-  -- in round 0
+  -- in round 0 a side finds nothing
   pub nothing_found : (p : ℕ) (d : Side) → t ≡ 0 → FindsNothing s.threshold (inlet_at p d)
   nothing_found p d e = untold_sides_find_nothing s.threshold (inlet_at p d) (told_first w p d e)
 
-  -- and later
+  -- in a later round a side received what came through its fibre
   pub told_side : (p : ℕ) (d : Side) (some : 0 < t) → p < length w.ring.nodes
       → IsTold rate (condition_to w p d) (word_to w p d) (sent_to p d some).line (inlet_at p d)
   told_side p d some h =
@@ -290,7 +290,7 @@ module _ (w : World) (whole : IsWhole w) where
   unfolding scene_in
   scene_place p h = ap (λ a. a.0) (node_same w.ring.moment (informed_at p)).at ∙ (is_at w whole.placed p h).at
 
-  -- the word by the rules
+  -- P holds of the word that a node's rules give, if it holds of each own word and of each word that was sent to it
   by_rules : (P : K → Type 0) (p : ℕ) → p < length w.ring.nodes
       → ((s : Scene) (d to : Side) (code : Code) (path : Path) → s.ids ≡ w.ring.ids → s.at ≡ p → P (own_word s d code to path))
       → ((d : Side) → P (word_to w p d)) → (d : Side) → P (word (scene_in (next_node p)) d)

@@ -77,7 +77,7 @@ mapped_same f (x ∷ xs) (y ∷ ys) len same =
     ap (λ z. z ∷ map f xs) (same 0 (omega arith)) ∙ ap (λ l. f y ∷ l)
     (mapped_same f xs ys (omega arith) (λ k lt. same (suc k) (omega arith)))
 
--- requests of spans by those of positions of the ring
+-- where the sides of all positions ask for the same, the spans have the same requests
 pub spans_same : (n : ℕ) (f g : ℕ → Side → Code) → ((p : ℕ) (d : Side) → p < n → f p d ≡ g p d) → span_requests n f ≡ span_requests n g
 unfolding span_requests
 spans_same n f g same = cells-same _ _ n 0 (λ s lt.
@@ -85,7 +85,7 @@ spans_same n f g same = cells-same _ _ n 0 (λ s lt.
     ap (λ c. max (code_number c) (code_number (f (neighbour n s East) West))) (same s East lt)
     ∙ ap (λ c. max (code_number (g s East)) (code_number c)) (same (neighbour n s East) West below)))
 
--- the requests of needs
+-- the request in a node's needs is the request of its side
 pub needs_at : (ns : List Node) (p : ℕ) (d : Side) → p < length ns
     → request_on (get_or (map needed ns) p no_needs) d ≡ (receiving_on d (node_at ns p)).request
 needs_at ns p West h = ap (λ (y : Needs). y.west) (get_or-map needed ns p nowhere no_needs h)
@@ -464,7 +464,7 @@ states_stay : (w : World) (j m : ℕ) → IsWhole w → ((i : ℕ) → j < i →
     → (signals_of (run (j + m) w)).states ≡ (signals_of (run j w)).states
 states_stay w j m whole calm = stays (λ v. (signals_of v).states) (λ v still. still.states) w j m whole calm
 
--- after the k-th round and two more, where all three are calm
+-- the nodes are in the settled states after three calm rounds in a row, the first of them the k-th
 settled_after : StillRingsAreSettled → (w : World) (k : ℕ) → IsWhole w → IsCalm (course w) (suc k) → IsCalm (course w) (suc (suc k))
     → IsCalm (course w) (suc (suc (suc k)))
     → (signals_of (run (suc (suc (suc k))) w)).states ≡ settled_states (requests_in (needs_in (run (suc (suc (suc k))) w)))

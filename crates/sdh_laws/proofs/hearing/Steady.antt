@@ -102,7 +102,7 @@ pub free_stays : (w : World) → IsWhole w → AllFree w → (k : ℕ) → AllFr
 free_stays w whole free k p h = let left =
     held_after w whole 0 (none_held w free) k p h in is_free (node_at (run k w).ring.nodes p) (omega arith)
 
--- nor in the next round
+-- where no node is held now, none is held in the next round
 pub free_next : (w : World) → IsWhole w → AllFree w → AllFree (round w)
 free_next w whole free p h = is_free (node_at (round w).ring.nodes p) (one_less w whole 0 (none_held w free) p h)
 
@@ -135,7 +135,7 @@ pub record IsSteady (w : World) : Type 0 where
   pub shows : (d : Side) → AtEach (λ p n. ShowsSo w.ring.settings.rate (shown_by (condition_to w p d)) w.ring.rounds
       (carried_on w.fibres (fibre_to (length w.ring.ids) p d)) (receiving_on d n).section.last) w.ring.nodes
 
--- from the second round on
+-- after a round that isn't the first, a ring whose sections keep their parities is steady
 steady_second : (w : World) → IsWhole w → 0 < w.ring.rounds → Keeps w → IsSteady (round w)
 unfolding any_round.round any_round.round_with
 steady_second w whole some keeps = record {
@@ -201,7 +201,7 @@ module _ (w : World) (is : IsSteady w) (p : ℕ) (d : Side) (h : p < length w.ri
       ≡ kept_request (receiving_on d (node_at (round w).ring.nodes p)).local
   request_made = let took = took_is w is.whole p d h in took.request ∙ ap kept_request (sym took.local)
 
--- after one round more it stays
+-- what a side keeps and asks for stays after one round more
 module _ (w : World) (is : IsSteady w) (p : ℕ) (d : Side) (h : p < length w.ring.nodes) where
   abbrev next : World
   next = round w
@@ -243,7 +243,7 @@ needs_stay w is = mapped_same needed (round (round w)).ring.nodes (round w).ring
 
 -- ---- runs
 
--- in which no controller misses a turn from round f on
+-- a run in which no controller misses a turn from round f on
 module _ (w : World) (whole : IsWhole w) (f : ℕ) (free : (k : ℕ) → f ≤ k → AllFree (run k w)) where
   abbrev after : ℕ → World
   after k = run k w

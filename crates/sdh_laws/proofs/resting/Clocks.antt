@@ -42,7 +42,7 @@ none_waits c may plain = go (nat_le 1 c.rest) (nat_le 1 c.ups) (nat_le 1 c.downs
         let downs : c.downs ≡ 0 = grind (arith, nat_tests) in
         omega arith
 
--- where it sends plainly in five rounds, one after the other, none waits in the fifth
+-- where a clock justifies nothing in five rounds, one after the other, no slip waits in the fifth
 pub goes_five : (c : Clock) → c.rest ≤ 4 → ((k : ℕ) → k ≤ 4 → next_form (ticks k c) ≡ Plain) → waiting (ticks 4 c) ≡ 0
 unfolding ticks
 goes_five c few plain =
@@ -58,7 +58,7 @@ goes_five c few plain =
 
 -- ---- at a node
 
--- what it sends is sent by that clock
+-- the clock that is found at a port is the port's clock
 by_clock : (o : Option Tributary) (c : Clock) → option_map_or (λ (t : Tributary). Some t.feed.clock) o None ≡ Some c → clock_of o ≡ c
 by_clock None c e = absurd (cc)
 by_clock (Some t) c e = cc

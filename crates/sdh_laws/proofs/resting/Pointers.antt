@@ -39,7 +39,7 @@ ones_sent : (s : Option ℕ) (v : ℕ) → word_sent s action.Ais v ≡ 65535
 unfolding word_of
 ones_sent s v = (ais_sent s v).word
 
--- a generator that such an input leaves in its state sends the word of its state
+-- a generator that AIS leaves in its state sends the word of its state
 sends_ais : (s : Option ℕ) (v : ℕ) → next_sending s action.Ais v ≡ s → word_sent s action.Ais v ≡ state_word s
 sends_ais s v still = ones_sent s v ∙ ap state_word (sym (next_by_action s action.Ais v) ∙ still)
 
@@ -60,7 +60,7 @@ sends_even s a v (inr e) still =
 
 -- ---- an interpreter
 
--- as it is after one normal word for ever, or not in Norm
+-- an interpreter is in the state to which one normal word leads if it is read again and again, or isn't in Norm
 abbrev pub IsGood : Reading → Type 0
 IsGood r = ((v : ℕ) × (v ≤ 782) × (r ≡ settled mode.Norm v 3)) ⊎ (is_norm r.mode ≡ false)
 

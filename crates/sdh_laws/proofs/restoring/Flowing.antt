@@ -181,7 +181,7 @@ module _ (w : World) (whole : IsWhole w) (p : ℕ) (d : Side) (i : ℕ) (inside 
         let now : suc m ≡ j = omega arith in
         ap (λ l. (comes l).au.payload) (sym now) ∙ one_payload m (omega arith)
 
-    -- where the interpreter is there after round u
+    -- the bytes flow from round u on, if the interpreter is in Norm at the value v after round u
     from_round : (u : ℕ) → t + 1 ≤ u → is_ais_action (comes u).action ≡ false → (comes u).value ≡ v → At (suc u)
         → Flows comes u v (λ j. bytes (j - 1))
     from_round u late first worth here = record {
@@ -201,7 +201,7 @@ module _ (w : World) (whole : IsWhole w) (p : ℕ) (d : Side) (i : ℕ) (inside 
       payload = λ j h. payload_comes j (omega arith);
     }
 
-    -- by normal words alone
+    -- the bytes flow from round u on, if normal words led the interpreter to Norm at the value v by then
     by_normal : (u : ℕ) → t + 2 ≤ u → At (suc u) → Flows comes u v (λ j. bytes (j - 1))
     by_normal u late here =
         from_round u (omega arith)
@@ -209,7 +209,7 @@ module _ (w : World) (whole : IsWhole w) (p : ℕ) (d : Side) (i : ℕ) (inside 
         (subst At_of (takes u late).reading here))
         ((takes u late).value ∙ here.1) here
 
-    -- after round m with the action New
+    -- the bytes flow from a round with the action New on, at most b rounds after round m
     new_at : (b m : ℕ) → t + 2 ≤ m → ByNew word v (normal_word v small) (normal_value v small) b (reading m)
         → (u : ℕ) × (u < m + b) × Flows comes u v (λ j. bytes (j - 1)) × ((comes u).action ≡ action.New)
     new_at b m late n =
@@ -223,7 +223,7 @@ module _ (w : World) (whole : IsWhole w) (p : ℕ) (d : Side) (i : ℕ) (inside 
           now.action ∙ ap (λ r. action_on r word) (sym there) ∙ n.new,
         )
 
-    -- four rounds later, or seven, where the first action is New
+    -- the bytes flow after the span four rounds later, or at most seven rounds later, if the first action there is New
     pub flows_on : (Flows comes (t + 4) v (λ j. bytes (j - 1)))
         ⊎ ((u : ℕ) × (u < t + 8) × Flows comes u v (λ j. bytes (j - 1)) × ((comes u).action ≡ action.New))
     flows_on = elim (lands word v (normal_word v small) (normal_value v small) small (reading (t + 2))) [
@@ -232,7 +232,7 @@ module _ (w : World) (whole : IsWhole w) (p : ℕ) (d : Side) (i : ℕ) (inside 
       | inr n ↦ inr (let found = new_at 6 (t + 2) (omega arith) n in (found.0, (let few = found.1 in omega arith), found.2, found.3))
     ]
 
-    -- where the first action is New, at most four rounds later, with New again
+    -- where the first action before the span is New, the bytes flow after it at most four rounds later, with New again
     module _ (new : (sent t).action ≡ action.New) where
       abbrev enabled : ℕ
       enabled = word_of form.Enabled v

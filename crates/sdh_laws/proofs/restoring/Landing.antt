@@ -66,7 +66,7 @@ enabled_left r w enabled small is =
 -- ---- one normal word for ever
 
 module _ (w v : ℕ) (normal : is_normal w ≡ true) (carries : value_in w ≡ v) where
-  -- in Norm at the value of the word
+  -- the interpreter is in Norm at the value of the word
   abbrev pub IsAt : Reading → Type 0
   IsAt r = (r.mode ≡ mode.Norm) × (r.value ≡ v)
 
@@ -90,7 +90,7 @@ module _ (w v : ℕ) (normal : is_normal w ≡ true) (carries : value_in w ≡ v
   acts : (m : Mode) (r : Reading) (e : Event) → r.mode ≡ m → normal_event r v ≡ e → action_on r w ≡ action_in m e r
   acts m r e norm is = action_by_event r w m e norm (of_normal_word r w normal ∙ ap (normal_event r) carries ∙ is)
 
-  -- a round with the action New leads there, after fewer than `most`
+  -- after fewer than `most` rounds comes one with the action New, which leads to Norm at the value of the word
   pub record ByNew (most : ℕ) (r : Reading) : Type 0 where
     pub before : ℕ
     pub few : before < most
@@ -100,7 +100,7 @@ module _ (w v : ℕ) (normal : is_normal w ≡ true) (carries : value_in w ≡ v
   abbrev pub Lands : ℕ → ℕ → Reading → Type 0
   Lands a b r = IsAt (after_rounds a w r) ⊎ ByNew b r
 
-  -- a round before
+  -- if a round leads from r to s, what holds of s with b rounds holds of r with b + 1
   step_new : (b : ℕ) (r s : Reading) → after_word r w ≡ s → ByNew b s → ByNew (suc b) r
   step_new b r s e n = by (subst (ByNew b) (sym e) n)
     where
@@ -217,18 +217,18 @@ module _ (w v : ℕ) (normal : is_normal w ≡ true) (carries : value_in w ≡ v
         let more = news_more r at (omega arith) in
         in_third r norm (new_early r v norm other early small) (omega arith)
 
-    -- where `since` is 0 three are enough
+    -- three rounds are enough for an interpreter whose `since` is 0
     since_none : (r : Reading) → r.mode ≡ mode.Norm → r.value ≢ v → r.since ≡ 0 → ByNew 3 r
     since_none r norm other is =
         before_new 2 r norm other (omega arith) (λ s a b c d e. let some = some_news r in
         before_new 1 s a b (omega (arith, c)) (λ t f g h i j. let more = news_more s d (omega (arith, e)) in
         none_then t f g (omega (arith, h, c)) i (omega (arith, j, e))))
 
-    -- any value that was just taken
+    -- three rounds are enough for an interpreter that has just taken any value
     taken : (u : ℕ) → Lands 0 3 (settled mode.Norm u 0)
     taken u = elim (cases_eq u v) [ inl e ↦ inl (refl, e) | inr other ↦ inr (since_none (settled mode.Norm u 0) refl other refl) ]
 
-    -- since 3, and the word justifies nothing
+    -- a word with another value that justifies nothing is a new value
     late_new : (r : Reading) → r.mode ≡ mode.Norm → r.value ≢ v → goes_up v r.value ≡ false → goes_down v r.value ≡ false
         → normal_event r v ≡ event.New v
     late_new r norm other up down = new_neither r v norm other up down small

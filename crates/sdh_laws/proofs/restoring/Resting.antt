@@ -284,7 +284,7 @@ module _ (w : World) (whole : IsWhole w) (form : HasCircuits (layout_of w)) (rs 
         (sym rest.spans) (silence_kept c.slot.0 slot_is.from_1 slot_is.small (length rs)))
         j (omega arith) (λ q i l. refl))
 
-    -- by any account of the clock at the other end
+    -- the same, where `clocks` gives the clock at the other end by the ring's round numbers
     module _ (clocks : ℕ → Clock) (tells : (i : ℕ) → clock i ≡ clocks (w.ring.rounds + i)) where
       pub joined_delivers : (j : ℕ) → 4 * h + 4 ≤ j → is_joined n applied (arc_of n c) ≡ true
           → outlet_at (run (suc j) w).ring (port_id index e) ≡ due_by_clocks n applied c e clocks (w.ring.rounds + j)

@@ -155,7 +155,7 @@ module _ (law : RingsSettle) (w : World) (whole : IsWhole w) (form : HasCircuits
     delivers j enough =
         delivers_by j (port_delivers u whole_u form_u rs at_rest uncut index c get_u e clocks tells j (omega (arith, ids_u, enough)))
 
-    -- by what it is owed
+    -- a port of a joined circuit delivers what it is owed after enough rounds
     abbrev Joined : ℕ → ℕ → Type 0
     Joined j size =
         is_joined size (is_applied rs) (arc_of size c) ≡ true → 4 * hops size (is_applied rs) (arc_of size c) + 4 ≤ j

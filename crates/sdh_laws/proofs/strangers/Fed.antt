@@ -61,7 +61,7 @@ protection_of (Add q) d = Ais
 protection_of (Working x) d = Ais
 protection_of (Protection x) d = on_side x d (Protection d)
 
--- with AIS in place of every arrival but this
+-- origin o, if it is the arrival that is followed; AIS in place of every other arrival
 abbrev alone : Origin → Origin → Origin
 alone o Ais = Ais
 alone o (Add q) = Add q
@@ -129,7 +129,7 @@ module _ (clocks : PortId → ℕ → Clock) (w : World) (form : HasCircuits (la
   ProtectionSent p m d =
       Fine (Own (t + 1)) (spoken_of ids cs m (opposite d) (word_of d (node_at (round w).ring.nodes p))) (opposite d) (sent_at w p d (slots + m))
 
-  -- what comes in does
+  -- what comes in holds at most the bytes of the circuit on the span, or of the circuit that the word heard speaks of
   abbrev pub WorkingCame : ℕ → ℕ → Side → Type 0
   WorkingCame p m d = Fine (Own t) (circuits_at n cs p m d) (opposite d) (value_at w p m (Working d))
 

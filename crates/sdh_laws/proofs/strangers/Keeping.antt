@@ -36,7 +36,7 @@ pub none_in : (w : World) (ss : List Stretch) → NoneHolds ss → AllMay (λ v 
 none_in w [] none = tt
 none_in w (s ∷ ss) none = (none_each w s.changes none.0, none_in (after_stretch s w) ss none.1)
 
--- hold none aside either
+-- a change that holds no controller holds at most those of nodes that stand aside
 aside_one : (w : World) (c : Change) → HoldsNone c → HoldsAside w c
 aside_one w (Fibre p d condition) none = tt
 aside_one w (Order p d command) none = tt

@@ -70,9 +70,9 @@ place_on n d (Some r) p = steps n d (start_of d r) p
 abbrev pub working_lag : ℕ → Side → Option OnSpan → ℕ → ℕ
 working_lag n d o p = place_on n d o p * (n + 1)
 
--- The lag of a protection AU-4 that the node at p sends on the side opposite to d, under a word that has this node as
--- its source and speaks of this: the source had it in the working slot, and this is the number of spans that it has
--- crossed since.
+-- The lag of a protection AU-4 that the node at p sends on the side opposite to d. The word beside it has its source at
+-- g and speaks of circuit o. The lag is the working lag at g, and one round more than there are spans from g to p. It
+-- is 0 where the ring has no such source.
 abbrev pub protection_lag : ℕ → Side → Option OnSpan → Option Pos → ℕ → ℕ
 protection_lag n d o None p = 0
 protection_lag n d o (Some g) p = place_on n d o g.0 * (n + 1) + steps n (opposite d) g.0 p + 1
@@ -97,6 +97,6 @@ lag_less n a b s h few =
 pub record AreLags (Was Own : ℕ → Option PortId → Au → Type 0) : Type 0 where
   pub was : (i : ℕ) → IsCarried (Was i)
   pub own : (i : ℕ) → IsCarried (Own i)
-  -- what was so of a lag is so of a larger one after the round
+  -- what held of a lag before the round holds of a larger lag after it
   pub later : (i j : ℕ) (q : Option PortId) (a : Au) → i < j → Was i q a → Own j q a
   pub longer : (i j : ℕ) (q : Option PortId) (a : Au) → i ≤ j → Own i q a → Own j q a

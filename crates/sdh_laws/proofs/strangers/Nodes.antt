@@ -273,7 +273,7 @@ module _ (Was Own : ℕ → Option PortId → Au → Type 0) (lags : AreLags Was
   stands_by (state.PassThrough i) h d = open_fine (state.PassThrough i) d refl
   stands_by (state.Idle i) h d = open_fine (state.Idle i) d refl
 
-  -- at a node in this state
+  -- what stands for the working arrival from side d is fine at a node in this state
   abbrev StandsFine : NodeState → Side → Type 0
   StandsFine x d = Fine (Own (arrival_lag d)) (on d) (opposite d) (value (stands_in n cs p x d m))
 

@@ -1,4 +1,4 @@
--- A round of a ring with shields: what lies after a switched node stays what it was.
+-- A round of a ring with shields: what lies beyond a switched node stays what it was.
 use Rattle.std.proofs.Common.{◌≡◌, ℕ, ◌+◌, ◌<◌, ◌≤◌, Bool, true, false, List, length, Option, Some, None, refl, ap, sym, ◌∙◌, subst}
 use Rattle.std.proofs.Common.{arith, inl, inr}
 use Rattle.std.specs.Prelude.{◌≢◌, if◌then◌else◌}
@@ -183,7 +183,7 @@ module _ (clocks : PortId → ℕ → Clock) (w : World) where
         ]
       ]
 
-      -- for one round more it was so up to one step farther
+      -- after one round more the shield reaches one step farther
       pub grown : Shields clocks (a + 1) 0 (round w) x e
       unfolding any_round.round any_round.round_with
       grown = record {
@@ -259,7 +259,7 @@ module _ (clocks : PortId → ℕ → Clock) (w : World) where
         | inr not ↦ blank (Switch e g) is (blocked-leaves n cs q e m g not)
       ]
 
-      -- it is of the circuit on the switched span of x
+      -- what q sends on protection on the side opposite to e is of the circuit on the switched span of x
       pub theirs : Theirs (sent_at w q (opposite e) (slots + m))
       theirs =
           by_state e st (Theirs (sent_at w q (opposite e) (slots + m))) (λ z. blank st refl (aside_leaves st z)) passing switched
@@ -283,7 +283,7 @@ module _ (clocks : PortId → ℕ → Clock) (w : World) where
         (λ j i c e get at. subst (λ y. Own (t + 1) (Some (port_id i e)) (added_by (node_at w.ring.nodes y).ports (port_id i e)).au) at
         (adds_own clocks w k.whole form tells i c e get)) (held_stand q m h low high) d
 
-    -- one shield
+    -- one switched node x, which has a shield
     module _ (x : ℕ) (e : Side) (hx : x < length w.ring.nodes) (a b : ℕ) (sh : Shields clocks a b w x e) (f : Option Pos)
         (stays : (node_at (round w).ring.nodes x).state ≡ Switch (opposite e) f)
         (full : (q : ℕ) → q < length w.ring.nodes → is_held (node_at w.ring.nodes q) ≡ true → n ≤ a) (all : n ≤ a) where
@@ -299,7 +299,7 @@ module _ (clocks : PortId → ℕ → Clock) (w : World) where
           (λ g is. ends_after k.whole x e hx a b sh f stays full q g h (let few = steps_few n (some k.whole) e x q in omega arith)
           is)
 
-      -- and everywhere
+      -- after one round more the shield reaches one step farther on protection too
       pub filled : Shields clocks (a + 1) (b + 1) (round w) x e
       unfolding any_round.round any_round.round_with
       filled =
@@ -312,7 +312,7 @@ module _ (clocks : PortId → ℕ → Clock) (w : World) where
                 (opposite e) line hq (omega arith) (omega arith) there (theirs_after q m hq low high less));
           }
 
--- what holds of more rounds holds of fewer
+-- a shield for more rounds is a shield for fewer
 pub less_shields : (clocks : PortId → ℕ → Clock) (a b a2 b2 : ℕ) (w : World) (x : ℕ) (e : Side) → a2 ≤ a → b2 ≤ b → 1 ≤ a
     → Shields clocks a b w x e → Shields clocks a2 b2 w x e
 less_shields clocks a b a2 b2 w x e less_a less_b some s = record {

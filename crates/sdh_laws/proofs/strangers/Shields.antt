@@ -1,4 +1,4 @@
--- A switched node lets no word and no protection past it: whose they are on its far side.
+-- A switched node lets no word and no protection AU-4 past it. So it is known whose these are beyond it.
 use Rattle.std.proofs.Common.{◌≡◌, ℕ, suc, ◌+◌, ◌-◌, ◌<◌, ◌≤◌, Bool, true, false, List, length, Option, Some, None, refl, ap, sym}
 use Rattle.std.proofs.Common.{◌∙◌, arith, inl, inr, ◌⊎◌}
 use Rattle.std.specs.Prelude.{◌≢◌, slice_index, if◌then◌else◌}
@@ -66,7 +66,7 @@ module _ (n : ℕ) (some : 0 < n) (e : Side) where
 
 module _ (n : ℕ) (cs : List Provisioned) (ring : AreOnRing n cs) (some : 0 < n) (e : Side) (q m x : ℕ) (f : Pos) (hq : q < n) (hx : x < n)
     (hf : f.0 < n) (other : x ≢ q) (less : steps n e x f.0 < steps n e x q) where
-  -- what may be carried between q and f is on the span after every position that lies between them outside the chain
+  -- what may be carried between q and f is also on the span behind each position between them outside the chain
   pub meets-between : carries_in n cs q e m (Some f) ≡ true → circuits_at n cs x m (opposite e) ≡ circuits_at n cs q m e
   meets-between t =
       let far = meets-farther n cs ring some e q m f hq hf t in
@@ -191,10 +191,10 @@ by_side East East = inl refl
 
 -- ---- a shield
 
--- The node at x is switched on the side opposite to e, and has been for a rounds: the words that go on side e, up to a
--- - 1 steps on from it, have their sources between; so have the far ends of the nodes there that are switched on side
--- e. And for b rounds that was so everywhere: what comes on protection the other way, up to b - 1 steps from it, is of
--- the circuit on its switched span.
+-- The shield of a node at x that is switched on the side opposite to e. It reaches a - 1 steps from x on side e: a word
+-- that is sent on side e there has its source between x and its sender, and so has the far end of each node that is
+-- switched on side e. It reaches b - 1 steps from x on the opposite side: a protection AU-4 that is sent on that side
+-- there is of the circuit on the switched span of x.
 pub record Shields (clocks : PortId → ℕ → Clock) (a b : ℕ) (w : World) (x : ℕ) (e : Side) : Type 0 where
   pub says : 1 ≤ a → source_in w.ring.ids (word_of e (node_at w.ring.nodes x)) ≡ Some (position_of x)
   pub words : (q : ℕ) (g : Pos) → q < length w.ring.nodes → steps (length w.ring.ids) e x q < a

@@ -82,7 +82,7 @@ use Rattle.sdh_laws.proofs.strangers.Arc.{sent, HasCome, IsTuned, IsUndisturbed,
 -- ---- a clock by its history
 
 module _ (q : PortId) where
-  -- slips leave both
+  -- two clocks have the same pointer value, and may justify after the same number of rounds
   record IsAlike (a b : Clock) : Type 0 where
     rest : b.rest ≡ a.rest
     value : b.value ≡ a.value

@@ -61,7 +61,7 @@ module _ (clocks : PortId → ℕ → Clock) (law : StillRingsAreSettled) (v : W
   enough : 2 ≤ n
   enough = whole.placed.ids.enough
 
-  -- the last 3n rounds are steady
+  -- no node is held in the last 3n rounds
   free_in : (j : ℕ) → last < suc j + 3 * n → j < last → AtEach (λ p n. is_held n ≡ false) (run j v).ring.nodes
   free_in j low high =
       let calm = ends.calm (suc j) (let e = ap length (ids_are last) in omega arith) (omega arith) in
@@ -183,7 +183,7 @@ module _ (clocks : PortId → ℕ → Clock) (law : StillRingsAreSettled) (v : W
       content = λ q m line h less there low high. absurd (omega arith);
     }
 
-    -- after i rounds of them
+    -- after i rounds of the last n, shields reach i steps
     grow : (i : ℕ) → i ≤ n → Shields clocks i 0 (run (i + (last - n)) v) x e
     grow zero few = subst (λ j. Shields clocks 0 0 (run j v) x e) (let z : last - n ≡ 0 + (last - n) = omega arith in z) begins
     grow (suc i) few =

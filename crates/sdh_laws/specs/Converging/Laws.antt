@@ -38,7 +38,7 @@ pub record WindowBy (w : World) (most : ℕ) : Type 0 where
   pub soon : ends ≤ most
   pub window : EndsWindow (course w) ends
 
--- where all rounds from one on are calm, a window ends at most 3n + 128 rounds later
+-- where all rounds are calm from some round on, a window ends at most 3n + 128 rounds later
 abbrev pub CalmEndsWindows : Type 0
 CalmEndsWindows = (w : World) (first : ℕ) → ((j : ℕ) → first ≤ j → IsCalm (course w) j) → WindowBy w (first + 3 * length w.ring.ids + 128)
 

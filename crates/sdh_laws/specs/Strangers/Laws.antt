@@ -215,9 +215,9 @@ AHoldSpoilsItsOwnStepAlone =
 
 -- ---- from every whole ring on
 
--- Whatever a ring carries, and whatever happens to it except further holds, it comes to be vouched for. That takes
--- `most` rounds, in which the last controller stops missing rounds, and n + 1 rounds more for each of n spans, the most
--- that an arc may have.
+-- Whatever a ring carries, and whatever happens to it except further holds, it becomes vouched for. That takes `most`
+-- rounds, in which the last controller stops missing rounds, and then n(n + 1) rounds: n + 1 for each span of an arc,
+-- which has fewer than n spans.
 abbrev pub RingsComeToBeVouchedFor : Type 0
 RingsComeToBeVouchedFor =
     (most : ℕ) (w : World) (ss : List Stretch) (clocks : PortId → ℕ → Clock) → IsWhole w → HasCircuits (layout_of w)

@@ -4,7 +4,7 @@ use Rattle.sdh_outage.specs.Kinds.{Whose}
 use Rattle.sdh_outage.specs.Kept.{Heard}
 use Rattle.sdh_outage_cli.proofs.ports.new_both.Goals as goal
 
--- a customer and others, whichever
+-- any customer, and nobody as the other ports, since neither matters before the first round
 any_customer : Customer
 any_customer = record { text = []; trace = []; offset = 0 }
 

@@ -3,8 +3,8 @@ use Rattle.sdh_scripts.proofs.Calls.{answer_tells, answer_came, answer_usage, an
 use Rattle.sdh_scripts.proofs.Calls.{answer_complete, answer_memory}
 use Rattle.sdh_scripts.proofs.calling.call_over.Goals as goal
 
--- Each clause with Ok is a lemma of the answer, whose arguments are all found; the clauses without memory are by its
--- clauses for an error.
+-- Each clause for Ok is a lemma about `answer`, whose arguments are all inferred. The clauses for out of memory follow
+-- from the clauses of `answer` for an error.
 pub returns-in-Ok-clause-outcome : goal.returns-in-Ok-clause-outcome
 returns-in-Ok-clause-outcome g c = answer_tells _ _ _ _ _ _ _ c.in-Ok.ensures.answer
 

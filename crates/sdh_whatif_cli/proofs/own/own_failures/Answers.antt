@@ -14,7 +14,7 @@ use Rattle.sdh_whatif_cli.proofs.Naming.{OwnSoFar, none_yet, more_own, unknown_a
 use Rattle.sdh_whatif_cli.proofs.own.own_failures.Goals as goal
 use Rattle.sdh_whatif_cli.proofs.own.own_failures.Goals.{then-behind+in-Ok+in_ok-push-in-Ok, else-behind}
 
--- before the first word
+-- before the first word there is no failure of the user's own
 pub loop-word-init : goal.loop-word-init
 loop-word-init c = record {
   made = subst (λ (l : List (Vec Failure Global)). OwnSoFar c.args.map.now (own_texts (words_of c.args.words.now))
