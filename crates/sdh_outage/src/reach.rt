@@ -134,13 +134,13 @@ impl Reach {
         &self.bytes
     }
 
-    // Makes the next chunk and doesn't keep it.
+    // Goes on after the next chunk, which isn't made.
     fn pass(&mut self)
         requires none { self.old.first ≡ self.old.made }
         requires few { self.old.made + 1 < 2 ^ 32 }
         ensures { self.new ≡ record self.old { first = self.old.made + 1; made = self.old.made + 1 } }
     {
-        self.feed.next(&mut self.chunk);
+        self.feed.pass();
         self.made += 1;
         self.first = self.made;
     }
@@ -164,20 +164,21 @@ impl Reach {
         self.first = self.made;
     }
 
-    /// Drops all chunks that are kept, and makes the next one in place of what `out` held.
-    pub(crate) fn make(&mut self, out: &mut Cells)
+    // Drops all chunks that are kept, goes on after the next one, and returns whether that one equals `chunk`.
+    fn follows(&mut self, chunk: &[u8]) -> bool
         requires { self.old.made + 1 < 2 ^ 32 }
-        ensures chunk { out.new ≡ chunk_of self.old.port self.old.made }
+        ensures answer { result ≡ true → chunk.now ≡ chunk_of self.old.port self.old.made }
         ensures next { self.new ≡ record self.old { first = self.old.made + 1; made = self.old.made + 1 } }
     {
-        self.feed.next(out);
+        let same = self.feed.is_next(chunk);
         self.bytes.clear();
         self.made += 1;
         self.first = self.made;
+        same
     }
 
-    /// Drops all chunks that are kept, and keeps the next one.
-    pub(crate) fn keep_next(&mut self)
+    // Drops all chunks that are kept, and keeps the next one.
+    fn keep_next(&mut self)
         requires few { self.old.made + 1 < 2 ^ 32 }
         requires room { 1 ≤ self.old.most }
         ensures { self.new ≡ record self.old { first = self.old.made; made = self.old.made + 1 } }
@@ -194,6 +195,22 @@ impl Reach {
         &self.bytes[self.bytes.len() - CHUNK..] == chunk
     }
 
+    /// Drops all chunks that are kept, goes on after the next one, and returns whether that one equals `chunk`. Where
+    /// `keeps` holds, the next one is made and kept.
+    pub(crate) fn is_next(&mut self, keeps: bool, chunk: &[u8]) -> bool
+        requires few { self.old.made + 1 < 2 ^ 32 }
+        requires room { 1 ≤ self.old.most }
+        ensures answer { result ≡ true → chunk.now ≡ chunk_of self.old.port self.old.made }
+        ensures port { self.new.port ≡ self.old.port }
+        ensures most { self.new.most ≡ self.old.most }
+    {
+        if keeps {
+            self.keep_next();
+            return self.ends_with(chunk);
+        }
+        self.follows(chunk)
+    }
+
     // Begins anew before chunk 0 of the same port's stream.
     fn restart(&mut self, port: &Port)
         requires { port.now ≡ self.old.port }
@@ -205,8 +222,8 @@ impl Reach {
         self.first = 0;
     }
 
-    /// Drops all chunks that are kept, and makes those before chunk `from`, which is then the next one.
-    pub(crate) fn pass_to(&mut self, from: u32)
+    // Drops all chunks that are kept, and goes on after those before chunk `from`, which is then the next one.
+    fn pass_to(&mut self, from: u32)
         requires later { self.old.made ≤ from }
         requires few { from + 1 < 2 ^ 32 }
         ensures { self.new ≡ record self.old { first = from; made = from } }
@@ -217,9 +234,9 @@ impl Reach {
         }
     }
 
-    /// Drops all chunks that are kept. Then makes the next ones before chunk `end`, until one equals `chunk`, and
-    /// returns whether one did.
-    pub(crate) fn seek(&mut self, end: u32, out: &mut Cells, chunk: &[u8]) -> bool
+    // Drops all chunks that are kept. Then goes on after the next ones before chunk `end`, until one equals `chunk`, and
+    // returns whether one did.
+    fn find(&mut self, end: u32, chunk: &[u8]) -> bool
         requires order { self.old.made ≤ end }
         ensures found { result ≡ true → (self.old.made < self.new.made) × (self.new.made ≤ end) × (chunk.now ≡ chunk_of self.old.port (self.new.made - 1)) }
         ensures port { self.new.port ≡ self.old.port }
@@ -227,12 +244,25 @@ impl Reach {
     {
         self.clear();
         for _ in self.made..end {
-            self.make(out);
-            if out.as_slice() == chunk {
+            if self.follows(chunk) {
                 return true;
             }
         }
         false
+    }
+
+    /// Drops all chunks that are kept. Then goes on from chunk `from` and before chunk `end`, until one equals `chunk`,
+    /// and returns whether one did. None is kept.
+    pub(crate) fn seek(&mut self, from: u32, end: u32, chunk: &[u8]) -> bool
+        requires later { self.old.made ≤ from }
+        requires order { from ≤ end }
+        requires few { end + 1 < 2 ^ 32 }
+        ensures found { result ≡ true → (from < self.new.made) × (self.new.made ≤ end) × (chunk.now ≡ chunk_of self.old.port (self.new.made - 1)) }
+        ensures port { self.new.port ≡ self.old.port }
+        ensures most { self.new.most ≡ self.old.most }
+    {
+        self.pass_to(from);
+        self.find(end, chunk)
     }
 
     // Drops the chunks before this one.

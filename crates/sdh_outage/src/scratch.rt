@@ -6,7 +6,7 @@ ghost use Rattle.sdh_outage.specs.Near.{near};
 ghost use Rattle.sdh_outage.specs.Kept.{IsReach};
 
 use crate::last::Last;
-use crate::reach::{CHUNK, Reach, put_chunk};
+use crate::reach::{CHUNK, put_chunk};
 use sdh_payload::{Cells, Feed, Port};
 use std::alloc::{AllocError, Global};
 use std::fmt;
@@ -43,14 +43,14 @@ impl fmt::Debug for Scratch {
 }
 
 // Returns the feed of a port before this chunk of its stream.
-fn feed_before(port: &Port, chunk: &mut Cells, first: u32) -> Feed
+fn feed_before(port: &Port, first: u32) -> Feed
     requires { first < 2 ^ 32 }
     ensures at { IsReach result first first [] }
     ensures port { result.port ≡ port.now }
 {
     let mut feed = Feed::new(port);
     for _ in 0..first {
-        feed.next(chunk);
+        feed.pass();
     }
     feed
 }
@@ -85,7 +85,7 @@ impl Scratch {
         requires { round + 88 ≤ 2 ^ 32 }
         ensures { self.new ≡ near port.now round }
     {
-        let mut feed = feed_before(port, &mut self.chunk, round.saturating_sub(BEHIND));
+        let mut feed = feed_before(port, round.saturating_sub(BEHIND));
         self.bytes.clear();
         put_near(&mut feed, &mut self.chunk, &mut self.bytes);
     }
@@ -120,39 +120,8 @@ impl Scratch {
         ensures chunk { last.new ≡ Delivered.Chunk (chunk_of port.now number) }
         ensures same { self.new ≡ self.old }
     {
-        let mut feed = feed_before(port, &mut self.chunk, number);
+        let mut feed = feed_before(port, number);
         feed.next(&mut self.chunk);
         last.put_chunk(self.chunk.as_slice());
-    }
-
-    /// Makes the next chunk of a stream, and returns whether it equals `chunk`. Where `keeps` holds, the stream then
-    /// keeps the chunk that was made and no other, and else none.
-    pub(crate) fn is_next(&mut self, next: &mut Reach, keeps: bool, chunk: &[u8]) -> bool
-        requires few { next.old.made + 1 < 2 ^ 32 }
-        requires room { 1 ≤ next.old.most }
-        ensures answer { result ≡ true → chunk.now ≡ chunk_of next.old.port next.old.made }
-        ensures port { next.new.port ≡ next.old.port }
-        ensures most { next.new.most ≡ next.old.most }
-    {
-        if keeps {
-            next.keep_next();
-            return next.ends_with(chunk);
-        }
-        next.make(&mut self.chunk);
-        self.chunk.as_slice() == chunk
-    }
-
-    /// Makes the chunks of a stream from chunk `from` on and before chunk `end`, until one equals `chunk`, and returns
-    /// whether one did. None is kept.
-    pub(crate) fn seek(&mut self, next: &mut Reach, from: u32, end: u32, chunk: &[u8]) -> bool
-        requires later { next.old.made ≤ from }
-        requires order { from ≤ end }
-        requires few { end + 1 < 2 ^ 32 }
-        ensures found { result ≡ true → (from < next.new.made) × (next.new.made ≤ end) × (chunk.now ≡ chunk_of next.old.port (next.new.made - 1)) }
-        ensures port { next.new.port ≡ next.old.port }
-        ensures most { next.new.most ≡ next.old.most }
-    {
-        next.pass_to(from);
-        next.seek(end, &mut self.chunk, chunk)
     }
 }

@@ -146,7 +146,7 @@ impl Window {
 
     // Returns whether the last chunk is known by its number, and this chunk is the next one of the stream. If so, keeps
     // this chunk as what came last.
-    fn goes_on(&mut self, scratch: &mut Scratch, last: &mut Latest, chunk: &[u8]) -> bool
+    fn goes_on(&mut self, last: &mut Latest, chunk: &[u8]) -> bool
         requires { self.old.round + 88 ≤ 2 ^ 32 }
         ensures answer { result ≡ true → (is_part chunk.now (near self.old.port self.old.round) ≡ true)
             × (jumps (near self.old.port self.old.round) (came last.old) chunk.now ≡ false) }
@@ -159,7 +159,7 @@ impl Window {
         if number <= first || number >= first + CHUNKS || !last.is_before(&self.port, number) {
             return false;
         }
-        let follows = scratch.is_next(&mut self.next, self.round % TURN == 0, chunk);
+        let follows = self.next.is_next(self.round % TURN == 0, chunk);
         if follows {
             last.step();
             self.from = number;
@@ -169,7 +169,7 @@ impl Window {
     }
 
     // Returns whether AIS came last, and a chunk is one that the port sent later. If so, keeps it as what came last.
-    fn comes_later(&mut self, scratch: &mut Scratch, last: &mut Latest, chunk: &[u8]) -> bool
+    fn comes_later(&mut self, last: &mut Latest, chunk: &[u8]) -> bool
         requires { self.old.round + 88 ≤ 2 ^ 32 }
         ensures answer { result ≡ true → (is_part chunk.now (near self.old.port self.old.round) ≡ true)
             × (jumps (near self.old.port self.old.round) (came last.old) chunk.now ≡ false) }
@@ -182,7 +182,7 @@ impl Window {
             return false;
         }
         let first = self.round.saturating_sub(BEHIND);
-        let found = scratch.seek(&mut self.next, made.max(first), self.round + 1, chunk);
+        let found = self.next.seek(made.max(first), self.round + 1, chunk);
         if found {
             self.from = self.next.made() - 1;
             last.know(&self.port, self.from);
@@ -234,10 +234,10 @@ impl Window {
             last.put_chunk(chunk);
             return Some(Kind::Ones);
         }
-        if self.goes_on(scratch, last, chunk) {
+        if self.goes_on(last, chunk) {
             return Some(Kind::InOrder);
         }
-        if self.comes_later(scratch, last, chunk) {
+        if self.comes_later(last, chunk) {
             return Some(Kind::InOrder);
         }
         if self.comes_after(last, chunk) {

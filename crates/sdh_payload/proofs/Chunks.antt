@@ -9,7 +9,7 @@ use Rattle.sdh_payload.specs.declared.chunk.ChunkForm.{ChunkForm}
 use Rattle.sdh_payload.specs.declared.chunk.ChunkForm.TheVariants.{Plain, Short, Long}
 use Rattle.sdh_payload.specs.Chunk.{taken_len, laid_payload, around}
 use Rattle.sdh_payload.specs.Customer.{Customer}
-use Rattle.sdh_payload.specs.Clock.{Clock, next_form, after_form, ticked, ticks}
+use Rattle.sdh_payload.specs.Clock.{Clock, waiting, next_form, after_form, ticked, ticks}
 use Rattle.sdh_payload.specs.Stream.{padded, phase_of, b3_of, container_byte, stream_byte, stream_from}
 use Rattle.sdh_payload.specs.Laws.{sent_in_rounds, begun_in, ChunksAreTheStream, WhatIsLaidIsTaken, BeginsAtTheOffset}
 use Rattle.sdh_payload.proofs.Containers.{container_byte-at, vc4_byte-overhead}
@@ -149,3 +149,7 @@ unfolding stream_byte
 begins_at_the_offset port j =
     get_or-stream_from port (2349 * j) 2349 (phase_of port.offset) 0 (omega arith)
     ∙ ap (container_byte port) (whole (phase_of port.offset) j (omega arith)) ∙ begins port (begun_in port j)
+
+-- a round in which no slip waits sends a plain chunk
+pub plain_len : (c : Clock) → waiting c ≡ 0 → taken_len (next_form c) ≡ 2349
+plain_len c still = grind (arith, still)

@@ -6,3 +6,4 @@ pub mod Chunks
 pub mod Splicing
 pub mod Clocking
 pub mod Histories
+pub mod Comparing

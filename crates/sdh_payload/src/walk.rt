@@ -1,5 +1,5 @@
 //! A walk along a customer's VC-4s, row by row.
-ghost use Rattle.std.specs.Prelude.{◌≡◌, ◌+◌, ◌-◌, ◌*◌, ◌/◌, ◌%◌, ◌^◌, ◌<◌, ◌≤◌, ◌++◌, length, take, slice_index};
+ghost use Rattle.std.specs.Prelude.{◌≡◌, ◌+◌, ◌-◌, ◌*◌, ◌/◌, ◌%◌, ◌^◌, ◌<◌, ◌≤◌, [], ◌∷◌, ◌++◌, length, take, bytes_eq, slice_index};
 ghost use Rattle.sdh_basics.specs.Parity.{bip8};
 ghost use Rattle.sdh_payload.specs.Stream.{path_overhead, padded, start_of, vc4_byte, vc4_front};
 ghost use Rattle.sdh_payload.specs.Walk.{containers_from, text_before};
@@ -132,12 +132,10 @@ impl Walk {
         }
     }
 
-    // Puts the next byte, which is the path overhead byte of a row, at place `done` of `out`.
-    fn put_overhead(&mut self, out: &mut [u8], done: usize)
+    // Returns the next byte, which is the path overhead byte of a row, and goes on after it.
+    fn next_overhead(&mut self) -> u8
         requires start { self.old.at % 261 ≡ 0 }
-        requires room { done < length out.old }
-        ensures bytes { take (done + 1) out.new ≡ take done out.old ++ containers_from self.old.port self.old.at 1 }
-        ensures len { length out.new ≡ length out.old }
+        ensures byte { result ∷ [] ≡ containers_from self.old.port self.old.at 1 }
         ensures next { self.new ≡ record self.old { at = self.old.at + 1 } }
     {
         let byte = overhead_byte(
@@ -146,9 +144,65 @@ impl Walk {
             self.number,
             self.index / COLUMNS,
         );
-        out[done] = byte;
         self.parity ^= byte;
         self.index += 1;
+        byte
+    }
+
+    // Returns the next `count` text bytes, which are of one row.
+    fn text_run(&self, count: usize) -> &[u8]
+        requires inside { 0 < self.now.at % 261 }
+        requires fits { self.now.at % 261 + count ≤ 261 }
+        ensures bytes { result.now ≡ containers_from self.now.port self.now.at count }
+        ensures count { length result.now ≡ count }
+    {
+        self.text.from(self.place, count)
+    }
+
+    // Goes on after the next `count` text bytes, which are of one row.
+    fn pass_text(&mut self, count: usize)
+        requires inside { 0 < self.old.at % 261 }
+        requires fits { self.old.at % 261 + count ≤ 261 }
+        requires few { self.old.at < 2 ^ 60 }
+        ensures { self.new ≡ record self.old { at = self.old.at + count } }
+    {
+        self.parity ^= self.text.parity(self.place, count);
+        self.place = self.text.behind(self.place, count);
+        self.index += count;
+        if self.index == VC4_LEN {
+            self.index = 0;
+            self.number += 1;
+            self.b3 = self.parity;
+            self.parity = 0;
+        }
+    }
+
+    // Returns the number of text bytes that come next in the row, at most `most`, and 0 where the path overhead byte of
+    // a row is next.
+    fn text_count(&self, most: usize) -> usize
+        requires some { 0 < most }
+        ensures none { result ≡ 0 → self.now.at % 261 ≡ 0 }
+        ensures some { 0 < result → 0 < self.now.at % 261 }
+        ensures fits { 0 < result → self.now.at % 261 + result ≤ 261 }
+        ensures within { result ≤ most }
+    {
+        let column = self.index % COLUMNS;
+        if column == 0 {
+            0
+        } else {
+            most.min(COLUMNS - column)
+        }
+    }
+
+    // Puts the next byte, which is the path overhead byte of a row, at place `done` of `out`.
+    fn put_overhead(&mut self, out: &mut [u8], done: usize)
+        requires start { self.old.at % 261 ≡ 0 }
+        requires room { done < length out.old }
+        ensures bytes { take (done + 1) out.new ≡ take done out.old ++ containers_from self.old.port self.old.at 1 }
+        ensures len { length out.new ≡ length out.old }
+        ensures next { self.new ≡ record self.old { at = self.old.at + 1 } }
+    {
+        out[done] = self.next_overhead();
     }
 
     // Puts the next `count` text bytes, which are of one row, at place `done` of `out`.
@@ -161,17 +215,8 @@ impl Walk {
         ensures len { length out.new ≡ length out.old }
         ensures next { self.new ≡ record self.old { at = self.old.at + count } }
     {
-        let run = self.text.from(self.place, count);
-        out[done..done + count].copy_from_slice(run);
-        self.parity ^= self.text.parity(self.place, count);
-        self.place = self.text.behind(self.place, count);
-        self.index += count;
-        if self.index == VC4_LEN {
-            self.index = 0;
-            self.number += 1;
-            self.b3 = self.parity;
-            self.parity = 0;
-        }
+        out[done..done + count].copy_from_slice(self.text_run(count));
+        self.pass_text(count);
     }
 
     /// Puts the next bytes, which are of one row, after the first `done` bytes of `out`: at least one, and at most as
@@ -185,14 +230,81 @@ impl Walk {
         ensures len { length out.new ≡ length out.old }
         ensures next { self.new ≡ record self.old { at = self.old.at + result } }
     {
-        let column = self.index % COLUMNS;
-        if column == 0 {
+        let count = self.text_count(out.len() - done);
+        if count == 0 {
             self.put_overhead(out, done);
             return 1;
         }
-        let count = (out.len() - done).min(COLUMNS - column);
         self.put_text(count, out, done);
         count
+    }
+
+    // Goes on after the next bytes, which are of one row: at least one, and at most `most`. Returns their number.
+    fn pass_some(&mut self, most: usize) -> usize
+        requires some { 0 < most }
+        requires few { self.old.at < 2 ^ 60 }
+        ensures some { 0 < result }
+        ensures within { result ≤ most }
+        ensures next { self.new ≡ record self.old { at = self.old.at + result } }
+    {
+        let count = self.text_count(most);
+        if count == 0 {
+            self.next_overhead();
+            return 1;
+        }
+        self.pass_text(count);
+        count
+    }
+
+    /// Goes on after the next `count` bytes.
+    pub fn pass(&mut self, count: usize)
+        requires room { count ≤ 2352 }
+        requires few { self.old.at < 2 ^ 59 }
+        ensures { self.new ≡ record self.old { at = self.old.at + count } }
+    {
+        let mut done = 0;
+        while done < count {
+            done += self.pass_some(count - done);
+        }
+    }
+
+    // Compares the next bytes, which are of one row, with the first of these: at least one, and at most all. Returns
+    // their number, and whether they are equal, and goes on after them.
+    fn compare_some(&mut self, bytes: &[u8]) -> (usize, bool)
+        requires some { 0 < length bytes.now }
+        requires few { self.old.at < 2 ^ 60 }
+        ensures some { 0 < result.0 }
+        ensures within { result.0 ≤ length bytes.now }
+        ensures same { result.1 ≡ bytes_eq (take result.0 bytes.now) (containers_from self.old.port self.old.at result.0) }
+        ensures next { self.new ≡ record self.old { at = self.old.at + result.0 } }
+    {
+        let count = self.text_count(bytes.len());
+        if count == 0 {
+            let byte = self.next_overhead();
+            return (1, bytes[0] == byte);
+        }
+        let same = &bytes[..count] == self.text_run(count);
+        self.pass_text(count);
+        (count, same)
+    }
+
+    /// Returns whether these are the next bytes, and goes on after the next ones, as many as these.
+    pub fn is_next(&mut self, bytes: &[u8]) -> bool
+        requires room { length bytes.now ≤ 2352 }
+        requires few { self.old.at < 2 ^ 58 }
+        ensures answer { result ≡ bytes_eq bytes.now (containers_from self.old.port self.old.at (length bytes.now)) }
+        ensures next { self.new ≡ record self.old { at = self.old.at + length bytes.now } }
+    {
+        let mut done = 0;
+        while done < bytes.len() {
+            let (count, same) = self.compare_some(&bytes[done..]);
+            done += count;
+            if !same {
+                self.pass(bytes.len() - done);
+                return false;
+            }
+        }
+        true
     }
 
     // Fills `out` with the next bytes.

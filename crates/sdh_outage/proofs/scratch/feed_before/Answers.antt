@@ -14,8 +14,8 @@ loop-preserved c =
     let feed = c.loop.feed in
     let made = c.loop.counter in
     let at = c.loop.invariant.at in
-    let next = feed_next feed c.next.new.self made c.next.ensures.next at.still at.rounds_are at.sent_is in
+    let next = feed_next feed c.pass.new.self made c.pass.ensures at.still at.rounds_are at.sent_is in
     record {
-      at = reach_passed feed c.next.new.self made [] c.next.ensures.next at;
+      at = reach_passed feed c.pass.new.self made [] c.pass.ensures at;
       port = next.3 ∙ c.loop.invariant.port;
     }

@@ -11,7 +11,7 @@ invariant_of-self c =
     let none : c.self.inside.first ≡ made =
     ap (λ (r : Reached). r.first) c.self.view_is ∙ c.requires.none ∙ sym (ap (λ (r : Reached). r.made) c.self.view_is) in
     let r = subst (λ n. IsReach feed n made bytes) none c.self.invariant.0 in (
-      reach_passed feed c.next.new.self made bytes c.next.ensures.next r,
+      reach_passed feed c.pass.new.self made bytes c.pass.ensures r,
       omega (arith, none, c.self.invariant.1),
       omega arith,
       c.self.invariant.3,
