@@ -216,35 +216,54 @@ chosen-at rate sources first second own old i whole inside are =
     at_aus rate 1 (map (au_from (n_of rate) first second own) sources) old i whole inside
     ∙ chosen_byte rate i (get_or old i 0) inside sources first second own are
 
--- a row of it
-abbrev pub PickedAt : Rate → ℕ → List Source → List ℕ → List ℕ → List (List ℕ) → List ℕ → List ℕ → Type 0
-PickedAt rate r sources first second own old new =
-    (i : ℕ) → i < size_of rate → i / (270 * n_of rate) ≡ r → get_or new i 0
+-- all of it
+abbrev pub PickedAt : Rate → List Source → List ℕ → List ℕ → List (List ℕ) → List ℕ → List ℕ → Type 0
+PickedAt rate sources first second own old new =
+    (i : ℕ) → i < size_of rate → get_or new i 0
     ≡ (if is_au_byte (n_of rate) i then picked_at (n_of rate) sources first second own i else get_or old i 0)
 
-abbrev pub HereAt : Rate → ℕ → List Source → List ℕ → List ℕ → List (List ℕ) → List ℕ → List ℕ → Type 0
-HereAt rate r sources first second own old new =
-    (i : ℕ) → i < size_of rate → i / (270 * n_of rate) ≡ r → get_or new i 0 ≡ get_or (chosen (n_of rate) sources first second own old) i 0
+abbrev pub ChosenAt : Rate → List Source → List ℕ → List ℕ → List (List ℕ) → List ℕ → List ℕ → Type 0
+ChosenAt rate sources first second own old new =
+    (i : ℕ) → i < size_of rate → get_or new i 0 ≡ get_or (chosen (n_of rate) sources first second own old) i 0
 
-pub chosen-here : (rate : Rate) (r : ℕ) (sources : List Source) (first second : List ℕ) (own : List (List ℕ)) (old new : List ℕ)
-    → length old ≡ size_of rate → AreSources (n_of rate) sources → PickedAt rate r sources first second own old new
-    → HereAt rate r sources first second own old new
-chosen-here rate r sources first second own old new whole are picks =
-    λ i inside here. picks i inside here ∙ sym (chosen-at rate sources first second own old i whole inside are)
+pub chosen-all : (rate : Rate) (sources : List Source) (first second : List ℕ) (own : List (List ℕ)) (old new : List ℕ)
+    → length old ≡ size_of rate → AreSources (n_of rate) sources → PickedAt rate sources first second own old new
+    → ChosenAt rate sources first second own old new
+chosen-all rate sources first second own old new whole are picks =
+    λ i inside. picks i inside ∙ sym (chosen-at rate sources first second own old i whole inside are)
 
 -- what is picked from equal sources and equal inputs
-pub picked-same : (rate : Rate) (r : ℕ) (sources sources' : List Source) (from from' : Inputs) (old new : List ℕ) → sources ≡ sources'
+pub picked-same : (rate : Rate) (sources sources' : List Source) (from from' : Inputs) (old new : List ℕ) → sources ≡ sources'
     → from ≡ from'
-    → PickedAt rate r sources from.first.now from.second.now from.own.now old new
-    → PickedAt rate r sources' from'.first.now from'.second.now from'.own.now old new
-picked-same rate r sources sources' from from' old new a b is =
-    subst (λ l. PickedAt rate r l from'.first.now from'.second.now from'.own.now old new) a
-    (subst (λ (f : Inputs). PickedAt rate r sources f.first.now f.second.now f.own.now old new) b is)
+    → PickedAt rate sources from.first.now from.second.now from.own.now old new
+    → PickedAt rate sources' from'.first.now from'.second.now from'.own.now old new
+picked-same rate sources sources' from from' old new a b is =
+    subst (λ l. PickedAt rate l from'.first.now from'.second.now from'.own.now old new) a
+    (subst (λ (f : Inputs). PickedAt rate sources f.first.now f.second.now f.own.now old new) b is)
 
-pub same-here : (rate rate' : Rate) (r : ℕ) (sources : List Source) (first first' second second' : List ℕ) (own : List (List ℕ))
+pub same-chosen : (rate rate' : Rate) (sources : List Source) (first first' second second' : List ℕ) (own : List (List ℕ))
     (old old' new : List ℕ) → rate ≡ rate' → first ≡ first' → second ≡ second' → old ≡ old'
-    → HereAt rate r sources first second own old new → HereAt rate' r sources first' second' own old' new
-same-here rate rate' r sources first first' second second' own old old' new a b c d is =
-    subst (λ m. HereAt m r sources first' second' own old' new) a
-    (subst (λ l. HereAt rate r sources l second' own old' new) b
-    (subst (λ l. HereAt rate r sources first l own old' new) c (subst (λ l. HereAt rate r sources first second own l new) d is)))
+    → ChosenAt rate sources first second own old new → ChosenAt rate' sources first' second' own old' new
+same-chosen rate rate' sources first first' second second' own old old' new a b c d is =
+    subst (λ m. ChosenAt m sources first' second' own old' new) a
+    (subst (λ l. ChosenAt rate sources l second' own old' new) b
+    (subst (λ l. ChosenAt rate sources first l own old' new) c (subst (λ l. ChosenAt rate sources first second own l new) d is)))
+
+-- ---- row after row
+
+-- the rows below this one, from 0, are picked, and the others are as they were
+pub record PickedTo (n : ℕ) (picked : ℕ → ℕ) (row : ℕ) (old now : List ℕ) : Type 0 where
+  pub done : (i : ℕ) → i < 2430 * n → i / (270 * n) < row → get_or now i 0 ≡ (if is_au_byte n i then picked i else get_or old i 0)
+  pub rest : (i : ℕ) → row ≤ i / (270 * n) → get_or now i 0 ≡ get_or old i 0
+
+pub picked-next : (n : ℕ) (picked : ℕ → ℕ) (row : ℕ) (old now new : List ℕ) → PickedTo n picked row old now
+    → ((i : ℕ) → i < 2430 * n → i / (270 * n) ≡ row → get_or new i 0 ≡ (if is_au_byte n i then picked i else get_or now i 0))
+    → ((i : ℕ) → i / (270 * n) ≢ row → get_or new i 0 ≡ get_or now i 0) → PickedTo n picked (row + 1) old new
+picked-next n picked row old now new so here others = record {
+  done = λ i inside below.
+      elim (cases_eq (i / (270 * n)) row) [
+        | inl at ↦ here i inside at ∙ ap (λ x. if is_au_byte n i then picked i else x) (so.rest i (omega (arith, at)))
+        | inr away ↦ others i away ∙ so.done i inside (omega arith)
+      ];
+  rest = λ i behind. others i (λ (e : i / (270 * n) ≡ row). omega arith) ∙ so.rest i (omega arith);
+}

@@ -1,6 +1,6 @@
 -- A frame that is put together. The payload of each AU-4 is that of another AU-4 or of a port, or is ones. Its pointer
 -- bytes are given.
-use Rattle.std.specs.Prelude.{ℕ, ◌≡◌, ◌*◌, ◌-◌, List, [], length, take, drop, slice_range, slice_index_or, replicate}
+use Rattle.std.specs.Prelude.{ℕ, List, [], slice_index_or, replicate}
 use Rattle.sdh_ringmap.specs.declared.terms.Rate.{Rate}
 use Rattle.sdh_basics.specs.Indexed.{map_from}
 use Rattle.sdh_interchange.specs.declared.choose.Source.{Source}
@@ -24,10 +24,3 @@ assembled n first second own sources pointers =
 pub record Origins : Type 0 where
   pub rate : Rate
   pub sources : List Source
-
--- a frame that got this row, 1 to 9, of another one, and is as it was in all others
-pub record HasRow (n row : ℕ) (other old new : List ℕ) : Type 0 where
-  pub here : slice_range new ((row - 1) * (270 * n)) (row * (270 * n)) ≡ slice_range other ((row - 1) * (270 * n)) (row * (270 * n))
-  pub before : take ((row - 1) * (270 * n)) new ≡ take ((row - 1) * (270 * n)) old
-  pub behind : drop (row * (270 * n)) new ≡ drop (row * (270 * n)) old
-  pub long : length new ≡ length old

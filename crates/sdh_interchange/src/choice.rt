@@ -1,5 +1,5 @@
-//! Where all AU-4s of a frame come from, worked out once for its nine rows.
-ghost use Rattle.std.specs.Prelude.{◌≡◌, ◌≢◌, ℕ, ◌*◌, ◌/◌, ◌<◌, length, slice_index};
+//! Where all AU-4s of a frame come from, worked out once for all its bytes.
+ghost use Rattle.std.specs.Prelude.{◌≡◌, ℕ, ◌<◌, length, slice_index};
 ghost use Rattle.std.specs.List.{list_any};
 ghost use Rattle.sdh_frame.specs.Sizes.{size_of};
 ghost use Rattle.sdh_ringmap.specs.Rates.{n_of};
@@ -14,7 +14,7 @@ use sdh_ringmap::Rate;
 use std::fmt;
 use std::marker::Model;
 
-/// The sources of the AU-4s of a frame, in the order of their numbers, with what the pass over each row needs to know
+/// The sources of the AU-4s of a frame, in the order of their numbers, with what the pass over the frame needs to know
 /// of them.
 #[derive(Drop)]
 pub struct Choice<'a> {
@@ -96,26 +96,24 @@ impl<'a> Choice<'a> {
         }
     }
 
-    // Sets a row of the AU-4s, counted from 0, to that of their sources, and leaves all else. It runs the code that is
-    // compiled for the rate, with N as a constant.
-    pub(crate) fn choose_row(&self, bytes: &mut [u8], r: usize, inputs: &Inputs<'_>)
-        requires row { r < 9 }
+    // Sets the AU-4s to their sources, and leaves all else. It runs the code that is compiled for the rate, with N as a
+    // constant.
+    pub(crate) fn choose(&self, bytes: &mut [u8], inputs: &Inputs<'_>)
         requires size { length bytes.old ≡ size_of self.now.rate }
         requires first { length inputs.now.first.now ≡ size_of self.now.rate }
         requires second { length inputs.now.second.now ≡ size_of self.now.rate }
-        ensures here { (i : ℕ) → i < size_of self.now.rate → i / (270 * n_of self.now.rate) ≡ r → slice_index bytes.new i ≡ slice_index
+        ensures chosen { (i : ℕ) → i < size_of self.now.rate → slice_index bytes.new i ≡ slice_index
             (chosen (n_of self.now.rate) self.now.sources inputs.now.first.now inputs.now.second.now inputs.now.own.now bytes.old) i }
-        ensures others { (i : ℕ) → i / (270 * n_of self.now.rate) ≢ r → slice_index bytes.new i ≡ slice_index bytes.old i }
         ensures many { length self.now.sources ≡ n_of self.now.rate }
     {
         match self.rate {
             Rate::Four => {
                 let pass = self.pass::<4>(inputs);
-                pass.choose_row(bytes, r);
+                pass.choose(bytes);
             }
             Rate::Sixteen => {
                 let pass = self.pass::<16>(inputs);
-                pass.choose_row(bytes, r);
+                pass.choose(bytes);
             }
         }
     }

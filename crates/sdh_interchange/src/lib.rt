@@ -12,7 +12,7 @@ mod payloads;
 mod table;
 mod taken;
 
-pub use assembling::assemble_row;
+pub use assembling::assemble;
 pub use choice::Choice;
 pub use choose::Source;
 pub use own::Payloads;

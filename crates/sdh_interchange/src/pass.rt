@@ -1,4 +1,4 @@
-//! All AU-4s of a row in one pass over its columns.
+//! All AU-4s of a frame in one pass over its columns.
 ghost use Rattle.std.specs.Prelude.{◌≡◌, ◌≢◌, ℕ, List, ◌+◌, ◌*◌, ◌/◌, ◌%◌, ◌<◌, ◌≤◌, ◌⊎◌, true, false, length, slice_index, slice_index_or};
 ghost use Rattle.std.specs.Prelude.{if◌then◌else◌};
 ghost use Rattle.sdh_interchange.specs.declared.choose.Source.{Source};
@@ -207,7 +207,7 @@ impl<'a, const N: usize> Pass<'a, N> {
     }
 
     // Puts row r of all AU-4s, counted from 0, and in row 3 the pointers too.
-    pub(crate) fn choose_row(&self, bytes: &mut [u8], r: usize)
+    fn choose_row(&self, bytes: &mut [u8], r: usize)
         requires pass { IsPass N self.now }
         requires size { length bytes.old ≡ 2430 * N }
         requires row { r < 9 }
@@ -218,6 +218,18 @@ impl<'a, const N: usize> Pass<'a, N> {
         self.any_row(bytes, r);
         if r == 3 {
             self.pointers(bytes);
+        }
+    }
+
+    // Puts all rows of all AU-4s, and the pointers.
+    pub(crate) fn choose(&self, bytes: &mut [u8])
+        requires pass { IsPass N self.now }
+        requires size { length bytes.old ≡ 2430 * N }
+        ensures { (i : ℕ) → i < 2430 * N
+            → slice_index bytes.new i ≡ (if is_au_byte N i then byte_by_source N self.now i else slice_index bytes.old i) }
+    {
+        for r in 0..9 {
+            self.choose_row(bytes, r);
         }
     }
 }

@@ -6,4 +6,3 @@ pub mod Passing
 pub mod Reading
 pub mod Nine
 pub mod Opening
-pub mod Built

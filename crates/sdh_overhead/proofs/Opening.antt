@@ -1,30 +1,21 @@
 -- Frames that are descrambled as they land, and what a section reads of them.
-use Rattle.std.proofs.Common.{◌≡◌, ℕ, ◌+◌, ◌*◌, ◌-◌, ◌≤◌, Bool, true, false, List, [], ◌++◌, length, get_or, take, drop, Option, Some, None}
-use Rattle.std.proofs.Common.{refl, ap, sym, subst, ◌∙◌, arith, ◌⊎◌, inr}
+use Rattle.std.proofs.Common.{◌≡◌, ℕ, ◌+◌, ◌*◌, ◌≤◌, Bool, true, false, List, ◌++◌, length, get_or, take, drop, Option, Some, None}
+use Rattle.std.proofs.Common.{refl, ap, sym, subst, ◌∙◌, arith}
 use Rattle.std.specs.Prelude.{slice_range, if◌then◌else◌}
-use Rattle.std.proofs.Math.Seq.{take-add}
-use Rattle.std.proofs.lemmas.Nat.{mul-le}
 use Rattle.std.proofs.lemmas.List.{length-take-le, take_all, take-append-drop, take-append-le}
 use Rattle.std.proofs.lemmas.Option.{same_Some, none-some}
-use Rattle.std.proofs.lemmas.Slice.{take-put_mid}
-use borrow.Rule.Slice.PartMut.{put_mid}
 use Rattle.sdh_basics.specs.Parity.{bip8}
-use Rattle.sdh_basics.proofs.Parts.{length-part}
 use Rattle.sdh_ringmap.specs.declared.terms.Rate.{Rate}
 use Rattle.sdh_frame.specs.Sizes.{Frame}
 use Rattle.sdh_ringmap.specs.Rates.{n_of}
-use Rattle.sdh_parity.specs.Parity.{section_bytes}
+use Rattle.sdh_parity.specs.Parity.{section_parity}
 use Rattle.sdh_parity.specs.Scrambling.{scrambled}
-use Rattle.sdh_parity.specs.Pieces.{Position, Running, scrambled_from, after_bytes}
 use Rattle.sdh_parity.specs.Violations.{differing_bits, violations_of}
 use Rattle.sdh_parity.proofs.Scrambled.{length-scrambled, scrambled-twice, take-scrambled}
 use Rattle.sdh_overhead.specs.declared.Received.TheVariants.{Framed, Unframed}
-use Rattle.sdh_overhead.specs.Sections.{Parities, last_of, parities_of, is_framed, byte_in, b2_in, found_in, received_in, kept_after}
-use Rattle.sdh_overhead.specs.Rows.{skipped}
+use Rattle.sdh_overhead.specs.Sections.{Parities, last_of, parities_of, is_framed, byte_in, b2_in, found_in, received_in, kept_after, opened}
 use Rattle.sdh_overhead.specs.Landing.{LandedFrame, landed_of, AreSummed}
-use Rattle.sdh_overhead.proofs.Passing.{section-none, section-more, rows-kept, row-ends}
 use Rattle.sdh_overhead.proofs.Reading.{framed-front, by-b1, by-b2, is-unframed, kept-unframed, kept-framed}
-use Rattle.sdh_overhead.proofs.Nine.{pieces, put-length}
 
 -- ---- what a frame says
 
@@ -39,7 +30,7 @@ framed-scrambled n bytes long =
     ∙ ap (is_framed n) (take-scrambled (9 * n) bytes)
     ∙ sym (framed-front n (take (9 * n) bytes) (drop (9 * n) bytes) near) ∙ ap (is_framed n) (take-append-drop (9 * n) bytes)
 
-found-framed : (n : ℕ) (last : Option Parities) (line : List ℕ) → is_framed n line ≡ true
+pub found-framed : (n : ℕ) (last : Option Parities) (line : List ℕ) → is_framed n line ≡ true
     → found_in n last (scrambled (9 * n) line) ≡ received_in n last line
 unfolding received_in
 found-framed n last line framed = sym (ap (λ (t : Bool). if t then found_in n last (scrambled (9 * n) line) else Unframed) framed)
@@ -84,16 +75,29 @@ lent old to = take (length old) (to ++ drop (length to) old)
 pub lent-whole : (old to : List ℕ) → length to ≡ length old → lent old to ≡ to
 lent-whole old to same = take-append-le (length old) to (drop (length to) old) (omega arith) ∙ take_all (length old) to (omega arith)
 
-module _ (n m b1 line : ℕ) (b2 old to from : List ℕ) (sums : Running) (same : m ≡ n) (opens : to ≡ scrambled (9 * m) from)
-    (long : length to ≡ length old)
-    (one : b1 ≡ line) (is : line ≡ bip8 from) (two : take (3 * m) b2 ≡ sums.sums) (are : sums ≡ after_bytes m (section_bytes m to)) where
+-- a frame after it was read
+pub opened-framed : (n : ℕ) (line : List ℕ) → is_framed n line ≡ true → scrambled (9 * n) line ≡ opened n line
+unfolding opened
+opened-framed n line framed = sym (ap (λ (t : Bool). if t then scrambled (9 * n) line else line) framed)
+
+pub opened-unframed : (n : ℕ) (line : List ℕ) → is_framed n line ≡ false → line ≡ opened n line
+unfolding opened
+opened-unframed n line framed = sym (ap (λ (t : Bool). if t then scrambled (9 * n) line else line) framed)
+
+-- the parities of a frame, as they are kept
+pub summed-is : (n b1 : ℕ) (b2 clear line : List ℕ) → b1 ≡ bip8 line → take (3 * n) b2 ≡ section_parity n clear
+    → record { b1 = b1; b2 = take (3 * n) b2 } ≡ parities_of n clear line
+unfolding parities_of
+summed-is n b1 b2 clear line one two = λ i. record { b1 = one i; b2 = two i }
+
+module _ (n m b1 : ℕ) (b2 old to from : List ℕ) (same : m ≡ n) (opens : to ≡ scrambled (9 * m) from) (long : length to ≡ length old)
+    (one : b1 ≡ bip8 from) (two : take (3 * m) b2 ≡ section_parity m to) where
   pub lands : scrambled (9 * n) (lent old to) ≡ from
   lands = ap (scrambled (9 * n)) (lent-whole old to long ∙ opens ∙ ap (λ x. scrambled (9 * x) from) same) ∙ scrambled-twice (9 * n) from
 
   pub lands-summed : record { b1 = b1; b2 = take (3 * n) b2 } ≡ parities_of n (lent old to) (scrambled (9 * n) (lent old to))
   lands-summed =
-      rows-kept n b1 (take (3 * n) b2) to from sums (one ∙ is) (ap (λ x. take (3 * x) b2) (sym same) ∙ two)
-      (are ∙ ap (λ x. after_bytes x (section_bytes x to)) same)
+      summed-is n b1 b2 to from one (ap (λ x. take (3 * x) b2) (sym same) ∙ two ∙ ap (λ x. section_parity x to) same)
       ∙ (λ i. parities_of n (sym (lent-whole old to long) i) (sym lands i))
 
 -- what a section reads of it
@@ -126,124 +130,3 @@ module _ (m k n : ℕ) (here : Bool) (b1 : ℕ) (b2 clear seen bytes : List ℕ)
 
   pub landed-kept : is_framed m seen ≡ true → Some (record { b1 = b1; b2 = take (3 * n) b2 }) ≡ kept_after n bytes
   landed-kept e = ap Some parities ∙ kept-framed n bytes (framing ∙ e)
-
--- ---- rows that are descrambled on their way
-
-pub two-parts : (m : ℕ) (from front rest : List ℕ) → front ≡ take m from → rest ≡ drop m from → from ≡ front ++ rest
-two-parts m from front rest one two = sym (take-append-drop m from) ∙ (λ i. sym one i ++ sym two i)
-
--- where the scrambler stands after the head of a row, which was copied
-pub placed-behind : (n at : ℕ) (old new : Position) (head copy : List ℕ) → old ≡ record { clear = 9 * n; at = at } → copy ≡ head
-    → new ≡ record old { at = old.at + length copy } → new ≡ record { clear = 9 * n; at = at + length head }
-placed-behind n at old new head copy place same goes =
-    goes ∙ ap (λ (p : Position). record p { at = p.at + length copy }) place ∙ (λ i. record { clear = 9 * n; at = at + length (same i) })
-
--- a frame whose rows below this one have gone from one place to another
-pub record OpenedTo (n : ℕ) (from : List ℕ) (row : ℕ) (place : Position) (line : ℕ) (clear : Running) (to : List ℕ) : Type 0 where
-  pub stands : place ≡ record { clear = 9 * n; at = (row - 1) * (270 * n) }
-  pub rate : clear.n ≡ n
-  pub b1 : line ≡ bip8 (take ((row - 1) * (270 * n)) from)
-  pub b2 : clear ≡ after_bytes n (section_bytes n (scrambled (9 * n) (take ((row - 1) * (270 * n)) from)))
-  pub done : take ((row - 1) * (270 * n)) to ≡ scrambled (9 * n) (take ((row - 1) * (270 * n)) from)
-  pub long : length to ≡ 2430 * n
-
-no-bytes : (n : ℕ) → scrambled (9 * n) [] ≡ []
-unfolding scrambled
-no-bytes n = refl
-
-pub none-opened : (n : ℕ) (from : List ℕ) (place : Position) (line : ℕ) (clear : Running) (to : List ℕ)
-    → place ≡ record { clear = 9 * n; at = 0 } → clear.n ≡ n → line ≡ bip8 [] → clear ≡ after_bytes n [] → length to ≡ 2430 * n
-    → OpenedTo n from 1 place line clear to
-none-opened n from place line clear to is rate none empty long =
-    let at : 0 ≡ (1 - 1) * (270 * n) = omega arith in
-    let start : [] ≡ take ((1 - 1) * (270 * n)) from = ap (λ k. take k from) at in
-    let opened : [] ≡ scrambled (9 * n) (take ((1 - 1) * (270 * n)) from) = sym (no-bytes n) ∙ ap (scrambled (9 * n)) start in record {
-      stands = is ∙ (λ i. record { clear = 9 * n; at = at i });
-      rate = rate;
-      b1 = none ∙ ap bip8 start;
-      b2 = empty ∙ ap (after_bytes n) (sym (section-none n) ∙ ap (section_bytes n) opened);
-      done = ap (λ k. take k to) (sym at) ∙ opened;
-      long = long;
-    }
-
-next-at : (row m w : ℕ) → 1 ≤ row → (row + m - 1) * w ≡ (row - 1) * w + m * w
-next-at row m w some = sym (row-ends row m w some)
-
-pub rows-within : (n row m : ℕ) → 1 ≤ row → row + m ≤ 10 → (row - 1) * (270 * n) + m * (270 * n) ≤ 2430 * n
-rows-within n row m some few =
-    let most : (row + m - 1) * (270 * n) ≤ 9 * (270 * n) = mul-le (row + m - 1) (270 * n) 9 (270 * n) (omega arith) (omega arith) in
-    omega (arith, next-at row m (270 * n) some)
-
-module _ (n row m a k : ℕ) (from to part : List ℕ) (place place' : Position) (line line' : ℕ) (clear clear' : Running)
-    (size : length from ≡ 2430 * n) (some : 1 ≤ row) (few : row + m ≤ 10) (together : (m ≡ 1) ⊎ (4 ≤ row))
-    (at : a ≡ (row - 1) * (270 * n)) (many : k ≡ m * (270 * n)) (so : OpenedTo n from row place line clear to) (len : length part ≡ k)
-    (bytes : part ≡ scrambled_from (9 * n) ((row - 1) * (270 * n)) (take k (drop a from)))
-    (sum : (before : List ℕ) → line ≡ bip8 before → line' ≡ bip8 (before ++ take k (drop a from)))
-    (sums : (before : List ℕ) → clear ≡ after_bytes n before → clear' ≡ after_bytes n (before ++ drop (skipped n row) part))
-    (goes : place' ≡ record { clear = 9 * n; at = (row + m - 1) * (270 * n) }) (rate : clear'.n ≡ n) where
-  within : (row - 1) * (270 * n) + m * (270 * n) ≤ 2430 * n
-  within = rows-within n row m some few
-
-  front : length (take ((row - 1) * (270 * n)) from) ≡ (row - 1) * (270 * n)
-  front = length-take-le ((row - 1) * (270 * n)) from (omega (arith, within))
-
-  up : take ((row - 1) * (270 * n)) from ++ take k (drop a from) ≡ take ((row + m - 1) * (270 * n)) from
-  up =
-      ap (λ x. take ((row - 1) * (270 * n)) from ++ take x (drop a from)) many
-      ∙ ap (λ x. take ((row - 1) * (270 * n)) from ++ take (m * (270 * n)) (drop x from)) at
-      ∙ sym (take-add ((row - 1) * (270 * n)) (m * (270 * n)) from) ∙ ap (λ x. take x from) (sym (next-at row m (270 * n) some))
-
-  all : scrambled (9 * n) (take ((row - 1) * (270 * n)) from) ++ part ≡ scrambled (9 * n) (take ((row + m - 1) * (270 * n)) from)
-  all =
-      ap (λ l. scrambled (9 * n) (take ((row - 1) * (270 * n)) from) ++ l)
-      (bytes ∙ ap (λ i. scrambled_from (9 * n) i (take k (drop a from))) (sym front))
-      ∙ sym (pieces (9 * n) (take ((row - 1) * (270 * n)) from) (take k (drop a from))) ∙ ap (scrambled (9 * n)) up
-
-  pub opened-next : OpenedTo n from (row + m) place' line' clear' (put_mid a k to part)
-  opened-next =
-      let opened = scrambled (9 * n) (take ((row - 1) * (270 * n)) from) in
-      let end : (row + m - 1) * (270 * n) ≡ a + k =
-      next-at row m (270 * n) some ∙ ap (λ x. x + m * (270 * n)) (sym at) ∙ ap (λ x. a + x) (sym many) in
-      let room : a + k ≤ length to = omega (arith, within, at, many, so.long) in record {
-        stands = goes;
-        rate = rate;
-        b1 = sum (take ((row - 1) * (270 * n)) from) so.b1 ∙ ap bip8 up;
-        b2 = sums (section_bytes n opened) so.b2
-            ∙ ap (after_bytes n) (sym (section-more n row m opened part some together
-            (length-scrambled (9 * n) (take ((row - 1) * (270 * n)) from) ∙ front) (len ∙ many)) ∙ ap (section_bytes n) all);
-        done =
-            take-put_mid a k to part ((row + m - 1) * (270 * n)) (end ∙ ap (λ x. a + x) (sym len)) (omega arith)
-            ∙ ap (λ x. take x to ++ part) at ∙ ap (λ l. l ++ part) so.done ∙ all;
-        long = put-length a k to part room len ∙ so.long;
-      }
-
--- the nine rows make the frame
-pub all-opened : (n : ℕ) (from to : List ℕ) (place : Position) (line : ℕ) (clear : Running) → length from ≡ 2430 * n
-    → OpenedTo n from 10 place line clear to
-    → (to ≡ scrambled (9 * n) from) × (line ≡ bip8 from) × (clear ≡ after_bytes n (section_bytes n to))
-all-opened n from to place line clear size so =
-    let end : (10 - 1) * (270 * n) ≡ 2430 * n = omega arith in
-    let whole : take ((10 - 1) * (270 * n)) from ≡ from = take_all ((10 - 1) * (270 * n)) from (omega (arith, end)) in
-    let is : to ≡ scrambled (9 * n) from =
-    sym (take_all ((10 - 1) * (270 * n)) to (omega (arith, end, so.long))) ∙ so.done ∙ ap (scrambled (9 * n)) whole in
-    (is, so.b1 ∙ ap bip8 whole, so.b2 ∙ ap (λ l. after_bytes n (section_bytes n l)) (ap (scrambled (9 * n)) whole ∙ sym is))
-
--- rows 4 to 9 after the first three
-module _ (n : ℕ) (from to part : List ℕ) (place place' : Position) (line line' : ℕ) (clear clear' : Running) (size : length from ≡ 2430 * n)
-    (so : OpenedTo n from 4 place line clear to)
-    (len : length part ≡ length (take (9 * (270 * n) - 3 * (270 * n)) (drop (3 * (270 * n)) to)))
-    (bytes : part ≡ scrambled_from (9 * n) ((4 - 1) * (270 * n)) (take (9 * (270 * n) - 3 * (270 * n)) (drop (3 * (270 * n)) from)))
-    (sum : (before : List ℕ) → line ≡ bip8 before → line' ≡ bip8
-    (before ++ take (9 * (270 * n) - 3 * (270 * n)) (drop (3 * (270 * n)) from)))
-    (sums : (before : List ℕ) → clear ≡ after_bytes n before → clear' ≡ after_bytes n (before ++ drop (skipped n 4) part))
-    (goes : place' ≡ record { clear = 9 * n; at = (4 + 6 - 1) * (270 * n) }) (rate : clear'.n ≡ n) where
-  pub opened-last : (put_mid (3 * (270 * n)) (9 * (270 * n) - 3 * (270 * n)) to part ≡ scrambled (9 * n) from) × (line' ≡ bip8 from)
-      × (clear' ≡ after_bytes n (section_bytes n (put_mid (3 * (270 * n)) (9 * (270 * n) - 3 * (270 * n)) to part)))
-  opened-last =
-      let a : ℕ = 3 * (270 * n) in
-      let k : ℕ = 9 * (270 * n) - 3 * (270 * n) in
-      let many : k ≡ 6 * (270 * n) = omega arith in
-      let room : a + k ≤ length to = omega (arith, so.long) in
-      all-opened n from (put_mid a k to part) place' line' clear' size
-      (opened-next n 4 6 a k from to part place place' line line' clear clear' size (omega arith) (omega arith)
-      (inr (omega arith)) refl many so (len ∙ length-part a k to room) bytes sum sums goes rate)

@@ -1,19 +1,16 @@
 //! Frames that are descrambled, and whose parities are taken, while they land. A section then reads them without going
 //! over their bytes again.
-ghost use Rattle.std.specs.Prelude.{◌≡◌, ◌≢◌, ℕ, ◌+◌, ◌*◌, ◌-◌, ◌⊎◌, List, Some, None, IfOk, length, replicate};
-ghost use Rattle.sdh_basics.specs.Parity.{bip8 as parity_of};
+ghost use Rattle.std.specs.Prelude.{◌≡◌, ◌≢◌, ℕ, ◌*◌, List, Some, None, IfOk, length, replicate};
 ghost use Rattle.sdh_frame.specs.Sizes.{size_of};
 ghost use Rattle.sdh_ringmap.specs.Rates.{n_of};
-ghost use Rattle.sdh_parity.specs.Parity.{section_bytes};
-ghost use Rattle.sdh_parity.specs.Pieces.{after_bytes};
 ghost use Rattle.sdh_parity.specs.Scrambling.{scrambled};
 ghost use Rattle.sdh_overhead.specs.Landing.{emptied};
 ghost use Rattle.sdh_overhead.specs.Sections.{holding, received_in, kept_after};
 
 use crate::Received;
-use crate::rows::{Rows, parity_of_rows};
 use crate::section::{Section, is_framed};
 use sdh_frame::{FrameBuf, Landing};
+use sdh_parity::open_frame;
 use sdh_ringmap::Rate;
 use std::alloc::{AllocError, Global};
 use std::marker::Model;
@@ -43,28 +40,6 @@ impl Model for Landed {
       size : length a.frame.bytes ≡ size_of a.frame.rate;
       summed : AreSummed (n_of a.frame.rate) a.here a.line a.clear a.frame.bytes;
     } };
-}
-
-// Descrambles the nine rows of a frame from one slice to another. Returns what is kept of these rows, with both
-// parities.
-fn open_frame(n: usize, from: &[u8], to: &mut [u8]) -> Rows
-    requires rate { (n ≡ 4) ⊎ (n ≡ 16) }
-    requires from { length from.now ≡ 2430 * n }
-    requires to { length to.old ≡ 2430 * n }
-    ensures bytes { to.new ≡ scrambled (9 * n) from.now }
-    ensures line { result.line ≡ parity_of from.now }
-    ensures clear { result.clear ≡ after_bytes n (section_bytes n to.new) }
-    ensures rate { result.clear.n ≡ n }
-{
-    let width = 270 * n;
-    let mut rows = Rows::new(n);
-    for row in 1..4 {
-        let at = (row as usize - 1) * width;
-        rows.open(n, row, 1, &from[at..at + width], &mut to[at..at + width]);
-    }
-    let last = &mut to[3 * width..9 * width];
-    rows.open(n, 4, 6, &from[3 * width..9 * width], last);
-    rows
 }
 
 impl Landed {
@@ -112,9 +87,10 @@ impl Landing for Landed {
         ensures buffer { self.new.buffer ≡ scrambled (9 * n_of self.old.rate) frame.now.bytes }
     {
         let n = self.frame.rate().n();
-        let rows = open_frame(n, frame.bytes(), self.frame.bytes_mut());
-        self.line = rows.line.value();
-        self.clear = parity_of_rows(n, &rows.clear);
+        let parities = open_frame(n, frame.bytes(), self.frame.bytes_mut());
+        let clear = parities.clear;
+        self.line = parities.line;
+        self.clear = clear;
         self.here = true;
     }
 }

@@ -7,9 +7,7 @@ ghost use Rattle.sdh_parity.specs.Pieces.{scrambled_from, after_bytes};
 ghost use Rattle.sdh_parity.specs.Violations.{differing_bits, violations_of};
 ghost use Rattle.sdh_overhead.specs.Rows.{skipped};
 
-use sdh_parity::{
-    Bip8, BipSection, Rate9, Scrambler, open_piece, receive_piece, send_piece, violations,
-};
+use sdh_parity::{Bip8, BipSection, Rate9, Scrambler, receive_piece, send_piece, violations};
 
 // Returns the number of bytes at the head of a row that B2 does not cover.
 fn head_len(n: usize, row: u16) -> usize
@@ -113,42 +111,6 @@ impl Rows {
         receive_piece(&mut self.line, &mut self.scrambler, &mut self.clear, rest);
         self.passed = row;
         self.written = false;
-    }
-
-    /// Takes the next rows of a received frame, framed or not, from one slice to another: one row, or several from row
-    /// 4 on. Adds them to B1, descrambles them, and adds them to B2.
-    pub fn open(&mut self, n: usize, row: u16, rows: u16, from: &[u8], to: &mut [u8])
-        requires few { n ≤ 16 }
-        requires rate { self.old.clear.n ≡ n }
-        requires first { 1 ≤ row }
-        requires some { 1 ≤ rows }
-        requires last { row + rows ≤ 10 }
-        requires together { (rows ≡ 1) ⊎ (4 ≤ row) }
-        requires from { length from.now ≡ rows * (270 * n) }
-        requires same { length to.old ≡ length from.now }
-        requires place { self.old.scrambler ≡ record { clear = 9 * n; at = (row - 1) * (270 * n) } }
-        ensures passed { self.new.passed ≡ row + rows - 1 }
-        ensures place { self.new.scrambler ≡ record { clear = 9 * n; at = (row + rows - 1) * (270 * n) } }
-        ensures rate { self.new.clear.n ≡ n }
-        ensures bytes { to.new ≡ scrambled_from (9 * n) ((row - 1) * (270 * n)) from.now }
-        ensures line { (before : List ℕ) → self.old.line ≡ parity_of before → self.new.line ≡ parity_of (before ++ from.now) }
-        ensures clear { (before : List ℕ) → self.old.clear ≡ after_bytes n before
-            → self.new.clear ≡ after_bytes n (before ++ drop (skipped n row) to.new) }
-    {
-        let skip = head_len(n, row);
-        let (front, back) = from.split_at(skip);
-        let (head, rest) = to.split_at_mut(skip);
-        self.line.add(front);
-        head.copy_from_slice(front);
-        self.scrambler.apply(head);
-        open_piece(
-            &mut self.line,
-            &mut self.scrambler,
-            &mut self.clear,
-            back,
-            rest,
-        );
-        self.passed = row + rows - 1;
     }
 
     /// Takes the next row of an unframed frame, which stays as it came.

@@ -14,6 +14,7 @@ use crate::Received;
 use crate::overhead::write_head;
 use crate::rows::{Rows, b1_after, b2_after, k_after, parity_of_rows};
 use sdh_frame::FrameBuf;
+use sdh_parity::{receive_frame, send_frame};
 use sdh_ringmap::Rate;
 use std::marker::Model;
 
@@ -89,13 +90,6 @@ impl Section {
         self.rows = Rows::new(self.rate.n());
     }
 
-    // Forgets the rows of a frame that is under way, so that the next row is row 1.
-    fn begin(&mut self)
-        ensures { self.new ≡ record self.old { under_way = None } }
-    {
-        self.rows = Rows::new(self.rate.n());
-    }
-
     /// Returns the number of the next row: 1 before a frame, and 10 after all rows of a received frame.
     pub fn next_row(&self) -> u16
         ensures next { result ≡ next_of self.now.under_way }
@@ -137,6 +131,31 @@ impl Section {
         match self.rate {
             Rate::Four => self.place_by(4, row, k1, k2, bytes),
             Rate::Sixteen => self.place_by(16, row, k1, k2, bytes),
+        }
+    }
+
+    // Writes the overhead of all rows with the parities of the frame before.
+    #[inline(always)]
+    fn place_rows(&self, n: usize, k1: u8, k2: u8, bytes: &mut [u8])
+        requires rate { n ≡ n_of self.now.rate }
+        requires bytes { length bytes.old ≡ 2430 * n }
+        ensures { bytes.new ≡ clear_frame (n_of self.now.rate) self.now.last k1 k2 bytes.old }
+    {
+        let width = 270 * n;
+        for row in 1..10 {
+            let at = (row as usize - 1) * width;
+            self.place_by(n, row, k1, k2, &mut bytes[at..at + width]);
+        }
+    }
+
+    // Writes the overhead of all rows with the parities of the frame before, by the code that is compiled for the rate.
+    fn place_all(&self, k1: u8, k2: u8, bytes: &mut [u8])
+        requires { length bytes.old ≡ size_of self.now.rate }
+        ensures { bytes.new ≡ clear_frame (n_of self.now.rate) self.now.last k1 k2 bytes.old }
+    {
+        match self.rate {
+            Rate::Four => self.place_rows(4, k1, k2, bytes),
+            Rate::Sixteen => self.place_rows(16, k1, k2, bytes),
         }
     }
 
@@ -314,19 +333,16 @@ pub fn write_row(section: &mut Section, row: u16, k1: u8, k2: u8, bytes: &mut [u
     section.end();
 }
 
-// Writes the nine rows of a frame.
-fn write_rows(section: &mut Section, k1: u8, k2: u8, bytes: &mut [u8])
-    requires fresh { section.old.under_way ≡ None }
-    requires bytes { length bytes.old ≡ size_of section.old.rate }
+// Writes the bytes of a frame.
+fn write_bytes(section: &mut Section, k1: u8, k2: u8, bytes: &mut [u8])
+    requires { length bytes.old ≡ size_of section.old.rate }
     ensures bytes { bytes.new ≡ line_frame (n_of section.old.rate) section.old.last k1 k2 bytes.old }
     ensures section { section.new ≡ holding section.old.rate
         (Some (parities_of (n_of section.old.rate) (clear_frame (n_of section.old.rate) section.old.last k1 k2 bytes.old) bytes.new)) }
 {
-    let width = 270 * section.rate.n();
-    for row in 1..10 {
-        let at = (row as usize - 1) * width;
-        write_row(section, row, k1, k2, &mut bytes[at..at + width]);
-    }
+    section.place_all(k1, k2, bytes);
+    let parities = send_frame(section.rate.n(), bytes);
+    section.keep(parities.line, parities.clear);
 }
 
 /// Sets all section overhead of a frame, with the parities of the frame written before, and leaves pointers and payload
@@ -340,8 +356,7 @@ pub fn write_section(section: &mut Section, k1: u8, k2: u8, frame: &mut FrameBuf
     ensures whole { AreParities (n_of section.old.rate) section.old.last }
 {
     section.parities_are_whole();
-    section.begin();
-    write_rows(section, k1, k2, frame.bytes_mut());
+    write_bytes(section, k1, k2, frame.bytes_mut());
 }
 
 /// Reads the next row of a received frame, and descrambles it in place. The rows of an unframed frame stay as they
@@ -368,21 +383,22 @@ pub fn read_row(section: &mut Section, row: u16, bytes: &mut [u8])
     section.receive(row, bytes);
 }
 
-// Reads the nine rows of a frame.
-fn read_rows(section: &mut Section, bytes: &mut [u8])
-    requires fresh { section.old.under_way ≡ None }
-    requires bytes { length bytes.old ≡ size_of section.old.rate }
+// Reads the bytes of a frame.
+fn read_bytes(section: &mut Section, bytes: &mut [u8]) -> Received
+    requires { length bytes.old ≡ size_of section.old.rate }
+    ensures result { result ≡ received_in (n_of section.old.rate) section.old.last bytes.old }
+    ensures section { section.new ≡ holding section.old.rate (kept_after (n_of section.old.rate) bytes.old) }
     ensures bytes { bytes.new ≡ opened (n_of section.old.rate) bytes.old }
-    ensures read { AreRead (n_of section.old.rate) section.old.last bytes.old section.new.under_way }
-    ensures rate { section.new.rate ≡ section.old.rate }
-    ensures last { section.new.last ≡ section.old.last }
-    ensures next { next_of section.new.under_way ≡ 10 }
 {
-    let width = 270 * section.rate.n();
-    for row in 1..10 {
-        let at = (row as usize - 1) * width;
-        read_row(section, row, &mut bytes[at..at + width]);
+    let n = section.rate.n();
+    if !is_framed(n, bytes) {
+        section.forget();
+        return Received::Unframed;
     }
+    let parities = receive_frame(n, bytes);
+    let received = section.find(bytes);
+    section.keep(parities.line, parities.clear);
+    received
 }
 
 /// Reads the overhead of a received frame against the parities of the frame read before, descrambles it in place, and
@@ -394,7 +410,5 @@ pub fn read_section(section: &mut Section, frame: &mut FrameBuf) -> Received
     ensures section { section.new ≡ holding section.old.rate (kept_after (n_of section.old.rate) frame.old.bytes) }
     ensures frame { frame.new ≡ record frame.old { bytes = opened (n_of section.old.rate) frame.old.bytes } }
 {
-    section.begin();
-    read_rows(section, frame.bytes_mut());
-    section.finish_read()
+    read_bytes(section, frame.bytes_mut())
 }

@@ -10,3 +10,4 @@ pub mod Mixing
 pub mod Folding
 pub mod Behind
 pub mod Sums
+pub mod Frames

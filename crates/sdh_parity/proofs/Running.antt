@@ -60,7 +60,7 @@ whole-rows m rows before bytes old new at long has each j h =
 abbrev pub kept : ℕ → ℕ → List ℕ → Running
 kept n next sums = record { n = n; next = next; sums = take (3 * n) sums }
 
-lanes-are : (m : ℕ) (sums before : List ℕ) → m ≤ length sums → HasLanes m before sums → take m sums ≡ bip_lanes m before
+pub lanes-are : (m : ℕ) (sums before : List ℕ) → m ≤ length sums → HasLanes m before sums → take m sums ≡ bip_lanes m before
 unfolding bip_lanes
 lanes-are m sums before room has =
     sym (cells-from (λ i. bip8 (lane m i before)) m 0 (take m sums) (length-take-le m sums room)
@@ -83,7 +83,7 @@ kept-lanes n next sums before e j h =
     sym (get_or-take (3 * n) sums j 0 h) ∙ ap (λ (r : Running). get_or r.sums j 0) e
     ∙ get_or-cells (λ i. bip8 (lane (3 * n) i before)) (3 * n) j 0 h
 
-no-lanes : (m : ℕ) → m ≤ 48 → HasLanes m [] (replicate 48 0)
+pub no-lanes : (m : ℕ) → m ≤ 48 → HasLanes m [] (replicate 48 0)
 no-lanes m room j h = get_or-replicate 48 j 0 0 (omega arith) ∙ sym bip8-nil
 
 pub fresh : (n : ℕ) → (n ≡ 4) ⊎ (n ≡ 16) → kept n 0 (replicate 48 0) ≡ after_bytes n []

@@ -97,8 +97,8 @@ fn add_bytes(width: usize, next: usize, sums: &mut [u8], bytes: &[u8]) -> usize
     lane
 }
 
-// Adds `rows` whole rows of 3N bytes to the first 3N parities.
-fn add_rows(n: usize, sums: &mut [u8], bytes: &[u8], rows: usize)
+/// Adds `rows` whole rows of 3N bytes to the first 3N parities.
+pub fn add_rows(n: usize, sums: &mut [u8], bytes: &[u8], rows: usize)
     requires rate { (n ≡ 4) ⊎ (n ≡ 16) }
     requires sums { length sums.old ≡ 48 }
     requires rows { length bytes.now ≡ 3 * n * rows }

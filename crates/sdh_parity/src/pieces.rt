@@ -9,7 +9,7 @@ ghost use Rattle.sdh_parity.specs.Pieces.{scrambled_from, after_bytes, HasLanes,
 use crate::adding::{add_lanes, add_piece, lane_behind};
 use crate::parity::bip8;
 use crate::scrambler::{Rate9, add_sequence, sequence};
-use crate::through::{Passed, open, pass};
+use crate::through::{Passed, pass};
 use std::marker::Model;
 
 // Adds the scrambling sequence, from its byte s on, to the bytes of a part.
@@ -116,24 +116,6 @@ impl Scrambler {
     {
         let passed = pass(bytes, self.at - self.clear, clear_after);
         self.at += bytes.len();
-        passed
-    }
-
-    // Descrambles the next piece from one slice to another, and returns the parities of its bytes, in one pass. The
-    // piece lies after the first bytes of the frame, which are never scrambled.
-    #[inline(always)]
-    fn open(&mut self, from: &[u8], to: &mut [u8]) -> Passed
-        requires behind { self.old.clear ≤ self.old.at }
-        requires few { self.old.at + length from.now ≤ 38880 }
-        requires same { length to.old ≡ length from.now }
-        ensures bytes { to.new ≡ scrambled_from self.old.clear self.old.at from.now }
-        ensures at { self.new ≡ record self.old { at = self.old.at + length from.now } }
-        ensures lanes { HasLanes 48 to.new result.lanes }
-        ensures long { length result.lanes ≡ 48 }
-        ensures line { result.line ≡ parity_of from.now }
-    {
-        let passed = open(from, to, self.at - self.clear);
-        self.at += from.len();
         passed
     }
 
@@ -315,34 +297,6 @@ pub fn receive_piece(
     let passed = scrambler.pass(bytes, true);
     line.add_parity(passed.line);
     clear.add_lanes(bytes.len(), &passed.lanes);
-}
-
-/// Receives the next piece of a frame as `receive_piece` does, but puts the descrambled bytes into `to`, and leaves
-/// those in `from` as they are.
-pub fn open_piece(
-    line: &mut Bip8,
-    scrambler: &mut Scrambler,
-    clear: &mut BipSection,
-    from: &[u8],
-    to: &mut [u8],
-)
-    requires few { scrambler.old.at + length from.now ≤ 38880 }
-    requires same { length to.old ≡ length from.now }
-    ensures bytes { to.new ≡ scrambled_from scrambler.old.clear scrambler.old.at from.now }
-    ensures at { scrambler.new ≡ record scrambler.old { at = scrambler.old.at + length from.now } }
-    ensures line { (before : List ℕ) → line.old ≡ parity_of before → line.new ≡ parity_of (before ++ from.now) }
-    ensures clear { (before : List ℕ) → clear.old ≡ after_bytes clear.old.n before
-        → clear.new ≡ after_bytes clear.old.n (before ++ to.new) }
-    ensures rate { clear.new.n ≡ clear.old.n }
-{
-    if !(scrambler.is_behind() && clear.is_whole()) {
-        to.copy_from_slice(from);
-        receive_piece(line, scrambler, clear, to);
-        return;
-    }
-    let passed = scrambler.open(from, to);
-    line.add_parity(passed.line);
-    clear.add_lanes(from.len(), &passed.lanes);
 }
 
 /// However a frame is cut into pieces, scrambling the pieces gives what scrambling the whole frame gives.

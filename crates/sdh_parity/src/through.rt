@@ -1,7 +1,7 @@
 //! The scrambler and both parities in one pass over the bytes of a piece. Only the clear bytes are summed. They are the
 //! bytes after the pass where `clear_after` holds, and those before it otherwise. The parity of the other bytes, those
 //! on the line, is that of the clear bytes with that of the sequence added.
-ghost use Rattle.std.specs.Prelude.{◌≡◌, ℕ, ◌+◌, ◌*◌, ◌%◌, ◌<◌, ◌≤◌, if◌then◌else◌, length, slice_index, bit_xor};
+ghost use Rattle.std.specs.Prelude.{◌≡◌, ℕ, ◌+◌, ◌*◌, ◌%◌, ◌^◌, ◌<◌, ◌≤◌, if◌then◌else◌, length, slice_index, bit_xor};
 ghost use Rattle.sdh_basics.specs.Parity.{bip8 as parity_of};
 ghost use Rattle.sdh_parity.specs.Parity.{every};
 ghost use Rattle.sdh_parity.specs.Scrambling.{scrambling_byte};
@@ -230,6 +230,7 @@ pub fn pass(bytes: &mut [u8], at: usize, clear_after: bool) -> Passed
     ensures lanes { HasLanes 48 (if clear_after then bytes.new else bytes.old) result.lanes }
     ensures long { length result.lanes ≡ 48 }
     ensures line { result.line ≡ parity_of (if clear_after then bytes.old else bytes.new) }
+    ensures small { (i : ℕ) → slice_index bytes.new i < 2 ^ 8 }
 {
     let len = bytes.len();
     let rows = len / 48;
@@ -252,6 +253,7 @@ pub fn open(from: &[u8], to: &mut [u8], at: usize) -> Passed
     ensures lanes { HasLanes 48 to.new result.lanes }
     ensures long { length result.lanes ≡ 48 }
     ensures line { result.line ≡ parity_of from.now }
+    ensures small { (i : ℕ) → slice_index to.new i < 2 ^ 8 }
 {
     let len = from.len();
     let rows = len / 48;

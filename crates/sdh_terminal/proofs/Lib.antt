@@ -6,6 +6,5 @@ mod Planned
 pub mod Frames
 pub mod Places
 pub mod Slips
-pub mod Rowwise
 pub mod Found
 pub mod Same

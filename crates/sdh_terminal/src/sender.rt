@@ -18,9 +18,9 @@ use crate::matrix::Matrix;
 use crate::passing::Assembly;
 use crate::tributaries::Tributaries;
 use sdh_frame::FrameBuf;
-use sdh_interchange::{Choice, Payloads, assemble_row};
+use sdh_interchange::{Choice, Payloads, assemble};
 use sdh_kbytes::{K, encode, same_word};
-use sdh_overhead::{Section, write_row};
+use sdh_overhead::{Section, write_section};
 use sdh_pointer::Gen;
 use sdh_ringmap::{Rate, Side};
 use std::alloc::{AllocError, Global};
@@ -123,71 +123,66 @@ fn content_of<'a, 'b>(
     }
 }
 
-// Puts both frames together, gives them their overhead and scrambles them, row by row.
-fn send_rows(
-    west: &Content,
-    east: &Content,
+// Puts a frame together, gives it its overhead and scrambles it.
+fn write_frame(
+    content: &Content,
     first: &FrameBuf,
     second: &FrameBuf,
-    west_section: &mut Section,
-    east_section: &mut Section,
-    west_out: &mut FrameBuf,
-    east_out: &mut FrameBuf,
+    section: &mut Section,
+    out: &mut FrameBuf,
 )
-    requires west { west.now.choice.rate ≡ west_out.old.rate }
-    requires east { east.now.choice.rate ≡ east_out.old.rate }
-    requires west_pointers { length west.now.pointers.now ≡ n_of west_out.old.rate }
-    requires east_pointers { length east.now.pointers.now ≡ n_of east_out.old.rate }
-    requires same { east_out.old.rate ≡ west_out.old.rate }
-    requires first { first.now.rate ≡ west_out.old.rate }
-    requires second { second.now.rate ≡ west_out.old.rate }
-    requires west_section { west_section.old.rate ≡ west_out.old.rate }
-    requires east_section { east_section.old.rate ≡ east_out.old.rate }
-    requires west_fresh { west_section.old.under_way ≡ None }
-    requires east_fresh { east_section.old.under_way ≡ None }
-    ensures west_frame { west_out.new ≡ record west_out.old {
-      bytes = line_frame (n_of west_out.old.rate) west_section.old.last west.now.k1 west.now.k2
-          (put_together (n_of west_out.old.rate) first.now.bytes second.now.bytes west.now.own west.now.choice.sources
-          west.now.pointers.now west_out.old.bytes);
+    requires content { content.now.choice.rate ≡ out.old.rate }
+    requires pointers { length content.now.pointers.now ≡ n_of out.old.rate }
+    requires first { first.now.rate ≡ out.old.rate }
+    requires second { second.now.rate ≡ out.old.rate }
+    requires section { section.old.rate ≡ out.old.rate }
+    ensures frame { out.new ≡ record out.old {
+      bytes = line_frame (n_of out.old.rate) section.old.last content.now.k1 content.now.k2
+          (put_together (n_of out.old.rate) first.now.bytes second.now.bytes content.now.own content.now.choice.sources
+          content.now.pointers.now out.old.bytes);
     } }
-    ensures west_section { west_section.new ≡ holding west_out.old.rate (Some (parities_of (n_of west_out.old.rate)
-        (clear_frame (n_of west_out.old.rate) west_section.old.last west.now.k1 west.now.k2
-        (put_together (n_of west_out.old.rate) first.now.bytes second.now.bytes west.now.own west.now.choice.sources
-        west.now.pointers.now west_out.old.bytes)) west_out.new.bytes)) }
-    ensures east_frame { east_out.new ≡ record east_out.old {
-      bytes = line_frame (n_of east_out.old.rate) east_section.old.last east.now.k1 east.now.k2
-          (put_together (n_of east_out.old.rate) first.now.bytes second.now.bytes east.now.own east.now.choice.sources
-          east.now.pointers.now east_out.old.bytes);
-    } }
-    ensures east_section { east_section.new ≡ holding east_out.old.rate (Some (parities_of (n_of east_out.old.rate)
-        (clear_frame (n_of east_out.old.rate) east_section.old.last east.now.k1 east.now.k2
-        (put_together (n_of east_out.old.rate) first.now.bytes second.now.bytes east.now.own east.now.choice.sources
-        east.now.pointers.now east_out.old.bytes)) east_out.new.bytes)) }
+    ensures section { section.new ≡ holding out.old.rate (Some (parities_of (n_of out.old.rate)
+        (clear_frame (n_of out.old.rate) section.old.last content.now.k1 content.now.k2
+        (put_together (n_of out.old.rate) first.now.bytes second.now.bytes content.now.own content.now.choice.sources
+        content.now.pointers.now out.old.bytes)) out.new.bytes)) }
 {
-    prove!(west_out.bytes().len() == 2430 * west_out.rate().n());
-    prove!(east_out.bytes().len() == 2430 * east_out.rate().n());
-    for row in 1..10 {
-        assemble_row(
-            west_out,
-            row,
-            &west.choice,
-            west.pointers,
-            first,
-            second,
-            &west.own,
-        );
-        write_row(west_section, row, west.k1, west.k2, west_out.row_mut(row));
-        assemble_row(
-            east_out,
-            row,
-            &east.choice,
-            east.pointers,
-            first,
-            second,
-            &east.own,
-        );
-        write_row(east_section, row, east.k1, east.k2, east_out.row_mut(row));
-    }
+    assemble(
+        out,
+        &content.choice,
+        content.pointers,
+        first,
+        second,
+        &content.own,
+    );
+    write_section(section, content.k1, content.k2, out);
+}
+
+// Sends the next frame of a side. Returns whether all its generators are in the states in which they were.
+fn send_side<X: Matrix>(
+    sender: &mut Sender,
+    side: Side,
+    cross: &X,
+    ports: &Tributaries,
+    out: &mut FrameBuf,
+) -> bool
+    requires rate { (X.lines cross.now).rate ≡ out.old.rate }
+    requires section { sender.old.section.rate ≡ out.old.rate }
+    ensures sender { sender.new ≡ after_sending (all_fed_by (X.lines cross.now) (added_last ports.now) (X.leads cross.now side)) sender.old }
+    ensures frame { out.new ≡ frame_from (all_fed_by (X.lines cross.now) (added_last ports.now) (X.leads cross.now side)) sender.old }
+    ensures same { result ≡ same_generators sender.new.generators sender.old.generators }
+    ensures rate { sender.new.section.rate ≡ sender.old.section.rate }
+    ensures out { out.new.rate ≡ out.old.rate }
+{
+    let mut own = Payloads::none();
+    let generators = &mut sender.generators;
+    let same = sender
+        .assembly
+        .plan(cross, ports, side, generators, &mut own);
+    let content = content_of(out.rate(), &sender.assembly, own, sender.word);
+    let first = cross.intake(Side::West).frame();
+    let second = cross.intake(Side::East).frame();
+    write_frame(&content, first, second, &mut sender.section, out);
+    same
 }
 
 /// Sends the next frames of both sides. Returns whether all generators of the west side, and all of the east side, are
@@ -215,33 +210,7 @@ pub fn send_both<X: Matrix>(
     ensures rates { (west.new.section.rate ≡ west.old.section.rate) × (east.new.section.rate ≡ east.old.section.rate) }
     ensures outs { (west_out.new.rate ≡ west_out.old.rate) × (east_out.new.rate ≡ east_out.old.rate) }
 {
-    let mut west_own = Payloads::none();
-    let mut east_own = Payloads::none();
-    let west_same = west.assembly.plan(
-        cross,
-        ports,
-        Side::West,
-        &mut west.generators,
-        &mut west_own,
-    );
-    let east_same = east.assembly.plan(
-        cross,
-        ports,
-        Side::East,
-        &mut east.generators,
-        &mut east_own,
-    );
-    let west_content = content_of(west_out.rate(), &west.assembly, west_own, west.word);
-    let east_content = content_of(east_out.rate(), &east.assembly, east_own, east.word);
-    send_rows(
-        &west_content,
-        &east_content,
-        cross.intake(Side::West).frame(),
-        cross.intake(Side::East).frame(),
-        &mut west.section,
-        &mut east.section,
-        west_out,
-        east_out,
-    );
+    let west_same = send_side(west, Side::West, cross, ports, west_out);
+    let east_same = send_side(east, Side::East, cross, ports, east_out);
     (west_same, east_same)
 }

@@ -79,3 +79,6 @@ returns-clause-line c =
     parity-of-line true c.args.from.now (c.open_rows-sums.new.to ++ c.pass_rest.new.bytes) c.pass_rest.new.lanes c.args.at _ _ long (each c)
     (small_from c) (small_to c)
     (omega (arith, c.pass_rest.auto.lanes, c.join.auto.all)) (lanes c) c.bip8.ensures c.sequence_parity.ensures
+
+pub returns-clause-small : goal.returns-clause-small
+returns-clause-small c = small_to c

@@ -56,3 +56,6 @@ returns-clause-line c =
     parity-of-line c.args.clear_after c.args.bytes.now (c.mix-sums.new.bytes
     ++ c.pass_rest.new.bytes) c.pass_rest.new.lanes c.args.at _ _ long (each c) (small_old c) (small_new c)
     (omega (arith, c.pass_rest.auto.lanes, c.join.auto.all)) (returns-clause-lanes c) c.bip8.ensures c.sequence_parity.ensures
+
+pub returns-clause-small : goal.returns-clause-small
+returns-clause-small c = λ i. omega (arith, c.type_inv.bytes i)

@@ -7,21 +7,23 @@ pub invariant_of-self : goal.invariant_of-self
 invariant_of-self c = record {
   wide = search rules;
   size =
-      ap length (lent-whole c.self.inside.frame.bytes c.open_frame-rows.new.to
-      (c.open_frame-rows.auto.to ∙ ap length c.bytes_mut.ensures.bytes)) ∙ c.open_frame-rows.auto.to
+      ap length (lent-whole c.self.inside.frame.bytes c.open_frame-parities.new.to
+      (c.open_frame-parities.auto.to ∙ ap length c.bytes_mut.ensures.bytes)) ∙ c.open_frame-parities.auto.to
       ∙ ap length c.bytes_mut.ensures.bytes ∙ c.self.invariant.size;
   summed =
-      lands-summed (n_of c.self.inside.frame.rate) c.n-n.result c.value-self-inside.result c.open_frame-rows.result.line c.parity_of_rows-self-inside.result c.self.inside.frame.bytes c.open_frame-rows.new.to c.bytes.result.now c.open_frame-rows.result.clear
-      (c.n-n.ensures ∙ ap n_of c.rate.ensures.rate) c.open_frame-rows.ensures.bytes
-      (c.open_frame-rows.auto.to
-      ∙ ap length c.bytes_mut.ensures.bytes) c.value-self-inside.ensures c.open_frame-rows.ensures.line c.parity_of_rows-self-inside.ensures c.open_frame-rows.ensures.clear;
+      lands-summed (n_of c.self.inside.frame.rate) c.n-n.result c.open_frame-parities.result.line c.open_frame-parities.result.clear
+      c.self.inside.frame.bytes c.open_frame-parities.new.to c.bytes.result.now
+      (c.n-n.ensures ∙ ap n_of c.rate.ensures.rate) c.open_frame-parities.ensures.bytes
+      (c.open_frame-parities.auto.to ∙ ap length c.bytes_mut.ensures.bytes)
+      c.open_frame-parities.ensures.line c.open_frame-parities.ensures.clear;
 }
 
 pub returns-clause-landed : goal.returns-clause-landed
 returns-clause-landed c =
     ap Some
-    (lands (n_of c.self.inside.frame.rate) c.n-n.result c.value-self-inside.result c.open_frame-rows.result.line c.parity_of_rows-self-inside.result c.self.inside.frame.bytes c.open_frame-rows.new.to c.bytes.result.now c.open_frame-rows.result.clear
-    (c.n-n.ensures ∙ ap n_of c.rate.ensures.rate) c.open_frame-rows.ensures.bytes
-    (c.open_frame-rows.auto.to
-    ∙ ap length c.bytes_mut.ensures.bytes) c.value-self-inside.ensures c.open_frame-rows.ensures.line c.parity_of_rows-self-inside.ensures c.open_frame-rows.ensures.clear
+    (lands (n_of c.self.inside.frame.rate) c.n-n.result c.open_frame-parities.result.line c.open_frame-parities.result.clear
+    c.self.inside.frame.bytes c.open_frame-parities.new.to c.bytes.result.now
+    (c.n-n.ensures ∙ ap n_of c.rate.ensures.rate) c.open_frame-parities.ensures.bytes
+    (c.open_frame-parities.auto.to ∙ ap length c.bytes_mut.ensures.bytes)
+    c.open_frame-parities.ensures.line c.open_frame-parities.ensures.clear
     ∙ c.bytes.ensures.bytes)

@@ -1,0 +1,60 @@
+use Rattle.std.proofs.Common.{◌≡◌, ℕ, List, ap, sym, ◌∙◌}
+use Rattle.sdh_ringmap.specs.Rates.{n_of}
+use Rattle.sdh_frame.specs.Aus.{Au}
+use Rattle.sdh_interchange.specs.Assembled.{assembled}
+use Rattle.sdh_terminal.specs.Receiving.{Intake}
+use Rattle.sdh_terminal.specs.Passing.{Input, states_of, aus_sent}
+use Rattle.sdh_terminal.specs.Tributaries.{added_last}
+use Rattle.sdh_terminal.specs.Lines.{Lines, all_fed_by}
+use Rattle.sdh_terminal.specs.Sending.{Sending, frame_from, after_sending}
+use Rattle.sdh_terminal.proofs.Frames.{sent-is, kept-is}
+use Rattle.sdh_terminal.proofs.sender.send_side.Goals as goal
+
+pub returns-clause-frame : goal.returns-clause-frame
+returns-clause-frame g c =
+    let lines : Lines = g.X.Matrix.lines c.args.cross.now in
+    let input : ℕ → Input = all_fed_by lines (added_last c.args.ports.now) (g.X.Matrix.leads c.args.cross.now c.args.side) in
+    let s : Sending = record {
+      section = c.sender.inside.section;
+      generators = states_of c.sender.inside.generators.items;
+      word = c.sender.inside.word;
+    } in
+    let is : s ≡ c.args.sender.now = c.sender.view_is in
+    let at : c.args.out.now.rate ≡ s.section.rate = sym (ap (λ (x : Sending). x.section.rate) is ∙ c.requires.section) in
+    let content = c.content_of-content in
+    let first : c.frame-first.result.now ≡ lines.west.intake.frame =
+    c.frame-first.ensures ∙ ap (λ (i : Intake). i.frame) c.intake.ensures.intake in
+    let second : c.frame-second.result.now ≡ lines.east.intake.frame =
+    c.frame-second.ensures ∙ ap (λ (i : Intake). i.frame) c.intake-2.ensures.intake in
+    let aus : List Au =
+    assembled (n_of c.args.out.now.rate) c.frame-first.result.now.bytes c.frame-second.result.now.bytes content.result.own content.result.choice.sources content.result.pointers.now in
+    let same : aus ≡ aus_sent input s.generators =
+    (λ i. assembled (n_of (sym c.requires.rate i)) (first i).bytes (second i).bytes (content.ensures.own i)
+    (content.ensures.choice i).sources (content.ensures.pointers i)) ∙ c.plan-same.ensures.aus in
+    sent-is input s c.args.out.now c.write_frame.new.out aus content.result.k1 content.result.k2 c.rate.ensures.len at c.sender.invariant.side.generators same content.ensures.k1 content.ensures.k2 c.write_frame.ensures.frame ∙ ap (frame_from input) is
+
+pub returns-clause-sender : goal.returns-clause-sender
+unfolding after_sending
+returns-clause-sender g c =
+    let lines : Lines = g.X.Matrix.lines c.args.cross.now in
+    let input : ℕ → Input = all_fed_by lines (added_last c.args.ports.now) (g.X.Matrix.leads c.args.cross.now c.args.side) in
+    let s : Sending = record {
+      section = c.sender.inside.section;
+      generators = states_of c.sender.inside.generators.items;
+      word = c.sender.inside.word;
+    } in
+    let is : s ≡ c.args.sender.now = c.sender.view_is in
+    let at : c.args.out.now.rate ≡ s.section.rate = sym (ap (λ (x : Sending). x.section.rate) is ∙ c.requires.section) in
+    let content = c.content_of-content in
+    let first : c.frame-first.result.now ≡ lines.west.intake.frame =
+    c.frame-first.ensures ∙ ap (λ (i : Intake). i.frame) c.intake.ensures.intake in
+    let second : c.frame-second.result.now ≡ lines.east.intake.frame =
+    c.frame-second.ensures ∙ ap (λ (i : Intake). i.frame) c.intake-2.ensures.intake in
+    let aus : List Au =
+    assembled (n_of c.args.out.now.rate) c.frame-first.result.now.bytes c.frame-second.result.now.bytes content.result.own content.result.choice.sources content.result.pointers.now in
+    let same : aus ≡ aus_sent input s.generators =
+    (λ i. assembled (n_of (sym c.requires.rate i)) (first i).bytes (second i).bytes (content.ensures.own i)
+    (content.ensures.choice i).sources (content.ensures.pointers i)) ∙ c.plan-same.ensures.aus in
+    let kept =
+    kept-is input s c.args.out.now c.write_frame.new.out aus content.result.k1 content.result.k2 c.rate.ensures.len at c.sender.invariant.side.generators same content.ensures.k1 content.ensures.k2 c.write_frame.ensures.frame c.write_frame.new.section c.write_frame.ensures.section in
+    (λ i. record { section = kept i; generators = c.plan-same.ensures.generators i; word = s.word }) ∙ ap (after_sending input) is
