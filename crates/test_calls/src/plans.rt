@@ -1,4 +1,4 @@
-//! Plans, and the texts that their runs write.
+//! Plans of shared rings, and the texts that their runs write.
 
 /// What is written of the smallest plan.
 pub const SMALLEST_TEXT: &str = "settle 1 round 128
@@ -27,6 +27,22 @@ threshold = 3
 wait = 10
 limit = 1000
 script = ["settle"]
+"#;
+
+/// The smallest plan, with a limit that is too small for a settle step.
+pub const UNSETTLED: &str = r#"rate = 4
+nodes = [1, 2, 3]
+threshold = 3
+wait = 10
+limit = 128
+script = ["settle"]
+[[circuit]]
+name = "c1"
+from = 1
+to = 2
+slot = 1
+text_a = "ALPHA"
+text_b = "BETA!"
 "#;
 
 /// Four nodes, and two circuits that meet at the second, which is cut off.

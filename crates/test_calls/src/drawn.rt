@@ -1,5 +1,6 @@
 //! The large plan of a number.
 
+use crate::calls::all_right;
 use crate::parts::{fibre, figures_of, is_led};
 use sdh_circuits::{Circuit, End, Slot};
 use sdh_cli::big_plan;
@@ -7,9 +8,7 @@ use sdh_payload::Port;
 use sdh_plan::{Plan, Step};
 use sdh_request::Moment;
 use sdh_ringmap::{Condition, Pos, Rate, Side, Span};
-use std::alloc::Global;
-use std::process::Abort;
-use std::test::Fail;
+use std::alloc::{AllocError, Global};
 
 // A circuit: its name, the positions of its ends, its slot and its offsets.
 type Drawn = (&'static str, u8, u8, u8, u16, u16);
@@ -60,43 +59,67 @@ fn is_drawn(circuit: &Circuit, drawn: Drawn) -> bool {
         && sends_name(circuit.port(End::B), name.as_bytes(), b'b', offset_b)
 }
 
-// Stops where the circuits of the plan aren't these.
-fn has_circuits(rt: &impl Abort, plan: &Plan, wanted: &[Drawn]) {
+// Returns whether the circuits of a plan are these.
+fn has_circuits(plan: &Plan, wanted: &[Drawn]) -> bool {
     let circuits = plan.circuits();
-    assert_eq!(rt; circuits.len(), wanted.len());
-    for (i, drawn) in wanted.iter().enumerate() {
-        if i < circuits.len() {
-            assert!(rt; is_drawn(circuits.get(i as u8), *drawn), "{drawn:?}");
+    if circuits.len() != wanted.len() {
+        return false;
+    }
+    for i in 0..wanted.len() {
+        if !is_drawn(circuits.get(i as u8), wanted[i]) {
+            return false;
         }
     }
+    true
+}
+
+// Returns whether the node at each position has its number as its identifier.
+fn has_all_nodes(plan: &Plan) -> bool {
+    for at in 0..16 {
+        if plan.map().find(at) != Some(Pos(at as u8)) {
+            return false;
+        }
+    }
+    true
+}
+
+fn is_plan_of(alloc: Global, number: u32, wanted: &[Drawn]) -> Result<bool, AllocError> {
+    let plan = big_plan(alloc, number)?;
+    let figures = (Rate::Four, 3, 10, 4096, 16, wanted.len());
+    Ok(has_circuits(&plan, wanted) && figures_of(&plan) == figures && has_all_nodes(&plan))
 }
 
 #[test]
-fn draws_the_circuits_of_a_number(rt: HostRuntime) -> Result<(), Fail> {
-    for (number, wanted) in [(0, OF_0), (4_294_967_295, OF_GREATEST)] {
-        let plan = big_plan(rt.alloc(), number)?;
-        has_circuits(&rt, &plan, wanted);
-        let figures = (Rate::Four, 3, 10, 4096, 16, wanted.len());
-        assert_eq!(rt; figures_of(&plan), figures);
-        for at in 0..16 {
-            assert_eq!(rt; plan.map().find(at), Some(Pos(at)));
+fn draws_the_circuits_of_a_number(rt: HostRuntime) {
+    assert!(rt; is_plan_of(rt.alloc(), 0, OF_0) == Ok(true));
+    assert!(rt; is_plan_of(rt.alloc(), 4_294_967_295, OF_GREATEST) == Ok(true));
+}
+
+const NUMBERS: &[u32] = &[0, 1, 2, 65_535, 123_456_789, 2_147_483_648, 4_294_967_295];
+
+// Returns whether each span has a circuit in both slots.
+fn is_covered(plan: &Plan) -> bool {
+    for span in 0..16 {
+        let first = plan.circuits().on_span(Span(span), Slot(1));
+        if first.is_none() || plan.circuits().on_span(Span(span), Slot(2)).is_none() {
+            return false;
         }
     }
-    Ok(())
+    true
+}
+
+fn right_numbers(alloc: Global) -> Result<usize, AllocError> {
+    for i in 0..NUMBERS.len() {
+        if !is_covered(&big_plan(alloc, NUMBERS[i])?) {
+            return Ok(i);
+        }
+    }
+    Ok(NUMBERS.len())
 }
 
 #[test]
-fn covers_each_span_in_both_slots(rt: HostRuntime) -> Result<(), Fail> {
-    for number in [0, 1, 2, 65_535, 123_456_789, 2_147_483_648, 4_294_967_295] {
-        let plan = big_plan(rt.alloc(), number)?;
-        for span in 0..16 {
-            for slot in 1..3 {
-                let there = plan.circuits().on_span(Span(span), Slot(slot));
-                assert!(rt; there.is_some(), "{number}: {span}, {slot}");
-            }
-        }
-    }
-    Ok(())
+fn covers_each_span_in_both_slots(rt: HostRuntime) {
+    all_right(&rt, right_numbers(rt.alloc()).unwrap_or(0), NUMBERS.len());
 }
 
 // Returns the script that cuts and mends two spans, each by the positions at its west and its east end.
@@ -120,15 +143,24 @@ fn cutting(first: (u8, u8), second: (u8, u8)) -> [Step; 15] {
     ]
 }
 
-#[test]
-fn draws_the_script_of_a_number(rt: HostRuntime) -> Result<(), Fail> {
-    for (number, first, second) in [
-        (0, (2, 3), (3, 4)),
-        (4_294_967_295, (3, 4), (6, 7)),
-        (21, (15, 0), (13, 14)),
-    ] {
-        let plan = big_plan(rt.alloc(), number)?;
-        assert_eq!(rt; plan.steps(), cutting(first, second).as_slice());
+// A number, and the spans that its plan cuts, each by the positions at its ends.
+const SCRIPTS: &[(u32, (u8, u8), (u8, u8))] = &[
+    (0, (2, 3), (3, 4)),
+    (4_294_967_295, (3, 4), (6, 7)),
+    (21, (15, 0), (13, 14)),
+];
+
+fn right_scripts(alloc: Global) -> Result<usize, AllocError> {
+    for i in 0..SCRIPTS.len() {
+        let (number, first, second) = SCRIPTS[i];
+        if big_plan(alloc, number)?.steps() != cutting(first, second).as_slice() {
+            return Ok(i);
+        }
     }
-    Ok(())
+    Ok(SCRIPTS.len())
+}
+
+#[test]
+fn draws_the_script_of_a_number(rt: HostRuntime) {
+    all_right(&rt, right_scripts(rt.alloc()).unwrap_or(0), SCRIPTS.len());
 }
