@@ -1,5 +1,5 @@
 //! Places in frames by the layout's own tables.
-ghost use Rattle.std.specs.Prelude.{◌≡◌, ◌*◌, ◌<◌, ◌≤◌};
+ghost use Rattle.std.specs.Prelude.{◌≡◌, ◌≤◌};
 
 use sdh_frame::{Field, FrameBuf, Place, au_place, place_of, pointer_place};
 use sdh_ringmap::Rate;
@@ -93,65 +93,6 @@ fn places_of_an_au(rt: HostRuntime) {
             "{au} {index}"
         );
     }
-}
-
-// Returns whether K1 and K2 of an STM-4 frame have the indexes 4332 and 4344.
-fn has_k_bytes_there(frame: &mut FrameBuf) -> bool
-    requires { frame.old.rate ≡ Rate.Four }
-{
-    frame.set(Place { row: 5, column: 13 }, 0xB3);
-    let bytes = frame.bytes_mut();
-    bytes[4344] = 0x26;
-    let k2 = frame.get(Place { row: 5, column: 25 });
-    let bytes = frame.bytes();
-    k2 == 0x26 && bytes[4332] == 0xB3 && bytes[4333] == 0
-}
-
-#[test]
-fn bytes_of_a_frame(rt: HostRuntime) -> Result<(), Fail> {
-    let mut frame = FrameBuf::try_new(rt.alloc(), Rate::Four)?;
-    assert!(rt; has_k_bytes_there(&mut frame));
-    Ok(())
-}
-
-// Returns whether a payload byte of AU-4 number 2 of an STM-4 frame, by its index, stands at a place.
-fn payload_stands_at(frame: &mut FrameBuf, index: u16, row: u16, column: u16) -> bool
-    requires rate { frame.old.rate ≡ Rate.Four }
-    requires index { index < 2349 }
-    requires row { 1 ≤ row }
-    requires rows { row ≤ 9 }
-    requires column { 1 ≤ column }
-    requires columns { column ≤ 1080 }
-    ensures rate { frame.new.rate ≡ frame.old.rate }
-{
-    let place = Place { row, column };
-    frame.au_mut(2).set_payload(index, 0x5A);
-    frame.get(place) == 0x5A && frame.au(2).payload(index) == 0x5A
-}
-
-// Returns whether a pointer byte of AU-4 number 2 of an STM-4 frame, by its index, stands at a place.
-fn pointer_stands_at(frame: &mut FrameBuf, index: u16, column: u16) -> bool
-    requires rate { frame.old.rate ≡ Rate.Four }
-    requires index { index < 9 }
-    requires column { 1 ≤ column }
-    requires columns { column ≤ 1080 }
-    ensures rate { frame.new.rate ≡ frame.old.rate }
-{
-    let place = Place { row: 4, column };
-    frame.au_mut(2).set_pointer(index, 0xA5);
-    frame.get(place) == 0xA5 && frame.au(2).pointer(index) == 0xA5
-}
-
-#[test]
-fn places_of_a_view(rt: HostRuntime) -> Result<(), Fail> {
-    let mut frame = FrameBuf::try_new(rt.alloc(), Rate::Four)?;
-    assert!(rt; payload_stands_at(&mut frame, 0, 1, 38));
-    assert!(rt; payload_stands_at(&mut frame, 783, 4, 38));
-    assert!(rt; payload_stands_at(&mut frame, 2348, 9, 1078));
-    assert!(rt; pointer_stands_at(&mut frame, 0, 2));
-    assert!(rt; pointer_stands_at(&mut frame, 3, 14));
-    assert!(rt; pointer_stands_at(&mut frame, 8, 34));
-    Ok(())
 }
 
 // Copies AU-4 number 2 of another frame to number 16. A view for writing is done with before the next one is lent.

@@ -1,5 +1,5 @@
-//! What stands below nodes and goes over a line, as tests: frames and their sections, parities, pointers, payloads,
-//! watches on them, retiming and fibres. No other crate stands on this one.
+//! What stands below nodes and goes over a line, as tests: frames and their sections, pointers, payloads, watches
+//! on them, and fibres. No other crate stands on this one.
 #![tactic(auto)]
 
 #[cfg(test)]
@@ -7,13 +7,9 @@ mod fibres;
 #[cfg(test)]
 mod frames;
 #[cfg(test)]
-mod parities;
-#[cfg(test)]
 mod payloads;
 #[cfg(test)]
 mod pointers;
-#[cfg(test)]
-mod retiming;
 #[cfg(test)]
 mod sections;
 #[cfg(test)]

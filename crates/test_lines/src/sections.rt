@@ -1,11 +1,10 @@
-//! Frames from zeros with K bytes 03 10, as they are written and as they are read.
+//! Frames from zeros with K bytes 03 10, as they are read.
 ghost use Rattle.std.specs.Prelude.{◌≡◌, ◌≤◌, IfOk, None, length};
 
 use sdh_frame::{FrameBuf, Place};
 use sdh_overhead::{Received, Section, read_row, read_section, write_row, write_section};
 use sdh_ringmap::Rate;
 use std::alloc::{AllocError, Global};
-use std::test::Fail;
 
 const GOOD: Received = Received::Framed {
     k1: 0x03,
@@ -44,33 +43,6 @@ fn invert(frame: &mut FrameBuf, row: u16, column: u16)
     let place = Place { row, column };
     let value = frame.get(place);
     frame.set(place, value ^ 0x80);
-}
-
-// Returns whether the next frame is read as it was written, and the bytes B2 are this one and zeros.
-fn next_is_good(
-    alloc: Global,
-    sending: &mut Section,
-    receiving: &mut Section,
-    first: u8,
-) -> Result<bool, AllocError>
-    requires sending { sending.old.rate ≡ Rate.Four }
-    requires receiving { receiving.old.rate ≡ Rate.Four }
-    ensures sending { sending.new.rate ≡ Rate.Four }
-    ensures receiving { receiving.new.rate ≡ Rate.Four }
-{
-    let mut frame = written(alloc, sending, Rate::Four)?;
-    let found = read(receiving, &mut frame);
-    let b2 = &frame.bytes()[4320..4332];
-    Ok(found == GOOD && b2[0] == first && b2[1..].iter().all(|byte| *byte == 0))
-}
-
-#[test]
-fn three_frames(rt: HostRuntime) {
-    let mut sending = Section::try_new(Rate::Four);
-    let mut receiving = Section::try_new(Rate::Four);
-    assert!(rt; next_is_good(rt.alloc(), &mut sending, &mut receiving, 0) == Ok(true));
-    assert!(rt; next_is_good(rt.alloc(), &mut sending, &mut receiving, 0x13) == Ok(true));
-    assert!(rt; next_is_good(rt.alloc(), &mut sending, &mut receiving, 0) == Ok(true));
 }
 
 // Returns what is read of three frames, the second of which can't be read, so that the third has nothing to be compared
@@ -118,26 +90,6 @@ const DEGRADED: Received = Received::Framed {
 #[test]
 fn a_degraded_frame(rt: HostRuntime) {
     assert!(rt; past_a_degraded_frame(rt.alloc()) == Ok([GOOD, DEGRADED]));
-}
-
-// Returns whether row 1 has 3N bytes F6, 3N bytes 28, 01 and bytes AA, and then the first scrambling byte over a
-// payload of zeros.
-fn has_row_1(bytes: &[u8]) -> bool
-    requires { length bytes.now ≡ 9720 }
-{
-    bytes[..12].iter().all(|byte| *byte == 0xF6)
-        && bytes[12..24].iter().all(|byte| *byte == 0x28)
-        && bytes[24] == 0x01
-        && bytes[25..36].iter().all(|byte| *byte == 0xAA)
-        && bytes[36] == 0xFE
-}
-
-#[test]
-fn row_1_on_the_line(rt: HostRuntime) -> Result<(), Fail> {
-    let mut sending = Section::try_new(Rate::Four);
-    let frame = written(rt.alloc(), &mut sending, Rate::Four)?;
-    assert!(rt; has_row_1(frame.bytes()));
-    Ok(())
 }
 
 // Writes the rows of an STM-4 frame one by one, after each other, with K bytes 03 10.

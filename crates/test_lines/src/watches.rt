@@ -1,11 +1,22 @@
 //! Watches on what feeds send, and on bytes that were changed.
-ghost use Rattle.std.specs.Prelude.{◌≡◌, ◌+◌, ◌<◌, ◌≤◌, ◌^◌};
+ghost use Rattle.std.specs.Prelude.{◌≡◌, ◌+◌, ◌<◌, ◌≤◌, ◌^◌, length};
 ghost use Rattle.sdh_payload.specs.Clock.{waiting};
 
-use crate::payloads::next_chunk;
 use sdh_path::{BadTrace, PathReport, TraceWord, Watch};
 use sdh_payload::{Cells, Feed, Port};
 use std::test::Fail;
+
+// Puts the next chunk of a port that never slips into `out`.
+#[tactic(auto, using(sdh_payload::proofs::Clocking::rounds_more, sdh_payload::proofs::Clocking::plain_tick))]
+fn next_chunk(feed: &mut Feed, out: &mut Cells)
+    requires few { feed.old.clock.rounds < 2 ^ 32 }
+    requires plain { waiting feed.old.clock ≡ 0 }
+    ensures full { length out.new ≡ 2349 }
+    ensures rounds { feed.new.clock.rounds ≡ feed.old.clock.rounds + 1 }
+    ensures plain { waiting feed.new.clock ≡ 0 }
+{
+    feed.next(out);
+}
 
 // Gives a watch the next `count` chunks of a feed, with a pointer value.
 fn give(watch: &mut Watch, feed: &mut Feed, out: &mut Cells, value: u16, count: u32)
