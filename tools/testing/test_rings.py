@@ -269,6 +269,10 @@ class Asks(unittest.TestCase):
         plan = ring([*script, "moment 9", "settle", "moment 10", "settle"], circuits=[led("c1", 1, 3)])
         told = [self.in_round(plan, number) for number in (0, 1, 128, 129, 256, 384, 385)]
         self.assertEqual(told, ["nr", "sf", "sf", "wtr", "wtr", "wtr", "nr"])
+        ordered = ["manual 3 west", "settle", "clear 3 west", "settle"]
+        plan = ring([*script, *ordered, "moment 10", "settle"], circuits=[led("c1", 1, 3)])
+        told = [self.in_round(plan, number) for number in (256, 257, 384, 385, 512, 513)]
+        self.assertEqual(told, ["wtr", "ms", "ms", "wtr", "wtr", "nr"])
         plan = ring([*script[:3], "moment 10", "settle"], circuits=[led("c1", 1, 3)])
         self.assertEqual(self.in_round(plan, 129), "wtr")  # it begins to wait at that moment
 

@@ -5,6 +5,7 @@ use sdh_aps_cli::sdhaps;
 use sdh_cli::sdhring;
 use sdh_outside::{MemSink, MemSource};
 use sdh_plant::{FailingPlant, FibrePlant, Plant, PlantCall, RecordingPlant, ToldPlant};
+use sdh_retime_cli::retime;
 use sdh_ringmap::Rate;
 use sdh_sncp_cli::sdhpath;
 use sdh_watch::sdhwatch;
@@ -26,6 +27,8 @@ pub(crate) enum Program {
     Signals,
     /// What is lost when.
     Losses,
+    /// A stream whose line is too slow or too fast.
+    Retiming,
 }
 
 /// The fibres of a run.
@@ -41,8 +44,8 @@ pub(crate) enum Fibres {
     Dark,
 }
 
-/// What a call is given: its words, what its source has, its fibres, which reads and writes fail, counted from 1, how many bytes a
-/// read gives at most and how many a write takes, and the room of the sink.
+/// What a call is given: its words, what its source has, its fibres, which reads and writes fail, counted from 1, how
+/// many bytes a read gives at most and how many a write takes, and the room of the sink.
 #[derive(Clone, Copy)]
 pub(crate) struct Given<'a> {
     pub(crate) program: Program,
@@ -148,6 +151,10 @@ fn losses(alloc: Global, words: &[String], source: &mut MemSource, sink: &mut Me
     whatif(alloc, words, source, sink).number()
 }
 
+fn retiming(alloc: Global, words: &[String], source: &mut MemSource, sink: &mut MemSink) -> u8 {
+    retime(alloc, words, source, sink)
+}
+
 // Returns the number, and the sink with what was written.
 fn call_over<P: Plant>(
     alloc: Global,
@@ -166,6 +173,7 @@ fn call_over<P: Plant>(
         Program::Watch => watch(alloc, &words, &mut source, &mut sink, plant),
         Program::Signals => signals(alloc, &words, &mut source, &mut sink, plant),
         Program::Losses => losses(alloc, &words, &mut source, &mut sink),
+        Program::Retiming => retiming(alloc, &words, &mut source, &mut sink),
     };
     Ok((number, sink))
 }
@@ -194,30 +202,27 @@ pub(crate) fn ends(alloc: Global, given: Given<'_>, ending: Ending<'_>) -> bool 
     }
 }
 
-/// A call whose plan has these steps in place of its settle step, and how it ends.
-#[derive(Clone, Copy)]
-pub(crate) struct Case {
-    pub(crate) given: Given<'static>,
-    pub(crate) script: &'static str,
-    pub(crate) ending: Ending<'static>,
-}
+/// A call, its fibres, the steps that its plan has in place of its settle step, and how it ends.
+pub(crate) type Row = (Given<'static>, Fibres, &'static str, u8, &'static str);
 
-fn comes_out(alloc: Global, case: &Case) -> Result<bool, AllocError> {
-    let document = scripted(alloc, case.given.document, case.script)?;
+fn comes_out(alloc: Global, row: &Row) -> Result<bool, AllocError> {
+    let (given, fibres, script, number, text) = *row;
+    let document = scripted(alloc, given.document, script)?;
     let given = Given {
         document: document.as_str(),
-        ..case.given
+        fibres,
+        ..given
     };
-    Ok(ends(alloc, given, case.ending))
+    Ok(ends(alloc, given, (number, text)))
 }
 
-fn right_cases(alloc: Global, cases: &[Case]) -> usize {
-    for i in 0..cases.len() {
-        if comes_out(alloc, &cases[i]) != Ok(true) {
+fn right_rows(alloc: Global, rows: &[Row]) -> usize {
+    for i in 0..rows.len() {
+        if comes_out(alloc, &rows[i]) != Ok(true) {
             return i;
         }
     }
-    cases.len()
+    rows.len()
 }
 
 /// Stops where not all rows of a table come out, and tells how many do before the first that doesn't.
@@ -225,7 +230,7 @@ pub(crate) fn all_right(rt: &impl Abort, right: usize, rows: usize) {
     assert!(rt; right == rows, "row {right}, counted from 0");
 }
 
-/// Stops where not all cases come out.
-pub(crate) fn all_come_out(rt: &impl Abort, alloc: Global, cases: &[Case]) {
-    all_right(rt, right_cases(alloc, cases), cases.len());
+/// Stops where not all of these calls end so.
+pub(crate) fn all_come_out(rt: &impl Abort, alloc: Global, rows: &[Row]) {
+    all_right(rt, right_rows(alloc, rows), rows.len());
 }

@@ -1,13 +1,12 @@
 //! The large plan of a number.
 
 use crate::calls::all_right;
-use crate::parts::{fibre, figures_of, is_led};
 use sdh_circuits::{Circuit, End, Slot};
 use sdh_cli::big_plan;
 use sdh_payload::Port;
 use sdh_plan::{Plan, Step};
 use sdh_request::Moment;
-use sdh_ringmap::{Condition, Pos, Rate, Side, Span};
+use sdh_ringmap::{Condition, FibreEvent, Pos, Rate, Side, Span};
 use std::alloc::{AllocError, Global};
 
 // A circuit: its name, the positions of its ends, its slot and its offsets.
@@ -43,6 +42,36 @@ const OF_GREATEST: &[Drawn] = &[
     ("c2-5", 6, 8, 2, 183, 445),
 ];
 
+// Returns the step in which a fibre of a position gets a condition.
+fn fibre(at: u8, side: Side, condition: Condition) -> Step {
+    Step::Fibre(FibreEvent {
+        at: Pos(at),
+        side,
+        condition,
+    })
+}
+
+// Returns the rate, the threshold, the wait, the limit, and the numbers of nodes and circuits.
+fn figures_of(plan: &Plan) -> (Rate, u16, u32, u32, usize, usize) {
+    let settings = plan.settings();
+    (
+        settings.rate,
+        settings.threshold,
+        settings.wait,
+        plan.limit(),
+        plan.map().len(),
+        plan.circuits().len(),
+    )
+}
+
+fn is_led(circuit: &Circuit, drawn: Drawn) -> bool {
+    let (name, from, to, slot, _, _) = drawn;
+    circuit.name().as_slice() == name.as_bytes()
+        && circuit.from() == Pos(from)
+        && circuit.to() == Pos(to)
+        && circuit.slot() == Slot(slot)
+}
+
 // Returns whether a port sends its circuit's name, with this letter after it, from this offset on, and has the name as
 // its trace.
 fn sends_name(port: &Port, name: &[u8], letter: u8, offset: u16) -> bool {
@@ -53,8 +82,8 @@ fn sends_name(port: &Port, name: &[u8], letter: u8, offset: u16) -> bool {
 }
 
 fn is_drawn(circuit: &Circuit, drawn: Drawn) -> bool {
-    let (name, from, to, slot, offset_a, offset_b) = drawn;
-    is_led(circuit, (name, from, to, slot))
+    let (name, _, _, _, offset_a, offset_b) = drawn;
+    is_led(circuit, drawn)
         && sends_name(circuit.port(End::A), name.as_bytes(), b'a', offset_a)
         && sends_name(circuit.port(End::B), name.as_bytes(), b'b', offset_b)
 }

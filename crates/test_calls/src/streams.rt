@@ -1,7 +1,7 @@
 //! A source and a sink that go on where a call of theirs failed.
 
 use crate::calls::{CHECK, RUN};
-use crate::plans::SMALLEST_TEXT;
+use crate::texts::SMALLEST_TEXT;
 use sdh_cli::{Status, sdhring};
 use sdh_outside::{MemSink, MemSource};
 use sdh_plant::FibrePlant;

@@ -1,6 +1,6 @@
 //! Calls of which each read fails in turn, and each write, and calls that may run out of memory.
 
-use crate::calls::{Case, Ending, Given, READ, WRITE, call, ends};
+use crate::calls::{Ending, Given, READ, WRITE, call, ends};
 use std::alloc::Global;
 
 /// A call, how it ends, and the pieces in which its text is written.
@@ -11,8 +11,8 @@ pub(crate) struct Sweep {
     pub(crate) pieces: &'static [&'static str],
 }
 
-// Returns whether each read that fails is told, and the one after the last, which is never made, changes nothing. The plan comes
-// in pieces, and its end in a read of its own.
+// Returns whether each read that fails is told, and the one after the last, which is never made, changes nothing. The
+// plan comes in pieces, and its end in a read of its own.
 fn reads_come_out(alloc: Global, sweep: &Sweep) -> bool {
     let last = sweep.given.document.len().div_ceil(READ).min(1000) as u32 + 1;
     for number in 1..=last + 1 {
@@ -97,20 +97,22 @@ pub(crate) fn right_writes(alloc: Global, sweeps: &[Sweep]) -> usize {
 }
 
 // Returns whether a call has no memory and writes nothing, or ends as it should.
-fn answers(alloc: Global, case: &Case) -> bool {
-    match call(alloc, case.given) {
+fn answers(alloc: Global, sweep: &Sweep) -> bool {
+    match call(alloc, sweep.given) {
         Ok((70, sink)) => sink.bytes().is_empty(),
-        Ok((number, sink)) => number == case.ending.0 && sink.bytes() == case.ending.1.as_bytes(),
+        Ok((number, sink)) => {
+            number == sweep.ending.0 && sink.bytes() == sweep.ending.1.as_bytes()
+        }
         Err(_) => false,
     }
 }
 
 /// Returns how many calls answer as they should, whatever memory there is, before the first that doesn't.
-pub(crate) fn right_memories(alloc: Global, cases: &[Case]) -> usize {
-    for i in 0..cases.len() {
-        if !answers(alloc, &cases[i]) {
+pub(crate) fn right_memories(alloc: Global, sweeps: &[Sweep]) -> usize {
+    for i in 0..sweeps.len() {
+        if !answers(alloc, &sweeps[i]) {
             return i;
         }
     }
-    cases.len()
+    sweeps.len()
 }

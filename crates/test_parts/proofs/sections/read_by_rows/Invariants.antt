@@ -1,7 +1,7 @@
 use Rattle.std.proofs.Common.{◌≡◌, length}
 use Rattle.sdh_ringmap.specs.declared.terms.Rate.TheVariants.{Four}
 use Rattle.sdh_overhead.specs.Sections.{next_of, MayRead}
-use Rattle.test_lines.proofs.sections.read_by_rows.Given as goal
+use Rattle.test_parts.proofs.sections.read_by_rows.Given as goal
 
 abbrev pub invariant-loop-row : goal.invariant-loop-row
 invariant-loop-row l = record {

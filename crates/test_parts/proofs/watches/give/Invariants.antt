@@ -1,6 +1,6 @@
 use Rattle.std.proofs.Common.{◌≡◌, ◌+◌, ◌≤◌}
 use Rattle.sdh_payload.specs.Clock.{waiting}
-use Rattle.test_lines.proofs.watches.give.Given as goal
+use Rattle.test_parts.proofs.watches.give.Given as goal
 
 abbrev pub invariant-loop-i : goal.invariant-loop-i
 invariant-loop-i l = record {
