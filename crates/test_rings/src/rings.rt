@@ -68,7 +68,7 @@ pub(crate) fn laid<P: Plant>(alloc: Global, plant: &mut P) -> Result<Ring, Alloc
     let circuits = circuits_of(alloc, &map, &[X, Y])?;
     let nodes = map.len();
     plant
-        .prepare(alloc, SETTINGS.rate, nodes)
+        .prepare(alloc, Rate::Four, nodes)
         .map_err(|_| AllocError)?;
     Ok(Ring::try_new(alloc, SETTINGS, map, circuits)?)
 }
