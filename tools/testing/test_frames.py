@@ -8,12 +8,12 @@ import unittest
 from functools import cache, reduce
 from operator import xor
 
-from common import TOOLS
+from common import RINGS, TOOLS
 
 from rules import Stream
 
 ROOT = TOOLS.parent
-BENCH, SDHRING = ROOT / "bench" / "aps", ROOT / "dist" / "sdhring"
+BENCH, SDHRING, SDHAPS = ROOT / "bench" / "aps", ROOT / "dist" / "sdhring", ROOT / "dist" / "sdhaps"
 sys.path.insert(0, str(BENCH))
 
 import frames  # noqa: E402
@@ -193,6 +193,28 @@ class Beside(unittest.TestCase):
         pointers, payload = au(16, clear(16, line), 2)
         self.assertEqual(int.from_bytes(pointers[0:4:3], "big"), 0x6800 | 521 ^ 0x155)
         self.assertIn(pointers[6:].decode(), "from the other" * 3)
+
+
+@unittest.skipUnless(SDHAPS.is_file(), "there is no release yet")
+class OnTheLine(unittest.TestCase):
+    """The frames that the built sdhaps writes are those of the simulation, byte for byte: places, scrambling, both parities, K bytes, pointer
+    words and payloads, at both rates, over the rounds of a settle step in which most changes, and the same after it."""
+
+    def told(self, plan, node, side, first, count):
+        words = ["frames", str(node), side, str(first), str(count)]
+        return subprocess.run([SDHAPS, *words], input=plan.encode(), capture_output=True, timeout=60).stdout
+
+    def test_frames(self):
+        """Among them a span that is cut, with the nodes that switch and one that passes, and a node that is cut off, at which two circuits of
+        one slot end."""
+        off = (RINGS / "node-cut-off.toml").read_text()
+        for plan, nodes in ((HEALTHY, (1, 2, 3, 4)), (CUT.read_text(), (2, 3, 4)), (off, (1, 2, 3)), (SLIPS, (9, 5, 3))):
+            for node in nodes:
+                for side in ("west", "east"):
+                    for first, count in ((0, 16), (120, 9)):
+                        with self.subTest(plan=plan, node=node, side=side, first=first):
+                            made = b"".join(sent(plan, node, side, first, count))
+                            self.assertTrue(self.told(plan, node, side, first, count) == made)
 
 
 class Compare(unittest.TestCase):

@@ -35,7 +35,7 @@ def tried(tests):
 @unittest.skipUnless(shutil.which("rt"), "there is no rt")
 class Views(unittest.TestCase):
     def test_two_views_for_writing_at_once(self):
-        tests = (CRATES / "test_lines" / "src" / "frames.rt").read_text()
+        tests = (CRATES / "test_parts" / "src" / "frames.rt").read_text()
         self.assertEqual(tests.count(AFTER), 1)
         status, said = tried(tests.replace(AFTER, AFTER + "    first.set_pointer(1, 0);\n"))
         self.assertNotEqual(status, 0)

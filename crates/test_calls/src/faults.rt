@@ -1,221 +1,348 @@
-//! What is outside fails in mid-stream: the failure is reported, in place of an answer to what came before it, and the
-//! next call is as any other.
+//! What is outside fails in mid-stream: the failure is reported, in place of an answer to what came before it. And fibres
+//! out of which nothing comes, and calls that run no round.
 
-use crate::called::{
-    CHECK, DROP_OTHER, NO_WORDS, Outside, READERS, ROOM, RUN, SOUND, ends, ends_over,
+use crate::calls::{
+    CHECK, DROP, DROP_OTHER, Fibres, Given, NO_WORDS, ONCE, Program, Row, SOUND, TWICE,
+    all_come_out, all_right,
 };
-use crate::plans::{SMALLEST_BROKEN, SMALLEST_TABLES, SMALLEST_TEXT, USAGE};
-use sdh_cli::{Status, sdhring};
-use sdh_outside::{MemSink, MemSource};
-use sdh_plant::{FailingPlant, FibrePlant, PlantCall, RecordingPlant};
-use std::test::Fail;
-use test_texts::{SMALLEST, scripted, words_of};
+use crate::sweeps::{Sweep, right_memories, right_reads, right_writes};
+use crate::texts::{
+    BOTH_WAYS, BOTH_WAYS_BROKEN, CUT_OFF, CUT_OFF_TABLES, LETTERS, NO_CIRCUITS, SIGNAL_PIECES,
+    SIGNALLED, SIGNALLED_BROKEN, SIGNALS_BROKEN, SMALLEST_BROKEN, SMALLEST_TABLES, SMALLEST_TEXT,
+    TWO_SPANS, UNSETTLED, USAGE, WATCHED, WATCHED_BROKEN,
+};
+use Fibres::{Dark, Failing, Honest, Recording};
+use sdh_plant::PlantCall::{Apply, Prepare, Receive, Send};
+use test_texts::SMALLEST;
 
-// The plan comes in pieces of 64 bytes, and its end in a read of its own.
-#[test]
-fn each_read_that_fails_is_told(rt: HostRuntime) -> Result<(), Fail> {
-    let reads = SMALLEST.len().div_ceil(64) as u32 + 1;
-    for number in 1..=reads {
-        let failing = [number];
-        let outside = Outside {
-            reads: &failing,
-            ..SOUND
-        };
-        let ending = (Status::ReadFault, 3, b"read fault\n".as_slice());
-        for words in READERS {
-            ends(&rt, rt.alloc(), words, SMALLEST.as_bytes(), outside, ending)?;
-        }
-    }
-    let failing = [reads + 1];
-    let outside = Outside {
-        reads: &failing,
-        ..SOUND
-    };
-    let ending = (Status::Ok, 0, SMALLEST_TEXT.as_bytes());
-    ends(&rt, rt.alloc(), RUN, SMALLEST.as_bytes(), outside, ending)
-}
+const RING: Given<'static> = SOUND;
 
-// Two pieces of spaces are taken, the third read fails, and the plan is left.
-const READ_ON: &[(Status, &str)] = &[
-    (Status::ReadFault, "read fault\n"),
-    (Status::Ok, SMALLEST_TEXT),
-    (
-        Status::BadPlan {
-            reason: 13,
-            place: 0,
-        },
-        "bad plan 13 at 0\n",
-    ),
+const PATH: Given<'static> = Given {
+    program: Program::Path,
+    document: TWO_SPANS,
+    ..SOUND
+};
+
+const WATCH: Given<'static> = Given {
+    program: Program::Watch,
+    ..SOUND
+};
+
+const SIGNALS: Given<'static> = Given {
+    program: Program::Signals,
+    ..SOUND
+};
+
+// 100 bytes come in two reads.
+const RETIMING: Given<'static> = Given {
+    program: Program::Retiming,
+    words: &["3"],
+    document: LETTERS,
+    ..SOUND
+};
+
+const RETIMES: Sweep = Sweep {
+    given: RETIMING,
+    ending: (0, "left 100\n"),
+    pieces: &["left 100\n"],
+};
+
+// Tables run no round.
+const CHECKED: Given<'static> = Given {
+    words: CHECK,
+    ..SOUND
+};
+
+// No circuit has this name.
+const DROPPED_OTHER: Given<'static> = Given {
+    words: DROP_OTHER,
+    ..SOUND
+};
+
+const WORDLESS: Given<'static> = Given {
+    words: NO_WORDS,
+    ..SOUND
+};
+
+const RUNS: Sweep = Sweep {
+    given: RING,
+    ending: (0, SMALLEST_TEXT),
+    pieces: &[SMALLEST_TEXT],
+};
+
+const CHECKS: Sweep = Sweep {
+    given: CHECKED,
+    ending: (0, SMALLEST_TABLES),
+    pieces: &[SMALLEST_TABLES],
+};
+
+const DROPS_OTHER: Sweep = Sweep {
+    given: DROPPED_OTHER,
+    ending: (10, "no such port\n"),
+    pieces: &["no such port\n"],
+};
+
+const HAS_NO_WORDS: Sweep = Sweep {
+    given: WORDLESS,
+    ending: (2, USAGE),
+    pieces: &[USAGE],
+};
+
+const PATHS: Sweep = Sweep {
+    given: PATH,
+    ending: (0, BOTH_WAYS),
+    pieces: &[BOTH_WAYS],
+};
+
+const WATCHES: Sweep = Sweep {
+    given: WATCH,
+    ending: (0, WATCHED),
+    pieces: &[WATCHED],
+};
+
+const SIGNALLING: Sweep = Sweep {
+    given: SIGNALS,
+    ending: (0, SIGNALLED),
+    pieces: SIGNAL_PIECES,
+};
+
+// All commands that read a plan, and whose text is short.
+const READERS: &[Sweep] = &[
+    RUNS,
+    CHECKS,
+    DROPS_OTHER,
+    PATHS,
+    WATCHES,
+    SIGNALLING,
+    RETIMES,
 ];
 
 #[test]
-fn a_source_goes_on_where_a_read_failed(rt: HostRuntime) -> Result<(), Fail> {
-    let words = words_of(rt.alloc(), RUN)?;
-    let mut document = Vec::new(rt.alloc());
-    for _ in 0..128 {
-        document.push(b' ')?;
-    }
-    document.extend_from_slice(SMALLEST.as_bytes())?;
-    let mut source = MemSource::new(rt.alloc(), &document, 64, &[3])?;
-    for (status, text) in READ_ON {
-        let mut sink = MemSink::new(rt.alloc(), ROOM, 64, &[])?;
-        let mut plant = FibrePlant::new();
-        let answer = sdhring(rt.alloc(), &words, &mut source, &mut sink, &mut plant);
-        assert!(rt;
-            answer == *status && sink.bytes() == text.as_bytes(),
-            "{text}"
-        );
-    }
-    Ok(())
+fn each_read_that_fails_is_told(rt: HostRuntime) {
+    all_right(&rt, right_reads(rt.alloc(), READERS), READERS.len());
 }
 
-// The text goes in pieces of 50 bytes.
-const WRITTEN: &[(&[&str], &str)] = &[
-    (RUN, SMALLEST_TEXT),
-    (CHECK, SMALLEST_TABLES),
-    (DROP_OTHER, "no such port\n"),
-    (NO_WORDS, USAGE),
-];
+const WRITERS: &[Sweep] = &[RUNS, CHECKS, DROPS_OTHER, HAS_NO_WORDS];
 
 #[test]
-fn each_write_that_fails_is_told(rt: HostRuntime) -> Result<(), Fail> {
-    for (words, text) in WRITTEN {
-        let writes = text.len().div_ceil(50);
-        for number in 1..=writes {
-            let failing = [number as u32];
-            let outside = Outside {
-                piece: 50,
-                writes: &failing,
-                ..SOUND
-            };
-            let front = (number - 1).saturating_mul(50).min(text.len());
-            let ending = (Status::WriteFault, 4, &text.as_bytes()[..front]);
-            ends(&rt, rt.alloc(), words, SMALLEST.as_bytes(), outside, ending)?;
-        }
-    }
-    Ok(())
+fn each_write_of_a_ring_that_fails_is_told(rt: HostRuntime) {
+    all_right(&rt, right_writes(rt.alloc(), WRITERS), WRITERS.len());
 }
 
-// The first call over a sink writes the front of a text, and the next call a whole text after it.
-const WRITTEN_ON: &[(Status, &str)] = &[
-    (Status::WriteFault, "node 1 east slot 1 c"),
-    (
-        Status::Ok,
-        "node 1 east slot 1 cnode 1 east slot 1 c1 1 2\nnode 2 west slot 1 c1 1 2\ndone\n",
-    ),
-];
+const OTHER_WRITERS: &[Sweep] = &[PATHS, WATCHES, SIGNALLING, RETIMES];
 
 #[test]
-fn a_sink_goes_on_where_a_write_failed(rt: HostRuntime) -> Result<(), Fail> {
-    let words = words_of(rt.alloc(), CHECK)?;
-    let mut sink = MemSink::new(rt.alloc(), ROOM, 10, &[3])?;
-    for (status, text) in WRITTEN_ON {
-        let mut source = MemSource::new(rt.alloc(), SMALLEST.as_bytes(), 64, &[])?;
-        let mut plant = FibrePlant::new();
-        let answer = sdhring(rt.alloc(), &words, &mut source, &mut sink, &mut plant);
-        assert!(rt;
-            answer == *status && sink.bytes() == text.as_bytes(),
-            "{text}"
-        );
-    }
-    Ok(())
+fn each_other_write_that_fails_is_told(rt: HostRuntime) {
+    all_right(
+        &rt,
+        right_writes(rt.alloc(), OTHER_WRITERS),
+        OTHER_WRITERS.len(),
+    );
 }
 
-const TWICE: &str = "\"settle\", \"settle\"";
-
-// A ring of three sends 6 frames in each round, and its first settle step has 129 rounds.
-const ROOMS: &[(usize, &str)] = &[
-    (0, "plant fault\n"),
-    (4, "plant fault\n"),
-    (773, "plant fault\n"),
-    (774, SMALLEST_BROKEN),
-    (780, SMALLEST_BROKEN),
-];
-
-#[test]
-fn fibres_that_fail_are_told(rt: HostRuntime) -> Result<(), Fail> {
-    let document = scripted(rt.alloc(), SMALLEST, TWICE)?;
-    for (room, text) in ROOMS {
-        let mut plant = RecordingPlant::new(*room);
-        let document = document.as_bytes();
-        let ending = (Status::PlantFault, 8, text.as_bytes());
-        ends_over(&rt, rt.alloc(), RUN, document, SOUND, &mut plant, ending)?;
-    }
-    Ok(())
-}
-
-const ONCE: &str = "\"settle\"";
+const BROKEN: &str = "plant fault\n";
 
 const CUT: &str = "\"cut 2 east\", \"settle\"";
 
-// A ring of three receives 6 frames in each round but the first, and sends 6 in each.
-const CALLS: &[(&str, PlantCall, u32, &str)] = &[
-    (ONCE, PlantCall::Prepare, 1, "plant fault\n"),
-    (ONCE, PlantCall::Send, 1, "plant fault\n"),
-    (ONCE, PlantCall::Send, 5, "plant fault\n"),
-    (ONCE, PlantCall::Send, 774, "plant fault\n"),
-    (ONCE, PlantCall::Receive, 1, "plant fault\n"),
-    (ONCE, PlantCall::Receive, 768, "plant fault\n"),
-    (TWICE, PlantCall::Send, 775, SMALLEST_BROKEN),
-    (TWICE, PlantCall::Receive, 769, SMALLEST_BROKEN),
-    (CUT, PlantCall::Apply, 1, "plant fault\n"),
+// A settle step of these plans has 129 rounds. In each a ring of three sends 6 frames, and one of four 8; it receives as
+// many in each round but the first. The last rows are calls that are never made.
+const RINGS_FAIL: &[Row] = &[
+    (RING, Recording(0), TWICE, 8, BROKEN),
+    (RING, Recording(4), TWICE, 8, BROKEN),
+    (RING, Recording(773), TWICE, 8, BROKEN),
+    (RING, Recording(774), TWICE, 8, SMALLEST_BROKEN),
+    (RING, Recording(780), TWICE, 8, SMALLEST_BROKEN),
+    (RING, Failing(Prepare, 1), ONCE, 8, BROKEN),
+    (RING, Failing(Send, 1), ONCE, 8, BROKEN),
+    (RING, Failing(Send, 5), ONCE, 8, BROKEN),
+    (RING, Failing(Send, 774), ONCE, 8, BROKEN),
+    (RING, Failing(Receive, 1), ONCE, 8, BROKEN),
+    (RING, Failing(Receive, 768), ONCE, 8, BROKEN),
+    (RING, Failing(Send, 775), TWICE, 8, SMALLEST_BROKEN),
+    (RING, Failing(Receive, 769), TWICE, 8, SMALLEST_BROKEN),
+    (RING, Failing(Apply, 1), CUT, 8, BROKEN),
+    (RING, Failing(Prepare, 2), ONCE, 0, SMALLEST_TEXT),
+    (RING, Failing(Send, 775), ONCE, 0, SMALLEST_TEXT),
+    (RING, Failing(Receive, 769), ONCE, 0, SMALLEST_TEXT),
+    (RING, Failing(Apply, 1), ONCE, 0, SMALLEST_TEXT),
 ];
 
 #[test]
-fn each_call_of_fibres_that_fails_is_told(rt: HostRuntime) -> Result<(), Fail> {
-    for (script, call, number, text) in CALLS {
-        let document = scripted(rt.alloc(), SMALLEST, script)?;
-        let mut plant = FailingPlant::new(rt.alloc(), &[(*call, *number)])?;
-        let document = document.as_bytes();
-        let ending = (Status::PlantFault, 8, text.as_bytes());
-        ends_over(&rt, rt.alloc(), RUN, document, SOUND, &mut plant, ending)?;
-    }
-    Ok(())
+fn fibres_of_a_ring_that_fail_are_told(rt: HostRuntime) {
+    all_come_out(&rt, rt.alloc(), RINGS_FAIL);
 }
 
-// These calls are never made.
-const OTHER_CALLS: &[(PlantCall, u32)] = &[
-    (PlantCall::Prepare, 2),
-    (PlantCall::Send, 775),
-    (PlantCall::Receive, 769),
-    (PlantCall::Apply, 1),
+const PATHS_FAIL: &[Row] = &[
+    (PATH, Failing(Prepare, 1), ONCE, 8, BROKEN),
+    (PATH, Failing(Send, 1032), ONCE, 8, BROKEN),
+    (PATH, Failing(Receive, 1), ONCE, 8, BROKEN),
+    (PATH, Failing(Apply, 1), CUT, 8, BROKEN),
+    (PATH, Failing(Receive, 1025), TWICE, 8, BOTH_WAYS_BROKEN),
+    (PATH, Failing(Send, 1033), ONCE, 0, BOTH_WAYS),
+    (PATH, Recording(1031), TWICE, 8, BROKEN),
+    (PATH, Recording(1032), TWICE, 8, BOTH_WAYS_BROKEN),
 ];
 
 #[test]
-fn a_call_that_is_never_made_does_not_fail(rt: HostRuntime) -> Result<(), Fail> {
-    for call in OTHER_CALLS {
-        let mut plant = FailingPlant::new(rt.alloc(), &[*call])?;
-        let document = SMALLEST.as_bytes();
-        let ending = (Status::Ok, 0, SMALLEST_TEXT.as_bytes());
-        ends_over(&rt, rt.alloc(), RUN, document, SOUND, &mut plant, ending)?;
-    }
-    Ok(())
+fn fibres_of_a_path_ring_that_fail_are_told(rt: HostRuntime) {
+    all_come_out(&rt, rt.alloc(), PATHS_FAIL);
 }
+
+// After a settle step 128 rounds are watched, and a fault in one of them ends the run without the lines of the step.
+const WATCHES_FAIL: &[Row] = &[
+    (WATCH, Failing(Prepare, 1), ONCE, 8, BROKEN),
+    (WATCH, Failing(Send, 774), ONCE, 8, BROKEN),
+    (WATCH, Failing(Receive, 769), ONCE, 8, BROKEN),
+    (WATCH, Failing(Send, 1542), ONCE, 8, BROKEN),
+    (WATCH, Failing(Apply, 1), CUT, 8, BROKEN),
+    (WATCH, Failing(Receive, 1537), TWICE, 8, WATCHED_BROKEN),
+    (WATCH, Failing(Send, 1543), ONCE, 0, WATCHED),
+    (WATCH, Recording(1541), TWICE, 8, BROKEN),
+    (WATCH, Recording(1542), TWICE, 8, WATCHED_BROKEN),
+];
+
+#[test]
+fn watched_fibres_that_fail_are_told(rt: HostRuntime) {
+    all_come_out(&rt, rt.alloc(), WATCHES_FAIL);
+}
+
+const SIGNALS_FAIL: &[Row] = &[
+    (SIGNALS, Failing(Prepare, 1), ONCE, 8, BROKEN),
+    (SIGNALS, Failing(Send, 1), ONCE, 8, BROKEN),
+    (SIGNALS, Failing(Send, 774), ONCE, 8, SIGNALS_BROKEN),
+    (SIGNALS, Failing(Receive, 768), ONCE, 8, SIGNALS_BROKEN),
+    (SIGNALS, Failing(Apply, 1), CUT, 8, BROKEN),
+    (SIGNALS, Failing(Receive, 769), TWICE, 8, SIGNALLED_BROKEN),
+    (SIGNALS, Failing(Send, 775), ONCE, 0, SIGNALLED),
+    (SIGNALS, Recording(773), TWICE, 8, SIGNALS_BROKEN),
+    (SIGNALS, Recording(774), TWICE, 8, SIGNALLED_BROKEN),
+];
+
+#[test]
+fn signalling_fibres_that_fail_are_told(rt: HostRuntime) {
+    all_come_out(&rt, rt.alloc(), SIGNALS_FAIL);
+}
+
+// Both the first read and the first write fail.
+const DEAF_RING: Given<'static> = Given {
+    reads: &[1],
+    writes: &[1],
+    ..RING
+};
+
+const DEAF_PATH: Given<'static> = Given {
+    reads: &[1],
+    writes: &[1],
+    ..PATH
+};
+
+const DEAF_WATCH: Given<'static> = Given {
+    reads: &[1],
+    writes: &[1],
+    ..WATCH
+};
+
+const DEAF_SIGNALS: Given<'static> = Given {
+    reads: &[1],
+    writes: &[1],
+    ..SIGNALS
+};
+
+const OF_CUT_OFF: Given<'static> = Given {
+    document: CUT_OFF,
+    ..CHECKED
+};
+
+const OF_UNSETTLED: Given<'static> = Given {
+    document: UNSETTLED,
+    ..CHECKED
+};
+
+const OF_NO_CIRCUITS: Given<'static> = Given {
+    document: NO_CIRCUITS,
+    ..CHECKED
+};
+
+const PATH_OF_SMALLEST: Given<'static> = Given {
+    document: SMALLEST,
+    ..PATH
+};
+
+const DROPPED: Given<'static> = Given {
+    words: DROP,
+    ..SOUND
+};
 
 // The first ten bytes are written.
-#[test]
-fn a_sink_that_fails_has_the_front_of_the_text(rt: HostRuntime) -> Result<(), Fail> {
-    for outside in [
-        Outside {
-            piece: 10,
-            writes: &[2],
-            ..SOUND
-        },
-        Outside { room: 10, ..SOUND },
-    ] {
-        let ending = (Status::WriteFault, 4, b"settle 1 r".as_slice());
-        ends(&rt, rt.alloc(), RUN, SMALLEST.as_bytes(), outside, ending)?;
-    }
-    Ok(())
-}
+const FULL_SINK: Given<'static> = Given {
+    write: 10,
+    room: 10,
+    ..SOUND
+};
+
+const FAILING_SINK: Given<'static> = Given {
+    write: 10,
+    writes: &[2],
+    ..SOUND
+};
+
+const READ_FAULT: &str = "read fault\n";
+
+const DARK_RING: &str = "settle 1 round 128
+node 1 isolated west b3 16 east b2 16
+node 2 isolated west b1 26 east b3 26
+node 3 isolated west b2 36 east b1 36
+port c1 a ais
+port c1 b ais
+done
+";
+
+const DARK_PATHS: &str = "settle 1 round 128\nport c1 a ais\nport c1 b ais\ndone\n";
+
+const DARK_WATCHES: &str = "settle 1 round 128\nwatch c1 a ais\nwatch c1 b ais\ndone\n";
+
+// A write that fails hides a read that fails; tables run no round, since these fibres have no room for a frame, and the
+// limit of one plan is too small for a settle step; nothing comes out of fibres.
+const OTHERS: &[Row] = &[
+    (FULL_SINK, Honest, ONCE, 4, "settle 1 r"),
+    (FAILING_SINK, Honest, ONCE, 4, "settle 1 r"),
+    (DEAF_RING, Honest, ONCE, 4, ""),
+    (DEAF_PATH, Honest, ONCE, 4, ""),
+    (DEAF_WATCH, Honest, ONCE, 4, ""),
+    (DEAF_SIGNALS, Honest, ONCE, 4, ""),
+    (OF_UNSETTLED, Recording(0), ONCE, 0, SMALLEST_TABLES),
+    (OF_CUT_OFF, Recording(0), ONCE, 0, CUT_OFF_TABLES),
+    (OF_NO_CIRCUITS, Recording(0), ONCE, 0, "done\n"),
+    (RING, Dark, ONCE, 0, DARK_RING),
+    (PATH_OF_SMALLEST, Dark, ONCE, 0, DARK_PATHS),
+    (WATCH, Dark, ONCE, 0, DARK_WATCHES),
+];
 
 #[test]
-fn a_write_that_fails_hides_a_read_that_fails(rt: HostRuntime) -> Result<(), Fail> {
-    let outside = Outside {
-        reads: &[1],
-        writes: &[1],
+fn other_calls_end_as_told(rt: HostRuntime) {
+    all_come_out(&rt, rt.alloc(), OTHERS);
+}
+
+// What is no document, and the tables of a plan.
+const NOT_TOML: Sweep = Sweep {
+    given: Given {
+        document: "rate = ",
         ..SOUND
-    };
-    let ending = (Status::WriteFault, 4, b"".as_slice());
-    ends(&rt, rt.alloc(), RUN, SMALLEST.as_bytes(), outside, ending)
+    },
+    ending: (5, "not toml\n"),
+    pieces: &[],
+};
+
+const CHECKS_CUT_OFF: Sweep = Sweep {
+    given: OF_CUT_OFF,
+    ending: (0, CUT_OFF_TABLES),
+    pieces: &[],
+};
+
+const MEMORY: &[Sweep] = &[RUNS, CHECKS_CUT_OFF, DROPS_OTHER, NOT_TOML, HAS_NO_WORDS];
+
+// It shows most where one of the allocations is made to fail.
+#[test]
+fn want_of_memory_writes_nothing(rt: HostRuntime) {
+    all_right(&rt, right_memories(rt.alloc(), MEMORY), MEMORY.len());
 }

@@ -1,16 +1,18 @@
-//! The program's call over objects in memory, as tests: each status with its text, what is outside failing in
-//! mid-stream, and whole runs. No other crate stands on this one.
+//! Calls of the programs over objects in memory, as tests: what is outside failing in mid-stream, too little memory, and
+//! fibres of other kinds; and the large plan. No other crate stands on this one.
 #![tactic(auto)]
 
 #[cfg(test)]
-mod called;
+mod calls;
+#[cfg(test)]
+mod drawn;
 #[cfg(test)]
 mod faults;
 #[cfg(test)]
-mod listings;
+mod losses;
 #[cfg(test)]
-mod memory;
+mod streams;
 #[cfg(test)]
-mod plans;
+mod sweeps;
 #[cfg(test)]
-mod runs;
+mod texts;

@@ -1,22 +1,19 @@
-//! Scripts of rings: what happens to a ring, segment by segment, and what is to be seen of it after each.
-ghost use Rattle.std.specs.Prelude.{◌≡◌, ◌≤◌, OnOk, false, length};
+//! Scripts of rings with two circuits: what happens to a ring, and in how many rounds a port meets a stranger.
+ghost use Rattle.std.specs.Prelude.{◌≡◌, OnOk, false, length};
 ghost use Rattle.sdh_plant.specs.Fibres.{HasNoFibres, IsPrepared};
 
-use crate::rings::{apply, hold, laid_as, order, run, settle, slip, span_is};
-use crate::seen::{Seen, is_seen, meets};
-use sdh_circuits::{Asked, PortId};
-use sdh_node::{Settings, Turn};
+use crate::rings::{hold, laid, order, run, settle, slip, span_is};
+use sdh_circuits::{End, PortId};
+use sdh_node::{Delivered, Turn};
 use sdh_plant::{FibrePlant, Plant};
-use sdh_request::{Command, Moment};
+use sdh_request::Command;
 use sdh_ring::Ring;
 use sdh_ringmap::{Condition, Side};
 use std::alloc::{AllocError, Global};
-use std::process::Abort;
 
-/// What happens to a ring: fibres, spans and nodes by position, a span by the one west of it.
+/// What happens to a ring: nodes by position, a span by that of the node west of it.
 #[derive(Clone, Copy)]
 pub(crate) enum Step {
-    Fibre(u8, Side, Condition),
     Span(u8, Condition),
     Order(u8, Side, Command),
     Slip(PortId, Turn, u8),
@@ -25,21 +22,27 @@ pub(crate) enum Step {
     Settle,
 }
 
-/// Steps that are taken at a moment, and what is seen then.
-#[derive(Clone, Copy)]
-pub(crate) struct Segment {
-    pub(crate) moment: u64,
-    pub(crate) steps: &'static [Step],
-    pub(crate) seen: Seen,
+// Returns the letter that a port delivers, and a dash for AIS.
+fn letter(ring: &Ring, circuit: u8, end: End) -> u8 {
+    if circuit as usize >= ring.circuits().len() {
+        return b'?';
+    }
+    match ring.port(PortId { circuit, end }) {
+        Delivered::Ais => b'-',
+        Delivered::Chunk(cells) => cells.as_slice().get(100).copied().unwrap_or(b'?'),
+    }
 }
 
-/// A ring that is new, its circuits, and what happens to it.
-#[derive(Clone, Copy)]
-pub(crate) struct Case {
-    pub(crate) settings: Settings,
-    pub(crate) ids: &'static [i64],
-    pub(crate) circuits: &'static [Asked<'static>],
-    pub(crate) segments: &'static [Segment],
+// Returns whether a port of a circuit delivers one of two letters.
+fn has_letter(ring: &Ring, circuit: u8, a: u8, b: u8) -> bool {
+    let (at_a, at_b) = (letter(ring, circuit, End::A), letter(ring, circuit, End::B));
+    at_a == a || at_a == b || at_b == a || at_b == b
+}
+
+// Returns whether a port gets the bytes of the other circuit: those of the first are A and B, and of the second C and
+// D.
+fn meets(ring: &Ring) -> bool {
+    has_letter(ring, 0, b'C', b'D') || has_letter(ring, 1, b'A', b'B')
 }
 
 // Runs `rounds` rounds, and counts those in which a port met a stranger.
@@ -48,7 +51,6 @@ fn counted<P: Plant>(ring: &mut Ring, plant: &mut P, rounds: u32) -> Result<u32,
     requires whole { ring.old.broken ≡ false }
     ensures prepared { OnOk result (IsPrepared ring.new.settings.rate (length ring.new.ids) (P.fibres plant.new)) }
     ensures whole { OnOk result (ring.new.broken ≡ false) }
-    ensures moment { OnOk result (ring.new.moment ≡ ring.old.moment) }
 {
     let mut met = 0u32;
     'turns: for _turn in 0..rounds {
@@ -68,10 +70,8 @@ fn is_done<P: Plant>(ring: &mut Ring, plant: &mut P, step: Step) -> bool
     requires prepared { IsPrepared ring.old.settings.rate (length ring.old.ids) (P.fibres plant.old) }
     ensures prepared { IsPrepared ring.new.settings.rate (length ring.new.ids) (P.fibres plant.new) }
     ensures whole { ring.new.broken ≡ ring.old.broken }
-    ensures moment { ring.new.moment ≡ ring.old.moment }
 {
     match step {
-        Step::Fibre(at, side, condition) => apply(ring, plant, at, side, condition),
         Step::Span(west, condition) => span_is(ring, plant, west, condition),
         Step::Order(at, side, command) => order(ring, at, side, command),
         Step::Slip(port, turn, count) => slip(ring, port, turn, count),
@@ -86,7 +86,6 @@ fn taken<P: Plant>(ring: &mut Ring, plant: &mut P, step: Step) -> Result<u32, Al
     requires whole { ring.old.broken ≡ false }
     ensures prepared { OnOk result (IsPrepared ring.new.settings.rate (length ring.new.ids) (P.fibres plant.new)) }
     ensures whole { OnOk result (ring.new.broken ≡ false) }
-    ensures moment { OnOk result (ring.new.moment ≡ ring.old.moment) }
 {
     match step {
         Step::Rounds(rounds) => counted(ring, plant, rounds),
@@ -102,7 +101,6 @@ fn all_taken<P: Plant>(ring: &mut Ring, plant: &mut P, steps: &[Step]) -> Result
     requires whole { ring.old.broken ≡ false }
     ensures prepared { OnOk result (IsPrepared ring.new.settings.rate (length ring.new.ids) (P.fibres plant.new)) }
     ensures whole { OnOk result (ring.new.broken ≡ false) }
-    ensures moment { OnOk result (ring.new.moment ≡ ring.old.moment) }
 {
     let mut met = 0u32;
     'steps: for step in steps {
@@ -111,53 +109,14 @@ fn all_taken<P: Plant>(ring: &mut Ring, plant: &mut P, steps: &[Step]) -> Result
     Ok(met)
 }
 
-/// Returns how many segments show what they should, before the first that doesn't.
-pub(crate) fn right_segments<P: Plant>(
-    ring: &mut Ring,
-    plant: &mut P,
-    segments: &[Segment],
-) -> Result<usize, AllocError>
-    requires prepared { IsPrepared ring.old.settings.rate (length ring.old.ids) (P.fibres plant.old) }
-    requires whole { ring.old.broken ≡ false }
-    requires new { ring.old.moment ≡ 0 }
-{
-    let mut now = 0u64;
-    'segments: for i in 0..segments.len() {
-        let segment = &segments[i];
-        if segment.moment < now || segment.moment > 1_000_000_000 {
-            return Ok(i);
-        }
-        now = segment.moment;
-        ring.moment(Moment(now));
-        let met = all_taken(ring, plant, segment.steps)?;
-        if !is_seen(ring, met, segment.seen) {
-            return Ok(i);
-        }
-    }
-    Ok(segments.len())
-}
-
-// Returns how many segments of a case show what they should, before the first that doesn't.
-fn right_of_case<P: Plant>(alloc: Global, plant: &mut P, case: &Case) -> Result<usize, AllocError>
+fn met_over<P: Plant>(alloc: Global, plant: &mut P, steps: &[Step]) -> Result<u32, AllocError>
     requires { HasNoFibres (P.fibres plant.old) }
 {
-    let mut ring = laid_as(alloc, plant, case.settings, case.ids, case.circuits)?;
-    right_segments(&mut ring, plant, case.segments)
+    let mut ring = laid(alloc, plant)?;
+    all_taken(&mut ring, plant, steps)
 }
 
-// Returns how many cases show what they should, before the first that doesn't. Each has fibres of its own.
-fn right_cases(alloc: Global, cases: &[Case]) -> usize {
-    for i in 0..cases.len() {
-        let mut plant = FibrePlant::new();
-        if right_of_case(alloc, &mut plant, &cases[i]) != Ok(cases[i].segments.len()) {
-            return i;
-        }
-    }
-    cases.len()
-}
-
-/// Asserts that all cases show what they should. The text of a failure names the first that doesn't, counted from 0.
-pub(crate) fn all_come_out(rt: &impl Abort, alloc: Global, cases: &[Case]) {
-    let right = right_cases(alloc, cases);
-    assert!(rt; right == cases.len(), "case {right}, counted from 0");
+/// Returns in how many of the rounds of these steps that are run one by one a port meets a stranger.
+pub(crate) fn met_in(alloc: Global, steps: &[Step]) -> Result<u32, AllocError> {
+    met_over(alloc, &mut FibrePlant::new(), steps)
 }

@@ -20,9 +20,3 @@ returns-in-Ok-clause-prepared g c =
     let whole : c.settle.new.self.broken ≡ false = ap (λ (r : HeldRing). r.broken) held ∙ c.requires.whole in
     subst (λ (r : HeldRing). IsPrepared r.settings.rate (length r.ids) (g.P.Plant.fibres c.settle.new.plant)) (sym held)
     (c.in-Ok.ensures.step.prepared whole)
-
-pub returns-in-Ok-clause-moment : goal.returns-in-Ok-clause-moment
-returns-in-Ok-clause-moment g c =
-    let s = c.in-Ok.ensures.step.outcome in
-    let w = world c.args.ring.now (g.P.Plant.fibres c.args.plant.now) in
-    ap (λ (v : World). v.ring.moment) s.left_is ∙ ap (λ (r : HeldRing). r.moment) (held_run adm s.rounds w)

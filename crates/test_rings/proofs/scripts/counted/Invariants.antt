@@ -6,5 +6,4 @@ abbrev pub invariant-turns : goal.invariant-turns
 invariant-turns g l = record {
   prepared : IsPrepared l.ring.settings.rate (length l.ring.ids) (g.P.Plant.fibres l.plant);
   whole : l.ring.broken ≡ false;
-  moment : l.ring.moment ≡ l.fn.ring.moment;
 }
