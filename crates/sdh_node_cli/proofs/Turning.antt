@@ -263,9 +263,10 @@ line_stops b stop.WriteFault left now text h = absurd h.1
 
 pub told_stops : (b : Bench) (line : List ℕ) (t : Told) (why : Reason) (left now text : Option (List ℕ)) → HasLine b line (what.Told t) left now
     → refusal_of b t ≡ Some why → StopsBy b (stop.Bad (flaw.Said why)) left now text text
-told_stops b line t why left now text l refused =
-    ((whole_line line, (refused_line b line [] why l.line_is (inr (what.Told t, l.reads, refused)) (omega arith) (append-nil (whole_line line)), tt), l.read),
-      Keeps-refl text)
+told_stops b line t why left now text l refused = (
+  (whole_line line, (refused_line b line [] why l.line_is (inr (what.Told t, l.reads, refused)) (omega arith) (append-nil (whole_line line)), tt), l.read),
+  Keeps-refl text,
+)
 
 pub round_stops : (b : Bench) (line : List ℕ) (west east : Came) (why : Stop) (left mid now old_text new_text : Option (List ℕ))
     → HasLine b line (what.Round west east) left mid → StopsRound b west east why mid now old_text new_text

@@ -20,7 +20,7 @@ use sdh_shell::LineEnd;
 const ASKED_MAX: usize = 17;
 
 /// What one read of a line took.
-#[derive(Clone, Copy, Debug, PartialEq, Eq)]
+#[derive(Clone, Copy)]
 enum Got {
     /// A part of it, without its newline byte.
     Part,

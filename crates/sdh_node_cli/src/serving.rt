@@ -16,7 +16,7 @@ use sdh_outside::{Sink, Source};
 const RECORDS_MAX: u64 = 4_294_967_295;
 
 /// Why no record more was done, and the number of the next one, counted from 1.
-#[derive(Clone, Copy, Debug, PartialEq, Eq)]
+#[derive(Clone, Copy)]
 pub struct Stopped {
     pub stop: Stop,
     pub number: u64,

@@ -34,10 +34,10 @@ impl Texts {
         ensures line { IfOk result (λ texts. room_in texts.line ≡ 65) }
         ensures answer { IfOk result (λ texts. room_for bench.now ≤ room_in texts.answer) }
     {
-        Ok(Texts {
-            line: Text::try_new(alloc, LINE_READ)?,
-            answer: Text::try_new(alloc, bench.answer_room())?,
-        })
+        let room = bench.answer_room();
+        let line = Text::try_new(alloc, LINE_READ)?;
+        let answer = Text::try_new(alloc, room)?;
+        Ok(Texts { line, answer })
     }
 }
 

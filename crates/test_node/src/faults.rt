@@ -102,7 +102,10 @@ fn a_bad_record_is_told_with_its_number(rt: HostRuntime) -> Result<(), Fail> {
     for (bad, why, left) in BAD {
         let given = joined(rt.alloc(), &[PLAN, FIRST, bad, DARK])?;
         let (ending, mut source, sink) = call(rt.alloc(), NODE_2, &given, SOUND)?;
-        assert!(rt; matches!(ending, Ending::BadRecord(_, 2)) && ending.number() == 17, "{bad}");
+        assert!(rt;
+            matches!(ending, Ending::BadRecord(_, 2)) && ending.number() == 17,
+            "{bad}"
+        );
         let wanted = joined(rt.alloc(), &[IDLE, "bad record ", why, " at 2\n"])?;
         assert!(rt; sink.bytes() == wanted.as_slice(), "{bad}");
         let rest = read_all(rt.alloc(), &mut source)?;
