@@ -1,5 +1,5 @@
 -- Faults of the parts of a call.
-use Rattle.std.proofs.Common.{◌≡◌, ◌≢◌, ◌≤◌, ◌⊎◌, ℕ, List, Bool, true, refl, ap, sym, subst, ◌∙◌, inl, inr, arith}
+use Rattle.std.proofs.Common.{◌≡◌, ◌≢◌, ◌≤◌, ◌⊎◌, ℕ, List, Bool, true, refl, ap, sym, ◌∙◌, inl, inr, arith}
 use Rattle.std.specs.Prelude.{Option, Some, None, Result, Ok, Err, IsErr}
 use native.Mathlib.Nat.{le_refl}
 use Rattle.sdh_basics.specs.Causes.{IsCounted, HasCause, one_more}
@@ -13,7 +13,6 @@ use Rattle.sdh_node_cli.specs.declared.head.NoHead.{NoHead}
 use Rattle.sdh_node_cli.specs.declared.head.NoHead.TheVariants as nohead
 use Rattle.sdh_node_cli.specs.declared.stop.Stop.{Stop}
 use Rattle.sdh_node_cli.specs.declared.stop.Stop.TheVariants as stop
-use Rattle.sdh_node_cli.specs.declared.ending.Flaw.TheVariants as flaw
 use Rattle.sdh_node_cli.specs.Endings.{bench_endings}
 use Rattle.sdh_node_cli.specs.Faults.{CountsFault}
 use Rattle.sdh_node_cli.specs.Bench.{Bench}

@@ -1,16 +1,16 @@
 -- Bytes cut at their first newline byte.
-use Rattle.std.proofs.Common.{◌≡◌, ◌≢◌, ℕ, suc, ◌+◌, ◌-◌, ◌<◌, ◌≤◌, ◌⊎◌, inl, inr, List, [], ◌∷◌, ◌++◌, length, take, drop, get_or, ◌==◌, refl, ap, sym, subst, ◌∙◌, arith}
+use Rattle.std.proofs.Common.{◌≡◌, ◌≢◌, ℕ, suc, ◌+◌, ◌<◌, ◌≤◌, ◌⊎◌, inl, inr, List, [], ◌∷◌, ◌++◌, length, take, drop, get_or, ◌==◌, refl, ap, sym, ◌∙◌, arith}
 use Rattle.std.proofs.Common.{Bool, true, false, cond, not, nat_lt, position, append_assoc, take-append-drop}
-use Rattle.std.specs.Prelude.{Option, Some, None}
-use Rattle.std.specs.List.{All, position_or_len}
+use Rattle.std.specs.Prelude.{Some, None}
+use Rattle.std.specs.List.{position_or_len}
 use Rattle.std.proofs.lemmas.Bool.{eqb-true, eqb-false}
 use Rattle.std.proofs.lemmas.List.{length-append, length-take, get_or-take, take-append-le}
-use Rattle.std.proofs.lemmas.List.Elements.{All-nil, All-cons, All-append, All-from_get_or}
+use Rattle.std.proofs.lemmas.List.Elements.{All-nil, All-cons, All-from_get_or}
 use Rattle.std.proofs.lemmas.List.Quantifiers.{position-Some}
 use Rattle.std.proofs.Math.Seq.{drop-cons}
 use Rattle.sdh_shell.specs.Lines.{IsOneLine, whole_line}
 use Rattle.sdh_node_cli.specs.Streams.{fewest, IsBehind}
-use Rattle.sdh_node_cli.proofs.Long.{fewest_least, fewest_more}
+use Rattle.sdh_node_cli.proofs.Long.{fewest_more}
 
 abbrev is_newline : ℕ → Bool
 is_newline byte = byte == 10

@@ -1,7 +1,7 @@
 -- One record, by its parts.
-use Rattle.std.proofs.Common.{◌≡◌, ℕ, ◌+◌, ◌<◌, ◌≤◌, List, [], ◌∷◌, ◌++◌, length, refl, ap, sym, subst, ◌∙◌, arith, inl, inr, append-nil}
+use Rattle.std.proofs.Common.{◌≡◌, ℕ, ◌+◌, ◌≤◌, List, [], ◌∷◌, ◌++◌, length, refl, ap, sym, subst, ◌∙◌, arith, inl, inr, append-nil}
 use Rattle.std.specs.Prelude.{Option, Some, None, Result, Ok, Err}
-use Rattle.std.specs.Io.KnownBytes.{Appends, Consumes, IsAtEnd, Keeps}
+use Rattle.std.specs.Io.KnownBytes.{Appends, Consumes}
 use Rattle.std.proofs.KnownBytes.{Appends-nil, Consumes-trans, Keeps-refl}
 use Rattle.std.proofs.lemmas.List.{length-append}
 use Rattle.sdh_outside.specs.Writing.{AppendsFewer}
@@ -25,7 +25,7 @@ use Rattle.sdh_node_cli.specs.Records.{record_of}
 use Rattle.sdh_node_cli.proofs.Long.{line_long}
 use Rattle.sdh_node_cli.specs.Bench.{Bench, refusal_of, after_told, size_after, after_coming, with_arrivals, after_round, answer_to, answer_room}
 use Rattle.sdh_node_cli.specs.Streams.{Given, after_record, after, IsLine, IsBehind, IsRefusedFor, IsRefused}
-use Rattle.sdh_node_cli.specs.Turns.{room_for, ReadsLine, HasLine, Takes, TakesPart, TakesBoth, both_sizes, Ran, RanCut, StopsRound, Goes, Halts, Fails, StopsBy}
+use Rattle.sdh_node_cli.specs.Turns.{room_for, ReadsLine, HasLine, Takes, TakesPart, TakesBoth, both_sizes, Ran, RanCut, StopsRound, Goes, Halts, StopsBy}
 
 -- ---- what stays
 

@@ -1,4 +1,4 @@
-use Rattle.std.proofs.Common.{◌≡◌, ◌≤◌, ap, sym, subst, ◌∙◌, arith, refl}
+use Rattle.std.proofs.Common.{ap, subst, ◌∙◌, arith, refl}
 use native.Mathlib.Nat.{le_refl}
 use Rattle.sdh_node_cli.specs.declared.stop.Stop.{Stop}
 use Rattle.sdh_node_cli.specs.Bench.{Bench}

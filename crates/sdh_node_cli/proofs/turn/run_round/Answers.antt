@@ -1,4 +1,4 @@
-use Rattle.std.proofs.Common.{ap, sym, ◌∙◌, arith, refl}
+use Rattle.std.proofs.Common.{arith, refl}
 use Rattle.sdh_node_cli.proofs.Faults.{none_made, well_alone, no_write_part, write_not_read, err_same}
 use Rattle.sdh_node_cli.proofs.Turning.{ran_by, cut_by, part_stops, both_stay}
 use Rattle.sdh_node_cli.proofs.turn.run_round.Goals as goal

@@ -1,4 +1,4 @@
-use Rattle.std.proofs.Common.{◌≡◌, ◌≤◌, ap, sym, subst, arith}
+use Rattle.std.proofs.Common.{◌≤◌, ap, sym, subst, arith}
 use Rattle.sdh_report.specs.Written.{Written}
 use Rattle.sdh_shell.specs.Writing.{room_in}
 use Rattle.sdh_node_cli.specs.Turns.{room_for}
