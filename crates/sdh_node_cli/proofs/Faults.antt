@@ -1,10 +1,12 @@
 -- Faults of the parts of a call.
-use Rattle.std.proofs.Common.{◌≡◌, ◌≢◌, ℕ, List, Bool, true, refl, ap, sym, ◌∙◌, inl, inr}
-use Rattle.std.specs.Prelude.{Option, Some, None, Result, Err}
-use Rattle.sdh_basics.specs.Causes.{IsCounted, one_more}
+use Rattle.std.proofs.Common.{◌≡◌, ◌≢◌, ◌≤◌, ◌⊎◌, ℕ, List, Bool, true, refl, ap, sym, ◌∙◌, inl, inr, arith}
+use Rattle.std.specs.Prelude.{Option, Some, None, Result, Ok, Err, IsErr}
+use native.Mathlib.Nat.{le_refl}
+use Rattle.sdh_basics.specs.Causes.{IsCounted, HasCause, one_more}
 use Rattle.sdh_report.specs.declared.status.Status.{Status}
 use Rattle.sdh_report.specs.declared.status.Status.TheVariants as status
 use Rattle.sdh_shell.specs.Writing.{WroteEnding}
+use Rattle.sdh_node_cli.specs.declared.words.Ask.{Ask}
 use Rattle.sdh_node_cli.specs.declared.ending.Ending.{Ending}
 use Rattle.sdh_node_cli.specs.declared.ending.Ending.TheVariants as ending
 use Rattle.sdh_node_cli.specs.declared.head.NoHead.{NoHead}
@@ -12,6 +14,9 @@ use Rattle.sdh_node_cli.specs.declared.head.NoHead.TheVariants as nohead
 use Rattle.sdh_node_cli.specs.declared.stop.Stop.{Stop}
 use Rattle.sdh_node_cli.specs.declared.stop.Stop.TheVariants as stop
 use Rattle.sdh_node_cli.specs.Endings.{bench_endings}
+use Rattle.sdh_node_cli.specs.Faults.{CountsFault}
+use Rattle.sdh_node_cli.specs.Bench.{Bench}
+use Rattle.sdh_node_cli.specs.Turns.{TakesPart, Halts}
 use Rattle.sdh_node_cli.specs.Outcome.{TellsNone, RefusesHead, refusal_of, ending_of}
 
 -- where no call failed before, the count is that of what came behind
@@ -30,6 +35,97 @@ counted_before exact Fault Far a b f g x = record {
   none = λ e no. x.none e (λ fault. no (g fault));
 }
 
+-- ---- a fault and its count
+
+-- the same fault, by another name
+pub renamed : (exact : Bool) (a b : ℕ) (Fault Far : Type 0) → (Far → Fault) → (Fault → Far) → CountsFault exact a b Fault
+    → CountsFault exact a b Far
+renamed exact a b Fault Far f g x = record {
+  later = x.later;
+  rose = λ far. x.rose (f far);
+  counted = counted_before exact Fault Far a b f g x.counted;
+}
+
+-- no call failed before, and none was made behind
+pub quiet : (exact : Bool) (a b : ℕ) (Fault : Type 0) → (Fault → ⊥) → (exact ≡ true → b ≡ a) → a ≤ b → CountsFault exact a b Fault
+quiet exact a b Fault not same later = record {
+  later = later;
+  rose = λ f. absurd (not f);
+  counted = record { one = λ e f. absurd (not f); none = λ e g. same e };
+}
+
+-- none was made
+pub none_made : (exact : Bool) (n : ℕ) (Fault : Type 0) → (Fault → ⊥) → CountsFault exact n n Fault
+none_made exact n Fault not = quiet exact n n Fault not (λ e. refl) (le_refl n)
+
+-- no call failed before
+pub behind : (exact : Bool) (a b c : ℕ) (Fault : Type 0) → (exact ≡ true → b ≡ a) → a ≤ b → CountsFault exact b c Fault
+    → CountsFault exact a c Fault
+behind exact a b c Fault same later x = record {
+  later = omega (arith, later, x.later);
+  rose = λ f. omega (arith, later, x.rose f);
+  counted = counted_behind exact Fault a b c same x.counted;
+}
+
+module _ {T : Type 0} (exact : Bool) (a b : ℕ) (why : Stop) (r : Result T Stop) (x : CountsFault exact a b (r ≡ Err why)) where
+  ok_err : {v : T} → r ≡ Ok v → r ≡ Err why → ⊥
+  ok_err is e = cc
+
+  -- the part of a call that came before this one was well
+  pub well : (c : ℕ) (v : T) (Fault : Type 0) → r ≡ Ok v → CountsFault exact b c Fault → CountsFault exact a c Fault
+  well c v Fault is y = behind exact a b c Fault (λ e. x.counted.none e (ok_err is)) x.later y
+
+  -- it was, and no call was made behind it
+  pub well_alone : (v : T) (Fault : Type 0) → r ≡ Ok v → (Fault → ⊥) → CountsFault exact a b Fault
+  well_alone v Fault is not = quiet exact a b Fault not (λ e. x.counted.none e (ok_err is)) x.later
+
+  -- it was the whole call
+  pub whole : {U : Type 0} (s : Result U Stop) → (s ≡ Err why → r ≡ Err why) → (r ≡ Err why → s ≡ Err why) → CountsFault exact a b (s ≡ Err why)
+  whole s f g = renamed exact a b (r ≡ Err why) (s ≡ Err why) f g x
+
+  -- it ended the call
+  pub ended : {U : Type 0} (stop : Stop) → r ≡ Err stop → CountsFault exact a b (◌≡◌ {A = Result U Stop} (Err stop) (Err why))
+  ended {U} stop is = renamed exact a b (r ≡ Err why) (◌≡◌ {A = Result U Stop} (Err stop) (Err why)) (λ e. cc) (λ e. cc) x
+
+  pub stopped : (stop : Stop) → r ≡ Err stop → CountsFault exact a b (stop ≡ why)
+  stopped stop is = renamed exact a b (r ≡ Err why) (stop ≡ why) (λ e. cc) (λ e. cc) x
+
+-- a call of a source or a sink was well
+pub calm : {T E : Type 0} (exact : Bool) (a b : ℕ) (Fault : Type 0) (v : T) → HasCause {E = E} exact a b (Ok v) → (Fault → ⊥) → CountsFault exact a b Fault
+calm {T} {E} exact a b Fault v h not = quiet exact a b Fault not (λ e. h.counted.none e no) h.later
+  where
+    no : IsErr {T = T} {E = E} (Ok v) → ⊥
+    no e = cc
+
+-- it failed
+pub failing : {T E : Type 0} (exact : Bool) (a b : ℕ) (Fault : Type 0) (w : E) → HasCause {T = T} exact a b (Err w) → Fault → CountsFault exact a b Fault
+failing exact a b Fault w h fault = record {
+  later = h.later;
+  rose = λ f. h.failed;
+  counted = record { one = λ e f. h.counted.one e refl; none = λ e not. absurd (not fault) };
+}
+
+-- what stops before a round isn't a write
+pub no_write_part : (size : ℕ) (left now : Option (List ℕ)) (why : Stop) → TakesPart size left now why → why ≢ stop.WriteFault
+no_write_part size left now stop.WriteFault p = absurd p
+no_write_part size left now stop.Done p = λ e. cc
+no_write_part size left now stop.ReadFault p = λ e. cc
+no_write_part size left now (stop.Bad f) p = λ e. cc
+
+pub no_write_halt : (b : Bench) (left now : Option (List ℕ)) (why : Stop) → Halts b why left now → why ≢ stop.WriteFault
+no_write_halt b left now stop.WriteFault h = absurd h.1
+no_write_halt b left now stop.Done h = λ e. cc
+no_write_halt b left now stop.ReadFault h = λ e. cc
+no_write_halt b left now (stop.Bad f) h = λ e. cc
+
+pub write_not_read : {T : Type 0} (how : Stop) → how ≡ stop.WriteFault → ◌≡◌ {A = Result T Stop} (Err how) (Err stop.ReadFault) → ⊥
+write_not_read how is e = cc
+
+pub err_same : {T : Type 0} (one other : Stop) → ◌≡◌ {A = Result T Stop} (Err one) (Err other) → one ≡ other
+err_same one other e = cc
+
+-- ---- of the last line
+
 -- a read fault is no write fault, and no write fault is a usage or a lack of memory
 pub read_or_write : (end : Ending) → end ≡ ending.Shared status.ReadFault → end ≢ ending.Shared status.WriteFault
 read_or_write end e w = cc
@@ -39,6 +135,13 @@ write_or_usage e = cc
 
 pub write_or_memory : ending.Shared status.WriteFault ≢ ending.Shared status.Memory
 write_or_memory e = cc
+
+pub write_or_read : ending.Shared status.WriteFault ≢ ending.Shared status.ReadFault
+write_or_read e = cc
+
+-- there was no such node, and that is no shared status
+pub no_node_own : (end : Ending) (how : Status) → end ≡ ending.NoSuchNode → end ≢ ending.Shared how
+no_node_own end how is e = cc
 
 -- an ending that is no write fault is the one that was to be returned
 pub ended_so : (how end : Ending) (line : List ℕ) (old new : Option (List ℕ)) → WroteEnding bench_endings how line end old new
@@ -112,3 +215,28 @@ stop_own stop.Done number = (λ e. cc, λ e. cc)
 stop_own (stop.Bad f) number = (λ e. cc, λ e. cc)
 stop_own stop.ReadFault number = (λ e. cc, λ e. cc)
 stop_own stop.WriteFault number = (λ e. cc, λ e. cc)
+
+-- ---- of a call
+
+pub asked_some : (asked : Option Ask) (ask : Ask) → Some ask ≡ asked → asked ≡ None → ⊥
+asked_some asked ask is none = cc
+
+-- without memory nothing is called
+pub no_memory : (exact : Bool) (a b : ℕ) → b ≡ a → IsCounted exact (ending.Shared status.Memory ≡ ending.Shared status.WriteFault) a b
+no_memory exact a b same = record { one = λ e f. cc; none = λ e n. same }
+
+abbrev WroteUsage : Ending → List ℕ → Option (List ℕ) → Option (List ℕ) → Type 0
+WroteUsage end line old new = WroteEnding bench_endings (ending.Shared status.Usage) line end old new
+
+pub wrote_usage : (end : Ending) (line : List ℕ) (old new : Option (List ℕ)) → WroteUsage end line old new
+    → (end ≡ ending.Shared status.Usage) ⊎ (end ≡ ending.Shared status.WriteFault) ⊎ (end ≡ ending.Shared status.Memory)
+wrote_usage end line old new (inl x) = inl x.0
+wrote_usage end line old new (inr x) = inr (inl x.0)
+
+pub usage_no_read : (end : Ending) (line : List ℕ) (old new : Option (List ℕ)) → WroteUsage end line old new → end ≢ ending.Shared status.ReadFault
+usage_no_read end line old new wrote =
+    ended_not (ending.Shared status.Usage) end (ending.Shared status.ReadFault) line old new wrote (λ e. cc) (λ e. cc)
+
+pub usage_no_memory : (end : Ending) (line : List ℕ) (old new : Option (List ℕ)) → WroteUsage end line old new → end ≢ ending.Shared status.Memory
+usage_no_memory end line old new wrote =
+    ended_not (ending.Shared status.Usage) end (ending.Shared status.Memory) line old new wrote (λ e. cc) (λ e. cc)

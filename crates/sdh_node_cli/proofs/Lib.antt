@@ -5,6 +5,8 @@ pub mod Own
 pub mod Named
 pub mod EndLine
 pub mod Heads
+pub mod Long
+pub mod Newlines
 pub mod Turning
 pub mod Faults
 pub mod Told

@@ -1,5 +1,5 @@
 -- What was written, stage by stage.
-use Rattle.std.proofs.Common.{◌≡◌, ◌≢◌, ℕ, List, [], ◌++◌, refl, ap, sym, subst, ◌∙◌, inl, inr, append-nil}
+use Rattle.std.proofs.Common.{◌≡◌, ◌≢◌, ℕ, List, [], ◌++◌, refl, ap, sym, subst, inl, inr, append-nil}
 use Rattle.std.specs.Prelude.{Option, Some, None}
 use Rattle.std.specs.Io.KnownBytes.{Appends, Consumes}
 use Rattle.std.proofs.KnownBytes.{Appends-nil, Appends-trans, Consumes-trans}
@@ -22,8 +22,8 @@ use Rattle.sdh_node_cli.specs.declared.stop.Stop.{Stop}
 use Rattle.sdh_node_cli.specs.declared.stop.Stop.TheVariants as stop
 use Rattle.sdh_node_cli.specs.Endings.{line_of, bench_endings}
 use Rattle.sdh_node_cli.specs.Bench.{Bench, new_bench}
-use Rattle.sdh_node_cli.specs.Streams.{bytes_of, end_of_plan, stream_of, IsDocument}
-use Rattle.sdh_node_cli.specs.Outcome.{usage, HasHead, RefusesHead, TellsNone, refusal_of, Served, CutShort, ending_of, HasNoNode, HasServed, OfPlan, IsOutcome}
+use Rattle.sdh_node_cli.specs.Streams.{bytes_of, end_of_plan, stream_of}
+use Rattle.sdh_node_cli.specs.Outcome.{usage, HasHead, RefusesHead, TellsNone, refusal_of, Served, CutShort, ending_of, OfPlan, IsOutcome}
 use Rattle.sdh_node_cli.specs.Outcome.{IsCutPlan, MayBeCut, TellsPlanned, Tells}
 
 -- ---- endings

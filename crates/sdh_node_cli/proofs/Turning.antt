@@ -1,7 +1,7 @@
 -- One record, by its parts.
-use Rattle.std.proofs.Common.{◌≡◌, ℕ, ◌+◌, ◌<◌, ◌≤◌, List, [], ◌∷◌, ◌++◌, length, refl, ap, sym, subst, ◌∙◌, arith, inl, inr, append-nil}
+use Rattle.std.proofs.Common.{◌≡◌, ℕ, ◌+◌, ◌≤◌, List, [], ◌∷◌, ◌++◌, length, refl, ap, sym, subst, ◌∙◌, arith, inl, inr, append-nil}
 use Rattle.std.specs.Prelude.{Option, Some, None, Result, Ok, Err}
-use Rattle.std.specs.Io.KnownBytes.{Appends, Consumes, IsAtEnd, Keeps}
+use Rattle.std.specs.Io.KnownBytes.{Appends, Consumes}
 use Rattle.std.proofs.KnownBytes.{Appends-nil, Consumes-trans, Keeps-refl}
 use Rattle.std.proofs.lemmas.List.{length-append}
 use Rattle.sdh_outside.specs.Writing.{AppendsFewer}
@@ -21,9 +21,11 @@ use Rattle.sdh_node_cli.specs.declared.record.Told.{Told}
 use Rattle.sdh_node_cli.specs.declared.record.Told.TheVariants as told
 use Rattle.sdh_node_cli.specs.declared.stop.Stop.{Stop}
 use Rattle.sdh_node_cli.specs.declared.stop.Stop.TheVariants as stop
+use Rattle.sdh_node_cli.specs.Records.{record_of}
+use Rattle.sdh_node_cli.proofs.Long.{line_long}
 use Rattle.sdh_node_cli.specs.Bench.{Bench, refusal_of, after_told, size_after, after_coming, with_arrivals, after_round, answer_to, answer_room}
-use Rattle.sdh_node_cli.specs.Streams.{Given, after_record, after}
-use Rattle.sdh_node_cli.specs.Turns.{room_for, HasLine, Takes, TakesPart, TakesBoth, both_sizes, Ran, RanCut, StopsRound, Goes, Halts, Fails, StopsBy}
+use Rattle.sdh_node_cli.specs.Streams.{Given, after_record, after, IsLine, IsBehind, IsRefusedFor, IsRefused}
+use Rattle.sdh_node_cli.specs.Turns.{room_for, ReadsLine, HasLine, Takes, TakesPart, TakesBoth, both_sizes, Ran, RanCut, StopsRound, Goes, Halts, StopsBy}
 
 -- ---- what stays
 
@@ -227,6 +229,32 @@ goes_told b new line t left now text l may is = record {
 
 -- ---- where no record more is done
 
+-- a line that can't be done
+refused_line : (b : Bench) (line more : List ℕ) (why : Reason) → IsLine line → IsRefusedFor b line why → IsBehind line more
+    → {tail : List ℕ} → whole_line line ++ more ≡ tail → IsRefused b why tail
+refused_line b line more why is refused few e = record { line = line; more = more; tail_is = sym e; line_is = is; refused = refused; few = few }
+
+-- a line that is a record's: nothing was read behind it
+pub has_line : (b : Bench) (line : List ℕ) (r : Record) (left now : Option (List ℕ)) → ReadsLine line left now
+    → record_of b.circuits b.at line ≡ Ok r → HasLine b line r left now
+has_line b line r left now l reads =
+    let none : l.more ≡ [] = no_bytes l.more (omega (arith, l.few, line_long b.circuits b.at line r reads)) in
+    record {
+      line_is = l.line_is;
+      reads = reads;
+      read = subst (Consumes left now) (ap (λ m. whole_line line ++ m) none ∙ append-nil (whole_line line)) l.read;
+    }
+  where
+    no_bytes : (bytes : List ℕ) → length bytes ≡ 0 → bytes ≡ []
+    no_bytes [] e = refl
+    no_bytes (x ∷ bytes) e = absurd (omega arith)
+
+-- a line that is none
+pub no_record : (b : Bench) (line : List ℕ) (why : Reason) (left now : Option (List ℕ)) → ReadsLine line left now
+    → record_of b.circuits b.at line ≡ Err why → Halts b (stop.Bad (flaw.Said why)) left now
+no_record b line why left now l reads =
+    (whole_line line ++ l.more, (refused_line b line l.more why l.line_is (inl reads) l.few refl, tt), l.read)
+
 pub line_stops : (b : Bench) (why : Stop) (left now text : Option (List ℕ)) → Halts b why left now → StopsBy b why left now text text
 line_stops b stop.Done left now text h = (h, Keeps-refl text)
 line_stops b (stop.Bad f) left now text h = (h, Keeps-refl text)
@@ -235,8 +263,10 @@ line_stops b stop.WriteFault left now text h = absurd h.1
 
 pub told_stops : (b : Bench) (line : List ℕ) (t : Told) (why : Reason) (left now text : Option (List ℕ)) → HasLine b line (what.Told t) left now
     → refusal_of b t ≡ Some why → StopsBy b (stop.Bad (flaw.Said why)) left now text text
-told_stops b line t why left now text l refused =
-    ((whole_line line, ((line, refl, l.line_is, inr (what.Told t, l.reads, refused)), tt), l.read), Keeps-refl text)
+told_stops b line t why left now text l refused = (
+  (whole_line line, (refused_line b line [] why l.line_is (inr (what.Told t, l.reads, refused)) (omega arith) (append-nil (whole_line line)), tt), l.read),
+  Keeps-refl text,
+)
 
 pub round_stops : (b : Bench) (line : List ℕ) (west east : Came) (why : Stop) (left mid now old_text new_text : Option (List ℕ))
     → HasLine b line (what.Round west east) left mid → StopsRound b west east why mid now old_text new_text

@@ -1,5 +1,5 @@
 -- The bytes of a stream tell its records.
-use Rattle.std.proofs.Common.{◌≡◌, ◌≢◌, ℕ, ◌+◌, ◌<◌, ◌≤◌, List, [], ◌∷◌, ◌++◌, length, drop, get_or, refl, ap, sym, subst, ◌∙◌, arith, ◌⊎◌, inl, inr, append_assoc}
+use Rattle.std.proofs.Common.{◌≡◌, ◌≢◌, ℕ, ◌≤◌, List, [], ◌∷◌, ◌++◌, length, drop, get_or, refl, ap, sym, subst, ◌∙◌, arith, ◌⊎◌, inl, inr, append_assoc}
 use Rattle.std.specs.Prelude.{Option, Some, None, Result, Ok, Err}
 use Rattle.std.proofs.lemmas.List.{length-append}
 use Rattle.std.proofs.lemmas.List.Elements.{All-head, All-tail, All-get_or}
@@ -13,7 +13,7 @@ use Rattle.sdh_node_cli.specs.declared.stop.Stop.TheVariants as stop
 use Rattle.sdh_node_cli.specs.Records.{record_of}
 use Rattle.sdh_node_cli.specs.Bench.{Bench, size_after}
 use Rattle.sdh_node_cli.specs.Streams.{Given, IsGiven, west_of, east_of, refusal, bytes_of, after, AreGiven, after_all, stream_of}
-use Rattle.sdh_node_cli.specs.Streams.{IsLine, IsRefusedFor, IsCutLine, IsCutFrame}
+use Rattle.sdh_node_cli.specs.Streams.{IsLine, IsRefusedFor, IsRefused, IsCutLine, IsCutFrame}
 use Rattle.sdh_node_cli.specs.Turns.{StopsSo}
 use Rattle.sdh_node_cli.specs.Outcome.{StopsAfter}
 use Rattle.sdh_node_cli.specs.Laws.{RecordsAreTold}
@@ -115,13 +115,15 @@ no_line b g x tail one e =
     never_whole g.line ((g.west ++ g.east) ++ x) tail one (sym (opened g.line (g.west ++ g.east) x) ∙ e)
 
 -- one that can't be done
-no_refused : (b : Bench) (g : Given) (x tail line : List ℕ) (why : Reason) → IsGiven b g → tail ≡ whole_line line → IsLine line
-    → IsRefusedFor b line why → bytes_of g ++ x ≡ tail → ⊥
-no_refused b g x tail line why p is one because e = by because
+no_refused : (b : Bench) (g : Given) (x tail : List ℕ) (why : Reason) → IsGiven b g → IsRefused b why tail → bytes_of g ++ x ≡ tail → ⊥
+no_refused b g x tail why p n e = by n.refused
   where
+    line : List ℕ
+    line = n.line
+
     same : g.line ≡ line
-    same = (lines_same g.line line ((g.west ++ g.east) ++ x) [] p.said.line_is.one one.one
-        (sym (opened g.line (g.west ++ g.east) x) ∙ e ∙ is)).0
+    same = (lines_same g.line line ((g.west ++ g.east) ++ x) n.more p.said.line_is.one n.line_is.one
+        (sym (opened g.line (g.west ++ g.east) x) ∙ e ∙ n.tail_is ∙ append_assoc line (10 ∷ []) n.more)).0
 
     by : IsRefusedFor b line why → ⊥
     by (inl err) = ok_err (record_of b.circuits b.at g.line) g.record_is why p.said.reads (ap (record_of b.circuits b.at) same ∙ err)
@@ -140,7 +142,7 @@ no_stop b g x tail stop.Done now p s e =
       length-append (whole_line g.line) (g.west ++ g.east),
       length-append g.line (10 ∷ []),
     )
-no_stop b g x tail (stop.Bad (flaw.Said why)) now p s e = no_refused b g x tail s.0.0 why p s.0.1 s.0.2 s.0.3 e
+no_stop b g x tail (stop.Bad (flaw.Said why)) now p s e = no_refused b g x tail why p s.0 e
 no_stop b g x tail (stop.Bad flaw.Cut) now p s e = by s.0
   where
     by : IsCutLine tail ⊎ IsCutFrame b tail → ⊥

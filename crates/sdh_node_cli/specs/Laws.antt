@@ -1,8 +1,13 @@
--- The law of streams.
-use Rattle.std.specs.Prelude.{◌≡◌, ℕ, List, ◌++◌, Option}
+-- The laws of streams.
+use Rattle.std.specs.Prelude.{◌≡◌, ℕ, ◌≤◌, List, ◌++◌, length, Option, Ok}
+use Rattle.sdh_ringmap.specs.declared.Pos.{Pos}
+use Rattle.sdh_circuits.specs.Provisioned.{Provisioned}
+use Rattle.sdh_shell.specs.Lines.{whole_line}
+use Rattle.sdh_node_cli.specs.declared.record.Record.{Record}
 use Rattle.sdh_node_cli.specs.declared.stop.Stop.{Stop}
+use Rattle.sdh_node_cli.specs.Records.{record_of}
 use Rattle.sdh_node_cli.specs.Bench.{Bench}
-use Rattle.sdh_node_cli.specs.Streams.{Given, AreGiven, stream_of}
+use Rattle.sdh_node_cli.specs.Streams.{Given, AreGiven, stream_of, fewest}
 use Rattle.sdh_node_cli.specs.Outcome.{StopsAfter}
 
 -- Where bytes were read up to a record that wasn't done, they alone tell which records were done, and what was read
@@ -12,3 +17,10 @@ RecordsAreTold =
     (b : Bench) (one other : List Given) (first second : List ℕ) (why how : Stop) (left now : Option (List ℕ))
     → AreGiven b one → AreGiven b other → StopsAfter b one why first left → StopsAfter b other how second now
     → stream_of one ++ first ≡ stream_of other ++ second → (one ≡ other) × (first ≡ second)
+
+-- A record has at least the fewest bytes of each front of its line. So where as many are asked for as are lacking to
+-- them, no record that can still come lacks one of those, and none behind a record is asked for.
+abbrev pub RecordsAreLong : Type 0
+RecordsAreLong =
+    (circuits : List Provisioned) (at : Pos) (front rest : List ℕ) (r : Record) → record_of circuits at (front ++ rest) ≡ Ok r
+    → fewest front ≤ length (whole_line (front ++ rest))

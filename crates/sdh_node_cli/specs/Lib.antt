@@ -1,4 +1,5 @@
 pub mod Words
+pub mod Faults
 pub mod Endings
 pub mod Records
 pub mod Bench

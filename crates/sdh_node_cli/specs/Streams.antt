@@ -1,5 +1,6 @@
 -- Which bytes a stream has, and what comes of it: a plan, a line that ends it, and then records.
-use Rattle.std.specs.Prelude.{◌≡◌, ◌⊎◌, ℕ, ◌+◌, ◌<◌, ◌≤◌, List, [], ◌∷◌, ◌++◌, length, codes, Option, Some, None, Ok, Err}
+use Rattle.std.specs.Prelude.{◌≡◌, ◌⊎◌, ℕ, ◌+◌, ◌-◌, ◌<◌, ◌≤◌, ◌==◌, if◌then◌else◌, List, [], ◌∷◌, ◌++◌, length, slice_index, codes}
+use Rattle.std.specs.Prelude.{Option, Some, None, Ok, Err}
 use Rattle.std.specs.List.{flat_map}
 use Rattle.std.specs.Io.KnownBytes.{IsAtEnd}
 use Rattle.sdh_shell.specs.Lines.{IsOneLine, whole_line}
@@ -121,6 +122,19 @@ stream_of gs = flat_map bytes_of gs
 abbrev pub records_max : ℕ
 records_max = 4294967295
 
+-- ---- how long a record is at least
+
+-- The fewest bytes that a record has, with its newline byte, whose line begins with these. None has fewer than 7, as
+-- `hold 1`. A line that begins with `r` is that of a round: none has fewer than 16, as `round none none`, and none
+-- fewer than 17 where its seventh byte is `f`, as `round frame none`.
+unfoldable pub fewest : List ℕ → ℕ
+fewest front = if slice_index front 0 == 114 then if slice_index front 6 == 102 then 17 else 16 else 7
+
+-- What was read after the newline byte of a line: at most the bytes that it lacks to the fewest of a record that begins
+-- as it does.
+abbrev pub IsBehind : List ℕ → List ℕ → Type 0
+IsBehind line more = length more ≤ fewest line - length (whole_line line)
+
 -- ---- where they end
 
 -- the line can't be done for this reason: it is no record, or the node can't do it
@@ -146,9 +160,18 @@ pub record IsCutFrame (b : Bench) (tail : List ℕ) : Type 0 where
 abbrev pub IsPart : Bench → List ℕ → Type 0
 IsPart b tail = IsLine tail ⊎ IsCutFrame b tail
 
+-- a line that can't be done for this reason, and what was read after its newline byte
+pub record IsRefused (b : Bench) (why : Reason) (tail : List ℕ) : Type 0 where
+  pub line : List ℕ
+  pub more : List ℕ
+  pub tail_is : tail ≡ whole_line line ++ more
+  pub line_is : IsLine line
+  pub refused : IsRefusedFor b line why
+  pub few : IsBehind line more
+
 -- what was read of a record that can't be done
 abbrev pub IsFlawed : Bench → Flaw → List ℕ → Type 0
-IsFlawed b (flaw.Said why) tail = (line : List ℕ) × (tail ≡ whole_line line) × IsLine line × IsRefusedFor b line why
+IsFlawed b (flaw.Said why) tail = IsRefused b why tail
 IsFlawed b flaw.Cut tail = IsCutLine tail ⊎ IsCutFrame b tail
 IsFlawed b flaw.Long tail = IsOneLine tail × (length tail ≡ 65)
 IsFlawed b flaw.Many tail = ⊥

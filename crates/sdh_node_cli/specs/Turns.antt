@@ -2,21 +2,47 @@
 use Rattle.std.specs.Prelude.{ℕ, ◌≡◌, ◌+◌, ◌<◌, List, [], ◌++◌, length, Option, Ok}
 use Rattle.std.specs.Io.KnownBytes.{Appends, Consumes, IsAtEnd, Keeps}
 use Rattle.sdh_outside.specs.Writing.{AppendsFewer}
-use Rattle.sdh_shell.specs.Lines.{whole_line}
+use Rattle.sdh_shell.specs.Lines.{IsOneLine, whole_line}
+use Rattle.sdh_shell.specs.declared.lines.LineEnd.{LineEnd}
+use Rattle.sdh_shell.specs.declared.lines.LineEnd.TheVariants as end
 use Rattle.sdh_node_cli.specs.declared.ending.Flaw.TheVariants as flaw
+use Rattle.sdh_node_cli.specs.declared.line.Got.{Got}
+use Rattle.sdh_node_cli.specs.declared.line.Got.TheVariants as got
 use Rattle.sdh_node_cli.specs.declared.record.Came.{Came}
 use Rattle.sdh_node_cli.specs.declared.record.Record.{Record}
 use Rattle.sdh_node_cli.specs.declared.stop.Stop.{Stop}
 use Rattle.sdh_node_cli.specs.declared.stop.Stop.TheVariants as stop
 use Rattle.sdh_node_cli.specs.Records.{record_of}
 use Rattle.sdh_node_cli.specs.Bench.{Bench, size_after, with_arrivals, after_round, answer_to, answer_room}
-use Rattle.sdh_node_cli.specs.Streams.{IsLine, Given, IsGiven, bytes_of, after, answer, IsPart, IsFlawed, EndsIf}
+use Rattle.sdh_node_cli.specs.Streams.{IsBehind, IsLine, Given, IsGiven, bytes_of, after, answer, IsPart, IsFlawed, EndsIf}
 
 -- room enough for an answer of a bench
 abbrev pub room_for : Bench → ℕ
 room_for b = answer_room b.node.settings.rate (length b.circuits)
 
 -- ---- a line
+
+-- What one read of a line took, where `old` had come of it before and `new` has come of it now: a part of it; the rest
+-- of it, with its newline byte; or nothing, since the source has ended.
+abbrev pub TakesMore : Option (List ℕ) → Option (List ℕ) → List ℕ → List ℕ → Got → Type 0
+TakesMore left now old new got.Part = (bytes : List ℕ) × (0 < length bytes) × IsOneLine bytes × Consumes left now bytes × (new ≡ old ++ bytes)
+TakesMore left now old new got.Rest =
+    (bytes : List ℕ) × (more : List ℕ) × IsOneLine bytes × Consumes left now (whole_line bytes ++ more) × (new ≡ old ++ bytes) × IsBehind new more
+TakesMore left now old new got.End = Consumes left now [] × IsAtEnd now × (new ≡ old)
+
+-- What was taken of the line of a record, and why no more: it is whole, and its newline byte was taken too, with few
+-- bytes behind it; the source has ended; or there is no room for more of it.
+abbrev pub TakesRecord : Option (List ℕ) → Option (List ℕ) → List ℕ → LineEnd → Type 0
+TakesRecord left now line end.Whole = IsOneLine line × ((more : List ℕ) × Consumes left now (whole_line line ++ more) × IsBehind line more)
+TakesRecord left now line end.Ended = IsOneLine line × Consumes left now line × IsAtEnd now
+TakesRecord left now line end.Full = IsOneLine line × Consumes left now line
+
+-- a line was read, and few bytes behind it
+pub record ReadsLine (line : List ℕ) (left now : Option (List ℕ)) : Type 0 where
+  pub line_is : IsLine line
+  pub more : List ℕ
+  pub read : Consumes left now (whole_line line ++ more)
+  pub few : IsBehind line more
 
 -- a line was read, and it is that of a record
 pub record HasLine (b : Bench) (line : List ℕ) (r : Record) (left now : Option (List ℕ)) : Type 0 where

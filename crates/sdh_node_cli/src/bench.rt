@@ -1,10 +1,10 @@
 //! A node on the bench.
 ghost use Rattle.std.specs.Prelude.{◌≡◌, ℕ, ◌+◌, ◌*◌, ◌^◌, ◌<◌, ◌≤◌, ◌++◌, List, [], Err, IfOk, IfErr, OnOk, OnErr, length};
 ghost use Rattle.std.specs.Io.KnownBytes.{Consumes};
-ghost use Rattle.sdh_basics.specs.Causes.{Rose, IsCounted};
 ghost use Rattle.sdh_frame.specs.Sizes.{size_of};
 ghost use Rattle.sdh_plan.specs.Check.{unless};
 ghost use Rattle.sdh_shell.specs.Writing.{room_in};
+ghost use Rattle.sdh_node_cli.specs.Faults.{CountsFault};
 ghost use Rattle.sdh_node_cli.specs.Records.{record_of, IsTold, IsRecord};
 ghost use Rattle.sdh_node_cli.specs.Turns.{TakesPart};
 ghost use Rattle.sdh_node_cli.specs.declared.record.Came.TheVariants as came;
@@ -137,9 +137,7 @@ impl Bench {
             × Consumes (R.left source.old) (R.left source.new) bytes
             × (self.new ≡ record self.old { node = after_coming side came.Frame bytes self.old.node })) }
         ensures part { IfErr result (TakesPart (size_of self.old.node.settings.rate) (R.left source.old) (R.left source.new)) }
-        ensures fault { result ≡ Err Stop.ReadFault → Rose (R.faults source.old) (R.faults source.new) }
-        ensures later { R.faults source.old ≤ R.faults source.new }
-        ensures counted { IsCounted R.exact (result ≡ Err Stop.ReadFault) (R.faults source.old) (R.faults source.new) }
+        ensures reads { CountsFault R.exact (R.faults source.old) (R.faults source.new) (result ≡ Err Stop.ReadFault) }
     {
         read_frame(source, &mut self.west)?;
         self.node.receive(side, Arrived::Frame, &self.west);
@@ -185,9 +183,7 @@ fn read_frame<R: Source>(source: &mut R, frame: &mut FrameBuf) -> Result<(), Sto
     ensures full { length frame.new.bytes ≡ size_of frame.old.rate }
     ensures ok { OnOk result (Consumes (R.left source.old) (R.left source.new) frame.new.bytes) }
     ensures part { IfErr result (TakesPart (size_of frame.old.rate) (R.left source.old) (R.left source.new)) }
-    ensures fault { result ≡ Err Stop.ReadFault → Rose (R.faults source.old) (R.faults source.new) }
-    ensures later { R.faults source.old ≤ R.faults source.new }
-    ensures counted { IsCounted R.exact (result ≡ Err Stop.ReadFault) (R.faults source.old) (R.faults source.new) }
+    ensures reads { CountsFault R.exact (R.faults source.old) (R.faults source.new) (result ≡ Err Stop.ReadFault) }
 {
     let size = frame.bytes().len();
     let filled = fill(source, frame.bytes_mut());

@@ -19,7 +19,7 @@ const END_OF_PLAN: &[u8] = b"end of plan\n";
 const HEAD_MAX: usize = 1_048_588;
 
 /// Why there is no plan.
-#[derive(Clone, Copy, Debug, PartialEq, Eq)]
+#[derive(Clone, Copy)]
 pub enum NoHead {
     /// There was no memory.
     Memory,
@@ -30,7 +30,7 @@ pub enum NoHead {
 }
 
 /// Why no more of it was read.
-#[derive(Clone, Copy, Debug, PartialEq, Eq)]
+#[derive(Clone, Copy)]
 enum HeadEnd {
     /// The line that ends it was read.
     Whole,

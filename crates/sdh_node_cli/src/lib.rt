@@ -6,12 +6,13 @@
 //! stream of records has `specs/Streams.antt`, and what a call comes to `Tells` in `specs/Outcome.antt`.
 #![tactic(auto)]
 
-ghost use Rattle.sdh_node_cli.specs.Laws.{RecordsAreTold};
+ghost use Rattle.sdh_node_cli.specs.Laws.{RecordsAreLong, RecordsAreTold};
 
 mod answer;
 mod bench;
 mod ending;
 mod head;
+mod line;
 mod record;
 mod serving;
 mod stop;
@@ -26,4 +27,10 @@ pub use top::sdhnode;
 /// determined by what was read.
 pub fn records_are_told()
     ensures { RecordsAreTold }
+{}
+
+/// A record has at least as many bytes as are asked for once a part of its line has come. So no byte behind a record is
+/// asked for before the record is done.
+pub fn records_are_long()
+    ensures { RecordsAreLong }
 {}

@@ -12,7 +12,7 @@ use sdh_request::{Command, Moment};
 use sdh_ringmap::{Pos, Side};
 
 /// What came on a side of the node since its last round.
-#[derive(Clone, Copy, Debug, PartialEq, Eq)]
+#[derive(Clone, Copy)]
 pub enum Came {
     /// Nothing is known of the side yet.
     Nothing,
@@ -23,7 +23,7 @@ pub enum Came {
 }
 
 /// What is told to the node between rounds.
-#[derive(Clone, Copy, Debug, PartialEq, Eq)]
+#[derive(Clone, Copy)]
 pub enum Told {
     /// A side gets a command, in place of the one before.
     Command(Side, Command),
@@ -36,7 +36,7 @@ pub enum Told {
 }
 
 /// A record of a stream.
-#[derive(Clone, Copy, Debug, PartialEq, Eq)]
+#[derive(Clone, Copy)]
 pub enum Record {
     /// Something is told to the node.
     Told(Told),

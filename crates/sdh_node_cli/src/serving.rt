@@ -1,8 +1,8 @@
 //! The records of a stream, one after the other.
 ghost use Rattle.std.specs.Prelude.{◌≡◌, ◌≢◌, ◌<◌, ◌≤◌, ◌^◌, [], List, ℕ, length};
 ghost use Rattle.std.specs.Io.KnownBytes.{Appends};
-ghost use Rattle.sdh_basics.specs.Causes.{Rose, IsCounted};
 ghost use Rattle.sdh_shell.specs.Writing.{room_in};
+ghost use Rattle.sdh_node_cli.specs.Faults.{CountsFault};
 ghost use Rattle.sdh_node_cli.specs.Turns.{room_for};
 ghost use Rattle.sdh_node_cli.specs.Outcome.{Served, CutShort};
 
@@ -16,7 +16,7 @@ use sdh_outside::{Sink, Source};
 const RECORDS_MAX: u64 = 4_294_967_295;
 
 /// Why no record more was done, and the number of the next one, counted from 1.
-#[derive(Clone, Copy, Debug, PartialEq, Eq)]
+#[derive(Clone, Copy)]
 pub struct Stopped {
     pub stop: Stop,
     pub number: u64,
@@ -37,11 +37,8 @@ pub fn serve<R: Source, W: Sink>(
         × Appends (W.written sink.old) (W.written sink.new) text }
     ensures cut { result.stop ≡ Stop.WriteFault
         → CutShort bench.old [] (R.left source.old) (R.left source.new) (W.written sink.old) (W.written sink.new) }
-    ensures read { result.stop ≡ Stop.ReadFault → Rose (R.faults source.old) (R.faults source.new) }
-    ensures broke { result.stop ≡ Stop.WriteFault → Rose (W.faults sink.old) (W.faults sink.new) }
-    ensures reads { IsCounted R.exact (result.stop ≡ Stop.ReadFault) (R.faults source.old) (R.faults source.new) }
-    ensures writes { IsCounted W.exact (result.stop ≡ Stop.WriteFault) (W.faults sink.old) (W.faults sink.new) }
-    ensures later { (R.faults source.old ≤ R.faults source.new) × (W.faults sink.old ≤ W.faults sink.new) }
+    ensures reads { CountsFault R.exact (R.faults source.old) (R.faults source.new) (result.stop ≡ Stop.ReadFault) }
+    ensures writes { CountsFault W.exact (W.faults sink.old) (W.faults sink.new) (result.stop ≡ Stop.WriteFault) }
 {
     for done in 0..RECORDS_MAX {
         match turn(bench, texts, source, sink) {

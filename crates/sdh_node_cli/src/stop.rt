@@ -3,7 +3,7 @@
 use crate::ending::Flaw;
 
 /// Why no record more is done.
-#[derive(Clone, Copy, Debug, PartialEq, Eq)]
+#[derive(Clone, Copy)]
 pub enum Stop {
     /// The source has ended.
     Done,

@@ -1,14 +1,20 @@
 //! The program's call.
 ghost use Rattle.std.specs.Prelude.{◌≡◌, ◌≢◌, ◌⊎◌, ◌≤◌, [], None, Some, IfOk, OnErr};
 ghost use Rattle.sdh_basics.specs.Causes.{Rose, IsCounted};
+ghost use Rattle.sdh_ringmap.specs.declared.Pos.{Pos};
+ghost use Rattle.sdh_ringmap.specs.Places.{found_at};
+ghost use Rattle.sdh_plan.specs.Planned.{Planned};
 ghost use Rattle.sdh_report.specs.Lines.{own_line};
 ghost use Rattle.sdh_report.specs.declared.status.Status.{Status};
 ghost use Rattle.sdh_shell.specs.Calls.{words_of};
 ghost use Rattle.sdh_shell.specs.Writing.{WroteEnding};
 ghost use Rattle.sdh_node_cli.specs.Endings.{bench_endings};
 ghost use Rattle.sdh_node_cli.specs.Words.{asked};
+ghost use Rattle.sdh_node_cli.specs.Faults.{CountsFault};
+ghost use Rattle.sdh_node_cli.specs.Bench.{new_bench};
 ghost use Rattle.sdh_node_cli.specs.Outcome.{usage, ending_of, refusal_of, TellsPlanned, Tells};
 ghost use Rattle.sdh_node_cli.specs.declared.ending.Ending.{Ending};
+ghost use Rattle.sdh_node_cli.specs.declared.words.Ask.{Ask};
 
 use crate::bench::Bench;
 use crate::ending::{Ending, Flaw};
@@ -46,8 +52,37 @@ fn refusal_of(why: NoHead) -> Option<Ending>
     }
 }
 
-// Runs a node of a plan's ring over the records of a source, and writes its answers and the last line. Returns how it
-// ended.
+// Runs a new node over the records of a source, and writes its answers and the last line, for which the text is room.
+// Returns how it ended.
+fn answer_records<R: Source, W: Sink>(
+    alloc: Global,
+    bench: &mut Bench,
+    text: Text,
+    source: &mut R,
+    sink: &mut W,
+) -> Result<Ending, AllocError>
+    requires fresh { bench.old.node.rounds ≡ 0 }
+    requires empty { text.bytes ≡ [] }
+    requires room { 96 ≤ text.room }
+    ensures outcome { IfOk result (λ how. (ask : Ask) (plan : Planned) (at : Pos) → found_at plan.nodes ask.id ≡ Some at
+        → bench.old ≡ new_bench ask.mode ask.id at plan
+        → TellsPlanned ask plan [] (R.left source.old) (R.left source.new) how (W.written sink.old) (W.written sink.new)) }
+    ensures reads { IfOk result (λ how. how ≢ Ending.Shared Status.WriteFault
+        → CountsFault R.exact (R.faults source.old) (R.faults source.new) (how ≡ Ending.Shared Status.ReadFault)) }
+    ensures writes { IfOk result (λ how. CountsFault W.exact (W.faults sink.old) (W.faults sink.new) (how ≡ Ending.Shared Status.WriteFault)) }
+    ensures own { IfOk result (λ how. (how ≢ Ending.Shared Status.Usage) × (how ≢ Ending.Shared Status.Memory)) }
+    ensures later { (R.faults source.old ≤ R.faults source.new) × (W.faults sink.old ≤ W.faults sink.new) }
+    ensures memory { OnErr result (sink.new ≡ sink.old) }
+{
+    let mut texts = Texts::try_new(alloc, bench)?;
+    let stopped = serve(bench, &mut texts, source, sink);
+    match stopped.stop {
+        Stop::WriteFault => Ok(Ending::Shared(Status::WriteFault)),
+        _ => Ok(write_ended(sink, ended(ending_of(stopped), text))),
+    }
+}
+
+// Finds the node that is asked for in a plan's ring, and runs it over the records of a source. Returns how it ended.
 fn answer_plan<R: Source, W: Sink>(
     alloc: Global,
     plan: Plan,
@@ -57,12 +92,9 @@ fn answer_plan<R: Source, W: Sink>(
 ) -> Result<Ending, AllocError>
     ensures outcome { IfOk result (λ how. TellsPlanned ask plan [] (R.left source.old) (R.left source.new) how (W.written sink.old)
         (W.written sink.new)) }
-    ensures read { IfOk result (λ how. how ≡ Ending.Shared Status.ReadFault → Rose (R.faults source.old) (R.faults source.new)) }
-    ensures broke { IfOk result (λ how. how ≡ Ending.Shared Status.WriteFault → Rose (W.faults sink.old) (W.faults sink.new)) }
     ensures reads { IfOk result (λ how. how ≢ Ending.Shared Status.WriteFault
-        → IsCounted R.exact (how ≡ Ending.Shared Status.ReadFault) (R.faults source.old) (R.faults source.new)) }
-    ensures writes { IfOk result
-        (λ how. IsCounted W.exact (how ≡ Ending.Shared Status.WriteFault) (W.faults sink.old) (W.faults sink.new)) }
+        → CountsFault R.exact (R.faults source.old) (R.faults source.new) (how ≡ Ending.Shared Status.ReadFault)) }
+    ensures writes { IfOk result (λ how. CountsFault W.exact (W.faults sink.old) (W.faults sink.new) (how ≡ Ending.Shared Status.WriteFault)) }
     ensures own { IfOk result (λ how. (how ≢ Ending.Shared Status.Usage) × (how ≢ Ending.Shared Status.Memory)) }
     ensures later { (R.faults source.old ≤ R.faults source.new) × (W.faults sink.old ≤ W.faults sink.new) }
     ensures memory { OnErr result (sink.new ≡ sink.old) }
@@ -72,12 +104,7 @@ fn answer_plan<R: Source, W: Sink>(
         return Ok(write_ended(sink, ended(Ending::NoSuchNode, text)));
     };
     let mut bench = Bench::try_new(alloc, plan, ask, at)?;
-    let mut texts = Texts::try_new(alloc, &bench)?;
-    let stopped = serve(&mut bench, &mut texts, source, sink);
-    match stopped.stop {
-        Stop::WriteFault => Ok(Ending::Shared(Status::WriteFault)),
-        _ => Ok(write_ended(sink, ended(ending_of(stopped), text))),
-    }
+    answer_records(alloc, &mut bench, text, source, sink)
 }
 
 // Returns what is asked for, with the stream that a source has.
@@ -89,12 +116,9 @@ fn answer<R: Source, W: Sink>(
 ) -> Result<Ending, AllocError>
     ensures outcome { IfOk result (λ how. Tells (Some ask) (R.left source.old) (R.left source.new) how (W.written sink.old)
         (W.written sink.new)) }
-    ensures read { IfOk result (λ how. how ≡ Ending.Shared Status.ReadFault → Rose (R.faults source.old) (R.faults source.new)) }
-    ensures broke { IfOk result (λ how. how ≡ Ending.Shared Status.WriteFault → Rose (W.faults sink.old) (W.faults sink.new)) }
     ensures reads { IfOk result (λ how. how ≢ Ending.Shared Status.WriteFault
-        → IsCounted R.exact (how ≡ Ending.Shared Status.ReadFault) (R.faults source.old) (R.faults source.new)) }
-    ensures writes { IfOk result
-        (λ how. IsCounted W.exact (how ≡ Ending.Shared Status.WriteFault) (W.faults sink.old) (W.faults sink.new)) }
+        → CountsFault R.exact (R.faults source.old) (R.faults source.new) (how ≡ Ending.Shared Status.ReadFault)) }
+    ensures writes { IfOk result (λ how. CountsFault W.exact (W.faults sink.old) (W.faults sink.new) (how ≡ Ending.Shared Status.WriteFault)) }
     ensures own { IfOk result (λ how. (how ≢ Ending.Shared Status.Usage) × (how ≢ Ending.Shared Status.Memory)) }
     ensures later { (R.faults source.old ≤ R.faults source.new) × (W.faults sink.old ≤ W.faults sink.new) }
     ensures memory { OnErr result (sink.new ≡ sink.old) }
@@ -114,9 +138,7 @@ fn answer<R: Source, W: Sink>(
 fn usage<W: Sink>(alloc: Global, sink: &mut W) -> Result<Ending, AllocError>
     ensures wrote { IfOk result
         (λ how. WroteEnding bench_endings (Ending.Shared Status.Usage) (own_line usage) how (W.written sink.old) (W.written sink.new)) }
-    ensures broke { IfOk result (λ how. how ≡ Ending.Shared Status.WriteFault → Rose (W.faults sink.old) (W.faults sink.new)) }
-    ensures writes { IfOk result
-        (λ how. IsCounted W.exact (how ≡ Ending.Shared Status.WriteFault) (W.faults sink.old) (W.faults sink.new)) }
+    ensures writes { IfOk result (λ how. CountsFault W.exact (W.faults sink.old) (W.faults sink.new) (how ≡ Ending.Shared Status.WriteFault)) }
     ensures later { W.faults sink.old ≤ W.faults sink.new }
     ensures memory { OnErr result (sink.new ≡ sink.old) }
 {
@@ -161,7 +183,7 @@ pub fn sdhnode<R: Source, W: Sink>(
             Err(AllocError) => Ending::Shared(Status::Memory),
         },
         None => match usage(alloc, sink) {
-            Ok(ending) => ending,
+            Ok(how) => how,
             Err(AllocError) => Ending::Shared(Status::Memory),
         },
     }

@@ -1,21 +1,21 @@
 //! One record, and what is written for it.
-ghost use Rattle.std.specs.Prelude.{◌≡◌, ◌^◌, ◌<◌, ◌≤◌, ◌+◌, List, ℕ, [], Err, IfOk, IfErr, OnOk, OnErr, IsErr, length};
+ghost use Rattle.std.specs.Prelude.{◌≡◌, ◌^◌, ◌<◌, ◌≤◌, ◌+◌, List, ℕ, [], Err, IfOk, IfErr, OnOk, OnErr, length};
 ghost use Rattle.std.specs.Io.KnownBytes.{Appends};
-ghost use Rattle.sdh_basics.specs.Causes.{Rose, IsCounted};
 ghost use Rattle.sdh_outside.specs.Writing.{AppendsFewer};
 ghost use Rattle.sdh_shell.specs.Writing.{room_in};
+ghost use Rattle.sdh_node_cli.specs.Faults.{CountsFault};
 ghost use Rattle.sdh_node_cli.specs.Records.{IsRecord};
 ghost use Rattle.sdh_node_cli.specs.Bench.{after_coming, size_after, after_round, answer_to};
 ghost use Rattle.sdh_node_cli.specs.Turns.{room_for, HasLine, Takes, TakesPart, TakesBoth, both_sizes, Ran, StopsRound, Goes, Halts, StopsBy};
 
 use crate::bench::Bench;
 use crate::ending::Flaw;
+use crate::line::next_line;
 use crate::record::{Came, Record};
 use crate::stop::Stop;
 use sdh_outside::{Sink, Source, write_text};
 use sdh_report::Text;
 use sdh_ringmap::Side;
-use sdh_shell::{LineEnd, read_line};
 use std::alloc::{AllocError, Global};
 
 /// The most bytes that are read of a line: 64, and one more that is to be its newline byte.
@@ -34,34 +34,29 @@ impl Texts {
         ensures line { IfOk result (λ texts. room_in texts.line ≡ 65) }
         ensures answer { IfOk result (λ texts. room_for bench.now ≤ room_in texts.answer) }
     {
-        Ok(Texts {
-            line: Text::try_new(alloc, LINE_READ)?,
-            answer: Text::try_new(alloc, bench.answer_room())?,
-        })
+        let room = bench.answer_room();
+        let line = Text::try_new(alloc, LINE_READ)?;
+        let answer = Text::try_new(alloc, room)?;
+        Ok(Texts { line, answer })
     }
 }
 
 // Reads the line of the next record into an empty text, and returns the record.
 fn next_record<R: Source>(bench: &Bench, line: &mut Text, source: &mut R) -> Result<Record, Stop>
     requires empty { line.old.bytes ≡ [] }
-    requires room { line.old.room ≡ 65 }
+    requires room { room_in line.old ≡ 65 }
     ensures line { IfOk result (λ r. HasLine bench.now line.new.bytes r (R.left source.old) (R.left source.new)) }
     ensures form { IfOk result (IsRecord bench.now.circuits bench.now.at) }
     ensures stop { IfErr result (λ why. Halts bench.now why (R.left source.old) (R.left source.new)) }
     ensures room { room_in line.new ≡ 65 }
-    ensures fault { result ≡ Err Stop.ReadFault → Rose (R.faults source.old) (R.faults source.new) }
-    ensures counted { IsCounted R.exact (result ≡ Err Stop.ReadFault) (R.faults source.old) (R.faults source.new) }
-    ensures later { R.faults source.old ≤ R.faults source.new }
+    ensures reads { CountsFault R.exact (R.faults source.old) (R.faults source.new) (result ≡ Err Stop.ReadFault) }
 {
-    match read_line(source, line) {
-        Ok(LineEnd::Whole) => match bench.record_of(line.bytes()) {
+    match next_line(source, line) {
+        Ok(()) => match bench.record_of(line.bytes()) {
             Ok(record) => Ok(record),
             Err(reason) => Err(Stop::Bad(Flaw::Said(reason))),
         },
-        Ok(LineEnd::Full) => Err(Stop::Bad(Flaw::Long)),
-        Ok(LineEnd::Ended) if line.bytes().is_empty() => Err(Stop::Done),
-        Ok(LineEnd::Ended) => Err(Stop::Bad(Flaw::Cut)),
-        Err(_) => Err(Stop::ReadFault),
+        Err(stop) => Err(stop),
     }
 }
 
@@ -71,9 +66,7 @@ fn take_in<R: Source>(bench: &mut Bench, source: &mut R, side: Side, came: Came)
     ensures ok { OnOk result ((bytes : List ℕ) × Takes bench.old came (R.left source.old) (R.left source.new) bytes
         × (bench.new ≡ record bench.old { node = after_coming side came bytes bench.old.node })) }
     ensures part { IfErr result (TakesPart (size_after bench.old.node.settings.rate came) (R.left source.old) (R.left source.new)) }
-    ensures fault { result ≡ Err Stop.ReadFault → Rose (R.faults source.old) (R.faults source.new) }
-    ensures counted { IsCounted R.exact (result ≡ Err Stop.ReadFault) (R.faults source.old) (R.faults source.new) }
-    ensures later { R.faults source.old ≤ R.faults source.new }
+    ensures reads { CountsFault R.exact (R.faults source.old) (R.faults source.new) (result ≡ Err Stop.ReadFault) }
 {
     match came {
         Came::Nothing => Ok(()),
@@ -89,9 +82,7 @@ fn take_in<R: Source>(bench: &mut Bench, source: &mut R, side: Side, came: Came)
 fn take_both<R: Source>(bench: &mut Bench, source: &mut R, came: (Came, Came)) -> Result<(), Stop>
     ensures ok { OnOk result (TakesBoth bench.old bench.new came.0 came.1 (R.left source.old) (R.left source.new)) }
     ensures part { IfErr result (TakesPart (both_sizes bench.old came.0 came.1) (R.left source.old) (R.left source.new)) }
-    ensures fault { result ≡ Err Stop.ReadFault → Rose (R.faults source.old) (R.faults source.new) }
-    ensures counted { IsCounted R.exact (result ≡ Err Stop.ReadFault) (R.faults source.old) (R.faults source.new) }
-    ensures later { R.faults source.old ≤ R.faults source.new }
+    ensures reads { CountsFault R.exact (R.faults source.old) (R.faults source.new) (result ≡ Err Stop.ReadFault) }
 {
     let (west, east) = came;
     match take_in(bench, source, Side::West, west) {
@@ -113,9 +104,7 @@ fn answer_round<W: Sink>(bench: &mut Bench, answer: &mut Text, sink: &mut W) -> 
     ensures front { OnErr result (AppendsFewer (W.written sink.old) (W.written sink.new) (answer_to bench.old)) }
     ensures why { IfErr result (λ why. why ≡ Stop.WriteFault) }
     ensures kept { room_in answer.new ≡ room_in answer.old }
-    ensures broke { OnErr result (Rose (W.faults sink.old) (W.faults sink.new)) }
-    ensures writes { IsCounted W.exact (IsErr result) (W.faults sink.old) (W.faults sink.new) }
-    ensures later { W.faults sink.old ≤ W.faults sink.new }
+    ensures writes { CountsFault W.exact (W.faults sink.old) (W.faults sink.new) (result ≡ Err Stop.WriteFault) }
 {
     answer.clear();
     bench.run(answer);
@@ -140,11 +129,8 @@ fn run_round<R: Source, W: Sink>(
     ensures stops { IfErr result (λ why.
         StopsRound bench.old came.0 came.1 why (R.left source.old) (R.left source.new) (W.written sink.old) (W.written sink.new)) }
     ensures kept { room_in answer.new ≡ room_in answer.old }
-    ensures read { result ≡ Err Stop.ReadFault → Rose (R.faults source.old) (R.faults source.new) }
-    ensures broke { result ≡ Err Stop.WriteFault → Rose (W.faults sink.old) (W.faults sink.new) }
-    ensures reads { IsCounted R.exact (result ≡ Err Stop.ReadFault) (R.faults source.old) (R.faults source.new) }
-    ensures writes { IsCounted W.exact (result ≡ Err Stop.WriteFault) (W.faults sink.old) (W.faults sink.new) }
-    ensures later { (R.faults source.old ≤ R.faults source.new) × (W.faults sink.old ≤ W.faults sink.new) }
+    ensures reads { CountsFault R.exact (R.faults source.old) (R.faults source.new) (result ≡ Err Stop.ReadFault) }
+    ensures writes { CountsFault W.exact (W.faults sink.old) (W.faults sink.new) (result ≡ Err Stop.WriteFault) }
 {
     match take_both(bench, source, came) {
         Ok(()) => {}
@@ -171,11 +157,8 @@ pub fn turn<R: Source, W: Sink>(
         (λ why. StopsBy bench.old why (R.left source.old) (R.left source.new) (W.written sink.old) (W.written sink.new)) }
     ensures line { room_in texts.new.line ≡ 65 }
     ensures answer { room_in texts.new.answer ≡ room_in texts.old.answer }
-    ensures read { result ≡ Err Stop.ReadFault → Rose (R.faults source.old) (R.faults source.new) }
-    ensures broke { result ≡ Err Stop.WriteFault → Rose (W.faults sink.old) (W.faults sink.new) }
-    ensures reads { IsCounted R.exact (result ≡ Err Stop.ReadFault) (R.faults source.old) (R.faults source.new) }
-    ensures writes { IsCounted W.exact (result ≡ Err Stop.WriteFault) (W.faults sink.old) (W.faults sink.new) }
-    ensures later { (R.faults source.old ≤ R.faults source.new) × (W.faults sink.old ≤ W.faults sink.new) }
+    ensures reads { CountsFault R.exact (R.faults source.old) (R.faults source.new) (result ≡ Err Stop.ReadFault) }
+    ensures writes { CountsFault W.exact (W.faults sink.old) (W.faults sink.new) (result ≡ Err Stop.WriteFault) }
 {
     texts.line.clear();
     match next_record(bench, &mut texts.line, source) {

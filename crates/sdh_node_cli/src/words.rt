@@ -6,7 +6,7 @@ ghost use Rattle.sdh_node_cli.specs.Words.{mode_named, asked_as, asked_in, asked
 use sdh_plan::numeral_in;
 
 /// What is written for a round.
-#[derive(Clone, Copy, Debug, PartialEq, Eq)]
+#[derive(Clone, Copy)]
 pub enum Mode {
     /// Lines alone.
     Lines,
@@ -15,7 +15,7 @@ pub enum Mode {
 }
 
 /// What is asked for.
-#[derive(Clone, Copy, Debug, PartialEq, Eq)]
+#[derive(Clone, Copy)]
 pub struct Ask {
     /// The identifier of the node.
     pub id: u8,

@@ -41,7 +41,7 @@ fn each_write_that_fails_is_told(rt: HostRuntime) -> Result<(), Fail> {
     Ok(())
 }
 
-// A byte is read at a time, so the number of a read is that of a byte.
+// A read gives one byte here, so the number of a read is that of a byte.
 #[test]
 fn each_read_of_a_record_that_fails_is_told(rt: HostRuntime) -> Result<(), Fail> {
     let mut before = PLAN.len();
@@ -53,6 +53,7 @@ fn each_read_of_a_record_that_fails_is_told(rt: HostRuntime) -> Result<(), Fail>
         for byte in 1..=record.len() {
             let failing = [u32::try_from(before.saturating_add(byte)).unwrap_or(u32::MAX)];
             let outside = Outside {
+                piece: 1,
                 reads: &failing,
                 ..SOUND
             };
@@ -84,15 +85,31 @@ fn what_comes_in_pieces_is_the_same(rt: HostRuntime) -> Result<(), Fail> {
     Ok(())
 }
 
-// A record that can't be done is read up to its newline byte, and what follows is left.
+// A record that can't be done, the number of its reason, and what is left of the record behind it.
+const BAD: &[(&str, &str, &str)] = &[
+    ("cut 2 east\n", "22", "round dark none\n"),
+    ("x\n", "22", " dark none\n"),
+    ("round x\n", "23", "rk none\n"),
+    ("round f\n", "23", "k none\n"),
+    ("round up up\n", "25", "d dark none\n"),
+    ("slip c2 up 4\n", "30", "round dark none\n"),
+];
+
+// It is read up to its newline byte, and behind a line that is shorter than each record that begins so as many bytes
+// as it lacks to that.
 #[test]
 fn a_bad_record_is_told_with_its_number(rt: HostRuntime) -> Result<(), Fail> {
-    let given = joined(rt.alloc(), &[PLAN, FIRST, "cut 2 east\n", DARK])?;
-    let (ending, mut source, sink) = call(rt.alloc(), NODE_2, &given, SOUND)?;
-    assert!(rt; matches!(ending, Ending::BadRecord(_, 2)) && ending.number() == 17);
-    let wanted = joined(rt.alloc(), &[IDLE, "bad record 22 at 2\n"])?;
-    assert!(rt; sink.bytes() == wanted.as_slice());
-    let rest = read_all(rt.alloc(), &mut source)?;
-    assert!(rt; rest.as_slice() == DARK.as_bytes());
+    for (bad, why, left) in BAD {
+        let given = joined(rt.alloc(), &[PLAN, FIRST, bad, DARK])?;
+        let (ending, mut source, sink) = call(rt.alloc(), NODE_2, &given, SOUND)?;
+        assert!(rt;
+            matches!(ending, Ending::BadRecord(_, 2)) && ending.number() == 17,
+            "{bad}"
+        );
+        let wanted = joined(rt.alloc(), &[IDLE, "bad record ", why, " at 2\n"])?;
+        assert!(rt; sink.bytes() == wanted.as_slice(), "{bad}");
+        let rest = read_all(rt.alloc(), &mut source)?;
+        assert!(rt; rest.as_slice() == left.as_bytes(), "{bad}");
+    }
     Ok(())
 }

@@ -1,4 +1,4 @@
-use Rattle.std.proofs.Common.{◌≡◌, ◌+◌, ◌<◌, ◌≤◌, ◌^◌, length, arith, ap, ◌∙◌}
+use Rattle.std.proofs.Common.{◌+◌, ◌<◌, ◌≤◌, ◌^◌, length, arith, ap, ◌∙◌}
 use Rattle.sdh_report.specs.Written.{Written}
 use Rattle.sdh_shell.specs.Writing.{room_in}
 use Rattle.sdh_shell.proofs.Pieces.{kept_part}

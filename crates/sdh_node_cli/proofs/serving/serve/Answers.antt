@@ -1,8 +1,9 @@
-use Rattle.std.proofs.Common.{◌≡◌, ◌≤◌, ap, sym, subst, ◌∙◌, arith, refl}
+use Rattle.std.proofs.Common.{ap, subst, ◌∙◌, arith, refl}
 use native.Mathlib.Nat.{le_refl}
 use Rattle.sdh_node_cli.specs.declared.stop.Stop.{Stop}
 use Rattle.sdh_node_cli.specs.Bench.{Bench}
 use Rattle.sdh_node_cli.specs.Turns.{room_for, StopsBy}
+use Rattle.sdh_node_cli.proofs.Faults.{quiet, behind, stopped}
 use Rattle.sdh_node_cli.proofs.Runs.{went_none, went_on, served_by, cut_by, served_all}
 use Rattle.sdh_node_cli.proofs.Turning.{after_rounds, after_room}
 use Rattle.sdh_node_cli.proofs.serving.serve.Goals as goal
@@ -31,10 +32,10 @@ loop-done-preserved g c =
       room = ap room_for goes.bench ∙ after_room goes.given b ∙ inv.room;
       line = c.turn.ensures.line;
       answer = c.turn.ensures.answer ∙ inv.answer;
-      reads = λ e. c.turn.ensures.reads.none e (λ f. cc) ∙ inv.reads e;
-      writes = λ e. c.turn.ensures.writes.none e (λ f. cc) ∙ inv.writes e;
-      later_reads = omega (arith, c.turn.ensures.later.0, inv.later_reads);
-      later_writes = omega (arith, c.turn.ensures.later.1, inv.later_writes);
+      reads = λ e. c.in-Ok.ensures.reads.counted.none e (λ f. cc) ∙ inv.reads e;
+      writes = λ e. c.in-Ok.ensures.writes.counted.none e (λ f. cc) ∙ inv.writes e;
+      later_reads = omega (arith, c.in-Ok.ensures.reads.later, inv.later_reads);
+      later_writes = omega (arith, c.in-Ok.ensures.writes.later, inv.later_writes);
     }
 
 pub returns-in-Err-clause-served : goal.returns-in-Err-clause-served
@@ -53,3 +54,23 @@ pub returns-clause-served : goal.returns-clause-served
 returns-clause-served g c = λ not.
     served_all _ _ _ _ _ _ c.loop-done.done _ (omega (arith, c.loop-done-test.false)) (omega (arith, c.loop-done-test.false))
     c.loop-done.invariant.went
+
+pub returns-in-Err-clause-reads : goal.returns-in-Err-clause-reads
+returns-in-Err-clause-reads g c =
+    let inv = c.loop-done.invariant in
+    behind _ _ _ _ _ inv.reads inv.later_reads (stopped _ _ _ _ _ c.in-Err.ensures.reads _ refl)
+
+pub returns-in-Err-clause-writes : goal.returns-in-Err-clause-writes
+returns-in-Err-clause-writes g c =
+    let inv = c.loop-done.invariant in
+    behind _ _ _ _ _ inv.writes inv.later_writes (stopped _ _ _ _ _ c.in-Err.ensures.writes _ refl)
+
+pub returns-clause-reads : goal.returns-clause-reads
+returns-clause-reads g c =
+    let inv = c.loop-done.invariant in
+    quiet _ _ _ _ (λ e. cc) inv.reads inv.later_reads
+
+pub returns-clause-writes : goal.returns-clause-writes
+returns-clause-writes g c =
+    let inv = c.loop-done.invariant in
+    quiet _ _ _ _ (λ e. cc) inv.writes inv.later_writes

@@ -1,25 +1,31 @@
-use Rattle.std.proofs.Common.{◌≡◌, [], ◌++◌, ap, sym, subst, refl, ◌∙◌, rules}
-use Rattle.std.specs.Prelude.{Some, None}
+use Rattle.std.proofs.Common.{◌≡◌, [], ◌++◌, ap, sym, refl, ◌∙◌, arith, rules}
+use Rattle.std.specs.Prelude.{None}
 use Rattle.std.proofs.KnownBytes.{Consumes-nil}
+use Rattle.std.proofs.lemmas.Result.{IfOk-weaker}
+use native.Mathlib.Nat.{le_refl}
 use Rattle.sdh_plan.proofs.Facts.{found_below}
 use Rattle.sdh_report.specs.Written.{Written}
 use Rattle.sdh_report.specs.declared.status.Status.TheVariants as status
 use Rattle.sdh_ringmap.specs.Places.{found_at}
-use Rattle.sdh_shell.specs.Writing.{IsShown}
-use Rattle.sdh_node_cli.specs.Endings.{line_of, bench_endings}
-use Rattle.sdh_node_cli.specs.Outcome.{OfPlan, IsCutPlan, ending_of}
-use Rattle.sdh_node_cli.specs.declared.ending.Ending.{Ending}
+use Rattle.sdh_node_cli.specs.Endings.{line_of}
+use Rattle.sdh_node_cli.specs.Outcome.{OfPlan, IsCutPlan}
 use Rattle.sdh_node_cli.specs.declared.ending.Ending.TheVariants as ending
-use Rattle.sdh_node_cli.proofs.Faults.{counted_behind, counted_before, read_or_write, write_or_usage, write_or_memory, ended_so, ended_not, stop_fault, fault_stop, stop_own}
-use Rattle.sdh_node_cli.proofs.Told.{stop_shown, tells_end, tells_line, of_none, wrote_line, of_served, cut_of, new_rounds}
+use Rattle.sdh_node_cli.proofs.Faults.{none_made, ended_not, write_or_read, write_or_usage, write_or_memory, no_node_own}
+use Rattle.sdh_node_cli.proofs.Told.{tells_line, of_none, wrote_line, new_rounds}
 use Rattle.sdh_node_cli.proofs.top.answer_plan.Goals as goal
 
 pub try_new-requires-2 : goal.try_new-requires-2
 try_new-requires-2 g c = found_below c.args.plan.nodes c.args.ask.id c.in-Some.at
     (ap (λ ids. found_at ids c.args.ask.id) (sym c.map.ensures) ∙ sym c.in-Some.ensures)
 
-pub serve-stopped-requires-clause-fresh : goal.serve-stopped-requires-clause-fresh
-serve-stopped-requires-clause-fresh g c = new_rounds c.args.ask c.args.plan c.in-Some.at c.in_ok-bench.bench c.in_ok-bench.ensures
+pub answer_records-requires : goal.answer_records-requires
+answer_records-requires g c = record {
+  fresh = new_rounds c.args.ask c.args.plan c.in-Some.at c.in_ok-bench.bench c.in_ok-bench.ensures;
+  empty = ap (λ (t : Written). t.bytes) c.in_ok-text.ensures;
+  room = omega (arith, ap (λ (t : Written). t.room) c.in_ok-text.ensures);
+}
+
+-- ---- the plan has no such node
 
 pub returns-in_default-clause-outcome : goal.returns-in_default-clause-outcome
 returns-in_default-clause-outcome g c =
@@ -34,66 +40,46 @@ returns-in_default-clause-outcome g c =
     (wrote_line _ _ _ _ _ old new c.ended.ensures.ending
     (c.ended.ensures.text ∙ ap (λ (t : Written). t.bytes ++ line_of ending.NoSuchNode) c.in_ok-text.ensures) c.write_ended.ensures.wrote)
 
-pub returns-in-WriteFault-clause-outcome : goal.returns-in-WriteFault-clause-outcome
-returns-in-WriteFault-clause-outcome g c =
+pub returns-in_default-clause-reads : goal.returns-in_default-clause-reads
+returns-in_default-clause-reads g c = λ not.
+    none_made _ _ _ (ended_not _ _ (ending.Shared status.ReadFault) _ _ _ c.write_ended.ensures.wrote (no_node_own _ status.ReadFault c.ended.ensures.ending)
+    write_or_read)
+
+pub returns-in_default-clause-writes : goal.returns-in_default-clause-writes
+returns-in_default-clause-writes g c = record {
+  later = c.write_ended.ensures.later;
+  rose = c.write_ended.ensures.fault;
+  counted = c.write_ended.ensures.writes;
+}
+
+pub returns-in_default-clause-own : goal.returns-in_default-clause-own
+returns-in_default-clause-own g c = (
+  ended_not _ _ (ending.Shared status.Usage) _ _ _ c.write_ended.ensures.wrote (no_node_own _ status.Usage c.ended.ensures.ending) write_or_usage,
+  ended_not _ _ (ending.Shared status.Memory) _ _ _ c.write_ended.ensures.wrote (no_node_own _ status.Memory c.ended.ensures.ending) write_or_memory,
+)
+
+pub returns-in_default-clause-later : goal.returns-in_default-clause-later
+returns-in_default-clause-later g c = (le_refl _, c.write_ended.ensures.later)
+
+-- ---- it has one
+
+pub returns-clause-outcome : goal.returns-clause-outcome
+returns-clause-outcome g c =
     let found = ap (λ ids. found_at ids c.args.ask.id) (sym c.map.ensures) ∙ sym c.in-Some.ensures in
-    cut_of c.args.ask c.args.plan c.in-Some.at c.in_ok-bench.bench _ _ _ _ found c.in_ok-bench.ensures
-    (c.serve-stopped.ensures.cut c.in-WriteFault.is)
+    IfOk-weaker c.answer_records.result _ _ (λ how x. x c.args.ask c.args.plan c.in-Some.at found c.in_ok-bench.ensures)
+    c.answer_records.ensures.outcome
 
-pub returns-in_default-stop-clause-outcome : goal.returns-in_default-stop-clause-outcome
-returns-in_default-stop-clause-outcome g c =
-    let left = g.R.Source.left c.args.source.now in
-    let now = g.R.Source.left c.serve-stopped.new.source in
-    let old = g.W.Sink.written c.args.sink.now in
-    let mid = g.W.Sink.written c.serve-stopped.new.sink in
-    let new = g.W.Sink.written c.write_ended-in_default-stop.new.sink in
-    let stopped = c.serve-stopped.result in
-    let not = c.in_default-stop.not-WriteFault in
-    let served = c.serve-stopped.ensures.served not in
-    let how = ending_of stopped.stop stopped.number in
-    let found = ap (λ ids. found_at ids c.args.ask.id) (sym c.map.ensures) ∙ sym c.in-Some.ensures in
-    tells_end (λ h text. OfPlan c.args.ask c.args.plan [] left now h text) (IsCutPlan c.args.ask c.args.plan [] left now old new)
-    how c.write_ended-in_default-stop.result served.0 (line_of how) old mid new (stop_shown stopped.stop stopped.number not)
-    (of_served c.args.ask c.args.plan c.in-Some.at c.in_ok-bench.bench left now stopped.number stopped.stop served.0 found c.in_ok-bench.ensures
-    served.1) served.2 (wrote_line _ _ _ _ _ mid new (c.ended-in_default-stop.ensures.ending ∙ c.ending_of.ensures) (c.ended-in_default-stop.ensures.text
-    ∙ ap (λ (h : Ending). c.in_ok-text.text.bytes ++ line_of h) c.ending_of.ensures ∙ ap (λ (t : Written). t.bytes ++ line_of how) c.in_ok-text.ensures)
-    c.write_ended-in_default-stop.ensures.wrote)
+pub returns-clause-reads : goal.returns-clause-reads
+returns-clause-reads g c = c.answer_records.ensures.reads
 
-pub write_ended-requires-in_default-stop : goal.write_ended-requires-in_default-stop
-write_ended-requires-in_default-stop g c =
-    let stopped = c.serve-stopped.result in
-    record {
-      shown =
-          subst (IsShown bench_endings) (sym (c.ended-in_default-stop.ensures.ending ∙ c.ending_of.ensures))
-          (stop_shown stopped.stop stopped.number c.in_default-stop.not-WriteFault);
-    }
+pub returns-clause-writes : goal.returns-clause-writes
+returns-clause-writes g c = c.answer_records.ensures.writes
 
-pub returns-in_default-stop-clause-read : goal.returns-in_default-stop-clause-read
-returns-in_default-stop-clause-read g c = λ e.
-    let stopped = c.serve-stopped.result in
-    let same = ended_so _ _ _ _ _ c.write_ended-in_default-stop.ensures.wrote (read_or_write _ e) ∙ c.ended-in_default-stop.ensures.ending ∙ c.ending_of.ensures in
-    c.serve-stopped.ensures.read (stop_fault stopped.stop stopped.number (sym same ∙ e))
+pub returns-clause-own : goal.returns-clause-own
+returns-clause-own g c = c.answer_records.ensures.own
 
-pub returns-in_default-stop-clause-reads : goal.returns-in_default-stop-clause-reads
-returns-in_default-stop-clause-reads g c = λ not.
-    let stopped = c.serve-stopped.result in
-    let same = ended_so _ _ _ _ _ c.write_ended-in_default-stop.ensures.wrote not ∙ c.ended-in_default-stop.ensures.ending ∙ c.ending_of.ensures in
-    counted_before _ _ _ _ _ (λ e. stop_fault stopped.stop stopped.number (sym same ∙ e))
-    (λ e. same ∙ fault_stop stopped.stop stopped.number e) c.serve-stopped.ensures.reads
+pub returns-clause-later : goal.returns-clause-later
+returns-clause-later g c = c.answer_records.ensures.later
 
-pub returns-in_default-stop-clause-writes : goal.returns-in_default-stop-clause-writes
-returns-in_default-stop-clause-writes g c =
-    counted_behind _ _ _ _ _ (λ e. c.serve-stopped.ensures.writes.none e c.in_default-stop.not-WriteFault) c.write_ended-in_default-stop.ensures.writes
-
-pub returns-in_default-stop-clause-own : goal.returns-in_default-stop-clause-own
-returns-in_default-stop-clause-own g c =
-    let stopped = c.serve-stopped.result in
-    let own = stop_own stopped.stop stopped.number in
-    let is = c.ended-in_default-stop.ensures.ending ∙ c.ending_of.ensures in (
-      ended_not _ _ (ending.Shared status.Usage) _ _ _ c.write_ended-in_default-stop.ensures.wrote (λ e. own.0 (sym is ∙ e)) write_or_usage,
-      ended_not _ _ (ending.Shared status.Memory) _ _ _ c.write_ended-in_default-stop.ensures.wrote (λ e. own.1 (sym is ∙ e)) write_or_memory,
-    )
-
-pub returns-in-WriteFault-clause-writes : goal.returns-in-WriteFault-clause-writes
-returns-in-WriteFault-clause-writes g c =
-    counted_before _ _ _ _ _ (λ e. c.in-WriteFault.is) (λ e. refl) c.serve-stopped.ensures.writes
+pub returns-clause-memory : goal.returns-clause-memory
+returns-clause-memory g c = c.answer_records.ensures.memory

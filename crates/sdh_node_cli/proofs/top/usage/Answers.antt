@@ -11,3 +11,10 @@ returns-clause-wrote g c =
     let new = g.W.Sink.written c.write_ended.new.sink in
     wrote_line _ _ _ _ _ old new refl (ap (λ (t : Written). t.bytes) c.own_line.ensures
     ∙ ap (λ (t : Written). t.bytes ++ own_line usage) c.in_ok-text.ensures) c.write_ended.ensures.wrote
+
+pub returns-clause-writes : goal.returns-clause-writes
+returns-clause-writes g c = record {
+  later = c.write_ended.ensures.later;
+  rose = c.write_ended.ensures.fault;
+  counted = c.write_ended.ensures.writes;
+}

@@ -1,4 +1,5 @@
-use Rattle.std.proofs.Common.{ap, sym, ◌∙◌, arith}
+use Rattle.std.proofs.Common.{arith, refl}
+use Rattle.sdh_node_cli.proofs.Faults.{none_made, well_alone, no_write_part, write_not_read, err_same}
 use Rattle.sdh_node_cli.proofs.Turning.{ran_by, cut_by, part_stops, both_stay}
 use Rattle.sdh_node_cli.proofs.turn.run_round.Goals as goal
 
@@ -10,10 +11,29 @@ answer_round-requires g c =
 pub returns-in-Err-clause-stops : goal.returns-in-Err-clause-stops
 returns-in-Err-clause-stops g c = part_stops c.args.bench.now c.args.came.0 c.args.came.1 c.in-Err.stop _ _ _ c.in-Err.ensures.part
 
+pub returns-in-Err-clause-reads : goal.returns-in-Err-clause-reads
+returns-in-Err-clause-reads g c = c.in-Err.ensures.reads
+
+pub returns-in-Err-clause-writes : goal.returns-in-Err-clause-writes
+returns-in-Err-clause-writes g c = none_made _ _ _ (λ e. no_write_part _ _ _ _ c.in-Err.ensures.part (err_same _ _ e))
+
 pub returns-in-Ok-answer_round-clause-ran : goal.returns-in-Ok-answer_round-clause-ran
 returns-in-Ok-answer_round-clause-ran g c =
     ran_by _ _ _ _ _ _ _ _ _ c.in-Ok.ensures.ok c.answer_round.ensures.bench c.in-Ok-answer_round.ensures.ok
 
+pub returns-in-Ok-answer_round-clause-reads : goal.returns-in-Ok-answer_round-clause-reads
+returns-in-Ok-answer_round-clause-reads g c = well_alone _ _ _ _ _ c.in-Ok.ensures.reads _ _ refl (λ e. cc)
+
+pub returns-in-Ok-answer_round-clause-writes : goal.returns-in-Ok-answer_round-clause-writes
+returns-in-Ok-answer_round-clause-writes g c = c.in-Ok-answer_round.ensures.writes
+
 pub returns-in-Err-answer_round-clause-stops : goal.returns-in-Err-answer_round-clause-stops
 returns-in-Err-answer_round-clause-stops g c =
     cut_by _ _ _ _ _ _ _ _ _ c.in-Err-answer_round.ensures.why c.in-Ok.ensures.ok c.in-Err-answer_round.ensures.front
+
+pub returns-in-Err-answer_round-clause-reads : goal.returns-in-Err-answer_round-clause-reads
+returns-in-Err-answer_round-clause-reads g c =
+    well_alone _ _ _ _ _ c.in-Ok.ensures.reads _ _ refl (write_not_read _ c.in-Err-answer_round.ensures.why)
+
+pub returns-in-Err-answer_round-clause-writes : goal.returns-in-Err-answer_round-clause-writes
+returns-in-Err-answer_round-clause-writes g c = c.in-Err-answer_round.ensures.writes

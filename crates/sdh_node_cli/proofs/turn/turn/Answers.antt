@@ -1,6 +1,7 @@
-use Rattle.std.proofs.Common.{subst}
+use Rattle.std.proofs.Common.{subst, refl}
 use Rattle.sdh_node_cli.specs.declared.record.Record.{Record}
 use Rattle.sdh_node_cli.specs.Turns.{HasLine}
+use Rattle.sdh_node_cli.proofs.Faults.{none_made, well, well_alone, ended, no_write_halt, err_same}
 use Rattle.sdh_node_cli.proofs.Turning.{goes_round, goes_told, line_stops, told_stops, round_stops, unless_ok, unless_err}
 use Rattle.sdh_node_cli.proofs.turn.turn.Goals as goal
 
@@ -39,3 +40,33 @@ returns-in-Err-tell-clause-stops g c =
 
 pub returns-in-Err-clause-stops : goal.returns-in-Err-clause-stops
 returns-in-Err-clause-stops g c = line_stops _ c.in-Err.stop _ _ _ c.in-Err.ensures.stop
+
+pub returns-in-Ok-run_round-clause-reads : goal.returns-in-Ok-run_round-clause-reads
+returns-in-Ok-run_round-clause-reads g c = well _ _ _ _ _ c.in-Ok.ensures.reads _ _ _ refl c.in-Ok-run_round.ensures.reads
+
+pub returns-in-Ok-run_round-clause-writes : goal.returns-in-Ok-run_round-clause-writes
+returns-in-Ok-run_round-clause-writes g c = c.in-Ok-run_round.ensures.writes
+
+pub returns-in-Err-run_round-clause-reads : goal.returns-in-Err-run_round-clause-reads
+returns-in-Err-run_round-clause-reads g c = well _ _ _ _ _ c.in-Ok.ensures.reads _ _ _ refl c.in-Err-run_round.ensures.reads
+
+pub returns-in-Err-run_round-clause-writes : goal.returns-in-Err-run_round-clause-writes
+returns-in-Err-run_round-clause-writes g c = c.in-Err-run_round.ensures.writes
+
+pub returns-in-Ok-tell-clause-reads : goal.returns-in-Ok-tell-clause-reads
+returns-in-Ok-tell-clause-reads g c = well_alone _ _ _ _ _ c.in-Ok.ensures.reads _ _ refl (λ e. cc)
+
+pub returns-in-Ok-tell-clause-writes : goal.returns-in-Ok-tell-clause-writes
+returns-in-Ok-tell-clause-writes g c = none_made _ _ _ (λ e. cc)
+
+pub returns-in-Err-tell-clause-reads : goal.returns-in-Err-tell-clause-reads
+returns-in-Err-tell-clause-reads g c = well_alone _ _ _ _ _ c.in-Ok.ensures.reads _ _ refl (λ e. cc)
+
+pub returns-in-Err-tell-clause-writes : goal.returns-in-Err-tell-clause-writes
+returns-in-Err-tell-clause-writes g c = none_made _ _ _ (λ e. cc)
+
+pub returns-in-Err-clause-reads : goal.returns-in-Err-clause-reads
+returns-in-Err-clause-reads g c = ended _ _ _ _ _ c.in-Err.ensures.reads _ refl
+
+pub returns-in-Err-clause-writes : goal.returns-in-Err-clause-writes
+returns-in-Err-clause-writes g c = none_made _ _ _ (λ e. no_write_halt _ _ _ _ c.in-Err.ensures.stop (err_same _ _ e))

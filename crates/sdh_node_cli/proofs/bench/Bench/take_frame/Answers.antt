@@ -1,6 +1,5 @@
-use Rattle.std.proofs.Common.{◌≡◌, length, ap, sym, subst, ◌∙◌, rules}
+use Rattle.std.proofs.Common.{ap, ◌∙◌, rules}
 use Rattle.sdh_frame.specs.Sizes.{size_of}
-use Rattle.sdh_node_cli.specs.declared.record.Came.TheVariants as came
 use Rattle.sdh_node_cli.specs.Bench.{Bench, after_coming}
 use Rattle.sdh_node_cli.proofs.bench.Bench.take_frame.Goals as goal
 

@@ -1,8 +1,6 @@
 use Rattle.std.proofs.Common.{◌≤◌, sym, subst, ap, ◌∙◌, arith, rules}
-use Rattle.sdh_circuits.specs.declared.PortId.{PortId}
 use Rattle.sdh_terminal.specs.Tributaries.{HasPort}
 use Rattle.sdh_node.specs.Node.{Node, new_node, moment_of}
-use Rattle.sdh_node_cli.specs.Records.{IsOwn}
 use Rattle.sdh_node_cli.proofs.Own.{own_there}
 use Rattle.sdh_node_cli.proofs.bench.Bench.try_new.Goals as goal
 
