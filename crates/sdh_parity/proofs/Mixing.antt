@@ -1,9 +1,10 @@
 -- Vectors that are added, and sums that grow by a row.
 use Rattle.std.proofs.Common.{◌≡◌, ℕ, ◌+◌, ◌*◌, ◌-◌, ◌/◌, ◌%◌, ◌^◌, ◌<◌, ◌≤◌, Bool, true, false, List, length, get_or, ap, sym, ◌∙◌, arith}
-use Rattle.std.proofs.Common.{bit_xor, inl, inr, subst}
+use Rattle.std.proofs.Common.{bit_xor, inl, inr, subst, refl, replicate}
 use Rattle.std.specs.Prelude.{if◌then◌else◌}
 use Rattle.std.specs.Int.Bits.{xor_assoc, xor_self, xor_zero_r}
 use Rattle.std.proofs.lemmas.Bool.{cases_lt}
+use Rattle.std.proofs.lemmas.List.{get_or-replicate}
 use Rattle.std.specs.Simd.Lanes.{zip2}
 use Rattle.std.proofs.lemmas.Nat.{xor_lt}
 use Rattle.std.proofs.lemmas.Simd.{length-zip2, get_or-zip2}
@@ -23,11 +24,13 @@ pub added_at : (xs ys : List ℕ) (j : ℕ) → length xs ≡ 16 → length ys �
     → get_or (zip2 bit_xor xs ys) j 0 ≡ bit_xor (get_or xs j 0) (get_or ys j 0)
 added_at xs ys j lx ly h = get_or-zip2 bit_xor xs ys j 0 0 0 (omega arith) (omega arith)
 
--- the sequence at a place that was counted modulo 1016
-pub key-at : (at r k j : ℕ) → k ≡ (at + 48 * r) % 1016 → scrambling_byte (k + j) ≡ scrambling_byte (at + (48 * r + j))
+-- the sequence at a place that is the same modulo 1016
+pub key-at : (at r k j : ℕ) → k % 1016 ≡ (at + 48 * r) % 1016 → scrambling_byte (k + j) ≡ scrambling_byte (at + (48 * r + j))
 key-at at r k j e =
-    let f : (at + 48 * r) / 1016 * 1016 + (k + j) ≡ at + (48 * r + j) = omega arith in
-    sym (byte-repeats ((at + 48 * r) / 1016) (k + j)) ∙ ap scrambling_byte f
+    let left : k / 1016 * 1016 + (k % 1016 + j) ≡ k + j = omega arith in
+    let right : (at + 48 * r) / 1016 * 1016 + (k % 1016 + j) ≡ at + (48 * r + j) = omega arith in
+    ap scrambling_byte (sym left) ∙ byte-repeats (k / 1016) (k % 1016 + j)
+    ∙ sym (byte-repeats ((at + 48 * r) / 1016) (k % 1016 + j)) ∙ ap scrambling_byte right
 
 -- one row more
 pub one-more : (s : List ℕ) (at r x : ℕ) → get_or s (at + r * 48) 0 < 2 ^ 8
@@ -55,148 +58,220 @@ small-back x y k e h =
     ∙ ap (bit_xor x) (xor_self (scrambling_byte k)) ∙ xor_zero_r x in
     subst (λ z. z < 2 ^ 8) back (xor_lt 8 y (scrambling_byte k) h (byte-lt k))
 
--- the three thirds of the next row done, each from the old bytes: what is there, and the sums of it
-module _ (old bytes b1 b2 b3 : List ℕ) (at r k : ℕ) (key : k ≡ (at + 48 * r) % 1016)
-    (done : (i : ℕ) → i < 48 * r → get_or bytes i 0 ≡ bit_xor (get_or old i 0) (scrambling_byte (at + i)))
-    (below1 : (m : ℕ) → m < 48 * r → get_or b1 m 0 ≡ get_or bytes m 0)
-    (inside1 : (j : ℕ) → j < 16 → get_or b1 (48 * r + j) 0 ≡ bit_xor (get_or old (48 * r + j) 0) (scrambling_byte (k + j)))
-    (below2 : (m : ℕ) → m < 48 * r + 16 → get_or b2 m 0 ≡ get_or b1 m 0)
-    (inside2 : (j : ℕ) → j < 16 → get_or b2 (48 * r + 16 + j) 0 ≡ bit_xor (get_or old (48 * r + 16 + j) 0) (scrambling_byte (k + 16 + j)))
-    (below3 : (m : ℕ) → m < 48 * r + 32 → get_or b3 m 0 ≡ get_or b2 m 0)
-    (inside3 : (j : ℕ) → j < 16 → get_or b3 (48 * r + 32 + j) 0 ≡ bit_xor (get_or old (48 * r + 32 + j) 0) (scrambling_byte (k + 32 + j)))
-    (small : (m : ℕ) → get_or b3 m 0 < 2 ^ 8) where
-  pub stays1 : (j : ℕ) → j < 16 → get_or b3 (48 * r + j) 0 ≡ get_or b1 (48 * r + j) 0
-  stays1 j h = below3 (48 * r + j) (omega arith) ∙ below2 (48 * r + j) (omega arith)
-
-  pub stays2 : (j : ℕ) → j < 16 → get_or b3 (48 * r + 16 + j) 0 ≡ get_or b2 (48 * r + 16 + j) 0
-  stays2 j h = below3 (48 * r + 16 + j) (omega arith)
-
-  pub opened-done : (i : ℕ) → i < 48 * (r + 1) → get_or b3 i 0 ≡ bit_xor (get_or old i 0) (scrambling_byte (at + i))
-  opened-done i h =
-      elim (cases_lt i (48 * r)) [
-        | inl before ↦ below3 i (omega arith) ∙ below2 i (omega arith) ∙ below1 i before ∙ done i before
-        | inr row ↦ elim (cases_lt i (48 * r + 16)) [
-          | inl first ↦ (
-              let j : ℕ = i - 48 * r in
-              let lt : j < 16 = omega arith in
-              let e : 48 * r + j ≡ i = omega arith in
-              let f : at + (48 * r + j) ≡ at + i = omega arith in
-              ap (λ m. get_or b3 m 0) (sym e) ∙ stays1 j lt ∙ inside1 j lt
-              ∙ ap (λ z. bit_xor z (scrambling_byte (k + j))) (ap (λ m. get_or old m 0) e)
-              ∙ ap (bit_xor (get_or old i 0)) (key-at at r k j key ∙ ap scrambling_byte f))
-          | inr later ↦ elim (cases_lt i (48 * r + 32)) [
-            | inl second ↦ (
-                let j : ℕ = i - (48 * r + 16) in
-                let lt : j < 16 = omega arith in
-                let e : 48 * r + 16 + j ≡ i = omega arith in
-                let g : k + 16 + j ≡ k + (16 + j) = omega arith in
-                let f : at + (48 * r + (16 + j)) ≡ at + i = omega arith in
-                ap (λ m. get_or b3 m 0) (sym e) ∙ stays2 j lt ∙ inside2 j lt
-                ∙ ap (λ z. bit_xor z (scrambling_byte (k + 16 + j))) (ap (λ m. get_or old m 0) e)
-                ∙ ap (bit_xor (get_or old i 0)) (ap scrambling_byte g ∙ key-at at r k (16 + j) key ∙ ap scrambling_byte f))
-            | inr third ↦ (
-                let j : ℕ = i - (48 * r + 32) in
-                let lt : j < 16 = omega arith in
-                let e : 48 * r + 32 + j ≡ i = omega arith in
-                let g : k + 32 + j ≡ k + (32 + j) = omega arith in
-                let f : at + (48 * r + (32 + j)) ≡ at + i = omega arith in
-                ap (λ m. get_or b3 m 0) (sym e) ∙ inside3 j lt
-                ∙ ap (λ z. bit_xor z (scrambling_byte (k + 32 + j))) (ap (λ m. get_or old m 0) e)
-                ∙ ap (bit_xor (get_or old i 0)) (ap scrambling_byte g ∙ key-at at r k (32 + j) key ∙ ap scrambling_byte f))
-          ]
-        ]
+-- what is so in each third of 48
+pub thirds : (P : ℕ → Type 0) → ((j : ℕ) → j < 16 → P j) → ((j : ℕ) → j < 16 → P (16 + j)) → ((j : ℕ) → j < 16 → P (32 + j)) → (j : ℕ)
+    → j < 48 → P j
+thirds P first second third j h =
+    elim (cases_lt j 16) [
+      | inl low ↦ first j low
+      | inr ge ↦ elim (cases_lt j 32) [
+        | inl mid ↦ (let e : 16 + (j - 16) ≡ j = omega arith in subst P e (second (j - 16) (omega arith)))
+        | inr high ↦ (let e : 32 + (j - 32) ≡ j = omega arith in subst P e (third (j - 32) (omega arith)))
       ]
+    ]
 
-  stay : (m : ℕ) → m < 48 → every m 48 r b3 ≡ every m 48 r bytes
-  stay m h = same-rows b3 bytes m r h (λ i lt. below3 i (omega arith) ∙ below2 i (omega arith) ∙ below1 i lt)
+-- ---- a row in three steps
 
-  -- one row more of a column
-  pub opened-sum : (m s v x : ℕ) → m < 48 → s ≡ bip8 (every m 48 r bytes) → v ≡ bit_xor s x → x ≡ get_or b3 (m + r * 48) 0
-      → v ≡ bip8 (every m 48 (r + 1) b3)
-  opened-sum m s v x h e f g =
-      f ∙ ap (λ z. bit_xor z x) (e ∙ ap bip8 (sym (stay m h))) ∙ ap (bit_xor (bip8 (every m 48 r b3))) g
-      ∙ one-more b3 m r 0 (small (m + r * 48))
+-- each third from the old bytes, and what the others leave
+module _ (old b1 b2 b3 : List ℕ) (i k : ℕ)
+    (inside1 : (j : ℕ) → j < 16 → get_or b1 (i + j) 0 ≡ bit_xor (get_or old (i + j) 0) (scrambling_byte (k + j)))
+    (below2 : (m : ℕ) → m < i + 16 → get_or b2 m 0 ≡ get_or b1 m 0)
+    (inside2 : (j : ℕ) → j < 16 → get_or b2 (i + 16 + j) 0 ≡ bit_xor (get_or old (i + 16 + j) 0) (scrambling_byte (k + 16 + j)))
+    (below3 : (m : ℕ) → m < i + 32 → get_or b3 m 0 ≡ get_or b2 m 0)
+    (inside3 : (j : ℕ) → j < 16 → get_or b3 (i + 32 + j) 0 ≡ bit_xor (get_or old (i + 32 + j) 0) (scrambling_byte (k + 32 + j))) where
+  pub stays1 : (j : ℕ) → j < 16 → get_or b3 (i + j) 0 ≡ get_or b1 (i + j) 0
+  stays1 j h = below3 (i + j) (omega arith) ∙ below2 (i + j) (omega arith)
 
--- the state of a pass over rows of 48 bytes: what it was, what it is, and the three thirds of the next row done
-module _ (old bytes b1 b2 b3 : List ℕ) (at r k : ℕ) (key : k ≡ (at + 48 * r) % 1016)
-    (done : (i : ℕ) → i < 48 * r → get_or bytes i 0 ≡ bit_xor (get_or old i 0) (scrambling_byte (at + i)))
-    (rest : (i : ℕ) → 48 * r ≤ i → get_or bytes i 0 ≡ get_or old i 0)
-    (below1 : (m : ℕ) → m < 48 * r → get_or b1 m 0 ≡ get_or bytes m 0)
-    (inside1 : (j : ℕ) → j < 16 → get_or b1 (48 * r + j) 0 ≡ bit_xor (get_or bytes (48 * r + j) 0) (scrambling_byte (k + j)))
-    (above1 : (m : ℕ) → 48 * r + 16 ≤ m → get_or b1 m 0 ≡ get_or bytes m 0)
-    (below2 : (m : ℕ) → m < 48 * r + 16 → get_or b2 m 0 ≡ get_or b1 m 0)
-    (inside2 : (j : ℕ) → j < 16 → get_or b2 (48 * r + 16 + j) 0 ≡ bit_xor (get_or b1 (48 * r + 16 + j) 0) (scrambling_byte (k + 16 + j)))
-    (above2 : (m : ℕ) → 48 * r + 16 + 16 ≤ m → get_or b2 m 0 ≡ get_or b1 m 0)
-    (below3 : (m : ℕ) → m < 48 * r + 32 → get_or b3 m 0 ≡ get_or b2 m 0)
-    (inside3 : (j : ℕ) → j < 16 → get_or b3 (48 * r + 32 + j) 0 ≡ bit_xor (get_or b2 (48 * r + 32 + j) 0) (scrambling_byte (k + 32 + j)))
-    (above3 : (m : ℕ) → 48 * r + 32 + 16 ≤ m → get_or b3 m 0 ≡ get_or b2 m 0)
-    (small : (m : ℕ) → get_or b3 m 0 < 2 ^ 8) where
-  -- the bytes of the next row before each third
-  was1 : (j : ℕ) → j < 16 → get_or bytes (48 * r + j) 0 ≡ get_or old (48 * r + j) 0
-  was1 j h = rest (48 * r + j) (omega arith)
+  pub stays2 : (j : ℕ) → j < 16 → get_or b3 (i + (16 + j)) 0 ≡ get_or b2 (i + 16 + j) 0
+  stays2 j h = below3 (i + (16 + j)) (omega arith) ∙ ap (λ m. get_or b2 m 0) (omega arith)
 
-  was2 : (j : ℕ) → j < 16 → get_or b1 (48 * r + 16 + j) 0 ≡ get_or old (48 * r + 16 + j) 0
-  was2 j h = above1 (48 * r + 16 + j) (omega arith) ∙ rest (48 * r + 16 + j) (omega arith)
+  pub stays3 : (j : ℕ) → get_or b3 (i + (32 + j)) 0 ≡ get_or b3 (i + 32 + j) 0
+  stays3 j = ap (λ m. get_or b3 m 0) (omega arith)
 
-  was3 : (j : ℕ) → j < 16 → get_or b2 (48 * r + 32 + j) 0 ≡ get_or old (48 * r + 32 + j) 0
-  was3 j h = above2 (48 * r + 32 + j) (omega arith) ∙ above1 (48 * r + 32 + j) (omega arith) ∙ rest (48 * r + 32 + j) (omega arith)
+  pub row-inside : (j : ℕ) → j < 48 → get_or b3 (i + j) 0 ≡ bit_xor (get_or old (i + j) 0) (scrambling_byte (k + j))
+  row-inside =
+      let at : (n j : ℕ) → bit_xor (get_or old (i + n + j) 0) (scrambling_byte (k + n + j))
+      ≡ bit_xor (get_or old (i + (n + j)) 0) (scrambling_byte (k + (n + j))) =
+      λ n j. (let e : i + n + j ≡ i + (n + j) = omega arith in let f : k + n + j ≡ k + (n + j) = omega arith in
+      λ t. bit_xor (get_or old (e t) 0) (scrambling_byte (f t))) in
+      thirds (λ j. get_or b3 (i + j) 0 ≡ bit_xor (get_or old (i + j) 0) (scrambling_byte (k + j)))
+      (λ j h. stays1 j h ∙ inside1 j h) (λ j h. stays2 j h ∙ inside2 j h ∙ at 16 j) (λ j h. stays3 j ∙ inside3 j h ∙ at 32 j)
 
-  -- each third from the old bytes
-  from1 : (j : ℕ) → j < 16 → get_or b1 (48 * r + j) 0 ≡ bit_xor (get_or old (48 * r + j) 0) (scrambling_byte (k + j))
-  from1 j h = inside1 j h ∙ ap (λ z. bit_xor z (scrambling_byte (k + j))) (was1 j h)
+-- the same in place: each step leaves what lies above it
+module _ (old b1 b2 b3 : List ℕ) (i k : ℕ)
+    (above1 : (m : ℕ) → i + 16 ≤ m → get_or b1 m 0 ≡ get_or old m 0)
+    (above2 : (m : ℕ) → i + 16 + 16 ≤ m → get_or b2 m 0 ≡ get_or b1 m 0)
+    (inside2 : (j : ℕ) → j < 16 → get_or b2 (i + 16 + j) 0 ≡ bit_xor (get_or b1 (i + 16 + j) 0) (scrambling_byte (k + 16 + j)))
+    (inside3 : (j : ℕ) → j < 16 → get_or b3 (i + 32 + j) 0 ≡ bit_xor (get_or b2 (i + 32 + j) 0) (scrambling_byte (k + 32 + j))) where
+  pub was2 : (j : ℕ) → get_or b1 (i + 16 + j) 0 ≡ get_or old (i + 16 + j) 0
+  was2 j = above1 (i + 16 + j) (omega arith)
 
-  from2 : (j : ℕ) → j < 16 → get_or b2 (48 * r + 16 + j) 0 ≡ bit_xor (get_or old (48 * r + 16 + j) 0) (scrambling_byte (k + 16 + j))
-  from2 j h = inside2 j h ∙ ap (λ z. bit_xor z (scrambling_byte (k + 16 + j))) (was2 j h)
+  pub was3 : (j : ℕ) → get_or b2 (i + 32 + j) 0 ≡ get_or old (i + 32 + j) 0
+  was3 j = above2 (i + 32 + j) (omega arith) ∙ above1 (i + 32 + j) (omega arith)
 
-  from3 : (j : ℕ) → j < 16 → get_or b3 (48 * r + 32 + j) 0 ≡ bit_xor (get_or old (48 * r + 32 + j) 0) (scrambling_byte (k + 32 + j))
-  from3 j h = inside3 j h ∙ ap (λ z. bit_xor z (scrambling_byte (k + 32 + j))) (was3 j h)
+  pub from2 : (j : ℕ) → j < 16 → get_or b2 (i + 16 + j) 0 ≡ bit_xor (get_or old (i + 16 + j) 0) (scrambling_byte (k + 16 + j))
+  from2 j h = inside2 j h ∙ ap (λ z. bit_xor z (scrambling_byte (k + 16 + j))) (was2 j)
 
-  -- and after all
-  is1 : (j : ℕ) → j < 16 → get_or b3 (48 * r + j) 0 ≡ get_or b1 (48 * r + j) 0
-  is1 = stays1 old bytes b1 b2 b3 at r k key done below1 from1 below2 from2 below3 from3 small
+  pub from3 : (j : ℕ) → j < 16 → get_or b3 (i + 32 + j) 0 ≡ bit_xor (get_or old (i + 32 + j) 0) (scrambling_byte (k + 32 + j))
+  from3 j h = inside3 j h ∙ ap (λ z. bit_xor z (scrambling_byte (k + 32 + j))) (was3 j)
 
-  is2 : (j : ℕ) → j < 16 → get_or b3 (48 * r + 16 + j) 0 ≡ get_or b2 (48 * r + 16 + j) 0
-  is2 = stays2 old bytes b1 b2 b3 at r k key done below1 from1 below2 from2 below3 from3 small
+-- ---- row after row
 
-  pub more-done : (i : ℕ) → i < 48 * (r + 1) → get_or b3 i 0 ≡ bit_xor (get_or old i 0) (scrambling_byte (at + i))
-  more-done = opened-done old bytes b1 b2 b3 at r k key done below1 from1 below2 from2 below3 from3 small
+-- rows to which the sequence was added, and its place at the next one
+pub record KeyedTo (at : ℕ) (old new : List ℕ) (r k : ℕ) : Type 0 where
+  pub key : k % 1016 ≡ (at + 48 * r) % 1016
+  pub done : (i : ℕ) → i < 48 * r → get_or new i 0 ≡ bit_xor (get_or old i 0) (scrambling_byte (at + i))
 
-  pub more-rest : (i : ℕ) → 48 * (r + 1) ≤ i → get_or b3 i 0 ≡ get_or old i 0
-  more-rest i h = above3 i (omega arith) ∙ above2 i (omega arith) ∙ above1 i (omega arith) ∙ rest i (omega arith)
+-- the sums of the columns of these rows
+pub record SummedTo (clear a b c : List ℕ) (r : ℕ) : Type 0 where
+  pub longs : (length a ≡ 16) × (length b ≡ 16) × (length c ≡ 16)
+  pub first : (j : ℕ) → j < 16 → get_or a j 0 ≡ bip8 (every j 48 r clear)
+  pub second : (j : ℕ) → j < 16 → get_or b j 0 ≡ bip8 (every (16 + j) 48 r clear)
+  pub third : (j : ℕ) → j < 16 → get_or c j 0 ≡ bip8 (every (32 + j) 48 r clear)
 
-  old-small : (i : ℕ) → i < 48 * (r + 1) → get_or old i 0 < 2 ^ 8
-  old-small i h = small-back (get_or old i 0) (get_or b3 i 0) (at + i) (more-done i h) (small i)
+pub none-summed : (clear a b c : List ℕ) → a ≡ replicate 16 0 → b ≡ replicate 16 0 → c ≡ replicate 16 0 → SummedTo clear a b c 0
+none-summed clear a b c ea eb ec =
+    let none : (l : List ℕ) (at j : ℕ) → j < 16 → l ≡ replicate 16 0 → get_or l j 0 ≡ bip8 (every at 48 0 clear) =
+    λ l at j h e. ap (λ m. get_or m j 0) e ∙ get_or-replicate 16 j 0 0 h ∙ no-rows clear at in record {
+      longs = (ap length ea, ap length eb, ap length ec);
+      first = λ j h. none a j j h ea;
+      second = λ j h. none b (16 + j) j h eb;
+      third = λ j h. none c (32 + j) j h ec;
+    }
 
-  -- one row more of a column, before and after
-  sum-before : (m s v x : ℕ) → m < 48 → s ≡ bip8 (every m 48 r old) → v ≡ bit_xor s x → x ≡ get_or old (m + r * 48) 0
-      → v ≡ bip8 (every m 48 (r + 1) old)
-  sum-before m s v x h e f g =
-      f ∙ ap (λ z. bit_xor z x) e ∙ ap (bit_xor (bip8 (every m 48 r old))) g ∙ one-more old m r 0 (old-small (m + r * 48) (omega arith))
+pub keyed-next : (at : ℕ) (old now new : List ℕ) (r k i : ℕ) → i ≡ 48 * r → KeyedTo at old now r k
+    → ((m : ℕ) → m < i → get_or new m 0 ≡ get_or now m 0)
+    → ((j : ℕ) → j < 48 → get_or new (i + j) 0 ≡ bit_xor (get_or old (i + j) 0) (scrambling_byte (k + j)))
+    → KeyedTo at old new (r + 1) (k + 48)
+keyed-next at old now new r k i is so below inside = record {
+  key = omega (arith, so.key);
+  done = λ m h.
+      elim (cases_lt m (48 * r)) [
+        | inl before ↦ below m (omega arith) ∙ so.done m before
+        | inr row ↦ (
+            let j : ℕ = m - i in
+            let e : i + j ≡ m = omega arith in
+            let f : at + (48 * r + j) ≡ at + m = omega arith in
+            ap (λ n. get_or new n 0) (sym e) ∙ inside j (omega arith) ∙ ap (λ n. bit_xor (get_or old n 0) (scrambling_byte (k + j))) e
+            ∙ ap (bit_xor (get_or old m 0)) (key-at at r k j so.key ∙ ap scrambling_byte f))
+      ];
+}
 
-  sum-after : (m s v x : ℕ) → m < 48 → s ≡ bip8 (every m 48 r bytes) → v ≡ bit_xor s x → x ≡ get_or b3 (m + r * 48) 0
-      → v ≡ bip8 (every m 48 (r + 1) b3)
-  sum-after = opened-sum old bytes b1 b2 b3 at r k key done below1 from1 below2 from2 below3 from3 small
+pub summed-next : (clear clear' a b c a' b' c' : List ℕ) (r i : ℕ) → i ≡ 48 * r → SummedTo clear a b c r
+    → ((m : ℕ) → m < i → get_or clear' m 0 ≡ get_or clear m 0) → ((m : ℕ) → m < i + 48 → get_or clear' m 0 < 2 ^ 8)
+    → (length a' ≡ 16) × (length b' ≡ 16) × (length c' ≡ 16)
+    → ((j : ℕ) → j < 16 → get_or a' j 0 ≡ bit_xor (get_or a j 0) (get_or clear' (i + j) 0))
+    → ((j : ℕ) → j < 16 → get_or b' j 0 ≡ bit_xor (get_or b j 0) (get_or clear' (i + (16 + j)) 0))
+    → ((j : ℕ) → j < 16 → get_or c' j 0 ≡ bit_xor (get_or c j 0) (get_or clear' (i + (32 + j)) 0))
+    → SummedTo clear' a' b' c' (r + 1)
+summed-next clear clear' a b c a' b' c' r i is so below small longs fa fb fc =
+    let more : (m s v : ℕ) → m < 48 → s ≡ bip8 (every m 48 r clear) → v ≡ bit_xor s (get_or clear' (i + m) 0)
+    → v ≡ bip8 (every m 48 (r + 1) clear') =
+    λ m s v h e f. (let at : i + m ≡ m + r * 48 = omega arith in
+    f ∙ ap (λ z. bit_xor z (get_or clear' (i + m) 0)) (e ∙ ap bip8 (same-rows clear clear' m r h (λ n lt. sym (below n (omega arith)))))
+    ∙ ap (λ n. bit_xor (bip8 (every m 48 r clear')) (get_or clear' n 0)) at
+    ∙ one-more clear' m r 0 (subst (λ n. get_or clear' n 0 < 2 ^ 8) at (small (i + m) (omega arith)))) in record {
+      longs = longs;
+      first = λ j h. more j _ _ (omega arith) (so.first j h) (fa j h);
+      second = λ j h. more (16 + j) _ _ (omega arith) (so.second j h) (fb j h);
+      third = λ j h. more (32 + j) _ _ (omega arith) (so.third j h) (fc j h);
+    }
 
-  -- a clear byte of the second vector of a row
-  pub clear1 : (after : Bool) (j : ℕ) → j < 16 → get_or (if after then b1 else bytes) (48 * r + j) 0
-      ≡ get_or (if after then b3 else old) (j + r * 48) 0
-  clear1 true j h = sym (is1 j h) ∙ ap (λ i. get_or b3 i 0) (omega arith)
-  clear1 false j h = was1 j h ∙ ap (λ i. get_or old i 0) (omega arith)
+-- rows that were passed in place
+pub record MixedTo (after : Bool) (at : ℕ) (old now a b c : List ℕ) (r k : ℕ) : Type 0 where
+  pub keyed : KeyedTo at old now r k
+  pub rest : (i : ℕ) → 48 * r ≤ i → get_or now i 0 ≡ get_or old i 0
+  pub summed : SummedTo (if after then now else old) a b c r
 
-  pub clear2 : (after : Bool) (j : ℕ) → j < 16 → get_or (if after then b2 else b1) (48 * r + 16 + j) 0
-      ≡ get_or (if after then b3 else old) (16 + j + r * 48) 0
-  clear2 true j h = sym (is2 j h) ∙ ap (λ i. get_or b3 i 0) (omega arith)
-  clear2 false j h = was2 j h ∙ ap (λ i. get_or old i 0) (omega arith)
+pub none-mixed : (after : Bool) (at k : ℕ) (old a b c : List ℕ) → k ≡ at % 1016 → a ≡ replicate 16 0 → b ≡ replicate 16 0
+    → c ≡ replicate 16 0 → MixedTo after at old old a b c 0 k
+none-mixed after at k old a b c is ea eb ec = record {
+  keyed = record { key = omega (arith, is); done = λ i h. absurd (omega arith) };
+  rest = λ i h. refl;
+  summed = none-summed (if after then old else old) a b c ea eb ec;
+}
 
-  pub clear3 : (after : Bool) (j : ℕ) → j < 16 → get_or (if after then b3 else b2) (48 * r + 32 + j) 0
-      ≡ get_or (if after then b3 else old) (32 + j + r * 48) 0
-  clear3 true j h = ap (λ i. get_or b3 i 0) (omega arith)
-  clear3 false j h = was3 j h ∙ ap (λ i. get_or old i 0) (omega arith)
+-- the place in the sequence may be another one that is the same modulo 1016
+pub mixed-at : (after : Bool) (at : ℕ) (old now a b c : List ℕ) (r r' k k' : ℕ) → r ≡ r' → k % 1016 ≡ k' % 1016
+    → MixedTo after at old now a b c r k → MixedTo after at old now a b c r' k'
+mixed-at after at old now a b c r r' k k' e same so =
+    subst (λ n. MixedTo after at old now a b c n k') e (record {
+      keyed = record { key = sym same ∙ so.keyed.key; done = so.keyed.done };
+      rest = so.rest;
+      summed = so.summed;
+    })
 
-  pub sum-clear : (after : Bool) (m s v x : ℕ) → m < 48 → s ≡ bip8 (every m 48 r (if after then bytes else old)) → v ≡ bit_xor s x
-      → x ≡ get_or (if after then b3 else old) (m + r * 48) 0 → v ≡ bip8 (every m 48 (r + 1) (if after then b3 else old))
-  sum-clear true m s v x h e f g = sum-after m s v x h e f g
-  sum-clear false m s v x h e f g = sum-before m s v x h e f g
+module _ (after : Bool) (at : ℕ) (old now new a b c a' b' c' : List ℕ) (r k i : ℕ) (is : i ≡ 48 * r)
+    (so : MixedTo after at old now a b c r k)
+    (below : (m : ℕ) → m < i → get_or new m 0 ≡ get_or now m 0)
+    (inside : (j : ℕ) → j < 48 → get_or new (i + j) 0 ≡ bit_xor (get_or now (i + j) 0) (scrambling_byte (k + j)))
+    (above : (m : ℕ) → i + 48 ≤ m → get_or new m 0 ≡ get_or now m 0)
+    (small : (m : ℕ) → get_or new m 0 < 2 ^ 8)
+    (longs : (length a' ≡ 16) × (length b' ≡ 16) × (length c' ≡ 16)) where
+  keyed' : KeyedTo at old new (r + 1) (k + 48)
+  keyed' =
+      keyed-next at old now new r k i is so.keyed below
+      (λ j h. inside j h ∙ ap (λ z. bit_xor z (scrambling_byte (k + j))) (so.rest (i + j) (omega arith)))
+
+  pub mixed-next : ((j : ℕ) → j < 16 → get_or a' j 0 ≡ bit_xor (get_or a j 0) (get_or (if after then new else now) (i + j) 0))
+      → ((j : ℕ) → j < 16 → get_or b' j 0 ≡ bit_xor (get_or b j 0) (get_or (if after then new else now) (i + (16 + j)) 0))
+      → ((j : ℕ) → j < 16 → get_or c' j 0 ≡ bit_xor (get_or c j 0) (get_or (if after then new else now) (i + (32 + j)) 0))
+      → MixedTo after at old new a' b' c' (r + 1) (k + 48)
+  mixed-next fa fb fc = record {
+    keyed = keyed';
+    rest = λ m h. above m (omega arith) ∙ so.rest m (omega arith);
+    summed = sums after so.summed fa fb fc;
+  }
+    where
+      old-small : (m : ℕ) → m < i + 48 → get_or old m 0 < 2 ^ 8
+      old-small m h = small-back (get_or old m 0) (get_or new m 0) (at + m) (keyed'.done m (omega arith)) (small m)
+
+      was : (m : ℕ) → get_or now (i + m) 0 ≡ get_or old (i + m) 0
+      was m = so.rest (i + m) (omega arith)
+
+      sums : (t : Bool) → SummedTo (if t then now else old) a b c r
+          → ((j : ℕ) → j < 16 → get_or a' j 0 ≡ bit_xor (get_or a j 0) (get_or (if t then new else now) (i + j) 0))
+          → ((j : ℕ) → j < 16 → get_or b' j 0 ≡ bit_xor (get_or b j 0) (get_or (if t then new else now) (i + (16 + j)) 0))
+          → ((j : ℕ) → j < 16 → get_or c' j 0 ≡ bit_xor (get_or c j 0) (get_or (if t then new else now) (i + (32 + j)) 0))
+          → SummedTo (if t then new else old) a' b' c' (r + 1)
+      sums true s ga gb gc = summed-next now new a b c a' b' c' r i is s below (λ m h. small m) longs ga gb gc
+      sums false s ga gb gc =
+          summed-next old old a b c a' b' c' r i is s (λ m h. refl) old-small longs
+          (λ j h. ga j h ∙ ap (bit_xor (get_or a j 0)) (was j)) (λ j h. gb j h ∙ ap (bit_xor (get_or b j 0)) (was (16 + j)))
+          (λ j h. gc j h ∙ ap (bit_xor (get_or c j 0)) (was (32 + j)))
+
+-- rows that were copied
+pub record OpenedTo (at : ℕ) (from to a b c : List ℕ) (r k : ℕ) : Type 0 where
+  pub keyed : KeyedTo at from to r k
+  pub summed : SummedTo to a b c r
+
+pub none-opened : (at k : ℕ) (from to a b c : List ℕ) → k ≡ at % 1016 → a ≡ replicate 16 0 → b ≡ replicate 16 0 → c ≡ replicate 16 0
+    → OpenedTo at from to a b c 0 k
+none-opened at k from to a b c is ea eb ec = record {
+  keyed = record { key = omega (arith, is); done = λ i h. absurd (omega arith) };
+  summed = none-summed to a b c ea eb ec;
+}
+
+pub opened-at : (at : ℕ) (from to a b c : List ℕ) (r r' k k' : ℕ) → r ≡ r' → k % 1016 ≡ k' % 1016
+    → OpenedTo at from to a b c r k → OpenedTo at from to a b c r' k'
+opened-at at from to a b c r r' k k' e same so =
+    subst (λ n. OpenedTo at from to a b c n k') e (record {
+      keyed = record { key = sym same ∙ so.keyed.key; done = so.keyed.done };
+      summed = so.summed;
+    })
+
+pub opened-next : (at : ℕ) (from to new a b c a' b' c' : List ℕ) (r k i : ℕ) → i ≡ 48 * r → OpenedTo at from to a b c r k
+    → ((m : ℕ) → m < i → get_or new m 0 ≡ get_or to m 0)
+    → ((j : ℕ) → j < 48 → get_or new (i + j) 0 ≡ bit_xor (get_or from (i + j) 0) (scrambling_byte (k + j)))
+    → ((m : ℕ) → get_or new m 0 < 2 ^ 8) → (length a' ≡ 16) × (length b' ≡ 16) × (length c' ≡ 16)
+    → ((j : ℕ) → j < 16 → get_or a' j 0 ≡ bit_xor (get_or a j 0) (get_or new (i + j) 0))
+    → ((j : ℕ) → j < 16 → get_or b' j 0 ≡ bit_xor (get_or b j 0) (get_or new (i + (16 + j)) 0))
+    → ((j : ℕ) → j < 16 → get_or c' j 0 ≡ bit_xor (get_or c j 0) (get_or new (i + (32 + j)) 0))
+    → OpenedTo at from new a' b' c' (r + 1) (k + 48)
+opened-next at from to new a b c a' b' c' r k i is so below inside small longs fa fb fc = record {
+  keyed = keyed-next at from to new r k i is so.keyed below inside;
+  summed = summed-next to new a b c a' b' c' r i is so.summed below (λ m h. small m) longs fa fb fc;
+}
 
 -- bytes to which the sequence was added are small where what is left of them is
 pub all-small : (old new : List ℕ) (at : ℕ) → ((i : ℕ) → i < length old

@@ -105,7 +105,7 @@ sums_at (x ∷ xs) n (suc k) h each =
 first-none : first 0 ≡ 0
 first-none = ap bip8 (cells-zero scrambling_byte) ∙ bip8-nil
 
-firsts : (k : ℕ) → k ≤ 1064 → get_or (sums_from 0 SEQUENCE) k 0 ≡ first k
+firsts : (k : ℕ) → k ≤ 1160 → get_or (sums_from 0 SEQUENCE) k 0 ≡ first k
 firsts k h =
     ap (λ p. get_or (sums_from p SEQUENCE) k 0) (sym first-none)
     ∙ sums_at SEQUENCE 0 k (omega (arith, table_long)) (λ i lt. table_at i (omega (arith, table_long))

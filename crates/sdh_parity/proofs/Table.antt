@@ -1,4 +1,4 @@
--- The sequence repeats after 1016 bytes, and the table is its first 1064.
+-- The sequence repeats after 1016 bytes, and the table is its first 1160.
 use Rattle.std.proofs.Common.{◌≡◌, ℕ, zero, suc, ◌+◌, ◌*◌, ◌%◌, ◌<◌, List, [], ◌∷◌, length, get_or, refl, ap, arith, add-one, sym, ◌∙◌}
 use Rattle.sdh_parity.specs.Scrambling.{scrambling_byte}
 use Rattle.sdh_parity.specs.declared.scrambler.TheConstants.{SEQUENCE}
@@ -40,7 +40,7 @@ abbrev bytes_from : ℕ → ℕ → List ℕ
 bytes_from s zero = []
 bytes_from s (suc n) = (s * 2 + next s % 2) ∷ bytes_from (next (next (next (next (next (next (next (next s)))))))) n
 
-table : SEQUENCE ≡ bytes_from 127 1064
+table : SEQUENCE ≡ bytes_from 127 1160
 table = refl
 
 bytes_at : (n j k : ℕ) → k < n → get_or (bytes_from (register (8 * j)) n) k 0 ≡ scrambling_byte (j + k)
@@ -56,9 +56,9 @@ bytes_at (suc n) j (suc k) h =
     let more = bytes_at n (j + 1) k g in
     ap (λ s. get_or (bytes_from s n) k 0) step ∙ (more ∙ ap scrambling_byte f)
 
-pub table_at : (k : ℕ) → k < 1064 → get_or SEQUENCE k 0 ≡ scrambling_byte k
+pub table_at : (k : ℕ) → k < 1160 → get_or SEQUENCE k 0 ≡ scrambling_byte k
 unfolding register
-table_at k h = let e : 0 + k ≡ k = omega arith in ap (λ l. get_or l k 0) table ∙ (bytes_at 1064 0 k h ∙ ap scrambling_byte e)
+table_at k h = let e : 0 + k ≡ k = omega arith in ap (λ l. get_or l k 0) table ∙ (bytes_at 1160 0 k h ∙ ap scrambling_byte e)
 
-pub table_long : length SEQUENCE ≡ 1064
+pub table_long : length SEQUENCE ≡ 1160
 table_long = refl

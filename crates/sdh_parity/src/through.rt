@@ -1,7 +1,7 @@
 //! The scrambler and both parities in one pass over the bytes of a piece. Only the clear bytes are summed. They are the
 //! bytes after the pass where `clear_after` holds, and those before it otherwise. The parity of the other bytes, those
 //! on the line, is that of the clear bytes with that of the sequence added.
-ghost use Rattle.std.specs.Prelude.{◌≡◌, ℕ, ◌+◌, ◌*◌, ◌%◌, ◌^◌, ◌<◌, ◌≤◌, if◌then◌else◌, length, slice_index, bit_xor};
+ghost use Rattle.std.specs.Prelude.{◌≡◌, ℕ, ◌+◌, ◌*◌, ◌%◌, ◌^◌, ◌<◌, ◌≤◌, if◌then◌else◌, length, replicate, slice_index, bit_xor};
 ghost use Rattle.sdh_basics.specs.Parity.{bip8 as parity_of};
 ghost use Rattle.sdh_parity.specs.Parity.{every};
 ghost use Rattle.sdh_parity.specs.Scrambling.{scrambling_byte};
@@ -15,7 +15,7 @@ use std::simd::prelude::*;
 #[inline(always)]
 fn keyed(old: u8x16, k: usize) -> u8x16
     requires long { length old ≡ 16 }
-    requires key { k + 16 ≤ 1064 }
+    requires key { k + 16 ≤ 1160 }
     ensures len { length result ≡ 16 }
     ensures each { (j : ℕ) → j < 16 → slice_index result j ≡ bit_xor (slice_index old j) (scrambling_byte (k + j)) }
 {
@@ -27,7 +27,7 @@ fn keyed(old: u8x16, k: usize) -> u8x16
 #[inline(always)]
 fn step(bytes: &mut [u8], i: usize, k: usize, sum: u8x16, clear_after: bool) -> u8x16
     requires room { i + 16 ≤ length bytes.old }
-    requires key { k + 16 ≤ 1064 }
+    requires key { k + 16 ≤ 1160 }
     requires sum { length sum ≡ 16 }
     ensures below { (m : ℕ) → m < i → slice_index bytes.new m ≡ slice_index bytes.old m }
     ensures inside { (j : ℕ) → j < 16 → slice_index bytes.new (i + j) ≡ bit_xor (slice_index bytes.old (i + j)) (scrambling_byte (k + j)) }
@@ -48,7 +48,7 @@ fn step(bytes: &mut [u8], i: usize, k: usize, sum: u8x16, clear_after: bool) -> 
 fn open_step(from: &[u8], to: &mut [u8], i: usize, k: usize, sum: u8x16) -> u8x16
     requires room { i + 16 ≤ length from.now }
     requires same { length to.old ≡ length from.now }
-    requires key { k + 16 ≤ 1064 }
+    requires key { k + 16 ≤ 1160 }
     requires sum { length sum ≡ 16 }
     ensures below { (m : ℕ) → m < i → slice_index to.new m ≡ slice_index to.old m }
     ensures inside { (j : ℕ) → j < 16 → slice_index to.new (i + j) ≡ bit_xor (slice_index from.now (i + j)) (scrambling_byte (k + j)) }
@@ -60,29 +60,89 @@ fn open_step(from: &[u8], to: &mut [u8], i: usize, k: usize, sum: u8x16) -> u8x1
     sum ^ new
 }
 
-// Returns the place in the sequence 48 bytes after place k, modulo 1016.
-#[inline(always)]
-fn after_row(k: usize) -> usize
-    requires { k < 1016 }
-    ensures { result ≡ (k + 48) % 1016 }
-{
-    if k + 48 >= 1016 {
-        k + 48 - 1016
-    } else {
-        k + 48
-    }
-}
-
 // The parities of 48 columns: of the first sixteen, the next sixteen and the last sixteen.
-#[derive(Drop)]
+#[derive(Clone, Copy)]
 struct Sums {
     a: u8x16,
     b: u8x16,
     c: u8x16,
 }
 
+fn no_sums() -> Sums
+    ensures a { result.a ≡ replicate 16 0 }
+    ensures b { result.b ≡ replicate 16 0 }
+    ensures c { result.c ≡ replicate 16 0 }
+{
+    let none = u8x16::splat(0);
+    Sums {
+        a: none,
+        b: none,
+        c: none,
+    }
+}
+
+// Adds the sequence, from its byte k on, to the row of 48 bytes from place i on. Returns the sums with these bytes
+// added, as they are when clear: after the step where `clear_after` holds, and before it otherwise.
+#[inline(always)]
+fn mix_row(bytes: &mut [u8], i: usize, k: usize, sums: Sums, clear_after: bool) -> Sums
+    requires room { i + 48 ≤ length bytes.old }
+    requires key { k + 48 ≤ 1160 }
+    requires sums { (length sums.a ≡ 16) × (length sums.b ≡ 16) × (length sums.c ≡ 16) }
+    ensures below { (m : ℕ) → m < i → slice_index bytes.new m ≡ slice_index bytes.old m }
+    ensures inside { (j : ℕ) → j < 48 → slice_index bytes.new (i + j) ≡ bit_xor (slice_index bytes.old (i + j)) (scrambling_byte (k + j)) }
+    ensures above { (m : ℕ) → i + 48 ≤ m → slice_index bytes.new m ≡ slice_index bytes.old m }
+    ensures small { (m : ℕ) → slice_index bytes.new m < 2 ^ 8 }
+    ensures longs { (length result.a ≡ 16) × (length result.b ≡ 16) × (length result.c ≡ 16) }
+    ensures a { (j : ℕ) → j < 16
+        → slice_index result.a j ≡ bit_xor (slice_index sums.a j) (slice_index (if clear_after then bytes.new else bytes.old) (i + j)) }
+    ensures b { (j : ℕ) → j < 16 → slice_index result.b j
+        ≡ bit_xor (slice_index sums.b j) (slice_index (if clear_after then bytes.new else bytes.old) (i + (16 + j))) }
+    ensures c { (j : ℕ) → j < 16 → slice_index result.c j
+        ≡ bit_xor (slice_index sums.c j) (slice_index (if clear_after then bytes.new else bytes.old) (i + (32 + j))) }
+{
+    let a = step(bytes, i, k, sums.a, clear_after);
+    let b = step(bytes, i + 16, k + 16, sums.b, clear_after);
+    let c = step(bytes, i + 32, k + 32, sums.c, clear_after);
+    Sums { a, b, c }
+}
+
+// Copies the row of 48 bytes from place i on, and adds the sequence, from its byte k on, to the copy. Returns the sums
+// with the copy added, which is clear.
+#[inline(always)]
+fn open_row(from: &[u8], to: &mut [u8], i: usize, k: usize, sums: Sums) -> Sums
+    requires room { i + 48 ≤ length from.now }
+    requires same { length to.old ≡ length from.now }
+    requires key { k + 48 ≤ 1160 }
+    requires sums { (length sums.a ≡ 16) × (length sums.b ≡ 16) × (length sums.c ≡ 16) }
+    ensures below { (m : ℕ) → m < i → slice_index to.new m ≡ slice_index to.old m }
+    ensures inside { (j : ℕ) → j < 48 → slice_index to.new (i + j) ≡ bit_xor (slice_index from.now (i + j)) (scrambling_byte (k + j)) }
+    ensures small { (m : ℕ) → slice_index to.new m < 2 ^ 8 }
+    ensures longs { (length result.a ≡ 16) × (length result.b ≡ 16) × (length result.c ≡ 16) }
+    ensures a { (j : ℕ) → j < 16 → slice_index result.a j ≡ bit_xor (slice_index sums.a j) (slice_index to.new (i + j)) }
+    ensures b { (j : ℕ) → j < 16 → slice_index result.b j ≡ bit_xor (slice_index sums.b j) (slice_index to.new (i + (16 + j))) }
+    ensures c { (j : ℕ) → j < 16 → slice_index result.c j ≡ bit_xor (slice_index sums.c j) (slice_index to.new (i + (32 + j))) }
+{
+    let a = open_step(from, to, i, k, sums.a);
+    let b = open_step(from, to, i + 16, k + 16, sums.b);
+    let c = open_step(from, to, i + 32, k + 32, sums.c);
+    Sums { a, b, c }
+}
+
+// Returns the place in the sequence 144 bytes after place k, modulo 1016.
+#[inline(always)]
+fn after_three(k: usize) -> usize
+    requires { k < 1016 }
+    ensures { result ≡ (k + 144) % 1016 }
+{
+    if k + 144 >= 1016 {
+        k + 144 - 1016
+    } else {
+        k + 144
+    }
+}
+
 // Adds the sequence, from its byte `at` on, to whole rows of 48 bytes. Returns the parities of the columns of clear
-// bytes.
+// bytes. It goes on by three rows, so that the place in the sequence is brought below 1016 only after each third.
 #[inline(always)]
 fn mix(bytes: &mut [u8], at: usize, rows: usize, clear_after: bool) -> Sums
     requires rows { length bytes.old ≡ 48 * rows }
@@ -94,21 +154,24 @@ fn mix(bytes: &mut [u8], at: usize, rows: usize, clear_after: bool) -> Sums
         → slice_index result.c j ≡ parity_of (every (32 + j) 48 rows (if clear_after then bytes.new else bytes.old)) }
     ensures longs { (length result.a ≡ 16) × (length result.b ≡ 16) × (length result.c ≡ 16) }
 {
-    let none = u8x16::splat(0);
-    let (mut a, mut b, mut c) = (none, none, none);
+    let mut sums = no_sums();
     let mut k = at % 1016;
-    for r in 0..rows {
-        let i = 48 * r;
-        a = step(bytes, i, k, a, clear_after);
-        b = step(bytes, i + 16, k + 16, b, clear_after);
-        c = step(bytes, i + 32, k + 32, c, clear_after);
-        k = after_row(k);
+    'thirds: for t in 0..rows / 3 {
+        let i = 144 * t;
+        sums = mix_row(bytes, i, k, sums, clear_after);
+        sums = mix_row(bytes, i + 48, k + 48, sums, clear_after);
+        sums = mix_row(bytes, i + 96, k + 96, sums, clear_after);
+        k = after_three(k);
     }
-    Sums { a, b, c }
+    'last: for r in 3 * (rows / 3)..rows {
+        sums = mix_row(bytes, 48 * r, k, sums, clear_after);
+        k += 48;
+    }
+    sums
 }
 
 // Copies whole rows of 48 bytes, and adds the sequence, from its byte `at` on, to the copies. Returns the parities of
-// the columns of the copies.
+// the columns of the copies. It goes on by three rows, as `mix` does.
 #[inline(always)]
 fn open_rows(from: &[u8], to: &mut [u8], at: usize, rows: usize) -> Sums
     requires rows { length from.now ≡ 48 * rows }
@@ -119,17 +182,20 @@ fn open_rows(from: &[u8], to: &mut [u8], at: usize, rows: usize) -> Sums
     ensures c { (j : ℕ) → j < 16 → slice_index result.c j ≡ parity_of (every (32 + j) 48 rows to.new) }
     ensures longs { (length result.a ≡ 16) × (length result.b ≡ 16) × (length result.c ≡ 16) }
 {
-    let none = u8x16::splat(0);
-    let (mut a, mut b, mut c) = (none, none, none);
+    let mut sums = no_sums();
     let mut k = at % 1016;
-    for r in 0..rows {
-        let i = 48 * r;
-        a = open_step(from, to, i, k, a);
-        b = open_step(from, to, i + 16, k + 16, b);
-        c = open_step(from, to, i + 32, k + 32, c);
-        k = after_row(k);
+    'thirds: for t in 0..rows / 3 {
+        let i = 144 * t;
+        sums = open_row(from, to, i, k, sums);
+        sums = open_row(from, to, i + 48, k + 48, sums);
+        sums = open_row(from, to, i + 96, k + 96, sums);
+        k = after_three(k);
     }
-    Sums { a, b, c }
+    'last: for r in 3 * (rows / 3)..rows {
+        sums = open_row(from, to, 48 * r, k, sums);
+        k += 48;
+    }
+    sums
 }
 
 // Puts three vectors, one after the other, into the 48 bytes of `all`.
@@ -164,7 +230,7 @@ pub fn add_to(sums: &mut [u8], bytes: &[u8], len: usize)
 #[inline(always)]
 fn add_key(bytes: &mut [u8], len: usize, k: usize)
     requires bytes { length bytes.old ≡ len }
-    requires key { k + len ≤ 1064 }
+    requires key { k + len ≤ 1160 }
     ensures { (i : ℕ) → i < len → slice_index bytes.new i ≡ bit_xor (slice_index bytes.old i) (scrambling_byte (k + i)) }
 {
     for i in 0..len {
@@ -178,7 +244,7 @@ fn add_key(bytes: &mut [u8], len: usize, k: usize)
 fn pass_part(bytes: &mut [u8], len: usize, k: usize, lanes: &mut [u8], clear_after: bool)
     requires bytes { length bytes.old ≡ len }
     requires few { len ≤ 48 }
-    requires key { k + len ≤ 1064 }
+    requires key { k + len ≤ 1160 }
     requires lanes { length lanes.old ≡ 48 }
     ensures bytes { (i : ℕ) → i < len → slice_index bytes.new i ≡ bit_xor (slice_index bytes.old i) (scrambling_byte (k + i)) }
     ensures lanes { (j : ℕ) → j < len
@@ -199,7 +265,7 @@ fn pass_part(bytes: &mut [u8], len: usize, k: usize, lanes: &mut [u8], clear_aft
 // as a constant, so that the short loops are unrolled.
 fn pass_rest(bytes: &mut [u8], k: usize, lanes: &mut [u8], clear_after: bool)
     requires few { length bytes.old ≤ 48 }
-    requires key { k + length bytes.old ≤ 1064 }
+    requires key { k + length bytes.old ≤ 1160 }
     requires lanes { length lanes.old ≡ 48 }
     ensures bytes { (i : ℕ) → i < length bytes.old → slice_index bytes.new i ≡ bit_xor (slice_index bytes.old i) (scrambling_byte (k + i)) }
     ensures lanes { (j : ℕ) → j < length bytes.old

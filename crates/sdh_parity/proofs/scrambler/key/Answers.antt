@@ -5,8 +5,8 @@ use Rattle.sdh_parity.proofs.scrambler.key.Goals as goal
 
 pub returns-clause-each : goal.returns-clause-each
 returns-clause-each c = λ j h.
-    let inside : 0 + j < 1064 - c.args.i = omega arith in
-    let within : c.args.i + j < 1064 = omega arith in
+    let inside : 0 + j < 1160 - c.args.i = omega arith in
+    let within : c.args.i + j < 1160 = omega arith in
     let e : c.args.i + (0 + j) ≡ c.args.i + j = omega arith in
-    get_or-chunk 0 16 _ j 0 h ∙ get_or-part c.args.i (1064 - c.args.i) c.table.result.now (0 + j) inside
+    get_or-chunk 0 16 _ j 0 h ∙ get_or-part c.args.i (1160 - c.args.i) c.table.result.now (0 + j) inside
     ∙ ap (λ k. get_or c.table.result.now k 0) e ∙ c.table.ensures.each (c.args.i + j) within

@@ -1,19 +1,15 @@
-use Rattle.std.proofs.Common.{◌≡◌, ℕ, ◌+◌, ◌*◌, ◌%◌, ◌<◌, ◌≤◌, slice_index, length, bit_xor}
-use Rattle.std.specs.Prelude.{if◌then◌else◌}
-use Rattle.sdh_basics.specs.Parity.{bip8}
-use Rattle.sdh_parity.specs.Parity.{every}
-use Rattle.sdh_parity.specs.Scrambling.{scrambling_byte}
+use Rattle.std.proofs.Common.{◌+◌, ◌*◌, ◌/◌, ◌<◌}
+use Rattle.sdh_parity.proofs.Mixing.{MixedTo}
 use Rattle.sdh_parity.proofs.through.mix.Given as goal
 
-abbrev pub invariant-loop-r : goal.invariant-loop-r
-invariant-loop-r l = record {
-  key : l.k ≡ (l.at + 48 * l.r) % 1016;
-  done : (i : ℕ) → i < 48 * l.r → slice_index l.bytes i ≡ bit_xor (slice_index l.fn.bytes i) (scrambling_byte (l.at + i));
-  rest : (i : ℕ) → 48 * l.r ≤ i → slice_index l.bytes i ≡ slice_index l.fn.bytes i;
-  la : length l.a ≡ 16;
-  lb : length l.b ≡ 16;
-  lc : length l.c ≡ 16;
-  a : (j : ℕ) → j < 16 → slice_index l.a j ≡ bip8 (every j 48 l.r (if l.clear_after then l.bytes else l.fn.bytes));
-  b : (j : ℕ) → j < 16 → slice_index l.b j ≡ bip8 (every (16 + j) 48 l.r (if l.clear_after then l.bytes else l.fn.bytes));
-  c : (j : ℕ) → j < 16 → slice_index l.c j ≡ bip8 (every (32 + j) 48 l.r (if l.clear_after then l.bytes else l.fn.bytes));
+abbrev pub invariant-thirds : goal.invariant-thirds
+invariant-thirds l = record {
+  key : l.k < 1016;
+  mixed : MixedTo l.clear_after l.at l.fn.bytes l.bytes l.sums.a l.sums.b l.sums.c (3 * l.t) l.k;
+}
+
+abbrev pub invariant-last : goal.invariant-last
+invariant-last l = record {
+  key : l.k + 144 * (l.rows / 3) < 1016 + 48 * l.r;
+  mixed : MixedTo l.clear_after l.at l.fn.bytes l.bytes l.sums.a l.sums.b l.sums.c l.r l.k;
 }

@@ -1,46 +1,77 @@
-use Rattle.std.proofs.Common.{◌+◌, get_or, refl, ap, sym, ◌∙◌, arith}
-use Rattle.std.proofs.lemmas.List.{get_or-replicate}
-use Rattle.sdh_parity.proofs.Mixing.{no-rows, opened-done, opened-sum, stays1, stays2}
+use Rattle.std.proofs.Common.{◌+◌, ◌*◌, ◌/◌, ◌%◌, ap, refl, ◌∙◌, arith}
+use Rattle.sdh_basics.specs.Parity.{bip8}
+use Rattle.sdh_parity.specs.Parity.{every}
+use Rattle.sdh_parity.proofs.Mixing.{none-opened, opened-at, opened-next}
 use Rattle.sdh_parity.proofs.through.open_rows.Goals as goal
 
-pub loop-r-init : goal.loop-r-init
-loop-r-init c = record {
+pub open_row-sums-requires-clause-sums : goal.open_row-sums-requires-clause-sums
+open_row-sums-requires-clause-sums c = c.thirds.invariant.opened.summed.longs
+
+pub open_row-sums-requires-in-last-clause-sums : goal.open_row-sums-requires-in-last-clause-sums
+open_row-sums-requires-in-last-clause-sums c = c.last.invariant.opened.summed.longs
+
+pub thirds-init : goal.thirds-init
+thirds-init c = record {
   key = omega arith;
-  done = λ i h. absurd (omega arith);
-  la = refl;
-  lb = refl;
-  lc = refl;
-  a = λ j h. get_or-replicate 16 j 0 0 h ∙ no-rows c.args.to.now j;
-  b = λ j h. get_or-replicate 16 j 0 0 h ∙ no-rows c.args.to.now (16 + j);
-  c = λ j h. get_or-replicate 16 j 0 0 h ∙ no-rows c.args.to.now (32 + j);
+  opened =
+      none-opened c.args.at _ c.args.from.now c.args.to.now _ _ _ refl c.no_sums-sums.ensures.a c.no_sums-sums.ensures.b c.no_sums-sums.ensures.c;
 }
 
-pub loop-r-preserved : goal.loop-r-preserved
-loop-r-preserved c = record {
-  key = omega (arith, c.loop-r.invariant.key, c.after_row-k.ensures);
-  done =
-      opened-done c.args.from.now c.loop-r.to c.open_step-a.new.to c.open_step-b.new.to c.open_step-c.new.to c.args.at c.loop-r.r c.loop-r.k c.loop-r.invariant.key c.loop-r.invariant.done
-      c.open_step-a.ensures.below c.open_step-a.ensures.inside c.open_step-b.ensures.below c.open_step-b.ensures.inside c.open_step-c.ensures.below c.open_step-c.ensures.inside (λ m. omega (arith, c.type_inv.to m));
-  la = c.open_step-a.ensures.long;
-  lb = c.open_step-b.ensures.long;
-  lc = c.open_step-c.ensures.long;
-  a = λ j h.
-      opened-sum c.args.from.now c.loop-r.to c.open_step-a.new.to c.open_step-b.new.to c.open_step-c.new.to c.args.at c.loop-r.r c.loop-r.k c.loop-r.invariant.key c.loop-r.invariant.done
-      c.open_step-a.ensures.below c.open_step-a.ensures.inside c.open_step-b.ensures.below c.open_step-b.ensures.inside c.open_step-c.ensures.below c.open_step-c.ensures.inside (λ m. omega (arith, c.type_inv.to m))
-      j _ _ _ (omega arith) (c.loop-r.invariant.a j h) (c.open_step-a.ensures.sum j h)
-      (sym (stays1 c.args.from.now c.loop-r.to c.open_step-a.new.to c.open_step-b.new.to c.open_step-c.new.to c.args.at c.loop-r.r c.loop-r.k c.loop-r.invariant.key c.loop-r.invariant.done
-      c.open_step-a.ensures.below c.open_step-a.ensures.inside c.open_step-b.ensures.below c.open_step-b.ensures.inside c.open_step-c.ensures.below c.open_step-c.ensures.inside (λ m. omega (arith, c.type_inv.to m)) j h)
-      ∙ ap (λ i. get_or c.open_step-c.new.to i 0) (omega arith));
-  b = λ j h.
-      opened-sum c.args.from.now c.loop-r.to c.open_step-a.new.to c.open_step-b.new.to c.open_step-c.new.to c.args.at c.loop-r.r c.loop-r.k c.loop-r.invariant.key c.loop-r.invariant.done
-      c.open_step-a.ensures.below c.open_step-a.ensures.inside c.open_step-b.ensures.below c.open_step-b.ensures.inside c.open_step-c.ensures.below c.open_step-c.ensures.inside (λ m. omega (arith, c.type_inv.to m))
-      (16 + j) _ _ _ (omega arith) (c.loop-r.invariant.b j h) (c.open_step-b.ensures.sum j h)
-      (sym (stays2 c.args.from.now c.loop-r.to c.open_step-a.new.to c.open_step-b.new.to c.open_step-c.new.to c.args.at c.loop-r.r c.loop-r.k c.loop-r.invariant.key c.loop-r.invariant.done
-      c.open_step-a.ensures.below c.open_step-a.ensures.inside c.open_step-b.ensures.below c.open_step-b.ensures.inside c.open_step-c.ensures.below c.open_step-c.ensures.inside (λ m. omega (arith, c.type_inv.to m)) j h)
-      ∙ ap (λ i. get_or c.open_step-c.new.to i 0) (omega arith));
-  c = λ j h.
-      opened-sum c.args.from.now c.loop-r.to c.open_step-a.new.to c.open_step-b.new.to c.open_step-c.new.to c.args.at c.loop-r.r c.loop-r.k c.loop-r.invariant.key c.loop-r.invariant.done
-      c.open_step-a.ensures.below c.open_step-a.ensures.inside c.open_step-b.ensures.below c.open_step-b.ensures.inside c.open_step-c.ensures.below c.open_step-c.ensures.inside (λ m. omega (arith, c.type_inv.to m))
-      (32 + j) _ _ _ (omega arith) (c.loop-r.invariant.c j h) (c.open_step-c.ensures.sum j h)
-      (ap (λ i. get_or c.open_step-c.new.to i 0) (omega arith));
+pub thirds-preserved : goal.thirds-preserved
+thirds-preserved c =
+    let one =
+    opened-next c.args.at c.args.from.now c.thirds.to c.open_row-sums.new.to c.thirds.sums.a c.thirds.sums.b c.thirds.sums.c c.open_row-sums.result.a c.open_row-sums.result.b c.open_row-sums.result.c
+    (3 * c.thirds.t) (c.thirds.k) (144 * c.thirds.t) (omega arith) c.thirds.invariant.opened c.open_row-sums.ensures.below c.open_row-sums.ensures.inside c.open_row-sums.ensures.small c.open_row-sums.ensures.longs
+    c.open_row-sums.ensures.a c.open_row-sums.ensures.b c.open_row-sums.ensures.c in
+    let two =
+    opened-next c.args.at c.args.from.now c.open_row-sums.new.to c.open_row-sums-in-thirds.new.to c.open_row-sums.result.a c.open_row-sums.result.b c.open_row-sums.result.c c.open_row-sums-in-thirds.result.a c.open_row-sums-in-thirds.result.b c.open_row-sums-in-thirds.result.c
+    (3 * c.thirds.t + 1) (c.thirds.k + 48) (144 * c.thirds.t + 48) (omega arith) one c.open_row-sums-in-thirds.ensures.below c.open_row-sums-in-thirds.ensures.inside c.open_row-sums-in-thirds.ensures.small c.open_row-sums-in-thirds.ensures.longs
+    c.open_row-sums-in-thirds.ensures.a c.open_row-sums-in-thirds.ensures.b c.open_row-sums-in-thirds.ensures.c in
+    let to =
+    opened-at c.args.at c.args.from.now c.open_row-sums-in-thirds.new.to c.open_row-sums-in-thirds.result.a c.open_row-sums-in-thirds.result.b c.open_row-sums-in-thirds.result.c (3 * c.thirds.t + 1 + 1) (3 * c.thirds.t + 2) (c.thirds.k + 48 + 48) (c.thirds.k + 96) (omega arith) (ap (λ n. n % 1016) (omega arith)) two in
+    let three =
+    opened-next c.args.at c.args.from.now c.open_row-sums-in-thirds.new.to c.open_row-sums-in-thirds-2.new.to c.open_row-sums-in-thirds.result.a c.open_row-sums-in-thirds.result.b c.open_row-sums-in-thirds.result.c c.open_row-sums-in-thirds-2.result.a c.open_row-sums-in-thirds-2.result.b c.open_row-sums-in-thirds-2.result.c
+    (3 * c.thirds.t + 2) (c.thirds.k + 96) (144 * c.thirds.t + 96) (omega arith) to c.open_row-sums-in-thirds-2.ensures.below c.open_row-sums-in-thirds-2.ensures.inside c.open_row-sums-in-thirds-2.ensures.small c.open_row-sums-in-thirds-2.ensures.longs
+    c.open_row-sums-in-thirds-2.ensures.a c.open_row-sums-in-thirds-2.ensures.b c.open_row-sums-in-thirds-2.ensures.c in
+    record {
+      key = omega (arith, c.after_three-k.ensures);
+      opened =
+          opened-at c.args.at c.args.from.now c.open_row-sums-in-thirds-2.new.to c.open_row-sums-in-thirds-2.result.a c.open_row-sums-in-thirds-2.result.b c.open_row-sums-in-thirds-2.result.c (3 * c.thirds.t + 2 + 1) (3 * (c.thirds.t + 1)) (c.thirds.k + 96 + 48) (c.after_three-k.result) (omega arith) (omega (arith, c.after_three-k.ensures)) three;
+    }
+
+pub last-init : goal.last-init
+last-init c = record {
+  key = omega (arith, c.thirds.invariant.key);
+  opened =
+      opened-at c.args.at c.args.from.now c.thirds.to c.thirds.sums.a c.thirds.sums.b c.thirds.sums.c (3 * c.thirds.t) (3 * (c.args.rows / 3)) (c.thirds.k) (c.thirds.k) (omega arith) (refl) c.thirds.invariant.opened;
 }
+
+pub last-preserved : goal.last-preserved
+last-preserved c = record {
+  key = omega (arith, c.last.invariant.key);
+  opened =
+      opened-next c.args.at c.args.from.now c.last.to c.open_row-sums-in-last.new.to c.last.sums.a c.last.sums.b c.last.sums.c c.open_row-sums-in-last.result.a c.open_row-sums-in-last.result.b c.open_row-sums-in-last.result.c
+      (c.last.r) (c.last.k) (48 * c.last.r) (omega arith) c.last.invariant.opened c.open_row-sums-in-last.ensures.below c.open_row-sums-in-last.ensures.inside c.open_row-sums-in-last.ensures.small c.open_row-sums-in-last.ensures.longs
+      c.open_row-sums-in-last.ensures.a c.open_row-sums-in-last.ensures.b c.open_row-sums-in-last.ensures.c;
+}
+
+pub returns-clause-bytes : goal.returns-clause-bytes
+returns-clause-bytes c = λ i h. c.last.invariant.opened.keyed.done i (omega arith)
+
+pub returns-clause-a : goal.returns-clause-a
+returns-clause-a c = λ j h.
+    c.last.invariant.opened.summed.first j h
+    ∙ ap (λ n. bip8 (every j 48 n c.last.to)) (omega arith)
+
+pub returns-clause-b : goal.returns-clause-b
+returns-clause-b c = λ j h.
+    c.last.invariant.opened.summed.second j h
+    ∙ ap (λ n. bip8 (every (16 + j) 48 n c.last.to)) (omega arith)
+
+pub returns-clause-c : goal.returns-clause-c
+returns-clause-c c = λ j h.
+    c.last.invariant.opened.summed.third j h
+    ∙ ap (λ n. bip8 (every (32 + j) 48 n c.last.to)) (omega arith)
+
+pub returns-clause-longs : goal.returns-clause-longs
+returns-clause-longs c = c.last.invariant.opened.summed.longs
