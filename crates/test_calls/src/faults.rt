@@ -268,8 +268,16 @@ const PATH_OF_SMALLEST: Given<'static> = Given {
     ..PATH
 };
 
-const DROPPED: Given<'static> = Given {
+// The first read of the plan fails, or the last one before its end.
+const DEAF_DROP: Given<'static> = Given {
     words: DROP,
+    reads: &[1],
+    ..SOUND
+};
+
+const LATE_DEAF_DROP: Given<'static> = Given {
+    words: DROP,
+    reads: &[3],
     ..SOUND
 };
 
@@ -301,11 +309,14 @@ const DARK_PATHS: &str = "settle 1 round 128\nport c1 a ais\nport c1 b ais\ndone
 
 const DARK_WATCHES: &str = "settle 1 round 128\nwatch c1 a ais\nwatch c1 b ais\ndone\n";
 
-// A write that fails hides a read that fails; tables run no round, since these fibres have no room for a frame, and the
-// limit of one plan is too small for a settle step; nothing comes out of fibres.
+// A sink takes no more; a port isn't listed whose plan can't be read; a write that fails hides a read that fails; tables
+// run no round, since these fibres have no room for a frame, and the limit of one plan is too small for a settle step;
+// nothing comes out of fibres.
 const OTHERS: &[Row] = &[
     (FULL_SINK, Honest, ONCE, 4, "settle 1 r"),
     (FAILING_SINK, Honest, ONCE, 4, "settle 1 r"),
+    (DEAF_DROP, Honest, ONCE, 3, READ_FAULT),
+    (LATE_DEAF_DROP, Honest, ONCE, 3, READ_FAULT),
     (DEAF_RING, Honest, ONCE, 4, ""),
     (DEAF_PATH, Honest, ONCE, 4, ""),
     (DEAF_WATCH, Honest, ONCE, 4, ""),
