@@ -1,4 +1,4 @@
-//! What a port delivers.
+//! What a port delivers, taken out of the frames that both sides received.
 ghost use Rattle.std.specs.Prelude.{◌≡◌, ◌≤◌, IfOk};
 ghost use Rattle.sdh_ringmap.specs.Rates.{n_of};
 ghost use Rattle.sdh_frame.specs.Aus.{au_of};
@@ -6,7 +6,7 @@ ghost use Rattle.sdh_payload.specs.Chunk.{taken};
 ghost use Rattle.sdh_payload.specs.Outlet.{silent, delivering};
 ghost use Rattle.sdh_interchange.specs.Taking.{IsOf};
 ghost use Rattle.sdh_terminal.specs.Passing.{h3_of};
-ghost use Rattle.sdh_terminal.specs.Lines.{line_on, received, dropped_by, IsFeeder};
+ghost use Rattle.sdh_terminal.specs.Lines.{line_on, received, dropped_by, IsFeeder, AreOf};
 ghost use Rattle.sdh_terminal.specs.Outlets.{chunk_form, chunk_from, delivered_from, HasRoom};
 
 use crate::intake::h3_at;
@@ -18,6 +18,32 @@ use sdh_pointer::Action;
 use sdh_ringmap::Side;
 use std::alloc::{AllocError, Global};
 use std::marker::Model;
+
+/// What has been taken out of the frames of both sides of a node, while its ports deliver. It serves one node after the
+/// other.
+#[derive(Debug, Drop)]
+pub struct TakenPair {
+    west: Taken,
+    east: Taken,
+}
+
+impl TakenPair {
+    /// Returns a pair in which nothing is held. All its memory is taken here.
+    pub fn try_new(alloc: Global) -> Result<TakenPair, AllocError> {
+        Ok(TakenPair {
+            west: Taken::try_new(alloc)?,
+            east: Taken::try_new(alloc)?,
+        })
+    }
+
+    /// Begins with the frames of both sides of a node, and holds nothing of them yet.
+    pub fn begin<X: Matrix>(&mut self, cross: &X)
+        ensures { AreOf (X.lines cross.now) self.new.west self.new.east }
+    {
+        self.west.begin(cross.intake(Side::West).frame());
+        self.east.begin(cross.intake(Side::East).frame());
+    }
+}
 
 /// What a port delivers, and the pointer value of the interpreter through which it came.
 #[derive(Debug, Drop)]
@@ -182,23 +208,20 @@ fn deliver_received<X: Matrix>(
     }
 }
 
-/// Delivers what this feeder drops. `west` and `east` have the payloads that were already taken out of the frames of
-/// both sides.
+/// Delivers what this feeder drops. `taken` has the payloads that were already taken out of the frames of both sides.
 #[tactic(auto, unfolding(crate::specs::Outlets::delivered_from))]
 pub fn deliver_dropped<X: Matrix>(
     cross: &X,
     feeder: Feeder,
-    west: &mut Taken,
-    east: &mut Taken,
+    taken: &mut TakenPair,
     outlet: &mut Outlet,
 )
     requires inside { IsFeeder (n_of (X.lines cross.now).rate) feeder }
-    requires west { IsOf (X.lines cross.now).west.intake.frame west.old }
-    requires east { IsOf (X.lines cross.now).east.intake.frame east.old }
-    ensures west { IsOf (X.lines cross.now).west.intake.frame west.new }
-    ensures east { IsOf (X.lines cross.now).east.intake.frame east.new }
+    requires taken { AreOf (X.lines cross.now) taken.old.west taken.old.east }
+    ensures taken { AreOf (X.lines cross.now) taken.new.west taken.new.east }
     ensures outlet { outlet.new ≡ delivered_from (dropped_by (X.lines cross.now) feeder) }
 {
+    let TakenPair { west, east } = taken;
     match feeder {
         Feeder::Received(Side::West, au) => deliver_received(cross, Side::West, au, west, outlet),
         Feeder::Received(Side::East, au) => deliver_received(cross, Side::East, au, east, outlet),
