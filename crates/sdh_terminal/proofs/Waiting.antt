@@ -49,10 +49,17 @@ get_or-outlets (t ∷ ts) zero d = refl
 get_or-outlets (t ∷ ts) (suc i) d = get_or-outlets ts i d
 
 -- the outlet of the port with a name is in its place
-pub outlet_in_place : (id : PortId) (ts : List Tributary) (i : ℕ) (d : Tributary) → position (is_port id) ts ≡ Some i
-    → get_or (outlets_of ts) i d.outlet ≡ outlet_of id ts
-outlet_in_place id ts i d place =
-    get_or-outlets ts i d ∙ sym (ap (λ found. option_map_or (λ (t : Tributary). t.outlet) found silent) (port_at id ts i d place))
+pub outlet_in_place : (id : PortId) (ts : List Tributary) (i : ℕ) (o : Outlet) → position (is_port id) ts ≡ Some i
+    → get_or (outlets_of ts) i o ≡ outlet_of id ts
+outlet_in_place id [] i o place = cc
+outlet_in_place id (t ∷ ts) i o place =
+    let d = record t { outlet = o } in
+    get_or-outlets (t ∷ ts) i d
+    ∙ sym (ap (λ found. option_map_or (λ (u : Tributary). u.outlet) found silent) (port_at id (t ∷ ts) i d place))
+
+pub count-outlets : (ts : List Tributary) → length (outlets_of ts) ≡ length ts
+count-outlets [] = refl
+count-outlets (t ∷ ts) = ap suc (count-outlets ts)
 
 -- ---- what a delivery leaves
 
