@@ -27,7 +27,7 @@ use sdh_plant::Arrived;
 use sdh_request::{Command, Moment, Settings};
 use sdh_ringmap::{Pos, Rate, RingMap, Side};
 use sdh_squelch::{Origin, Table, drop_origin, protection_origin, working_origin};
-use sdh_terminal::{Feeder, Intake, Matrix, Outlet, TakenPair, Tributaries};
+use sdh_terminal::{Feeder, Intake, Matrix, Outlets, TakenPair, Tributaries};
 use std::alloc::{AllocError, Global};
 use std::marker::Model;
 
@@ -304,11 +304,11 @@ pub fn deliver_ports(
     cross: &CrossConnect,
     ports: &Tributaries,
     taken: &mut TakenPair,
-    outlets: &mut Vec<Outlet>,
+    outlets: &mut Outlets,
 )
     requires ports { All (λ t. (1 ≤ t.slot.0) × (t.slot.0 ≤ half_of cross.now)) ports.now }
-    requires many { length outlets.old.items ≡ length ports.now }
-    ensures { outlets.new.items ≡ outlets_of (all_delivered cross.now ports.now) }
+    requires many { length outlets.old ≡ length ports.now }
+    ensures { outlets.new ≡ outlets_of (all_delivered cross.now ports.now) }
 {
     ports.deliver(cross, taken, outlets);
 }

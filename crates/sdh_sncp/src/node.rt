@@ -13,7 +13,7 @@ use sdh_overhead::Landed;
 use sdh_plant::Arrived;
 use sdh_request::Settings;
 use sdh_ringmap::{Pos, RingMap, Side};
-use sdh_terminal::{Outlet, Sender, TakenPair, Tributaries, send_both};
+use sdh_terminal::{Outlet, Outlets, Sender, TakenPair, Tributaries, send_both};
 use std::alloc::{AllocError, Global};
 use std::marker::Model;
 
@@ -83,29 +83,29 @@ impl PathNode {
     }
 
     /// Returns room for what each port of the node delivers. All its memory is taken here.
-    pub fn outlets(&self, alloc: Global) -> Result<Vec<Outlet>, AllocError>
-        ensures { IfOk result (λ v. length v.items ≡ length self.now.ports) }
+    pub fn outlets(&self, alloc: Global) -> Result<Outlets, AllocError>
+        ensures { IfOk result (λ outlets. length outlets ≡ length self.now.ports) }
     {
         self.ports.outlets(alloc)
     }
 
     /// Takes what each port of the node delivered in the last round out of the frames in which it waits. Before the
     /// first round it is AIS. It takes no memory.
-    pub fn deliver(&self, taken: &mut TakenPair, outlets: &mut Vec<Outlet>)
-        requires { length outlets.old.items ≡ length self.now.ports }
-        ensures { outlets.new.items ≡ outlets_of self.now.ports }
+    pub fn deliver(&self, taken: &mut TakenPair, outlets: &mut Outlets)
+        requires { length outlets.old ≡ length self.now.ports }
+        ensures { outlets.new ≡ outlets_of self.now.ports }
     {
         self.ports.deliver(&self.cross, taken, outlets);
     }
 
     /// Returns what a port of the node delivered in the last round, of what all its ports delivered.
-    pub fn outlet<'a>(&self, port: PortId, outlets: &'a Vec<Outlet>) -> &'a Outlet
+    pub fn outlet<'a>(&self, port: PortId, outlets: &'a Outlets) -> &'a Outlet
         requires there { HasPort self.now.ports port }
-        requires outlets { outlets.now.items ≡ outlets_of self.now.ports }
+        requires outlets { outlets.now ≡ outlets_of self.now.ports }
         ensures { result.now ≡ outlet_of port self.now.ports }
     {
         let place = self.ports.place_of(port);
-        &outlets[place]
+        outlets.at(place)
     }
 
     /// Returns whether the last round left all interpreters and generators as they were. The first round isn't calm.

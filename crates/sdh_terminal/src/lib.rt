@@ -17,6 +17,6 @@ mod tributary;
 pub use inlet::Inlet;
 pub use intake::{Intake, h3_at};
 pub use matrix::{Feeder, Matrix};
-pub use outlet::{Outlet, TakenPair};
+pub use outlet::{Outlet, Outlets, TakenPair};
 pub use sender::{Sender, send_both};
 pub use tributaries::Tributaries;

@@ -1,5 +1,5 @@
 //! What a port delivers, taken out of the frames that both sides received.
-ghost use Rattle.std.specs.Prelude.{◌≡◌, ◌≤◌, IfOk};
+ghost use Rattle.std.specs.Prelude.{◌≡◌, ◌<◌, ◌≤◌, IfOk, length, slice_index_or};
 ghost use Rattle.sdh_ringmap.specs.Rates.{n_of};
 ghost use Rattle.sdh_frame.specs.Aus.{au_of};
 ghost use Rattle.sdh_payload.specs.Chunk.{taken};
@@ -125,6 +125,42 @@ impl Outlet {
         take_au(frame, payloads, au, form, &mut cells);
         self.delivered = Delivered::Chunk(cells);
         self.value = value;
+    }
+}
+
+/// What each port at a node delivers, in the order of the ports.
+#[derive(Debug, Drop)]
+pub struct Outlets {
+    pub(crate) items: Vec<Outlet>,
+}
+
+impl Model for Outlets {
+    ghost use Rattle.std.specs.Prelude.{List};
+    ghost use Rattle.sdh_payload.specs.Outlet.{Outlet};
+
+    ghost Value = { List Outlet };
+
+    ghost view = { λ o. o.items.items };
+}
+
+impl Outlets {
+    /// Returns room for what `count` ports deliver. All its memory is taken here.
+    pub fn try_new(alloc: Global, count: usize) -> Result<Outlets, AllocError>
+        ensures { IfOk result (λ outlets. length outlets ≡ count) }
+    {
+        let mut items = Vec::with_capacity(alloc, count)?;
+        for _ in 0..count {
+            items.push(Outlet::try_new(alloc)?)?;
+        }
+        Ok(Outlets { items })
+    }
+
+    /// Returns what the port at a place delivers.
+    pub fn at(&self, place: usize) -> &Outlet
+        requires { place < length self.now }
+        ensures { result.now ≡ slice_index_or self.now place silent }
+    {
+        &self.items[place]
     }
 }
 

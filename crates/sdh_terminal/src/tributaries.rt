@@ -10,7 +10,7 @@ ghost use Rattle.sdh_ringmap.specs.Rates.{n_of};
 ghost use Rattle.sdh_terminal.specs.Lines.{dropped_by};
 
 use crate::matrix::Matrix;
-use crate::outlet::{Outlet, TakenPair};
+use crate::outlet::{Outlets, TakenPair};
 use crate::tributary::{Tributary, deliver_all, feed_all, place_of, tributaries_at};
 use sdh_circuits::{CircuitMap, End, PortId};
 use sdh_payload::Turn;
@@ -89,15 +89,10 @@ impl Tributaries {
     }
 
     /// Returns room for what each port delivers. All its memory is taken here.
-    pub fn outlets(&self, alloc: Global) -> Result<Vec<Outlet>, AllocError>
-        ensures { IfOk result (λ v. length v.items ≡ length self.now) }
+    pub fn outlets(&self, alloc: Global) -> Result<Outlets, AllocError>
+        ensures { IfOk result (λ outlets. length outlets ≡ length self.now) }
     {
-        let count = self.items.len();
-        let mut outlets = Vec::with_capacity(alloc, count)?;
-        for _ in 0..count {
-            outlets.push(Outlet::try_new(alloc)?)?;
-        }
-        Ok(outlets)
+        Outlets::try_new(alloc, self.items.len())
     }
 
     #[tactic(auto, using(crate::proofs::Ports::port_missing))]
@@ -175,13 +170,13 @@ impl Tributaries {
     }
 
     /// Delivers at each port what is dropped to it.
-    pub fn deliver<X: Matrix>(&self, cross: &X, taken: &mut TakenPair, outlets: &mut Vec<Outlet>)
+    pub fn deliver<X: Matrix>(&self, cross: &X, taken: &mut TakenPair, outlets: &mut Outlets)
         requires ports { All (λ t. (1 ≤ t.slot.0) × (2 * t.slot.0 ≤ n_of (X.lines cross.now).rate)) self.now }
-        requires many { length outlets.old.items ≡ length self.now }
-        ensures { outlets.new.items ≡ outlets_of
+        requires many { length outlets.old ≡ length self.now }
+        ensures { outlets.new ≡ outlets_of
             (all_delivered_with (λ t. dropped_by (X.lines cross.now) (X.drops cross.now t.side t.slot.0)) self.now) }
     {
         taken.begin(cross);
-        deliver_all(cross, &self.items, taken, outlets);
+        deliver_all(cross, &self.items, taken, &mut outlets.items);
     }
 }

@@ -7,5 +7,5 @@ use Rattle.sdh_node.proofs.adm.Adm.outlets.Goals as goal
 pub returns : goal.returns
 returns c =
     let i = c.self.inside in
-    subst (λ k. IfOk c.outlets.result (λ v. length v.items ≡ k))
+    subst (λ k. IfOk c.outlets.result (λ outlets. length outlets ≡ k))
     (sym (count_waits i.cross i.ports) ∙ ap (λ (n : Node). length n.ports) c.self.view_is) c.outlets.ensures
