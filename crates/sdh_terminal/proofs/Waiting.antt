@@ -1,8 +1,9 @@
 -- Deliveries that wait in the frames of the last round: what they leave of a port, and what is read of them later.
-use Rattle.std.proofs.Common.{◌≡◌, ℕ, zero, suc, ◌+◌, ◌-◌, Bool, true, false, Some, None, Option, List, [], ◌∷◌, length, get_or}
-use Rattle.std.proofs.Common.{refl, ap, sym, ◌∙◌, arith}
+use Rattle.std.proofs.Common.{◌≡◌, ℕ, zero, suc, ◌+◌, ◌-◌, ◌<◌, Bool, true, false, Some, None, Option, List, [], ◌∷◌, ◌++◌, length, get_or}
+use Rattle.std.proofs.Common.{map, take, refl, ap, sym, ◌∙◌, arith}
 use Rattle.std.specs.Prelude.{All, IsSome, find, replicate}
 use Rattle.std.specs.List.{position}
+use Rattle.std.proofs.lemmas.List.{length-map, map-append, take_more}
 use Rattle.std.specs.Option.{option_map, option_map_or}
 use Rattle.sdh_basics.specs.Indexed.{map_from}
 use Rattle.sdh_ringmap.specs.declared.Pos.{Pos}
@@ -56,9 +57,9 @@ outlet_in_place id (t ∷ ts) i o place =
     get_or-outlets (t ∷ ts) i d
     ∙ sym (ap (λ found. option_map_or (λ (u : Tributary). u.outlet) found silent) (port_at id (t ∷ ts) i d place))
 
-pub count-outlets : (ts : List Tributary) → length (outlets_of ts) ≡ length ts
-count-outlets [] = refl
-count-outlets (t ∷ ts) = ap suc (count-outlets ts)
+pub count_outlets : (ts : List Tributary) → length (outlets_of ts) ≡ length ts
+count_outlets [] = refl
+count_outlets (t ∷ ts) = ap suc (count_outlets ts)
 
 -- ---- what a delivery leaves
 
@@ -187,3 +188,28 @@ unfolding tributaries_at
 new-waiting d h at circuits =
     silent-from d h 0 (tributaries_from at 0 circuits)
     (new_ports (λ (t : Tributary). t.outlet ≡ silent) (λ i e s m c. refl) at 0 circuits)
+
+-- ---- the ports of several nodes
+
+pub mapped : {X Y : Type 0} (f : X → Y) (i : ℕ) (xs : List X) → map_from (λ k x. f x) i xs ≡ map f xs
+mapped f i [] = refl
+mapped f i (x ∷ xs) = ap (λ ys. f x ∷ ys) (mapped f (i + 1) xs)
+
+-- two lists of the same sizes have the same size at each place
+pub size_at : {X Y : Type 0} (f : X → ℕ) (g : Y → ℕ) (xs : List X) (ys : List Y) (i : ℕ) (d : X) (e : Y) → map f xs ≡ map g ys
+    → i < length ys → f (get_or xs i d) ≡ g (get_or ys i e)
+size_at f g xs [] i d e same low = absurd (omega arith)
+size_at f g [] (y ∷ ys) i d e same low = cc
+size_at f g (x ∷ xs) (y ∷ ys) zero d e same low = cc
+size_at f g (x ∷ xs) (y ∷ ys) (suc i) d e same low =
+    let rest : map f xs ≡ map g ys = cc in size_at f g xs ys i d e rest (omega arith)
+
+pub size_count : {X Y : Type 0} (f : X → ℕ) (g : Y → ℕ) (xs : List X) (ys : List Y) → map f xs ≡ map g ys → length xs ≡ length ys
+size_count f g xs ys same = sym (length-map xs f) ∙ ap length same ∙ length-map ys g
+
+-- the size of one more
+pub size_more : {X Y : Type 0} (f : X → ℕ) (g : Y → ℕ) (xs : List X) (ys : List Y) (i : ℕ) (x : X) (y : Y) → i < length ys
+    → y ≡ get_or ys i y → f x ≡ g y → map f xs ≡ map g (take i ys) → map f (xs ++ x ∷ []) ≡ map g (take (i + 1) ys)
+size_more f g xs ys i x y low read is same =
+    map-append f xs (x ∷ []) ∙ ap (λ zs. zs ++ f x ∷ []) same ∙ ap (λ n. map g (take i ys) ++ n ∷ []) (is ∙ ap g read)
+    ∙ sym (map-append g (take i ys) (get_or ys i y ∷ [])) ∙ ap (map g) (sym (take_more ys i y low))

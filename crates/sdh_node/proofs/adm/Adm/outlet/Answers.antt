@@ -1,7 +1,7 @@
 use Rattle.std.proofs.Common.{◌≡◌, length, get_or, ap, sym, subst, ◌∙◌, arith}
 use Rattle.sdh_payload.specs.Outlet.{silent}
 use Rattle.sdh_terminal.specs.Tributaries.{HasPort, outlet_of, outlets_of}
-use Rattle.sdh_terminal.proofs.Waiting.{count-outlets, outlet_in_place}
+use Rattle.sdh_terminal.proofs.Waiting.{count_outlets, outlet_in_place}
 use Rattle.sdh_node.specs.Crossing.{all_delivered}
 use Rattle.sdh_node.specs.Node.{Node}
 use Rattle.sdh_node.proofs.Waiting.{count_waits, has_waits, place_waits}
@@ -17,7 +17,7 @@ at-requires c =
     let i = c.self.inside in
     let within = c.place_of-place.ensures.within in
     let many : length c.args.outlets.now ≡ length i.ports =
-    ap length c.requires.outlets ∙ count-outlets c.args.self.now.ports ∙ sym (ap (λ (n : Node). length n.ports) c.self.view_is)
+    ap length c.requires.outlets ∙ count_outlets c.args.self.now.ports ∙ sym (ap (λ (n : Node). length n.ports) c.self.view_is)
     ∙ count_waits i.cross i.ports in
     omega (arith, within, many)
 
