@@ -10,8 +10,12 @@ use Rattle.sdh_sncp.proofs.ring.PathRing.try_new.Goals as goal
 pub invariant_of-result : goal.invariant_of-result
 invariant_of-result c =
     let alone : AreAlone c.args.circuits.circuits = search rules in
-    subst IsRing (sym (c.in_ok-ring.ensures ∙ fresh_is c.args.settings c.args.map c.args.circuits))
-    (new_is_ring c.args.settings c.args.map c.args.circuits c.len.ensures.ids c.len-2.ensures.form c.requires.slots c.requires.kept alone)
+    record {
+      ring = subst IsRing (sym (c.in_ok-ring.ensures ∙ fresh_is c.args.settings c.args.map c.args.circuits))
+          (new_is_ring c.args.settings c.args.map c.args.circuits c.len.ensures.ids c.len-2.ensures.form c.requires.slots c.requires.kept
+          alone);
+      delivered = c.in_ok-deliveries.ensures;
+    }
 
 pub returns-clause-paired : goal.returns-clause-paired
 returns-clause-paired c = λ f honest.

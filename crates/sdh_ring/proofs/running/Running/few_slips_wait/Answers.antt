@@ -3,7 +3,7 @@ use Rattle.sdh_world.specs.Held.{HeldRing}
 use Rattle.sdh_world.specs.Clocks.{HasPortIn, clock_at}
 use Rattle.sdh_world.specs.Fixed.{IsRested}
 use Rattle.sdh_ring.proofs.Owned.{rested_there}
-use Rattle.sdh_ring.proofs.ring.Ring.few_slips_wait.Goals as goal
+use Rattle.sdh_ring.proofs.running.Running.few_slips_wait.Goals as goal
 
 pub returns : goal.returns
 returns c = λ port there.

@@ -5,7 +5,7 @@ use Rattle.sdh_world.specs.Held.{HeldRing, at_place, node_at}
 use Rattle.sdh_rounds.proofs.Nodes.{placed_at, count_placed}
 use Rattle.sdh_rounds.proofs.Breaking.{fits_with}
 use Rattle.sdh_ring.proofs.Nodes.{node_same}
-use Rattle.sdh_ring.proofs.ring.slip_at.Goals as goal
+use Rattle.sdh_ring.proofs.running.slip_at.Goals as goal
 
 pub invariant_of-ring : goal.invariant_of-ring
 invariant_of-ring c =

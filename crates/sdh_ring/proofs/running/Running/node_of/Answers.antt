@@ -3,7 +3,7 @@ use Rattle.sdh_terminal.specs.Tributaries.{outlet_of, waiting_of}
 use Rattle.sdh_world.specs.Held.{HeldRing, outlet_at}
 use Rattle.sdh_world.specs.Clocks.{waiting_at}
 use Rattle.sdh_ring.proofs.Owned.{has_port, outlet_there, waits_at}
-use Rattle.sdh_ring.proofs.ring.Ring.node_of.Goals as goal
+use Rattle.sdh_ring.proofs.running.Running.node_of.Goals as goal
 
 pub returns-clause-port : goal.returns-clause-port
 returns-clause-port c = has_port _ c.args.port _ c.self.invariant c.node_of.ensures

@@ -3,7 +3,7 @@ use Rattle.sdh_node.specs.Node.{Node, held_for}
 use Rattle.sdh_world.specs.Held.{HeldRing, at_place}
 use Rattle.sdh_rounds.proofs.Nodes.{placed_at, count_placed}
 use Rattle.sdh_rounds.proofs.Breaking.{fits_with}
-use Rattle.sdh_ring.proofs.ring.hold_at.Goals as goal
+use Rattle.sdh_ring.proofs.running.hold_at.Goals as goal
 
 pub invariant_of-ring : goal.invariant_of-ring
 invariant_of-ring c =
