@@ -19,4 +19,3 @@ invariant_of-self c =
     subst IsRing (sym c.command_at.ensures)
     (ring_with r _ r.moment r.rounds r.broken inv (all_commanded c.args.at.0 c.args.side c.args.command r.nodes) inv.moment
     (λ whole. all_on_commanded c.args.at.0 c.args.side c.args.command r.rounds r.moment r.nodes (inv.going whole)))
-

@@ -19,4 +19,3 @@ invariant_of-self c =
     subst IsRing (sym c.hold_at.ensures)
     (ring_with r _ r.moment r.rounds r.broken inv (all_held c.args.at.0 c.args.turns r.nodes) inv.moment
     (λ whole. all_on_held c.args.at.0 c.args.turns r.rounds r.moment r.nodes (inv.going whole)))
-

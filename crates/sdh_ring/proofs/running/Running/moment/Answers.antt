@@ -9,4 +9,3 @@ invariant_of-self c =
     subst IsRing (sym c.moment.ensures)
     (ring_later _ c.args.now.0 c.self.invariant (subst (λ (r : HeldRing). r.moment ≤ c.args.now.0) (sym c.self.view_is) c.requires.later)
     c.requires.within)
-

@@ -28,7 +28,6 @@ invariant_of-self c =
     (all_slipped (place_of_port r c.args.port) c.args.port c.args.turn c.args.count r.nodes) inv.moment
     (λ whole. all_on_slipped r c.args.port c.args.turn c.args.count r.rounds r.moment (few c) (inv.going whole)))
 
-
 pub returns : goal.returns
 returns c =
     subst (λ (r : HeldRing). c.slip_at.new.ring ≡ record r {

@@ -7,4 +7,3 @@ pub invariant_of-result : goal.invariant_of-result
 invariant_of-result c =
     subst IsRing (sym (c.in_ok-ring.ensures ∙ fresh_is c.args.settings c.args.map c.args.circuits))
     (new_is_ring c.args.settings c.args.map c.args.circuits c.len.ensures.ids c.len-2.ensures.form c.requires.slots c.requires.kept)
-
