@@ -20,14 +20,7 @@ use sdh_ringmap::Pos;
 use sdh_terminal::Outlets;
 
 // Appends the line of the port of a circuit that is at the node, if one is. `outlets` has what all its ports delivered.
-fn put_port(
-    text: &mut Text,
-    node: &Adm,
-    outlets: &Outlets,
-    at: Pos,
-    number: u8,
-    circuit: &Circuit,
-)
+fn put_port(text: &mut Text, node: &Adm, outlets: &Outlets, at: Pos, number: u8, circuit: &Circuit)
     requires there { (port : PortId) → port.circuit ≡ number → end_here at circuit.now ≡ Some port.end → HasPort node.now.ports port }
     requires outlets { outlets.now ≡ outlets_of node.now.ports }
     requires room { 96 ≤ text.old.room }

@@ -46,9 +46,10 @@ counts_stay r s hr hs stays =
     counts_fixed r.nodes ∙ ap (map (λ (f : Fixed). length f.ports)) (sym same) ∙ sym (counts_fixed s.nodes)
 
 -- there is room for what is delivered after the round
-pub may_take : (r s : HeldPath) (held : List (List Outlet)) → IsRing r → IsRing s → Stays r s → held ≡ delivered_in r
-    → map length held ≡ map count s.nodes
-may_take r s held hr hs stays are = ap (map length) are ∙ sizes r.nodes ∙ counts_stay r s hr hs stays
+pub may_take : (r s : HeldPath) (held : List (List Outlet)) (ns : List PathNode) → IsRing r → IsRing s → Stays r s
+    → held ≡ delivered_in r → ns ≡ s.nodes → map length held ≡ map count ns
+may_take r s held ns hr hs stays are nodes =
+    ap (map length) are ∙ sizes r.nodes ∙ counts_stay r s hr hs stays ∙ ap (map count) (sym nodes)
 
 stays_by : (r s : HeldPath) (ns : List PathNode) (rounds : ℕ) (broken : Bool) → s ≡ record r { nodes = ns; rounds = rounds; broken = broken }
     → Stays r s

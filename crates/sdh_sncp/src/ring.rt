@@ -71,6 +71,13 @@ impl Model for PathRing {
     ghost invariant = { λ a. record { ring : IsRing a.ring; delivered : a.deliveries ≡ delivered_in a.ring } };
 }
 
+// Returns the nodes, by position.
+fn nodes_of(ring: &StationRing<PathNode>) -> &[PathNode]
+    ensures { result.now ≡ ring.now.nodes }
+{
+    ring.nodes.as_slice()
+}
+
 impl PathRing {
     /// Returns a ring of new nodes, in which no round has run. All its memory is taken here.
     #[tactic(auto, unfolding(crate::specs::Ring::new_nodes))]
@@ -104,7 +111,7 @@ impl PathRing {
             return Err(PathError::SameSlot { first, second });
         }
         let ring = StationRing::try_new(alloc, settings, map, circuits)?;
-        let deliveries = Deliveries::try_new(alloc, ring.nodes.as_slice())?;
+        let deliveries = Deliveries::try_new(alloc, nodes_of(&ring))?;
         Ok(PathRing { ring, deliveries })
     }
 
@@ -131,7 +138,7 @@ impl PathRing {
         ensures counted { IsCounted P.exact (IsErr result) (P.faults plant.old) (P.faults plant.new) }
     {
         let result = self.ring.round(plant);
-        self.deliveries.take(self.ring.nodes.as_slice());
+        self.deliveries.take(nodes_of(&self.ring));
         result
     }
 
@@ -219,7 +226,7 @@ impl PathRing {
         ensures { result.now ≡ outlet_at self.now port }
     {
         let at = self.ring.place_of(port);
-        let node = &self.ring.nodes[at];
+        let node = &nodes_of(&self.ring)[at];
         node.outlet(port, self.deliveries.of(at))
     }
 

@@ -18,30 +18,32 @@ pub outlet-requires-clause-there : goal.outlet-requires-clause-there
 outlet-requires-clause-there c =
     let ns = c.self.inside.ring.nodes in
     let at = c.place_of-at.result in
-    let node = c.index-node.result.now in
+    let node = c.index-nodes_of-at.result in
     has_port c.self.inside.ring c.args.port node c.self.invariant.ring (record {
       at = at;
       place = c.place_of-at.ensures;
-      there = slice_get-get_or ns at node c.place_of-at.ensures.inside ∙ ap Some (sym c.index-node.ensures);
+      there = slice_get-get_or ns at node c.place_of-at.ensures.inside
+          ∙ ap Some (sym (c.index-nodes_of-at.is ∙ ap (λ ms. get_or ms at node) c.nodes_of.ensures));
     })
 
 pub outlet-requires-clause-outlets : goal.outlet-requires-clause-outlets
 outlet-requires-clause-outlets c =
     let at = c.place_of-at.result in
-    let node = c.index-node.result.now in
+    let node = c.index-nodes_of-at.result in
     c.of.ensures ∙ ap (λ ds. get_or ds at []) c.self.invariant.delivered
     ∙ get_or-map (λ (n : PathNode). outlets_of n.ports) c.self.inside.ring.nodes at node [] c.place_of-at.ensures.inside
-    ∙ ap (λ (n : PathNode). outlets_of n.ports) (sym c.index-node.ensures)
+    ∙ ap (λ (n : PathNode). outlets_of n.ports) (sym (c.index-nodes_of-at.is ∙ ap (λ ms. get_or ms at node) c.nodes_of.ensures))
 
 pub returns : goal.returns
 returns c =
     let ns = c.self.inside.ring.nodes in
     let at = c.place_of-at.result in
-    let node = c.index-node.result.now in
+    let node = c.index-nodes_of-at.result in
     c.outlet.ensures
     ∙ sym (outlet_there c.self.inside.ring c.args.port node (record {
       at = at;
       place = c.place_of-at.ensures;
-      there = slice_get-get_or ns at node c.place_of-at.ensures.inside ∙ ap Some (sym c.index-node.ensures);
+      there = slice_get-get_or ns at node c.place_of-at.ensures.inside
+          ∙ ap Some (sym (c.index-nodes_of-at.is ∙ ap (λ ms. get_or ms at node) c.nodes_of.ensures));
     }))
     ∙ ap (λ (r : HeldPath). outlet_at r c.args.port) c.self.view_is

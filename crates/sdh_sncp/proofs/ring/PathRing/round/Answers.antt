@@ -1,6 +1,8 @@
-use Rattle.std.proofs.Common.{ap, sym, subst, ◌∙◌, ◌<◌, ◌^◌}
+use Rattle.std.proofs.Common.{map, ap, sym, subst, ◌∙◌, ◌<◌, ◌^◌}
 use Rattle.std.proofs.lemmas.Result.{on_ok_weaker}
 use Rattle.sdh_rounds.specs.Outcome.{IsOneRound}
+use Rattle.sdh_terminal.specs.Tributaries.{outlets_of}
+use Rattle.sdh_sncp.specs.Node.{PathNode}
 use Rattle.sdh_sncp.specs.Stations.{path_node}
 use Rattle.sdh_sncp.specs.Ring.{HeldPath, world}
 use Rattle.sdh_sncp.specs.Placed.{IsPlacedRing}
@@ -22,16 +24,16 @@ take-requires g c =
     let w = world c.self.inside.ring (g.P.Plant.fibres c.args.plant.now) in
     let left = world c.round-result.new.self (g.P.Plant.fibres c.round-result.new.plant) in
     let whole = ap (λ (r : HeldPath). r.broken) c.self.view_is ∙ c.requires.whole in
-    may_take c.self.inside.ring c.round-result.new.self c.self.inside.deliveries c.self.invariant.ring
+    may_take c.self.inside.ring c.round-result.new.self c.self.inside.deliveries c.nodes_of.result.now c.self.invariant.ring
     (ring_after g.P.Plant.exact w left _ _ _ c.self.invariant.ring whole c.round-result.ensures)
     (stays_one g.P.Plant.exact w left c.round-result.result (g.P.Plant.faults c.args.plant.now) (g.P.Plant.faults c.round-result.new.plant)
-    c.round-result.ensures) c.self.invariant.delivered
+    c.round-result.ensures) c.self.invariant.delivered c.nodes_of.ensures
 
 pub invariant_of-self : goal.invariant_of-self
 invariant_of-self g c = record {
   ring = ring_after g.P.Plant.exact (world _ (g.P.Plant.fibres c.args.plant.now)) (world _ (g.P.Plant.fibres c.round-result.new.plant)) _ _ _
       c.self.invariant.ring (ap (λ (r : HeldPath). r.broken) c.self.view_is ∙ c.requires.whole) c.round-result.ensures;
-  delivered = c.take.ensures;
+  delivered = c.take.ensures ∙ ap (map (λ (n : PathNode). outlets_of n.ports)) c.nodes_of.ensures;
 }
 
 pub returns : goal.returns
