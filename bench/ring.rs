@@ -13,39 +13,41 @@ unsafe extern "C" {
         names: *const u8,
         len: usize,
         cuts: usize,
-        rounds: u32,
+        steps: u32,
     ) -> u32;
 }
 
-/// A ring of so many nodes, circuits and cut spans at STM-N.
+/// A ring of so many nodes, circuits and cut spans at STM-N, and the settle steps that are measured.
 struct Case {
     name: &'static str,
     n: usize,
     nodes: usize,
     circuits: usize,
     cuts: usize,
-    rounds: u32,
+    steps: u32,
 }
 
 const CASES: [Case; 4] = [
-    Case { name: "16 nodes, STM-16, 128 circuits", n: 16, nodes: 16, circuits: 128, cuts: 0, rounds: 100 },
-    Case { name: "16 nodes, STM-16, 128 circuits, 3 cuts", n: 16, nodes: 16, circuits: 128, cuts: 3, rounds: 100 },
-    Case { name: "16 nodes, STM-4, 32 circuits", n: 4, nodes: 16, circuits: 32, cuts: 0, rounds: 400 },
-    Case { name: "3 nodes, STM-4, 1 circuit", n: 4, nodes: 3, circuits: 1, cuts: 0, rounds: 2000 },
+    Case { name: "16 nodes, STM-16, 128 circuits", n: 16, nodes: 16, circuits: 128, cuts: 0, steps: 1 },
+    Case { name: "16 nodes, STM-16, 128 circuits, 3 cuts", n: 16, nodes: 16, circuits: 128, cuts: 3, steps: 1 },
+    Case { name: "16 nodes, STM-4, 32 circuits", n: 4, nodes: 16, circuits: 32, cuts: 0, steps: 3 },
+    Case { name: "3 nodes, STM-4, 1 circuit", n: 4, nodes: 3, circuits: 1, cuts: 0, steps: 16 },
 ];
 
-/// Rounds before those that count: the ring has settled.
-const FIRST: u32 = 60;
+/// The rounds of a settle step.
+const STEP: u32 = 128;
+/// Settle steps before those that count: the ring has settled.
+const FIRST: u32 = 1;
 const TURNS: usize = 20;
 
 /// Runs a ring, and gives the time in seconds and how many ports deliver a chunk at the end.
-fn run(case: &Case, rounds: u32) -> (f64, u32) {
+fn run(case: &Case, steps: u32) -> (f64, u32) {
     let ids: Vec<i64> = (0..case.nodes as i64).collect();
     let names: String = (0..case.circuits).map(|i| format!("c{i:03}")).collect();
     let start = Instant::now();
     // SAFETY: pointers and lengths are of one slice each, and the library's `requires` hold of every case.
     let chunks = unsafe {
-        sdh_bench_ring(case.n, ids.as_ptr(), ids.len(), case.circuits, names.as_ptr(), names.len(), case.cuts, rounds)
+        sdh_bench_ring(case.n, ids.as_ptr(), ids.len(), case.circuits, names.as_ptr(), names.len(), case.cuts, steps)
     };
     assert!(chunks != 1000, "no such ring, or no memory");
     (start.elapsed().as_secs_f64(), chunks)
@@ -88,13 +90,14 @@ fn main() {
         let mut chunks = 0;
         for _ in 0..TURNS {
             before = before.min(run(case, FIRST).0);
-            let (time, found) = run(case, FIRST + case.rounds);
+            let (time, found) = run(case, FIRST + case.steps);
             after = after.min(time);
             chunks = found;
-            least = least.min(copies(case, case.rounds));
+            least = least.min(copies(case, case.steps * STEP));
         }
-        let round = (after - before) / f64::from(case.rounds);
-        let limit = least / f64::from(case.rounds);
+        let rounds = f64::from(case.steps * STEP);
+        let round = (after - before) / rounds;
+        let limit = least / rounds;
         println!(
             "{}\t{}\t{:.1}\t{:.0}\t{:.1}\t{:.2}\t{:.1}",
             case.name, chunks, round * 1e6, 1.0 / round, limit * 1e6, round / limit, memory()

@@ -6,7 +6,7 @@ use Rattle.std.proofs.lemmas.Bool.{cases_lt, eq-eqb, ne_eqb, le-leb, lt-leb}
 use Rattle.std.proofs.lemmas.Nat.{mul-le}
 use Rattle.std.proofs.Math.Nat.{mul-mod_right}
 use Rattle.sdh_interchange.specs.declared.pass.Pass.{Pass}
-use Rattle.sdh_interchange.specs.Choosing.{is_au_byte}
+use Rattle.sdh_interchange.specs.Choosing.{is_au_byte, picked_at}
 use Rattle.sdh_interchange.specs.Passes.{byte_by_source, HasPassed, AreColumns}
 use Rattle.sdh_interchange.specs.Tables.{cell, IsTable}
 use Rattle.sdh_interchange.proofs.ByBytes.{by_rate, own_byte-at}
@@ -195,3 +195,13 @@ module _ (own columns : List (List ℕ)) (r q upto : ℕ) (row : r < 9) (few : q
         let below : j < upto = omega arith in
         each k j small below ∙ sym (own_byte-at 16 own i j (261 * r + q + k) behind lane column));
   }
+
+-- a pass over equal own payloads
+pub same-passed : (n : ℕ) (p q : Pass n) (from to : ℕ) (old new : List ℕ) → p.sources.now ≡ q.sources.now
+    → p.inputs.now.first.now ≡ q.inputs.now.first.now → p.inputs.now.second.now ≡ q.inputs.now.second.now
+    → p.inputs.now.own.now ≡ q.inputs.now.own.now → HasPassed n p from to old new → HasPassed n q from to old new
+same-passed n p q from to old new a b c d so = record {
+  before = so.before;
+  inside = λ i low high. so.inside i low high ∙ (λ t. picked_at n (a t) (b t) (c t) (d t) i);
+  behind = so.behind;
+}

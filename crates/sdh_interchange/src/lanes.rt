@@ -10,7 +10,7 @@ use crate::choose::Source;
 // For each lane of a vector: the lanes that it reads in the first frame and in the second, 128 for none; the bits that
 // it keeps of the same lane of the payloads; and the bits that it sets itself. Lanes keep bits of the first `upto`
 // payloads alone.
-#[derive(Drop)]
+#[derive(Clone, Copy)]
 pub(crate) struct Lanes {
     pub(crate) first: [u8; 16],
     pub(crate) second: [u8; 16],

@@ -60,6 +60,16 @@ impl<'a> Payloads<'a> {
         self.pieces[k as usize - 1] = payload;
     }
 
+    // Returns the same payloads.
+    #[inline(always)]
+    pub(crate) fn same(&self) -> Payloads<'a>
+        ensures { result ≡ self.now }
+    {
+        Payloads {
+            pieces: self.pieces,
+        }
+    }
+
     // Returns the payload for AU-4 number `a` + 1.
     #[inline(always)]
     fn piece(&self, a: usize) -> &[u8]

@@ -151,6 +151,7 @@ impl<'a, const N: usize> Pass<'a, N> {
     }
 
     // Puts row r of the payloads. Some of them are own payloads.
+    #[inline(always)]
     fn blocks<const READS: bool>(&self, bytes: &mut [u8], r: usize)
         requires pass { IsPass N self.now }
         requires reads { (READS ≡ true) ⊎ (self.now.passed ≡ false) }
@@ -164,6 +165,31 @@ impl<'a, const N: usize> Pass<'a, N> {
         self.block::<READS>(bytes, r, 245);
     }
 
+    // Puts row r of the payloads as `blocks` does, over a copy of what is read for each block. Since nothing else knows
+    // the copy, the compiler need not read it again after each write to the frame.
+    fn copied_blocks<const READS: bool>(&self, bytes: &mut [u8], r: usize)
+        requires pass { IsPass N self.now }
+        requires reads { (READS ≡ true) ⊎ (self.now.passed ≡ false) }
+        requires size { length bytes.old ≡ 2430 * N }
+        requires row { r < 9 }
+        ensures { HasPassed N self.now (N * (270 * r + 9)) (N * (270 * r + 270)) bytes.old bytes.new }
+    {
+        let (own, lanes) = (self.inputs.own.same(), *self.lanes);
+        let inputs = Inputs {
+            first: self.inputs.first,
+            second: self.inputs.second,
+            own: &own,
+        };
+        let pass: Pass<'_, N> = Pass {
+            inputs: &inputs,
+            sources: self.sources,
+            lanes: &lanes,
+            passed: self.passed,
+            owned: self.owned,
+        };
+        pass.blocks::<READS>(bytes, r);
+    }
+
     // Puts row r of the payloads.
     fn row<const READS: bool>(&self, bytes: &mut [u8], r: usize)
         requires pass { IsPass N self.now }
@@ -173,7 +199,7 @@ impl<'a, const N: usize> Pass<'a, N> {
         ensures { HasPassed N self.now (N * (270 * r + 9)) (N * (270 * r + 270)) bytes.old bytes.new }
     {
         if self.owned {
-            self.blocks::<READS>(bytes, r);
+            self.copied_blocks::<READS>(bytes, r);
         } else {
             let from = byte_of::<N>(270 * r + 9);
             let to = byte_of::<N>(270 * r + 270);

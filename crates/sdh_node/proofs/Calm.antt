@@ -6,7 +6,6 @@ use Rattle.sdh_kbytes.specs.Same.{same_code, same_word, same_heard}
 use Rattle.sdh_kbytes.proofs.SameWords.{code_same, heard_same, same_is}
 use Rattle.sdh_nodestate.specs.Shapes.{same_state}
 use Rattle.sdh_nodestate.proofs.SameStates.{state_same}
-use Rattle.sdh_pointer.proofs.Unmoved as one
 use Rattle.sdh_terminal.specs.Same.{same_readings, same_generators}
 use Rattle.sdh_node.specs.Same.{ComparedIn, ComparedOut, Compared, same_in, same_out, same_compared}
 use Rattle.sdh_node.specs.Node.{Node, crossing, after_crossing, with_calm, may_be_calm, is_held, compared, node_round}

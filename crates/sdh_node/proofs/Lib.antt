@@ -1,4 +1,5 @@
 pub mod Rounds
+pub mod Waiting
 pub mod Turning
 pub mod Steps
 pub mod Itself

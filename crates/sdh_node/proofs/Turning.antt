@@ -11,9 +11,9 @@ use Rattle.sdh_nodestate.specs.Shapes.{same_state}
 use Rattle.sdh_terminal.specs.Same.{same_generators}
 use Rattle.sdh_node.specs.Same.{same_in, same_compared}
 use Rattle.sdh_terminal.specs.Tributaries.{Tributary, added_by, added_last, all_fed}
-use Rattle.sdh_node.specs.Crossing.{Cross, after_intakes, scene_of, after_decision, next_word, dropped_to, all_delivered, input_at}
+use Rattle.sdh_node.specs.Crossing.{Cross, after_intakes, scene_of, after_decision, next_word, dropped_at, dropped_to, all_delivered, input_at}
 use Rattle.sdh_terminal.specs.Sending.{Sending, with_word, frame_from, after_sending}
-use Rattle.sdh_terminal.proofs.Ports.{holds-adds}
+use Rattle.sdh_terminal.proofs.Waiting.{round-waiting, adds-waiting}
 use Rattle.sdh_node.specs.Node.{Node, crossing, ports_after, with_next_word, after_crossing, node_frames, compared, compared_in}
 use Rattle.sdh_node.specs.Node.{may_be_calm, with_calm, node_round}
 
@@ -36,26 +36,31 @@ node_of s rounds turns x ports west east calm = record {
 }
 
 -- a node, and what the calls of its round made of its parts
-module _ (now : ℕ) (s : Settings) (rounds turns : ℕ) (x0 : Cross) (ports : List Tributary) (wo eo : Sending) (was : Bool) where
+module _ (now : ℕ) (s : Settings) (rounds turns : ℕ) (x0 : Cross) (kept : List Tributary) (wo eo : Sending) (was : Bool) where
+  -- the ports, which deliver what the round before left to them
+  abbrev ports : List Tributary
+  ports = all_delivered x0 kept
+
   abbrev n : Node
   n = node_of s rounds turns x0 ports wo eo was
 
   abbrev held : Bool
   held = nat_le 1 turns
 
-  module _ (tk x : Cross) (ds fs : List Tributary) (take : tk ≡ after_intakes s.threshold now x0) (decide : x ≡ after_decision held tk)
-      (deliver : ds ≡ all_delivered x ports) (feed : fs ≡ all_fed ds) where
+  module _ (tk x : Cross) (fs : List Tributary) (take : tk ≡ after_intakes s.threshold now x0) (decide : x ≡ after_decision held tk)
+      (feed : fs ≡ all_fed kept) where
     cross_is : x ≡ crossing now n
     unfolding crossing after_intakes
     cross_is = decide ∙ ap (after_decision held) take
 
-    ports_is : fs ≡ ports_after (crossing now n) ports
-    unfolding ports_after
-    ports_is = feed ∙ ap all_fed (deliver ∙ ap (λ y. all_delivered y ports) cross_is)
+    ports_is : all_delivered x fs ≡ ports_after (crossing now n) ports
+    unfolding ports_after all_delivered
+    ports_is =
+        (λ i. all_delivered (cross_is i) (feed i)) ∙ round-waiting (dropped_at (crossing now n)) (dropped_to x0) kept
 
     added_is : (qs : List Tributary) → qs ≡ fs → added_last qs ≡ added_by ports
-    unfolding ports_after all_delivered
-    added_is qs same = ap added_last (same ∙ ports_is) ∙ holds-adds (dropped_to (crossing now n)) ports
+    unfolding all_delivered
+    added_is qs same = ap added_last (same ∙ feed) ∙ adds-waiting (dropped_to x0) kept
 
     -- what a side that sends says
     said_is : (side : Side) (k : K) (o said : Sending) → k ≡ next_word held tk side o.word → said ≡ with_word k o
@@ -116,7 +121,7 @@ module _ (now : ℕ) (s : Settings) (rounds turns : ℕ) (x0 : Cross) (ports : L
             λ i. r i && (taken_is i && kept_is i && (wsaid_is i && wmade_is i) && (esaid_is i && emade_is i))
 
         pub node_is : (calm : Bool) → calm ≡ (may_be_calm n && same_compared (compared (after_crossing (crossing now n) n)) (compared n))
-            → node_of s (rounds + 1) (turns - 1) x fs wa ea calm ≡ (node_round now n).0
+            → node_of s (rounds + 1) (turns - 1) x (all_delivered x fs) wa ea calm ≡ (node_round now n).0
         unfolding node_round with_calm after_crossing crossing after_decision
         node_is calm told =
             let west = sent_is West ww wo ws wa wq west_word west_say west_ports west_send in

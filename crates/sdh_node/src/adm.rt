@@ -9,7 +9,7 @@ ghost use Rattle.sdh_nodestate.specs.Filtering.{hears};
 ghost use Rattle.sdh_nodestate.specs.Words.{SendsSpellable};
 ghost use Rattle.sdh_plant.specs.Arrivals.{as_arrival, arrived_in};
 ghost use Rattle.sdh_node.specs.Receiving.{commanded_by, arrived_on};
-ghost use Rattle.sdh_terminal.specs.Tributaries.{HasPort, outlet_of, waiting_of};
+ghost use Rattle.sdh_terminal.specs.Tributaries.{HasPort, outlet_of, outlets_of, waiting_of};
 ghost use Rattle.sdh_node.specs.Node.{new_node, at_receiving, held_for, slips_at, node_round, GoesOn, receiving_on, sending_on, moment_of};
 
 use crate::cross::{CrossConnect, deliver_ports};
@@ -18,15 +18,17 @@ use sdh_frame::FrameBuf;
 use sdh_kbytes::K;
 use sdh_nodestate::{NodeState, Sent, first_word};
 use sdh_overhead::Landed;
-use sdh_payload::{Delivered, Turn};
+use sdh_payload::Turn;
 use sdh_plant::Arrived;
 use sdh_request::{Command, Moment, Settings};
 use sdh_ringmap::{Code, Pos, RingMap, Side};
-use sdh_terminal::{Sender, Tributaries, send_both};
+use sdh_terminal::{Outlet, Outlets, Sender, TakenPair, Tributaries, send_both};
 use std::alloc::{AllocError, Global};
 use std::marker::Model;
 
-/// One add-drop multiplexer of the ring.
+/// One add-drop multiplexer of the ring. What its ports delivered in the last round waits in the frames that came in
+/// that round, and is taken out of them when somebody asks. Both frames, the interpreters and the state stay as the
+/// round left them until the next one.
 #[derive(Debug, Drop)]
 pub struct Adm {
     settings: Settings,
@@ -40,11 +42,12 @@ pub struct Adm {
 }
 
 impl Model for Adm {
+    ghost use Rattle.sdh_node.specs.Crossing.{all_delivered};
     ghost use Rattle.sdh_node.specs.Node.{Node, IsNode};
 
     ghost Value = { Node };
 
-    ghost view = { λ a. record { settings = a.settings; ids = a.cross.ids; at = a.cross.at; circuits = a.cross.circuits; rounds = a.rounds; west = a.cross.west; east = a.cross.east; state = a.cross.state; ports = a.ports; west_out = a.west_out; east_out = a.east_out; held = a.held; calm = a.calm } };
+    ghost view = { λ a. record { settings = a.settings; ids = a.cross.ids; at = a.cross.at; circuits = a.cross.circuits; rounds = a.rounds; west = a.cross.west; east = a.cross.east; state = a.cross.state; ports = all_delivered a.cross a.ports; west_out = a.west_out; east_out = a.east_out; held = a.held; calm = a.calm } };
 
     ghost invariant = { λ a. IsNode (record { settings = a.settings; ids = a.cross.ids; at = a.cross.at; circuits = a.cross.circuits; rounds = a.rounds; west = a.cross.west; east = a.cross.east; state = a.cross.state; ports = a.ports; west_out = a.west_out; east_out = a.east_out; held = a.held; calm = a.calm }) };
 }
@@ -141,22 +144,30 @@ impl Adm {
         self.cross.receive_landed(side, arrived, inbox);
     }
 
-    /// Returns what a port of the node delivered in the last round, and AIS before the first.
-    pub fn delivered(&self, port: PortId) -> &Delivered
-        requires { HasPort self.now.ports port }
-        ensures { result.now ≡ (outlet_of port self.now.ports).delivered }
+    /// Returns room for what each port of the node delivers. All its memory is taken here.
+    pub fn outlets(&self, alloc: Global) -> Result<Outlets, AllocError>
+        ensures { IfOk result (λ outlets. length outlets ≡ length self.now.ports) }
     {
-        self.ports.outlet(port).delivered()
+        self.ports.outlets(alloc)
     }
 
-    /// Returns the pointer value of the interpreter through which a port's bytes came, and 0 where the port delivers
-    /// AIS.
-    pub fn value(&self, port: PortId) -> u16
-        requires { HasPort self.now.ports port }
-        ensures value { result ≡ (outlet_of port self.now.ports).value }
-        ensures small { result ≤ 782 }
+    /// Takes what each port of the node delivered in the last round out of the frames in which it waits. Before the
+    /// first round it is AIS. It takes no memory.
+    pub fn deliver(&self, taken: &mut TakenPair, outlets: &mut Outlets)
+        requires { length outlets.old ≡ length self.now.ports }
+        ensures { outlets.new ≡ outlets_of self.now.ports }
     {
-        self.ports.outlet(port).value()
+        deliver_ports(&self.cross, &self.ports, taken, outlets);
+    }
+
+    /// Returns what a port of the node delivered in the last round, of what all its ports delivered.
+    pub fn outlet<'a>(&self, port: PortId, outlets: &'a Outlets) -> &'a Outlet
+        requires there { HasPort self.now.ports port }
+        requires outlets { outlets.now ≡ outlets_of self.now.ports }
+        ensures { result.now ≡ outlet_of port self.now.ports }
+    {
+        let place = self.ports.place_of(port);
+        outlets.at(place)
     }
 
     /// Returns the state.
@@ -209,8 +220,8 @@ impl Adm {
         self.calm
     }
 
-    /// Runs one round at a moment: what arrived is read, the state and the words follow, the ports deliver, and a frame
-    /// goes out on each side. It takes no memory.
+    /// Runs one round at a moment: what arrived is read, the state and the words follow, and a frame goes out on each
+    /// side. What the ports deliver waits until somebody asks. It takes no memory.
     #[tactic(auto, unfolding(crate::specs::Node::node_round))]
     pub fn send(&mut self, now: Moment, west: &mut FrameBuf, east: &mut FrameBuf)
         requires west { west.old.rate ≡ self.old.settings.rate }
@@ -231,7 +242,6 @@ impl Adm {
         let (sent, decided) = self.cross.decide(held, before);
         let west_said = self.west_out.say(sent.west);
         let east_said = self.east_out.say(sent.east);
-        deliver_ports(&self.cross, &mut self.ports);
         self.ports.feed();
         self.rounds += 1;
         self.held = one_less(self.held);

@@ -16,6 +16,7 @@ ghost use Rattle.sdh_node.specs.Node.{new_cross, compared_in};
 ghost use Rattle.sdh_node.specs.Crossing.{on_side, at_side, half_of, after_intakes, scene_of, after_decision, next_word, feeder_of};
 ghost use Rattle.sdh_node.specs.Crossing.{lines_of, leads, drops, all_delivered};
 ghost use Rattle.sdh_terminal.specs.Lines.{IsFeeder};
+ghost use Rattle.sdh_terminal.specs.Tributaries.{outlets_of};
 
 use crate::receiver::Receiver;
 use sdh_circuits::{CircuitMap, Slot};
@@ -26,7 +27,7 @@ use sdh_plant::Arrived;
 use sdh_request::{Command, Moment, Settings};
 use sdh_ringmap::{Pos, Rate, RingMap, Side};
 use sdh_squelch::{Origin, Table, drop_origin, protection_origin, working_origin};
-use sdh_terminal::{Feeder, Intake, Matrix, Tributaries};
+use sdh_terminal::{Feeder, Intake, Matrix, Outlets, TakenPair, Tributaries};
 use std::alloc::{AllocError, Global};
 use std::marker::Model;
 
@@ -117,21 +118,20 @@ impl CrossConnect {
         }
     }
 
-    /// Keeps what arrived on a side, but without a copy: the buffer in which the frame landed is exchanged for the
-    /// side's own. What was in that one isn't kept.
+    /// Keeps what arrived on a side, but without a copy: the buffer in which the frame landed is exchanged for another
+    /// one.
     pub fn receive_landed(&mut self, side: Side, arrived: Arrived, inbox: &mut Landed)
         requires rate { inbox.old.rate ≡ self.old.west.section.rate }
         requires here { arrived ≡ Arrived.Frame → inbox.old.landed ≢ None }
-        ensures cross { self.new ≡ record (at_side side
-            (arrived_on (arrived_in arrived inbox.old.landed)) self.old) { west_in = self.new.west_in; east_in = self.new.east_in } }
+        ensures cross { self.new ≡ at_side side (arrived_on (arrived_in arrived inbox.old.landed)) self.old }
         ensures moment { self.new.west.local.moment ≡ self.old.west.local.moment }
         ensures rate { inbox.new.rate ≡ inbox.old.rate }
         ensures dark { arrived ≡ Arrived.Dark → inbox.new ≡ inbox.old }
         ensures taken { arrived ≡ Arrived.Frame → inbox.new.landed ≡ None }
     {
         match side {
-            Side::West => self.west.receive_landed(arrived, inbox, &mut self.west_in),
-            Side::East => self.east.receive_landed(arrived, inbox, &mut self.east_in),
+            Side::West => self.west.receive_landed(arrived, inbox),
+            Side::East => self.east.receive_landed(arrived, inbox),
         }
     }
 
@@ -300,9 +300,15 @@ impl Matrix for CrossConnect {
 }
 
 /// Each port delivers what the node's state leads to it.
-pub fn deliver_ports(cross: &CrossConnect, ports: &mut Tributaries)
-    requires { All (λ t. (1 ≤ t.slot.0) × (t.slot.0 ≤ half_of cross.now)) ports.old }
-    ensures { ports.new ≡ all_delivered cross.now ports.old }
+pub fn deliver_ports(
+    cross: &CrossConnect,
+    ports: &Tributaries,
+    taken: &mut TakenPair,
+    outlets: &mut Outlets,
+)
+    requires ports { All (λ t. (1 ≤ t.slot.0) × (t.slot.0 ≤ half_of cross.now)) ports.now }
+    requires many { length outlets.old ≡ length ports.now }
+    ensures { outlets.new ≡ outlets_of (all_delivered cross.now ports.now) }
 {
-    ports.deliver(cross);
+    ports.deliver(cross, taken, outlets);
 }

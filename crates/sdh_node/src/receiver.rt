@@ -1,7 +1,6 @@
 //! One side that receives.
 ghost use Rattle.std.specs.Prelude.{◌≡◌, ◌≢◌, ◌&&◌, ◌-◌, ◌<◌, ◌≤◌, None, IfSome, IfOk, slice_index_or};
 ghost use Rattle.sdh_ringmap.specs.Rates.{n_of};
-ghost use Rattle.sdh_overhead.specs.Landing.{emptied};
 ghost use Rattle.sdh_kbytes.specs.KBytes.{IsSpellable};
 ghost use Rattle.sdh_nodestate.specs.Filtering.{hears};
 ghost use Rattle.sdh_pointer.specs.Reading.{start};
@@ -67,20 +66,17 @@ impl Receiver {
     }
 
     /// Keeps what arrived for the next round as `receive` does, but without a copy: the buffer in which the frame
-    /// landed is exchanged for the one that was taken in before. Where no frame arrived, nothing is exchanged.
-    pub fn receive_landed(&mut self, arrived: Arrived, inbox: &mut Landed, intake: &mut Intake)
+    /// landed is exchanged for another one. Where no frame arrived, nothing is exchanged.
+    pub fn receive_landed(&mut self, arrived: Arrived, inbox: &mut Landed)
         requires rate { inbox.old.rate ≡ self.old.section.rate }
         requires here { arrived ≡ Arrived.Frame → inbox.old.landed ≢ None }
-        requires intake { intake.old.frame.rate ≡ self.old.section.rate }
         ensures side { self.new ≡ arrived_on (arrived_in arrived inbox.old.landed) self.old }
         ensures local { self.new.local ≡ self.old.local }
         ensures rate { inbox.new.rate ≡ inbox.old.rate }
-        ensures dark { arrived ≡ Arrived.Dark → (inbox.new ≡ inbox.old) × (intake.new ≡ intake.old) }
-        ensures back { arrived ≡ Arrived.Frame → inbox.new ≡ emptied inbox.old.rate intake.old.frame.bytes }
-        ensures intake { intake.new ≡ record intake.old { frame = intake.new.frame } }
-        ensures intake_rate { intake.new.frame.rate ≡ intake.old.frame.rate }
+        ensures dark { arrived ≡ Arrived.Dark → inbox.new ≡ inbox.old }
+        ensures taken { arrived ≡ Arrived.Frame → inbox.new.landed ≡ None }
     {
-        self.inlet.receive_landed(arrived, inbox, intake);
+        self.inlet.receive_landed(arrived, inbox);
     }
 
     /// Gives the side a command.

@@ -1,4 +1,4 @@
-//! An add-drop multiplexer as a node that runs in rounds.
+//! An add-drop multiplexer as a node that runs in rounds, and whose ports deliver.
 
 use crate::adm::Adm;
 use sdh_circuits::CircuitMap;
@@ -8,6 +8,7 @@ use sdh_plant::Arrived;
 use sdh_request::{Moment, Settings};
 use sdh_ringmap::{Pos, RingMap, Side};
 use sdh_rounds::Station;
+use sdh_terminal::{Delivers, Outlets, TakenPair};
 use std::alloc::{AllocError, Global};
 
 impl Station for Adm {
@@ -44,4 +45,20 @@ impl Station for Adm {
     ghost told_rate = { rate_stays };
 
     ghost told_may = { may_still };
+}
+
+impl Delivers for Adm {
+    ghost use Rattle.sdh_terminal.specs.Tributaries.{outlets_of};
+
+    ghost delivered = { λ n. outlets_of n.ports };
+
+    #[tactic(auto, using(sdh_terminal::proofs::Waiting::count_outlets))]
+    fn outlets(&self, alloc: Global) -> Result<Outlets, AllocError> {
+        Adm::outlets(self, alloc)
+    }
+
+    #[tactic(auto, using(sdh_terminal::proofs::Waiting::count_outlets))]
+    fn deliver(&self, taken: &mut TakenPair, outlets: &mut Outlets) {
+        Adm::deliver(self, taken, outlets);
+    }
 }

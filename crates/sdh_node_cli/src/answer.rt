@@ -2,7 +2,7 @@
 ghost use Rattle.std.specs.Prelude.{◌≡◌, ◌+◌, ◌*◌, ◌≤◌, ◌++◌, Some, length};
 ghost use Rattle.sdh_frame.specs.Sizes.{size_of};
 ghost use Rattle.sdh_circuits.specs.declared.PortId.{PortId};
-ghost use Rattle.sdh_terminal.specs.Tributaries.{HasPort};
+ghost use Rattle.sdh_terminal.specs.Tributaries.{HasPort, outlets_of};
 ghost use Rattle.sdh_report.specs.Written.{with_part};
 ghost use Rattle.sdh_shell.specs.Writing.{room_in};
 ghost use Rattle.sdh_aps.specs.Lines.{signal_line};
@@ -17,10 +17,12 @@ use sdh_frame::FrameBuf;
 use sdh_node::Adm;
 use sdh_report::Text;
 use sdh_ringmap::Pos;
+use sdh_terminal::Outlets;
 
-// Appends the line of the port of a circuit that is at the node, if one is.
-fn put_port(text: &mut Text, node: &Adm, at: Pos, number: u8, circuit: &Circuit)
+// Appends the line of the port of a circuit that is at the node, if one is. `outlets` has what all its ports delivered.
+fn put_port(text: &mut Text, node: &Adm, outlets: &Outlets, at: Pos, number: u8, circuit: &Circuit)
     requires there { (port : PortId) → port.circuit ≡ number → end_here at circuit.now ≡ Some port.end → HasPort node.now.ports port }
+    requires outlets { outlets.now ≡ outlets_of node.now.ports }
     requires room { 96 ≤ text.old.room }
     ensures bytes { text.new.bytes ≡ text.old.bytes ++ port_text node.now at number circuit.now }
     ensures room { text.old.room ≤ text.new.room + 96 }
@@ -33,19 +35,23 @@ fn put_port(text: &mut Text, node: &Adm, at: Pos, number: u8, circuit: &Circuit)
         circuit: number,
         end,
     };
-    text.port_line(circuit.name(), end, node.delivered(port), node.value(port));
+    let outlet = node.outlet(port, outlets);
+    text.port_line(circuit.name(), end, outlet.delivered(), outlet.value());
 }
 
-/// Appends the lines of the ports that are at the node, in the order of the circuits.
-pub fn put_ports(text: &mut Text, node: &Adm, at: Pos, circuits: &CircuitMap)
+/// Appends the lines of the ports that are at the node, in the order of the circuits. `outlets` has what all these ports
+/// delivered.
+pub fn put_ports(text: &mut Text, node: &Adm, outlets: &Outlets, at: Pos, circuits: &CircuitMap)
     requires there { (port : PortId) → IsOwn circuits.now.circuits at port → HasPort node.now.ports port }
+    requires outlets { outlets.now ≡ outlets_of node.now.ports }
     requires room { 96 * length circuits.now.circuits ≤ text.old.room }
     ensures bytes { text.new.bytes ≡ text.old.bytes ++ ports_from node.now at 0 circuits.now.circuits }
     ensures room { text.old.room ≤ text.new.room + 96 * length circuits.now.circuits }
     ensures kept { room_in text.new ≡ room_in text.old }
 {
     for number in 0..circuits.len() {
-        put_port(text, node, at, number as u8, circuits.get(number as u8));
+        let circuit = circuits.get(number as u8);
+        put_port(text, node, outlets, at, number as u8, circuit);
     }
 }
 

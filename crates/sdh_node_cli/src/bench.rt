@@ -24,11 +24,12 @@ use sdh_plant::Arrived;
 use sdh_report::Text;
 use sdh_request::Moment;
 use sdh_ringmap::{Pos, Side};
+use sdh_terminal::{Outlets, TakenPair};
 use std::alloc::{AllocError, Global};
 use std::marker::Model;
 
 /// A node of a plan's ring, with the present moment, the circuits, how many rounds it has run, and room for a frame of
-/// each side.
+/// each side and for what its ports deliver.
 #[derive(Drop)]
 pub struct Bench {
     mode: Mode,
@@ -40,10 +41,12 @@ pub struct Bench {
     node: Adm,
     west: FrameBuf,
     east: FrameBuf,
+    outlets: Outlets,
+    taken: TakenPair,
 }
 
 impl Model for Bench {
-    ghost use Rattle.std.specs.Prelude.{◌≡◌};
+    ghost use Rattle.std.specs.Prelude.{◌≡◌, length};
     ghost use Rattle.sdh_node_cli.specs.Bench.{Bench as OnBench, IsBench};
 
     ghost Value = { OnBench };
@@ -51,7 +54,8 @@ impl Model for Bench {
     ghost view = { λ b. record { mode = b.mode; id = b.id; at = b.at; circuits = b.circuits.circuits; moment = b.moment.0; node = b.node } };
 
     ghost invariant = { λ b. IsBench (record { mode = b.mode; id = b.id; at = b.at; circuits = b.circuits.circuits; moment = b.moment.0; node = b.node })
-        × (b.rounds ≡ b.node.rounds) × (b.west.rate ≡ b.node.settings.rate) × (b.east.rate ≡ b.node.settings.rate) };
+        × (b.rounds ≡ b.node.rounds) × (b.west.rate ≡ b.node.settings.rate) × (b.east.rate ≡ b.node.settings.rate)
+        × (length b.outlets ≡ length b.node.ports) };
 }
 
 impl Bench {
@@ -67,6 +71,7 @@ impl Bench {
         let west = FrameBuf::try_new(alloc, settings.rate)?;
         let east = FrameBuf::try_new(alloc, settings.rate)?;
         let node = Adm::try_new(alloc, settings, &map, &circuits, at)?;
+        let outlets = node.outlets(alloc)?;
         Ok(Bench {
             mode: ask.mode,
             id: ask.id,
@@ -77,6 +82,8 @@ impl Bench {
             node,
             west,
             east,
+            outlets,
+            taken: TakenPair::try_new(alloc)?,
         })
     }
 
@@ -144,17 +151,19 @@ impl Bench {
         Ok(())
     }
 
-    // Appends the lines of the last round.
+    // Appends the lines of the last round, what the ports delivered in it among them.
     #[tactic(auto, unfolding(crate::specs::Bench::lines_of))]
-    fn put_lines(&self, text: &mut Text)
-        requires ran { 1 ≤ self.now.node.rounds }
-        requires room { 128 + 96 * length self.now.circuits ≤ text.old.room }
-        ensures bytes { text.new.bytes ≡ text.old.bytes ++ lines_of self.now }
-        ensures room { text.old.room ≤ text.new.room + (128 + 96 * length self.now.circuits) }
+    fn put_lines(&mut self, text: &mut Text)
+        requires ran { 1 ≤ self.old.node.rounds }
+        requires room { 128 + 96 * length self.old.circuits ≤ text.old.room }
+        ensures same { self.new ≡ self.old }
+        ensures bytes { text.new.bytes ≡ text.old.bytes ++ lines_of self.old }
+        ensures room { text.old.room ≤ text.new.room + (128 + 96 * length self.old.circuits) }
         ensures kept { room_in text.new ≡ room_in text.old }
     {
         put_shown(text, &self.node, self.rounds - 1, self.id);
-        put_ports(text, &self.node, self.at, &self.circuits);
+        self.node.deliver(&mut self.taken, &mut self.outlets);
+        put_ports(text, &self.node, &self.outlets, self.at, &self.circuits);
     }
 
     /// Runs a round, and writes its answer into an empty text. It takes no memory.

@@ -72,6 +72,13 @@ impl Landed {
         std::mem::swap(&mut self.frame, frame);
         self.here = false;
     }
+
+    /// Forgets the frame that landed, if there is one. The buffer stays.
+    pub fn forget(&mut self)
+        ensures { self.new ≡ emptied self.old.rate self.old.buffer }
+    {
+        self.here = false;
+    }
 }
 
 impl Landing for Landed {

@@ -5,3 +5,4 @@ pub mod Breaking
 pub mod Settling
 pub mod Turns
 mod Whole
+pub mod Delivered

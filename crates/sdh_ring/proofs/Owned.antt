@@ -73,6 +73,16 @@ pub outlet_there : (r : HeldRing) (id : PortId) (n : Node) → IsNodeOf r id n �
 outlet_there r id n node =
     outlet_is r id node.place.circuit n node.place.circuit_is (ap (slice_get r.nodes) (sym node.place.place) ∙ node.there)
 
+-- the same, by the position of that node
+pub outlet_owned : (r s : HeldRing) (id : PortId) (p : ℕ) → r ≡ s → IsPlaceOf r id p → IsOwned s id p
+    → outlet_at s id ≡ outlet_of id (node_at s.nodes p).ports
+outlet_owned r s id p same place o =
+    outlet_there s id (node_at s.nodes p) (record {
+      at = p;
+      place = subst (λ (x : HeldRing). IsPlaceOf x id p) same place;
+      there = o.there;
+    })
+
 module _ (r : HeldRing) (id : PortId) (p : ℕ) (o : IsOwned r id p) where
   abbrev ports : List Tributary
   ports = (node_at r.nodes p).ports

@@ -1,3 +1,4 @@
 pub mod Faults
 pub mod Observed
 pub mod Promises
+pub mod Delivered

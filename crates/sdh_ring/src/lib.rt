@@ -6,6 +6,7 @@
 
 mod changing;
 mod ring;
+mod running;
 
 pub use changing::change;
 pub use ring::Ring;

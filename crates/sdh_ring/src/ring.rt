@@ -28,6 +28,7 @@ ghost use Rattle.sdh_ring.specs.Faults.{BreaksRound};
 ghost use Rattle.sdh_ring.specs.Observed.{Hears, RanSome, HearsSome, IsStopped};
 ghost use Rattle.sdh_ring.specs.Promises.{KeepsPromises};
 
+use crate::running::Running;
 use sdh_circuits::{CircuitMap, PortId};
 use sdh_node::{Adm, Delivered, Settings, Turn};
 use sdh_plant::Plant;
@@ -36,49 +37,28 @@ use sdh_ringmap::{Pos, RingMap, Side};
 use sdh_rounds::{
     Nobody, Observer, PlantFault, Recorder, RunsRounds, SettleError, StationRing, Stopped,
 };
+use sdh_terminal::{Deliveries, Outlet};
 use std::alloc::{AllocError, Global};
 use std::marker::Model;
 
-/// The nodes of a ring, which run in rounds.
+/// The nodes of a ring, which run in rounds, and what their ports delivered in the last one. While a settle step runs at
+/// which nobody looks, that waits at the nodes.
 #[derive(Debug, Drop)]
 pub struct Ring {
-    ring: StationRing<Adm>,
+    running: Running,
+    deliveries: Deliveries,
 }
 
 impl Model for Ring {
+    ghost use Rattle.std.specs.Prelude.{◌≡◌};
     ghost use Rattle.sdh_world.specs.Held.{HeldRing};
-    ghost use Rattle.sdh_world.specs.Fixed.{IsRing};
+    ghost use Rattle.sdh_ring.specs.Delivered.{delivered_in};
 
     ghost Value = { HeldRing };
 
-    ghost view = { λ a. a.ring };
+    ghost view = { λ a. a.running };
 
-    ghost invariant = { λ a. IsRing a.ring };
-}
-
-fn command_at(ring: &mut StationRing<Adm>, at: usize, side: Side, command: Command)
-    requires { at < length ring.old.nodes }
-    ensures { ring.new ≡ record ring.old { nodes = at_place at (at_receiving side (commanded_by command)) ring.old.nodes } }
-{
-    ring.nodes[at].command(side, command);
-}
-
-fn hold_at(ring: &mut StationRing<Adm>, at: usize, turns: u32)
-    requires at { at < length ring.old.nodes }
-    requires some { 1 ≤ turns }
-    requires few { turns ≤ 100 }
-    ensures { ring.new ≡ record ring.old { nodes = at_place at (held_for turns) ring.old.nodes } }
-{
-    ring.nodes[at].hold(turns);
-}
-
-fn slip_at(ring: &mut StationRing<Adm>, at: usize, port: PortId, turn: Turn, count: u8)
-    requires at { at < length ring.old.nodes }
-    requires port { HasPort (node_at ring.old.nodes at).ports port }
-    requires few { waiting_of port (node_at ring.old.nodes at).ports + count ≤ 16 }
-    ensures { ring.new ≡ record ring.old { nodes = at_place at (slips_at port turn count) ring.old.nodes } }
-{
-    ring.nodes[at].slip(port, turn, count);
+    ghost invariant = { λ a. a.deliveries ≡ delivered_in a.running };
 }
 
 impl Ring {
@@ -108,8 +88,12 @@ impl Ring {
 
         prove!(map.len() <= 16);
         prove!(circuits.len() <= 128);
-        let ring = StationRing::try_new(alloc, settings, map, circuits)?;
-        Ok(Ring { ring })
+        let running = Running::try_new(alloc, settings, map, circuits)?;
+        let deliveries = Deliveries::try_new(alloc, running.nodes())?;
+        Ok(Ring {
+            running,
+            deliveries,
+        })
     }
 
     /// Gives one side of a node a command.
@@ -122,7 +106,7 @@ impl Ring {
     {
         sdh_laws::hearing::stay_whole();
         sdh_laws::strangers::vouched_rings_stay();
-        command_at(&mut self.ring, at.0 as usize, side, command);
+        self.running.command(at, side, command);
     }
 
     /// Holds the controller of a node for the next `turns` rounds, in place of those left of an earlier call. Where the
@@ -139,18 +123,7 @@ impl Ring {
     {
         sdh_laws::hearing::stay_whole();
         sdh_laws::strangers::vouched_rings_stay();
-        hold_at(&mut self.ring, at.0 as usize, turns);
-    }
-
-    // Returns the position of the node where a port of a circuit is.
-    fn place_of(&self, port: PortId) -> usize
-        requires { port.circuit < length self.now.circuits.circuits }
-        ensures place { result ≡ place_of_port self.now port }
-        ensures inside { result < length self.now.nodes }
-        ensures port { HasPort (node_at self.now.nodes result).ports port }
-        ensures waiting { waiting_of port (node_at self.now.nodes result).ports ≡ waiting_at self.now port }
-    {
-        self.ring.place_of(port)
+        self.running.hold(at, turns);
     }
 
     /// Adds `count` pending slips to the clock of the customer who sends at a port: ups or downs, as `turn` says. For
@@ -167,8 +140,7 @@ impl Ring {
     {
         sdh_laws::hearing::stay_whole();
         sdh_laws::strangers::vouched_rings_stay();
-        let at = self.place_of(port);
-        slip_at(&mut self.ring, at, port, turn, count);
+        self.running.slip(port, turn, count);
     }
 
     /// Returns how many slips wait at a port of a circuit.
@@ -177,7 +149,7 @@ impl Ring {
         ensures waiting { result ≡ waiting_at self.now port }
         ensures few { result ≤ 16 }
     {
-        self.node_of(port).waiting(port)
+        self.running.node_of(port).waiting(port)
     }
 
     /// Sets the present moment, at which the next rounds run.
@@ -191,7 +163,7 @@ impl Ring {
     {
         sdh_laws::hearing::stay_whole();
         sdh_laws::strangers::vouched_rings_stay();
-        self.ring.moment(now);
+        self.running.moment(now);
     }
 
     /// Runs one round: all nodes receive, except in round 0, and then all send. It takes no memory. After a fault of
@@ -233,30 +205,17 @@ impl Ring {
         sdh_laws::hearing::whole_rounds_go_as_signals();
         sdh_laws::resting::rest_goes_on();
         sdh_laws::strangers::rounds_keep_strangers_out();
-        self.circuits_fit();
-        self.ring.round(plant)
+        self.running.is_ring();
+        self.running.circuits_fit();
+        let result = self.running.round(plant);
+        self.running.is_ring();
+        self.deliveries.take(self.running.nodes());
+        result
     }
 }
 
 // Settle steps.
 impl Ring {
-    // The circuits fit the ring's size and rate: the function does nothing, and its contract is the law.
-    fn circuits_fit(&self)
-        ensures { HasCircuits (layout_in self.now) }
-    {
-        // Looking at a field gives the prover the ring's invariant, from which the law follows.
-        let _ = &self.ring;
-    }
-
-    // At most 16 slips wait at each port, and at most four rounds come before one in which its clock may justify. The
-    // function does nothing: its contract is the law.
-    fn few_slips_wait(&self)
-        requires { self.now.broken ≡ false }
-        ensures { (port : PortId) → HasPortIn self.now port → IsRested (clock_at self.now port) }
-    {
-        let _ = &self.ring;
-    }
-
     /// Runs rounds, at most `limit`, until one ends a quiet window. That is `3 * n` calm rounds of this step, the last
     /// of which has a number that is a multiple of 128. It takes no memory.
     pub fn settle<P: Plant>(&mut self, plant: &mut P, limit: u32) -> Result<(), SettleError>
@@ -271,7 +230,19 @@ impl Ring {
         // Traffic is restored, no port meets a stranger, and a step whose limit is large enough ends with a window.
         ensures laws { KeepsPromises (world self.old (P.fibres plant.old)) limit result (world self.new (P.fibres plant.new)) }
     {
-        self.settle_with(plant, limit, &mut Nobody)
+        self.running.is_ring();
+        self.running.circuits_fit();
+        self.running.few_slips_wait();
+        sdh_laws::hearing::steps_stay_whole();
+        sdh_laws::carrying::settled_rings_are_restored();
+        sdh_laws::resting::steps_leave_at_rest();
+        sdh_laws::restoring::unsettled_rings_are_restored();
+        sdh_laws::converging::steps_answer();
+        sdh_laws::strangers::steps_keep_strangers_out();
+        let result = sdh_rounds::settle(&mut self.running, plant, limit, &mut Nobody);
+        self.running.is_ring();
+        self.deliveries.take(self.running.nodes());
+        result
     }
 
     /// Runs rounds as `settle` does, and lets an observer look at the ring after each round.
@@ -296,8 +267,8 @@ impl Ring {
         ensures heard { OnOk result
             (Hears (λ at k. O.Heard at k observer.new) (world self.old (P.fibres plant.old)) limit (world self.new (P.fibres plant.new))) }
     {
-        self.circuits_fit();
-        self.few_slips_wait();
+        self.running.circuits_fit();
+        self.running.few_slips_wait();
         sdh_laws::hearing::steps_stay_whole();
         sdh_laws::carrying::settled_rings_are_restored();
         sdh_laws::resting::steps_leave_at_rest();
@@ -340,8 +311,8 @@ impl Ring {
         ensures stopped { OnErr result (IsStopped P.exact (λ at k. O.Stops recorder.old log.old at k recorder.new log.new)
             (world self.old (P.fibres plant.old)) limit (world self.new (P.fibres plant.new)) (P.faults plant.old) (P.faults plant.new)) }
     {
-        self.circuits_fit();
-        self.few_slips_wait();
+        self.running.circuits_fit();
+        self.running.few_slips_wait();
         sdh_laws::hearing::steps_stay_whole();
         sdh_laws::carrying::settled_rings_are_restored();
         sdh_laws::resting::steps_leave_at_rest();
@@ -358,7 +329,7 @@ impl RunsRounds for Ring {
     ghost held = { λ ring. ring };
 
     fn stations(&self) -> &StationRing<Adm> {
-        &self.ring
+        self.running.stations()
     }
 
     fn round<P: Plant>(&mut self, plant: &mut P) -> Result<(), PlantFault> {
@@ -368,14 +339,14 @@ impl RunsRounds for Ring {
 
 // What can be read of the ring's ports and nodes.
 impl Ring {
-    // Returns the node where a port of a circuit is.
-    fn node_of(&self, port: PortId) -> &Adm
+    // Returns what a port of a circuit delivered in the last round, with its pointer value.
+    fn outlet(&self, port: PortId) -> &Outlet
         requires { port.circuit < length self.now.circuits.circuits }
-        ensures port { HasPort result.now.ports port }
-        ensures outlet { outlet_at self.now port ≡ outlet_of port result.now.ports }
-        ensures waiting { waiting_at self.now port ≡ waiting_of port result.now.ports }
+        ensures { result.now ≡ outlet_at self.now port }
     {
-        self.ring.node_of(port)
+        let at = self.running.place_of(port);
+        let node = &self.running.nodes()[at];
+        node.outlet(port, self.deliveries.of(at))
     }
 
     /// Returns what a port of a circuit delivered in the last round, and AIS before the first.
@@ -383,7 +354,7 @@ impl Ring {
         requires { port.circuit < length self.now.circuits.circuits }
         ensures { result.now ≡ (outlet_at self.now port).delivered }
     {
-        self.node_of(port).delivered(port)
+        self.outlet(port).delivered()
     }
 
     /// Returns the pointer value of the interpreter through which a port's bytes came, and 0 where the port delivers
@@ -393,28 +364,28 @@ impl Ring {
         ensures value { result ≡ (outlet_at self.now port).value }
         ensures small { result ≤ 782 }
     {
-        self.node_of(port).value(port)
+        self.outlet(port).value()
     }
 
     /// Returns how many rounds have run. They are numbered from 0, so the last one has a number one below that.
     pub fn rounds(&self) -> u64
         ensures { result ≡ self.now.rounds }
     {
-        self.ring.rounds()
+        self.running.stations().rounds()
     }
 
     /// Returns the nodes' identifiers.
     pub fn map(&self) -> &RingMap
         ensures { result.now ≡ self.now.ids }
     {
-        self.ring.map()
+        self.running.stations().map()
     }
 
     /// Returns the circuits.
     pub fn circuits(&self) -> &CircuitMap
         ensures { result.now ≡ self.now.circuits }
     {
-        self.ring.circuits()
+        self.running.stations().circuits()
     }
 
     /// Returns the node at a position.
@@ -422,13 +393,13 @@ impl Ring {
         requires { at.0 < length self.now.ids }
         ensures { slice_get self.now.nodes at.0 ≡ Some result.now }
     {
-        self.ring.node(at)
+        self.running.stations().node(at)
     }
 
     /// Returns whether a fault of the plant broke a round off.
     pub fn is_broken(&self) -> bool
         ensures { result ≡ self.now.broken }
     {
-        self.ring.is_broken()
+        self.running.stations().is_broken()
     }
 }

@@ -10,7 +10,9 @@ pub mod Owed
 pub mod Converging
 pub mod Keeping
 pub mod Turning
+pub mod Waiting
 pub mod Using
 pub mod Wholes
 pub mod Sharing
 pub mod Rings
+pub mod Delivered

@@ -6,11 +6,11 @@ use Rattle.sdh_ringmap.specs.declared.Side.{Side}
 use Rattle.sdh_ringmap.specs.declared.Side.TheVariants.{West, East}
 use Rattle.sdh_terminal.specs.Same.{same_readings, same_generators}
 use Rattle.sdh_terminal.specs.Receiving.{after_taking}
-use Rattle.sdh_terminal.specs.Lines.{all_fed_by}
+use Rattle.sdh_terminal.specs.Lines.{all_fed_by, dropped_by}
 use Rattle.sdh_terminal.specs.Tributaries.{Tributary, added_by, added_last, all_fed, all_delivered_with}
 use Rattle.sdh_terminal.specs.Sending.{Sending, frame_from, after_sending}
-use Rattle.sdh_terminal.proofs.Ports.{holds-adds}
-use Rattle.sdh_sncp.specs.Node.{PathCross, PathNode, after_taken, lines_of, leads, crossing, dropped_to, input_at, ports_after, unchanged}
+use Rattle.sdh_terminal.proofs.Waiting.{round-waiting, adds-waiting}
+use Rattle.sdh_sncp.specs.Node.{PathCross, PathNode, after_taken, lines_of, leads, drops, crossing, dropped_to, input_at, ports_after, unchanged}
 use Rattle.sdh_sncp.specs.Node.{after_crossing, node_frames, with_calm, node_round, GoesOn}
 
 -- the node with these parts
@@ -28,23 +28,27 @@ node_of threshold rounds x ports west east calm = record {
 }
 
 -- a node, and what the calls of its round made of its parts
-module _ (threshold rounds : ℕ) (x0 : PathCross) (ports : List Tributary) (wo eo : Sending) (was : Bool) where
+module _ (threshold rounds : ℕ) (x0 : PathCross) (kept : List Tributary) (wo eo : Sending) (was : Bool) where
+  -- the ports, which deliver what the round before left to them
+  abbrev ports : List Tributary
+  ports = all_delivered_with (dropped_to x0) kept
+
   abbrev n : PathNode
   n = node_of threshold rounds x0 ports wo eo was
 
-  module _ (x : PathCross) (ds fs : List Tributary) (take : x ≡ after_taken threshold x0)
-      (deliver : ds ≡ all_delivered_with (dropped_to x) ports) (feed : fs ≡ all_fed ds) where
+  module _ (x : PathCross) (fs : List Tributary) (take : x ≡ after_taken threshold x0) (feed : fs ≡ all_fed kept) where
     cross_is : x ≡ crossing n
     unfolding crossing after_taken
     cross_is = take
 
-    ports_is : fs ≡ ports_after (crossing n) ports
+    ports_is : all_delivered_with (dropped_to x) fs ≡ ports_after (crossing n) ports
     unfolding ports_after
-    ports_is = feed ∙ ap all_fed (deliver ∙ ap (λ y. all_delivered_with (dropped_to y) ports) cross_is)
+    ports_is =
+        (λ i. all_delivered_with (dropped_to (cross_is i)) (feed i))
+        ∙ round-waiting (λ side m. dropped_by (lines_of (crossing n)) (drops (crossing n) side m)) (dropped_to x0) kept
 
     added_is : added_last fs ≡ added_by ports
-    unfolding ports_after
-    added_is = ap added_last ports_is ∙ holds-adds (dropped_to (crossing n)) ports
+    added_is = ap added_last feed ∙ adds-waiting (dropped_to x0) kept
 
     sent_is : (side : Side) (o after : Sending) → after ≡ after_sending (all_fed_by (lines_of x) (added_last fs) (leads x side)) o
         → after ≡ after_sending (input_at (crossing n) ports side) o
@@ -81,7 +85,7 @@ module _ (threshold rounds : ℕ) (x0 : PathCross) (ports : List Tributary) (wo 
           λ i. r i && (taken_is i && (west_is i && east_is i))
 
       pub node_is : (calm : Bool) → calm ≡ (nat_le 1 rounds && unchanged (after_crossing (crossing n) n) n)
-          → node_of threshold (rounds + 1) x fs wa ea calm ≡ (node_round n).0
+          → node_of threshold (rounds + 1) x (all_delivered_with (dropped_to x) fs) wa ea calm ≡ (node_round n).0
       unfolding node_round with_calm after_crossing crossing
       node_is calm told =
           λ i. node_of threshold (rounds + 1) (cross_is i) (ports_is i) (sent_is West wo wa west_send i) (sent_is East eo ea east_send i)

@@ -1,5 +1,5 @@
 -- A path ring over its fibres: what it holds, and its rounds, runs and windows, which are those of any ring.
-use Rattle.std.specs.Prelude.{ℕ, Bool, List, length, slice_index_or}
+use Rattle.std.specs.Prelude.{ℕ, Bool, List, length, map, slice_index_or}
 use Rattle.sdh_ringmap.specs.declared.Side.{Side}
 use Rattle.sdh_circuits.specs.declared.PortId.{PortId}
 use Rattle.sdh_circuits.specs.Provisioned.{Provisioned}
@@ -11,6 +11,7 @@ use Rattle.sdh_rounds.specs.Held as held
 use Rattle.sdh_rounds.specs.Rounds as rounds
 use Rattle.sdh_rounds.specs.Runs as runs
 use Rattle.sdh_rounds.specs.Quiet as quiet
+use Rattle.sdh_terminal.specs.Tributaries.{outlets_of}
 use Rattle.sdh_sncp.specs.Node.{PathNode, node_round}
 use Rattle.sdh_sncp.specs.Stations.{path_node}
 
@@ -27,6 +28,10 @@ new_ring settings ids circuits = held.ring_of settings ids circuits (new_nodes s
 -- what a port of a circuit delivered in the last round, at the node where it is
 unfoldable pub outlet_at : HeldPath → PortId → Outlet
 outlet_at = held.outlet_at path_node
+
+-- what the ports of a ring delivered in the last round, node by node
+abbrev pub delivered_in : HeldPath → List (List Outlet)
+delivered_in r = map (λ (n : PathNode). outlets_of n.ports) r.nodes
 
 -- a node of no ring, which `node_at` gives at a position that the ring doesn't have
 unfoldable pub nowhere : PathNode

@@ -69,20 +69,19 @@ impl PathCross {
         })
     }
 
-    /// Keeps what arrived on a side, but without a copy: the buffer in which the frame landed is exchanged for the
-    /// side's own. What was in that one isn't kept.
+    /// Keeps what arrived on a side, but without a copy: the buffer in which the frame landed is exchanged for another
+    /// one.
     pub fn receive_landed(&mut self, side: Side, arrived: Arrived, inbox: &mut Landed)
         requires rate { inbox.old.rate ≡ self.old.west.section.rate }
         requires here { arrived ≡ Arrived.Frame → inbox.old.landed ≢ None }
-        ensures cross { self.new ≡ record (cross_told side
-            (arrived_in arrived inbox.old.landed) self.old) { west_in = self.new.west_in; east_in = self.new.east_in } }
+        ensures cross { self.new ≡ cross_told side (arrived_in arrived inbox.old.landed) self.old }
         ensures rate { inbox.new.rate ≡ inbox.old.rate }
         ensures dark { arrived ≡ Arrived.Dark → inbox.new ≡ inbox.old }
         ensures taken { arrived ≡ Arrived.Frame → inbox.new.landed ≡ None }
     {
         match side {
-            Side::West => self.west.receive_landed(arrived, inbox, &mut self.west_in),
-            Side::East => self.east.receive_landed(arrived, inbox, &mut self.east_in),
+            Side::West => self.west.receive_landed(arrived, inbox),
+            Side::East => self.east.receive_landed(arrived, inbox),
         }
     }
 

@@ -2,7 +2,7 @@
 ghost use Rattle.std.specs.Prelude.{◌≡◌, ◌≢◌, ◌&&◌, nat_le, ◌+◌, ◌/◌, ◌^◌, ◌<◌, ◌≤◌, None, IfOk, length};
 ghost use Rattle.sdh_ringmap.specs.Rates.{n_of};
 ghost use Rattle.sdh_plant.specs.Arrivals.{arrived_in};
-ghost use Rattle.sdh_terminal.specs.Tributaries.{HasPort, outlet_of};
+ghost use Rattle.sdh_terminal.specs.Tributaries.{HasPort, outlet_of, outlets_of};
 ghost use Rattle.sdh_sncp.specs.Node.{new_node, path_node_told, node_round, GoesOn};
 
 use crate::cross::PathCross;
@@ -10,15 +10,16 @@ use sdh_circuits::{CircuitMap, PortId};
 use sdh_frame::FrameBuf;
 use sdh_nodestate::first_word;
 use sdh_overhead::Landed;
-use sdh_payload::Delivered;
 use sdh_plant::Arrived;
 use sdh_request::Settings;
 use sdh_ringmap::{Pos, RingMap, Side};
-use sdh_terminal::{Sender, Tributaries, send_both};
+use sdh_terminal::{Outlet, Outlets, Sender, TakenPair, Tributaries, send_both};
 use std::alloc::{AllocError, Global};
 use std::marker::Model;
 
-/// One node of a path ring.
+/// One node of a path ring. What its ports delivered in the last round waits in the frames that came in that round, and
+/// is taken out of them when somebody asks. Both frames and the interpreters stay as the round left them until the next
+/// one.
 #[derive(Debug, Drop)]
 pub struct PathNode {
     threshold: u16,
@@ -31,11 +32,12 @@ pub struct PathNode {
 }
 
 impl Model for PathNode {
-    ghost use Rattle.sdh_sncp.specs.Node.{PathNode, IsNode};
+    ghost use Rattle.sdh_terminal.specs.Tributaries.{all_delivered_with};
+    ghost use Rattle.sdh_sncp.specs.Node.{PathNode, IsNode, dropped_to};
 
     ghost Value = { PathNode };
 
-    ghost view = { λ a. record { threshold = a.threshold; uses = a.cross.uses; rounds = a.rounds; west = a.cross.west; east = a.cross.east; ports = a.ports; west_out = a.west_out; east_out = a.east_out; calm = a.calm } };
+    ghost view = { λ a. record { threshold = a.threshold; uses = a.cross.uses; rounds = a.rounds; west = a.cross.west; east = a.cross.east; ports = all_delivered_with (dropped_to a.cross) a.ports; west_out = a.west_out; east_out = a.east_out; calm = a.calm } };
 
     ghost invariant = { λ a. IsNode (record { threshold = a.threshold; uses = a.cross.uses; rounds = a.rounds; west = a.cross.west; east = a.cross.east; ports = a.ports; west_out = a.west_out; east_out = a.east_out; calm = a.calm }) };
 }
@@ -80,22 +82,30 @@ impl PathNode {
         self.cross.receive_landed(side, arrived, inbox);
     }
 
-    /// Returns what a port of the node delivered in the last round. Before the first round it is AIS.
-    pub fn delivered(&self, port: PortId) -> &Delivered
-        requires { HasPort self.now.ports port }
-        ensures { result.now ≡ (outlet_of port self.now.ports).delivered }
+    /// Returns room for what each port of the node delivers. All its memory is taken here.
+    pub fn outlets(&self, alloc: Global) -> Result<Outlets, AllocError>
+        ensures { IfOk result (λ outlets. length outlets ≡ length self.now.ports) }
     {
-        self.ports.outlet(port).delivered()
+        self.ports.outlets(alloc)
     }
 
-    /// Returns the pointer value of the interpreter through which a port's bytes came, and 0 where the port delivers
-    /// AIS.
-    pub fn value(&self, port: PortId) -> u16
-        requires { HasPort self.now.ports port }
-        ensures value { result ≡ (outlet_of port self.now.ports).value }
-        ensures small { result ≤ 782 }
+    /// Takes what each port of the node delivered in the last round out of the frames in which it waits. Before the
+    /// first round it is AIS. It takes no memory.
+    pub fn deliver(&self, taken: &mut TakenPair, outlets: &mut Outlets)
+        requires { length outlets.old ≡ length self.now.ports }
+        ensures { outlets.new ≡ outlets_of self.now.ports }
     {
-        self.ports.outlet(port).value()
+        self.ports.deliver(&self.cross, taken, outlets);
+    }
+
+    /// Returns what a port of the node delivered in the last round, of what all its ports delivered.
+    pub fn outlet<'a>(&self, port: PortId, outlets: &'a Outlets) -> &'a Outlet
+        requires there { HasPort self.now.ports port }
+        requires outlets { outlets.now ≡ outlets_of self.now.ports }
+        ensures { result.now ≡ outlet_of port self.now.ports }
+    {
+        let place = self.ports.place_of(port);
+        outlets.at(place)
     }
 
     /// Returns whether the last round left all interpreters and generators as they were. The first round isn't calm.
@@ -105,7 +115,8 @@ impl PathNode {
         self.calm
     }
 
-    /// Runs one round: what arrived is read, the ports deliver, and a frame goes out on each side. It takes no memory.
+    /// Runs one round: what arrived is read, and a frame goes out on each side. What the ports deliver waits until
+    /// somebody asks. It takes no memory.
     #[tactic(auto, unfolding(crate::specs::Node::node_round))]
     pub fn send(&mut self, west: &mut FrameBuf, east: &mut FrameBuf)
         requires west { west.old.rate ≡ self.old.west.section.rate }
@@ -119,7 +130,6 @@ impl PathNode {
     {
         let ran = has_run(self.rounds);
         let taken = self.cross.take(self.threshold);
-        self.ports.deliver(&self.cross);
         self.ports.feed();
         self.rounds += 1;
         let (west_made, east_made) = send_both(

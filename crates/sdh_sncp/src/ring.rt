@@ -11,7 +11,6 @@ ghost use Rattle.sdh_circuits.specs.declared.PortId.{PortId};
 ghost use Rattle.sdh_rounds.specs.Faults.{BreaksRound};
 ghost use Rattle.sdh_rounds.specs.Observed.{Hears};
 ghost use Rattle.sdh_rounds.specs.Outcome.{IsStep};
-ghost use Rattle.sdh_terminal.specs.Tributaries.{HasPort, outlet_of};
 ghost use Rattle.sdh_sncp.specs.Ring.{World, new_ring, outlet_at, world, IsRound, IsBrokenOff};
 ghost use Rattle.sdh_sncp.specs.Placed.{IsPlacedRing};
 ghost use Rattle.sdh_sncp.specs.Fixed.{AreAlone};
@@ -27,6 +26,7 @@ use sdh_plant::Plant;
 use sdh_request::Settings;
 use sdh_ringmap::RingMap;
 use sdh_rounds::{Nobody, Observer, PlantFault, RunsRounds, SettleError, StationRing};
+use sdh_terminal::{Deliveries, Outlet};
 use std::alloc::{AllocError, Global};
 use std::marker::Model;
 use thiserror::Error;
@@ -52,21 +52,30 @@ impl From<AllocError> for PathError {
     }
 }
 
-/// The nodes of a path ring, which run in rounds.
+/// The nodes of a path ring, which run in rounds, and what their ports delivered in the last one.
 #[derive(Debug, Drop)]
 pub struct PathRing {
     ring: StationRing<PathNode>,
+    deliveries: Deliveries,
 }
 
 impl Model for PathRing {
-    ghost use Rattle.sdh_sncp.specs.Ring.{HeldPath};
+    ghost use Rattle.std.specs.Prelude.{◌≡◌};
+    ghost use Rattle.sdh_sncp.specs.Ring.{HeldPath, delivered_in};
     ghost use Rattle.sdh_sncp.specs.Fixed.{IsRing};
 
     ghost Value = { HeldPath };
 
     ghost view = { λ a. a.ring };
 
-    ghost invariant = { λ a. IsRing a.ring };
+    ghost invariant = { λ a. record { ring : IsRing a.ring; delivered : a.deliveries ≡ delivered_in a.ring } };
+}
+
+// Returns the nodes, by position.
+fn nodes_of(ring: &StationRing<PathNode>) -> &[PathNode]
+    ensures { result.now ≡ ring.now.nodes }
+{
+    ring.nodes.as_slice()
 }
 
 impl PathRing {
@@ -102,7 +111,8 @@ impl PathRing {
             return Err(PathError::SameSlot { first, second });
         }
         let ring = StationRing::try_new(alloc, settings, map, circuits)?;
-        Ok(PathRing { ring })
+        let deliveries = Deliveries::try_new(alloc, nodes_of(&ring))?;
+        Ok(PathRing { ring, deliveries })
     }
 
     /// Runs one round: all nodes receive, except in round 0, and then all send. It takes no memory. After a fault of
@@ -127,7 +137,9 @@ impl PathRing {
         // ends with Ok.
         ensures counted { IsCounted P.exact (IsErr result) (P.faults plant.old) (P.faults plant.new) }
     {
-        self.ring.round(plant)
+        let result = self.ring.round(plant);
+        self.deliveries.take(nodes_of(&self.ring));
+        result
     }
 
     // The circuits fit the ring's size and rate, and no two share a slot: the function does nothing, and its contract
@@ -208,13 +220,14 @@ impl RunsRounds for PathRing {
 
 // What can be read of the ring's ports and nodes.
 impl PathRing {
-    // Returns the node where a port of a circuit is.
-    fn node_of(&self, port: PortId) -> &PathNode
+    // Returns what a port of a circuit delivered in the last round, with its pointer value.
+    fn outlet(&self, port: PortId) -> &Outlet
         requires { port.circuit < length self.now.circuits.circuits }
-        ensures port { HasPort result.now.ports port }
-        ensures outlet { outlet_at self.now port ≡ outlet_of port result.now.ports }
+        ensures { result.now ≡ outlet_at self.now port }
     {
-        self.ring.node_of(port)
+        let at = self.ring.place_of(port);
+        let node = &nodes_of(&self.ring)[at];
+        node.outlet(port, self.deliveries.of(at))
     }
 
     /// Returns what a port of a circuit delivered in the last round. Before the first round it is AIS.
@@ -222,7 +235,7 @@ impl PathRing {
         requires { port.circuit < length self.now.circuits.circuits }
         ensures { result.now ≡ (outlet_at self.now port).delivered }
     {
-        self.node_of(port).delivered(port)
+        self.outlet(port).delivered()
     }
 
     /// Returns the pointer value of the interpreter through which a port's bytes came, and 0 where the port delivers
@@ -232,7 +245,7 @@ impl PathRing {
         ensures value { result ≡ (outlet_at self.now port).value }
         ensures small { result ≤ 782 }
     {
-        self.node_of(port).value(port)
+        self.outlet(port).value()
     }
 
     /// Returns how many rounds have run. They are numbered from 0, so the last one has a number one below that.

@@ -1,4 +1,4 @@
-//! A node of a path ring as a node that runs in rounds.
+//! A node of a path ring as a node that runs in rounds, and whose ports deliver.
 ghost use Rattle.sdh_ringmap.specs.declared.Side.TheVariants.{West, East};
 
 use crate::node::PathNode;
@@ -9,6 +9,7 @@ use sdh_plant::Arrived;
 use sdh_request::{Moment, Settings};
 use sdh_ringmap::{Pos, RingMap, Side};
 use sdh_rounds::Station;
+use sdh_terminal::{Delivers, Outlets, TakenPair};
 use std::alloc::{AllocError, Global};
 
 impl Station for PathNode {
@@ -45,4 +46,20 @@ impl Station for PathNode {
     ghost told_rate = { rate_stays };
 
     ghost told_may = { may_still };
+}
+
+impl Delivers for PathNode {
+    ghost use Rattle.sdh_terminal.specs.Tributaries.{outlets_of};
+
+    ghost delivered = { λ n. outlets_of n.ports };
+
+    #[tactic(auto, using(sdh_terminal::proofs::Waiting::count_outlets))]
+    fn outlets(&self, alloc: Global) -> Result<Outlets, AllocError> {
+        PathNode::outlets(self, alloc)
+    }
+
+    #[tactic(auto, using(sdh_terminal::proofs::Waiting::count_outlets))]
+    fn deliver(&self, taken: &mut TakenPair, outlets: &mut Outlets) {
+        PathNode::deliver(self, taken, outlets);
+    }
 }

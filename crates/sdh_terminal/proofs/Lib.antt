@@ -5,6 +5,7 @@ pub mod Passed
 mod Planned
 pub mod Frames
 pub mod Places
+pub mod Waiting
 pub mod Slips
 pub mod Found
 pub mod Same

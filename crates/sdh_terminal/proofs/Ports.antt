@@ -74,11 +74,14 @@ find-first p (x ∷ xs) (suc i) d lt hit before =
     let head : p x ≡ false = before 0 (omega arith) in
     rw head (find-first p xs i d (omega arith) hit (λ k low. before (suc k) (omega arith)))
 
+pub port_at : (id : PortId) (ports : List Tributary) (i : ℕ) (d : Tributary) → position (is_port id) ports ≡ Some i
+    → port_of id ports ≡ Some (get_or ports i d)
+unfolding port_of
+port_at id ports i d place = let h = position-Some (is_port id) ports i d place in find-first (is_port id) ports i d h.0 h.1 h.2
+
 pub port_found : (id : PortId) (ports : List Tributary) (i : ℕ) (x : Tributary) → position (is_port id) ports ≡ Some i
     → x ≡ get_or ports i x → port_of id ports ≡ Some x
-unfolding port_of
-port_found id ports i x place read = let h =
-    position-Some (is_port id) ports i x place in find-first (is_port id) ports i x h.0 h.1 h.2 ∙ ap Some (sym read)
+port_found id ports i x place read = port_at id ports i x place ∙ ap Some (sym read)
 
 pub port_missing : (id : PortId) (ports : List Tributary) → position (is_port id) ports ≡ None → port_of id ports ≡ None
 unfolding port_of
@@ -91,7 +94,7 @@ place_within id (t ∷ ts) i e = (position-Some (is_port id) (t ∷ ts) i t e).0
 -- ---- what ports send
 
 -- a port is found in a list of changed ports, where the change is none of its name
-found-mapped : {Y : Type 0} (p : Tributary → Bool) (f : ℕ → Tributary → Tributary) (g h : Tributary → Y) (d : Y)
+pub found-mapped : {Y : Type 0} (p : Tributary → Bool) (f : ℕ → Tributary → Tributary) (g h : Tributary → Y) (d : Y)
     → ((k : ℕ) (t : Tributary) → p (f k t) ≡ p t) → ((k : ℕ) (t : Tributary) → g (f k t) ≡ h t)
     → (i : ℕ) (ts : List Tributary) → option_map_or g (find p (map_from f i ts)) d ≡ option_map_or h (find p ts) d
 found-mapped p f g h d same is i [] = refl

@@ -11,6 +11,7 @@ use Rattle.sdh_pointer.specs.declared.reading.Action.TheVariants as action
 use Rattle.sdh_pointer.specs.Reading.{start}
 use Rattle.sdh_terminal.specs.declared.matrix.Feeder.{Feeder}
 use Rattle.sdh_terminal.specs.declared.matrix.Feeder.TheVariants as feeder
+use Rattle.sdh_interchange.specs.Taking.{Held, IsOf}
 use Rattle.sdh_terminal.specs.Receiving.{Intake}
 use Rattle.sdh_terminal.specs.Passing.{Input, no_input}
 
@@ -35,6 +36,11 @@ received l side au = record {
   value = (slice_index_or (line_on l side).readings (au - 1) start).value;
   au = au_of (n_of (line_on l side).intake.frame.rate) au (line_on l side).intake.frame.bytes;
 }
+
+-- of the frames that both sides took in, some payloads have been taken out and are held
+pub record AreOf (l : Lines) (w e : Held) : Type 0 where
+  pub west : IsOf l.west.intake.frame w
+  pub east : IsOf l.east.intake.frame e
 
 -- what an AU-4 is fed with by this feeder, where `added` says what each port adds
 abbrev pub fed_by : Lines → (PortId → Input) → Feeder → Input

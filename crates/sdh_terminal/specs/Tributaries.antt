@@ -1,5 +1,5 @@
 -- The ports of circuits at a node, which add and drop their AU-4s.
-use Rattle.std.specs.Prelude.{◌≡◌, ℕ, ◌+◌, ◌≤◌, Bool, ◌==◌, if◌then◌else◌, Option, IsSome, List, [], ◌∷◌, ◌++◌, length, find}
+use Rattle.std.specs.Prelude.{◌≡◌, ℕ, ◌+◌, ◌≤◌, Bool, ◌==◌, if◌then◌else◌, Option, IsSome, List, [], ◌∷◌, ◌++◌, length, map, find}
 use Rattle.std.specs.Option.{option_map_or}
 use Rattle.sdh_basics.specs.Indexed.{map_from}
 use Rattle.sdh_ringmap.specs.declared.Pos.{Pos}
@@ -73,6 +73,10 @@ port_of id ports = find (is_port id) ports
 -- one of these ports has this name
 abbrev pub HasPort : List Tributary → PortId → Type 0
 HasPort ports id = IsSome (port_of id ports)
+
+-- what ports delivered in the last round, in their order
+abbrev pub outlets_of : List Tributary → List Outlet
+outlets_of ports = map (λ (t : Tributary). t.outlet) ports
 
 -- what the port with this name delivered in the last round, and AIS where it isn't one of these
 abbrev pub outlet_of : PortId → List Tributary → Outlet

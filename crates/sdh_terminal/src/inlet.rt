@@ -2,7 +2,6 @@
 ghost use Rattle.std.specs.Prelude.{◌≡◌, ◌≢◌, ◌-◌, ◌≤◌, None, Some, IfSome, IfOk, length, slice_index_or};
 ghost use Rattle.std.specs.Option.{is_some};
 ghost use Rattle.sdh_ringmap.specs.Rates.{n_of};
-ghost use Rattle.sdh_overhead.specs.Landing.{emptied};
 ghost use Rattle.sdh_overhead.specs.Sections.{holding};
 ghost use Rattle.sdh_kbytes.specs.KBytes.{IsSpellable};
 ghost use Rattle.sdh_pointer.specs.Reading.{start};
@@ -76,23 +75,20 @@ impl Inlet {
         }
     }
 
-    /// Keeps what arrived for the next round as `receive` does, but without a copy: three buffers change places. The
-    /// side keeps the one in which the frame landed, `inbox` gets the intake's, whose frame has been read, and the
-    /// intake gets the side's. Where no frame arrived, nothing is exchanged.
-    pub fn receive_landed(&mut self, arrived: Arrived, inbox: &mut Landed, intake: &mut Intake)
+    /// Keeps what arrived for the next round as `receive` does, but without a copy: the side keeps the buffer in which
+    /// the frame landed, and `inbox` gets the side's. What the side took in before stays in the intake, so that ports
+    /// can still deliver it. Where no frame arrived, nothing is exchanged.
+    pub fn receive_landed(&mut self, arrived: Arrived, inbox: &mut Landed)
         requires rate { inbox.old.rate ≡ self.old.section.rate }
         requires here { arrived ≡ Arrived.Frame → inbox.old.landed ≢ None }
-        requires intake { intake.old.frame.rate ≡ self.old.section.rate }
         ensures side { self.new ≡ inlet_told (arrived_in arrived inbox.old.landed) self.old }
         ensures rate { inbox.new.rate ≡ inbox.old.rate }
-        ensures dark { arrived ≡ Arrived.Dark → (inbox.new ≡ inbox.old) × (intake.new ≡ intake.old) }
-        ensures back { arrived ≡ Arrived.Frame → inbox.new ≡ emptied inbox.old.rate intake.old.frame.bytes }
-        ensures intake { intake.new ≡ record intake.old { frame = intake.new.frame } }
-        ensures intake_rate { intake.new.frame.rate ≡ intake.old.frame.rate }
+        ensures dark { arrived ≡ Arrived.Dark → inbox.new ≡ inbox.old }
+        ensures taken { arrived ≡ Arrived.Frame → inbox.new.landed ≡ None }
     {
         match arrived {
             Arrived::Frame => {
-                intake.swap_frame(&mut self.inbox);
+                self.inbox.forget();
                 std::mem::swap(&mut self.inbox, inbox);
                 self.arrived = Some(Arrived::Frame);
             }

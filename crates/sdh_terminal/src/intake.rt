@@ -4,7 +4,6 @@ ghost use Rattle.std.specs.Prelude.{replicate};
 ghost use Rattle.std.specs.List.{list_any};
 ghost use Rattle.sdh_ringmap.specs.Rates.{n_of};
 ghost use Rattle.sdh_frame.specs.Aus.{au_of};
-ghost use Rattle.sdh_overhead.specs.Landing.{emptied};
 ghost use Rattle.sdh_overhead.specs.Sections.{Parities, holding};
 ghost use Rattle.sdh_kbytes.specs.KBytes.{IsSpellable};
 ghost use Rattle.sdh_pointer.specs.Reading.{Interpreter};
@@ -74,17 +73,6 @@ impl Intake {
         ensures { result ≡ slice_index_or self.now.actions (au - 1) Action.Ais }
     {
         self.actions[au as usize - 1]
-    }
-
-    /// Exchanges the buffer of the frame, which has been read, for the one in the inbox, whose frame doesn't count any
-    /// more.
-    pub fn swap_frame(&mut self, inbox: &mut Landed)
-        requires { inbox.old.rate ≡ self.old.frame.rate }
-        ensures intake { self.new ≡ record self.old { frame = record { rate = self.old.frame.rate; bytes = inbox.old.buffer } } }
-        ensures rate { self.new.frame.rate ≡ self.old.frame.rate }
-        ensures inbox { inbox.new ≡ emptied inbox.old.rate self.old.frame.bytes }
-    {
-        inbox.swap_frame(&mut self.frame);
     }
 
     /// Fills the frame with ones.

@@ -4,6 +4,7 @@
 //! Where AU-4s come from is decided by a `Matrix`, which each kind of node has of its own.
 #![tactic(auto)]
 
+mod deliveries;
 mod inlet;
 mod intake;
 mod making;
@@ -14,9 +15,10 @@ mod sender;
 mod tributaries;
 mod tributary;
 
+pub use deliveries::{Deliveries, Delivers};
 pub use inlet::Inlet;
 pub use intake::{Intake, h3_at};
 pub use matrix::{Feeder, Matrix};
-pub use outlet::Outlet;
+pub use outlet::{Outlet, Outlets, TakenPair};
 pub use sender::{Sender, send_both};
 pub use tributaries::Tributaries;

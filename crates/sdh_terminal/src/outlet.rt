@@ -1,12 +1,12 @@
-//! What a port delivers.
-ghost use Rattle.std.specs.Prelude.{◌≡◌, ◌≤◌, IfOk};
+//! What a port delivers, taken out of the frames that both sides received.
+ghost use Rattle.std.specs.Prelude.{◌≡◌, ◌<◌, ◌≤◌, IfOk, length, slice_index_or};
 ghost use Rattle.sdh_ringmap.specs.Rates.{n_of};
 ghost use Rattle.sdh_frame.specs.Aus.{au_of};
 ghost use Rattle.sdh_payload.specs.Chunk.{taken};
 ghost use Rattle.sdh_payload.specs.Outlet.{silent, delivering};
 ghost use Rattle.sdh_interchange.specs.Taking.{IsOf};
 ghost use Rattle.sdh_terminal.specs.Passing.{h3_of};
-ghost use Rattle.sdh_terminal.specs.Lines.{line_on, received, dropped_by, IsFeeder};
+ghost use Rattle.sdh_terminal.specs.Lines.{line_on, received, dropped_by, IsFeeder, AreOf};
 ghost use Rattle.sdh_terminal.specs.Outlets.{chunk_form, chunk_from, delivered_from, HasRoom};
 
 use crate::intake::h3_at;
@@ -18,6 +18,32 @@ use sdh_pointer::Action;
 use sdh_ringmap::Side;
 use std::alloc::{AllocError, Global};
 use std::marker::Model;
+
+/// What has been taken out of the frames of both sides of a node, while its ports deliver. It serves one node after the
+/// other.
+#[derive(Debug, Drop)]
+pub struct TakenPair {
+    west: Taken,
+    east: Taken,
+}
+
+impl TakenPair {
+    /// Returns a pair in which nothing is held. All its memory is taken here.
+    pub fn try_new(alloc: Global) -> Result<TakenPair, AllocError> {
+        Ok(TakenPair {
+            west: Taken::try_new(alloc)?,
+            east: Taken::try_new(alloc)?,
+        })
+    }
+
+    /// Begins with the frames of both sides of a node, and holds nothing of them yet.
+    pub fn begin<X: Matrix>(&mut self, cross: &X)
+        ensures { AreOf (X.lines cross.now) self.new.west self.new.east }
+    {
+        self.west.begin(cross.intake(Side::West).frame());
+        self.east.begin(cross.intake(Side::East).frame());
+    }
+}
 
 /// What a port delivers, and the pointer value of the interpreter through which it came.
 #[derive(Debug, Drop)]
@@ -102,6 +128,42 @@ impl Outlet {
     }
 }
 
+/// What each port at a node delivers, in the order of the ports.
+#[derive(Debug, Drop)]
+pub struct Outlets {
+    pub(crate) items: Vec<Outlet>,
+}
+
+impl Model for Outlets {
+    ghost use Rattle.std.specs.Prelude.{List};
+    ghost use Rattle.sdh_payload.specs.Outlet.{Outlet};
+
+    ghost Value = { List Outlet };
+
+    ghost view = { λ o. o.items.items };
+}
+
+impl Outlets {
+    /// Returns room for what `count` ports deliver. All its memory is taken here.
+    pub fn try_new(alloc: Global, count: usize) -> Result<Outlets, AllocError>
+        ensures { IfOk result (λ outlets. length outlets ≡ count) }
+    {
+        let mut items = Vec::with_capacity(alloc, count)?;
+        for _ in 0..count {
+            items.push(Outlet::try_new(alloc)?)?;
+        }
+        Ok(Outlets { items })
+    }
+
+    /// Returns what the port at a place delivers.
+    pub fn at(&self, place: usize) -> &Outlet
+        requires { place < length self.now }
+        ensures { result.now ≡ slice_index_or self.now place silent }
+    {
+        &self.items[place]
+    }
+}
+
 // Returns the memory of a chunk, be it that of the delivered chunk or the spare memory. The outlet delivers AIS from
 // then on.
 fn take_cells(delivered: &mut Delivered, spare: &mut Option<Cells>) -> Cells
@@ -182,23 +244,20 @@ fn deliver_received<X: Matrix>(
     }
 }
 
-/// Delivers what this feeder drops. `west` and `east` have the payloads that were already taken out of the frames of
-/// both sides.
+/// Delivers what this feeder drops. `taken` has the payloads that were already taken out of the frames of both sides.
 #[tactic(auto, unfolding(crate::specs::Outlets::delivered_from))]
 pub fn deliver_dropped<X: Matrix>(
     cross: &X,
     feeder: Feeder,
-    west: &mut Taken,
-    east: &mut Taken,
+    taken: &mut TakenPair,
     outlet: &mut Outlet,
 )
     requires inside { IsFeeder (n_of (X.lines cross.now).rate) feeder }
-    requires west { IsOf (X.lines cross.now).west.intake.frame west.old }
-    requires east { IsOf (X.lines cross.now).east.intake.frame east.old }
-    ensures west { IsOf (X.lines cross.now).west.intake.frame west.new }
-    ensures east { IsOf (X.lines cross.now).east.intake.frame east.new }
+    requires taken { AreOf (X.lines cross.now) taken.old.west taken.old.east }
+    ensures taken { AreOf (X.lines cross.now) taken.new.west taken.new.east }
     ensures outlet { outlet.new ≡ delivered_from (dropped_by (X.lines cross.now) feeder) }
 {
+    let TakenPair { west, east } = taken;
     match feeder {
         Feeder::Received(Side::West, au) => deliver_received(cross, Side::West, au, west, outlet),
         Feeder::Received(Side::East, au) => deliver_received(cross, Side::East, au, east, outlet),

@@ -1,33 +1,31 @@
 //! The ports at a node, each found by its circuit and its end.
-ghost use Rattle.std.specs.Prelude.{◌≡◌, ◌+◌, ◌*◌, ◌/◌, ◌^◌, ◌<◌, ◌≤◌, IfOk, IfSome, IfNone, Some, None, All};
+ghost use Rattle.std.specs.Prelude.{◌≡◌, ◌+◌, ◌*◌, ◌/◌, ◌^◌, ◌<◌, ◌≤◌, IfOk, IfSome, IfNone, Some, None, All, length};
 ghost use Rattle.std.specs.Prelude.{position};
 ghost use Rattle.sdh_basics.specs.Cells.{cells};
-ghost use Rattle.sdh_terminal.specs.Tributaries.{tributaries_at, is_port, port_of, HasPort, outlet_of, waiting_of, with_slips, all_fed};
-ghost use Rattle.sdh_terminal.specs.Tributaries.{all_delivered_with, IsTributary};
+ghost use Rattle.sdh_terminal.specs.Tributaries.{tributaries_at, is_port, port_of, HasPort, waiting_of, with_slips, all_fed};
+ghost use Rattle.sdh_terminal.specs.Tributaries.{all_delivered_with, outlets_of, IsTributary};
 ghost use Rattle.sdh_circuits.specs.Ends.{port_number};
 ghost use Rattle.sdh_terminal.specs.Places.{port_numbered};
 ghost use Rattle.sdh_ringmap.specs.Rates.{n_of};
 ghost use Rattle.sdh_terminal.specs.Lines.{dropped_by};
 
 use crate::matrix::Matrix;
-use crate::outlet::Outlet;
+use crate::outlet::{Outlets, TakenPair};
 use crate::tributary::{Tributary, deliver_all, feed_all, place_of, tributaries_at};
 use sdh_circuits::{CircuitMap, End, PortId};
-use sdh_interchange::Taken;
 use sdh_payload::Turn;
-use sdh_ringmap::{Pos, Side};
+use sdh_ringmap::Pos;
 use std::alloc::{AllocError, Global};
 use std::marker::Model;
 
 /// The ports of circuits at a node, in the order of circuits. Each one's place is found once, when the node is made.
+/// What they deliver waits in the frames that the node received, and is no part of them: their values are those of ports
+/// which deliver AIS.
 #[derive(Debug, Drop)]
 pub struct Tributaries {
     items: Vec<Tributary>,
     // The places of the ports of circuit 0, of circuit 1 and so on, A before B.
     places: Vec<Option<usize>>,
-    // What is taken out of both frames that were received, while the ports deliver.
-    west: Taken,
-    east: Taken,
 }
 
 impl Model for Tributaries {
@@ -87,12 +85,14 @@ impl Tributaries {
     {
         let items = tributaries_at(alloc, circuits, at)?;
         let places = places_in(alloc, &items, 2 * circuits.len())?;
-        Ok(Tributaries {
-            items,
-            places,
-            west: Taken::try_new(alloc)?,
-            east: Taken::try_new(alloc)?,
-        })
+        Ok(Tributaries { items, places })
+    }
+
+    /// Returns room for what each port delivers. All its memory is taken here.
+    pub fn outlets(&self, alloc: Global) -> Result<Outlets, AllocError>
+        ensures { IfOk result (λ outlets. length outlets ≡ length self.now) }
+    {
+        Outlets::try_new(alloc, self.items.len())
     }
 
     #[tactic(auto, using(crate::proofs::Ports::port_missing))]
@@ -121,15 +121,17 @@ impl Tributaries {
         }
     }
 
-    /// Returns what a port delivered in the last round.
-    pub fn outlet(&self, id: PortId) -> &Outlet
+    /// Returns the place of a port among these.
+    #[tactic(auto, using(crate::proofs::Ports::place_within))]
+    pub fn place_of(&self, id: PortId) -> usize
         requires { HasPort self.now id }
-        ensures { result.now ≡ outlet_of id self.now }
+        ensures place { position (is_port id) self.now ≡ Some result }
+        ensures within { result < length self.now }
     {
-        let Some(port) = self.find(id) else {
+        let Some(i) = self.place(id) else {
             unreachable!()
         };
-        port.outlet()
+        i
     }
 
     /// Returns the number of slips that wait at a port, 0 to 16.
@@ -168,13 +170,13 @@ impl Tributaries {
     }
 
     /// Delivers at each port what is dropped to it.
-    #[tactic(auto, using(crate::proofs::Places::delivered_stay))]
-    pub fn deliver<X: Matrix>(&mut self, cross: &X)
-        requires { All (λ t. (1 ≤ t.slot.0) × (2 * t.slot.0 ≤ n_of (X.lines cross.now).rate)) self.old }
-        ensures { self.new ≡ all_delivered_with (λ t. dropped_by (X.lines cross.now) (X.drops cross.now t.side t.slot.0)) self.old }
+    pub fn deliver<X: Matrix>(&self, cross: &X, taken: &mut TakenPair, outlets: &mut Outlets)
+        requires ports { All (λ t. (1 ≤ t.slot.0) × (2 * t.slot.0 ≤ n_of (X.lines cross.now).rate)) self.now }
+        requires many { length outlets.old ≡ length self.now }
+        ensures { outlets.new ≡ outlets_of
+            (all_delivered_with (λ t. dropped_by (X.lines cross.now) (X.drops cross.now t.side t.slot.0)) self.now) }
     {
-        self.west.begin(cross.intake(Side::West).frame());
-        self.east.begin(cross.intake(Side::East).frame());
-        deliver_all(cross, &mut self.items, &mut self.west, &mut self.east);
+        taken.begin(cross);
+        deliver_all(cross, &self.items, taken, &mut outlets.items);
     }
 }

@@ -2,25 +2,25 @@
 ghost use Rattle.std.specs.Prelude.{◌≡◌, ◌+◌, ◌-◌, ◌*◌, ◌^◌, ◌<◌, ◌≤◌, [], ◌∷◌, ◌++◌, if◌then◌else◌, All, IfOk, OnOk, IfSome, length};
 ghost use Rattle.std.specs.Prelude.{position};
 ghost use Rattle.sdh_circuits.specs.Provisioned.{customer_at};
-ghost use Rattle.sdh_interchange.specs.Taking.{IsOf};
 ghost use Rattle.sdh_payload.specs.Stream.{stream_from};
 ghost use Rattle.sdh_payload.specs.Clock.{waiting};
 ghost use Rattle.sdh_terminal.specs.Tributaries.{new_tributary, tributaries_of, tributaries_at, is_port, sent_by, action_of, slipped, fed};
-ghost use Rattle.sdh_terminal.specs.Tributaries.{all_fed, delivered_with, all_delivered_with, IsTributary};
+ghost use Rattle.sdh_terminal.specs.Tributaries.{all_fed, all_delivered_with, outlets_of, IsTributary};
 ghost use Rattle.sdh_ringmap.specs.Rates.{n_of};
-ghost use Rattle.sdh_terminal.specs.Lines.{dropped_by};
+ghost use Rattle.sdh_terminal.specs.Lines.{dropped_by, AreOf};
+ghost use Rattle.sdh_terminal.specs.Outlets.{delivered_from};
 
 use crate::matrix::Matrix;
-use crate::outlet::{Outlet, deliver_dropped};
+use crate::outlet::{Outlet, TakenPair, deliver_dropped};
 use sdh_circuits::{Circuit, CircuitMap, End, PortId, Slot, same_end};
-use sdh_interchange::Taken;
 use sdh_payload::{Cells, ChunkForm, Feed, Port, Turn, lay_chunk_in_place};
 use sdh_pointer::Action;
 use sdh_ringmap::{Pos, Side};
 use std::alloc::{AllocError, Global};
 use std::marker::Model;
 
-/// A port of a circuit at the node: what it sends, and what it delivers.
+/// A port of a circuit at the node, and what it sends. What it delivers waits in the frames that the node received, and
+/// is no part of it: its value is that of a port which delivers AIS.
 #[derive(Debug, Drop)]
 pub struct Tributary {
     port: PortId,
@@ -30,15 +30,15 @@ pub struct Tributary {
     // The payload of its AU-4 in the last round, and the three H3 bytes.
     payload: Cells,
     h3: [u8; 3],
-    outlet: Outlet,
 }
 
 impl Model for Tributary {
+    ghost use Rattle.sdh_payload.specs.Outlet.{silent};
     ghost use Rattle.sdh_terminal.specs.Tributaries.{Tributary, IsFed};
 
     ghost Value = { Tributary };
 
-    ghost view = { λ t. record { port = t.port; side = t.side; slot = t.slot; feed = t.feed; outlet = t.outlet } };
+    ghost view = { λ t. record { port = t.port; side = t.side; slot = t.slot; feed = t.feed; outlet = silent } };
 
     ghost invariant = { λ t. IsFed t.feed t.payload t.h3 };
 }
@@ -74,7 +74,6 @@ impl Tributary {
             feed: Feed::new(customer),
             payload: first_payload(alloc, customer)?,
             h3: [0, 0, 0],
-            outlet: Outlet::try_new(alloc)?,
         })
     }
 
@@ -142,26 +141,18 @@ impl Tributary {
         self.h3
     }
 
-    /// Returns what the port delivered in the last round.
-    pub fn outlet(&self) -> &Outlet
-        ensures { result.now ≡ self.now.outlet }
-    {
-        &self.outlet
-    }
-
-    /// Delivers what is dropped to the port. `west` and `east` have the payloads that were already taken out of the
-    /// frames of both sides.
-    pub fn deliver<X: Matrix>(&mut self, cross: &X, west: &mut Taken, east: &mut Taken)
-        requires first { 1 ≤ self.old.slot.0 }
-        requires last { 2 * self.old.slot.0 ≤ n_of (X.lines cross.now).rate }
-        requires west { IsOf (X.lines cross.now).west.intake.frame west.old }
-        requires east { IsOf (X.lines cross.now).east.intake.frame east.old }
-        ensures west { IsOf (X.lines cross.now).west.intake.frame west.new }
-        ensures east { IsOf (X.lines cross.now).east.intake.frame east.new }
-        ensures port { self.new ≡ delivered_with (λ t. dropped_by (X.lines cross.now) (X.drops cross.now t.side t.slot.0)) self.old }
+    /// Delivers what is dropped to the port. `taken` has the payloads that were already taken out of the frames of both
+    /// sides.
+    pub fn deliver<X: Matrix>(&self, cross: &X, taken: &mut TakenPair, outlet: &mut Outlet)
+        requires first { 1 ≤ self.now.slot.0 }
+        requires last { 2 * self.now.slot.0 ≤ n_of (X.lines cross.now).rate }
+        requires taken { AreOf (X.lines cross.now) taken.old.west taken.old.east }
+        ensures taken { AreOf (X.lines cross.now) taken.new.west taken.new.east }
+        ensures outlet { outlet.new ≡ delivered_from
+            (dropped_by (X.lines cross.now) (X.drops cross.now self.now.side self.now.slot.0)) }
     {
         let feeder = cross.dropped(self.side, self.slot);
-        deliver_dropped(cross, feeder, west, east, &mut self.outlet);
+        deliver_dropped(cross, feeder, taken, outlet);
     }
 }
 
@@ -198,19 +189,19 @@ pub fn feed_all(ports: &mut Vec<Tributary>)
 /// Delivers at each port what is dropped to it.
 pub fn deliver_all<X: Matrix>(
     cross: &X,
-    ports: &mut Vec<Tributary>,
-    west: &mut Taken,
-    east: &mut Taken,
+    ports: &[Tributary],
+    taken: &mut TakenPair,
+    outlets: &mut Vec<Outlet>,
 )
-    requires ports { All (λ t. (1 ≤ t.slot.0) × (2 * t.slot.0 ≤ n_of (X.lines cross.now).rate)) ports.old.items }
-    requires west { IsOf (X.lines cross.now).west.intake.frame west.old }
-    requires east { IsOf (X.lines cross.now).east.intake.frame east.old }
-    ensures { ports.new.items ≡ all_delivered_with
-        (λ t. dropped_by (X.lines cross.now) (X.drops cross.now t.side t.slot.0)) ports.old.items }
+    requires ports { All (λ t. (1 ≤ t.slot.0) × (2 * t.slot.0 ≤ n_of (X.lines cross.now).rate)) ports.now }
+    requires taken { AreOf (X.lines cross.now) taken.old.west taken.old.east }
+    requires many { length outlets.old.items ≡ length ports.now }
+    ensures { outlets.new.items ≡ outlets_of
+        (all_delivered_with (λ t. dropped_by (X.lines cross.now) (X.drops cross.now t.side t.slot.0)) ports.now) }
 {
     for i in 0..ports.len() {
-        let port = &mut ports[i];
-        port.deliver(cross, west, east);
+        let outlet = &mut outlets[i];
+        ports[i].deliver(cross, taken, outlet);
     }
 }
 

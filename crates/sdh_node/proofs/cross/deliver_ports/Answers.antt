@@ -7,8 +7,8 @@ use Rattle.sdh_node.proofs.cross.deliver_ports.Goals as goal
 twice_below : (rate : Rate) (k : ℕ) → k ≤ n_of rate / 2 → 2 * k ≤ n_of rate
 twice_below rate k h = omega arith
 
-pub deliver-requires : goal.deliver-requires
-deliver-requires c = λ k d lt. (let is = c.requires k d lt in (is.0, twice_below c.args.cross.now.west.section.rate _ is.1))
+pub deliver-requires-clause-ports : goal.deliver-requires-clause-ports
+deliver-requires-clause-ports c = λ k d lt. (let is = c.requires.ports k d lt in (is.0, twice_below c.args.cross.now.west.section.rate _ is.1))
 
 pub returns : goal.returns
 unfolding all_delivered

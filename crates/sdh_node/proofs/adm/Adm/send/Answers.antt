@@ -1,28 +1,25 @@
 use Rattle.std.proofs.Common.{◌+◌, ◌/◌, ◌<◌, ap, refl, sym, subst, arith, ◌∙◌}
 use Rattle.std.specs.Prelude.{All, ◌^◌, ◌&&◌, not, nat_le}
 use Rattle.sdh_ringmap.specs.Rates.{n_of}
-use Rattle.sdh_terminal.specs.Tributaries.{Tributary, IsTributary}
+use Rattle.sdh_terminal.specs.Tributaries.{IsTributary}
 use Rattle.sdh_node.specs.Receiving.{Receiving}
 use Rattle.sdh_terminal.specs.Sending.{Sending}
 use Rattle.sdh_ringmap.specs.declared.Side.TheVariants.{West, East}
-use Rattle.sdh_node.specs.Crossing.{after_decision, next_word, dropped_to, all_delivered}
+use Rattle.sdh_node.specs.Crossing.{after_decision, next_word, all_delivered}
 use Rattle.sdh_node.specs.Node.{Node, node_round, GoesOn}
-use Rattle.sdh_terminal.proofs.Ports.{few_rounds, delivered_are, fed_are}
+use Rattle.sdh_terminal.proofs.Ports.{few_rounds, fed_are}
 use Rattle.sdh_node.proofs.Rounds.{round_goes_on}
 use Rattle.sdh_node.proofs.Turning.{node_of, west_frame_is, east_frame_is, calm_is, node_is}
 use Rattle.sdh_node.proofs.adm.Adm.send.Goals as goal
 
 pub feed-requires : goal.feed-requires
-unfolding all_delivered
 feed-requires c =
     let i = c.self.inside in
     let slots = n_of i.settings.rate / 2 in
     let few : i.rounds < 2 ^ 32 = subst (λ (n : Node). n.rounds < 2 ^ 32) (sym c.self.view_is) c.requires.few in
-    subst (All (λ (t : Tributary). t.feed.clock.rounds < 2 ^ 32)) (sym c.deliver_ports.ensures)
-    (few_rounds slots i.rounds _ few (delivered_are (dropped_to c.decide-decided.new.self) slots i.rounds i.ports c.self.invariant.ports))
+    few_rounds slots i.rounds i.ports few c.self.invariant.ports
 
 pub invariant_of-self : goal.invariant_of-self
-unfolding all_delivered
 invariant_of-self c =
     let i = c.self.inside in
     let inv = c.self.invariant in
@@ -40,8 +37,7 @@ invariant_of-self c =
           ∙ sym (ap (λ (r : Receiving). r.local.moment) west);
       held = (let was = inv.held in let now = c.one_less-self-inside.ensures in omega arith);
       ports = subst (All (IsTributary slots (i.rounds + 1))) (sym c.feed.ensures)
-          (fed_are slots i.rounds _ (subst (All (IsTributary slots i.rounds)) (sym c.deliver_ports.ensures)
-          (delivered_are (dropped_to c.decide-decided.new.self) slots i.rounds i.ports inv.ports)));
+          (fed_are slots i.rounds i.ports inv.ports);
     }
 
 pub returns-clause-west : goal.returns-clause-west
@@ -53,7 +49,7 @@ returns-clause-west c =
     let west_said = c.decide-decided.ensures.west ∙ (λ j. next_word (held j) tk West (c.words_of-before.ensures.west j)) in
     let east_said = c.decide-decided.ensures.east ∙ (λ j. next_word (held j) tk East (c.words_of-before.ensures.east j)) in
     west_frame_is c.args.now.0 i.settings i.rounds i.held i.cross i.ports i.west_out i.east_out i.calm
-    c.take-taken.new.self c.decide-decided.new.self c.deliver_ports.new.ports c.feed.new.self c.take-taken.ensures.cross decided c.deliver_ports.ensures c.feed.ensures
+    c.take-taken.new.self c.decide-decided.new.self c.feed.new.self c.take-taken.ensures.cross decided c.feed.ensures
     c.decide-decided.result.0.west c.decide-decided.result.0.east c.say-west_said.new.self c.say-east_said.new.self c.send_both-west_made.new.west c.send_both-west_made.new.east c.feed.new.self c.feed.new.self
     west_said east_said c.say-west_said.ensures.sender c.say-east_said.ensures.sender refl refl
     c.send_both-west_made.new.west_out c.send_both-west_made.ensures.west_frame
@@ -68,7 +64,7 @@ returns-clause-east c =
     let west_said = c.decide-decided.ensures.west ∙ (λ j. next_word (held j) tk West (c.words_of-before.ensures.west j)) in
     let east_said = c.decide-decided.ensures.east ∙ (λ j. next_word (held j) tk East (c.words_of-before.ensures.east j)) in
     east_frame_is c.args.now.0 i.settings i.rounds i.held i.cross i.ports i.west_out i.east_out i.calm
-    c.take-taken.new.self c.decide-decided.new.self c.deliver_ports.new.ports c.feed.new.self c.take-taken.ensures.cross decided c.deliver_ports.ensures c.feed.ensures
+    c.take-taken.new.self c.decide-decided.new.self c.feed.new.self c.take-taken.ensures.cross decided c.feed.ensures
     c.decide-decided.result.0.west c.decide-decided.result.0.east c.say-west_said.new.self c.say-east_said.new.self c.send_both-west_made.new.west c.send_both-west_made.new.east c.feed.new.self c.feed.new.self
     west_said east_said c.say-west_said.ensures.sender c.say-east_said.ensures.sender refl refl
     c.send_both-west_made.new.east_out c.send_both-west_made.ensures.east_frame
@@ -86,16 +82,16 @@ returns-clause-node c =
     let told =
     c.is_calm-calm.ensures
     ∙ calm_is c.args.now.0 i.settings i.rounds i.held i.cross i.ports i.west_out i.east_out i.calm
-    c.take-taken.new.self c.decide-decided.new.self c.deliver_ports.new.ports c.feed.new.self c.take-taken.ensures.cross decided c.deliver_ports.ensures c.feed.ensures
+    c.take-taken.new.self c.decide-decided.new.self c.feed.new.self c.take-taken.ensures.cross decided c.feed.ensures
     c.decide-decided.result.0.west c.decide-decided.result.0.east c.say-west_said.new.self c.say-east_said.new.self c.send_both-west_made.new.west c.send_both-west_made.new.east c.feed.new.self c.feed.new.self
     west_said east_said c.say-west_said.ensures.sender c.say-east_said.ensures.sender refl refl
     c.send_both-west_made.ensures.west c.send_both-west_made.ensures.east
     c.may_be_calm-counts.result c.take-taken.result c.decide-decided.result.1 c.say-west_said.result c.send_both-west_made.result.0 c.say-east_said.result c.send_both-west_made.result.1
     counted c.take-taken.ensures.same c.decide-decided.ensures.same c.say-west_said.ensures.same c.send_both-west_made.ensures.west_same c.say-east_said.ensures.same c.send_both-west_made.ensures.east_same in
     (λ j. node_of i.settings (i.rounds + 1)
-    (c.one_less-self-inside.ensures j) c.decide-decided.new.self c.feed.new.self c.send_both-west_made.new.west c.send_both-west_made.new.east c.is_calm-calm.result)
+    (c.one_less-self-inside.ensures j) c.decide-decided.new.self (all_delivered c.decide-decided.new.self c.feed.new.self) c.send_both-west_made.new.west c.send_both-west_made.new.east c.is_calm-calm.result)
     ∙ node_is c.args.now.0 i.settings i.rounds i.held i.cross i.ports i.west_out i.east_out i.calm
-    c.take-taken.new.self c.decide-decided.new.self c.deliver_ports.new.ports c.feed.new.self c.take-taken.ensures.cross decided c.deliver_ports.ensures c.feed.ensures
+    c.take-taken.new.self c.decide-decided.new.self c.feed.new.self c.take-taken.ensures.cross decided c.feed.ensures
     c.decide-decided.result.0.west c.decide-decided.result.0.east c.say-west_said.new.self c.say-east_said.new.self c.send_both-west_made.new.west c.send_both-west_made.new.east c.feed.new.self c.feed.new.self
     west_said east_said c.say-west_said.ensures.sender c.say-east_said.ensures.sender refl refl
     c.send_both-west_made.ensures.west c.send_both-west_made.ensures.east

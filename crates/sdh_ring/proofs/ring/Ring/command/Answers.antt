@@ -1,37 +1,28 @@
-use Rattle.std.proofs.Common.{sym, subst, ◌<◌, length, arith}
+use Rattle.std.proofs.Common.{refl, ap, sym, subst, ◌∙◌}
 use Rattle.sdh_world.specs.Held.{HeldRing}
 use Rattle.sdh_world.specs.Rounds.{world}
-use Rattle.sdh_world.specs.Fixed.{IsRing}
-use Rattle.sdh_world.proofs.Keeping.{all_commanded, all_on_commanded}
 use Rattle.sdh_laws.specs.Hearing.Laws.{IsWhole}
 use Rattle.sdh_laws.specs.Strangers.Vouched.{IsVouched}
-use Rattle.sdh_ring.proofs.Rings.{count_of, ring_with}
+use Rattle.sdh_node.specs.Receiving.{commanded_by}
+use Rattle.sdh_node.specs.Node.{at_receiving}
+use Rattle.sdh_ring.specs.Delivered.{delivered_in}
+use Rattle.sdh_ring.proofs.Delivered.{placed_delivered}
 use Rattle.sdh_ring.proofs.Whole.{whole_commanded, vouched_commanded}
 use Rattle.sdh_ring.proofs.ring.Ring.command.Goals as goal
 
-pub command_at-requires : goal.command_at-requires
-command_at-requires c =
-    let low : c.args.at.0 < length c.self.inside.ring.ids =
-    subst (λ (r : HeldRing). c.args.at.0 < length r.ids) (sym c.self.view_is) c.requires in
-    let size = count_of _ c.self.invariant in
-    omega arith
-
 pub invariant_of-self : goal.invariant_of-self
 invariant_of-self c =
-    let r = c.self.inside.ring in
-    let inv = c.self.invariant in
-    subst IsRing (sym c.command_at.ensures)
-    (ring_with r _ r.moment r.rounds r.broken inv (all_commanded c.args.at.0 c.args.side c.args.command r.nodes) inv.moment
-    (λ whole. all_on_commanded c.args.at.0 c.args.side c.args.command r.rounds r.moment r.nodes (inv.going whole)))
+    c.self.invariant ∙ sym (placed_delivered (at_receiving c.args.side (commanded_by c.args.command)) (λ n. refl) c.args.at.0 c.self.inside.running.nodes)
+    ∙ ap delivered_in (sym c.command.ensures)
 
 pub returns-clause-whole : goal.returns-clause-whole
 returns-clause-whole c = λ f whole.
-    subst (λ (r : HeldRing). IsWhole (world r f)) (sym c.command_at.ensures)
+    subst (λ (r : HeldRing). IsWhole (world r f)) (sym c.command.ensures)
     (whole_commanded c.stay_whole.ensures _ f c.args.at.0 c.args.side c.args.command
     (subst (λ (r : HeldRing). IsWhole (world r f)) (sym c.self.view_is) whole))
 
 pub returns-clause-vouched : goal.returns-clause-vouched
 returns-clause-vouched c = λ f clocks is.
-    subst (λ (r : HeldRing). IsVouched clocks (world r f)) (sym c.command_at.ensures)
+    subst (λ (r : HeldRing). IsVouched clocks (world r f)) (sym c.command.ensures)
     (vouched_commanded c.vouched_rings_stay.ensures _ f clocks
     (subst (λ (r : HeldRing). IsVouched clocks (world r f)) (sym c.self.view_is) is) c.args.at.0 c.args.side c.args.command)

@@ -1,38 +1,28 @@
-use Rattle.std.proofs.Common.{sym, subst, ◌<◌, length, arith}
+use Rattle.std.proofs.Common.{refl, ap, sym, subst, ◌∙◌}
 use Rattle.sdh_world.specs.Held.{HeldRing, node_at}
 use Rattle.sdh_world.specs.Rounds.{world}
-use Rattle.sdh_world.specs.Fixed.{IsRing}
-use Rattle.sdh_world.proofs.Keeping.{all_held, all_on_held}
 use Rattle.sdh_laws.specs.Hearing.Laws.{IsWhole}
 use Rattle.sdh_laws.specs.Strangers.Vouched.{IsVouched, IsAside}
-use Rattle.sdh_ring.proofs.Rings.{count_of, ring_with}
+use Rattle.sdh_node.specs.Node.{held_for}
+use Rattle.sdh_ring.specs.Delivered.{delivered_in}
+use Rattle.sdh_ring.proofs.Delivered.{placed_delivered}
 use Rattle.sdh_ring.proofs.Whole.{whole_held, vouched_held}
 use Rattle.sdh_ring.proofs.ring.Ring.hold.Goals as goal
 
-pub hold_at-requires-clause-at : goal.hold_at-requires-clause-at
-hold_at-requires-clause-at c =
-    let low : c.args.at.0 < length c.self.inside.ring.ids =
-    subst (λ (r : HeldRing). c.args.at.0 < length r.ids) (sym c.self.view_is) c.requires.at in
-    let size = count_of _ c.self.invariant in
-    omega arith
-
 pub invariant_of-self : goal.invariant_of-self
 invariant_of-self c =
-    let r = c.self.inside.ring in
-    let inv = c.self.invariant in
-    subst IsRing (sym c.hold_at.ensures)
-    (ring_with r _ r.moment r.rounds r.broken inv (all_held c.args.at.0 c.args.turns r.nodes) inv.moment
-    (λ whole. all_on_held c.args.at.0 c.args.turns r.rounds r.moment r.nodes (inv.going whole)))
+    c.self.invariant ∙ sym (placed_delivered (held_for c.args.turns) (λ n. refl) c.args.at.0 c.self.inside.running.nodes)
+    ∙ ap delivered_in (sym c.hold.ensures)
 
 pub returns-clause-whole : goal.returns-clause-whole
 returns-clause-whole c = λ f whole.
-    subst (λ (r : HeldRing). IsWhole (world r f)) (sym c.hold_at.ensures)
+    subst (λ (r : HeldRing). IsWhole (world r f)) (sym c.hold.ensures)
     (whole_held c.stay_whole.ensures _ f c.args.at.0 c.args.turns c.requires.few
     (subst (λ (r : HeldRing). IsWhole (world r f)) (sym c.self.view_is) whole))
 
 pub returns-clause-vouched : goal.returns-clause-vouched
 returns-clause-vouched c = λ aside f clocks is.
-    subst (λ (r : HeldRing). IsVouched clocks (world r f)) (sym c.hold_at.ensures)
+    subst (λ (r : HeldRing). IsVouched clocks (world r f)) (sym c.hold.ensures)
     (vouched_held c.vouched_rings_stay.ensures _ f clocks
     (subst (λ (r : HeldRing). IsVouched clocks (world r f)) (sym c.self.view_is) is) c.args.at.0 c.args.turns c.requires.few
     (subst (λ (r : HeldRing). IsAside (node_at r.nodes c.args.at.0).state) (sym c.self.view_is) aside))

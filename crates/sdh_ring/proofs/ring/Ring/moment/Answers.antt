@@ -1,18 +1,14 @@
-use Rattle.std.proofs.Common.{◌≤◌, sym, subst}
+use Rattle.std.proofs.Common.{◌≤◌, ap, sym, subst, ◌∙◌}
 use Rattle.sdh_world.specs.Held.{HeldRing}
 use Rattle.sdh_world.specs.Rounds.{world}
-use Rattle.sdh_world.specs.Fixed.{IsRing}
 use Rattle.sdh_laws.specs.Hearing.Laws.{IsWhole}
 use Rattle.sdh_laws.specs.Strangers.Vouched.{IsVouched}
-use Rattle.sdh_ring.proofs.Rings.{ring_later}
+use Rattle.sdh_ring.specs.Delivered.{delivered_in}
 use Rattle.sdh_ring.proofs.Whole.{whole_later, vouched_later}
 use Rattle.sdh_ring.proofs.ring.Ring.moment.Goals as goal
 
 pub invariant_of-self : goal.invariant_of-self
-invariant_of-self c =
-    subst IsRing (sym c.moment.ensures)
-    (ring_later _ c.args.now.0 c.self.invariant (subst (λ (r : HeldRing). r.moment ≤ c.args.now.0) (sym c.self.view_is) c.requires.later)
-    c.requires.within)
+invariant_of-self c = c.self.invariant ∙ ap delivered_in (sym c.moment.ensures)
 
 pub returns-clause-whole : goal.returns-clause-whole
 returns-clause-whole c = λ f whole.

@@ -1,43 +1,45 @@
-use Rattle.std.proofs.Common.{ap, sym, subst, ◌∙◌, ◌<◌, ◌^◌}
+use Rattle.std.proofs.Common.{map, ap, subst, ◌∙◌}
 use Rattle.std.proofs.lemmas.Result.{on_ok_weaker, on_err_weaker}
+use Rattle.sdh_terminal.specs.Tributaries.{outlets_of}
+use Rattle.sdh_node.specs.Node.{Node}
 use Rattle.sdh_node.specs.Stations.{adm}
 use Rattle.sdh_rounds.specs.Outcome.{IsOneRound}
 use Rattle.sdh_world.specs.Held.{HeldRing}
 use Rattle.sdh_world.specs.Rounds.{world}
+use Rattle.sdh_laws.specs.Carrying.Windows.{layout_in, HasCircuits}
 use Rattle.sdh_ring.proofs.Breaking.{breaks_clocks}
-use Rattle.sdh_ring.proofs.Rings.{may_receive, may_send, ring_after}
+use Rattle.sdh_ring.proofs.Delivered.{may_take, stays_one}
 use Rattle.sdh_ring.proofs.ring.Ring.round.Goals as goal
 
-pub round-requires-clause-rates : goal.round-requires-clause-rates
-round-requires-clause-rates g c = may_receive _ c.self.invariant
-
-pub round-requires-clause-may : goal.round-requires-clause-may
-round-requires-clause-may g c =
-    may_send _ c.self.invariant (ap (λ (r : HeldRing). r.broken) c.self.view_is ∙ c.requires.whole)
-    (subst (λ (r : HeldRing). r.rounds < 2 ^ 32) (sym c.self.view_is) c.requires.room)
+pub take-requires : goal.take-requires
+take-requires g c =
+    may_take c.self.inside.running c.round-result.new.self c.self.inside.deliveries c.nodes.result.now c.is_ring.ensures c.is_ring-2.ensures
+    (stays_one g.P.Plant.exact (world c.self.inside.running (g.P.Plant.fibres c.args.plant.now))
+    (world c.round-result.new.self (g.P.Plant.fibres c.round-result.new.plant)) c.round-result.result (g.P.Plant.faults c.args.plant.now)
+    (g.P.Plant.faults c.round-result.new.plant) c.round-result.ensures)
+    c.self.invariant c.nodes.ensures
 
 pub invariant_of-self : goal.invariant_of-self
-invariant_of-self g c =
-    ring_after g.P.Plant.exact (world _ (g.P.Plant.fibres c.args.plant.now)) (world _ (g.P.Plant.fibres c.round.new.plant)) _ _ _
-    c.self.invariant (ap (λ (r : HeldRing). r.broken) c.self.view_is ∙ c.requires.whole) c.round.ensures
+invariant_of-self g c = c.take.ensures ∙ ap (map (λ (n : Node). outlets_of n.ports)) c.nodes.ensures
 
 pub returns : goal.returns
 returns g c =
     let f = g.P.Plant.fibres c.args.plant.now in
     let one =
-    subst (λ (r : HeldRing). IsOneRound adm g.P.Plant.exact (world r f) c.round.result
-    (world c.round.new.self (g.P.Plant.fibres c.round.new.plant)) (g.P.Plant.faults c.args.plant.now)
-    (g.P.Plant.faults c.round.new.plant)) c.self.view_is c.round.ensures in
+    subst (λ (r : HeldRing). IsOneRound adm g.P.Plant.exact (world r f) c.round-result.result
+    (world c.round-result.new.self (g.P.Plant.fibres c.round-result.new.plant)) (g.P.Plant.faults c.args.plant.now)
+    (g.P.Plant.faults c.round-result.new.plant)) c.self.view_is c.round-result.ensures in
+    let fit = subst (λ (r : HeldRing). HasCircuits (layout_in r)) c.self.view_is c.circuits_fit.ensures in
     record {
       ok = one.ok;
       prepared = one.prepared;
-      signals = on_ok_weaker c.round.result (λ is whole. c.whole_rounds_go_as_signals.ensures _ _ whole is) one.ok;
-      rest = on_ok_weaker c.round.result (λ is clocks rests. c.rest_goes_on.ensures _ _ is clocks rests) one.ok;
-      strangers = on_ok_weaker c.round.result (λ is. c.rounds_keep_strangers_out.ensures _ _ c.circuits_fit.ensures is) one.ok;
+      signals = on_ok_weaker c.round-result.result (λ is whole. c.whole_rounds_go_as_signals.ensures _ _ whole is) one.ok;
+      rest = on_ok_weaker c.round-result.result (λ is clocks rests. c.rest_goes_on.ensures _ _ is clocks rests) one.ok;
+      strangers = on_ok_weaker c.round-result.result (λ is. c.rounds_keep_strangers_out.ensures _ _ fit is) one.ok;
       err = one.err;
       broken = one.broken;
       breaks = one.breaks;
-      clocks = on_err_weaker c.round.result (λ b. breaks_clocks _ _ b) one.breaks;
+      clocks = on_err_weaker c.round-result.result (λ b. breaks_clocks _ _ b) one.breaks;
       later = one.later;
       failed = one.failed;
       counted = one.counted;

@@ -1,9 +1,18 @@
+use Rattle.std.proofs.Common.{subst}
+use Rattle.sdh_circuits.specs.declared.PortId.{PortId}
+use Rattle.sdh_laws.specs.Carrying.Windows.{layout_in, HasCircuits}
+use Rattle.sdh_world.specs.Held.{HeldRing}
+use Rattle.sdh_world.specs.Clocks.{HasPortIn, clock_at}
+use Rattle.sdh_world.specs.Fixed.{IsRested}
 use Rattle.sdh_scripts.proofs.Answered.{on_ok}
 use Rattle.sdh_ring.proofs.Settling.{promises_kept}
 use Rattle.sdh_ring.proofs.ring.Ring.settle_recording.Goals as goal
 
 pub returns-clause-laws : goal.returns-clause-laws
 returns-clause-laws g c =
+    let fit = subst (λ (r : HeldRing). HasCircuits (layout_in r)) c.self.view_is c.circuits_fit.ensures in
+    let rested =
+    subst (λ (r : HeldRing). (port : PortId) → HasPortIn r port → IsRested (clock_at r port)) c.self.view_is c.few_slips_wait.ensures in
     on_ok c.settle_recording.result _ _
     (λ ended step. promises_kept (record {
       whole = c.steps_stay_whole.ensures;
@@ -12,4 +21,4 @@ returns-clause-laws g c =
       soon = c.unsettled_rings_are_restored.ensures;
       answers = c.steps_answer.ensures;
       strangers = c.steps_keep_strangers_out.ensures;
-    }) _ _ c.args.limit ended c.circuits_fit.ensures c.few_slips_wait.ensures step.outcome step.breaks) c.settle_recording.ensures.step
+    }) _ _ c.args.limit ended fit rested step.outcome step.breaks) c.settle_recording.ensures.step

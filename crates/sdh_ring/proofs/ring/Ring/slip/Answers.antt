@@ -1,46 +1,36 @@
-use Rattle.std.proofs.Common.{ap, sym, subst, ◌∙◌, ◌≡◌, ◌+◌, ◌≤◌}
+use Rattle.std.proofs.Common.{ap, sym, subst, ◌∙◌, ◌+◌, ◌≤◌}
 use Rattle.sdh_node.specs.Node.{slips_at}
-use Rattle.sdh_world.specs.Held.{HeldRing, at_place, place_of_port}
+use Rattle.sdh_world.specs.Held.{HeldRing, place_of_port}
 use Rattle.sdh_world.specs.Rounds.{world}
 use Rattle.sdh_world.specs.Clocks.{waiting_at}
-use Rattle.sdh_world.specs.Fixed.{IsRing}
-use Rattle.sdh_world.proofs.Keeping.{all_slipped}
-use Rattle.sdh_world.proofs.Clocks.{all_on_slipped}
 use Rattle.sdh_laws.specs.Hearing.Laws.{IsWhole}
 use Rattle.sdh_laws.specs.Strangers.Vouched.{IsVouched}
-use Rattle.sdh_ring.proofs.Rings.{ring_with}
+use Rattle.sdh_ring.specs.Delivered.{delivered_in}
+use Rattle.sdh_ring.proofs.Delivered.{placed_delivered, slips_delivered}
 use Rattle.sdh_ring.proofs.Whole.{whole_slipped, vouched_slipped}
 use Rattle.sdh_ring.proofs.ring.Ring.slip.Goals as goal
-use Rattle.sdh_ring.proofs.ring.Ring.slip.Goals.{After-slip_at}
+use Rattle.sdh_ring.proofs.ring.Ring.slip.Goals.{After-slip}
 
-few : (c : After-slip_at) → waiting_at c.self.inside.ring c.args.port + c.args.count ≤ 16
+few : (c : After-slip) → waiting_at c.self.inside.running c.args.port + c.args.count ≤ 16
 few c = subst (λ (r : HeldRing). waiting_at r c.args.port + c.args.count ≤ 16) (sym c.self.view_is) c.requires.few
-
-is : (c : After-slip_at) → c.slip_at.new.ring ≡ record c.self.inside.ring {
-  nodes = at_place (place_of_port c.self.inside.ring c.args.port) (slips_at c.args.port c.args.turn c.args.count) c.self.inside.ring.nodes;
-}
-is c = let r = c.self.inside.ring in
-    c.slip_at.ensures ∙ ap (λ p. record r { nodes = at_place p (slips_at c.args.port c.args.turn c.args.count) r.nodes })
-    (c.place_of-at.ensures.place ∙ ap (λ (x : HeldRing). place_of_port x c.args.port) (sym c.self.view_is))
 
 pub invariant_of-self : goal.invariant_of-self
 invariant_of-self c =
-    let r = c.self.inside.ring in
-    let inv = c.self.invariant in
-    subst IsRing (sym (is c))
-    (ring_with r _ r.moment r.rounds r.broken inv
-    (all_slipped (place_of_port r c.args.port) c.args.port c.args.turn c.args.count r.nodes) inv.moment
-    (λ whole. all_on_slipped r c.args.port c.args.turn c.args.count r.rounds r.moment (few c) (inv.going whole)))
+    let r = c.self.inside.running in
+    c.self.invariant
+    ∙ sym (placed_delivered (slips_at c.args.port c.args.turn c.args.count)
+    (λ n. slips_delivered c.args.port c.args.turn c.args.count n.ports) (place_of_port r c.args.port) r.nodes)
+    ∙ ap delivered_in (sym c.slip.ensures)
 
 pub returns-clause-whole : goal.returns-clause-whole
 returns-clause-whole c = λ f whole.
-    subst (λ (r : HeldRing). IsWhole (world r f)) (sym (is c))
+    subst (λ (r : HeldRing). IsWhole (world r f)) (sym c.slip.ensures)
     (whole_slipped c.stay_whole.ensures _ f c.args.port c.args.turn c.args.count (few c)
     (subst (λ (r : HeldRing). IsWhole (world r f)) (sym c.self.view_is) whole))
 
 pub returns-clause-vouched : goal.returns-clause-vouched
 returns-clause-vouched c = λ f clocks vouched.
-    subst (λ (r : HeldRing). IsVouched clocks (world r f)) (sym (is c))
+    subst (λ (r : HeldRing). IsVouched clocks (world r f)) (sym c.slip.ensures)
     (vouched_slipped c.vouched_rings_stay.ensures _ f clocks
     (subst (λ (r : HeldRing). IsVouched clocks (world r f)) (sym c.self.view_is) vouched) c.args.port c.args.turn c.args.count
     (few c))

@@ -4,4 +4,4 @@ use Rattle.sdh_sncp.proofs.Rings.{rings_circuits}
 use Rattle.sdh_sncp.proofs.ring.PathRing.circuits_fit.Goals as goal
 
 pub returns : goal.returns
-returns c = subst HasCircuits c.self.view_is (rings_circuits _ c.self.invariant)
+returns c = subst HasCircuits c.self.view_is (rings_circuits _ c.self.invariant.ring)

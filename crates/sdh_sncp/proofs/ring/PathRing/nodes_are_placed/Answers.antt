@@ -5,4 +5,4 @@ use Rattle.sdh_sncp.proofs.ring.PathRing.nodes_are_placed.Goals as goal
 
 pub returns : goal.returns
 returns c =
-    subst IsPlacedRing c.self.view_is (c.self.invariant.placed (ap (λ (r : HeldPath). r.broken) c.self.view_is ∙ c.requires))
+    subst IsPlacedRing c.self.view_is (c.self.invariant.ring.placed (ap (λ (r : HeldPath). r.broken) c.self.view_is ∙ c.requires))

@@ -1,39 +1,54 @@
-use Rattle.std.proofs.Common.{ap, sym, subst, ◌∙◌, ◌<◌, ◌^◌}
+use Rattle.std.proofs.Common.{map, ap, sym, subst, ◌∙◌, ◌<◌, ◌^◌}
 use Rattle.std.proofs.lemmas.Result.{on_ok_weaker}
 use Rattle.sdh_rounds.specs.Outcome.{IsOneRound}
+use Rattle.sdh_terminal.specs.Tributaries.{outlets_of}
+use Rattle.sdh_sncp.specs.Node.{PathNode}
 use Rattle.sdh_sncp.specs.Stations.{path_node}
 use Rattle.sdh_sncp.specs.Ring.{HeldPath, world}
 use Rattle.sdh_sncp.specs.Placed.{IsPlacedRing}
 use Rattle.sdh_sncp.proofs.Rings.{may_receive, may_send, ring_after}
+use Rattle.sdh_sncp.proofs.Delivered.{may_take, stays_one}
 use Rattle.sdh_sncp.proofs.Wholes.{whole_after}
 use Rattle.sdh_sncp.proofs.ring.PathRing.round.Goals as goal
 
-pub round-requires-clause-rates : goal.round-requires-clause-rates
-round-requires-clause-rates g c = may_receive _ c.self.invariant
+pub round-result-requires-clause-rates : goal.round-result-requires-clause-rates
+round-result-requires-clause-rates g c = may_receive _ c.self.invariant.ring
 
-pub round-requires-clause-may : goal.round-requires-clause-may
-round-requires-clause-may g c =
-    may_send _ c.self.invariant (ap (λ (r : HeldPath). r.broken) c.self.view_is ∙ c.requires.whole)
+pub round-result-requires-clause-may : goal.round-result-requires-clause-may
+round-result-requires-clause-may g c =
+    may_send _ c.self.invariant.ring (ap (λ (r : HeldPath). r.broken) c.self.view_is ∙ c.requires.whole)
     (subst (λ (r : HeldPath). r.rounds < 2 ^ 32) (sym c.self.view_is) c.requires.room)
 
+pub take-requires : goal.take-requires
+take-requires g c =
+    let w = world c.self.inside.ring (g.P.Plant.fibres c.args.plant.now) in
+    let left = world c.round-result.new.self (g.P.Plant.fibres c.round-result.new.plant) in
+    let whole = ap (λ (r : HeldPath). r.broken) c.self.view_is ∙ c.requires.whole in
+    may_take c.self.inside.ring c.round-result.new.self c.self.inside.deliveries c.nodes_of.result.now c.self.invariant.ring
+    (ring_after g.P.Plant.exact w left _ _ _ c.self.invariant.ring whole c.round-result.ensures)
+    (stays_one g.P.Plant.exact w left c.round-result.result (g.P.Plant.faults c.args.plant.now) (g.P.Plant.faults c.round-result.new.plant)
+    c.round-result.ensures) c.self.invariant.delivered c.nodes_of.ensures
+
 pub invariant_of-self : goal.invariant_of-self
-invariant_of-self g c =
-    ring_after g.P.Plant.exact (world _ (g.P.Plant.fibres c.args.plant.now)) (world _ (g.P.Plant.fibres c.round.new.plant)) _ _ _
-    c.self.invariant (ap (λ (r : HeldPath). r.broken) c.self.view_is ∙ c.requires.whole) c.round.ensures
+invariant_of-self g c = record {
+  ring = ring_after g.P.Plant.exact (world _ (g.P.Plant.fibres c.args.plant.now)) (world _ (g.P.Plant.fibres c.round-result.new.plant)) _ _ _
+      c.self.invariant.ring (ap (λ (r : HeldPath). r.broken) c.self.view_is ∙ c.requires.whole) c.round-result.ensures;
+  delivered = c.take.ensures ∙ ap (map (λ (n : PathNode). outlets_of n.ports)) c.nodes_of.ensures;
+}
 
 pub returns : goal.returns
 returns g c =
     let f = g.P.Plant.fibres c.args.plant.now in
     let one =
-    subst (λ (r : HeldPath). IsOneRound path_node g.P.Plant.exact (world r f) c.round.result
-    (world c.round.new.self (g.P.Plant.fibres c.round.new.plant)) (g.P.Plant.faults c.args.plant.now)
-    (g.P.Plant.faults c.round.new.plant)) c.self.view_is c.round.ensures in
+    subst (λ (r : HeldPath). IsOneRound path_node g.P.Plant.exact (world r f) c.round-result.result
+    (world c.round-result.new.self (g.P.Plant.fibres c.round-result.new.plant)) (g.P.Plant.faults c.args.plant.now)
+    (g.P.Plant.faults c.round-result.new.plant)) c.self.view_is c.round-result.ensures in
     let placed = subst IsPlacedRing c.self.view_is
-    (c.self.invariant.placed (ap (λ (r : HeldPath). r.broken) c.self.view_is ∙ c.requires.whole)) in
+    (c.self.invariant.ring.placed (ap (λ (r : HeldPath). r.broken) c.self.view_is ∙ c.requires.whole)) in
     record {
       ok = one.ok;
       prepared = one.prepared;
-      paired = on_ok_weaker c.round.result (λ is paired. (whole_after _ _ is (record { placed = placed; paired = paired })).paired) one.ok;
+      paired = on_ok_weaker c.round-result.result (λ is paired. (whole_after _ _ is (record { placed = placed; paired = paired })).paired) one.ok;
       err = one.err;
       broken = one.broken;
       breaks = one.breaks;

@@ -1,6 +1,8 @@
-use Rattle.std.proofs.Common.{◌≡◌, length, sym, subst, ◌∙◌, rules}
+use Rattle.std.proofs.Common.{◌≡◌, length, map, ap, sym, subst, ◌∙◌, rules}
 use Rattle.sdh_payload.specs.Outlet.{silent}
 use Rattle.sdh_plant.specs.Calls.{prepared}
+use Rattle.sdh_terminal.specs.Tributaries.{outlets_of}
+use Rattle.sdh_sncp.specs.Node.{PathNode}
 use Rattle.sdh_sncp.specs.Ring.{HeldPath, world, outlet_at}
 use Rattle.sdh_sncp.specs.Fixed.{AreAlone, IsRing}
 use Rattle.sdh_sncp.specs.Laws.{IsPaired}
@@ -10,8 +12,12 @@ use Rattle.sdh_sncp.proofs.ring.PathRing.try_new.Goals as goal
 pub invariant_of-result : goal.invariant_of-result
 invariant_of-result c =
     let alone : AreAlone c.args.circuits.circuits = search rules in
-    subst IsRing (sym (c.in_ok-ring.ensures ∙ fresh_is c.args.settings c.args.map c.args.circuits))
-    (new_is_ring c.args.settings c.args.map c.args.circuits c.len.ensures.ids c.len-2.ensures.form c.requires.slots c.requires.kept alone)
+    record {
+      ring = subst IsRing (sym (c.in_ok-ring.ensures ∙ fresh_is c.args.settings c.args.map c.args.circuits))
+          (new_is_ring c.args.settings c.args.map c.args.circuits c.len.ensures.ids c.len-2.ensures.form c.requires.slots c.requires.kept
+          alone);
+      delivered = c.in_ok-deliveries.ensures ∙ ap (map (λ (n : PathNode). outlets_of n.ports)) c.nodes_of.ensures;
+    }
 
 pub returns-clause-paired : goal.returns-clause-paired
 returns-clause-paired c = λ f honest.
