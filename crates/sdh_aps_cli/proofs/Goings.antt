@@ -11,17 +11,16 @@ use Rattle.sdh_plan.specs.Planned.{Planned}
 use Rattle.sdh_report.specs.declared.status.Status.{Status}
 use Rattle.sdh_report.specs.declared.status.Status.TheVariants as status
 use Rattle.sdh_shell.specs.Calls.{HasRun}
-use Rattle.sdh_shell.specs.Endings.{refuses_plan}
-use Rattle.sdh_shell.specs.Writing.{WroteEnding, IsShown}
-use Rattle.sdh_shell.proofs.Endings.{one_status, EndsPlan, is_shown}
+use Rattle.sdh_shell.specs.Writing.{WroteEnding}
+use Rattle.sdh_shell.proofs.Endings.{one_status}
 use Rattle.sdh_shell.proofs.Failing.{counted_none, counted_as}
 use Rattle.sdh_shell.proofs.Pieces.{fewer_behind}
 use Rattle.sdh_scripts.specs.Programs.{Refuses, Runs}
 use Rattle.sdh_scripts.specs.Headline.{may_do}
 use Rattle.sdh_scripts.specs.Calls.{Goes}
-use Rattle.sdh_aps_cli.specs.Endings.{line_of, signalling_endings, frames_end, frames_line}
+use Rattle.sdh_aps_cli.specs.Endings.{line_of, signalling_endings, frames_end}
 use Rattle.sdh_aps_cli.specs.Words.{has_node, window_at, listing_of}
-use Rattle.sdh_aps_cli.specs.Plans.{Piece, pieces_text, rounds_in, IsCutRun, ends_by, ends_run, line_after, has_rounds}
+use Rattle.sdh_aps_cli.specs.Plans.{Piece, pieces_text, rounds_in, IsCutRun, ends_by, line_after, has_rounds}
 use Rattle.sdh_aps_cli.specs.Plans.{Failures, CameOfRun, IsPlaced}
 use Rattle.sdh_aps_cli.specs.Headline.{deed_of, signalling}
 use Rattle.sdh_aps_cli.specs.declared.ending.Ending.{Ending}
@@ -84,32 +83,6 @@ pub is_fault : (listing : PlanListing) (rounds : ℕ) (s : Status) → s ≡ sta
     → ends_by listing rounds s ≡ ending.Shared status.PlantFault
 is_fault (listed.Lines l) rounds s e = ap ending.Shared e
 is_fault (listed.Frames ask) rounds s e = ap (frames_end (has_rounds ask rounds)) e
-
--- the ending of a run is one that a plan may lead to
-pub run_end : (listing : PlanListing) (rounds : ℕ) (s : Status) → HasRun s → EndsPlan signalling_endings (ends_by listing rounds s)
-run_end listing rounds s h = elim (ends_run listing rounds s h) [
-  | inl as_script ↦ inl as_script
-  | inr own ↦ inr (subst refuses_plan (sym own) tt)
-]
-
-pub shows_end : (listing : PlanListing) (rounds : ℕ) (s : Status) (end : Ending) → end ≡ ends_by listing rounds s → HasRun s
-    → IsShown signalling_endings end
-shows_end listing rounds s end is h =
-    subst (IsShown signalling_endings) (sym is) (is_shown signalling_endings (ends_by listing rounds s) (run_end listing rounds s h))
-
--- a run with all rounds that are asked for, and one without
-pub frames_came : (s : Status) → (s ≡ status.PlantFault → ⊥) → ending.Shared status.Ok ≡ frames_end true s
-frames_came status.PlantFault other = absurd (other refl)
-frames_came s other = refl
-
-pub frames_missed : (s : Status) → (s ≡ status.PlantFault → ⊥) → ending.NoSuchRound ≡ frames_end false s
-frames_missed status.PlantFault other = absurd (other refl)
-frames_missed s other = refl
-
--- the last line after frames that didn't all come
-pub frames_said : (end : Ending) → (end ≡ ending.Shared status.Ok → ⊥) → line_of end ≡ frames_line end
-frames_said (ending.Shared status.Ok) other = absurd (other refl)
-frames_said end other = refl
 
 -- ---- with a plan
 

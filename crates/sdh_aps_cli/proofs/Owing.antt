@@ -1,9 +1,7 @@
 -- Over honest fibres each settle step of a script shows what the ring of signals does.
 use Rattle.std.proofs.Common.{◌≡◌, ℕ, ◌+◌, ◌-◌, ◌≤◌, List, [], ◌∷◌, ◌++◌, length, refl, ap, sym, subst, ◌∙◌, arith, inl, inr}
 use Rattle.std.proofs.Common.{append-nil}
-use Rattle.std.specs.List.{flat_map}
 use Rattle.std.proofs.lemmas.Bool.{cases_lt}
-use Rattle.sdh_basics.proofs.CellsLaws.{cells-zero}
 use Rattle.sdh_circuits.specs.Provisioning.{Provisioning}
 use Rattle.sdh_plant.specs.Fibres.{Arrival, Fibres}
 use Rattle.sdh_plant.specs.Arrivals.{Knows}
@@ -42,7 +40,7 @@ use Rattle.sdh_aps_cli.specs.Signalled as signalled
 use Rattle.sdh_aps_cli.specs.Signalled.{Signalled, signalled_in, changes_in}
 use Rattle.sdh_aps_cli.specs.Scripts.{signalling_walk}
 use Rattle.sdh_aps_cli.specs.ByScript.{signals_by}
-use Rattle.sdh_aps_cli.specs.Owed.{changes_by, all_changes_by, ShowsSignals, AreSignalled, AreOfTheNext}
+use Rattle.sdh_aps_cli.specs.Owed.{all_changes_by, ShowsSignals, AreSignalled, AreOfTheNext}
 use Rattle.sdh_aps_cli.specs.Laws.{Runs, ScriptsGoAsSignals, FirstRounds, StepsGoAsSignals}
 use Rattle.sdh_aps_cli.proofs.Signals.{Laws, goes, rounds_show}
 
@@ -51,16 +49,6 @@ pub none_shown : (ring : Ring) (ids : List ℕ) (limit : ℕ) (earlier : List St
     → end ≡ status.PlantFault → AreSignalled ring ids limit earlier before later [] end
 none_shown ring ids limit earlier before [] end h = (refl, inr h)
 none_shown ring ids limit earlier before (changes ∷ later) end h = inr h
-
--- where no round of the next settle step ran, nothing is shown of it
-pub none_next : (ring : Ring) (ids : List ℕ) (later : List (List Change)) (told : List Signalled) (earlier : List Stretch)
-    → AreOfTheNext ring ids earlier later told 0 []
-none_next ring ids [] told earlier = refl
-none_next ring ids (changes ∷ later) [] earlier =
-    let now = earlier ++ record { changes = changes; rounds = 0 } ∷ [] in
-    sym (ap (flat_map (changes_by ring ids now)) (cells-zero (λ j. rounds_in earlier + j)))
-none_next ring ids (changes ∷ later) (s ∷ told) earlier =
-    none_next ring ids later told (earlier ++ record { changes = changes; rounds = s.rounds - rounds_in earlier } ∷ [])
 
 no_rounds : (xs : List (List Arrival)) → length xs ≤ 0 → xs ≡ []
 no_rounds [] h = refl

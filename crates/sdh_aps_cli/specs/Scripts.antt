@@ -3,7 +3,6 @@ use Rattle.std.specs.Prelude.{◌-◌}
 use Rattle.sdh_node.specs.Node.{Node}
 use Rattle.sdh_node.specs.Stations.{adm}
 use Rattle.sdh_scripts.specs.Walks.{Walk}
-use Rattle.sdh_scripts.specs.Scripts as scripts
 use Rattle.sdh_world.specs.Steps.{after_step}
 use Rattle.sdh_aps_cli.specs.Signalled.{Signalled, signalled_in}
 
@@ -15,7 +14,3 @@ signalling_walk = record {
   tells = signalled_in;
   last = λ (s : Signalled). s.rounds - 1;
 }
-
--- what a script comes to where arrivals are known
-abbrev pub Ran : Type 0
-Ran = scripts.Ran Node Signalled

@@ -10,7 +10,6 @@ use Rattle.std.proofs.lemmas.Grind.{common_steps}
 use borrow.Rule.Slice.PartMut.{put_mid}
 use Rattle.sdh_basics.specs.Indexed.{map_from}
 use Rattle.sdh_basics.proofs.Indexing.{map_from-append}
-use Rattle.sdh_basics.proofs.CellsLaws.{length-map_from}
 use Rattle.sdh_parity.specs.Scrambling.{scrambled_byte, scrambled}
 use Rattle.sdh_parity.specs.Pieces.{scrambled_from}
 use Rattle.sdh_overhead.specs.Overhead.{byte_at, with_overhead}
@@ -24,10 +23,6 @@ clear-more n last k1 k2 xs ys =
     let f = byte_at n (added_after n last k1 k2) in
     let at : 0 + length xs ≡ length xs = omega arith in
     map_from-append f 0 xs ys ∙ ap (λ i. map_from f 0 xs ++ map_from f i ys) at
-
-length-clear : (n : ℕ) (last : Option Parities) (k1 k2 : ℕ) (xs : List ℕ) → length (clear_frame n last k1 k2 xs) ≡ length xs
-unfolding clear_frame with_overhead
-length-clear n last k1 k2 xs = length-map_from (byte_at n (added_after n last k1 k2)) 0 xs
 
 pub pieces : (clear : ℕ) (xs ys : List ℕ) → scrambled clear (xs ++ ys) ≡ scrambled clear xs ++ scrambled_from clear (length xs) ys
 unfolding scrambled scrambled_from

@@ -1,6 +1,6 @@
 -- Rows of a frame, one after the other.
 use Rattle.std.proofs.Common.{◌≡◌, ℕ, zero, suc, ◌+◌, ◌*◌, ◌-◌, ◌<◌, ◌≤◌, true, false, List, [], ◌∷◌, ◌++◌, length, get_or, take, drop}
-use Rattle.std.proofs.Common.{Option, Some, None, refl, ap, sym, subst, ◌∙◌, arith, ◌⊎◌, inl, inr, append_assoc}
+use Rattle.std.proofs.Common.{Option, Some, None, refl, ap, sym, subst, ◌∙◌, arith, inl, inr, append_assoc}
 use Rattle.std.specs.Prelude.{slice_range, nat_le, ◌==◌, if◌then◌else◌}
 use Rattle.std.proofs.lemmas.Bool.{cases_lt, cases_eq, ne_eqb, eq-eqb, lt-leb}
 use Rattle.std.proofs.lemmas.List.{ext_get_or, take_all, length-append, length-take, length-drop, get_or-drop, get_or_append_left}
@@ -172,13 +172,6 @@ section-one n (suc (suc zero)) clear bytes some at long = second n clear bytes l
 section-one n (suc (suc (suc zero))) clear bytes some at long = third n clear bytes long (omega arith)
 section-one n (suc (suc (suc (suc r)))) clear bytes some at long = section-late n (suc (suc (suc (suc r)))) clear bytes (omega arith) at
 
--- one row, or m rows from row 4 on
-pub section-more : (n row m : ℕ) (clear bytes : List ℕ) → 1 ≤ row → (m ≡ 1) ⊎ (4 ≤ row) → length clear ≡ (row - 1) * (270 * n)
-    → length bytes ≡ m * (270 * n) → section_bytes n (clear ++ bytes) ≡ section_bytes n clear ++ drop (skipped n row) bytes
-section-more n row m clear bytes some (inl one) at long = let single : m * (270 * n) ≡ 1 * (270 * n) =
-    ap (λ k. k * (270 * n)) one in section-one n row clear bytes some at (omega (arith, long, single))
-section-more n row m clear bytes some (inr late) at long = section-late n row clear bytes late at
-
 -- ---- what is kept of the rows that have passed
 
 pub some-under-way : (u : UnderWay) → 1 ≤ u.rows → under_way_of u ≡ Some u
@@ -332,9 +325,6 @@ pub cut-row : (n at a : ℕ) (old head rest head' rest' : List ℕ) → old ≡ 
 cut-row n at a old head rest head' rest' cut place one two =
     ap (λ l. l ++ rest') one ∙ ap (λ l. scrambled_from (9 * n) at head ++ l) (two ∙ ap (λ k. scrambled_from (9 * n) k rest) place)
     ∙ sym (in-pieces.cut (9 * n) at head rest) ∙ ap (scrambled_from (9 * n) at) (sym cut)
-
-pub row-ends : (row m w : ℕ) → 1 ≤ row → (row - 1) * w + m * w ≡ (row + m - 1) * w
-row-ends row m w some = let back : row - 1 + m ≡ row + m - 1 = omega arith in sym (add-mul (row - 1) m w) ∙ ap (λ k. k * w) back
 
 pub row-end : (row w : ℕ) → 1 ≤ row → (row - 1) * w + w ≡ row * w
 row-end row w some =
