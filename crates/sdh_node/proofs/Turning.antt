@@ -96,7 +96,7 @@ module _ (now : ℕ) (s : Settings) (rounds turns : ℕ) (x0 : Cross) (kept : Li
 
       module _ (west_send : wa ≡ after_sending (input_at x (added_last wq) West) ws)
           (east_send : ea ≡ after_sending (input_at x (added_last eq) East) es) where
-        -- the results of the calls together tell whether the round is calm
+        -- the results of the calls together show whether the round is calm
         pub calm_is : (ran taken kept wsaid wmade esaid emade : Bool) → ran ≡ (nat_le 1 rounds && not held)
             → taken ≡ (same_in (compared_in tk.west) (compared_in x0.west) && same_in (compared_in tk.east) (compared_in x0.east))
             → kept ≡ same_state x.state tk.state

@@ -51,16 +51,16 @@ new_bench m id at plan = record {
   node = new_node plan.settings plan.nodes plan.circuits at;
 }
 
--- ---- what a record tells the node
+-- ---- what a record gives the node
 
--- why the node can't be told this, if it can't: the moment goes back, or more than 16 slips would wait at a port
+-- why the node can't be given this, if it can't: the moment goes back, or more than 16 slips would wait at a port
 unfoldable pub refusal_of : Bench → Told → Option Reason
 refusal_of b (told.Command side c) = None
 refusal_of b (told.Moment m) = if nat_lt m.0 b.moment then Some reason.MomentBack else None
 refusal_of b (told.Hold turns) = None
 refusal_of b (told.Slip port turn count) = if nat_lt 16 (waiting_of port b.node.ports + count) then Some reason.Slips else None
 
--- the bench after the node was told this
+-- the bench after the node was given this
 unfoldable pub after_told : Told → Bench → Bench
 after_told (told.Command side c) b = record b { node = at_receiving side (commanded_by c) b.node }
 after_told (told.Moment m) b = record b { moment = m.0 }

@@ -28,7 +28,8 @@ number_of (ending.Shared how) = status.number_of how
 abbrev pub bad_record_text : ℕ → ℕ → List ℕ
 bad_record_text why number = codes "bad record " ++ decimal why ++ codes " at " ++ decimal number ++ codes "\n"
 
--- the same, by what is wrong with the record; records are counted from 1, and the plan before them is number 0
+-- the last line for a record that can't be done, by what is wrong with it; records are counted from 1, and the plan
+-- before them is number 0
 abbrev pub bad_record_line : Flaw → ℕ → List ℕ
 bad_record_line f number = bad_record_text (flaw_number f) number
 

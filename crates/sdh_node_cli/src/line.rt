@@ -93,8 +93,7 @@ fn put_front(line: &mut Text, bytes: &[u8]) -> bool
     }
 }
 
-// Reads more of a line in one call. It asks for no byte after the shortest record whose line begins with what has come,
-// unless that is the next byte of the line itself.
+// Reads more of a line in one call of the source: the number of bytes that `asked_for` gives, or fewer.
 fn read_more<R: Source>(source: &mut R, line: &mut Text) -> Result<Got, Failed>
     requires some { 1 ≤ line.old.room }
     requires room { room_in line.old ≡ 65 }

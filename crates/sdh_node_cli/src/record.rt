@@ -22,7 +22,7 @@ pub enum Came {
     Frame,
 }
 
-/// What a record tells the node between rounds.
+/// What a record gives the node between rounds.
 #[derive(Clone, Copy)]
 pub enum Told {
     /// A side gets a command, in place of the one before.
@@ -38,7 +38,7 @@ pub enum Told {
 /// A record of a stream.
 #[derive(Clone, Copy)]
 pub enum Record {
-    /// The node is told something between rounds.
+    /// The node is given something between rounds.
     Told(Told),
     /// A round runs. The first came from the west, and the second from the east.
     Round(Came, Came),

@@ -187,7 +187,7 @@ some-under-way u h = let some : (u.rows == 0) ≡ false = ne_eqb _ _ (λ (e : u.
 pub none-under-way : (u : UnderWay) → u.rows ≡ 0 → under_way_of u ≡ None
 none-under-way u e = let none : (u.rows == 0) ≡ true = eq-eqb _ _ e in rw none refl
 
--- rows that have passed and were written: a row may be written next; this holds before the first row too
+-- a row may be written before the first row, and after rows that were written
 pub may-write : (u : UnderWay) → u.written ≡ true → MayWrite (under_way_of u)
 may-write u e =
     elim (cases_eq u.rows 0) [

@@ -1,5 +1,5 @@
-//! Adding pieces of any length to the 3N bytes of BIP-24N. Bytes are added modulo 2, bit by bit (XOR). Lane j of a
-//! parity of m bytes is its byte j: the BIP-8 of the bytes whose index is j modulo m.
+//! Adding pieces of any length to the 3N bytes of BIP-24N. Bytes are added modulo 2, bit by bit (XOR). In a parity of m
+//! bytes, byte i of the input is in lane i modulo m, and byte j of the parity is the BIP-8 of lane j.
 ghost use Rattle.std.specs.Prelude.{◌≡◌, ℕ, List, ◌++◌, ◌+◌, ◌*◌, ◌%◌, ◌^◌, ◌<◌, ◌≤◌, ◌⊎◌, length, slice_index, bit_xor};
 ghost use Rattle.sdh_basics.specs.Parity.{bip8 as parity_of};
 ghost use Rattle.sdh_parity.specs.Parity.{every};

@@ -248,7 +248,7 @@ impl BipSection {
 
 /// Sends the next piece of a frame: adds it to `clear`, the BIP-24N of the bytes before scrambling; scrambles it; and
 /// adds it to `line`, the BIP-8 of the bytes on the line. All this takes one pass over the bytes where the piece lies
-/// after the unscrambled head of the frame, and the number of bytes in `clear` is a multiple of 3N.
+/// after the unscrambled head of the frame, and the number of bytes added to `clear` before is a multiple of 3N.
 pub fn send_piece(
     clear: &mut BipSection,
     scrambler: &mut Scrambler,
@@ -276,7 +276,7 @@ pub fn send_piece(
 
 /// Receives the next piece of a frame: adds it to `line`, the BIP-8 of the bytes on the line; descrambles it; and adds
 /// it to `clear`, the BIP-24N of the descrambled bytes. All this takes one pass over the bytes where the piece lies
-/// after the unscrambled head of the frame, and the number of bytes in `clear` is a multiple of 3N.
+/// after the unscrambled head of the frame, and the number of bytes added to `clear` before is a multiple of 3N.
 pub fn receive_piece(
     line: &mut Bip8,
     scrambler: &mut Scrambler,

@@ -1,5 +1,5 @@
--- Interpreters and generators report after each step whether it changed their state. None did exactly where all keep
--- what they kept.
+-- Interpreters and generators report after each step whether it changed their state. None reports a change exactly
+-- where all keep what they kept.
 use Rattle.std.proofs.Common.{◌≡◌, ℕ, ◌+◌, Bool, true, false, List, [], ◌∷◌, map, refl, ap, sym, ◌∙◌}
 use Rattle.std.specs.Prelude.{◌&&◌, ◌||◌, not}
 use Rattle.std.specs.List.{list_any}

@@ -107,7 +107,7 @@ impl Inlet {
     }
 
     // Moves the frame that arrived into the intake, or fills the intake's frame with ones where none did. Returns the
-    // side's defect, and the word that the frame brings.
+    // side's defect, and the word that the frame brings, if it brings one.
     fn find(&mut self, threshold: u16, intake: &mut Intake) -> (Defect, Option<K>)
         requires { intake.old.frame.rate ≡ self.old.section.rate }
         ensures side { self.new ≡ record self.old {

@@ -1,7 +1,7 @@
 //! Laws of the table. Each function here has a law as its contract and no work to do.
 ghost use Rattle.sdh_whatif_cli.specs.Laws.{LinesAreTrue};
 
-/// Each line of the table says what is so.
+/// Each line of the table is true: it agrees with the restoration model and with the plan's reports.
 pub fn lines_are_true()
     ensures { LinesAreTrue }
 {
