@@ -1,6 +1,6 @@
 //! Lanes of vectors over whole columns. The AU-4s of a frame are interleaved byte by byte, so sixteen neighbouring
-//! bytes are one column of all AU-4s (STM-16) or four columns (STM-4). A lane of such a vector reads one lane of the
-//! vector at the same place in its source frame.
+//! bytes are one column of all AU-4s (STM-16) or four columns (STM-4). A lane whose source is a frame reads one lane of
+//! that frame's vector at the same place.
 ghost use Rattle.std.specs.Prelude.{◌≡◌, ℕ, ◌+◌, ◌*◌, ◌%◌, ◌<◌, ◌≤◌, ◌⊎◌, length, slice_index};
 ghost use Rattle.sdh_interchange.specs.Choosing.{IsSource, AreSources};
 ghost use Rattle.sdh_interchange.specs.Lanes.{IsLane, AreLanes};

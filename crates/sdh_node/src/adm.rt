@@ -177,8 +177,8 @@ impl Adm {
         self.cross.state()
     }
 
-    /// Returns the word sent on a side in the last round. Before the first round it is the first word to the neighbour:
-    /// no request, and idle.
+    /// Returns the word sent on a side in the last round. Before the first round it is the idle word to the neighbour,
+    /// without a request.
     pub fn sent_k(&self, side: Side) -> K
         ensures word { result ≡ (sending_on side self.now).word }
         ensures to { result.to ≤ 15 }

@@ -31,7 +31,7 @@ use sdh_terminal::{Feeder, Intake, Matrix, Outlets, TakenPair, Tributaries};
 use std::alloc::{AllocError, Global};
 use std::marker::Model;
 
-/// Both sides that receive, the state, and the table of circuits by which the state connects the AU-4s that arrive.
+/// Both sides that receive, the state, and the squelch table by which the state connects the AU-4s that arrive.
 #[derive(Debug, Drop)]
 pub struct CrossConnect {
     map: RingMap,

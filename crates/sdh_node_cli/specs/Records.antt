@@ -131,7 +131,7 @@ record_of circuits at line = if list_any is_empty (words line) then Err reason.S
 
 -- ---- what is true of every record
 
--- a port belongs to a circuit that ends at this position
+-- the port is the one that its circuit has at this position
 abbrev pub IsOwn : List Provisioned → Pos → PortId → Type 0
 IsOwn circuits at port = (c : Provisioned) × (slice_get circuits port.circuit ≡ Some c) × (end_here at c ≡ Some port.end)
 

@@ -1,5 +1,5 @@
--- One side of a node that receives, without its K bytes and requests: what the section overhead of a frame says, and
--- what the pointer interpreters make of the AU-4s.
+-- One side of a node that receives, without the filter of its words and its local request: what the section overhead of
+-- a frame says, and what the pointer interpreters make of the AU-4s.
 use Rattle.std.specs.Prelude.{◌≡◌, ℕ, ◌+◌, ◌*◌, ◌%◌, Bool, ◌==◌, nat_le, if◌then◌else◌, Option, Some, None, List, length, map, slice_index}
 use Rattle.std.specs.Prelude.{replicate}
 use Rattle.std.specs.Option.{is_some}

@@ -20,7 +20,7 @@ pub record Sending : Type 0 where
   -- the word sent
   pub word : K
 
--- a side that has sent nothing, with the word of its first frame
+-- a side that has sent nothing; its word is k until another one is set
 abbrev pub new_sending : Rate → K → Sending
 new_sending rate k = record { section = holding rate None; generators = replicate (n_of rate) None; word = k }
 

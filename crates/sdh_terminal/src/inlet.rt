@@ -106,8 +106,8 @@ impl Inlet {
         }
     }
 
-    // Moves the frame that arrived into the intake, or fills the intake's frame with ones where none did. Returns the
-    // side's defect, and the word that the frame brings, if it brings one.
+    // Moves the frame that arrived into the intake. Where none did, or the side fails, the intake's frame is filled
+    // with ones. Returns the side's defect, and the word that the frame brings, if it brings one.
     fn find(&mut self, threshold: u16, intake: &mut Intake) -> (Defect, Option<K>)
         requires { intake.old.frame.rate ≡ self.old.section.rate }
         ensures side { self.new ≡ record self.old {

@@ -54,7 +54,8 @@ impl Model for Sender {
 }
 
 impl Sender {
-    /// Returns a side that has sent nothing, with the word of its first frame. All its memory is taken here.
+    /// Returns a side that has sent nothing. Its word is `word` until `say` sets another one. All its memory is taken
+    /// here.
     pub fn try_new(alloc: Global, rate: Rate, word: K) -> Result<Sender, AllocError>
         requires { IsSpellable word }
         ensures { IfOk result (λ s. s ≡ new_sending rate word) }
