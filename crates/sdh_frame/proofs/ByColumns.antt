@@ -7,7 +7,7 @@ use Rattle.std.proofs.lemmas.List.{get_or-set_same, get_or-set_other}
 use Rattle.sdh_frame.specs.Aus.{is_payload, is_pointer}
 use Rattle.sdh_frame.specs.Columns.{HasWritten}
 
--- what is so at both rates
+-- what holds at both rates
 pub by_rate : (P : ℕ → Type 0) (n : ℕ) → (n ≡ 4) ⊎ (n ≡ 16) → P 4 → P 16 → P n
 by_rate P n (inl e) four sixteen = subst P (sym e) four
 by_rate P n (inr e) four sixteen = subst P (sym e) sixteen
@@ -37,7 +37,7 @@ and_false : (b c : Bool) → c ≡ false → (b && c) ≡ false
 and_false true c e = e
 and_false false c e = refl
 
--- no payload stands in the first nine columns of a row, and in all others that of each AU-4
+-- the first nine columns of a row hold no payload, and every other column holds a payload byte of each AU-4
 pub head_is_none : (n au r i : ℕ) → (n ≡ 4) ⊎ (n ≡ 16) → 270 * r ≤ i / n → i / n < 270 * r + 9 → is_payload n au i ≡ false
 head_is_none n au r i rate low high =
     let head : i % (270 * n) < 9 * n =

@@ -12,7 +12,7 @@ use Rattle.sdh_ringmap.specs.Rates.{n_of}
 use Rattle.sdh_frame.specs.Fields.{index_of, payload_place}
 use Rattle.sdh_frame.specs.Aus.{payload_of, payload_byte, pointer_byte, with_payload, with_pointers, is_payload, is_pointer}
 
--- two lists are equal if each has at every place f of that place and the old byte there
+-- two lists of the old length are equal if at every place i both have the byte `f i x`, where x is the old byte there
 placed : (f : ℕ → ℕ → ℕ) (old new : List ℕ) → length new ≡ length old → ((i : ℕ) → i < length old → get_or new i 0 ≡ f i (get_or old i 0))
     → (zs : List ℕ) → length zs ≡ length old → ((i : ℕ) → i < length old → get_or zs i 0 ≡ f i (get_or old i 0)) → new ≡ zs
 placed f old new len h zs len2 h2 = ext_get_or 0 new zs (len ∙ sym len2) (λ i lt. h i (omega arith) ∙ sym (h2 i (omega arith)))
@@ -25,7 +25,7 @@ pub source : (rate : Rate) (to from i : ℕ) → 1 ≤ from → i < size_of rate
 source Four to from i hf hi au col = (omega arith, omega arith)
 source Sixteen to from i hf hi au col = (omega arith, omega arith)
 
--- from the two cases of a place
+-- a byte by the two cases of its place
 cases : (t : Bool) (x a b c : ℕ) → x ≡ (if t then a else b) → (t ≡ true → a ≡ c) → x ≡ (if t then c else b)
 cases true x a b c h e = h ∙ e refl
 cases false x a b c h e = h

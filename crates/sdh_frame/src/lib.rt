@@ -49,7 +49,7 @@ pub enum Field {
     B2(u16),
     K1,
     K2,
-    /// Section overhead without a use here: sent as 0, and part of the parities only.
+    /// Section overhead that is not used here: it is sent as 0, and read only for the parities.
     Unused,
     /// A pointer byte: the AU-4, 1 to N, and the place in its pointer, 0 to 8.
     Pointer(u16, u16),

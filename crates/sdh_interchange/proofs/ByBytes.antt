@@ -32,7 +32,7 @@ own_byte-none : (n : ℕ) (own : List (List ℕ)) (i : ℕ) → i % (270 * n) < 
 unfolding own_byte
 own_byte-none n own i h = let before : leb (9 * n) (i % (270 * n)) ≡ false = lt-leb _ _ h in rw before refl
 
--- what is so at both rates
+-- what holds at both rates
 pub by_rate : (P : ℕ → Type 0) (n : ℕ) → (n ≡ 4) ⊎ (n ≡ 16) → P 4 → P 16 → P n
 by_rate P n (inl e) four sixteen = subst P (sym e) four
 by_rate P n (inr e) four sixteen = subst P (sym e) sixteen
@@ -41,7 +41,7 @@ pub either : (n : ℕ) (rate : Rate) → n_of rate ≡ n → (n ≡ 4) ⊎ (n �
 either n Four e = inl (sym e)
 either n Sixteen e = inr (sym e)
 
--- in front of the payloads of row 3 none is wanted
+-- no own payload has bytes in the pointer columns of row 3
 pub plain_pointer : (n : ℕ) (s : Source) (own : List (List ℕ)) (i : ℕ) → (n ≡ 4) ⊎ (n ≡ 16) → n * 810 ≤ i → i < n * 819
     → IsSource n (i % n + 1) s → IsPlain n s own i
 plain_pointer n (First au) own i rate low high is = tt

@@ -60,12 +60,12 @@ room_kept from count at few old new room keeps = record {
   each = λ a h. keeps.lengths (from + a) ∙ room.each a h;
 }
 
--- a byte of one that isn't written
+-- a byte of a cell that isn't written
 pub cell_kept : (at few : ℕ) (old new : List (List ℕ)) (a j : ℕ) → (a < at) ⊎ (at + few ≤ a) → KeepsOthers at few old new
     → cell new a j ≡ cell old a j
 cell_kept at few old new a j away keeps = ap (λ l. get_or l j 0) (keeps.others a away)
 
--- what stands here is a whole payload
+-- a payload that is held has 2349 bytes
 pub given_long : (frame : Frame) (held : Held) (au : ℕ) → IsOf frame held → 1 ≤ au → au ≤ n_of frame.rate → has held au ≡ true
     → length (get_or held.payloads (au - 1) []) ≡ 2349
 unfolding payload_of

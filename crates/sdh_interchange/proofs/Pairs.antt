@@ -6,7 +6,7 @@ use Rattle.std.proofs.lemmas.List.{get_or_append_left, get_or-append_right}
 use Rattle.std.proofs.lemmas.List.FromFn.{get_or-map-range_with_len}
 use Rattle.sdh_interchange.specs.Tables.{cell}
 
--- those of two rows
+-- the last two of each four lanes of two rows
 abbrev pub pairs : List ℕ → List ℕ → List ℕ
 pairs a b = map (λ k. get_or (a ++ b) (4 * (k / 2) + (2 + k % 2)) 0) (range_with_len 0 16)
 
@@ -17,13 +17,13 @@ in_second a b j long h =
     get_or-map-range_with_len (λ k. get_or (a ++ b) (4 * (k / 2) + (2 + k % 2)) 0) 0 16 (8 + j) (8 + j) 0 (omega arith) (omega arith)
     ∙ get_or-append_right a b 16 i 0 long (omega arith) ∙ ap (λ m. get_or b m 0) e
 
--- these are those of two rows from row t on
+-- xs are the last two of each four lanes of the rows t and t + 1
 pub record ArePairs (v : List (List ℕ)) (t : ℕ) (xs : List ℕ) : Type 0 where
   pub long : length xs ≡ 16
   pub first : (j : ℕ) → j < 8 → get_or xs j 0 ≡ cell v t (4 * (j / 2) + (2 + j % 2))
   pub second : (j : ℕ) → j < 8 → get_or xs (8 + j) 0 ≡ cell v (t + 1) (4 * (j / 2) + (2 + j % 2))
 
--- every second one of two such, from the first or the second on
+-- every second byte of two vectors in a row, from byte a on
 abbrev pub every_second : ℕ → List ℕ → List ℕ → List ℕ
 every_second a xs ys = map (λ k. get_or (xs ++ ys) (2 * k + a) 0) (range_with_len 0 16)
 

@@ -56,7 +56,7 @@ pointed-more rate ps k bytes i x long inside is =
           ])
     ]
 
--- ---- and with the AU-4s that were chosen
+-- ---- pointer bytes and AU-4s that were chosen
 
 same_payload : (n : ℕ) (first second : List ℕ) (own : List (List ℕ)) (s : Source)
     → (au_from n first second own s).payload ≡ payload_from n first second own s

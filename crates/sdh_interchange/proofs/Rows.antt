@@ -25,7 +25,7 @@ all-assembled rate sources first second own ps old mid new whole long many chose
     pointed i inside ∙ ap (pointer_byte (n_of rate) (i % n_of rate + 1) (get_or ps (i % n_of rate) []) i) (chosen i inside)
     ∙ sym (assembled-byte rate sources first second own ps old i whole inside many)))
 
--- bytes of a frame that were handed out, where as many come back
+-- the bytes of a frame that were borrowed, where the same number of bytes comes back
 pub lent : (old new : List ℕ) → length new ≡ length old → take (length old) (new ++ drop (length new) old) ≡ new
 lent old new same =
     let none : drop (length new) old ≡ [] = drop_all (length new) old (omega arith) in

@@ -8,7 +8,7 @@ use Rattle.sdh_interchange.specs.declared.choose.Source.TheVariants.{First, Seco
 use Rattle.sdh_interchange.specs.Choosing.{is_passed, is_own, picked, picked_at}
 use Rattle.sdh_interchange.specs.Lanes.{IsPlain, IsExtra}
 
--- no element passes a test that none passes
+-- an element of a list in which none passes a test does not pass it
 pub none_at : (p : Source → Bool) (sources : List Source) (j : ℕ) → list_any p sources ≡ false → j < length sources
     → p (get_or sources j Ones) ≡ false
 none_at p sources j none h =

@@ -1,4 +1,4 @@
--- Two rows whose bytes take the first two turns of four each.
+-- Two rows whose bytes become the first two of each four lanes.
 use Rattle.std.proofs.Common.{◌≡◌, ℕ, ◌+◌, ◌*◌, ◌/◌, ◌%◌, ◌<◌, ◌≤◌, inl, inr, List, [], ◌∷◌, ◌++◌, length, get_or, map, ap, ◌∙◌, arith}
 use Rattle.std.specs.List.{range_with_len}
 use Rattle.std.proofs.lemmas.Bool.{cases_eq}
@@ -7,7 +7,7 @@ use Rattle.std.proofs.lemmas.List.FromFn.{get_or-map-range_with_len}
 use Rattle.sdh_interchange.specs.Tables.{cell}
 use Rattle.sdh_interchange.proofs.Turning.{by_turns, at_turn}
 
--- each two of eight lanes from lane s on, twice
+-- eight lanes from lane s on, pair by pair, each pair twice
 abbrev pub twice : ℕ → List ℕ → List ℕ
 twice s v = map (λ k. get_or (v ++ v) (s + (2 * (k / 4) + k % 2)) 0) (range_with_len 0 16)
 
@@ -18,7 +18,8 @@ in_twice s v j long few h =
     ∙ get_or_append_left v v 0 (s + (2 * (j / 4) + j % 2)) (omega arith)
 
 module _ (v : List (List ℕ)) (long : (i : ℕ) → i < 2 → length (get_or v i []) ≡ 16) where
-  -- from the half of the turns that begins at s, the eight from t on
+  -- a byte of the result: rows 0 and 1 are interleaved from lane s on, and of these bytes eight are taken from byte t
+  -- on
   in_turns : (s t k j : ℕ) (xs : List ℕ) → s ≤ 8 → t ≤ 8 → s + t / 2 ≡ 4 * k → t % 2 ≡ 0 → j < 16 → j % 4 < 2
       → get_or xs j 0 ≡ get_or (by_turns s (get_or v 0 []) (get_or v 1 [])) (t + (2 * (j / 4) + j % 2)) 0
       → get_or xs j 0 ≡ cell v (j % 4) (4 * k + j / 4)

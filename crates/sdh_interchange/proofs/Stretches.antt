@@ -52,7 +52,8 @@ no_pointers n i rate =
 scaled : (n a b : ℕ) → a ≤ b → n * a ≤ n * b
 scaled n a b h = mul-le n a n b (omega arith) h
 
--- sixteen bytes from a whole column on are whole columns, and so are the sixteen before
+-- the place a multiple of 16 bytes after the start of a column is the start of a column, and so is the place 16 bytes
+-- before
 pub whole_on : (n at k : ℕ) → (n ≡ 4) ⊎ (n ≡ 16) → at % n ≡ 0 → (at + 16 * k) % n ≡ 0
 whole_on n at k rate = by_rate (λ m. at % m ≡ 0 → (at + 16 * k) % m ≡ 0) n rate (λ h. omega arith) (λ h. omega arith)
 

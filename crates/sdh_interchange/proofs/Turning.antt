@@ -10,7 +10,7 @@ use Rattle.std.proofs.lemmas.List.{length-set, get_or-set_same, get_or-set_other
 use Rattle.std.proofs.lemmas.List.FromFn.{get_or-map-range_with_len}
 use Rattle.sdh_interchange.specs.Tables.{cell}
 
--- the lanes of two vectors by turns, from lane s of each on
+-- the lanes of two vectors interleaved, from lane s of each on
 abbrev pub by_turns : ℕ → List ℕ → List ℕ → List ℕ
 by_turns s a b = map (λ k. get_or (a ++ b) (s + k / 2 + 16 * (k % 2)) 0) (range_with_len 0 16)
 
@@ -86,7 +86,7 @@ module _ (n : ℕ) (rows own : List (List ℕ)) (v : List ℕ) (a from : ℕ) (m
         | inr other ↦ ap (λ l. get_or l k 0) (get_or-set_other rows a i _ [] other) ∙ done i k (omega arith) lt
       ]
 
--- two rows more of twice d
+-- two more of 2 d rows
 module _ (d : ℕ) (v out : List (List ℕ)) (i : ℕ) (h : i < d) (lanes : (k : ℕ) → k < 2 * d → length (get_or v k []) ≡ 16)
     (rows : length out ≡ 2 * d) where
   abbrev pub more : List (List ℕ)
@@ -154,7 +154,7 @@ module _ (d : ℕ) (v out : List (List ℕ)) (i : ℕ) (h : i < d) (lanes : (k :
         ]
       ]
 
--- the last eight lanes, in front
+-- the numbers of the last eight lanes, twice
 abbrev pub last : List ℕ
 last = 8 ∷ 9 ∷ 10 ∷ 11 ∷ 12 ∷ 13 ∷ 14 ∷ 15 ∷ 8 ∷ 9 ∷ 10 ∷ 11 ∷ 12 ∷ 13 ∷ 14 ∷ 15 ∷ []
 

@@ -35,28 +35,28 @@ pub record AreSources (n : ℕ) (sources : List Source) : Type 0 where
 
 -- ---- byte by byte
 
--- byte i of a frame with these payloads, whose pointer bytes are zeros
+-- byte i of a frame whose payloads are these and whose pointer bytes are zeros
 unfoldable pub own_byte : ℕ → List (List ℕ) → ℕ → ℕ
 own_byte n own i =
     if nat_le (9 * n) (i % (270 * n)) then slice_index (slice_index_or own (i % n) []) (261 * (i / (270 * n)) + (i % (270 * n) - 9 * n) / n)
     else 0
 
--- byte i of a frame, where it is of an AU-4 from this source
+-- byte i of a frame, where it belongs to an AU-4 from this source
 abbrev pub picked : ℕ → Source → List ℕ → List ℕ → List (List ℕ) → ℕ → ℕ
 picked n (First au) first second own i = slice_index first (i - i % n + (au - 1))
 picked n (Second au) first second own i = slice_index second (i - i % n + (au - 1))
 picked n (Own k) first second own i = own_byte n own (i - i % n + (k - 1))
 picked n Ones first second own i = 0xFF
 
--- byte i of a frame, where it is of an AU-4, by the sources of all AU-4s
+-- byte i of a frame, where it belongs to an AU-4, by the sources of all AU-4s
 abbrev pub picked_at : ℕ → List Source → List ℕ → List ℕ → List (List ℕ) → ℕ → ℕ
 picked_at n sources first second own i = picked n (slice_index_or sources (i % n) Ones) first second own i
 
--- whether byte i of a frame is of an AU-4
+-- whether byte i of a frame belongs to an AU-4
 abbrev pub is_au_byte : ℕ → ℕ → Bool
 is_au_byte n i = nat_le (9 * n) (i % (270 * n)) || (i / (270 * n) == 3)
 
--- ---- what a choice needs at all
+-- ---- which inputs a choice reads
 
 -- the source is an AU-4 of one of the two frames
 abbrev pub is_passed : Source → Bool
@@ -65,7 +65,7 @@ is_passed (Second au) = true
 is_passed (Own k) = false
 is_passed Ones = false
 
--- the source is a payload
+-- the source is an own payload
 abbrev pub is_own : Source → Bool
 is_own (First au) = false
 is_own (Second au) = false

@@ -13,7 +13,7 @@ IsLane n (Second au) j a b c o = (b ≡ j - j % n + (au - 1)) × (b < 16) × (a 
 IsLane n (Own k) j a b c o = (j ≡ j - j % n + (k - 1)) × (c ≡ 0xFF) × (a ≡ 128) × (b ≡ 128) × (o ≡ 0)
 IsLane n Ones j a b c o = (a ≡ 128) × (b ≡ 128) × (c ≡ 0) × (o ≡ 0xFF)
 
--- sixteen lanes, which keep bits of the first `upto` payloads, half of them or all
+-- sixteen lanes, one by one, which keep bits of the first `upto` payloads only: of half of the N payloads or of all
 pub record AreLanes (n : ℕ) (sources : List Source) (lanes : Lanes) : Type 0 where
   pub first_long : length lanes.first ≡ 16
   pub second_long : length lanes.second ≡ 16
@@ -36,7 +36,7 @@ pub record AreExtra (n : ℕ) (sources : List Source) (own : List (List ℕ)) (a
   pub long : length extra ≡ 16
   pub each : (j : ℕ) → j < 16 → IsExtra n (slice_index_or sources (j % n) Ones) own (at + j) (slice_index extra j)
 
--- byte i is of no own payload, or the byte of an own AU-4 there is zero
+-- byte i belongs to no own AU-4, or is a zero byte of one
 abbrev pub IsPlain : ℕ → Source → List (List ℕ) → ℕ → Type 0
 IsPlain n (First au) own i = Unit {0}
 IsPlain n (Second au) own i = Unit {0}

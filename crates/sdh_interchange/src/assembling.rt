@@ -25,7 +25,8 @@ fn point_all(frame: &mut FrameBuf, pointers: &[[u8; 9]])
     }
 }
 
-/// Sets the payloads of all AU-4s of a frame to those of their sources, and their pointer bytes. Overhead stays.
+/// Sets the payload of each AU-4 of a frame to that of its source, and its nine pointer bytes to `pointers`, in the
+/// order of the numbers of the AU-4s. Overhead stays.
 pub fn assemble(
     frame: &mut FrameBuf,
     choice: &Choice,

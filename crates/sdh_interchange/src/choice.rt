@@ -1,4 +1,4 @@
-//! Where all AU-4s of a frame come from, worked out once for all its bytes.
+//! Where all AU-4s of a frame come from, prepared once for all its bytes.
 ghost use Rattle.std.specs.Prelude.{◌≡◌, ℕ, ◌<◌, length, slice_index};
 ghost use Rattle.std.specs.List.{list_any};
 ghost use Rattle.sdh_frame.specs.Sizes.{size_of};
@@ -14,8 +14,8 @@ use sdh_ringmap::Rate;
 use std::fmt;
 use std::marker::Model;
 
-/// The sources of the AU-4s of a frame, in the order of their numbers, with what the pass over the frame needs to know
-/// of them.
+/// The sources of the AU-4s of a frame, in the order of their numbers, with what is derived from them for the pass over
+/// the frame.
 #[derive(Drop)]
 pub struct Choice<'a> {
     rate: Rate,
@@ -63,7 +63,8 @@ fn lanes_at(rate: Rate, sources: &[Source]) -> Lanes
 }
 
 impl<'a> Choice<'a> {
-    /// Returns a choice by which each AU-4 comes from its source.
+    /// Returns a choice by which each AU-4 comes from its source. `sources` has N sources, in the order of the numbers
+    /// of the AU-4s.
     pub fn new(rate: Rate, sources: &'a [Source]) -> Choice<'a>
         requires { AreSources (n_of rate) sources.now }
         ensures { result ≡ record { rate = rate; sources = sources.now } }
@@ -96,8 +97,8 @@ impl<'a> Choice<'a> {
         }
     }
 
-    // Sets the AU-4s to their sources, and leaves all else. It runs the code that is compiled for the rate, with N as a
-    // constant.
+    // Copies each AU-4 from its source, and leaves all other bytes. It runs the code that is compiled for the rate,
+    // with N as a constant.
     pub(crate) fn choose(&self, bytes: &mut [u8], inputs: &Inputs<'_>)
         requires size { length bytes.old ≡ size_of self.now.rate }
         requires first { length inputs.now.first.now ≡ size_of self.now.rate }

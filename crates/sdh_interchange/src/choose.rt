@@ -10,9 +10,9 @@ pub enum Source {
     First(u16),
     /// The AU-4 of this number of the second frame.
     Second(u16),
-    /// The payload of a node's own port for the AU-4 of this number, which has to be the AU-4's own number.
+    /// The payload that a node's own port sends. The number has to be that of the AU-4 itself.
     Own(u16),
-    /// No source: the AU-4 becomes ones.
+    /// No source: all bytes of the AU-4 become ones.
     Ones,
 }
 

@@ -1,15 +1,15 @@
 //! Lanes of vectors over whole columns. The AU-4s of a frame are interleaved byte by byte, so sixteen neighbouring
-//! bytes are one column of all AU-4s (STM-16) or four columns (STM-4). A lane of such a vector reads the same lane, or
-//! another one, of the vector at the same place in its source.
+//! bytes are one column of all AU-4s (STM-16) or four columns (STM-4). A lane whose source is a frame reads one lane of
+//! that frame's vector at the same place.
 ghost use Rattle.std.specs.Prelude.{◌≡◌, ℕ, ◌+◌, ◌*◌, ◌%◌, ◌<◌, ◌≤◌, ◌⊎◌, length, slice_index};
 ghost use Rattle.sdh_interchange.specs.Choosing.{IsSource, AreSources};
 ghost use Rattle.sdh_interchange.specs.Lanes.{IsLane, AreLanes};
 
 use crate::choose::Source;
 
-// For each lane of a vector: the lanes that it reads in the first frame and in the second, 128 for none; the bits that
-// it keeps of the same lane of the payloads; and the bits that it sets itself. Lanes keep bits of the first `upto`
-// payloads alone.
+// What each lane of a vector does. `first` and `second` have the lane that it reads in the first and the second frame,
+// 128 for none. `own` has the bits that it keeps of the same lane of the own payloads, and `more` the bits that it sets
+// itself. Lanes keep bits of the first `upto` payloads only.
 #[derive(Clone, Copy)]
 pub(crate) struct Lanes {
     pub(crate) first: [u8; 16],
@@ -37,7 +37,7 @@ fn lane_of<const N: usize>(j: usize, source: Source) -> (u8, u8, u8, u8)
     }
 }
 
-// Returns how many of the first payloads are enough, N / 2 or N: lanes keep bits of no payload after these.
+// Returns the number of first payloads that are enough, N / 2 or N. Lanes keep bits of no payload after these.
 #[inline(always)]
 fn upto_of<const N: usize>(own: &[u8; 16]) -> usize
     requires rate { (N ≡ 4) ⊎ (N ≡ 16) }

@@ -9,8 +9,8 @@ use std::simd::prelude::*;
 /// A payload of zeros.
 static ZEROS: [u8; 2349] = [0; 2349];
 
-/// The payloads of a node's own ports, by the numbers of the AU-4s that they go to, 1 to 16. For all other numbers
-/// there are payloads of zeros.
+/// The payloads of a node's own ports, 2349 bytes each, by the numbers of the AU-4s that they go to, 1 to 16. Where no
+/// port sends to a number, its payload is zeros.
 #[derive(Drop)]
 pub struct Payloads<'a> {
     pieces: [&'a [u8]; 16],
@@ -49,7 +49,7 @@ impl<'a> Payloads<'a> {
         Payloads { pieces }
     }
 
-    /// Sets the payload for the AU-4 of this number, 1 to 16.
+    /// Sets the payload, 2349 bytes, for AU-4 number `k`, 1 to 16.
     pub fn put(&mut self, k: u16, payload: &'a [u8])
         requires first { 1 ≤ k }
         requires last { k ≤ 16 }
@@ -60,7 +60,7 @@ impl<'a> Payloads<'a> {
         self.pieces[k as usize - 1] = payload;
     }
 
-    // Returns the same payloads.
+    // Returns a copy that refers to the same payloads.
     #[inline(always)]
     pub(crate) fn same(&self) -> Payloads<'a>
         ensures { result ≡ self.now }

@@ -22,7 +22,7 @@ pub(crate) struct Inputs<'a> {
     pub(crate) own: &'a Payloads<'a>,
 }
 
-/// What a pass over a row of a frame of N AU-4s reads: its inputs, the source of each AU-4, and what was worked out of
+/// What a pass over a row of a frame of N AU-4s reads: its inputs, the source of each AU-4, and what was derived from
 /// the sources. `passed` says whether an AU-4 comes from one of the two frames, and `owned` whether one has an own
 /// payload.
 #[derive(Drop)]
@@ -34,7 +34,8 @@ pub(crate) struct Pass<'a, const N: usize> {
     pub(crate) owned: bool,
 }
 
-// Returns the sixteen bytes from `at` on: what two frames give there by these lanes, with the bits of `extra` set too.
+// Returns the sixteen bytes from `at` on: the bytes that these lanes read in two frames, with the bits of `extra` set
+// too.
 #[inline(always)]
 fn merged(first: &[u8], second: &[u8], at: usize, lanes: &Lanes, extra: u8x16) -> u8x16
     requires first { at + 16 ≤ length first.now }
@@ -51,7 +52,8 @@ fn merged(first: &[u8], second: &[u8], at: usize, lanes: &Lanes, extra: u8x16) -
 
 // `READS` says whether the two frames are read. They have to be read where an AU-4 comes from one of them.
 impl<'a, const N: usize> Pass<'a, N> {
-    // Puts the sixteen bytes from `at` on: what the two frames give there, with the bits of `extra` set too.
+    // Writes the sixteen bytes from `at` on: the bytes that the lanes read in the two frames, with the bits of `extra`
+    // set too.
     #[inline(always)]
     fn store<const READS: bool>(&self, bytes: &mut [u8], at: usize, extra: u8x16)
         requires pass { IsPass N self.now }
@@ -71,8 +73,8 @@ impl<'a, const N: usize> Pass<'a, N> {
         }
     }
 
-    // Returns what the sixteen bytes from `at` on get besides the bytes of the two frames, where `column` has the bytes
-    // of the payloads there. Where no frame is read, each lane that has no own payload is ones.
+    // Returns what the sixteen bytes from `at` on get besides the bytes of the two frames. `column` has the bytes of
+    // the own payloads there. Where no frame is read, each lane without an own payload is ones.
     #[inline(always)]
     fn extra<const READS: bool>(&self, at: usize, column: u8x16) -> u8x16
         requires pass { IsPass N self.now }
@@ -90,8 +92,7 @@ impl<'a, const N: usize> Pass<'a, N> {
         column | u8x16::from_array(lanes.more)
     }
 
-    // Puts the bytes from `from` on and before `to`. They are of no own payload, or the byte of an own AU-4 there is
-    // zero.
+    // Writes the bytes from `from` on and before `to`. Each byte of an own payload there has to be zero.
     fn plain<const READS: bool>(&self, bytes: &mut [u8], from: usize, to: usize)
         requires pass { IsPass N self.now }
         requires reads { (READS ≡ true) ⊎ (self.now.passed ≡ false) }
@@ -111,7 +112,7 @@ impl<'a, const N: usize> Pass<'a, N> {
         self.store::<READS>(bytes, to - 16, more);
     }
 
-    // Puts sixteen columns from byte `at` on. The vectors `columns` have the bytes of the payloads there.
+    // Writes sixteen columns from byte `at` on. The vectors `columns` have the bytes of the own payloads there.
     #[inline(always)]
     fn put<const READS: bool>(&self, bytes: &mut [u8], at: usize, columns: &[u8x16])
         requires pass { IsPass N self.now }
@@ -129,7 +130,7 @@ impl<'a, const N: usize> Pass<'a, N> {
         }
     }
 
-    // Puts sixteen columns of row r, from payload column c on.
+    // Writes sixteen columns of row r, from payload column c on.
     #[inline(always)]
     fn block<const READS: bool>(&self, bytes: &mut [u8], r: usize, c: usize)
         requires pass { IsPass N self.now }
@@ -150,7 +151,7 @@ impl<'a, const N: usize> Pass<'a, N> {
         }
     }
 
-    // Puts row r of the payloads. Some of them are own payloads.
+    // Writes row r of the payloads, where some of them are own payloads.
     #[inline(always)]
     fn blocks<const READS: bool>(&self, bytes: &mut [u8], r: usize)
         requires pass { IsPass N self.now }
@@ -165,8 +166,8 @@ impl<'a, const N: usize> Pass<'a, N> {
         self.block::<READS>(bytes, r, 245);
     }
 
-    // Puts row r of the payloads as `blocks` does, over a copy of what is read for each block. Since nothing else knows
-    // the copy, the compiler need not read it again after each write to the frame.
+    // Writes row r of the payloads as `blocks` does, from a local copy of what is read for each block. Since nothing
+    // else refers to the copy, the compiler need not read it again after each write to the frame.
     fn copied_blocks<const READS: bool>(&self, bytes: &mut [u8], r: usize)
         requires pass { IsPass N self.now }
         requires reads { (READS ≡ true) ⊎ (self.now.passed ≡ false) }
@@ -190,7 +191,7 @@ impl<'a, const N: usize> Pass<'a, N> {
         pass.blocks::<READS>(bytes, r);
     }
 
-    // Puts row r of the payloads.
+    // Writes row r of the payloads.
     fn row<const READS: bool>(&self, bytes: &mut [u8], r: usize)
         requires pass { IsPass N self.now }
         requires reads { (READS ≡ true) ⊎ (self.now.passed ≡ false) }
@@ -207,7 +208,7 @@ impl<'a, const N: usize> Pass<'a, N> {
         }
     }
 
-    // Puts row r of the payloads. It reads the two frames only where an AU-4 comes from one of them.
+    // Writes row r of the payloads. It reads the two frames only where an AU-4 comes from one of them.
     fn any_row(&self, bytes: &mut [u8], r: usize)
         requires pass { IsPass N self.now }
         requires size { length bytes.old ≡ 2430 * N }
@@ -221,7 +222,7 @@ impl<'a, const N: usize> Pass<'a, N> {
         }
     }
 
-    // Puts the pointers, which are in row 3, counted from 0.
+    // Writes the pointer bytes, which are in row 3, counted from 0.
     fn pointers(&self, bytes: &mut [u8])
         requires pass { IsPass N self.now }
         requires size { length bytes.old ≡ 2430 * N }
@@ -232,7 +233,7 @@ impl<'a, const N: usize> Pass<'a, N> {
         self.plain::<true>(bytes, from, to);
     }
 
-    // Puts row r of all AU-4s, counted from 0, and in row 3 the pointers too.
+    // Writes row r of all AU-4s, counted from 0, and in row 3 the pointer bytes too.
     fn choose_row(&self, bytes: &mut [u8], r: usize)
         requires pass { IsPass N self.now }
         requires size { length bytes.old ≡ 2430 * N }
@@ -247,7 +248,7 @@ impl<'a, const N: usize> Pass<'a, N> {
         }
     }
 
-    // Puts all rows of all AU-4s, and the pointers.
+    // Writes all rows of all AU-4s, and the pointer bytes.
     pub(crate) fn choose(&self, bytes: &mut [u8])
         requires pass { IsPass N self.now }
         requires size { length bytes.old ≡ 2430 * N }

@@ -1,5 +1,5 @@
-//! Taking the payloads of half of the AU-4s out of a frame at once, sixteen columns at a time, each into cells of its
-//! own.
+//! Taking the payloads of half of the AU-4s out of a frame at once, sixteen columns at a time. Each payload goes into
+//! cells of its own.
 ghost use Rattle.std.specs.Prelude.{◌≡◌, ℕ, ◌+◌, ◌*◌, ◌-◌, ◌/◌, ◌<◌, ◌≤◌, ◌⊎◌, [], length, slice_index, slice_index_or};
 ghost use Rattle.sdh_frame.specs.Sizes.{size_of};
 ghost use Rattle.sdh_ringmap.specs.Rates.{n_of};
@@ -83,7 +83,7 @@ fn take_block<const N: usize>(bytes: &[u8], base: usize, r: usize, c: usize, out
 {
     let at = byte_of::<N>(270 * r + (9 + c));
     if N == 4 {
-        // From `here` on, lane `base` and the one after it are the last two lanes of each four.
+        // In the vectors from `here` on, the two AU-4s after the first `base` are the last two lanes of each four.
         let here = at + base - 2;
         let payloads = last_two(load::<4>(bytes, here));
         put_all(out, base, 261 * r + c, &payloads);
@@ -93,6 +93,7 @@ fn take_block<const N: usize>(bytes: &[u8], base: usize, r: usize, c: usize, out
     }
 }
 
+// Takes row r, counted from 0, of the payloads of the N / 2 AU-4s after the first `base`.
 #[inline(always)]
 fn take_row<const N: usize>(bytes: &[u8], base: usize, r: usize, out: &mut [Cells])
     requires rate { (N ≡ 4) ⊎ (N ≡ 16) }
@@ -108,6 +109,7 @@ fn take_row<const N: usize>(bytes: &[u8], base: usize, r: usize, out: &mut [Cell
     take_block::<N>(bytes, base, r, 245, out);
 }
 
+// Takes all rows of the payloads of the N / 2 AU-4s after the first `base`.
 #[inline(always)]
 fn take_rows<const N: usize>(bytes: &[u8], base: usize, out: &mut [Cells])
     requires rate { (N ≡ 4) ⊎ (N ≡ 16) }
@@ -136,7 +138,8 @@ fn take_half<const N: usize>(bytes: &[u8], base: usize, out: &mut [Cells])
     }
 }
 
-// Takes the payloads of half of the AU-4s, those after the first `base`. Each goes into the cells at its AU-4's place.
+// Takes the payloads of half of the AU-4s, those after the first `base`, which is 0 or N / 2. Each goes into the cells
+// at its AU-4's place.
 pub(crate) fn take(rate: Rate, bytes: &[u8], base: usize, out: &mut [Cells])
     requires base { (base ≡ 0) ⊎ (2 * base ≡ n_of rate) }
     requires size { length bytes.now ≡ size_of rate }

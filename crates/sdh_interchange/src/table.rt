@@ -5,8 +5,8 @@ ghost use Rattle.sdh_interchange.specs.Tables.{IsTable, cell};
 
 use std::simd::prelude::*;
 
-// Moves every element to another place. Row and lane of that place, as one number of eight bits, are those of the old
-// one rotated left by one bit.
+// Returns the table with every element moved to another place. Row and lane of a place, four bits each, make one number
+// of eight bits. The number of the new place is that of the old place, rotated left by one bit.
 #[inline(always)]
 fn turn(v: [u8x16; 16]) -> [u8x16; 16]
     requires { IsTable 16 v }
@@ -32,8 +32,8 @@ pub(crate) fn transpose(v: [u8x16; 16]) -> [u8x16; 16]
     turn(turn(turn(turn(v))))
 }
 
-// Moves every element of eight rows to another place. Row and lane of that place, as one number of seven bits, are
-// those of the old one rotated left by one bit.
+// Returns the table with every element moved to another place. Row and lane of a place, three and four bits, make one
+// number of seven bits. The number of the new place is that of the old place, rotated left by one bit.
 #[inline(always)]
 fn turn8(v: [u8x16; 8]) -> [u8x16; 8]
     requires { IsTable 8 v }
@@ -49,8 +49,8 @@ fn turn8(v: [u8x16; 8]) -> [u8x16; 8]
     out
 }
 
-// Returns a table of eight rows transposed. Each of its sixteen columns has eight bytes, and two of them share a
-// vector.
+// Returns a table of eight rows transposed. Each of its sixteen columns has eight bytes, and two columns share a vector
+// of the result.
 #[inline(always)]
 pub(crate) fn transpose8(v: [u8x16; 8]) -> [u8x16; 8]
     requires { IsTable 8 v }
@@ -60,7 +60,7 @@ pub(crate) fn transpose8(v: [u8x16; 8]) -> [u8x16; 8]
     turn8(turn8(turn8(v)))
 }
 
-// Returns the two columns that share each vector as vectors of their own. Only the first eight lanes of each count.
+// Returns the two columns that share each vector as two vectors. Only the first eight lanes of these count.
 #[inline(always)]
 pub(crate) fn apart(v: [u8x16; 8]) -> [u8x16; 16]
     requires { IsTable 8 v }
@@ -121,8 +121,8 @@ pub(crate) fn lanes_from(v: [u8x16; 16], base: usize) -> [u8x16; 8]
     }
 }
 
-// Moves every element of four rows to another place. Row and lane of that place, as one number of six bits, are those
-// of the old one rotated left by one bit.
+// Returns the table with every element moved to another place. Row and lane of a place, two and four bits, make one
+// number of six bits. The number of the new place is that of the old place, rotated left by one bit.
 #[inline(always)]
 fn turn4(v: [u8x16; 4]) -> [u8x16; 4]
     requires { IsTable 4 v }
@@ -144,7 +144,7 @@ pub(crate) fn transpose4(v: [u8x16; 4]) -> [u8x16; 4]
     turn4(turn4(v))
 }
 
-// Returns each pair of the first eight lanes twice.
+// Returns the first eight lanes, pair by pair, each pair twice.
 #[inline(always)]
 fn low_twice(v: u8x16) -> u8x16
     requires { length v ≡ 16 }
@@ -154,7 +154,7 @@ fn low_twice(v: u8x16) -> u8x16
     v.swizzle([0, 1, 0, 1, 2, 3, 2, 3, 4, 5, 4, 5, 6, 7, 6, 7])
 }
 
-// Returns each pair of the last eight lanes twice.
+// Returns the last eight lanes, pair by pair, each pair twice.
 #[inline(always)]
 fn high_twice(v: u8x16) -> u8x16
     requires { length v ≡ 16 }

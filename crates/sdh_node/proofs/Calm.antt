@@ -1,4 +1,5 @@
--- What the comparison of a calm round finds equal is equal, and a round that leaves all that is compared is calm.
+-- A calm round leaves all that is compared as it was, and a round that does so is calm, unless it is the first one or
+-- is held.
 use Rattle.std.proofs.Common.{◌≡◌, ℕ, ◌≤◌, Bool, true, false, refl, ap, ◌∙◌}
 use Rattle.std.specs.Prelude.{◌&&◌, not, nat_le}
 use Rattle.std.proofs.lemmas.Bool.{and_parts, leb-true, le-leb}
@@ -49,7 +50,7 @@ not_true : (b : Bool) → not b ≡ true → b ≡ false
 not_true true e = cc
 not_true false e = refl
 
--- a calm round isn't the node's first one, is no held turn, and leaves all that is compared
+-- a calm round isn't the node's first one, isn't held, and leaves all that is compared as it was
 pub calm_leaves : (now : ℕ) (n : Node) → (node_round now n).0.calm ≡ true
     → (1 ≤ n.rounds) × (is_held n ≡ false) × (compared (node_round now n).0 ≡ compared n)
 unfolding node_round with_calm
@@ -61,7 +62,7 @@ calm_leaves now n e =
       compared_same (compared (after_crossing (crossing now n) n)) (compared n) both.1,
     )
 
--- a later round that isn't held and leaves all that is compared is calm
+-- a round after the first one that isn't held and leaves all that is compared as it was is calm
 pub unchanged_is_calm : (now : ℕ) (n : Node) → 1 ≤ n.rounds → is_held n ≡ false → compared (node_round now n).0 ≡ compared n
     → (node_round now n).0.calm ≡ true
 unfolding node_round with_calm

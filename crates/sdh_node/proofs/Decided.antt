@@ -1,4 +1,4 @@
--- What a node decided in its last round, by what it needed and heard, and by whether the turn was held.
+-- What a node decided in its last round, by what it needed and heard, and by whether the round was held.
 use Rattle.std.proofs.Common.{◌≡◌, ℕ, ◌-◌, Bool, refl, ap, sym, ◌∙◌}
 use Rattle.std.specs.Prelude.{if◌then◌else◌}
 use Rattle.sdh_ringmap.specs.declared.Side.{Side}

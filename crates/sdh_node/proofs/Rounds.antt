@@ -1,4 +1,4 @@
--- What a round leaves for the next one, and what an arrival and a command keep of a node.
+-- What a round leaves for the next one, and what an arrival and a command leave of a node as it was.
 use Rattle.std.proofs.Common.{◌≡◌, ℕ, ◌+◌, Bool, true, false, List, [], ◌∷◌, refl, ap, ◌∙◌}
 use Rattle.std.specs.Prelude.{IsSome, find, ◌==◌, ◌&&◌}
 use Rattle.sdh_basics.specs.Indexed.{map_from}

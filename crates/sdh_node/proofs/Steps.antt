@@ -1,4 +1,4 @@
--- What a node's step asks for.
+-- Both receiving sides of a node meet what a step of the rules requires of them.
 use Rattle.std.proofs.Common.{◌≡◌, ◌≢◌, ℕ, ◌<◌, ◌≤◌, Bool, true, List, Option, None, length, refl, sym, subst, ◌∙◌}
 use Rattle.sdh_kbytes.specs.declared.K.{K}
 use Rattle.sdh_ringmap.specs.declared.terms.Code.{Code}

@@ -1,4 +1,4 @@
--- A round, by what each call of it made.
+-- A round of a node, from the results of the calls that it makes.
 use Rattle.std.proofs.Common.{◌≡◌, ℕ, ◌+◌, ◌-◌, Bool, List, ap, ◌∙◌}
 use Rattle.std.specs.Prelude.{◌&&◌, not, nat_le}
 use Rattle.sdh_frame.specs.Sizes.{Frame}
@@ -68,7 +68,7 @@ module _ (now : ℕ) (s : Settings) (rounds turns : ℕ) (x0 : Cross) (kept : Li
     unfolding crossing after_intakes after_decision next_word scene_of
     said_is side k o said word_is say = say ∙ ap (λ w. with_word w o) (word_is ∙ ap (λ y. next_word held y side o.word) take)
 
-    -- and sends
+    -- what a side that sends leaves for the next round
     sent_is : (side : Side) (k : K) (o said after : Sending) (qs : List Tributary) → k ≡ next_word held tk side o.word
         → said ≡ with_word k o → qs ≡ fs → after ≡ after_sending (input_at x (added_last qs) side) said
         → after ≡ after_sending (input_at (crossing now n) (added_by ports) side) (with_next_word held (crossing now n) side o)
@@ -96,7 +96,7 @@ module _ (now : ℕ) (s : Settings) (rounds turns : ℕ) (x0 : Cross) (kept : Li
 
       module _ (west_send : wa ≡ after_sending (input_at x (added_last wq) West) ws)
           (east_send : ea ≡ after_sending (input_at x (added_last eq) East) es) where
-        -- what the calls return is what is compared over the whole round
+        -- the results of the calls together show whether the round is calm
         pub calm_is : (ran taken kept wsaid wmade esaid emade : Bool) → ran ≡ (nat_le 1 rounds && not held)
             → taken ≡ (same_in (compared_in tk.west) (compared_in x0.west) && same_in (compared_in tk.east) (compared_in x0.east))
             → kept ≡ same_state x.state tk.state

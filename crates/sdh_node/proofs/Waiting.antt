@@ -1,4 +1,4 @@
--- Deliveries that wait at a node until somebody asks, by what its cross-connect keeps of the last round.
+-- Deliveries that wait at a node until they are asked for, by what its cross-connect keeps of the last round.
 use Rattle.std.proofs.Common.{◌≡◌, ℕ, ◌+◌, ◌≤◌, Bool, List, length, refl, subst}
 use Rattle.std.specs.List.{position}
 use Rattle.sdh_basics.proofs.CellsLaws.{length-map_from}

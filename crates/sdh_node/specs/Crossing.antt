@@ -1,5 +1,5 @@
 -- The cross-connect of a node in a round: both sides that receive and what they take in, the state, and where the state
--- leads what comes in (bridge and switch of shared protection rings: ITU-T G.841).
+-- connects what comes in (bridge and switch of shared protection rings: ITU-T G.841).
 use Rattle.std.specs.Prelude.{◌≡◌, ℕ, ◌+◌, ◌-◌, ◌/◌, ◌<◌, Bool, true, false, nat_le, if◌then◌else◌, Option, List, length}
 use Rattle.sdh_ringmap.specs.Rates.{n_of}
 use Rattle.sdh_ringmap.specs.declared.Pos.{Pos}
@@ -55,7 +55,7 @@ half_of x = n_of x.west.section.rate / 2
 
 -- ---- the round
 
--- both sides take what arrived, at that moment, and all interpreters read
+-- the cross-connect once both sides took what arrived, at the moment `now`, and all interpreters read it
 unfoldable pub after_intakes : ℕ → ℕ → Cross → Cross
 after_intakes threshold now x = record x {
   west = after_intake threshold now x.west;
@@ -88,7 +88,8 @@ scene_of x = scene x.ids x.at.0 (needs_of x) (heard_words x)
 unfoldable pub after_decision : Bool → Cross → Cross
 after_decision held x = record x { state = if held then x.state else state_after (scene_of x) }
 
--- the word that is sent on a side after the word k: the one of the rules, or k in a held round
+-- the word that is sent on a side where k was sent in the round before: the word of the rules, or k again in a held
+-- round
 unfoldable pub next_word : Bool → Cross → Side → K → K
 next_word held x side k = if held then k else word (scene_of x) side
 
@@ -124,14 +125,16 @@ lines_of x = record {
   east = record { readings = x.east.readings; intake = x.east_in };
 }
 
--- the feeder of AU-4 number au that leaves on a side, and that of what is dropped of slot m from a side
+-- `leads` is the feeder of AU-4 number au that leaves on a side. `drops` is the feeder of what is dropped from slot m
+-- of a side.
 unfoldable pub leads : Cross → Side → ℕ → Feeder
 leads x side au = feeder_of x (slot_of x au) (leaving x side au)
 
 unfoldable pub drops : Cross → Side → ℕ → Feeder
 drops x side m = feeder_of x m (stands_for (length x.ids) x.at (circuit_in x m) x.state side)
 
--- what goes into AU-4 number au that leaves on a side, and what is dropped of slot m from a side
+-- `input_at` is what goes into AU-4 number au that leaves on a side. `dropped_at` is what is dropped from slot m of a
+-- side.
 abbrev pub input_at : Cross → (PortId → Input) → Side → ℕ → Input
 input_at x added side au = all_fed_by (lines_of x) added (leads x side) au
 
@@ -140,7 +143,7 @@ dropped_at x side m = dropped_by (lines_of x) (drops x side m)
 
 -- ---- deliveries
 
--- what a port is to deliver: what is dropped of the slot of its circuit
+-- what a port is to deliver: what is dropped from the side and the slot of its circuit
 abbrev pub dropped_to : Cross → Tributary → Input
 dropped_to x t = dropped_at x t.side t.slot.0
 

@@ -34,7 +34,7 @@ pub record Node : Type 0 where
   pub ids : List ℕ
   pub at : Pos
   pub circuits : List Provisioned
-  -- how many rounds it has run
+  -- the number of rounds it has run
   pub rounds : ℕ
   -- both sides that receive
   pub west : Receiving
@@ -45,7 +45,7 @@ pub record Node : Type 0 where
   -- both sides that send
   pub west_out : Sending
   pub east_out : Sending
-  -- how many of the next rounds its controller misses
+  -- the number of the next rounds that its controller misses
   pub held : ℕ
   -- the last round was calm
   pub calm : Bool
@@ -114,7 +114,7 @@ slips_at id turn count n = record n { ports = with_slips id turn count n.ports }
 abbrev pub is_held : Node → Bool
 is_held n = nat_le 1 n.held
 
--- the cross-connect of the round: both sides took what arrived, and the state follows
+-- the cross-connect of the round: both sides took what arrived, and the state was decided from it
 unfoldable pub crossing : ℕ → Node → Cross
 crossing now n = after_decision (is_held n) (record {
   ids = n.ids;
@@ -127,7 +127,8 @@ crossing now n = after_decision (is_held n) (record {
   east_in = intake_of n.settings.threshold n.east;
 })
 
--- the ports in the round: what they deliver, in the new state, and the next bytes of each port's stream
+-- the ports after the round: each has delivered what the new state connects to it, and has taken the next bytes of its
+-- stream
 unfoldable pub ports_after : Cross → List Tributary → List Tributary
 ports_after x ports = all_fed (all_delivered x ports)
 
@@ -135,8 +136,8 @@ ports_after x ports = all_fed (all_delivered x ports)
 abbrev pub with_next_word : Bool → Cross → Side → Sending → Sending
 with_next_word held x side s = with_word (next_word held x side s.word) s
 
--- the node after a round with this cross-connect: all pointer generators, section overhead and scrambling; one of the
--- rounds that the controller misses is used up
+-- the node after a round with this cross-connect: each side has sent a frame, each port has sent and delivered, and one
+-- round fewer is left for the controller to miss
 unfoldable pub after_crossing : Cross → Node → Node
 after_crossing x n = record n {
   rounds = n.rounds + 1;
@@ -180,7 +181,7 @@ compared n = record {
 abbrev pub may_be_calm : Node → Bool
 may_be_calm n = nat_le 1 n.rounds && not (is_held n)
 
--- The node `new` after a round that found it as `old`. The round was calm where one ran before it, the controller
+-- The node `new` after a round, before which it was `old`. The round was calm where one ran before it, the controller
 -- didn't miss it, and it changed nothing of what is compared.
 unfoldable pub with_calm : Node → Node → Node
 with_calm old new = record new { calm = may_be_calm old && same_compared (compared new) (compared old) }
@@ -203,8 +204,8 @@ sending_on East n = n.east_out
 abbrev pub moment_of : Node → ℕ
 moment_of n = n.west.local.moment
 
--- what a round leaves for the next one: the settings and the ports, one round more, one round less to miss, and the
--- moment
+-- what a round leaves for the next one: the settings and the ports stay, one more round has run, the controller has one
+-- round fewer to miss, and the moment is that of the round
 pub record GoesOn (now : ℕ) (old new : Node) : Type 0 where
   pub settings : new.settings ≡ old.settings
   pub rounds : new.rounds ≡ old.rounds + 1

@@ -53,7 +53,7 @@ intake_of threshold r = record {
   actions = actions_by (is_some r.arrived) (n_of r.section.rate) (reception threshold r).bytes r.readings;
 }
 
--- the section overhead, the defect at that moment, the word and the local request
+-- the side once the section overhead was read: the defect at the moment `now`, the word and the local request
 unfoldable pub after_overhead : ℕ → ℕ → Receiving → Receiving
 after_overhead threshold now r = record r {
   arrived = None;
@@ -73,15 +73,15 @@ after_intake threshold now r =
 
 -- ---- between rounds
 
--- a command of one side
+-- a side after it was given this command
 abbrev pub commanded_by : Command → Receiving → Receiving
 commanded_by c r = record r { local = after_happening (commanded c) r.local }
 
--- a side on which this arrived, in place of what arrived since the last round
+-- a side after this arrived; it replaces what had arrived since the last round
 abbrev pub arrived_on : Arrival → Receiving → Receiving
 arrived_on a r = record r { arrived = Some a }
 
--- a change of what receives on a side: what it does on the west, and what it does on the east
+-- A change f of one side: `if_west` is what it does to the west side, and `if_east` what it does to the east side.
 abbrev pub if_west : Side → (Receiving → Receiving) → Receiving → Receiving
 if_west West f r = f r
 if_west East f r = r
@@ -99,6 +99,6 @@ pub record IsReceiving (r : Receiving) : Type 0 where
   pub silent : r.local.defect ≡ defect.Sf → hears r.brought ≡ None
   pub spellable : IfSome (hears r.brought) IsSpellable
 
--- of a side that receives, the part that frames and pointers need: what arrived, the parities and the interpreters
+-- the part of a receiving side that frames and pointers need: what arrived, the parities and the interpreters
 abbrev pub inlet_of : Receiving → Inlet
 inlet_of r = record { arrived = r.arrived; section = r.section; readings = r.readings }

@@ -1,4 +1,4 @@
--- What is compared between a round and the round before, and when it is as before.
+-- What is compared between a round and the round before, and when the two are equal.
 use Rattle.std.specs.Prelude.{ℕ, Bool, ◌&&◌, Option, List}
 use Rattle.sdh_kbytes.specs.Same.{same_code, same_word, same_heard}
 use Rattle.sdh_ringmap.specs.declared.terms.Code.{Code}

@@ -27,8 +27,8 @@ use std::alloc::{AllocError, Global};
 use std::marker::Model;
 
 /// One add-drop multiplexer of the ring. What its ports delivered in the last round waits in the frames that came in
-/// that round, and is taken out of them when somebody asks. Both frames, the interpreters and the state stay as the
-/// round left them until the next one.
+/// that round, and is taken out of them only when it is asked for. Both frames, the interpreters and the state stay as
+/// that round left them until the next one.
 #[derive(Debug, Drop)]
 pub struct Adm {
     settings: Settings,
@@ -90,8 +90,8 @@ impl Adm {
         self.cross.command(side, command);
     }
 
-    /// Holds the controller for the next `turns` rounds, in place of those left of an earlier call. In a held round the
-    /// node keeps its state and the words that it sends, and does everything else.
+    /// Holds the controller for the next `turns` rounds, 1 to 100, in place of those left of an earlier call. In a held
+    /// round the node keeps its state and the words that it sends, and does everything else.
     pub fn hold(&mut self, turns: u32)
         requires some { 1 ≤ turns }
         requires few { turns ≤ 100 }
@@ -101,8 +101,8 @@ impl Adm {
         self.held = turns;
     }
 
-    /// Adds `count` pending slips to the clock of the customer who sends at a port. Each is used up in a round of its
-    /// own, in which the port justifies its pointer.
+    /// Adds `count` pending slips to the clock of the customer who sends at a port. At most 16 may wait. Each is used
+    /// up in a round of its own, in which the port justifies its pointer.
     pub fn slip(&mut self, port: PortId, turn: Turn, count: u8)
         requires there { HasPort self.old.ports port }
         requires few { waiting_of port self.old.ports + count ≤ 16 }
@@ -112,7 +112,7 @@ impl Adm {
         self.ports.slip(port, turn, count);
     }
 
-    /// Returns how many slips wait at a port.
+    /// Returns the number of slips that wait at a port, 0 to 16.
     pub fn waiting(&self, port: PortId) -> u8
         requires { HasPort self.now.ports port }
         ensures waiting { result ≡ waiting_of port self.now.ports }
@@ -152,7 +152,7 @@ impl Adm {
     }
 
     /// Takes what each port of the node delivered in the last round out of the frames in which it waits. Before the
-    /// first round it is AIS. It takes no memory.
+    /// first round that is AIS. The function takes no memory.
     pub fn deliver(&self, taken: &mut TakenPair, outlets: &mut Outlets)
         requires { length outlets.old ≡ length self.now.ports }
         ensures { outlets.new ≡ outlets_of self.now.ports }
@@ -160,7 +160,7 @@ impl Adm {
         deliver_ports(&self.cross, &self.ports, taken, outlets);
     }
 
-    /// Returns what a port of the node delivered in the last round, of what all its ports delivered.
+    /// Returns what one port of the node delivered in the last round. `outlets` has what all its ports delivered in it.
     pub fn outlet<'a>(&self, port: PortId, outlets: &'a Outlets) -> &'a Outlet
         requires there { HasPort self.now.ports port }
         requires outlets { outlets.now ≡ outlets_of self.now.ports }
@@ -177,8 +177,8 @@ impl Adm {
         self.cross.state()
     }
 
-    /// Returns the word sent on a side in the last round. Before the first round it is the word that asks the neighbour
-    /// for nothing.
+    /// Returns the word sent on a side in the last round. Before the first round it is the idle word to the neighbour,
+    /// without a request.
     pub fn sent_k(&self, side: Side) -> K
         ensures word { result ≡ (sending_on side self.now).word }
         ensures to { result.to ≤ 15 }
@@ -190,14 +190,14 @@ impl Adm {
         }
     }
 
-    /// Returns the local request of a side in the last round, and no request before the first.
+    /// Returns the local request of a side in the last round, or `Nr` before the first.
     pub fn request(&self, side: Side) -> Code
         ensures { result ≡ (receiving_on side self.now).request }
     {
         self.cross.receiver(side).request()
     }
 
-    /// Returns the identifier of the far end, where the node switches one side and has one.
+    /// Returns the identifier of the far end, 0 to 15, where the node switches one side and its switch has a far end.
     pub fn far_id(&self) -> Option<u8>
         ensures { result ≡ option_map (λ (p : Pos). get_or self.now.ids p.0 0) (far_of self.now.state) }
     {
@@ -212,16 +212,17 @@ impl Adm {
         self.cross.receiver(side).heard()
     }
 
-    /// Returns whether the last round was no held round and changed nothing: no word sent or heard, no state, far end,
-    /// local request, interpreter or generator. The first round isn't calm.
+    /// Returns whether the last round was calm. In a calm round the controller isn't held, and these stay as they were:
+    /// the words sent and heard, the state with its far end, the local requests, and the pointer interpreters and
+    /// generators. The first round isn't calm.
     pub fn calm(&self) -> bool
         ensures { result ≡ self.now.calm }
     {
         self.calm
     }
 
-    /// Runs one round at a moment: what arrived is read, the state and the words follow, and a frame goes out on each
-    /// side. What the ports deliver waits until somebody asks. It takes no memory.
+    /// Runs one round at a moment: it reads what arrived, decides the state and the words, and writes a frame for each
+    /// side. What the ports deliver waits until it is asked for. It takes no memory.
     #[tactic(auto, unfolding(crate::specs::Node::node_round))]
     pub fn send(&mut self, now: Moment, west: &mut FrameBuf, east: &mut FrameBuf)
         requires west { west.old.rate ≡ self.old.settings.rate }
@@ -267,8 +268,8 @@ impl Adm {
     }
 }
 
-// The signs by which a round is calm. `counts` says whether it may be calm at all. Each other sign says of one call
-// whether what it compares is as before.
+// What decides whether a round is calm. `counts` says whether it may be calm at all. Each other field is the result of
+// one call: whether what that call compares is as before.
 #[derive(Drop)]
 struct Signs {
     counts: bool,

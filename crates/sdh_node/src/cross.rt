@@ -31,7 +31,7 @@ use sdh_terminal::{Feeder, Intake, Matrix, Outlets, TakenPair, Tributaries};
 use std::alloc::{AllocError, Global};
 use std::marker::Model;
 
-/// Both sides that receive, the state, and what decides where the state leads the AU-4s that arrive.
+/// Both sides that receive, the state, and the squelch table by which the state connects the AU-4s that arrive.
 #[derive(Debug, Drop)]
 pub struct CrossConnect {
     map: RingMap,
@@ -106,7 +106,7 @@ impl CrossConnect {
         }
     }
 
-    /// Keeps what arrived on a side.
+    /// Keeps what arrived on a side for the next round.
     pub fn receive(&mut self, side: Side, arrived: Arrived, frame: &FrameBuf)
         requires { frame.now.rate ≡ self.old.west.section.rate }
         ensures cross { self.new ≡ at_side side (arrived_on (as_arrival arrived frame.now.bytes)) self.old }
@@ -118,8 +118,8 @@ impl CrossConnect {
         }
     }
 
-    /// Keeps what arrived on a side, but without a copy: the buffer in which the frame landed is exchanged for another
-    /// one.
+    /// Keeps what arrived on a side for the next round, without a copy: the buffer in which the frame landed is
+    /// exchanged for another one.
     pub fn receive_landed(&mut self, side: Side, arrived: Arrived, inbox: &mut Landed)
         requires rate { inbox.old.rate ≡ self.old.west.section.rate }
         requires here { arrived ≡ Arrived.Frame → inbox.old.landed ≢ None }
@@ -135,8 +135,9 @@ impl CrossConnect {
         }
     }
 
-    /// Lets both sides take what arrived, and the interpreters read. Returns whether the requests, the words heard and
-    /// what the interpreters keep are as before.
+    /// Lets both sides take what arrived, and the interpreters read it. Returns whether the local requests, the words
+    /// heard and what the interpreters keep are as before. A side is degraded where B2 has at least `threshold`
+    /// violations.
     #[tactic(auto, unfolding(crate::specs::Crossing::after_intakes))]
     pub fn take(&mut self, threshold: u16, now: Moment) -> bool
         requires west { self.old.west.local.moment ≤ now.0 }
@@ -227,7 +228,7 @@ impl CrossConnect {
         }
     }
 
-    // Returns the feeder of an AU-4 whose bytes come from an origin in a slot.
+    // Returns the feeder of an AU-4 whose bytes come from an origin in a slot, 1 to N / 2.
     fn feeder_of(&self, slot: u16, origin: Origin) -> Feeder
         requires first { 1 ≤ slot }
         requires last { slot ≤ half_of self.now }
@@ -299,7 +300,7 @@ impl Matrix for CrossConnect {
     }
 }
 
-/// Each port delivers what the node's state leads to it.
+/// Delivers to each port what the node's state connects to it. `outlets` has room for each port.
 pub fn deliver_ports(
     cross: &CrossConnect,
     ports: &Tributaries,

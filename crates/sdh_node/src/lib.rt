@@ -1,5 +1,6 @@
-//! One add-drop multiplexer of the ring: it reads whole frames from both sides, decides by the K words, the defects and
-//! the commands what it bridges, switches or squelches, delivers to its ports and sends a whole frame on each side.
+//! One add-drop multiplexer of the ring. It reads a whole frame from each side. From the words of the K bytes, the
+//! defects and the commands it decides what it bridges, switches or squelches. It delivers to its ports, and sends a
+//! whole frame on each side.
 //!
 //! The round is `node_round` in `specs/Node.antt`.
 #![tactic(auto)]

@@ -24,7 +24,8 @@ use sdh_terminal::{Inlet, Intake};
 use std::alloc::{AllocError, Global};
 use std::marker::Model;
 
-/// One side that receives: what arrived and the interpreters, the local request and the words.
+/// One side that receives: what arrived, the pointer interpreters, the local request, and the filter of the words that
+/// came.
 #[derive(Debug, Drop)]
 pub struct Receiver {
     inlet: Inlet,
@@ -56,7 +57,7 @@ impl Receiver {
         })
     }
 
-    /// Keeps what arrived for the next round, in place of what arrived since the last one.
+    /// Keeps what arrived for the next round. It replaces what had arrived since the last one.
     pub fn receive(&mut self, arrived: Arrived, frame: &FrameBuf)
         requires { frame.now.rate ≡ self.old.section.rate }
         ensures side { self.new ≡ arrived_on (as_arrival arrived frame.now.bytes) self.old }
@@ -111,8 +112,9 @@ impl Receiver {
         same
     }
 
-    /// Takes what arrived, at a moment, and lets the interpreters read. Returns whether the local request, the word
-    /// heard and what the interpreters keep are as before.
+    /// Takes what arrived, at a moment, and lets the interpreters read it. Returns whether the local request, the word
+    /// heard and what the interpreters keep are as before. The side is degraded where B2 has at least `threshold`
+    /// violations.
     #[tactic(auto, unfolding(crate::specs::Receiving::after_intake, crate::specs::Receiving::intake_of, crate::specs::Receiving::after_overhead, crate::specs::Receiving::reception, sdh_terminal::specs::Receiving::taken_in, sdh_terminal::specs::Receiving::after_taking))]
     pub fn take(&mut self, threshold: u16, now: Moment, intake: &mut Intake) -> bool
         requires later { self.old.local.moment ≤ now.0 }
@@ -139,7 +141,7 @@ impl Receiver {
         self.request
     }
 
-    /// Returns the word heard in the last round.
+    /// Returns the word heard in the last round, if one was.
     pub fn heard(&self) -> Option<K>
         ensures value { result ≡ hears self.now.brought }
         ensures side { IsReceiving self.now }
@@ -154,7 +156,7 @@ impl Receiver {
         matches!(self.local.defect(), Defect::Sf)
     }
 
-    /// Returns the value of the interpreter of an AU-4.
+    /// Returns the pointer value, 0 to 782, of the interpreter of AU-4 number `au`, 1 to N.
     pub fn value(&self, au: u16) -> u16
         requires first { 1 ≤ au }
         requires last { au ≤ n_of self.now.section.rate }

@@ -1,4 +1,4 @@
--- A node on the bench: what records do with it, and what is written for a round.
+-- A node that runs alone, on the bench: what records do with it, and what is written for a round.
 use Rattle.std.specs.Prelude.{◌≡◌, ℕ, ◌+◌, ◌-◌, ◌*◌, ◌≤◌, nat_lt, if◌then◌else◌, List, [], ◌∷◌, ◌++◌, length, codes, decimal}
 use Rattle.std.specs.Prelude.{Option, Some, None}
 use Rattle.std.specs.Option.{option_map_or}
@@ -51,16 +51,16 @@ new_bench m id at plan = record {
   node = new_node plan.settings plan.nodes plan.circuits at;
 }
 
--- ---- what is told to it
+-- ---- what a record gives the node
 
--- why it can't be done, if it can't: a moment goes back, or more than 16 slips would wait at a port
+-- why the node can't be given this, if it can't: the moment goes back, or more than 16 slips would wait at a port
 unfoldable pub refusal_of : Bench → Told → Option Reason
 refusal_of b (told.Command side c) = None
 refusal_of b (told.Moment m) = if nat_lt m.0 b.moment then Some reason.MomentBack else None
 refusal_of b (told.Hold turns) = None
 refusal_of b (told.Slip port turn count) = if nat_lt 16 (waiting_of port b.node.ports + count) then Some reason.Slips else None
 
--- what it does
+-- the bench after the node was given this
 unfoldable pub after_told : Told → Bench → Bench
 after_told (told.Command side c) b = record b { node = at_receiving side (commanded_by c) b.node }
 after_told (told.Moment m) b = record b { moment = m.0 }
@@ -75,25 +75,25 @@ size_after rate came.Nothing = 0
 size_after rate came.Dark = 0
 size_after rate came.Frame = size_of rate
 
--- the node once this came on a side, with these bytes in a frame
+-- the node after this came on a side; where it is a frame, `bytes` are its bytes
 unfoldable pub after_coming : Side → Came → List ℕ → Node → Node
 after_coming side came.Nothing bytes n = n
 after_coming side came.Dark bytes n = at_receiving side (arrived_on None) n
 after_coming side came.Frame bytes n = at_receiving side (arrived_on (Some bytes)) n
 
--- once this came on both sides
+-- the bench after this came on both sides
 abbrev pub with_arrivals : Came → List ℕ → Came → List ℕ → Bench → Bench
 with_arrivals west from_west east from_east b =
     record b { node = after_coming East east from_east (after_coming West west from_west b.node) }
 
--- the round that finds the node so
+-- the bench after a round, and the frames of the round, by the bench before it
 abbrev pub after_round : Bench → Bench
 after_round b = record b { node = (node_round b.moment b.node).0 }
 
 abbrev pub frames_in : Bench → Frames
 frames_in b = (node_round b.moment b.node).1
 
--- ---- what is written for it
+-- ---- what is written for a round
 
 -- what a port delivered in the last round
 abbrev pub outlet_text : List ℕ → PortId → Outlet → List ℕ
@@ -103,7 +103,7 @@ outlet_text name port o = port_line name port.end o.delivered o.value
 abbrev pub port_text : Node → Pos → ℕ → Provisioned → List ℕ
 port_text n at number c = option_map_or (λ port. outlet_text c.name port (outlet_of port n.ports)) (port_here at number c) []
 
--- the lines of the ports of these circuits, which are counted from `number`
+-- the lines of the ports of these circuits; the first circuit has this number
 abbrev pub ports_from : Node → Pos → ℕ → List Provisioned → List ℕ
 ports_from n at number [] = []
 ports_from n at number (c ∷ cs) = port_text n at number c ++ ports_from n at (number + 1) cs
@@ -112,7 +112,7 @@ ports_from n at number (c ∷ cs) = port_text n at number c ++ ports_from n at (
 unfoldable pub lines_of : Bench → List ℕ
 lines_of b = signal_line (b.node.rounds - 1) b.id (shown_of b.node) ++ ports_from b.node b.at 0 b.circuits
 
--- this number of bytes follows
+-- the line that says that this number of bytes follows
 abbrev pub count_line : ℕ → List ℕ
 count_line count = codes "bytes " ++ decimal count ++ codes "\n"
 
@@ -124,7 +124,7 @@ abbrev pub frames_if : Mode → Frames → List ℕ
 frames_if mode.Lines f = []
 frames_if mode.Frames f = frames_text f
 
--- the answer to the round that finds the node so
+-- the answer to a round, by the bench before it
 unfoldable pub answer_to : Bench → List ℕ
 answer_to b = lines_of (after_round b) ++ frames_if b.mode (frames_in b)
 

@@ -10,24 +10,26 @@ use Rattle.sdh_node_cli.specs.declared.ending.Ending.TheVariants as ending
 use Rattle.sdh_node_cli.specs.declared.ending.Flaw.{Flaw}
 use Rattle.sdh_node_cli.specs.declared.ending.Flaw.TheVariants as flaw
 
--- the number of what is wrong with a record: that of a step's reason, or one of the program's own
+-- the number of what is wrong with a record: that of the reason for which a step is refused, or one of the program's
+-- own
 abbrev pub flaw_number : Flaw → ℕ
 flaw_number (flaw.Said reason) = reason_number reason
 flaw_number flaw.Cut = 32
 flaw_number flaw.Long = 33
 flaw_number flaw.Many = 34
 
--- the number with which the program ends
+-- the exit status of the program
 abbrev pub number_of : Ending → ℕ
 number_of ending.NoSuchNode = 15
 number_of (ending.BadRecord f number) = 17
 number_of (ending.Shared how) = status.number_of how
 
--- the record of this number can't be done, for the reason of that number
+-- the last line for a record that can't be done: `why` is the number of the reason, and `number` that of the record
 abbrev pub bad_record_text : ℕ → ℕ → List ℕ
 bad_record_text why number = codes "bad record " ++ decimal why ++ codes " at " ++ decimal number ++ codes "\n"
 
--- records are counted from 1; what stands before them is number 0
+-- the last line for a record that can't be done, by what is wrong with it; records are counted from 1, and the plan
+-- before them is number 0
 abbrev pub bad_record_line : Flaw → ℕ → List ℕ
 bad_record_line f number = bad_record_text (flaw_number f) number
 

@@ -10,16 +10,16 @@ use Rattle.sdh_node_cli.specs.Bench.{Bench}
 use Rattle.sdh_node_cli.specs.Streams.{Given, AreGiven, stream_of, fewest}
 use Rattle.sdh_node_cli.specs.Outcome.{StopsAfter}
 
--- Where bytes were read up to a record that wasn't done, they alone tell which records were done, and what was read
--- behind them: there is no other way to read them.
+-- The bytes that were read, up to a record that wasn't done, determine which records were done and which bytes were
+-- read after these. There is no other way to split them.
 abbrev pub RecordsAreTold : Type 0
 RecordsAreTold =
     (b : Bench) (one other : List Given) (first second : List ℕ) (why how : Stop) (left now : Option (List ℕ))
     → AreGiven b one → AreGiven b other → StopsAfter b one why first left → StopsAfter b other how second now
     → stream_of one ++ first ≡ stream_of other ++ second → (one ≡ other) × (first ≡ second)
 
--- A record has at least the fewest bytes of each front of its line. So where as many are asked for as are lacking to
--- them, no record that can still come lacks one of those, and none behind a record is asked for.
+-- A record has at least `fewest front` bytes, for each front of its line. So where only the bytes that this number
+-- still lacks are asked for, no byte after a record is asked for.
 abbrev pub RecordsAreLong : Type 0
 RecordsAreLong =
     (circuits : List Provisioned) (at : Pos) (front rest : List ℕ) (r : Record) → record_of circuits at (front ++ rest) ≡ Ok r

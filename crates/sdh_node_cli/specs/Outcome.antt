@@ -1,4 +1,4 @@
--- How a call of the program ends: each ending, when it is answered, the text that goes with it, and what was read by
+-- How a call of the program ends: each ending, when it is returned, the text that goes with it, and what was read by
 -- then.
 use Rattle.std.specs.Prelude.{ℕ, ◌≡◌, ◌⊎◌, ◌+◌, ◌<◌, List, [], ◌++◌, length, codes, Option, Some, None}
 use Rattle.std.specs.Io.KnownBytes.{Consumes, IsAtEnd}
@@ -31,7 +31,7 @@ usage = codes "usage: sdhnode ID, frames, lines"
 
 -- ---- the plan
 
--- the source had a document and the line that ends it, these were read and nothing more, and the document is that of
+-- the source had a document and the line that ends it; these and no more bytes were read; and the document is that of
 -- this plan
 pub record HasHead (left now : Option (List ℕ)) (plan : Planned) : Type 0 where
   pub document : List ℕ
@@ -41,12 +41,12 @@ pub record HasHead (left now : Option (List ℕ)) (plan : Planned) : Type 0 wher
 
 -- ---- what was read where there is no plan
 
--- no line ends it
+-- the bytes that were read have no line that ends a plan
 pub record HasNoHead (left now : Option (List ℕ)) (bytes : List ℕ) : Type 0 where
   pub none : HasNoEnd bytes
   pub read : Consumes left now bytes
 
--- a document, which is refused with this status
+-- a document was read, and it is refused with this status
 pub record HasBadHead (left now : Option (List ℕ)) (how : Status) : Type 0 where
   pub document : List ℕ
   pub first : IsDocument document
@@ -68,32 +68,32 @@ IsNoPlan document (none.Refused status.NotToml) = HasNoPlan document status.NotT
 IsNoPlan document (none.Refused (status.BadPlan number place)) = HasNoPlan document (status.BadPlan number place)
 IsNoPlan document (none.Refused how) = ⊥
 
--- how the program ends where there is no plan; with a lack of memory there is no outcome
+-- how the program ends where there is no plan; out of memory isn't an outcome
 abbrev pub refusal_of : NoHead → Option Ending
 refusal_of none.Memory = None
 refusal_of none.Cut = Some (ending.BadRecord flaw.Cut 0)
 refusal_of (none.Refused how) = Some (ending.Shared how)
 
--- why there is no plan; a lack of memory needs no reason
+-- why there is no plan, by what was read; out of memory needs no reason
 abbrev pub TellsNone : Option (List ℕ) → Option (List ℕ) → NoHead → Type 0
 TellsNone left now none.Memory = Unit {0}
 TellsNone left now none.Cut = (bytes : List ℕ) × HasNoHead left now bytes × IsAtEnd now
 TellsNone left now (none.Refused how) = RefusesHead left now how
 
--- ---- records, one after the other, behind these bytes
+-- ---- records, one after the other, after the bytes `head`
 
--- as many records were done as may be, and nothing more was read
+-- the most records that may be done were done, and nothing was read after them
 pub record IsFull (records : List Given) (why : Stop) (tail : List ℕ) : Type 0 where
   pub many : why ≡ stop.Bad flaw.Many
   pub all : length records ≡ records_max
   pub unread : tail ≡ []
 
--- why no record more was done after these, where this was read of the next one
+-- why no more records were done after these; `tail` is what was read of the next one
 abbrev pub StopsAfter : Bench → List Given → Stop → List ℕ → Option (List ℕ) → Type 0
 StopsAfter b records why tail now =
     ((length records < records_max) × StopsSo (after_all b records) why tail now) ⊎ IsFull records why tail
 
--- records were done up to one that isn't, which has this number, and their answers are this text
+-- records were done up to one that wasn't, whose number is `number`, and their answers are `text`
 pub record Served (b : Bench) (head : List ℕ) (left now : Option (List ℕ)) (number : ℕ) (why : Stop) (text : List ℕ) : Type 0 where
   pub records : List Given
   pub are : AreGiven b records
@@ -103,8 +103,8 @@ pub record Served (b : Bench) (head : List ℕ) (left now : Option (List ℕ)) (
   pub so : StopsAfter b records why tail now
   pub text_is : text ≡ answers b records
 
--- A write failed in the answer to a record after some: a front of the answers was written, and nothing more was read
--- than that record.
+-- After some records a write failed in the answer to the next one. A front of the answers was written, and nothing was
+-- read after that record.
 pub record CutShort (b : Bench) (head : List ℕ) (left now old_text new_text : Option (List ℕ)) : Type 0 where
   pub records : List Given
   pub are : AreGiven b records
@@ -115,7 +115,7 @@ pub record CutShort (b : Bench) (head : List ℕ) (left now old_text new_text : 
 
 -- ---- an outcome
 
--- how the program ends where no record more is done
+-- how the program ends where no more records are done
 abbrev pub ending_of : Stop → ℕ → Ending
 ending_of stop.Done number = ending.Shared status.Ok
 ending_of (stop.Bad f) number = ending.BadRecord f number
@@ -129,7 +129,7 @@ pub record HasNoNode (ask : Ask) (plan : Planned) (head : List ℕ) (left now : 
   pub how_is : how ≡ ending.NoSuchNode
   pub text_is : text ≡ line_of how
 
--- the records were done for the node, up to one that isn't
+-- the records were done for the node, up to one that wasn't
 pub record HasServed (ask : Ask) (plan : Planned) (head : List ℕ) (left now : Option (List ℕ)) (how : Ending) (text : List ℕ) : Type 0 where
   pub at : Pos
   pub found : found_at plan.nodes ask.id ≡ Some at
@@ -159,8 +159,8 @@ pub record HasPlan (ask : Ask) (left now : Option (List ℕ)) (how : Ending) (te
   pub plan_is : TellsPlan document plan
   pub of_plan : OfPlan ask plan (document ++ end_of_plan) left now how text
 
--- What is asked, if anything, comes to this ending, with this text, and of the source this was read. No outcome is a
--- write fault or a lack of memory: each may stand in place of one.
+-- What is asked, if anything, leads to this ending with this text, and the source goes from `left` to `now`. A write
+-- fault and out of memory aren't outcomes: either may come in place of any outcome.
 abbrev pub IsOutcome : Option Ask → Option (List ℕ) → Option (List ℕ) → Ending → List ℕ → Type 0
 IsOutcome None left now how text = (how ≡ ending.Shared status.Usage) × (text ≡ own_line usage) × (now ≡ left)
 IsOutcome (Some ask) left now how text = HasRefused left now how text ⊎ HasPlan ask left now how text
@@ -184,14 +184,14 @@ MayBeCut (Some ask) left now old_text new_text = IsCutShort ask left now old_tex
 
 -- ---- what was written
 
--- when this ending was answered for the node of a plan, whose records came after these bytes
+-- when this ending was returned for the node of a plan, where the records came after the bytes `head`
 abbrev pub TellsPlanned : Ask → Planned → List ℕ → Option (List ℕ) → Option (List ℕ) → Ending → Option (List ℕ) → Option (List ℕ) → Type 0
 TellsPlanned ask plan head left now how old_text new_text =
     TellsWith bench_endings (λ h text. OfPlan ask plan head left now h text) (IsCutPlan ask plan head left now old_text new_text) how
     old_text new_text
 
--- The whole text of an outcome; or, where a write failed, fewer bytes from the front of one, or of the answers to the
--- records so far; or nothing, where there was no memory.
+-- What was written is the whole text of an outcome. Where a write failed, it is fewer bytes: a front of that text, or
+-- of the answers to the records so far. Out of memory, it is nothing.
 abbrev pub Tells : Option Ask → Option (List ℕ) → Option (List ℕ) → Ending → Option (List ℕ) → Option (List ℕ) → Type 0
 Tells asked left now how old_text new_text =
     TellsWith bench_endings (λ h text. IsOutcome asked left now h text) (MayBeCut asked left now old_text new_text) how old_text new_text

@@ -1,5 +1,5 @@
--- The records of a stream, by their lines: the steps of a plan without the node, and rounds. All this is this project's
--- own.
+-- The records of a stream, by their lines: the steps of a plan, without the word that names the node, and rounds. All
+-- this is this project's own.
 use Rattle.std.specs.Prelude.{◌≡◌, ℕ, ◌+◌, ◌≤◌, Bool, true, false, ◌==◌, if◌then◌else◌, List, [], ◌∷◌, codes, Option, Some, None, option_map}
 use Rattle.std.specs.Prelude.{Result, Ok, Err, slice_get}
 use Rattle.std.specs.List.{list_any}
@@ -28,7 +28,7 @@ use Rattle.sdh_node_cli.specs.declared.record.Told.TheVariants as told
 
 -- ---- words
 
--- what a word says that came on a side
+-- what came on a side, by its word
 abbrev pub came_at : List ℕ → Option Came
 came_at word =
     if bytes_eq word (codes "none") then Some came.Nothing
@@ -40,16 +40,16 @@ came_at word =
 abbrev pub end_here : Pos → Provisioned → Option End
 end_here at c = if c.from.0 == at.0 then Some A else if c.to.0 == at.0 then Some B else None
 
--- the port at a position of the circuit of this number
+-- the port that the circuit of this number has at a position
 abbrev pub port_here : Pos → ℕ → Provisioned → Option PortId
 port_here at number c = option_map (port_id number) (end_here at c)
 
--- the port at a position of the circuit whose name the word is
+-- the port that a circuit has at a position; the word is the name of the circuit
 unfoldable pub own_port : List Provisioned → Pos → List ℕ → Option PortId
 own_port circuits at word =
     option_and_then (λ number. option_and_then (port_here at number) (slice_get circuits number)) (circuit_named circuits word)
 
--- what is there, or why there is nothing
+-- the value, or this reason where there is none
 abbrev pub or_why : {X : Type 0} → Reason → Option X → Result X Reason
 or_why why (Some x) = Ok x
 or_why why None = Err why
@@ -81,7 +81,7 @@ moment_in others = when_ok (λ number. what.Told (told.Moment (record { 0 = numb
 abbrev pub hold_in : List (List ℕ) → Result Record Reason
 hold_in others = when_ok (λ turns. what.Told (told.Hold turns)) (number_in 1 100 others)
 
--- slips of a port, where the circuit's name, the turn and the number are these
+-- slips of a port, by the port that the circuit's name gives, the direction and the number
 abbrev pub slip_by : Option PortId → Option Turn → Option ℕ → Result Record Reason
 slip_by None turn count = Err reason.SlipPort
 slip_by (Some port) None count = Err reason.StepSide
@@ -95,7 +95,7 @@ slip_in circuits at (name ∷ turn ∷ []) = Err reason.StepForm
 slip_in circuits at (name ∷ turn ∷ count ∷ []) = slip_by (own_port circuits at name) (turn_at turn) (numeral_in 1 16 count)
 slip_in circuits at (name ∷ turn ∷ count ∷ more ∷ others) = Err reason.StepForm
 
--- a round, where this came on both sides
+-- a round, by what came from the west and from the east
 abbrev pub round_by : Option Came → Option Came → Result Record Reason
 round_by (Some west) (Some east) = Ok (what.Round west east)
 round_by (Some west) None = Err reason.StepSide
@@ -109,7 +109,7 @@ round_in (west ∷ east ∷ more ∷ others) = Err reason.StepForm
 
 -- ---- a record
 
--- the record that a first word gives with those after it
+-- the record of a line, by its first word and the words after it
 abbrev pub record_by : List Provisioned → Pos → List ℕ → List (List ℕ) → Result Record Reason
 record_by circuits at first others =
     if bytes_eq first (codes "round") then round_in others
@@ -125,13 +125,13 @@ unfoldable pub record_in : List Provisioned → Pos → List (List ℕ) → Resu
 record_in circuits at [] = Err reason.StepForm
 record_in circuits at (first ∷ others) = record_by circuits at first others
 
--- the record that a line is, or why it is none: no word is empty
+-- the record that a line is, or why it is none; a line with an empty word is none
 unfoldable pub record_of : List Provisioned → Pos → List ℕ → Result Record Reason
 record_of circuits at line = if list_any is_empty (words line) then Err reason.StepForm else record_in circuits at (words line)
 
 -- ---- what is true of every record
 
--- a port is at a position
+-- the port is the one that its circuit has at this position
 abbrev pub IsOwn : List Provisioned → Pos → PortId → Type 0
 IsOwn circuits at port = (c : Provisioned) × (slice_get circuits port.circuit ≡ Some c) × (end_here at c ≡ Some port.end)
 

@@ -1,4 +1,4 @@
--- Which bytes a stream has, and what comes of it: a plan, a line that ends it, and then records.
+-- The bytes of a stream, and what they lead to: a plan, a line that ends it, and then records.
 use Rattle.std.specs.Prelude.{◌≡◌, ◌⊎◌, ℕ, ◌+◌, ◌-◌, ◌<◌, ◌≤◌, ◌==◌, if◌then◌else◌, List, [], ◌∷◌, ◌++◌, length, slice_index, codes}
 use Rattle.std.specs.Prelude.{Option, Some, None, Ok, Err}
 use Rattle.std.specs.List.{flat_map}
@@ -20,7 +20,7 @@ use Rattle.sdh_node_cli.specs.Bench.{Bench, refusal_of, after_told, size_after, 
 abbrev pub end_of_plan : List ℕ
 end_of_plan = codes "end of plan\n"
 
--- nothing, or lines that are whole
+-- no bytes, or whole lines, each with its newline byte
 abbrev pub AreLines : List ℕ → Type 0
 AreLines bytes = (bytes ≡ []) ⊎ ((before : List ℕ) × (bytes ≡ before ++ codes "\n"))
 
@@ -28,17 +28,17 @@ AreLines bytes = (bytes ≡ []) ⊎ ((before : List ℕ) × (bytes ≡ before ++
 abbrev pub EndsPlan : List ℕ → Type 0
 EndsPlan bytes = (document : List ℕ) × (bytes ≡ document ++ end_of_plan) × AreLines document
 
--- no front of them is that
+-- no front of these bytes ends a plan
 abbrev pub HasNoEnd : List ℕ → Type 0
 HasNoEnd bytes = (front rest : List ℕ) → bytes ≡ front ++ rest → EndsPlan front → ⊥
 
--- The document is what stands before the first line that ends it: without the newline byte of that line nothing would
--- end it.
+-- The document is what comes before the first line `end of plan`. So no front of the document and that line ends a
+-- plan, as long as the line's newline byte is missing.
 pub record IsDocument (document : List ℕ) : Type 0 where
   pub lines : AreLines document
   pub first : HasNoEnd (document ++ codes "end of plan")
 
--- the most bytes that are read of a document and the line that ends it
+-- the most bytes that are read of a document and the line that ends it: 1 MiB, and 12 bytes of the line
 abbrev pub head_max : ℕ
 head_max = 1048588
 
@@ -70,7 +70,7 @@ pub record IsLine (line : List ℕ) : Type 0 where
   pub one : IsOneLine line
   pub short : length line ≤ 64
 
--- the line is that of a record, which can be done
+-- the line is that of a record that can be done
 pub record MayBe (b : Bench) (line : List ℕ) (r : Record) : Type 0 where
   pub line_is : IsLine line
   pub reads : record_of b.circuits b.at line ≡ Ok r
@@ -86,7 +86,7 @@ pub record IsGiven (b : Bench) (g : Given) : Type 0 where
 abbrev pub bytes_of : Given → List ℕ
 bytes_of g = whole_line g.line ++ (g.west ++ g.east)
 
--- how a record leaves the node, and what is written for it
+-- the bench after a record, and what is written for the record
 abbrev pub after_record : Record → List ℕ → List ℕ → Bench → Bench
 after_record (what.Told t) from_west from_east b = after_told t b
 after_record (what.Round west east) from_west from_east b = after_round (with_arrivals west from_west east from_east b)
@@ -122,20 +122,20 @@ stream_of gs = flat_map bytes_of gs
 abbrev pub records_max : ℕ
 records_max = 4294967295
 
--- ---- how long a record is at least
+-- ---- how many bytes a record has at least
 
--- The fewest bytes that a record has, with its newline byte, whose line begins with these. None has fewer than 7, as
--- `hold 1`. A line that begins with `r` is that of a round: none has fewer than 16, as `round none none`, and none
--- fewer than 17 where its seventh byte is `f`, as `round frame none`.
+-- The smallest number of bytes of a record whose line begins with these bytes, its newline byte included. Every record
+-- has at least 7, as `hold 1` has. A line that begins with `r` is that of a round, which has at least 16, as `round
+-- none none`, or 17 where its seventh byte is `f`, as `round frame none`.
 unfoldable pub fewest : List ℕ → ℕ
 fewest front = if slice_index front 0 == 114 then if slice_index front 6 == 102 then 17 else 16 else 7
 
--- What was read after the newline byte of a line: at most the bytes that it lacks to the fewest of a record that begins
--- as it does.
+-- `more` was read after the newline byte of a line. It is at most what the line lacks to the smallest number of bytes
+-- of a record that begins so.
 abbrev pub IsBehind : List ℕ → List ℕ → Type 0
 IsBehind line more = length more ≤ fewest line - length (whole_line line)
 
--- ---- where they end
+-- ---- where the records end
 
 -- the line can't be done for this reason: it is no record, or the node can't do it
 abbrev pub IsRefusedFor : Bench → List ℕ → Reason → Type 0
@@ -147,7 +147,7 @@ pub record IsCutLine (tail : List ℕ) : Type 0 where
   pub some : 0 < length tail
   pub line_is : IsLine tail
 
--- or within the frames of a record
+-- the stream ended within the frames of a record
 pub record IsCutFrame (b : Bench) (tail : List ℕ) : Type 0 where
   pub line : List ℕ
   pub record_is : Record
@@ -156,7 +156,7 @@ pub record IsCutFrame (b : Bench) (tail : List ℕ) : Type 0 where
   pub tail_is : tail ≡ whole_line line ++ part
   pub short : length part < size_after b.node.settings.rate (west_of record_is) + size_after b.node.settings.rate (east_of record_is)
 
--- less than a record: a front of a line, without its newline byte, or the line and not all of its frames
+-- part of a record: a front of its line, without the newline byte, or the line and not all of its frames
 abbrev pub IsPart : Bench → List ℕ → Type 0
 IsPart b tail = IsLine tail ⊎ IsCutFrame b tail
 

@@ -22,22 +22,22 @@ room_for b = answer_room b.node.settings.rate (length b.circuits)
 
 -- ---- a line
 
--- What one read of a line took, where `old` had come of it before and `new` has come of it now: a part of it; the rest
--- of it, with its newline byte; or nothing, since the source has ended.
+-- What one read of a line took. The line was read up to `old` before and is read up to `new` now. The read took a part
+-- of the line, the rest of it with its newline byte, or nothing, since the source has ended.
 abbrev pub TakesMore : Option (List ℕ) → Option (List ℕ) → List ℕ → List ℕ → Got → Type 0
 TakesMore left now old new got.Part = (bytes : List ℕ) × (0 < length bytes) × IsOneLine bytes × Consumes left now bytes × (new ≡ old ++ bytes)
 TakesMore left now old new got.Rest =
     (bytes : List ℕ) × (more : List ℕ) × IsOneLine bytes × Consumes left now (whole_line bytes ++ more) × (new ≡ old ++ bytes) × IsBehind new more
 TakesMore left now old new got.End = Consumes left now [] × IsAtEnd now × (new ≡ old)
 
--- What was taken of the line of a record, and why no more: it is whole, and its newline byte was taken too, with few
--- bytes behind it; the source has ended; or there is no room for more of it.
+-- What was taken of the line of a record, and why no more. Either it is whole, and its newline byte was taken too, with
+-- few bytes after it; or the source has ended; or there is no room for more of it.
 abbrev pub TakesRecord : Option (List ℕ) → Option (List ℕ) → List ℕ → LineEnd → Type 0
 TakesRecord left now line end.Whole = IsOneLine line × ((more : List ℕ) × Consumes left now (whole_line line ++ more) × IsBehind line more)
 TakesRecord left now line end.Ended = IsOneLine line × Consumes left now line × IsAtEnd now
 TakesRecord left now line end.Full = IsOneLine line × Consumes left now line
 
--- a line was read, and few bytes behind it
+-- a line was read, and few bytes after its newline byte
 pub record ReadsLine (line : List ℕ) (left now : Option (List ℕ)) : Type 0 where
   pub line_is : IsLine line
   pub more : List ℕ
@@ -52,18 +52,18 @@ pub record HasLine (b : Bench) (line : List ℕ) (r : Record) (left now : Option
 
 -- ---- what came on the sides
 
--- this number of bytes was read of what came on a side
+-- what came on a side was read: no bytes, or those of a whole frame
 pub record Takes (b : Bench) (came : Came) (left now : Option (List ℕ)) (bytes : List ℕ) : Type 0 where
   pub whole : length bytes ≡ size_after b.node.settings.rate came
   pub read : Consumes left now bytes
 
--- fewer than this number of bytes were read: the source has ended, or a read failed
+-- fewer than `size` bytes were read: the source has ended, or a read failed
 abbrev pub TakesPart : ℕ → Option (List ℕ) → Option (List ℕ) → Stop → Type 0
 TakesPart size left now (stop.Bad flaw.Cut) = (bytes : List ℕ) × (length bytes < size) × Consumes left now bytes × IsAtEnd now
 TakesPart size left now stop.ReadFault = (bytes : List ℕ) × (length bytes < size) × Consumes left now bytes
 TakesPart size left now why = ⊥
 
--- whole frames were read of what came on both sides, that from the west first, and both are kept for the next round
+-- what came on both sides was read, whole frames, that from the west first, and is kept for the next round
 pub record TakesBoth (b new : Bench) (west east : Came) (left now : Option (List ℕ)) : Type 0 where
   pub from_west : List ℕ
   pub from_east : List ℕ
@@ -88,7 +88,7 @@ pub record Ran (b new : Bench) (west east : Came) (left now old_text new_text : 
   pub wrote : Appends old_text new_text (answer_to (with_arrivals west from_west east from_east b))
   pub bench : new ≡ after_round (with_arrivals west from_west east from_east b)
 
--- it ran, and a front of its answer was written
+-- a round ran over what came on both sides, and only a front of its answer was written
 pub record RanCut (b : Bench) (west east : Came) (left now old_text new_text : Option (List ℕ)) : Type 0 where
   pub from_west : List ℕ
   pub from_east : List ℕ
@@ -97,7 +97,7 @@ pub record RanCut (b : Bench) (west east : Came) (left now old_text new_text : O
   pub read : Consumes left now (from_west ++ from_east)
   pub front : AppendsFewer old_text new_text (answer_to (with_arrivals west from_west east from_east b))
 
--- it didn't run, or a write failed
+-- no round ran, since a frame wasn't whole, or a write failed in the round's answer
 abbrev pub StopsRound : Bench → Came → Came → Stop → Option (List ℕ) → Option (List ℕ) → Option (List ℕ) → Option (List ℕ) → Type 0
 StopsRound b west east stop.WriteFault left now old_text new_text = RanCut b west east left now old_text new_text
 StopsRound b west east why left now old_text new_text =
@@ -113,26 +113,26 @@ pub record Goes (b new : Bench) (left now old_text new_text : Option (List ℕ))
   pub wrote : Appends old_text new_text (answer given b)
   pub bench : new ≡ after given b
 
--- Why no record more is done, where this was read of the next one. The source has ended; the next record is flawed; or
--- a read failed within it. Where a write failed a record was done, and this says nothing of it.
+-- Why no more records are done; `tail` is what was read of the next one. The source has ended, the next record is
+-- flawed, or a read failed within it. A write fault isn't one of these, since the record was done.
 abbrev pub StopsSo : Bench → Stop → List ℕ → Option (List ℕ) → Type 0
 StopsSo b stop.Done tail now = (tail ≡ []) × IsAtEnd now
 StopsSo b (stop.Bad f) tail now = IsFlawed b f tail × EndsIf f now
 StopsSo b stop.ReadFault tail now = IsPart b tail
 StopsSo b stop.WriteFault tail now = ⊥
 
--- the source was read so far
+-- no more records are done, and the source was read from `left` to `now`
 abbrev pub Halts : Bench → Stop → Option (List ℕ) → Option (List ℕ) → Type 0
 Halts b why left now = (tail : List ℕ) × StopsSo b why tail now × Consumes left now tail
 
--- a write failed in the answer to a record: a front of it was written, and nothing more was read than the record
+-- a write failed in the answer to a record: a front of the answer was written, and nothing was read after the record
 pub record Fails (b : Bench) (left now old_text new_text : Option (List ℕ)) : Type 0 where
   pub given : Given
   pub is : IsGiven b given
   pub read : Consumes left now (bytes_of given)
   pub front : AppendsFewer old_text new_text (answer given b)
 
--- no record more was done, and nothing was written; or a write failed
+-- no more records were done and nothing was written, or a write failed
 abbrev pub StopsBy : Bench → Stop → Option (List ℕ) → Option (List ℕ) → Option (List ℕ) → Option (List ℕ) → Type 0
 StopsBy b stop.WriteFault left now old_text new_text = Fails b left now old_text new_text
 StopsBy b why left now old_text new_text = Halts b why left now × Keeps old_text new_text

@@ -11,7 +11,7 @@ abbrev pub mode_named : List ℕ → Option Mode
 mode_named word =
     if bytes_eq word (codes "lines") then Some mode.Lines else if bytes_eq word (codes "frames") then Some mode.Frames else None
 
--- an identifier: the node that has it
+-- what is asked of the node with an identifier, 0 to 15, in a mode
 abbrev pub asked_as : List ℕ → Mode → Option Ask
 asked_as id m = option_map (λ number. record { id = number; mode = m }) (numeral_in 0 15 id)
 

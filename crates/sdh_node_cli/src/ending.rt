@@ -16,7 +16,7 @@ pub enum Flaw {
     Cut,
     /// Its line has more than 64 bytes.
     Long,
-    /// More records stand before it than can be counted.
+    /// 4,294,967,295 records, the most that are done, came before it.
     Many,
 }
 
@@ -25,8 +25,8 @@ pub enum Flaw {
 pub enum Ending {
     /// The plan has no node of the identifier.
     NoSuchNode,
-    /// A record can't be done: what is wrong with it, and its number, counted from 1. Number 0 is what stands before
-    /// the records.
+    /// A record can't be done: what is wrong with it, and its number, counted from 1. Number 0 is the plan, which comes
+    /// before the records.
     BadRecord(Flaw, u64),
     /// An ending that the program `sdhring` has too: `Ok`, `Usage`, `ReadFault`, `WriteFault`, `NotToml`, `BadPlan`,
     /// `TooLong` or `Memory`.
@@ -34,7 +34,7 @@ pub enum Ending {
 }
 
 impl Flaw {
-    /// Returns the number of what is wrong.
+    /// Returns the number of what is wrong, which the last line shows.
     pub fn number(self) -> u8
         ensures { result ≡ flaw_number self }
     {
@@ -48,7 +48,7 @@ impl Flaw {
 }
 
 impl Ending {
-    /// Returns the number with which the program ends.
+    /// Returns the exit status of the program.
     pub fn number(&self) -> u8
         ensures { result ≡ number_of self.now }
     {
@@ -60,14 +60,16 @@ impl Ending {
     }
 }
 
-// Numbers of these sizes have few digits.
+// The last line of a record that can't be done has at most 96 bytes, whatever its two numbers. The function does
+// nothing: its contract is the law.
 fn short_line(why: u8, number: u64)
     ensures { length (bad_record_text why number) ≤ 96 }
 {
     let _ = (why, number);
 }
 
-// Appends the last line of a record that can't be done, by the number of what is wrong with it.
+// Appends the last line for a record that can't be done: `why` is the number of what is wrong with it, and `number` is
+// that of the record.
 fn put_bad_record(text: &mut Text, why: u8, number: u64)
     requires { length (bad_record_text why number) ≤ text.old.room }
     ensures { text.new ≡ with_part text.old (bad_record_text why number) }

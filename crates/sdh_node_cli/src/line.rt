@@ -1,4 +1,4 @@
-//! The line of a record, which is read in few calls.
+//! Reading the line of a record in few calls of the source.
 ghost use Rattle.std.specs.Prelude.{◌≡◌, ◌+◌, ◌<◌, ◌≤◌, ◌⊎◌, ◌++◌, ℕ, List, [], true, false, Ok, Err, IfOk, IfErr, IfSome, OnOk, OnErr, length, slice_index, position, ◌==◌};
 ghost use Rattle.std.specs.Io.KnownBytes.{Consumes, Keeps};
 ghost use Rattle.sdh_basics.specs.Causes.{HasCause};
@@ -37,7 +37,7 @@ fn byte_at(bytes: &[u8], at: usize) -> u8
     if at < bytes.len() { bytes[at] } else { 0 }
 }
 
-// Returns the fewest bytes that a record has, with its newline byte, whose line begins with these.
+// Returns the smallest number of bytes of a record whose line begins with these bytes, its newline byte included.
 #[tactic(auto, unfolding(crate::specs::Streams::fewest))]
 fn fewest(front: &[u8]) -> usize
     ensures { result ≡ fewest front.now }
@@ -49,8 +49,8 @@ fn fewest(front: &[u8]) -> usize
     }
 }
 
-// Returns how many bytes are asked for once these have come of a line: as many as each record that can still come has
-// at least, and one where that may be all that it lacks.
+// Returns the number of bytes to ask for once these bytes of a line have come: the number that every record whose line
+// begins with them still lacks, and at least 1.
 #[tactic(auto, using(crate::proofs::Long::fewest_most))]
 fn asked_for(front: &[u8]) -> usize
     ensures some { 1 ≤ result }
@@ -73,7 +73,8 @@ fn newline_in(bytes: &[u8]) -> Option<usize>
     bytes.iter().position(|byte| *byte == b'\n')
 }
 
-// Appends bytes to a line, up to the first newline byte among them, and returns whether there is one.
+// Appends bytes to a line, up to the first newline byte among them or all of them. Returns whether there is a newline
+// byte.
 fn put_front(line: &mut Text, bytes: &[u8]) -> bool
     requires { length bytes.now ≤ line.old.room }
     ensures rest { result ≡ true → (front : List ℕ) × (more : List ℕ) × (bytes.now ≡ whole_line front ++ more) × IsOneLine front
@@ -92,7 +93,7 @@ fn put_front(line: &mut Text, bytes: &[u8]) -> bool
     }
 }
 
-// Reads once of a line. A byte that isn't lacking to each record that can still come isn't asked for.
+// Reads more of a line in one call of the source: the number of bytes that `asked_for` gives, or fewer.
 fn read_more<R: Source>(source: &mut R, line: &mut Text) -> Result<Got, Failed>
     requires some { 1 ≤ line.old.room }
     requires room { room_in line.old ≡ 65 }
@@ -137,7 +138,8 @@ fn read_line<R: Source>(source: &mut R, line: &mut Text) -> Result<LineEnd, Fail
     Ok(LineEnd::Full)
 }
 
-/// Reads the line of the next record into an empty text. No byte behind it is read where it is a record's.
+/// Reads the line of the next record into an empty text, without its newline byte. Where the line is that of a record,
+/// no byte after its newline byte is read.
 pub fn next_line<R: Source>(source: &mut R, line: &mut Text) -> Result<(), Stop>
     requires empty { line.old.bytes ≡ [] }
     requires room { room_in line.old ≡ 65 }

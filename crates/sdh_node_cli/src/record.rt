@@ -14,7 +14,7 @@ use sdh_ringmap::{Pos, Side};
 /// What came on a side of the node since its last round.
 #[derive(Clone, Copy)]
 pub enum Came {
-    /// Nothing is known of the side yet.
+    /// Nothing was received on the side.
     Nothing,
     /// No light.
     Dark,
@@ -22,29 +22,29 @@ pub enum Came {
     Frame,
 }
 
-/// What is told to the node between rounds.
+/// What a record gives the node between rounds.
 #[derive(Clone, Copy)]
 pub enum Told {
     /// A side gets a command, in place of the one before.
     Command(Side, Command),
-    /// The present moment is this one.
+    /// The present moment becomes this one.
     Moment(Moment),
-    /// The controller misses this number of the next rounds.
+    /// The controller is held for this number of rounds, 1 to 100.
     Hold(u32),
-    /// The clock of a port is to slip this number of times.
+    /// The clock of a port gets this number of pending slips, 1 to 16, up or down.
     Slip(PortId, Turn, u8),
 }
 
 /// A record of a stream.
 #[derive(Clone, Copy)]
 pub enum Record {
-    /// Something is told to the node.
+    /// The node is given something between rounds.
     Told(Told),
-    /// A round runs, where this came from the west and that from the east.
+    /// A round runs. The first came from the west, and the second from the east.
     Round(Came, Came),
 }
 
-// Returns what a word says that came on a side.
+// Returns what came on a side, by its word: `none`, `dark` or `frame`.
 fn came_at(word: &[u8]) -> Option<Came>
     ensures { result ≡ came_at word.now }
 {
@@ -72,7 +72,7 @@ pub fn end_here(at: Pos, circuit: &Circuit) -> Option<End>
     }
 }
 
-// Returns the port at a position of the circuit whose name the word is.
+// Returns the port that a circuit has at a position. The word is the name of the circuit.
 #[tactic(auto, unfolding(crate::specs::Records::own_port))]
 fn own_port(circuits: &CircuitMap, at: Pos, word: &[u8]) -> Option<PortId>
     ensures port { result ≡ own_port circuits.now.circuits at word.now }
@@ -87,7 +87,7 @@ fn own_port(circuits: &CircuitMap, at: Pos, word: &[u8]) -> Option<PortId>
     }
 }
 
-// Returns the side that is the one word.
+// Returns the side that the only word names.
 fn side_in(others: &[&[u8]]) -> Result<Side, Reason>
     ensures { result ≡ side_in (map (λ word. word.now) others.now) }
 {
@@ -100,7 +100,7 @@ fn side_in(others: &[&[u8]]) -> Result<Side, Reason>
     }
 }
 
-// Returns the number from `low` to `high` that is the one word.
+// Returns the number that the only word is, from `low` to `high`.
 fn number_in(others: &[&[u8]], low: u32, high: u32) -> Result<u32, Reason>
     ensures number { result ≡ number_in low high (map (λ word. word.now) others.now) }
     ensures range { IfOk result (λ number. (low ≤ number) × (number ≤ high)) }
@@ -114,7 +114,7 @@ fn number_in(others: &[&[u8]], low: u32, high: u32) -> Result<u32, Reason>
     }
 }
 
-// Returns the command of the side that is the one word.
+// Returns the command for the side that the only word names.
 fn command_in(others: &[&[u8]], command: Command) -> Result<Record, Reason>
     ensures is { result ≡ command_in command (map (λ word. word.now) others.now) }
     ensures form { IfOk result (λ r. (circuits : List Provisioned) (at : Pos) → IsRecord circuits at r) }
@@ -125,7 +125,7 @@ fn command_in(others: &[&[u8]], command: Command) -> Result<Record, Reason>
     }
 }
 
-// Returns the moment that is the one word.
+// Returns the moment that the only word is, 0 to 1,000,000,000.
 fn moment_in(others: &[&[u8]]) -> Result<Record, Reason>
     ensures is { result ≡ moment_in (map (λ word. word.now) others.now) }
     ensures form { IfOk result (λ r. (circuits : List Provisioned) (at : Pos) → IsRecord circuits at r) }
@@ -136,7 +136,7 @@ fn moment_in(others: &[&[u8]]) -> Result<Record, Reason>
     }
 }
 
-// Returns the number of held turns that is the one word.
+// Returns the number of held rounds that the only word is, 1 to 100.
 fn hold_in(others: &[&[u8]]) -> Result<Record, Reason>
     ensures is { result ≡ hold_in (map (λ word. word.now) others.now) }
     ensures form { IfOk result (λ r. (circuits : List Provisioned) (at : Pos) → IsRecord circuits at r) }
@@ -147,7 +147,8 @@ fn hold_in(others: &[&[u8]]) -> Result<Record, Reason>
     }
 }
 
-// Returns the slips of a port at a position: the circuit's name, the turn and their number.
+// Returns the slips of a port at a position. The three words are the circuit's name, the direction (up or down) and the
+// number of slips, 1 to 16.
 fn slip_in(circuits: &CircuitMap, at: Pos, others: &[&[u8]]) -> Result<Record, Reason>
     ensures is { result ≡ slip_in circuits.now.circuits at (map (λ word. word.now) others.now) }
     ensures form { IfOk result (IsRecord circuits.now.circuits at) }
@@ -167,7 +168,7 @@ fn slip_in(circuits: &CircuitMap, at: Pos, others: &[&[u8]]) -> Result<Record, R
     Ok(Record::Told(Told::Slip(port, turn, count as u8)))
 }
 
-// Returns the round by what came on both sides.
+// Returns the round whose two words say what came from the west and from the east.
 fn round_in(others: &[&[u8]]) -> Result<Record, Reason>
     ensures is { result ≡ round_in (map (λ word. word.now) others.now) }
     ensures form { IfOk result (λ r. (circuits : List Provisioned) (at : Pos) → IsRecord circuits at r) }
@@ -181,7 +182,7 @@ fn round_in(others: &[&[u8]]) -> Result<Record, Reason>
     }
 }
 
-// Returns the record that a first word and those after it give.
+// Returns the record of a line, from its first word and the words after it.
 fn record_by(
     circuits: &CircuitMap,
     at: Pos,
@@ -210,7 +211,7 @@ fn record_by(
     }
 }
 
-// Returns the record that words give, none of which is empty.
+// Returns the record of a line, from its words, none of which is empty.
 #[tactic(auto, unfolding(crate::specs::Records::record_in))]
 fn record_in(circuits: &CircuitMap, at: Pos, words: &[&[u8]]) -> Result<Record, Reason>
     ensures is { result ≡ record_in circuits.now.circuits at (map (λ word. word.now) words.now) }

@@ -12,17 +12,17 @@ use crate::stop::Stop;
 use crate::turn::{Texts, turn};
 use sdh_outside::{Sink, Source};
 
-/// The most records of a stream.
+/// The most records of a stream that are done.
 const RECORDS_MAX: u64 = 4_294_967_295;
 
-/// Why no record more was done, and the number of the next one, counted from 1.
+/// Why no more records were done, and the number of the first one that wasn't, counted from 1.
 #[derive(Clone, Copy)]
 pub struct Stopped {
     pub stop: Stop,
     pub number: u64,
 }
 
-/// Does the records of a source, one after the other, and writes the answer to each before any more is read.
+/// Does the records of a source, one after the other, and writes the answer to each before it reads more.
 pub fn serve<R: Source, W: Sink>(
     bench: &mut Bench,
     texts: &mut Texts,

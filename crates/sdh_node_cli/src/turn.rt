@@ -18,7 +18,7 @@ use sdh_report::Text;
 use sdh_ringmap::Side;
 use std::alloc::{AllocError, Global};
 
-/// The most bytes that are read of a line: 64, and one more that is to be its newline byte.
+/// The most bytes that are read of a line: 64, and one more, which has to be its newline byte.
 const LINE_READ: usize = 65;
 
 /// Room for the line of a record, and for an answer.
@@ -60,7 +60,7 @@ fn next_record<R: Source>(bench: &Bench, line: &mut Text, source: &mut R) -> Res
     }
 }
 
-// Keeps for the next round what came on a side: a frame is taken from the source.
+// Keeps for the next round what came on a side. A frame is read from the source.
 #[tactic(auto, unfolding(crate::specs::Bench::after_coming))]
 fn take_in<R: Source>(bench: &mut Bench, source: &mut R, side: Side, came: Came) -> Result<(), Stop>
     ensures ok { OnOk result ((bytes : List ℕ) × Takes bench.old came (R.left source.old) (R.left source.new) bytes
@@ -78,7 +78,7 @@ fn take_in<R: Source>(bench: &mut Bench, source: &mut R, side: Side, came: Came)
     }
 }
 
-// Keeps for the next round what came from the west and from the east. The frame from the west is taken first.
+// Keeps for the next round what came from the west and from the east. The frame from the west is read first.
 fn take_both<R: Source>(bench: &mut Bench, source: &mut R, came: (Came, Came)) -> Result<(), Stop>
     ensures ok { OnOk result (TakesBoth bench.old bench.new came.0 came.1 (R.left source.old) (R.left source.new)) }
     ensures part { IfErr result (TakesPart (both_sizes bench.old came.0 came.1) (R.left source.old) (R.left source.new)) }
@@ -95,7 +95,7 @@ fn take_both<R: Source>(bench: &mut Bench, source: &mut R, came: (Came, Came)) -
     }
 }
 
-// Runs a round over what is kept of both sides, and writes its answer.
+// Runs a round over what was kept for both sides, and writes its answer to the sink.
 fn answer_round<W: Sink>(bench: &mut Bench, answer: &mut Text, sink: &mut W) -> Result<(), Stop>
     requires few { bench.old.node.rounds < 2 ^ 32 }
     requires room { room_for bench.old ≤ room_in answer.old }
@@ -142,7 +142,7 @@ fn run_round<R: Source, W: Sink>(
     }
 }
 
-/// Reads a record, does it, and writes its answer, if it has one, before any more is read.
+/// Reads one record, does it, and writes its answer, if it has one, before more is read.
 pub fn turn<R: Source, W: Sink>(
     bench: &mut Bench,
     texts: &mut Texts,

@@ -56,7 +56,8 @@ fn asked_in(id: &str, mode: &str) -> Option<Ask>
     }
 }
 
-/// Returns what the words ask for, or `None` where they have none of the forms that there are.
+/// Returns what the words ask for: an identifier from 0 to 15, and perhaps the word `lines` or `frames` after it.
+/// Returns `None` for all other words.
 pub fn asked(words: &[String]) -> Option<Ask>
     ensures { result ≡ asked (words_of words.now) }
 {

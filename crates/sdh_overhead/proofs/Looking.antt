@@ -32,7 +32,7 @@ other_column row c m e is = elim (and_cases (eqb row 1) (leb c m) e) [
 row_and : (row r : ℕ) (t : Bool) → (eqb row r && t) ≡ true → (row ≡ r) × (t ≡ true)
 row_and row r t e = let is = and_parts (eqb row r) t e in (eqb-true row r is.0, is.1)
 
--- what holds of each field where its rows and columns are its own, holds of the field at a place
+-- what holds of each field at its own rows and columns holds of the field at any place
 by_field : (P : field.Field → Type 0) (n row column : ℕ) → ((au : ℕ) → P (Payload au)) → ((au p : ℕ) → P (Pointer au p))
     → (row ≡ 1 → column ≤ 3 * n → P A1) → (row ≡ 1 → 3 * n < column → column ≤ 6 * n → P A2) → P J0 → P Fixed
     → (row ≡ 2 → column ≡ 1 → P B1)

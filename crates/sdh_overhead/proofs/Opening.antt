@@ -56,7 +56,7 @@ pub landed-is : (n : ℕ) (here : Bool) (clear bytes : List ℕ) → landed_of n
 landed-is n true clear bytes e = (refl, same_Some _ _ e)
 landed-is n false clear bytes e = absurd (none-some bytes e)
 
--- the frame that is given away is the descrambled one
+-- the frame that is exchanged for another one is the descrambled one
 pub given-is : (frame : Frame) (here : Bool) (kept : LandedFrame) (bytes : List ℕ)
     → record { rate = frame.rate; landed = landed_of (n_of frame.rate) here frame.bytes; buffer = frame.bytes } ≡ kept
     → kept.landed ≡ Some bytes
@@ -68,7 +68,7 @@ given-is frame here kept bytes view e =
     (λ i. record { rate = frame.rate; bytes = back i }) ∙ ap (λ (r : Rate). record { rate = r; bytes = scrambled (9 * n_of r) bytes })
     (ap (λ (l : LandedFrame). l.rate) view)
 
--- a buffer that was handed out whole
+-- a buffer that was borrowed whole and came back
 abbrev pub lent : List ℕ → List ℕ → List ℕ
 lent old to = take (length old) (to ++ drop (length to) old)
 
@@ -100,7 +100,7 @@ module _ (n m b1 : ℕ) (b2 old to from : List ℕ) (same : m ≡ n) (opens : to
       summed-is n b1 b2 to from one (ap (λ x. take (3 * x) b2) (sym same) ∙ two ∙ ap (λ x. section_parity x to) same)
       ∙ (λ i. parities_of n (sym (lent-whole old to long) i) (sym lands i))
 
--- what a section reads of it
+-- what a section reads of a frame that landed
 module _ (m k n : ℕ) (here : Bool) (b1 : ℕ) (b2 clear seen bytes : List ℕ) (last : Option Parities) (one : m ≡ n) (two : k ≡ n)
     (is : seen ≡ clear) (long : 9 * n ≤ length clear)
     (landed : landed_of k here clear ≡ Some bytes) (summed : AreSummed k here b1 b2 clear) where

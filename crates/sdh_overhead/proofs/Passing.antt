@@ -70,10 +70,10 @@ row-written n row k1 k2 p last bytes head first long len same each =
           ∙ sym (right ∙ ap (λ (f : field.Field). written a f (get_or bytes c 0)) (field-payload n row (c + 1) (omega arith)))
     ]))
 
--- ---- the bytes that B2 is over, with rows more
+-- ---- the bytes that B2 covers, with more rows
 
--- a part that ends in the first of two lists, that is past the end of a list, that is in the second, and that goes to
--- the end
+-- the bytes from one place to another of two lists in a row: within the first list, past its end, within the second
+-- list, and up to the end of the second
 pub range-before : (a b : ℕ) (xs ys : List ℕ) → a ≤ b → b ≤ length xs → slice_range (xs ++ ys) a b ≡ slice_range xs a b
 range-before a b xs ys order room =
     ap (take (b - a)) (drop-append-le a xs ys (omega arith)) ∙ take-append-le (b - a) (drop a xs) ys (omega (arith, length-drop a xs))
@@ -180,7 +180,7 @@ some-under-way u h = let some : (u.rows == 0) ≡ false = ne_eqb _ _ (λ (e : u.
 pub none-under-way : (u : UnderWay) → u.rows ≡ 0 → under_way_of u ≡ None
 none-under-way u e = let none : (u.rows == 0) ≡ true = eq-eqb _ _ e in rw none refl
 
--- what the rows were is known, also before the first
+-- a row may be written before the first row, and after rows that were written
 pub may-write : (u : UnderWay) → u.written ≡ true → MayWrite (under_way_of u)
 may-write u e =
     elim (cases_eq u.rows 0) [
@@ -201,7 +201,7 @@ section-none n =
     four _ _ _ _ [] [] [] [] (range-past (9 * n) (270 * n) [] (omega arith)) (range-past (279 * n) (540 * n) [] (omega arith))
     (range-past (549 * n) (810 * n) [] (omega arith)) (drop-past (810 * n) [] (omega arith))
 
--- the rows that have passed, also before the first
+-- the rows that have passed, which may be none
 pub as-passed : (n : ℕ) (place : Position) (clear line : List ℕ) (u : UnderWay) → IsPlaced n u.rows place u.line u.clear
     → ArePassed n clear line (under_way_of u) → HavePassed n clear line u
 as-passed n place clear line u placed are =

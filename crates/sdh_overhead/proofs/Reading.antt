@@ -88,7 +88,7 @@ no-bytes : (n : ℕ) → scrambled (9 * n) [] ≡ []
 unfolding scrambled
 no-bytes n = refl
 
--- what the rows before said, also before the first
+-- what was found in the rows before, which may be none
 found-before : (n : ℕ) (last : Option Parities) (place : Position) (line : List ℕ) (u : UnderWay) → IsPlaced n u.rows place u.line u.clear
     → AreRead n last line (under_way_of u) → (1 ≤ u.rows → is_framed n line ≡ true) → HasFound n last (scrambled (9 * n) line) line u
 found-before n last place line u placed are framed =

@@ -36,7 +36,7 @@ take-zeros zero m h = refl
 take-zeros (suc n) zero h = absurd (omega arith)
 take-zeros (suc n) (suc m) h = ap (λ xs. 0 ∷ xs) (take-zeros n m (omega arith))
 
--- a section's fields are what is placed in the next frame
+-- the fields of a section, known or not, are the bytes B1 and B2 of the next frame
 pub placed_blank : (n : ℕ) (known : Bool) (b1 : ℕ) (b2 : List ℕ) → 3 * n ≤ 48 → IsBlank known b1 b2
     → placed_after n (last_of n known b1 b2) ≡ record { b1 = b1; b2 = take (3 * n) b2 }
 placed_blank n true b1 b2 h is = refl

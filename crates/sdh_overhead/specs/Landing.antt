@@ -1,17 +1,17 @@
--- Frames that are descrambled, and whose parities are taken, while they land.
+-- Frames that are descrambled while they land, with their parities computed in the same pass.
 use Rattle.std.specs.Prelude.{ℕ, ◌≡◌, ◌*◌, Bool, true, false, Option, Some, None, List, take}
 use Rattle.sdh_ringmap.specs.declared.terms.Rate.{Rate}
 use Rattle.sdh_parity.specs.Scrambling.{scrambled}
 use Rattle.sdh_overhead.specs.Sections.{parities_of}
 
--- Room for frames of a rate. `landed` has the bytes of the frame that has landed, as they arrived, or none. `buffer`
--- has the bytes that the room holds: where a frame has landed, its descrambled ones.
+-- Room for frames of a rate. `landed` has the bytes of the frame that has landed, as they arrived, or `None`. `buffer`
+-- has the bytes that the room holds: where a frame has landed, these are its descrambled bytes.
 pub record LandedFrame : Type 0 where
   pub rate : Rate
   pub landed : Option (List ℕ)
   pub buffer : List ℕ
 
--- the bytes that arrived, given the descrambled ones of the buffer; none where no frame is there
+-- the bytes that arrived, from the descrambled bytes in the buffer; None where no frame has landed
 abbrev pub landed_of : ℕ → Bool → List ℕ → Option (List ℕ)
 landed_of n true clear = Some (scrambled (9 * n) clear)
 landed_of n false clear = None

@@ -12,13 +12,13 @@ use Rattle.sdh_overhead.specs.declared.Received.TheVariants.{Framed}
 use Rattle.sdh_overhead.specs.Sections.{Parities, clear_frame, line_frame, parities_of, received_in, kept_after, opened, is_framed, byte_in}
 use Rattle.sdh_overhead.specs.Sections.{b2_in}
 
--- the parities are none, or have a byte B1 and 3 N bytes B2
+-- there are no parities, or a byte B1 and 3N bytes B2
 abbrev pub AreParities : ℕ → Option Parities → Type 0
 AreParities n None = Unit {0}
 AreParities n (Some last) = length last.b2 ≡ 3 * n
 
--- reading what was written, where the receiving section holds the sending section's parities or none: the K bytes come
--- back, no bit is in violation, both hold the same parities, and every AU-4 is as it was
+-- A receiving section that holds the sending section's parities, or no parities, reads what was written. The K bytes
+-- come back, no bit is in violation, both sections then hold the same parities, and every AU-4 is as it was.
 pub record ComesBack (rate : Rate) (sending receiving : Option Parities) (k1 k2 : ℕ) (bytes : List ℕ) : Type 0 where
   pub framed : received_in (n_of rate) receiving (line_frame (n_of rate) sending k1 k2 bytes) ≡ Framed k1 k2 0 0
   pub parities : kept_after (n_of rate) (line_frame (n_of rate) sending k1 k2 bytes)
@@ -36,7 +36,7 @@ pub record HasFraming (rate : Rate) (bytes : List ℕ) : Type 0 where
   pub a1 : (place : Place) → IsInFrame rate place → field_of rate place ≡ A1 → byte_of rate bytes place ≡ 0xF6
   pub a2 : (place : Place) → IsInFrame rate place → field_of rate place ≡ A2 → byte_of rate bytes place ≡ 0x28
 
--- what a receiving section looks at are exactly the bytes of the fields A1, A2, B1, B2, K1 and K2
+-- a receiving section reads exactly the bytes of the fields A1, A2, B1, B2, K1 and K2
 pub record LooksAtFields (rate : Rate) (bytes : List ℕ) : Type 0 where
   pub framing : (is_framed (n_of rate) bytes ≡ true) ↔ HasFraming rate bytes
   pub b1 : (place : Place) → IsInFrame rate place → field_of rate place ≡ B1 → byte_of rate bytes place ≡ byte_in (n_of rate) bytes 2 1

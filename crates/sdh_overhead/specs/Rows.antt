@@ -22,20 +22,20 @@ line_row n last k1 k2 i bytes = scrambled_from (9 * n) i (clear_row n last k1 k2
 abbrev pub skipped : ℕ → ℕ → ℕ
 skipped n row = if nat_le row 3 then 9 * n else 0
 
--- rows have passed whose bytes are `clear` without scrambling, and `line` on the line
+-- what is kept of some rows of a frame: their bytes are `clear` before scrambling, and `line` on the line
 pub record HavePassed (n : ℕ) (clear line : List ℕ) (u : UnderWay) : Type 0 where
   pub rows : length line ≡ u.rows * (270 * n)
   pub whole : length clear ≡ length line
   pub b1 : u.line ≡ bip8 line
   pub b2 : u.clear ≡ after_bytes n (section_bytes n clear)
 
--- these rows of a frame have passed; where no frame is under way they are none
+-- some rows of a frame have passed, with these bytes; where no frame is under way there are none
 abbrev pub ArePassed : ℕ → List ℕ → List ℕ → Option UnderWay → Type 0
 ArePassed n clear line None = (clear ≡ []) × (line ≡ [])
 ArePassed n clear line (Some u) = HavePassed n clear line u
 
--- A section has written rows of a frame, before which it was `first`. The bytes of these rows are `clear` without
--- scrambling, and `line` on the line. After the ninth row it holds the frame's parities.
+-- A section that was `first` before a frame has written some rows of it and is `now`. The bytes of these rows are
+-- `clear` before scrambling, and `line` on the line. After the ninth row the section holds the frame's parities.
 pub record HasSent (first : SectionKept) (clear line : List ℕ) (now : SectionKept) : Type 0 where
   pub rate : now.rate ≡ first.rate
   pub fresh : first.under_way ≡ None
@@ -50,8 +50,8 @@ pub record IsPlaced (n passed : ℕ) (scrambler : Position) (line : ℕ) (clear 
   pub rate : clear.n ≡ n
   pub fresh : passed ≡ 0 → (line ≡ bip8 []) × (clear ≡ after_bytes n [])
 
--- What is kept of the rows of a framed frame that have passed, whose bytes are `clear` without scrambling, and `line`
--- on the line: their parities, and, each once its row has passed, the violations and the K bytes.
+-- What is kept of some rows of a received framed frame. Their bytes are `clear` once descrambled, and `line` on the
+-- line. It is their parities, and, once the row of each has passed, the violations and the K bytes.
 pub record HasFound (n : ℕ) (last : Option Parities) (clear line : List ℕ) (u : UnderWay) : Type 0 where
   pub passed : HavePassed n clear line u
   pub b1 : 2 ≤ u.rows → u.b1 ≡ b1_violations n last clear
@@ -59,17 +59,17 @@ pub record HasFound (n : ℕ) (last : Option Parities) (clear line : List ℕ) (
   pub k1 : 5 ≤ u.rows → u.k1 ≡ byte_in n clear 5 (3 * n + 1)
   pub k2 : 5 ≤ u.rows → u.k2 ≡ byte_in n clear 5 (6 * n + 1)
 
--- rows whose bytes on the line are `line` were read, by a section that held these parities before
+-- some rows of a frame, whose bytes on the line are `line`, were read by a section that held the parities `last` before
 pub record HaveRead (n : ℕ) (last : Option Parities) (line : List ℕ) (u : UnderWay) : Type 0 where
   pub rows : length line ≡ u.rows * (270 * n)
   pub framed : u.framed ≡ is_framed n line
   pub found : is_framed n line ≡ true → HasFound n last (scrambled (9 * n) line) line u
 
--- these rows of a frame were read; where no frame is under way they are none
+-- some rows of a frame were read, with these bytes on the line; where no frame is under way there are none
 abbrev pub AreRead : ℕ → Option Parities → List ℕ → Option UnderWay → Type 0
 AreRead n last line None = line ≡ []
 AreRead n last line (Some u) = HaveRead n last line u
 
--- a row after it was read, where `line` has the rows before it: descrambled where the frame is framed
+-- a row after it was read, descrambled where the frame is framed; `line` has the rows before it as they are on the line
 abbrev pub opened_row : ℕ → List ℕ → List ℕ → List ℕ
 opened_row n line bytes = if is_framed n (line ++ bytes) then scrambled_from (9 * n) (length line) bytes else bytes

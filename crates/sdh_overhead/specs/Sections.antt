@@ -22,7 +22,7 @@ pub record Parities : Type 0 where
 unfoldable pub parities_of : ℕ → List ℕ → List ℕ → Parities
 parities_of n clear line = record { b1 = bip8 line; b2 = section_parity n clear }
 
--- what is kept of the rows that have passed, of a frame that is written or read row by row
+-- what is kept of the rows that have passed, where a frame is written or read row by row
 pub record UnderWay : Type 0 where
   pub rows : ℕ
   -- BIP-8 of the rows' bytes on the line, and BIP-24N of those bytes, without scrambling, that B2 covers
@@ -104,12 +104,12 @@ kept_after n line = if is_framed n line then Some (parities_of n (scrambled (9 *
 unfoldable pub opened : ℕ → List ℕ → List ℕ
 opened n line = if is_framed n line then scrambled (9 * n) line else line
 
--- the parities that a section's fields stand for
+-- the parities that a section holds, from its fields: none where they are not known
 abbrev pub last_of : ℕ → Bool → ℕ → List ℕ → Option Parities
 last_of n true b1 b2 = Some (record { b1 = b1; b2 = take (3 * n) b2 })
 last_of n false b1 b2 = None
 
--- where a section has no parities the fields are zeros, as they are sent in a first frame
+-- where a section has no parities its fields are zeros, which are sent as B1 and B2 of a first frame
 abbrev pub IsBlank : Bool → ℕ → List ℕ → Type 0
 IsBlank true b1 b2 = Unit {0}
 IsBlank false b1 b2 = (b1 ≡ 0) × (b2 ≡ replicate 48 0)

@@ -1,5 +1,5 @@
-//! Frames that are descrambled, and whose parities are taken, while they land. A section then reads them without going
-//! over their bytes again.
+//! Frames that are descrambled while they land, with their parities computed in the same pass. A section then reads
+//! them without going over their bytes again.
 ghost use Rattle.std.specs.Prelude.{◌≡◌, ◌≢◌, ℕ, ◌*◌, List, Some, None, IfOk, length, replicate};
 ghost use Rattle.sdh_frame.specs.Sizes.{size_of};
 ghost use Rattle.sdh_ringmap.specs.Rates.{n_of};
@@ -58,8 +58,8 @@ impl Landed {
         })
     }
 
-    /// Exchanges the buffer for another frame of the same rate. Where a frame has landed, `frame` then is that one,
-    /// descrambled. Afterwards nothing has landed.
+    /// Exchanges the buffer for another frame of the same rate. Where a frame has landed, `frame` gets it, descrambled.
+    /// Afterwards the room counts as empty.
     pub fn swap_frame(&mut self, frame: &mut FrameBuf)
         requires { frame.old.rate ≡ self.old.rate }
         ensures rate { frame.new.rate ≡ frame.old.rate }

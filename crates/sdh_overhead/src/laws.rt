@@ -5,8 +5,8 @@ ghost use Rattle.sdh_overhead.specs.Laws.{ComesBack, FieldsAreFound};
 use crate::Section;
 use sdh_frame::FrameBuf;
 
-/// A receiving section that has the sending section's parities, or none, reads what was written. K bytes, pointers and
-/// payload come back, there is no violation, and both sections then hold the same parities.
+/// A receiving section that has the sending section's parities, or no parities, reads back what was written: the K
+/// bytes, the pointers and the payload. It finds no violation, and both sections then hold the same parities.
 pub fn what_is_written_is_read(
     sending: &Section,
     receiving: &Section,
@@ -22,8 +22,8 @@ pub fn what_is_written_is_read(
     prove!(frame.bytes().len() == 2430 * frame.rate().n());
 }
 
-/// What `read_section` looks at are the bytes of the fields A1, A2, B1, B2, K1 and K2 by rows and columns: a frame is
-/// framed exactly where each byte A1 is F6 and each byte A2 is 28.
+/// `read_section` reads exactly the bytes of the fields A1, A2, B1, B2, K1 and K2, at their rows and columns. A frame
+/// is framed exactly where each byte A1 is F6 and each byte A2 is 28 (hexadecimal).
 pub fn fields_are_found()
     ensures { FieldsAreFound }
 {}

@@ -17,6 +17,6 @@ pub enum Received {
     /// K1 and K2, and in `b1` and `b2` the number of bits in which B1 and B2 differ from the parities of the frame
     /// before. Both are 0 where those parities are not known.
     Framed { k1: u8, k2: u8, b1: u32, b2: u32 },
-    /// A byte A1 isn't F6, or a byte A2 isn't 28.
+    /// A byte A1 isn't F6, or a byte A2 isn't 28 (hexadecimal).
     Unframed,
 }

@@ -1,5 +1,5 @@
-//! The rows of a frame that is written or read row by row: the scrambler and the parities so far, and what the rows
-//! that were read say.
+//! The rows of a frame that is written or read row by row: the scrambler, the parities so far, and what was found in
+//! the rows that were read.
 ghost use Rattle.std.specs.Prelude.{◌≡◌, ℕ, ◌+◌, ◌*◌, ◌-◌, ◌≤◌, ◌⊎◌, ◌==◌, true, false, List, [], ◌++◌, length, take, drop};
 ghost use Rattle.std.specs.Prelude.{if◌then◌else◌};
 ghost use Rattle.sdh_basics.specs.Parity.{bip8 as parity_of};
@@ -17,9 +17,9 @@ fn head_len(n: usize, row: u16) -> usize
     if row <= 3 { 9 * n } else { 0 }
 }
 
-/// What is kept of the rows of a frame so far: their number `passed`, the scrambler, and both parities: `line` of the
-/// bytes on the line, and `clear` of the bytes without scrambling that B2 covers. Of a frame that is read, what its
-/// rows say is kept too.
+/// What is kept of the rows of a frame so far: their number `passed`, the scrambler, and both parities. `line` is the
+/// BIP-8 of the bytes on the line, and `clear` is the BIP-24N of the unscrambled bytes that B2 covers. Of a frame that
+/// is read, it also keeps whether the frame is framed, K1 and K2, and the numbers of bits in which B1 and B2 differ.
 #[derive(Debug, Drop)]
 pub struct Rows {
     pub passed: u16,
@@ -132,7 +132,7 @@ impl Rows {
     }
 }
 
-/// Returns BIP-24N of the rows so far, in the first 3N bytes.
+/// Returns the BIP-24N of the rows so far, in the first 3N bytes. `n` is N, 4 or 16.
 pub fn parity_of_rows(n: usize, clear: &BipSection) -> [u8; 48]
     requires few { n ≤ 16 }
     requires rate { clear.now.n ≡ n }

@@ -87,7 +87,7 @@ small-behind s front back cut small k =
     ∙ ap (λ i. get_or back i 0) (omega arith) in
     omega (arith, small (length front + k), at)
 
--- the lanes of the clear bytes, where the sequence makes a piece clear and where the piece was
+-- the lanes of the clear bytes: those after the sequence was added where `after` holds, and those before it otherwise
 pub clear-lanes : (after : Bool) (old whole rest whole_new rest_new mid out : List ℕ) (rows : ℕ) → old ≡ whole ++ rest
     → length whole ≡ 48 * rows → length rest ≤ 48 → length whole_new ≡ length whole → length rest_new ≡ length rest
     → ((k : ℕ) → get_or old k 0 < 2 ^ 8) → ((k : ℕ) → get_or (whole_new ++ rest_new) k 0 < 2 ^ 8)

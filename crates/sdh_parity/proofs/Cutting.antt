@@ -67,7 +67,7 @@ added-piece clear at skip old part room start past len each =
     before h (inl e) = absurd (omega arith)
     before h (inr e) = omega arith
 
--- the sequence from a place on, up to the next whole 1016 bytes and from there
+-- the sequence from a place on, added up to the end of the block of 1016 bytes and then from the start of the next one
 pub two-parts : (p first : ℕ) (old head rest : List ℕ) → (first ≡ length old) ⊎ (first ≡ 1016 - p % 1016) → first ≤ length old
     → length head ≡ first
     → ((k : ℕ) → k < first → get_or head k 0 ≡ bit_xor (get_or old k 0) (scrambling_byte (p % 1016 + k)))

@@ -28,7 +28,7 @@ ones_of_zero = refl
 abbrev bits_sum : ℕ → ℕ
 bits_sum n = bit_at n 0 + (bit_at n 1 + (bit_at n 2 + (bit_at n 3 + (bit_at n 4 + (bit_at n 5 + (bit_at n 6 + bit_at n 7))))))
 
--- bit j and those above it, where there are no more than k
+-- the number of ones from bit j on is that from bit j + 1 on and bit j
 ones_from : (n j : ℕ) → count_ones (n / 2 ^ j) ≡ count_ones (n / 2 ^ (j + 1)) + bit_at n j
 ones_from n j = ones_half (n / 2 ^ j) ∙ ap (λ m. count_ones m + bit_at n j) (shr-shr n j 1)
 

@@ -12,7 +12,7 @@ use Rattle.sdh_basics.proofs.CellsLaws.{cells-zero, cells-more, cells-same, cell
 use Rattle.sdh_parity.specs.Parity.{lane, lane_from}
 use Rattle.sdh_parity.specs.Pieces.{HasLanes}
 
--- the sum of a list with one more byte in front
+-- the BIP-8 of a list with one more byte in front
 in-front : (x : ℕ) (xs : List ℕ) → x < 2 ^ 8 → bip8 (x ∷ xs) ≡ bit_xor x (bip8 xs)
 in-front x xs small =
     bip8-append (x ∷ []) xs ∙ ap (λ z. bit_xor z (bip8 xs)) (bip8-push [] x small ∙ ap (λ z. bit_xor z x) bip8-nil ∙ xor_zero_l x)
@@ -26,7 +26,7 @@ nothing f (suc c) none = let small : f c < 2 ^ 8 =
     omega (arith, none c) in one-more f c small ∙ ap (bit_xor (bip8 (cells f c))) (none c) ∙ xor_zero_r (bip8 (cells f c))
     ∙ nothing f c none
 
--- one of the summands with x added
+-- where x is added to one of the bytes, x is added to the parity
 one-added : (f g : ℕ → ℕ) (x i c : ℕ) → i < c → f i ≡ bit_xor x (g i) → ((j : ℕ) → j ≢ i → f j ≡ g j) → ((j : ℕ) → f j < 2 ^ 8)
     → ((j : ℕ) → g j < 2 ^ 8) → bip8 (cells f c) ≡ bit_xor x (bip8 (cells g c))
 one-added f g x i zero h here other sf sg = absurd (omega arith)
@@ -80,13 +80,13 @@ module _ (m c w : ℕ) (divides : (k : ℕ) → k % w % m ≡ k % m) (few : (k :
             (λ o lt. miss j k x xs o (λ same. other (sym (divides k) ∙ ap (λ z. z % m) same ∙ behind j o h)))))))
       ]
 
--- BIP of 12 bytes of 48
+-- BIP of 12 bytes from BIP of 48 bytes
 fold12 : (j : ℕ) (xs : List ℕ) → j < 12 → ((i : ℕ) → get_or xs i 0 < 2 ^ 8)
     → bip8 (lane 12 j xs) ≡ bip8 (cells (λ i. bip8 (lane 48 (j + 12 * i) xs)) 4)
 fold12 j xs h small =
     folded 12 4 48 (λ k. omega arith) (λ k. omega arith) (λ k. omega arith) (λ a b e. omega arith) (λ a b g. omega arith) j 0 xs h small
 
--- BIP-8 of 48
+-- BIP-8 from BIP of 48 bytes
 fold1 : (xs : List ℕ) → ((i : ℕ) → get_or xs i 0 < 2 ^ 8) → bip8 (lane 1 0 xs) ≡ bip8 (cells (λ i. bip8 (lane 48 (0 + 1 * i) xs)) 48)
 fold1 xs small =
     folded 1 48 48 (λ k. omega arith) (λ k. omega arith) (λ k. omega arith) (λ a b e. omega arith) (λ a b g. omega arith) 0 0 xs

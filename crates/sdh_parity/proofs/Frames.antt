@@ -30,7 +30,7 @@ gone h k a b c =
     ∙ ap (bit_xor a) (pull k h (bit_xor b (bit_xor k c)) ∙ ap (bit_xor h) (pull k b (bit_xor k c) ∙ ap (bit_xor b) (twice k c))))
     ∙ pull h a (bit_xor h (bit_xor b c)) ∙ ap (bit_xor a) (twice h (bit_xor b c))
 
--- two parts h and k that were added before, and stand between the others
+-- two parts h and k, which stand between other parts and whose parity is added a second time
 module _ (m p q r : ℕ) (x h y k z sums : List ℕ) (lx : length x ≡ p * m) (lh : length h ≡ r * m) (ly : length y ≡ q * m)
     (lk : length k ≡ r * m) where
   sum : ℕ → List ℕ → ℕ
@@ -111,7 +111,8 @@ covered n bytes sums long room has =
     without m 87 87 3 a h b k z sums la lh lb lk (subst (λ l. HasLanes m ((h ++ k) ++ l) sums) all has) in
     lanes-are m sums (a ++ (b ++ z)) room only ∙ ap (bip_lanes m) joined
 
--- by the heads, and by BIP of 48 bytes of all bytes after the first 9N, which were added to them
+-- the parity of a frame, from the parity of the heads with the BIP of 48 bytes of all bytes after the first 9N added to
+-- it
 pub covered-by : (n : ℕ) (bytes back lanes old new : List ℕ) → length bytes ≡ 2430 * n → 0 < 3 * n → 3 * n ≤ length new
     → back ≡ drop (9 * n) bytes → ((i : ℕ) → get_or back i 0 < 2 ^ 8) → HasLanes (3 * n) (heads n bytes) old → HasLanes 48 back lanes
     → ((before more : List ℕ) → 0 ≡ length before % (3 * n) → HasLanes (3 * n) before old → HasLanes 48 more lanes

@@ -50,7 +50,7 @@ pub byte-lt : (k : ℕ) → scrambling_byte k < 2 ^ 8
 unfolding scrambling_byte
 byte-lt k = from_bits-lt (λ j. scrambling_bit (8 * k + (7 - j))) 8 (λ j. bit-lt (8 * k + (7 - j)))
 
--- what was added to a byte can be taken away
+-- a byte is below 256 where it is with the sequence added
 pub small-back : (x y k : ℕ) → y ≡ bit_xor x (scrambling_byte k) → y < 2 ^ 8 → x < 2 ^ 8
 small-back x y k e h =
     let back : bit_xor y (scrambling_byte k) ≡ x =
@@ -58,7 +58,7 @@ small-back x y k e h =
     ∙ ap (bit_xor x) (xor_self (scrambling_byte k)) ∙ xor_zero_r x in
     subst (λ z. z < 2 ^ 8) back (xor_lt 8 y (scrambling_byte k) h (byte-lt k))
 
--- what is so in each third of 48
+-- what holds of each third of 48
 pub thirds : (P : ℕ → Type 0) → ((j : ℕ) → j < 16 → P j) → ((j : ℕ) → j < 16 → P (16 + j)) → ((j : ℕ) → j < 16 → P (32 + j)) → (j : ℕ)
     → j < 48 → P j
 thirds P first second third j h =
@@ -72,7 +72,7 @@ thirds P first second third j h =
 
 -- ---- a row in three steps
 
--- each third from the old bytes, and what the others leave
+-- each step adds the sequence to its third of the row, and the other steps leave that third
 module _ (old b1 b2 b3 : List ℕ) (i k : ℕ)
     (inside1 : (j : ℕ) → j < 16 → get_or b1 (i + j) 0 ≡ bit_xor (get_or old (i + j) 0) (scrambling_byte (k + j)))
     (below2 : (m : ℕ) → m < i + 16 → get_or b2 m 0 ≡ get_or b1 m 0)
@@ -273,7 +273,7 @@ opened-next at from to new a b c a' b' c' r k i is so below inside small longs f
   summed = summed-next to new a b c a' b' c' r i is so.summed below (λ m h. small m) longs fa fb fc;
 }
 
--- bytes to which the sequence was added are small where what is left of them is
+-- bytes are below 256 where the bytes with the sequence added are
 pub all-small : (old new : List ℕ) (at : ℕ) → ((i : ℕ) → i < length old
     → get_or new i 0 ≡ bit_xor (get_or old i 0) (scrambling_byte (at + i))) → ((i : ℕ) → get_or new i 0 < 2 ^ 8) → (i : ℕ)
     → get_or old i 0 < 2 ^ 8

@@ -1,4 +1,4 @@
--- A part of a list to which the sequence was added, from a place that is a whole number of blocks.
+-- A part of a list to which the sequence was added, from a place that is a multiple of 1016.
 use Rattle.std.proofs.Common.{◌≡◌, ℕ, ◌+◌, ◌-◌, ◌*◌, ◌<◌, ◌≤◌, length, get_or, arith, List, take, drop, sym, ap, ◌∙◌, inl, inr}
 use Rattle.std.proofs.lemmas.Bool.{cases_lt}
 use borrow.Rule.Slice.PartMut.{put_mid}

@@ -52,8 +52,8 @@ parity-of-added old new at long each small_old small_new =
     (λ k. byte-lt (at + k))
     ∙ ap (λ l. bit_xor (bip8 l) (bip8 (cells (λ k. scrambling_byte (at + k)) (length old)))) (as-cells old)
 
--- the parity on the line from that of the clear bytes, which are those of a piece after or before the sequence was
--- added
+-- the parity on the line, from that of the clear bytes of a piece: those after the sequence was added where `after`
+-- holds, and those before it otherwise
 pub parity-of-line : (after : Bool) (old new lanes : List ℕ) (at sum key : ℕ) → length new ≡ length old
     → ((i : ℕ) → i < length old → get_or new i 0 ≡ bit_xor (get_or old i 0) (scrambling_byte (at + i)))
     → ((i : ℕ) → get_or old i 0 < 2 ^ 8) → ((i : ℕ) → get_or new i 0 < 2 ^ 8) → length lanes ≡ 48
@@ -78,7 +78,7 @@ first n = bip8 (cells scrambling_byte n)
 first-more : (n : ℕ) → first (n + 1) ≡ bit_xor (first n) (scrambling_byte n)
 first-more n = ap bip8 (cells-more scrambling_byte n) ∙ bip8-push (cells scrambling_byte n) (scrambling_byte n) (byte-lt n)
 
--- the sums of the first bytes of a list: of none, of one and so on, each with p added
+-- the BIP-8 of the first i bytes of a list, for i from 0 on, each with p added
 abbrev sums_from : ℕ → List ℕ → List ℕ
 sums_from p [] = p ∷ []
 sums_from p (x ∷ xs) = p ∷ sums_from (bit_xor p x) xs
@@ -133,7 +133,8 @@ first-repeats (suc b) k =
 first-modulo : (n : ℕ) → first (n % 1016) ≡ first n
 first-modulo n = let e : n / 1016 * 1016 + n % 1016 ≡ n = omega arith in sym (first-repeats (n / 1016) (n % 1016)) ∙ ap first e
 
--- the parity of m of its bytes, by those of the bytes before them and up to their end
+-- the parity of m bytes of the sequence: the XOR of the parity of the bytes before them and that of the bytes up to
+-- their end
 pub parity-between : (at m x y : ℕ) → x ≡ first (at % 1016) → y ≡ first ((at + m) % 1016)
     → bit_xor x y ≡ bip8 (cells (λ k. scrambling_byte (at + k)) m)
 parity-between at m x y before after =

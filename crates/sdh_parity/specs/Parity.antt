@@ -26,6 +26,6 @@ section_bytes n bytes =
 unfoldable pub section_parity : ℕ → List ℕ → List ℕ
 section_parity n bytes = bip_lanes (3 * n) (section_bytes n bytes)
 
--- the `count` bytes at place `at`, one stride after it, and so on
+-- the `count` bytes at the places `at`, `at` + `stride`, `at` + 2 `stride` and so on
 abbrev pub every : ℕ → ℕ → ℕ → List ℕ → List ℕ
 every at stride count bytes = cells (λ r. slice_index bytes (at + r * stride)) count

@@ -5,11 +5,12 @@ use Rattle.sdh_basics.specs.Indexed.{map_from}
 use Rattle.sdh_parity.specs.Scrambling.{scrambled_byte, scrambled}
 use Rattle.sdh_parity.specs.Parity.{lane, bip_lanes}
 
--- a piece once scrambled, where it begins at byte i of its frame, whose first `clear` bytes stay
+-- the scrambled form of a piece that begins at byte i of its frame; the first `clear` bytes of the frame are not
+-- scrambled
 unfoldable pub scrambled_from : ℕ → ℕ → List ℕ → List ℕ
 scrambled_from clear i bytes = map_from (scrambled_byte clear) i bytes
 
--- how many bytes of a frame stay clear, and how many bytes of it have passed
+-- the number of bytes at the head of a frame that are not scrambled, and the number of its bytes that have passed
 pub record Position : Type 0 where
   pub clear : ℕ
   pub at : ℕ

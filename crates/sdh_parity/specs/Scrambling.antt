@@ -19,10 +19,10 @@ scrambling_bit (suc (suc (suc (suc (suc (suc (suc i))))))) = (scrambling_bit (su
 unfoldable pub scrambling_byte : ℕ → ℕ
 scrambling_byte k = from_bits (λ j. scrambling_bit (8 * k + (7 - j))) 8
 
--- byte i of a frame once scrambled, where it was x before: the first `clear` bytes stay
+-- the scrambled form of byte i of a frame, which is x before: the first `clear` bytes are not scrambled
 unfoldable pub scrambled_byte : ℕ → ℕ → ℕ → ℕ
 scrambled_byte clear i x = if nat_lt i clear then x else bit_xor x (scrambling_byte (i - clear))
 
--- a frame once scrambled: the sequence is added to all but its first `clear` bytes
+-- the scrambled form of a frame: the sequence is added to all but its first `clear` bytes
 unfoldable pub scrambled : ℕ → List ℕ → List ℕ
 scrambled clear bytes = map_from (scrambled_byte clear) 0 bytes

@@ -1,4 +1,5 @@
-//! Adding pieces of any length to the 3N bytes of BIP-24N. Bytes are added modulo 2, bit by bit (XOR).
+//! Adding pieces of any length to the 3N bytes of BIP-24N. Bytes are added modulo 2, bit by bit (XOR). In a parity of m
+//! bytes, byte i of the input is in lane i modulo m, and byte j of the parity is the BIP-8 of lane j.
 ghost use Rattle.std.specs.Prelude.{◌≡◌, ℕ, List, ◌++◌, ◌+◌, ◌*◌, ◌%◌, ◌^◌, ◌<◌, ◌≤◌, ◌⊎◌, length, slice_index, bit_xor};
 ghost use Rattle.sdh_basics.specs.Parity.{bip8 as parity_of};
 ghost use Rattle.sdh_parity.specs.Parity.{every};
@@ -7,8 +8,8 @@ ghost use Rattle.sdh_parity.specs.Pieces.{HasLanes};
 use crate::through::add_to;
 use std::simd::prelude::*;
 
-// Returns sixteen parities. Number k is that of the bytes at `at` + k, at `at` + k + 12 and so on, one in each of
-// `rows` rows of 12 bytes.
+// Returns sixteen parities, for `rows` rows of 12 bytes. Parity k is that of the bytes at `at` + k, `at` + k + 12 and
+// so on, one in each row.
 fn columns12(bytes: &[u8], at: usize, rows: usize) -> u8x16
     requires { at + 12 * rows + 4 ≤ length bytes.now }
     ensures len { length result ≡ 16 }
@@ -144,7 +145,8 @@ fn add_folded(sums: &mut [u8], lanes: &[u8])
     }
 }
 
-/// Adds a piece that is given by its BIP of 48 bytes. The bytes that were added before it are whole rows of 3N.
+/// Adds a piece that is given by its BIP of 48 bytes, `lanes`. The number of bytes added before it has to be a multiple
+/// of 3N.
 pub fn add_lanes(n: usize, sums: &mut [u8], lanes: &[u8])
     requires rate { (n ≡ 4) ⊎ (n ≡ 16) }
     requires sums { length sums.old ≡ 48 }
@@ -159,7 +161,7 @@ pub fn add_lanes(n: usize, sums: &mut [u8], lanes: &[u8])
     }
 }
 
-/// Returns the lane of the byte after a piece of `len` bytes that begins in the first lane.
+/// Returns the lane of the byte after a piece of `len` bytes that begins in lane 0.
 pub fn lane_behind(n: usize, len: usize) -> usize
     requires rate { (n ≡ 4) ⊎ (n ≡ 16) }
     ensures lane { result ≡ len % (3 * n) }

@@ -16,8 +16,8 @@ pub fn bip8(bytes: &[u8]) -> u8
     parity
 }
 
-/// Writes BIP-24N of a whole frame, 3N bytes, to `out`. N is the rate, 4 or 16. Columns 1 to 9N of rows 1 to 3 don't
-/// count (ITU-T G.707 clause 9.2).
+/// Writes the BIP-24N of a whole frame of 2430N bytes, before scrambling, to `out`, 3N bytes. `n` is N, 4 or 16.
+/// Columns 1 to 9N of rows 1 to 3 don't count (ITU-T G.707 clause 9.2).
 pub fn bip_section(n: usize, bytes: &[u8], out: &mut [u8])
     requires rate { (n ≡ 4) ⊎ (n ≡ 16) }
     requires frame { length bytes.now ≡ 2430 * n }

@@ -23,7 +23,8 @@ fn add_within(part: &mut [u8], s: usize)
     }
 }
 
-// Returns the number of bytes, at most `len`, before the next whole block of 1016 bytes of the sequence.
+// Returns the number of bytes, at most `len`, from byte s of a block to the end of the block. A block is 1016 bytes of
+// the sequence, which repeats after them.
 #[inline(always)]
 fn first_block(s: usize, len: usize) -> usize
     requires { s < 1016 }
@@ -94,7 +95,8 @@ impl Scrambler {
         self.at += bytes.len();
     }
 
-    // Returns whether the next bytes are to be scrambled: all bytes that stay clear have passed.
+    // Returns whether the next bytes are to be scrambled: the first bytes of the frame, which stay clear, have all
+    // passed.
     fn is_behind(&self) -> bool
         ensures { result ≡ nat_le self.now.clear self.now.at }
     {
@@ -215,14 +217,15 @@ impl BipSection {
         self.next = add_piece(self.n, self.next, &mut self.sums, bytes);
     }
 
-    // Returns whether the bytes so far are whole rows of 3 N.
+    // Returns whether the number of bytes so far is a multiple of 3N.
     fn is_whole(&self) -> bool
         ensures { result ≡ (self.now.next == 0) }
     {
         self.next == 0
     }
 
-    // Adds the next piece, which is given by its length and its BIP of 48 bytes. The bytes so far are whole rows of 3N.
+    // Adds the next piece, which is given by its length and its BIP of 48 bytes. The number of bytes so far has to be a
+    // multiple of 3N.
     fn add_lanes(&mut self, len: usize, lanes: &[u8; 48])
         requires whole { self.old.next ≡ 0 }
         requires lanes { length lanes.now ≡ 48 }
@@ -244,8 +247,8 @@ impl BipSection {
 }
 
 /// Sends the next piece of a frame: adds it to `clear`, the BIP-24N of the bytes before scrambling; scrambles it; and
-/// adds it to `line`, the BIP-8 of the bytes on the line. Where the piece begins a row of 3N bytes, after the bytes
-/// that stay clear, that takes one pass.
+/// adds it to `line`, the BIP-8 of the bytes on the line. All this takes one pass over the bytes where the piece lies
+/// after the unscrambled head of the frame, and the number of bytes added to `clear` before is a multiple of 3N.
 pub fn send_piece(
     clear: &mut BipSection,
     scrambler: &mut Scrambler,
@@ -272,8 +275,8 @@ pub fn send_piece(
 }
 
 /// Receives the next piece of a frame: adds it to `line`, the BIP-8 of the bytes on the line; descrambles it; and adds
-/// it to `clear`, the BIP-24N of the descrambled bytes. Where the piece begins a row of 3N bytes, after the bytes that
-/// stay clear, that takes one pass.
+/// it to `clear`, the BIP-24N of the descrambled bytes. All this takes one pass over the bytes where the piece lies
+/// after the unscrambled head of the frame, and the number of bytes added to `clear` before is a multiple of 3N.
 pub fn receive_piece(
     line: &mut Bip8,
     scrambler: &mut Scrambler,

@@ -89,8 +89,8 @@ static SEQUENCE: [u8; 1160] = [
     0x49, 0xB5, 0xBD, 0x8D, 0x2E, 0xE6, 0x55, 0xFC,
 ];
 
-// The BIP-8 of the first bytes of the scrambling sequence: of none, of one and so on. That of the first 1016 bytes is
-// 0, so the values repeat after 1016.
+// Value i is the BIP-8 of the first i bytes of the scrambling sequence. The BIP-8 of its first 1016 bytes is 0, so the
+// values repeat after 1016.
 #[rattlefmt::skip]
 static PARITIES: [u8; 1016] = [
     0x00, 0xFE, 0xFA, 0xE2, 0xB3, 0x57, 0x0E, 0xDA, 0x20, 0x3C, 0x75, 0xC0, 0x7D, 0xF0, 0xDE, 0x38,
@@ -159,6 +159,7 @@ static PARITIES: [u8; 1016] = [
     0x26, 0x28, 0x0C, 0xD6, 0x08, 0xCE, 0x59, 0x2A,
 ];
 
+// Returns byte i of the scrambling sequence.
 #[inline(always)]
 pub(crate) fn sequence(i: usize) -> u8
     requires { i < 1160 }
@@ -175,7 +176,7 @@ fn table() -> &'static [u8; 1160]
     &SEQUENCE
 }
 
-// Returns BIP-8 of the first i bytes of the sequence.
+// Returns the BIP-8 of the first i bytes of the sequence.
 #[inline(always)]
 fn parity_before(i: usize) -> u8
     requires { i < 1016 }
@@ -184,7 +185,7 @@ fn parity_before(i: usize) -> u8
     PARITIES[i]
 }
 
-// Returns BIP-8 of `len` bytes of the sequence, from its byte `at` on.
+// Returns the BIP-8 of `len` bytes of the sequence, from its byte `at` on.
 pub(crate) fn sequence_parity(at: usize, len: usize) -> u8
     requires { at + len ≤ 38880 }
     ensures { result ≡ parity_of (cells (λ k. scrambling_byte (at + k)) len) }
@@ -213,7 +214,7 @@ fn add_part(part: &mut [u8])
     }
 }
 
-// Adds the sequence, from its start, to bytes of any number.
+// Adds the sequence, from its start, to any number of bytes.
 pub(crate) fn add_sequence(bytes: &mut [u8])
     ensures { (k : ℕ) → k < length bytes.old → slice_index bytes.new k ≡ bit_xor (slice_index bytes.old k) (scrambling_byte k) }
 {

@@ -1,6 +1,7 @@
-//! The scrambler and both parities in one pass over the bytes of a piece. Only the clear bytes are summed. They are the
-//! bytes after the pass where `clear_after` holds, and those before it otherwise. The parity of the other bytes, those
-//! on the line, is that of the clear bytes with that of the sequence added.
+//! The scrambler and both parities in one pass over the bytes of a piece. `clear_after` says that the pass descrambles:
+//! the clear bytes are those after it. Otherwise the pass scrambles, and the clear bytes are those before it. Only the
+//! parity of the clear bytes is computed from bytes. The parity of the bytes on the line is the XOR of that parity and
+//! the parity of the sequence.
 ghost use Rattle.std.specs.Prelude.{◌≡◌, ℕ, ◌+◌, ◌*◌, ◌%◌, ◌^◌, ◌<◌, ◌≤◌, if◌then◌else◌, length, replicate, slice_index, bit_xor};
 ghost use Rattle.sdh_basics.specs.Parity.{bip8 as parity_of};
 ghost use Rattle.sdh_parity.specs.Parity.{every};
@@ -22,8 +23,8 @@ fn keyed(old: u8x16, k: usize) -> u8x16
     old ^ key(k)
 }
 
-// Adds the sequence, from its byte k on, to the sixteen bytes from place i on. Returns `sum` with these bytes added as
-// they are when clear: after the step where `clear_after` holds, and before it otherwise.
+// Adds the sequence, from its byte k on, to the sixteen bytes from place i on. Returns the XOR of `sum` and the clear
+// form of these bytes: that after the step where `clear_after` holds, and that before it otherwise.
 #[inline(always)]
 fn step(bytes: &mut [u8], i: usize, k: usize, sum: u8x16, clear_after: bool) -> u8x16
     requires room { i + 16 ≤ length bytes.old }
@@ -42,8 +43,8 @@ fn step(bytes: &mut [u8], i: usize, k: usize, sum: u8x16, clear_after: bool) -> 
     sum ^ (if clear_after { new } else { old })
 }
 
-// Copies the sixteen bytes from place i on, and adds the sequence, from its byte k on, to the copies. Returns `sum`
-// with the copies added, which are clear.
+// Copies the sixteen bytes from place i on, and descrambles the copy: it adds the sequence, from its byte k on. Returns
+// the XOR of `sum` and the descrambled copy.
 #[inline(always)]
 fn open_step(from: &[u8], to: &mut [u8], i: usize, k: usize, sum: u8x16) -> u8x16
     requires room { i + 16 ≤ length from.now }
@@ -60,7 +61,7 @@ fn open_step(from: &[u8], to: &mut [u8], i: usize, k: usize, sum: u8x16) -> u8x1
     sum ^ new
 }
 
-// The parities of 48 columns: of the first sixteen, the next sixteen and the last sixteen.
+// The parities of 48 columns: `a` those of the first sixteen, `b` of the next sixteen and `c` of the last sixteen.
 #[derive(Clone, Copy)]
 struct Sums {
     a: u8x16,
@@ -81,8 +82,8 @@ fn no_sums() -> Sums
     }
 }
 
-// Adds the sequence, from its byte k on, to the row of 48 bytes from place i on. Returns the sums with these bytes
-// added, as they are when clear: after the step where `clear_after` holds, and before it otherwise.
+// Adds the sequence, from its byte k on, to the row of 48 bytes from place i on. Returns the XOR of the sums and the
+// clear form of these bytes: that after the step where `clear_after` holds, and that before it otherwise.
 #[inline(always)]
 fn mix_row(bytes: &mut [u8], i: usize, k: usize, sums: Sums, clear_after: bool) -> Sums
     requires room { i + 48 ≤ length bytes.old }
@@ -106,8 +107,8 @@ fn mix_row(bytes: &mut [u8], i: usize, k: usize, sums: Sums, clear_after: bool) 
     Sums { a, b, c }
 }
 
-// Copies the row of 48 bytes from place i on, and adds the sequence, from its byte k on, to the copy. Returns the sums
-// with the copy added, which is clear.
+// Copies the row of 48 bytes from place i on, and descrambles the copy: it adds the sequence, from its byte k on.
+// Returns the XOR of the sums and the descrambled copy.
 #[inline(always)]
 fn open_row(from: &[u8], to: &mut [u8], i: usize, k: usize, sums: Sums) -> Sums
     requires room { i + 48 ≤ length from.now }
@@ -142,7 +143,8 @@ fn after_three(k: usize) -> usize
 }
 
 // Adds the sequence, from its byte `at` on, to whole rows of 48 bytes. Returns the parities of the columns of clear
-// bytes. It goes on by three rows, so that the place in the sequence is brought below 1016 only after each third.
+// bytes. The loop takes three rows at a time, so that the place in the sequence is reduced modulo 1016 only after every
+// third row.
 #[inline(always)]
 fn mix(bytes: &mut [u8], at: usize, rows: usize, clear_after: bool) -> Sums
     requires rows { length bytes.old ≡ 48 * rows }
@@ -171,7 +173,7 @@ fn mix(bytes: &mut [u8], at: usize, rows: usize, clear_after: bool) -> Sums
 }
 
 // Copies whole rows of 48 bytes, and adds the sequence, from its byte `at` on, to the copies. Returns the parities of
-// the columns of the copies. It goes on by three rows, as `mix` does.
+// the columns of the copies. The loop takes three rows at a time, as that of `mix` does.
 #[inline(always)]
 fn open_rows(from: &[u8], to: &mut [u8], at: usize, rows: usize) -> Sums
     requires rows { length from.now ≡ 48 * rows }
@@ -213,7 +215,7 @@ fn join(a: u8x16, b: u8x16, c: u8x16, all: &mut [u8])
     c.copy_to_slice(&mut all[32..]);
 }
 
-/// Adds `len` bytes to the first `len` of the sums.
+/// Adds `len` bytes to the first `len` of the sums, one to each.
 #[inline(always)]
 pub fn add_to(sums: &mut [u8], bytes: &[u8], len: usize)
     requires bytes { length bytes.now ≡ len }
@@ -239,7 +241,8 @@ fn add_key(bytes: &mut [u8], len: usize, k: usize)
 }
 
 // Adds the sequence, from its byte k on, to a part of a row of 48 bytes, and adds the part's clear bytes to the first
-// lanes. They are the part's bytes after the sequence is added where `clear_after` holds, and before it otherwise.
+// lanes. The clear bytes are those after the sequence is added where `clear_after` holds, and those before it
+// otherwise.
 #[inline(always)]
 fn pass_part(bytes: &mut [u8], len: usize, k: usize, lanes: &mut [u8], clear_after: bool)
     requires bytes { length bytes.old ≡ len }
@@ -261,8 +264,8 @@ fn pass_part(bytes: &mut [u8], len: usize, k: usize, lanes: &mut [u8], clear_aft
 }
 
 // Adds the sequence, from its byte k on, to the bytes after the last whole row of 48, and adds their clear bytes to the
-// lanes. A row of an STM-4 frame leaves 24 such bytes, and 36 without its overhead. Each of these lengths is compiled
-// as a constant, so that the short loops are unrolled.
+// lanes. A row of an STM-4 frame has 24 such bytes, or 36 without its overhead. Both lengths are compiled as constants,
+// so that the short loops are unrolled.
 fn pass_rest(bytes: &mut [u8], k: usize, lanes: &mut [u8], clear_after: bool)
     requires few { length bytes.old ≤ 48 }
     requires key { k + length bytes.old ≤ 1160 }
@@ -279,15 +282,16 @@ fn pass_rest(bytes: &mut [u8], k: usize, lanes: &mut [u8], clear_after: bool)
     }
 }
 
-/// BIP of 48 bytes of the clear bytes of a piece, and BIP-8 of its bytes on the line.
+/// The parities of a piece: in `lanes` the BIP of 48 bytes of its clear bytes, and in `line` the BIP-8 of its bytes on
+/// the line.
 #[derive(Drop)]
 pub struct Passed {
     pub lanes: [u8; 48],
     pub line: u8,
 }
 
-/// Adds the sequence, from its byte `at` on, to a piece, and returns the parities of its bytes. Its bytes are clear
-/// after that where `clear_after` holds, and before it otherwise.
+/// Adds the sequence, from its byte `at` on, to a piece, and returns the parities of its bytes. The clear bytes are
+/// those after the pass where `clear_after` holds (descrambling), and those before it otherwise (scrambling).
 #[inline(always)]
 pub fn pass(bytes: &mut [u8], at: usize, clear_after: bool) -> Passed
     requires { at + length bytes.old ≤ 38880 }
@@ -309,8 +313,8 @@ pub fn pass(bytes: &mut [u8], at: usize, clear_after: bool) -> Passed
     Passed { lanes, line }
 }
 
-/// Copies a piece, and adds the sequence, from its byte `at` on, to the copy. Returns the parities of the copy, which
-/// is clear, and of the bytes on the line.
+/// Copies a piece, and descrambles the copy: it adds the sequence, from its byte `at` on. Returns the parities of the
+/// descrambled copy and of the bytes on the line.
 #[inline(always)]
 pub fn open(from: &[u8], to: &mut [u8], at: usize) -> Passed
     requires few { at + length from.now ≤ 38880 }

@@ -1,5 +1,6 @@
-//! Whole frames: the scrambler and both parities in one pass. B2 doesn't cover the heads of rows 2 and 3. They pass
-//! together with the bytes that it covers, and are added a second time, so that they don't count.
+//! Whole frames: the scrambler and both parities in one pass. The head of a row is its first 9N bytes. B2 doesn't cover
+//! the heads of rows 2 and 3. They pass together with the bytes that B2 covers, and their parity is then added a second
+//! time, which removes it (XOR).
 ghost use Rattle.std.specs.Prelude.{◌≡◌, ◌*◌, ◌⊎◌, ◌++◌, length, take, slice_range};
 ghost use Rattle.sdh_basics.specs.Parity.{bip8 as parity_of};
 ghost use Rattle.sdh_parity.specs.Parity.{section_parity};
@@ -10,15 +11,15 @@ use crate::adding::{add_lanes, add_rows};
 use crate::parity::bip8;
 use crate::through::{open, pass};
 
-/// The parities of a frame: BIP-8 of its bytes on the line, and in the first 3N bytes of `clear` BIP-24N of those bytes,
-/// without scrambling, that B2 covers.
+/// The parities of a frame: in `line` the BIP-8 of its bytes on the line, and in the first 3N bytes of `clear` the
+/// BIP-24N of its unscrambled bytes. BIP-24N leaves out the first 9N bytes of rows 1 to 3.
 #[derive(Debug, Drop)]
 pub struct FrameParities {
     pub line: u8,
     pub clear: [u8; 48],
 }
 
-// Returns, in the first 3N bytes, the sums of the heads of rows 2 and 3: of their first 9N bytes.
+// Returns, in the first 3N bytes, the BIP-24N of the heads of rows 2 and 3.
 fn heads_of(n: usize, bytes: &[u8]) -> [u8; 48]
     requires rate { (n ≡ 4) ⊎ (n ≡ 16) }
     requires frame { length bytes.now ≡ 2430 * n }
@@ -31,8 +32,8 @@ fn heads_of(n: usize, bytes: &[u8]) -> [u8; 48]
     sums
 }
 
-/// Scrambles a frame in place. Returns its parities: of the bytes on the line, which are those afterwards, and of the
-/// bytes before.
+/// Scrambles a frame of 2430N bytes in place. Returns the BIP-8 of the scrambled bytes, which go on the line, and the
+/// BIP-24N of the bytes before scrambling. `n` is N, 4 or 16.
 pub fn send_frame(n: usize, bytes: &mut [u8]) -> FrameParities
     requires rate { (n ≡ 4) ⊎ (n ≡ 16) }
     requires frame { length bytes.old ≡ 2430 * n }
@@ -51,8 +52,8 @@ pub fn send_frame(n: usize, bytes: &mut [u8]) -> FrameParities
     }
 }
 
-/// Descrambles a frame in place. Returns its parities: of the bytes on the line, which are those before, and of the
-/// bytes afterwards.
+/// Descrambles a frame of 2430N bytes in place. Returns the BIP-8 of the bytes as they came from the line, and the
+/// BIP-24N of the descrambled bytes. `n` is N, 4 or 16.
 pub fn receive_frame(n: usize, bytes: &mut [u8]) -> FrameParities
     requires rate { (n ≡ 4) ⊎ (n ≡ 16) }
     requires frame { length bytes.old ≡ 2430 * n }
@@ -71,8 +72,8 @@ pub fn receive_frame(n: usize, bytes: &mut [u8]) -> FrameParities
     }
 }
 
-/// Descrambles a frame from one slice to another. Returns its parities: of the bytes in `from`, which are those on the
-/// line, and of the bytes in `to`.
+/// Descrambles a frame of 2430N bytes from one slice to another. Returns the BIP-8 of the bytes in `from`, as they came
+/// from the line, and the BIP-24N of the descrambled bytes in `to`. `n` is N, 4 or 16.
 pub fn open_frame(n: usize, from: &[u8], to: &mut [u8]) -> FrameParities
     requires rate { (n ≡ 4) ⊎ (n ≡ 16) }
     requires from { length from.now ≡ 2430 * n }

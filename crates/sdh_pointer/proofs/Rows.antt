@@ -108,7 +108,7 @@ ais_ndf_action r v = refl
 abbrev pub can_come : Mode → Event → Bool
 can_come m e = is_norm m || not (is_same e || is_up e || is_down e)
 
--- what a row is to a mode, an event and a state
+-- the row of a mode and an event, for a state
 record IsRow (m : Mode) (e : Event) (r : Reading) : Type 0 where
   row : ReadingRow
   only : filter (is_row_of m e) reading_table ≡ row ∷ []

@@ -26,7 +26,7 @@ unfolding word_sent form_sent value_sent next_sending sending_row_of sending_tab
 new_sent None v = record { form = refl; word = refl; next = refl }
 new_sent (Some g) v = record { form = refl; word = refl; next = refl }
 
--- any input but Ais, in Ais
+-- in state None, which is AIS, any input but Ais is sent as a new data flag
 pub first_sent : (a : Action) (v : ℕ) → a ≢ action.Ais → IsSent None a v form.Enabled v (Some v)
 unfolding word_sent form_sent value_sent next_sending sending_row_of sending_table
 first_sent action.Normal v h = record { form = refl; word = refl; next = refl }

@@ -13,7 +13,7 @@ word_in bytes = 256 * slice_index bytes 0 + slice_index bytes 1
 abbrev pub word_bytes : ℕ → List ℕ
 word_bytes w = (w / 256) ∷ (w % 256) ∷ []
 
--- in how many of these bits two numbers differ
+-- the number of these bits in which two numbers differ
 unfoldable pub differing : List ℕ → ℕ → ℕ → ℕ
 differing bits a b = sum_by (λ j. (bit_at a j + bit_at b j) % 2) bits
 

@@ -31,14 +31,14 @@ const I_MASK: u16 = 0x2AA;
 
 const D_MASK: u16 = 0x155;
 
-// Returns in how many bits of a mask two numbers differ.
+// Returns the number of bits of a mask in which two numbers differ.
 fn differences(left: u16, right: u16, mask: u16) -> u32
     ensures { result ≡ count_ones (bit_and (bit_xor left right) mask) }
 {
     ((left ^ right) & mask).count_ones()
 }
 
-// Returns in how many I bits two values differ.
+// Returns the number of I bits in which two values differ.
 #[tactic(auto, using(crate::proofs::Masks::i_mask))]
 pub fn i_changes(left: u16, right: u16) -> u32
     ensures { result ≡ differing i_bits left right }
@@ -46,7 +46,7 @@ pub fn i_changes(left: u16, right: u16) -> u32
     differences(left, right, I_MASK)
 }
 
-// Returns in how many D bits two values differ.
+// Returns the number of D bits in which two values differ.
 #[tactic(auto, using(crate::proofs::Masks::d_mask))]
 pub fn d_changes(left: u16, right: u16) -> u32
     ensures { result ≡ differing d_bits left right }
@@ -54,7 +54,7 @@ pub fn d_changes(left: u16, right: u16) -> u32
     differences(left, right, D_MASK)
 }
 
-// Returns in how many N bits a word differs from these.
+// Returns the number of N bits in which a word differs from these.
 #[tactic(auto, using(crate::proofs::Masks::n_mask))]
 fn n_changes(word: u16, bits: u16) -> u32
     ensures { result ≡ differing n_bits (word / 4096) bits }

@@ -6,8 +6,8 @@ use Rattle.sdh_rounds.specs.Observed as observed
 use Rattle.sdh_world.specs.Held.{HeldRing}
 use Rattle.sdh_world.specs.Rounds.{World}
 
--- one more round was run and left this ring, after k rounds of a course, which gives the world after each number of
--- rounds
+-- After k rounds of a course one more round ran and left this ring. A course gives the world after each number of
+-- rounds.
 abbrev pub RanOne : (ℕ → World) → ℕ → HeldRing → Type 0
 RanOne = observed.RanOne adm
 

@@ -41,8 +41,8 @@ use sdh_terminal::{Deliveries, Outlet};
 use std::alloc::{AllocError, Global};
 use std::marker::Model;
 
-/// The nodes of a ring, which run in rounds, and what their ports delivered in the last one. While a settle step runs at
-/// which nobody looks, that waits at the nodes.
+/// The nodes of a ring, which run in rounds, and what their ports delivered in the last one. While a settle step runs
+/// without an observer, what the ports delivered waits at the nodes.
 #[derive(Debug, Drop)]
 pub struct Ring {
     running: Running,
@@ -111,7 +111,7 @@ impl Ring {
 
     /// Holds the controller of a node for the next `turns` rounds, in place of those left of an earlier call. Where the
     /// node is idle or isolated, the ring stays vouched for (`IsVouched`). Where the node is switched or passes traffic
-    /// through, the ring isn't vouched for then: in a ring that is, only idle or isolated nodes are held.
+    /// through, the ring isn't vouched for as long as the node is held.
     pub fn hold(&mut self, at: Pos, turns: u32)
         requires at { at.0 < length self.old.ids }
         requires some { 1 ≤ turns }
@@ -143,7 +143,7 @@ impl Ring {
         self.running.slip(port, turn, count);
     }
 
-    /// Returns how many slips wait at a port of a circuit.
+    /// Returns the number of slips that wait at a port of a circuit, 0 to 16.
     pub fn waiting(&self, port: PortId) -> u8
         requires { port.circuit < length self.now.circuits.circuits }
         ensures waiting { result ≡ waiting_at self.now port }

@@ -1,4 +1,4 @@
-//! The nodes of a ring while rounds run and nobody looks at what ports deliver.
+//! The nodes of a ring while rounds run without an observer of what the ports deliver.
 ghost use Rattle.std.specs.Prelude.{◌≡◌, ◌+◌, ◌/◌, ◌<◌, ◌≤◌, false, IfOk, length, slice_get};
 ghost use Rattle.sdh_ringmap.specs.Rates.{n_of};
 ghost use Rattle.sdh_circuits.specs.Kept.{KeepsRing};

@@ -1,4 +1,4 @@
--- The ports of circuits at a node: each is found by its name, and what it is is fixed.
+-- The ports of circuits at a node: each is found by its name, and its name, side, slot and customer never change.
 use Rattle.std.proofs.Common.{◌≡◌, ◌≢◌, ℕ, zero, suc, ◌+◌, ◌<◌, Bool, true, false, eqb, List, [], ◌∷◌, ◌++◌, length, get_or, map}
 use Rattle.std.proofs.Common.{Option, Some, None, refl, ap, sym, ◌∙◌, subst, arith}
 use Rattle.std.specs.Prelude.{◌==◌, if◌then◌else◌, find, option_map, slice_get, IsSome, All}
@@ -42,7 +42,7 @@ found_has P id (u ∷ ts) t all is = by (is_port id u) refl (λ rest. found_has 
         (let k = sym (find_head id u ts e) ∙ is in cc) in subst (λ x. P x × (is_port id x ≡ true)) same (all 0 u (omega arith), e)
     by false e later = later (sym (find_tail id u ts e) ∙ is)
 
--- a port that is found among what a change made of all has what is true of all these
+-- a port that is found after all ports were changed has what is true of every changed port
 pub found_one : (P : Tributary → Type 0) (id : PortId) (f : ℕ → Tributary → Tributary) (i : ℕ) (ts : List Tributary) (t : Tributary)
     → ((k : ℕ) (u : Tributary) → P (f k u)) → find (is_port id) (map_from f i ts) ≡ Some t → P t
 found_one P id f i [] t each is = absurd (cc)
@@ -71,7 +71,7 @@ itself i B c = let t : eqb i i ≡ true = eq-eqb i i refl in rw t refl
 other_number : (i j : ℕ) (e f : End) (c : Provisioned) → i ≢ j → is_port (port_id j e) (port_new i c f) ≡ false
 other_number i j e f c apart = let t : eqb i j ≡ false = ne_eqb i j apart in rw t refl
 
--- neither of two ports that may be there is meant
+-- neither of two ports, which may be there, has the name: the search goes on after them
 skipped : (id : PortId) (a b : Bool) (x y : Tributary) (rest : List Tributary) → is_port id x ≡ false → is_port id y ≡ false
     → find (is_port id) (((if a then x ∷ [] else []) ++ (if b then y ∷ [] else [])) ++ rest) ≡ find (is_port id) rest
 skipped id true true x y rest hx hy = find_tail id x (y ∷ rest) hx ∙ find_tail id y rest hy
@@ -79,7 +79,7 @@ skipped id true false x y rest hx hy = find_tail id x rest hx
 skipped id false true x y rest hx hy = find_tail id y rest hy
 skipped id false false x y rest hx hy = refl
 
--- the first of them is meant and there, and the second
+-- the first of two ports is there and has the name; and then the same for the second
 first_of_two : (id : PortId) (a b : Bool) (x y : Tributary) (rest : List Tributary) → a ≡ true → is_port id x ≡ true
     → find (is_port id) (((if a then x ∷ [] else []) ++ (if b then y ∷ [] else [])) ++ rest) ≡ Some x
 first_of_two id true b x y rest e hx = find_head id x ((if b then y ∷ [] else []) ++ rest) hx
@@ -129,7 +129,7 @@ among at (x ∷ cs) i (suc j) c e get is =
 
 -- ---- among the ports of a node
 
--- what has a property is found among what a change made of all
+-- the first changed element that has a property is the change of the first element whose change has it
 find_through : {X Y : Type 0} (p : Y → Bool) (f : X → Y) (xs : List X) → find p (map f xs) ≡ option_map f (find (λ x. p (f x)) xs)
 find_through p f [] = refl
 find_through p f (x ∷ xs) = by (p (f x)) refl (find_through p f xs)
@@ -142,7 +142,7 @@ find_through p f (x ∷ xs) = by (p (f x)) refl (find_through p f xs)
 abbrev pub names : PortId → FixedPort → Bool
 names id f = same_port f.port id
 
--- what is fixed of the port with this name, among what is fixed of ports
+-- the fixed part of the port with this name is found by the name among the fixed parts of all ports
 pub fixed_found : (id : PortId) (ts : List Tributary) → find (names id) (map fixed_port ts) ≡ option_map fixed_port (port_of id ts)
 unfolding port_of
 fixed_found id ts = find_through (names id) fixed_port ts

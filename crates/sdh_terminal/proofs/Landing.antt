@@ -1,4 +1,4 @@
--- What a frame that landed is to a side.
+-- What a side makes of a frame that landed.
 use Rattle.std.proofs.Common.{◌≡◌, ◌≢◌, ℕ, ◌*◌, Bool, true, false, List, Option, Some, None, refl, ap, sym, subst, ◌∙◌}
 use Rattle.sdh_ringmap.specs.declared.terms.Rate.{Rate}
 use Rattle.sdh_frame.specs.Sizes.{Frame}
@@ -8,8 +8,7 @@ use Rattle.sdh_overhead.specs.declared.Received.{Received}
 use Rattle.sdh_overhead.specs.Sections.{Parities, is_framed, received_in, kept_after, opened}
 use Rattle.sdh_terminal.specs.Receiving.{Reception, frame_reception, reception_of}
 
--- only a framed frame is taken in without scrambling, and any other counts as ones: so a frame may be opened before it
--- is known to be framed
+-- a frame may be descrambled before it is known to be framed: an unframed one counts as ones anyway
 opened_by : (rate : Rate) (threshold : ℕ) (last : Option Parities) (bytes : List ℕ) (b : Bool) → is_framed (n_of rate) bytes ≡ b
     → frame_reception rate threshold (scrambled (9 * n_of rate) bytes) (kept_after (n_of rate) bytes) (received_in (n_of rate) last bytes)
     ≡ reception_of (Some (Some bytes)) rate threshold last

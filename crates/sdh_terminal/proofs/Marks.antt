@@ -1,4 +1,5 @@
--- Interpreters and generators say after each step whether it moved them: none moved where all keep what they kept.
+-- Interpreters and generators report after each step whether it changed their state. None reports a change exactly
+-- where all keep what they kept.
 use Rattle.std.proofs.Common.{◌≡◌, ℕ, ◌+◌, Bool, true, false, List, [], ◌∷◌, map, refl, ap, sym, ◌∙◌}
 use Rattle.std.specs.Prelude.{◌&&◌, ◌||◌, not}
 use Rattle.std.specs.List.{list_any}
@@ -70,7 +71,7 @@ module _ (input : ℕ → Input) where
       map-map_from (λ (g : Generator). g.sending) (λ k (g : Generator). after_action g (input (k + 1)).action (input (k + 1)).value) 0 xs
       ∙ sym (map_from-map (λ k s. next_sending s (input (k + 1)).action (input (k + 1)).value) (λ (g : Generator). g.sending) 0 xs)
 
--- ---- nothing moves what doesn't step
+-- ---- an interpreter or a generator that doesn't step keeps what it kept
 
 pub same-readings : (rs : List Reading) → same_readings rs rs ≡ true
 same-readings [] = refl

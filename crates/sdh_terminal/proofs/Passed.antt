@@ -1,4 +1,4 @@
--- How many AU-4s are sent.
+-- The number of AU-4s that are sent.
 use Rattle.std.proofs.Common.{◌≡◌, ℕ, List, Option, length}
 use Rattle.sdh_basics.proofs.CellsLaws.{length-map_from}
 use Rattle.sdh_terminal.specs.Passing.{Input, aus_sent}

@@ -27,7 +27,7 @@ first-mapped : (p : Tributary → Bool) (f : ℕ → Tributary → Tributary) �
 first-mapped p f same i [] = refl
 first-mapped p f same i (t ∷ ts) = rw (same i t, first-mapped p f same (i + 1) ts) refl
 
--- a change that leaves the names leaves the places
+-- a change of all ports that leaves their names leaves their places
 pub place-mapped : (p : Tributary → Bool) (f : ℕ → Tributary → Tributary) → ((k : ℕ) (t : Tributary) → p (f k t) ≡ p t) → (ts : List Tributary)
     → position p (map_from f 0 ts) ≡ position p ts
 place-mapped p f same ts = rw (first-mapped p f same 0 ts, length-map_from f 0 ts) refl

@@ -93,7 +93,7 @@ place_within id (t ∷ ts) i e = (position-Some (is_port id) (t ∷ ts) i t e).0
 
 -- ---- what ports send
 
--- a port is found in a list of changed ports, where the change is none of its name
+-- a port is found among changed ports, where the change leaves the names
 pub found-mapped : {Y : Type 0} (p : Tributary → Bool) (f : ℕ → Tributary → Tributary) (g h : Tributary → Y) (d : Y)
     → ((k : ℕ) (t : Tributary) → p (f k t) ≡ p t) → ((k : ℕ) (t : Tributary) → g (f k t) ≡ h t)
     → (i : ℕ) (ts : List Tributary) → option_map_or g (find p (map_from f i ts)) d ≡ option_map_or h (find p ts) d
@@ -150,7 +150,7 @@ fed_kept old form bytes payload h3 is are lay three full =
     let sent : last_sent (next_feed old) ≡ bytes = (λ j. stream_from old.port (from j) (taken_len (f j))) ∙ sym are in
     record { full = full; payload_is = lay ∙ sym (λ j. laid_payload (f j) (sent j)); h3_is = three ∙ sym (λ j. laid_h3 (f j) (sent j)) }
 
--- slips that wait change nothing of it
+-- pending slips change nothing of what a port keeps
 pub slipped_kept : (feed : Fed) (turn : Turn) (count : ℕ) (payload h3 : List ℕ) → IsFed feed payload h3
     → IsFed (record feed { clock = with_waiting turn count feed.clock }) payload h3
 unfolding sent_by

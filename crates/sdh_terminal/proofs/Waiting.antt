@@ -1,4 +1,4 @@
--- Deliveries that wait in the frames of the last round: what they leave of a port, and what is read of them later.
+-- Deliveries that wait in the frames of the last round: they leave the rest of a port as it is, and are read later.
 use Rattle.std.proofs.Common.{◌≡◌, ℕ, zero, suc, ◌+◌, ◌-◌, ◌<◌, Bool, true, false, Some, None, Option, List, [], ◌∷◌, ◌++◌, length, get_or}
 use Rattle.std.proofs.Common.{map, take, refl, ap, sym, ◌∙◌, arith}
 use Rattle.std.specs.Prelude.{All, IsSome, find, replicate}
@@ -34,7 +34,7 @@ read-from : (d : Tributary → Input) (i : ℕ) (ts : List Tributary)
 read-from d i [] = refl
 read-from d i (t ∷ ts) = ap (λ os. delivered_from (d t) ∷ os) (read-from d (i + 1) ts)
 
--- what is taken for each port is what all have delivered
+-- what is taken out for each port is what the ports have delivered
 pub all-read : (d : Tributary → Input) (ts : List Tributary)
     → map_from (λ k t. delivered_from (d t)) 0 ts ≡ outlets_of (all_delivered_with d ts)
 all-read d ts = read-from d 0 ts

@@ -1,4 +1,4 @@
--- Both sides of a node in a round: what they took in, and what is led on from there.
+-- Both sides of a node in a round: what they took in, and where it goes.
 use Rattle.std.specs.Prelude.{ℕ, ◌-◌, ◌≤◌, List, slice_index_or}
 use Rattle.sdh_ringmap.specs.declared.terms.Rate.{Rate}
 use Rattle.sdh_ringmap.specs.Rates.{n_of}
@@ -37,12 +37,12 @@ received l side au = record {
   au = au_of (n_of (line_on l side).intake.frame.rate) au (line_on l side).intake.frame.bytes;
 }
 
--- of the frames that both sides took in, some payloads have been taken out and are held
+-- the payloads that are held have been taken out of the frames that both sides took in
 pub record AreOf (l : Lines) (w e : Held) : Type 0 where
   pub west : IsOf l.west.intake.frame w
   pub east : IsOf l.east.intake.frame e
 
--- what an AU-4 is fed with by this feeder, where `added` says what each port adds
+-- what a feeder gives an AU-4; `added` says what each port adds
 abbrev pub fed_by : Lines → (PortId → Input) → Feeder → Input
 fed_by l added (feeder.Port port) = added port
 fed_by l added (feeder.Received side au) = received l side au

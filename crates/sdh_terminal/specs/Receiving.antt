@@ -1,5 +1,5 @@
--- One side of a node that receives, as far as frames and pointers go: what the section overhead of a frame says, and
--- what the pointer interpreters make of the AU-4s.
+-- One side of a node that receives, without the filter of its words and its local request: what the section overhead of
+-- a frame says, and what the pointer interpreters make of the AU-4s.
 use Rattle.std.specs.Prelude.{◌≡◌, ℕ, ◌+◌, ◌*◌, ◌%◌, Bool, ◌==◌, nat_le, if◌then◌else◌, Option, Some, None, List, length, map, slice_index}
 use Rattle.std.specs.Prelude.{replicate}
 use Rattle.std.specs.Option.{is_some}
@@ -34,7 +34,7 @@ pub record Inlet : Type 0 where
 abbrev pub new_inlet : Rate → Inlet
 new_inlet rate = record { arrived = None; section = holding rate None; readings = replicate (n_of rate) start }
 
--- a side on which this arrived, in place of what arrived since the last round
+-- a side after this arrived; it replaces what had arrived since the last round
 abbrev pub inlet_told : Arrival → Inlet → Inlet
 inlet_told a i = record i { arrived = Some a }
 
@@ -67,8 +67,8 @@ abbrev pub frame_reception : Rate → ℕ → List ℕ → Option Parities → R
 frame_reception rate threshold clear last Unframed = failure rate last
 frame_reception rate threshold clear last (Framed k1 k2 b1 b2) = framed_reception rate threshold clear last k1 k2 b2
 
--- What a side makes of what arrived: a frame, darkness, which is a failure, or nothing. Where nothing was received the
--- side has no defect, brings no word, and its frame counts as ones. Where no frame arrived, the parities are forgotten.
+-- What a side makes of what arrived. Darkness is a failure. Where nothing was received, the side has no defect and
+-- brings no word, and its frame counts as ones. Where no frame arrived, the parities are forgotten.
 abbrev pub reception_of : Option Arrival → Rate → ℕ → Option Parities → Reception
 reception_of None rate threshold last = record { defect = defect.None; word = None; bytes = all_ones rate; last = None }
 reception_of (Some None) rate threshold last = failure rate None
@@ -99,8 +99,8 @@ actions_in n bytes readings = map_from (λ k r. action_on r (pointer_word_at n b
 
 -- ---- a round
 
--- What a side takes in, in a round: the frame without scrambling, ones where the side fails or nothing was received,
--- and what the interpreters of AU-4s 1 to N made of it.
+-- What one side takes in during a round: the descrambled frame, or ones where the side fails or nothing was received;
+-- and the actions of the interpreters of AU-4s 1 to N.
 pub record Intake : Type 0 where
   pub frame : Frame
   pub actions : List Action
@@ -109,11 +109,11 @@ pub record Intake : Type 0 where
 abbrev pub new_intake : Rate → Intake
 new_intake rate = record { frame = record { rate = rate; bytes = replicate (size_of rate) 0 }; actions = replicate (n_of rate) action.Ais }
 
--- what interpreters keep: where something was received they read it, and else they keep what they kept
+-- what interpreters keep: they read the frame where something was received, and otherwise keep what they kept
 abbrev pub readings_by : Bool → ℕ → List ℕ → List Reading → List Reading
 readings_by told n bytes readings = if told then after_frame n bytes readings else readings
 
--- the actions of interpreters: where something was received they read it, and else every AU-4 counts as AIS
+-- the actions of interpreters: they read the frame where something was received, and otherwise every AU-4 counts as AIS
 abbrev pub actions_by : Bool → ℕ → List ℕ → List Reading → List Action
 actions_by told n bytes readings = if told then actions_in n bytes readings else replicate n action.Ais
 

@@ -20,7 +20,7 @@ pub record Sending : Type 0 where
   -- the word sent
   pub word : K
 
--- a side that has sent nothing, with the word that it would send
+-- a side that has sent nothing; its word is k until another one is set
 abbrev pub new_sending : Rate → K → Sending
 new_sending rate k = record { section = holding rate None; generators = replicate (n_of rate) None; word = k }
 
@@ -28,7 +28,7 @@ new_sending rate k = record { section = holding rate None; generators = replicat
 abbrev pub with_word : K → Sending → Sending
 with_word k s = record s { word = k }
 
--- all AU-4s of the next frame, from what goes into each, and no overhead
+-- the next frame without overhead: all AU-4s, from what goes into each
 unfoldable pub filled : (ℕ → Input) → Sending → List ℕ
 filled input s = with_aus (n_of s.section.rate) 1 (aus_sent input s.generators) (replicate (size_of s.section.rate) 0)
 

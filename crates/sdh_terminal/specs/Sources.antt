@@ -13,7 +13,7 @@ use Rattle.sdh_terminal.specs.Lines.{Lines}
 abbrev pub payload_by : Lines → List (List ℕ) → Source → List ℕ
 payload_by l own source = payload_from (n_of l.rate) l.west.intake.frame.bytes l.east.intake.frame.bytes own source
 
--- the bytes from this side, of those from the west and those from the east
+-- the bytes from the west or those from the east, by the side
 abbrev pub bytes_on : Side → List ℕ → List ℕ → List ℕ
 bytes_on West west east = west
 bytes_on East west east = east

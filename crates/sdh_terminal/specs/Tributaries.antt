@@ -29,7 +29,7 @@ pub record Tributary : Type 0 where
   -- the side on which the port's circuit leaves the node, and the circuit's working slot
   pub side : Side
   pub slot : Slot
-  -- the port's stream; bytes of it are taken in each round
+  -- the port's stream, of which each round takes the next bytes
   pub feed : Fed
   -- what the port delivered in the last round
   pub outlet : Outlet
@@ -117,7 +117,7 @@ action_of Long = action.Down
 abbrev pub last_sent : Fed → List ℕ
 last_sent feed = stream_from feed.port (last_from feed.clock) (taken_len feed.clock.form)
 
--- what a port adds in the round that leaves its feed like this
+-- what a port adds in a round, by its feed after the round
 unfoldable pub sent_by : Fed → AddedPayload
 sent_by feed = record {
   payload = laid_payload feed.clock.form (last_sent feed);
@@ -126,7 +126,7 @@ sent_by feed = record {
   value = feed.clock.value;
 }
 
--- what a port adds in the round that finds its feed like this
+-- what a port adds in a round, by its feed before the round
 abbrev pub sent_in : Fed → AddedPayload
 sent_in feed = sent_by (next_feed feed)
 
@@ -135,15 +135,15 @@ sent_in feed = sent_by (next_feed feed)
 abbrev pub input_by : AddedPayload → Input
 input_by a = record { action = a.action; value = a.value; au = record { pointers = 0 ∷ 0 ∷ 0 ∷ 0 ∷ 0 ∷ 0 ∷ a.h3; payload = a.payload } }
 
--- what the port with this name adds in a round that finds the ports like this, and AIS where it isn't one of these
+-- what the port with this name adds in a round, by the ports before the round; AIS where it isn't one of them
 abbrev pub added_by : List Tributary → PortId → Input
 added_by ports id = option_map_or (λ t. input_by (sent_in t.feed)) (port_of id ports) no_input
 
--- what a port adds in the round that leaves it like this
+-- what a port adds in a round, by the port after the round
 abbrev pub own_input : Tributary → Input
 own_input t = input_by (sent_by t.feed)
 
--- what the port with this name adds in the round that leaves the ports like this, and AIS where it isn't one of these
+-- what the port with this name adds in a round, by the ports after the round; AIS where it isn't one of them
 abbrev pub added_last : List Tributary → PortId → Input
 added_last ports id = option_map_or own_input (port_of id ports) no_input
 

@@ -1,4 +1,5 @@
-//! What the ports of several nodes delivered, taken out of the frames in which it waits when somebody asks.
+//! What the ports of several nodes delivered. It waits in the received frames, and is taken out of them only when it is
+//! asked for.
 ghost use Rattle.std.specs.Prelude.{◌≡◌, ◌<◌, List, [], IfOk, length, map, slice_index_or};
 ghost use Rattle.sdh_payload.specs.Outlet.{Outlet as Delivering};
 
@@ -61,7 +62,7 @@ fn deliver_nodes<N: Delivers>(nodes: &[N], taken: &mut TakenPair, rooms: &mut Ve
 }
 
 impl Deliveries {
-    /// Returns what the ports of these nodes delivered. All memory is taken here.
+    /// Returns what the ports of these nodes delivered in the last round. All memory is taken here.
     pub fn try_new<N: Delivers>(alloc: Global, nodes: &[N]) -> Result<Deliveries, AllocError>
         ensures { IfOk result (λ d. d ≡ map N.delivered nodes.now) }
     {
@@ -74,7 +75,7 @@ impl Deliveries {
         })
     }
 
-    /// Takes what the ports of these nodes delivered, in place of what they delivered before. Takes no memory.
+    /// Replaces what these nodes' ports delivered before by what they delivered in the last round. It takes no memory.
     pub fn take<N: Delivers>(&mut self, nodes: &[N])
         requires { map length self.old ≡ map (λ n. length (N.delivered n)) nodes.now }
         ensures { self.new ≡ map N.delivered nodes.now }
@@ -82,7 +83,7 @@ impl Deliveries {
         deliver_nodes(nodes, &mut self.taken, &mut self.nodes);
     }
 
-    /// Returns what the ports of the node at a place delivered.
+    /// Returns what the ports of a node delivered, by its place among the nodes, counted from 0.
     pub fn of(&self, node: usize) -> &Outlets
         requires { node < length self.now }
         ensures { result.now ≡ slice_index_or self.now node [] }

@@ -21,8 +21,8 @@ use sdh_ringmap::Rate;
 use std::alloc::{AllocError, Global};
 use std::marker::Model;
 
-/// One side that receives: what arrived, the section and the interpreters. The frame in the inbox counts only where one
-/// arrived since the last round.
+/// One side that receives: what arrived, the section and the interpreters. The frame in the inbox counts only where a
+/// frame arrived since the last round.
 #[derive(Debug, Drop)]
 pub struct Inlet {
     arrived: Option<Arrived>,
@@ -61,7 +61,7 @@ impl Inlet {
         })
     }
 
-    /// Keeps what arrived for the next round, in place of what arrived since the last one.
+    /// Keeps what arrived for the next round. It replaces what had arrived since the last one.
     pub fn receive(&mut self, arrived: Arrived, frame: &FrameBuf)
         requires { frame.now.rate ≡ self.old.section.rate }
         ensures { self.new ≡ inlet_told (as_arrival arrived frame.now.bytes) self.old }
@@ -96,7 +96,7 @@ impl Inlet {
         }
     }
 
-    // Returns whether something was received since the last round: a frame or darkness.
+    // Returns whether a frame or darkness (no light) was received since the last round.
     fn is_told(&self) -> bool
         ensures { result ≡ is_some self.now.arrived }
     {
@@ -106,8 +106,8 @@ impl Inlet {
         }
     }
 
-    // Takes the frame of what arrived into the intake. Returns the side's defect, and the word that what arrived
-    // brings.
+    // Moves the frame that arrived into the intake. Where none did, or the side fails, the intake's frame is filled
+    // with ones. Returns the side's defect, and the word that the frame brings, if it brings one.
     fn find(&mut self, threshold: u16, intake: &mut Intake) -> (Defect, Option<K>)
         requires { intake.old.frame.rate ≡ self.old.section.rate }
         ensures side { self.new ≡ record self.old {
@@ -159,8 +159,9 @@ impl Inlet {
         }
     }
 
-    /// Takes what arrived, and lets the interpreters read. Returns the side's defect, the word that what arrived
-    /// brings, and whether the interpreters keep what they kept before.
+    /// Takes what arrived, and lets the interpreters read it. Returns the side's defect, the word that the frame
+    /// brings, if it brings one, and whether the interpreters keep what they kept before. The side is degraded where B2
+    /// has at least `threshold` violations.
     #[tactic(auto, unfolding(crate::specs::Receiving::taken_in, crate::specs::Receiving::after_taking))]
     pub fn take(&mut self, threshold: u16, intake: &mut Intake) -> (Defect, Option<K>, bool)
         requires { intake.old.frame.rate ≡ self.old.section.rate }

@@ -1,4 +1,4 @@
-//! What a side takes in, in a round.
+//! What one side takes in during a round.
 ghost use Rattle.std.specs.Prelude.{◌≡◌, ◌+◌, ◌-◌, ◌%◌, ◌<◌, ◌≤◌, ◌≢◌, Option, None, Some, IfSome, IfOk, length, slice_index_or};
 ghost use Rattle.std.specs.Prelude.{replicate};
 ghost use Rattle.std.specs.List.{list_any};
@@ -22,7 +22,7 @@ use sdh_ringmap::Rate;
 use std::alloc::{AllocError, Global};
 use std::marker::Model;
 
-/// What a side takes in, in a round: the frame without scrambling, and what the interpreters made of it.
+/// What one side takes in during a round: the descrambled frame, and the action of each AU-4's pointer interpreter.
 #[derive(Debug, Drop)]
 pub struct Intake {
     frame: FrameBuf,
@@ -83,7 +83,7 @@ impl Intake {
     }
 
     /// Takes the frame that landed, in exchange for the intake's own buffer. Returns the side's defect, and the word
-    /// that the frame brings. The side is degraded where B2 has at least `threshold` violations.
+    /// that the frame brings, if it brings one. The side is degraded where B2 has at least `threshold` violations.
     pub fn find(
         &mut self,
         threshold: u16,
@@ -126,7 +126,7 @@ impl Intake {
         read_all(&self.frame, interps, &mut self.actions)
     }
 
-    /// Lets every AU-4 count as AIS. No interpreter reads.
+    /// Sets the action of every AU-4 to AIS. No interpreter reads.
     pub fn silence(&mut self)
         ensures { self.new ≡ record self.old { actions = replicate (n_of self.old.frame.rate) Action.Ais } }
     {
@@ -134,8 +134,8 @@ impl Intake {
     }
 }
 
-// Returns the side's defect and the word that an opened frame brings, by what its section overhead said. A frame by
-// which the side fails becomes ones. The side is degraded where B2 has at least `threshold` violations.
+// Returns the side's defect, and the word that a descrambled frame brings, by what its section overhead says. Where the
+// side fails, the frame is filled with ones. The side is degraded where B2 has at least `threshold` violations.
 fn find_frame(threshold: u16, received: Received, frame: &mut FrameBuf) -> (Defect, Option<K>)
     ensures frame { (last : Option Parities)
         → frame.new ≡ record frame.old { bytes = (frame_reception frame.old.rate threshold frame.old.bytes last received).bytes } }

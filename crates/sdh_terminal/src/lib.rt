@@ -1,7 +1,7 @@
-//! What a node of a ring is made of as far as frames and pointers go, whatever decides where its AU-4s come from: sides
-//! that receive and interpret, ports that add and drop, and sides that generate pointers and send.
+//! The parts of a ring node that handle frames and pointers: sides that receive frames and interpret pointers, ports
+//! that add and drop, and sides that generate pointers and send frames.
 //!
-//! Where AU-4s come from is decided by a `Matrix`, which each kind of node has of its own.
+//! A `Matrix` decides where AU-4s come from. Each kind of node has its own.
 #![tactic(auto)]
 
 mod deliveries;

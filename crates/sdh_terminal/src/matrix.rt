@@ -17,16 +17,16 @@ pub enum Feeder {
     Ais,
 }
 
-/// Both sides of a node in a round, and where the AU-4s that they received lead. (A connection matrix, in the terms of
+/// Both sides of a node in a round, and where the AU-4s that they received go. (A connection matrix, in the terms of
 /// ITU-T G.783.)
 pub trait Matrix {
     /// What both sides took in, and what their interpreters keep.
     ghost lines: { Self → Lines };
 
-    /// What feeds the AU-4 of a number that leaves on a side.
+    /// What feeds the AU-4 of this number, 1 to N, that leaves on a side.
     ghost leads: { Self → Side → ℕ → Feeder };
 
-    /// What is dropped to the port whose circuit leaves on a side in the working slot of a number.
+    /// What is dropped to a port: its circuit leaves on this side, in the working slot of this number, 1 to N / 2.
     ghost drops: { Self → Side → ℕ → Feeder };
 
     /// Returns the rate of both sides.

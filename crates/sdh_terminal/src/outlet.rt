@@ -1,4 +1,4 @@
-//! What a port delivers, taken out of the frames that both sides received.
+//! What a port delivers. It is taken out of the frames that both sides received.
 ghost use Rattle.std.specs.Prelude.{◌≡◌, ◌<◌, ◌≤◌, IfOk, length, slice_index_or};
 ghost use Rattle.sdh_ringmap.specs.Rates.{n_of};
 ghost use Rattle.sdh_frame.specs.Aus.{au_of};
@@ -19,8 +19,8 @@ use sdh_ringmap::Side;
 use std::alloc::{AllocError, Global};
 use std::marker::Model;
 
-/// What has been taken out of the frames of both sides of a node, while its ports deliver. It serves one node after the
-/// other.
+/// The payloads that have been taken out of the frames of both sides of a node, while its ports deliver. One pair
+/// serves several nodes, one after the other.
 #[derive(Debug, Drop)]
 pub struct TakenPair {
     west: Taken,
@@ -103,8 +103,8 @@ impl Outlet {
         self.value = 0;
     }
 
-    /// Delivers the chunk that AU-4 number `au` of a frame carries, in this form and with this pointer value.
-    /// `payloads` has what was already taken out of the frame.
+    /// Delivers the chunk that AU-4 number `au`, 1 to N, of a frame carries, in this form and with this pointer value,
+    /// 0 to 782. `payloads` has what was already taken out of the frame.
     pub fn deliver_au(
         &mut self,
         frame: &FrameBuf,
@@ -164,8 +164,7 @@ impl Outlets {
     }
 }
 
-// Returns the memory of a chunk, be it that of the delivered chunk or the spare memory. The outlet delivers AIS from
-// then on.
+// Returns the memory for a chunk: that of the delivered chunk, or the spare memory. Afterwards AIS is delivered.
 fn take_cells(delivered: &mut Delivered, spare: &mut Option<Cells>) -> Cells
     requires { HasRoom delivered.old spare.old }
     ensures { delivered.new ≡ Delivered.Ais }
@@ -194,6 +193,8 @@ fn take_au(frame: &FrameBuf, payloads: &mut Taken, au: u16, form: ChunkForm, cel
     take_chunk_in_place(&h3, form, cells);
 }
 
+// Returns the form of the chunk that comes with an action: three bytes fewer at a positive justification, and three
+// more at a negative one.
 fn chunk_form(action: Action) -> ChunkForm
     ensures { result ≡ chunk_form action }
 {
@@ -244,7 +245,8 @@ fn deliver_received<X: Matrix>(
     }
 }
 
-/// Delivers what this feeder drops. `taken` has the payloads that were already taken out of the frames of both sides.
+/// Delivers what is dropped from this feeder: the AU-4 that a side received, or AIS. `taken` has the payloads that were
+/// already taken out of the frames of both sides.
 #[tactic(auto, unfolding(crate::specs::Outlets::delivered_from))]
 pub fn deliver_dropped<X: Matrix>(
     cross: &X,

@@ -1,4 +1,4 @@
-//! What the AU-4s of a sent frame are: where each payload comes from, and the pointer bytes.
+//! The AU-4s of a sent frame: where each payload comes from, and its pointer bytes.
 ghost use Rattle.std.specs.Prelude.{◌≡◌, ◌≢◌, ℕ, List, ◌+◌, ◌<◌, ◌≤◌, IfOk, length};
 ghost use Rattle.sdh_ringmap.specs.Rates.{n_of};
 ghost use Rattle.sdh_frame.specs.Aus.{au_of};
@@ -34,7 +34,8 @@ fn pointers_with(word: Word, h3: [u8; 3]) -> [u8; 9]
     [h[0], 0x9B, 0x9B, h[1], 0xFF, 0xFF, h3[0], h3[1], h3[2]]
 }
 
-// Returns the three H3 bytes to send with a word of this form: those that came at a negative justification, else zeros.
+// Returns the three H3 bytes to send with a pointer word of this form: at a negative justification those that came,
+// which carry payload, and otherwise zeros.
 fn h3_sent(form: Form, h3: [u8; 3]) -> [u8; 3]
     ensures { (pointers : List ℕ) → h3 ≡ h3_of pointers → result ≡ h3_sent form pointers }
 {
@@ -190,7 +191,7 @@ fn any_moved(generators: &[Gen]) -> bool
 }
 
 // Steps all generators of a side, and sets the sources and the pointer bytes of the AU-4s that leave there. Returns
-// whether all generators are in the states in which they were.
+// whether each generator is in the state in which it was.
 fn plan_all<'a, X: Matrix>(
     cross: &X,
     ports: &'a Tributaries,
@@ -225,7 +226,7 @@ fn plan_all<'a, X: Matrix>(
     !any_moved(generators)
 }
 
-/// What the AU-4s of a frame are before it is put together: where the payload of each comes from, and its pointer
+/// The plan of a frame's AU-4s before the frame is put together: where the payload of each comes from, and its pointer
 /// bytes.
 #[derive(Drop)]
 pub struct Assembly {
@@ -252,8 +253,8 @@ impl Assembly {
         })
     }
 
-    /// Steps all generators of a side, and sets what the AU-4s of its next frame are. Returns whether the generators
-    /// are in the states in which they were.
+    /// Steps all generators of a side, and plans the AU-4s of its next frame. Returns whether each generator is in the
+    /// state in which it was.
     pub fn plan<'a, X: Matrix>(
         &mut self,
         cross: &X,

@@ -26,7 +26,7 @@ use sdh_ringmap::{Rate, Side};
 use std::alloc::{AllocError, Global};
 use std::marker::Model;
 
-/// One side that sends: the section, the generators and the word.
+/// One side that sends: the section, the pointer generators and the word of its K bytes.
 #[derive(Debug, Drop)]
 pub struct Sender {
     section: Section,
@@ -54,7 +54,8 @@ impl Model for Sender {
 }
 
 impl Sender {
-    /// Returns a side that has sent nothing, with the word that it would send. All its memory is taken here.
+    /// Returns a side that has sent nothing. Its word is `word` until `say` sets another one. All its memory is taken
+    /// here.
     pub fn try_new(alloc: Global, rate: Rate, word: K) -> Result<Sender, AllocError>
         requires { IsSpellable word }
         ensures { IfOk result (λ s. s ≡ new_sending rate word) }
@@ -87,8 +88,8 @@ impl Sender {
     }
 }
 
-// What one side's next frame is made of: the AU-4s' sources and pointer bytes, the payloads of its ports, and the K
-// bytes.
+// What one side's next frame is made of: the sources and the pointer bytes of its AU-4s, the payloads of the node's
+// ports, and the K bytes.
 #[derive(Drop)]
 struct Content<'a, 'b> {
     choice: Choice<'a>,
@@ -157,7 +158,7 @@ fn write_frame(
     write_section(section, content.k1, content.k2, out);
 }
 
-// Sends the next frame of a side. Returns whether all its generators are in the states in which they were.
+// Sends the next frame of a side. Returns whether each of its generators is in the state in which it was.
 fn send_side<X: Matrix>(
     sender: &mut Sender,
     side: Side,
@@ -185,8 +186,8 @@ fn send_side<X: Matrix>(
     same
 }
 
-/// Sends the next frames of both sides. Returns whether all generators of the west side, and all of the east side, are
-/// in the states in which they were.
+/// Sends the next frames of both sides. Returns for each side, the west first, whether each of its generators is in the
+/// state in which it was.
 pub fn send_both<X: Matrix>(
     west: &mut Sender,
     east: &mut Sender,

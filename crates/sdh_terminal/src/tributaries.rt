@@ -19,8 +19,8 @@ use std::alloc::{AllocError, Global};
 use std::marker::Model;
 
 /// The ports of circuits at a node, in the order of circuits. Each one's place is found once, when the node is made.
-/// What they deliver waits in the frames that the node received, and is no part of them: their values are those of ports
-/// which deliver AIS.
+/// What the ports deliver waits in the frames that the node received, and is not stored here: in contracts each of
+/// these ports delivers AIS.
 #[derive(Debug, Drop)]
 pub struct Tributaries {
     items: Vec<Tributary>,
@@ -40,6 +40,7 @@ impl Model for Tributaries {
     ghost invariant = { λ p. ArePlaces p.places.items p.items.items };
 }
 
+// Returns the number of a port among those of a ring's circuits: 2 c for end A of circuit c, and 2 c + 1 for end B.
 fn number_of(id: PortId) -> usize
     ensures { result ≡ port_number id }
 {
@@ -50,6 +51,7 @@ fn number_of(id: PortId) -> usize
     }
 }
 
+// Returns the port of this number among those of a ring's circuits.
 fn port_numbered(number: usize) -> PortId
     requires { number < 512 }
     ensures { result ≡ port_numbered number }
@@ -60,7 +62,8 @@ fn port_numbered(number: usize) -> PortId
     }
 }
 
-// Returns for each of the first `count` ports of a ring's circuits its place among `ports`.
+// Returns, for each of the first `count` ports of a ring's circuits, its place among `ports`, or `None` where it isn't
+// one of them.
 fn places_in(
     alloc: Global,
     ports: &[Tributary],
@@ -121,7 +124,7 @@ impl Tributaries {
         }
     }
 
-    /// Returns the place of a port among these.
+    /// Returns the place of a port among those of the node, counted from 0.
     #[tactic(auto, using(crate::proofs::Ports::place_within))]
     pub fn place_of(&self, id: PortId) -> usize
         requires { HasPort self.now id }
@@ -169,7 +172,7 @@ impl Tributaries {
         feed_all(&mut self.items);
     }
 
-    /// Delivers at each port what is dropped to it.
+    /// Delivers at each port what is dropped to it. `outlets` has room for each port.
     pub fn deliver<X: Matrix>(&self, cross: &X, taken: &mut TakenPair, outlets: &mut Outlets)
         requires ports { All (λ t. (1 ≤ t.slot.0) × (2 * t.slot.0 ≤ n_of (X.lines cross.now).rate)) self.now }
         requires many { length outlets.old ≡ length self.now }

@@ -20,7 +20,7 @@ use std::alloc::{AllocError, Global};
 use std::marker::Model;
 
 /// A port of a circuit at the node, and what it sends. What it delivers waits in the frames that the node received, and
-/// is no part of it: its value is that of a port which delivers AIS.
+/// is not stored here: in contracts the port delivers AIS.
 #[derive(Debug, Drop)]
 pub struct Tributary {
     port: PortId,
@@ -43,8 +43,8 @@ impl Model for Tributary {
     ghost invariant = { λ t. IsFed t.feed t.payload t.h3 };
 }
 
-// Returns the bytes of a port's first round, in which no slip is used up. A new port keeps them as those that it sent
-// last: for a port that has sent nothing, `sent_by` gives these bytes too.
+// Returns the bytes that a port sends in its first round, in which no slip is used up. A new port keeps them in place
+// of the bytes of a last round: `sent_by` of a port that has sent nothing is these bytes too.
 fn first_payload(alloc: Global, port: &Port) -> Result<Cells, AllocError>
     ensures bytes { IfOk result (λ cells. cells ≡ stream_from port.now 0 2349) }
     ensures full { IfOk result (λ cells. length cells ≡ 2349) }
@@ -156,7 +156,8 @@ impl Tributary {
     }
 }
 
-// Returns what a port asks of its pointer generator: a port that sends fewer or more bytes justifies its pointer.
+// Returns the action that a port asks of its pointer generator: a port that sends three bytes fewer or more justifies
+// its pointer.
 fn action_of(form: ChunkForm) -> Action
     ensures { result ≡ action_of form }
 {

@@ -162,7 +162,7 @@ module _ {X : Type 0} (f : X → List ℕ) (nodes : List ℕ) where
 
 -- ---- text by text
 
--- why nothing comes of a text, and of all
+-- why one text has no failures, and so why there are none for all texts
 pub why_unknown : (place : ℕ) (o : Option ℕ) (found : Option (List Failure)) (why : OwnError) → IsNone place found why
     → ((nat_lt 16 place || is_none found) ≡ true → o ≡ Some place) → IsUnknown o why
 why_unknown place o found error.Memory none h = tt

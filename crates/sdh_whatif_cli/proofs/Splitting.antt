@@ -48,7 +48,7 @@ no_longer : (b c : Bool) → (b ≡ false → c ≡ false) → c ≡ true → b 
 no_longer true c f e = refl
 no_longer false c f e = let g : false ≡ true = sym (f refl) ∙ e in cc
 
--- what passes at all numbers below n passes at each
+-- a test that all numbers below n pass is passed by each of them
 ranged : (p : ℕ → Bool) (n i : ℕ) → list_all p (range_with_len 0 n) ≡ true → i < n → p i ≡ true
 ranged p n i all low =
     let place : 0 + i ≡ i = omega arith in

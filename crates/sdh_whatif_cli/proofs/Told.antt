@@ -1,4 +1,4 @@
--- What two clauses for Ok say together of one result.
+-- One result that meets two clauses for Ok.
 use Rattle.std.proofs.Common.{Result, Ok, Err}
 use Rattle.std.specs.Prelude.{IfOk}
 

@@ -18,11 +18,12 @@ use Rattle.sdh_whatif_cli.specs.declared.ask.Depth.TheVariants.{Single, Double, 
 use Rattle.sdh_whatif_cli.specs.Words.{takes}
 
 -- A case is a number of three digits to this base, in a ring of n with `own` failures of the user's own. Digit 0 is
--- nothing, digit d up to 10 n failure d - 1 of the ring's, and each digit after those one of the user's own.
+-- nothing. Digits 1 to 10 n are the ring's failures: digit d is failure d - 1. The digits after those are the user's
+-- own.
 abbrev pub base : ℕ → ℕ → ℕ
 base n own = 10 * n + 1 + own
 
--- the number of these numbers, to the base b
+-- the count of numbers that may stand for a case, by the depth: the numbers of one, two or three digits to the base b
 abbrev pub numbers_of : ℕ → Depth → ℕ
 numbers_of b Single = b
 numbers_of b Double = b * b
@@ -100,7 +101,8 @@ case_at plan own c = failures_of (length plan.nodes) own (digits_at plan own c)
 abbrev pub is_told : Planned → List (List Failure) → Ask → ℕ → Bool
 is_told plan own ask c = are_told plan ask (digits_at plan own c)
 
--- how many of the first c numbers stand for a case that is listed; as many cases come before the one of number c
+-- the count of those of the first c numbers that stand for a case that is listed, which is the count of cases listed
+-- before the case of number c
 abbrev pub told_below : Planned → List (List Failure) → Ask → ℕ → ℕ
 told_below plan own ask zero = 0
 told_below plan own ask (suc c) = told_below plan own ask c + (if is_told plan own ask c then 1 else 0)

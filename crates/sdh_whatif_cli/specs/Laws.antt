@@ -1,4 +1,4 @@
--- What a line of the table says is so.
+-- A line of the table is true.
 use Rattle.std.specs.Prelude.{ℕ, ◌≡◌, ◌↔◌, true, List, ◌++◌, length, All}
 use Rattle.sdh_plan.specs.Planned.{Planned, IsPlanned}
 use Rattle.sdh_verdicts.specs.declared.failure.Failure.{Failure}

@@ -1,4 +1,4 @@
--- How a call ends: each status, when it is answered, and the text that goes with it.
+-- How a call ends: each status, when it is returned, and the text that goes with it.
 use Rattle.std.specs.Prelude.{◌≡◌, ◌⊎◌, ℕ, List, [], Option, Some, None, codes}
 use Rattle.sdh_plan.specs.Reasons.{reason_number}
 use Rattle.sdh_plan.specs.declared.reason.Reason.TheVariants as reason
@@ -34,7 +34,7 @@ OfBytes ask texts bytes how text =
     × (text ≡ (of_plan plan texts ask).1))
 
 -- What is asked for, with these texts of the user's own failures, comes to this status, with this text, where the
--- source had these bytes left. Nothing comes to a write fault or to a lack of memory: each may stand in place of an
+-- source had these bytes left. A write fault and out of memory aren't outcomes: either may come in place of any
 -- outcome.
 abbrev pub IsOutcome : Option Ask → List (List ℕ) → List ℕ → Status → List ℕ → Type 0
 IsOutcome None texts bytes how text = (how ≡ status.Usage) × (text ≡ refusal status.Usage)

@@ -66,7 +66,7 @@ abbrev pub IsUnknown : Option ℕ → OwnError → Type 0
 IsUnknown place error.Memory = Unit {0}
 IsUnknown place (error.Unknown at) = place ≡ Some at
 
--- nothing comes of the text at a place: it is unknown, or memory ran out
+-- why there are no failures for the text at a place: it is unknown, or memory ran out
 abbrev pub IsNone : ℕ → Option (List Failure) → OwnError → Type 0
 IsNone place found error.Memory = Unit {0}
 IsNone place found (error.Unknown at) = (at ≡ place) × ((nat_lt 16 place || is_none found) ≡ true)

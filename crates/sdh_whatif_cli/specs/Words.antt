@@ -16,7 +16,7 @@ use Rattle.sdh_whatif_cli.specs.declared.ask.Kind.TheVariants as kind
 use Rattle.sdh_whatif_cli.specs.declared.ask.Kinds.{Kinds}
 use Rattle.sdh_whatif_cli.specs.declared.ask.AskedSoFar.{AskedSoFar}
 
--- how many failures at most are taken together
+-- the largest number of failures that are taken together, by its word
 abbrev pub depth_named : List ℕ → Option Depth
 depth_named word =
     if bytes_eq word (codes "single") then Some Single else if bytes_eq word (codes "double")
@@ -96,18 +96,18 @@ all_of depth = record { depth = depth; kinds = no_kinds; form = form.Table; part
 abbrev pub begun : Depth → AskedSoFar
 begun depth = record { ask = all_of depth; awaited = awaited.Any; is_parted = false }
 
--- the kind is asked for too, where it isn't yet
+-- what is asked for with one more kind; None where this kind is asked for already
 abbrev pub ask_kind : Ask → Kind → Option Ask
 ask_kind ask k = if has_kind ask.kinds k then None else Some (record ask { kinds = with_kind ask.kinds k })
 
--- the form is the one that stands where none is asked for
+-- the form is the one that holds where none is asked for
 abbrev pub is_plain : Form → Bool
 is_plain form.Table = true
 is_plain form.Headed = false
 is_plain form.Json = false
 is_plain form.Summary = false
 
--- the form is asked for, where none is
+-- what is asked for in this form; None where a form is asked for already
 abbrev pub ask_form : Ask → Form → Option Ask
 ask_form ask f = if is_plain ask.form then Some (record ask { form = f }) else None
 

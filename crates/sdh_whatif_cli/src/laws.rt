@@ -1,7 +1,8 @@
 //! Laws of the table. Each function here has a law as its contract and no work to do.
 ghost use Rattle.sdh_whatif_cli.specs.Laws.{LinesAreTrue};
 
-/// Each line of the table says what is so.
+/// Each line of the table is true: the last report of the plan with the line's steps shows each port as the line says
+/// of its circuit.
 pub fn lines_are_true()
     ensures { LinesAreTrue }
 {

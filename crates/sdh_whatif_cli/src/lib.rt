@@ -1,7 +1,7 @@
 //! The table that says which circuits survive each failure of a ring, by the restoration model alone: no round is run.
 //! `specs/Words.antt` has what words ask for, `specs/Cases.antt` the cases in their order, `specs/Lines.antt` the
-//! lines, `specs/Own.antt` what the user's own failures are, `specs/Singles.antt` how many circuits are lost in each
-//! failure alone, and `specs/Laws.antt` that what a line says is so.
+//! lines, `specs/Own.antt` what the user's own failures are, `specs/Singles.antt` the number of circuits lost in each
+//! failure alone, and `specs/Laws.antt` that each line is true.
 #![tactic(auto)]
 
 mod ask;

@@ -34,7 +34,7 @@ impl Model for OwnFailures {
 }
 
 impl OwnFailures {
-    /// Returns how many failures of the user's own there are.
+    /// Returns the number of failures of the user's own.
     pub fn len(&self) -> usize
         ensures { result ≡ length self.now }
     {
@@ -156,7 +156,7 @@ fn together(
     Ok(Some(list))
 }
 
-// Returns the failures that the text at a place names, or why nothing comes of it.
+// Returns the failures that the text at a place names, or the error where it names none.
 fn next_own(
     alloc: Global,
     line: &mut Line,

@@ -36,7 +36,7 @@ fn base(nodes: usize, own: usize) -> usize
     10 * nodes + 1 + own
 }
 
-// Returns how many numbers there are that may stand for cases of at most this depth.
+// Returns the count of numbers that may stand for cases of at most this depth.
 fn numbers_of(base: usize, depth: Depth) -> usize
     requires small { base ≤ 177 }
     ensures { result ≡ numbers_of base depth }

@@ -23,7 +23,7 @@ use sdh_shell::{NoPlan, Output, plan_in};
 use sdh_verdicts::Sides;
 use std::alloc::{AllocError, Global};
 
-// How the call ends by what was asked for, and how writing its text ended.
+// The status of what was asked for, and whether the write of its text failed.
 #[derive(Drop)]
 struct Told {
     status: Status,
@@ -138,7 +138,7 @@ fn answer_ask<R: Source, W: Sink>(
     }
 }
 
-// Does all that the program does, and returns how that ended, or an error where memory runs out.
+// Runs the whole program, and returns how that ended, or an error where memory runs out.
 fn answer<R: Source, W: Sink>(
     alloc: Global,
     words: &[String],
@@ -169,11 +169,11 @@ fn answer<R: Source, W: Sink>(
     }
 }
 
-/// Does all that the program does, and returns how it ended. With the word `single`, `double` or `triple` it reads a
-/// plan from the source and writes a table: what becomes of each circuit where nothing more fails than in the plan's
-/// script, and where one, two or three things more do. Words after it say which kinds of things, which of them come
-/// together, which part of the cases, and in which form. The table is written line by line, and all memory is taken
-/// before the first.
+/// Runs the whole program, and returns how it ended. With the word `single`, `double` or `triple` it reads a plan from
+/// the source and writes a table: what becomes of each circuit where nothing fails beyond the plan's script, and where
+/// one, two or three more failures come. The words after it give the kinds of failures, failures that come together, a
+/// part of the cases, and the form of the table. The table is written line by line, and all memory is taken before the
+/// first.
 pub fn whatif<R: Source, W: Sink>(
     alloc: Global,
     words: &[String],

@@ -33,7 +33,8 @@ use Rattle.sdh_laws.specs.Hearing.Laws.{IsWhole, MayStart}
 use Rattle.sdh_spans.specs.Brought.{Brings, HasValue, plainly}
 use Rattle.sdh_laws.specs.Carrying.Windows.{layout_in, layout_of, HasCircuits, sent_at, requests_of, FailOnApplied, IsQuiet}
 
--- Over a span that didn't fail, an AU-4 brings in a calm round what the neighbour sent in it in the calm round before.
+-- Let two rounds in a row be calm. In the second, an AU-4 brings, over a span that didn't fail, what the neighbour sent
+-- in this AU-4 in the first.
 abbrev pub ASpanCarries : Type 0
 ASpanCarries = (w : World) → IsWhole w → is_calm (round w).ring.nodes ≡ true → is_calm (round (round w)).ring.nodes ≡ true
     → (p : ℕ) (d : Side) (au : ℕ) (b : Outlet) → p < length w.ring.ids → 1 ≤ au → au ≤ n_of w.ring.settings.rate → HasValue b
@@ -72,7 +73,7 @@ pub record IsRestored (clocks : PortId → ℕ → Clock) (w : World) (rs : List
   pub states : (signals_of w).states ≡ settled_states rs
   pub ports : DeliversWhatIsDue clocks w rs
 
--- what rounds alone leave of a whole world is restored under the requests of the last round
+-- where rounds alone turned the whole world w into `left`, the ring is restored under the requests of the last round
 abbrev pub Restores : World → World → Type 0
 Restores w left = IsWhole w → IsRestored (clocks_from w) left (requests_of left)
 

@@ -132,7 +132,7 @@ WindowsAreSettled =
     (w : World) (k j : ℕ) → IsWhole w → EndsWindow (course w) k → k < j + 3 * length w.ring.ids → j ≤ k
     → (signals_of (run j w)).states ≡ settled_states (requests_in (needs_in (run k w)))
 
--- what a settle step leaves that ended with a window: a whole world whose nodes are in the settled states
+-- the world after a settle step that ended with a window: it is whole, and its nodes are in the settled states
 pub record IsSettled (w : World) : Type 0 where
   pub whole : IsWhole w
   pub states : (signals_of w).states ≡ settled_states (requests_in (needs_in w))

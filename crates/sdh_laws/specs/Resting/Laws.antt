@@ -18,7 +18,7 @@ CalmGoesOn =
     (w : World) → IsWhole w → HasCircuits (layout_of w) → ((j : ℕ) → 1 ≤ j → j ≤ 6 → IsCalm (course w) j) → (j : ℕ) → 1 ≤ j
     → IsCalm (course w) j
 
--- what rounds alone leave of a whole world is at rest, by the clocks that the ports had
+-- where rounds alone turned the whole world w into `left`, it is at rest, by the clocks that the ports had
 abbrev pub LeavesAtRest : World → World → Type 0
 LeavesAtRest w left = IsWhole w → IsAtRest (clocks_from w) left
 

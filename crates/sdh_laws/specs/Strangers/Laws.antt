@@ -138,8 +138,7 @@ KeepsStrangersOut w after =
     (clocks : PortId → ℕ → Clock) → IsVouched clocks w → AreClocksOf clocks w.ring
     → IsVouched clocks after × NoneMeetsAStranger clocks after.ring
 
--- what rounds alone make of a ring that is vouched for: it stays so, and no port meets a stranger in any of these
--- rounds
+-- A ring that is vouched for stays so over rounds alone, and no port meets a stranger in any of these rounds.
 abbrev pub KeepsStrangersOutInAll : World → World → Type 0
 KeepsStrangersOutInAll w left = (clocks : PortId → ℕ → Clock) → IsVouched clocks w → AreClocksBetween clocks w left
     → IsVouched clocks left × ((j : ℕ) → 1 ≤ j → w.ring.rounds + j ≤ left.ring.rounds → NoneMeetsAStranger clocks (run j w).ring)
@@ -194,7 +193,7 @@ NodesThatDoNotPassMayBeHeld =
 
 -- ---- after quiet windows
 
--- What a settle step leaves that ended with a window is vouched for, whatever the ring carried before, and whichever
+-- After a settle step that ended with a window the ring is vouched for, whatever it carried before, and whichever
 -- controllers were held.
 abbrev pub SettledRingsAreVouchedFor : Type 0
 SettledRingsAreVouchedFor =

@@ -26,7 +26,7 @@ loop-word-init c = record {
       (All-nil _);
 }
 
--- nothing comes of the text that comes after `own`
+-- the text after `own` has no failures
 pub returns-in-Err-clause-unknown : goal.returns-in-Err-clause-unknown
 returns-in-Err-clause-unknown c =
     let words = c.args.words.now in

@@ -23,7 +23,7 @@ returns-in-Ok-clause-outcome g c =
     ))
     c.tell.ensures.status c.tell.ensures.wrote
 
--- the plan that was read is the one in whose ring the user's own failures are
+-- the plan that was read is the one that the premise speaks of: its ring has the user's own failures
 pub returns-in-Ok-clause-complete : goal.returns-in-Ok-clause-complete
 returns-in-Ok-clause-complete g c = λ has quiet. (
     let ask = c.args.ask in
