@@ -18,8 +18,8 @@ use sdh_parity::{receive_frame, send_frame};
 use sdh_ringmap::Rate;
 use std::marker::Model;
 
-/// The parities of the last frame in one direction of a section, or none, and the state of a frame with some rows
-/// written or read.
+/// One direction of a section: the parities of its last frame, or none, and what is kept of a frame that is being
+/// written or read row by row.
 #[derive(Debug, Drop)]
 pub struct Section {
     rate: Rate,
@@ -90,7 +90,8 @@ impl Section {
         self.rows = Rows::new(self.rate.n());
     }
 
-    /// Returns the number of the next row: 1 before a frame, and 10 after all rows of a received frame.
+    /// Returns the number of the next row, 1 to 10: 1 between frames, and 10 after the ninth row of a received frame,
+    /// until `finish_read`.
     pub fn next_row(&self) -> u16
         ensures next { result ≡ next_of self.now.under_way }
         ensures few { result ≤ 10 }
@@ -98,8 +99,8 @@ impl Section {
         self.rows.passed + 1
     }
 
-    // Every section keeps no parities, or a byte B1 and 3N bytes B2. The function does nothing: its contract is the
-    // law.
+    // Every section keeps either no parities, or a byte B1 and 3N bytes B2. The function does nothing: its contract is
+    // the law.
     #[tactic(auto, using(crate::proofs::Trips::kept_whole))]
     pub(crate) fn parities_are_whole(&self)
         ensures { AreParities (n_of self.now.rate) self.now.last }
@@ -175,7 +176,8 @@ impl Section {
         self.rows.send(self.rate.n(), row, bytes);
     }
 
-    // Returns whether the frame to which the next row belongs is framed: row 1 shows it.
+    // Returns whether the frame to which the next row belongs is framed. `bytes` are the bytes of that row; only those
+    // of row 1 are looked at.
     fn is_framed(&self, row: u16, bytes: &[u8]) -> bool
         requires next { row ≡ next_of self.now.under_way }
         requires bytes { 270 * n_of self.now.rate ≤ length bytes.now }
@@ -247,7 +249,7 @@ impl Section {
         }
     }
 
-    // Returns what a whole framed and descrambled frame says.
+    // Returns what the overhead of a whole frame says, which is framed and descrambled.
     pub(crate) fn find(&self, bytes: &[u8]) -> Received
         requires { length bytes.now ≡ size_of self.now.rate }
         ensures { result ≡ found_in (n_of self.now.rate) self.now.last bytes.now }
@@ -287,8 +289,9 @@ impl Section {
         self.rows = Rows::new(n);
     }
 
-    /// Returns what a received frame says, once its ninth row is read, against the parities of the frame read before.
-    /// The section then keeps the parities of this frame, or none where it is unframed.
+    /// Returns what the overhead of a received frame says, after its ninth row was read. B1 and B2 are compared with
+    /// the parities of the frame read before. Afterwards the section keeps the parities of this frame, or none where it
+    /// is unframed.
     pub fn finish_read(&mut self) -> Received
         requires { next_of self.old.under_way ≡ 10 }
         ensures read { (line : List ℕ) → AreRead (n_of self.old.rate) self.old.last line self.old.under_way
@@ -307,9 +310,10 @@ impl Section {
     }
 }
 
-/// Sets the section overhead of the next row of a frame, with the parities of the frame written before, and leaves
-/// pointers and payload as they are. Then it scrambles the row in place. After the ninth row the section keeps the
-/// parities of the frame. While a frame is read row by row, no row can be written.
+/// Sets the section overhead of the next row of a frame, 1 to 9, whose 270N bytes are `bytes`. B1 and B2 are the
+/// parities of the frame written before, and pointers and payload stay as they are. Then it scrambles the row in place.
+/// After the ninth row the section keeps the parities of the frame. While a frame is read row by row, no row can be
+/// written.
 pub fn write_row(section: &mut Section, row: u16, k1: u8, k2: u8, bytes: &mut [u8])
     requires next { row ≡ next_of section.old.under_way }
     requires way { MayWrite section.old.under_way }
@@ -333,7 +337,7 @@ pub fn write_row(section: &mut Section, row: u16, k1: u8, k2: u8, bytes: &mut [u
     section.end();
 }
 
-// Writes the bytes of a frame.
+// Writes the overhead of a frame's bytes, and scrambles them.
 fn write_bytes(section: &mut Section, k1: u8, k2: u8, bytes: &mut [u8])
     requires { length bytes.old ≡ size_of section.old.rate }
     ensures bytes { bytes.new ≡ line_frame (n_of section.old.rate) section.old.last k1 k2 bytes.old }
@@ -345,9 +349,9 @@ fn write_bytes(section: &mut Section, k1: u8, k2: u8, bytes: &mut [u8])
     section.keep(parities.line, parities.clear);
 }
 
-/// Sets all section overhead of a frame, with the parities of the frame written before, and leaves pointers and payload
-/// as they are. Where no parities are known B1 and B2 are zeros. Then it scrambles the frame in place. The rows of a
-/// frame that is under way are forgotten.
+/// Sets all section overhead of a frame, and leaves pointers and payload as they are. B1 and B2 are the parities of the
+/// frame written before, or zeros where these are not known. Then it scrambles the frame in place. The rows of a frame
+/// that is under way are forgotten.
 pub fn write_section(section: &mut Section, k1: u8, k2: u8, frame: &mut FrameBuf)
     requires { frame.old.rate ≡ section.old.rate }
     ensures frame { frame.new ≡ record frame.old { bytes = line_frame (n_of section.old.rate) section.old.last k1 k2 frame.old.bytes } }
@@ -359,9 +363,9 @@ pub fn write_section(section: &mut Section, k1: u8, k2: u8, frame: &mut FrameBuf
     write_bytes(section, k1, k2, frame.bytes_mut());
 }
 
-/// Reads the next row of a received frame, and descrambles it in place. The rows of an unframed frame stay as they
-/// came. After the ninth row `finish_read` returns what the frame says. While a frame is written row by row, no row can
-/// be read.
+/// Reads the next row of a received frame, 1 to 9, whose 270N bytes are `bytes`, and descrambles it in place. The rows
+/// of an unframed frame stay as they came. After the ninth row `finish_read` returns what the frame says. While a frame
+/// is written row by row, no row can be read.
 pub fn read_row(section: &mut Section, row: u16, bytes: &mut [u8])
     requires next { row ≡ next_of section.old.under_way }
     requires way { MayRead section.old.under_way }
@@ -383,7 +387,7 @@ pub fn read_row(section: &mut Section, row: u16, bytes: &mut [u8])
     section.receive(row, bytes);
 }
 
-// Reads the bytes of a frame.
+// Reads the overhead of a frame's bytes, and descrambles them where the frame is framed.
 fn read_bytes(section: &mut Section, bytes: &mut [u8]) -> Received
     requires { length bytes.old ≡ size_of section.old.rate }
     ensures result { result ≡ received_in (n_of section.old.rate) section.old.last bytes.old }
@@ -401,8 +405,8 @@ fn read_bytes(section: &mut Section, bytes: &mut [u8]) -> Received
     received
 }
 
-/// Reads the overhead of a received frame against the parities of the frame read before, descrambles it in place, and
-/// returns what it says. An unframed frame stays as it came, and the section then keeps no parities. The rows of a
+/// Descrambles a received frame in place, and returns what its overhead says. B1 and B2 are compared with the parities
+/// of the frame read before. An unframed frame stays as it came, and the section then keeps no parities. The rows of a
 /// frame that is under way are forgotten.
 pub fn read_section(section: &mut Section, frame: &mut FrameBuf) -> Received
     requires { frame.old.rate ≡ section.old.rate }
