@@ -1,6 +1,6 @@
 //! What one side takes in during a round.
 ghost use Rattle.std.specs.Prelude.{◌≡◌, ◌+◌, ◌-◌, ◌%◌, ◌<◌, ◌≤◌, ◌≢◌, Option, None, Some, IfSome, IfOk, length, slice_index_or};
-ghost use Rattle.std.specs.Prelude.{replicate};
+ghost use Rattle.std.specs.Prelude.{replicate, nat_le, if◌then◌else◌};
 ghost use Rattle.std.specs.List.{list_any};
 ghost use Rattle.sdh_ringmap.specs.Rates.{n_of};
 ghost use Rattle.sdh_frame.specs.Aus.{au_of};
@@ -134,6 +134,17 @@ impl Intake {
     }
 }
 
+// Returns the defect of a side whose frame is framed and not AIS, by the violations that B2 counts.
+fn defect_by(threshold: u16, violations: u32) -> Defect
+    ensures { result ≡ (if nat_le threshold violations then Defect.Sd else Defect.None) }
+{
+    if violations >= u32::from(threshold) {
+        Defect::Sd
+    } else {
+        Defect::None
+    }
+}
+
 // Returns the side's defect, and the word that a descrambled frame brings, by what its section overhead says. Where the
 // side fails, the frame is filled with ones. The side is degraded where B2 has at least `threshold` violations.
 fn find_frame(threshold: u16, received: Received, frame: &mut FrameBuf) -> (Defect, Option<K>)
@@ -153,14 +164,7 @@ fn find_frame(threshold: u16, received: Received, frame: &mut FrameBuf) -> (Defe
             frame.fill(0xFF);
             (Defect::Sf, None)
         }
-        Received::Framed { k1, k2, b2, .. } => {
-            let defect = if b2 >= u32::from(threshold) {
-                Defect::Sd
-            } else {
-                Defect::None
-            };
-            (defect, decode(k1, k2))
-        }
+        Received::Framed { k1, k2, b2, .. } => (defect_by(threshold, b2), decode(k1, k2)),
     }
 }
 
