@@ -1,7 +1,10 @@
 //! A whole run: the ring of a plan and what records its rounds are made, and the script runs.
 ghost use Rattle.std.specs.Prelude.{◌≡◌, ◌<◌, ◌≤◌, true, length, IfOk, OnErr};
 ghost use Rattle.sdh_plant.specs.Fibres.{HasNoFibres};
-ghost use Rattle.sdh_aps_cli.specs.Plans.{Failures, CameOfRun, IsPlaced};
+ghost use Rattle.sdh_plan.specs.Planned.{IsPlanned};
+ghost use Rattle.sdh_owed.specs.Plans.{new_ring_of};
+ghost use Rattle.sdh_aps_cli.specs.Plans.{Failures, CameOfRun, IsPlaced, IsScriptOf};
+ghost use Rattle.sdh_aps_cli.specs.Recording.{IsReady};
 ghost use Rattle.sdh_aps_cli.specs.declared.listing.PlanListing.TheVariants as listed;
 
 use crate::frames::FrameRecorder;
@@ -15,7 +18,7 @@ use sdh_outside::Sink;
 use sdh_plan::Plan;
 use sdh_plant::Plant;
 use sdh_report::Status;
-use sdh_scripts::start_over;
+use sdh_scripts::{NewScript, start_over};
 use std::alloc::{AllocError, Global};
 
 /// How the script of a run ended, and the number of rounds that ran. It ended with `Ok`, `Unsettled` or `PlantFault`,
@@ -24,6 +27,23 @@ use std::alloc::{AllocError, Global};
 pub struct RanPlan {
     pub status: Status,
     pub rounds: u64,
+}
+
+// Returns a run of a plan that writes the lines of nodes, and the plan's script. All memory is taken here.
+fn new_run(
+    alloc: Global,
+    plan: Plan,
+    lines: SignalListing,
+) -> Result<(SignalRun, NewScript), AllocError>
+    ensures form { IfOk result (λ new. IsPlanned plan) }
+    ensures ring { IfOk result (λ new. new.0.ring ≡ new_ring_of plan) }
+    ensures script { IfOk result (λ new. IsScriptOf plan new.1) }
+    ensures listing { IfOk result (λ new. new.0.recorder.listing ≡ lines) }
+    ensures ready { IfOk result (λ new. IsReady new.0.ring new.0.recorder.before.items new.0.recorder.text) }
+{
+    let PlanParts { ring, script } = parts_of(alloc, plan)?;
+    let recorder = SignalRecorder::try_new(alloc, script.nodes, lines)?;
+    Ok((SignalRun { ring, recorder }, script))
 }
 
 // Runs a plan, and writes the lines of nodes.
@@ -49,10 +69,7 @@ fn run_lines<W: Sink, P: Plant>(
     sdh_owed::scripts_settle();
     crate::laws::scripts_go_as_signals();
     crate::laws::steps_go_as_signals();
-    let parts = parts_of(alloc, plan)?;
-    let recorder = SignalRecorder::try_new(alloc, parts.script.nodes, lines)?;
-    let PlanParts { ring, script } = parts;
-    let mut run = SignalRun { ring, recorder };
+    let (mut run, script) = new_run(alloc, plan, lines)?;
     let status = start_over(alloc, plant, &mut run, script, sink)?;
     Ok(RanPlan {
         status,
