@@ -46,7 +46,8 @@ abbrev pub turns_after_all : ℕ → List Change → ℕ → ℕ
 turns_after_all p [] left = left
 turns_after_all p (c ∷ cs) left = turns_after_all p cs (turns_after p c left)
 
--- how many of these are left when round t of the stretches begins; each round takes one away
+-- how many rounds the controller at position p still has to miss when round t of the stretches begins, where it had
+-- `left` to miss before them; each round takes one away
 abbrev pub turns_in : ℕ → List Stretch → ℕ → ℕ → ℕ
 turns_in p [] left t = left - t
 turns_in p (s ∷ ss) left t =

@@ -21,7 +21,8 @@ use Rattle.sdh_aps_cli.specs.Signalled.{Signalled}
 use Rattle.sdh_aps_cli.specs.Scripts.{signalling_walk}
 use Rattle.sdh_aps_cli.specs.Owed.{AreSignalled, AreOfTheNext}
 
--- the steps give what is shown of settle steps, from a world, after a number of settle steps that have ended
+-- The steps run from a world, with a limit of rounds for each settle step, after a number of settle steps that have
+-- ended. They give these reports, end so, and leave that world.
 abbrev pub Runs : ℕ → ℕ → List Step → World → List Signalled → Status → World → Type 0
 Runs = scripts.Runs signalling_walk
 
@@ -34,8 +35,8 @@ ScriptsGoAsSignals =
     → AreSignalled (ring_by s (length ids) circuits.circuits) ids limit [] 0 (scenes [] steps) told end
 
 -- Some rounds ran of the settle step that comes after those in `told`. They led from one world to the other, and show
--- what the ring of signals does in them. `earlier` had happened before, and these are the changes before each step to
--- come.
+-- what the ring of signals does in them. `earlier` had happened before those in `told`, and `later` has the changes
+-- before each settle step from then on.
 pub record FirstRounds (ring : Ring) (ids : List ℕ) (limit : ℕ) (earlier : List Stretch) (later : List (List Change)) (told : List Signalled)
     (w : World) (one : Signalled) (mid : World) : Type 0 where
   pub count : ℕ

@@ -1,5 +1,5 @@
--- What a script owes whose signalling is shown, by the script alone: all that the ring of signals does. No frame occurs
--- in it.
+-- What reports owe where the signalling of a script is shown: all that the ring of signals does. It follows from the
+-- script alone, and no frame occurs in it.
 use Rattle.std.specs.Prelude.{ℕ, suc, ◌≡◌, ◌⊎◌, ◌+◌, ◌-◌, ◌==◌, ◌||◌, Bool, not, if◌then◌else◌, List, [], ◌∷◌, ◌++◌, length, get_or}
 use Rattle.std.specs.List.{flat_map}
 use Rattle.sdh_basics.specs.Cells.{cells}
@@ -51,8 +51,8 @@ pub record ShowsSignals (r : Ring) (ids : List ℕ) (stretches : List Stretch) (
   pub settled : (signals_by r ids stretches (round + 1)).states ≡ settled_states (requests_by r stretches round)
 
 -- Each settle step shows what the ring of signals does in its rounds. `earlier` had happened before, `before` settle
--- steps had ended, and these are the changes before each step to come. Step by step the number grows by 1. A settle
--- step of which nothing is shown is where the script ended, unsettled or by a fault.
+-- steps had ended, and the list of lists has the changes before each settle step to come. Settle steps are numbered one
+-- after the other. A settle step of which nothing is shown is where the script ended, unsettled or by a fault.
 abbrev pub AreSignalled : Ring → List ℕ → ℕ → List Stretch → ℕ → List (List script.Change) → List Signalled → Status → Type 0
 AreSignalled ring ids limit earlier before [] told end = (told ≡ []) × ((end ≡ status.Ok) ⊎ (end ≡ status.PlantFault))
 AreSignalled ring ids limit earlier before (changes ∷ later) [] end = (end ≡ status.Unsettled (before + 1)) ⊎ (end ≡ status.PlantFault)

@@ -1,4 +1,4 @@
--- What is written of a plan whose signalling is shown, where its fibres aren't made yet.
+-- What is written of the run of a plan whose signalling is shown. The run begins with a plant that has made no fibres.
 use Rattle.std.specs.Prelude.{ℕ, ◌≡◌, ◌≢◌, ◌⊎◌, ◌+◌, ◌<◌, ◌≤◌, nat_le, Bool, true, List, [], ◌∷◌, ◌++◌, length, map, All, Option}
 use mathlib.Core.Logic.{inl}
 use Rattle.std.specs.List.{flat_map}
@@ -41,9 +41,10 @@ signalling_account = record { walk = signalling_walk; new_ring = new_ring_of }
 abbrev pub Owes : ReportsOwe Signalled
 Owes plan f reports end left = AreSignalled (ring_of plan) plan.nodes plan.limit [] 0 (scenes [] plan.steps) reports end
 
--- What holds of the list of what the settle steps that ended show. Over every plant they show the rounds that ran.
--- Where the arrivals are known, the list is what the script comes to; after a fault, the first of that. Over honest
--- fibres it is what the ring of signals does, and no settle step with a limit that is always enough is unsettled.
+-- What holds of one list of reports, one for each settle step that ended. Over every plant they show the rounds that
+-- ran. Where the arrivals are known, they are the reports that the script comes to; after a fault, the first of them.
+-- Over honest fibres they show what the ring of signals does, and with a limit that is always enough no settle step is
+-- unsettled.
 abbrev pub IsRunOf : Planned → Fibres → List Signalled → Status → Fibres → Type 0
 IsRunOf = plans.IsRunOf signalling_account Owes
 
@@ -78,8 +79,9 @@ rounds_in pieces = rounds_from 0 pieces
 abbrev pub pieces_of : List Signalled → List Signalled → List Piece
 pieces_of ended begun = map Ended ended ++ map Begun begun
 
--- What is reported after the settle steps that ended. It is nothing where the script was done, or the plant made no
--- fibres. Else it is of the rounds that ran of the step with which the script ended.
+-- `begun` is what is reported after the settle steps that ended. It is empty where the script was done, or where the
+-- plant made no fibres. Otherwise it reports the step with which the script ended: of a settle step the rounds that
+-- ran, of a step that was refused nothing.
 abbrev pub IsLast : Planned → Fibres → List Signalled → List Signalled → Status → Fibres → Type 0
 IsLast plan f reports begun end left =
     ((begun ≡ []) × ((end ≡ status.Ok) ⊎ ((end ≡ status.PlantFault) × (reports ≡ []) × (left ≡ f))))
@@ -104,9 +106,9 @@ pub record IsSignalledRun (plan : Planned) (f : Fibres) (pieces : List Piece) (e
   pub begun_owed : f.honest ≡ true → All (AreFirstRounds plan reports end) begun
   pub pieces_are : pieces ≡ pieces_of reports begun
 
--- Over honest fibres: what was to be written when a write failed is what the ring of signals does. `gone` are the steps
--- whose settle steps ended, and each of these shows what it does; of the next settle step its first rounds are
--- reported, or nothing.
+-- What was to be written when a write failed, over honest fibres, shows what the ring of signals does. The steps in
+-- `gone` had been done, and `ended` reports each settle step among them. Of the settle step after these, `begun`
+-- reports the first rounds, or nothing.
 pub record CutOwes (plan : Planned) (ended begun : List Signalled) : Type 0 where
   pub gone : List Step
   pub later : List Step
@@ -176,7 +178,9 @@ pub record Failures : Type 0 where
   pub calls_exact : Bool
   pub writes_exact : Bool
 
--- a plan was run, this was written of it, and how the script ended; or a write failed, and nothing more was run
+-- What came of a run of a plan. Either the script ended with the status `end`, and all pieces that are reported of the
+-- run were written. Or a write failed: `end` is WriteFault, only the first bytes were written, and nothing more was
+-- run.
 pub record CameOfRun (plan : Planned) (listing : PlanListing) (f left : Fibres) (failures : Failures) (end : Status) (rounds : ℕ)
     (old new : Option (List ℕ)) : Type 0 where
   pub whole : end ≢ status.WriteFault → (pieces : List Piece) × IsSignalledRun plan f pieces end left

@@ -37,7 +37,7 @@ pub record IsRecorded (listing : SignalListing) (at : ℕ → World) (k : ℕ) (
 abbrev pub IsCut : SignalListing → (ℕ → World) → ℕ → Option (List ℕ) → Option (List ℕ) → Type 0
 IsCut listing at k old new = AppendsFewer old new (changes_text listing (changes_in k at))
 
--- ---- writes that failed, which a count of faults shows, exactly where `exact` says so
+-- ---- writes that failed, by a count of faults, which is exact where `exact` holds
 
 -- no write failed between these two counts of faults
 pub record NoneFailed (exact : Bool) (before after : ℕ) : Type 0 where

@@ -1,5 +1,5 @@
--- What is shown of how a ring signals, round by round: in the first round what every node shows, and in each later one
--- what those nodes show that show something else than in the round before.
+-- What is shown of how a ring signals, round by round. In the first round every node is shown. In each later one a node
+-- is shown where it shows something else than in the round before.
 use Rattle.std.specs.Prelude.{ℕ, zero, suc, ◌-◌, ◌==◌, ◌||◌, Bool, not, List, [], ◌∷◌, ◌++◌, length, get_or}
 use Rattle.std.specs.Prelude.{if◌then◌else◌}
 use Rattle.std.specs.List.{flat_map}
@@ -52,8 +52,8 @@ abbrev pub changes_in : ℕ → (ℕ → World) → List Change
 changes_in zero at = []
 changes_in (suc k) at = changes_in k at ++ changes_of (at k).ring (at (suc k)).ring
 
--- the settle step, counted from 1; how many rounds had run in all, with its own; and of its own rounds all changes, and
--- the frames that were sent
+-- what is shown of a settle step: its number, counted from 1; how many rounds had run in all when it ended; and all
+-- changes of its own rounds, and the frames that were sent in them
 pub record Signalled : Type 0 where
   pub number : ℕ
   pub rounds : ℕ

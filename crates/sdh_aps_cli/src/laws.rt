@@ -1,6 +1,6 @@
 //! Laws of scripts whose signalling is shown, and no code that runs. `specs/ByScript.antt` says how a ring signals by
-//! the script alone, `specs/Owed.antt` what a script owes, and `specs/Laws.antt` has the laws. Each function here has a
-//! law as its contract and no work to do.
+//! the script alone, `specs/Owed.antt` what its reports owe, and `specs/Laws.antt` has the laws. Each function here has
+//! a law as its contract and no work to do.
 ghost use Rattle.sdh_aps_cli.specs.Laws.{ScriptsGoAsSignals, StepsGoAsSignals};
 
 /// Over honest fibres each settle step shows what the ring of signals does, by the script alone.

@@ -1,10 +1,10 @@
-//! The one call of the program `sdhaps`: from the words, a source of bytes and a plant to a status and a text. A plan
-//! is run over any plant, and how its ring signals is written round by round, while it runs: of each node that shows
-//! something else than in the round before, what it shows. Or frames are written, as they were sent.
+//! The one call of the program `sdhaps`. By the words of the command line it reads a plan from a source of bytes, and
+//! runs it over any plant. After the first round it writes a line for each node, and after each later one for each node
+//! that shows something else than in the round before. Or it writes frames, as they were sent. It returns how it ended.
 //!
 //! What is shown of a settle step is `Signalled` in `specs/Signalled.antt`, what is listed of it is in
-//! `specs/Listing.antt`, and what the program reports of a plan is `signalling` in `specs/Headline.antt`. What that
-//! owes over honest fibres, by the script alone, is in `specs/Owed.antt`.
+//! `specs/Listing.antt`, and what the program reports of a plan is `signalling` in `specs/Headline.antt`. What reports
+//! owe over honest fibres is in `specs/Owed.antt`: it follows from the script alone.
 #![tactic(auto)]
 
 ghost use Rattle.sdh_aps_cli.specs.Frames.{FramesAreSent};

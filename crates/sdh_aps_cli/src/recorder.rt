@@ -1,4 +1,4 @@
-//! What looks at the ring after each round, and writes what its nodes show anew.
+//! The recorder, which looks at the ring after each round and makes a line for each node that shows something new.
 ghost use Rattle.std.specs.Prelude.{◌≡◌, ℕ, ◌-◌, ◌+◌, ◌*◌, ◌≤◌, ◌<◌, [], ◌++◌, if◌then◌else◌, IfOk, length};
 ghost use Rattle.sdh_report.specs.Lines.{settle_line};
 ghost use Rattle.sdh_shell.specs.Writing.{room_in};
@@ -67,7 +67,7 @@ fn put_new(text: &mut Text, ring: &Ring, at: Pos, was: &Shown, listing: SignalLi
     }
 }
 
-// Appends the lines of the last round, before which the nodes showed this.
+// Appends the lines of the last round. `before` is what the nodes showed before it.
 fn put_round(text: &mut Text, ring: &Ring, before: &Vec<Shown>, listing: SignalListing)
     requires many { length before.now.items ≡ length ring.now.ids }
     requires ran { 1 ≤ ring.now.rounds }
@@ -161,7 +161,7 @@ impl SignalRecorder {
         keep_all(&mut self.before, ring);
     }
 
-    /// Makes the line of settle step `number`, which left a ring.
+    /// Makes the line that ends settle step `number`, by the ring that the step left.
     pub fn end(&mut self, ring: &Ring, number: u32)
         requires ran { 1 ≤ ring.now.rounds }
         requires room { 96 ≤ room_in self.old.text }

@@ -27,10 +27,11 @@ use std::alloc::Global;
 /// Does all that the program does, and returns how it ended. With the word `run` it reads a plan from the source and
 /// runs its ring over the plant. It writes a line for each node in the first round, and in each later round for each
 /// node that shows something new: its state and far end, the words that it sent, those that it hears, and what its
-/// sides ask for. With `node` and an identifier it writes the lines of that node alone. Each round is written before
-/// the next one runs, and the last line says how it ended. With `frames`, an identifier, a side, a first round and a
-/// number of rounds it writes the frames that the node sent on that side in these rounds, scrambled as on the line, and
-/// nothing else. There is a last line then only where the ending isn't `Ok`.
+/// sides ask for. With `node` and an identifier it writes these lines for that node alone. Each round is written before
+/// the next one runs. A settle step that ends with a quiet window has a line after its rounds, and the last line says
+/// how it ended. With `frames`, an identifier, a side, a first round and a number of rounds it writes the frames that
+/// the node sent on that side in these rounds, scrambled as on the line, and nothing else. There is a last line then
+/// only where the ending isn't `Ok`.
 pub fn sdhaps<R: Source, W: Sink, P: Plant>(
     alloc: Global,
     words: &[String],

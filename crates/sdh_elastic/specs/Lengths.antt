@@ -1,5 +1,5 @@
--- Steady runs: any four turns in a row take in about four frames' bytes. A list of lengths gives the number of bytes
--- that each turn so far took in, the last one first.
+-- Steady runs: each four turns in a row together take in about four frames' bytes. A list of lengths gives the number
+-- of bytes that each turn so far took in, the last one first.
 use Rattle.std.specs.Prelude.{ℕ, ◌+◌, Bool, true, ◌&&◌, nat_le, List, [], ◌∷◌}
 use Rattle.sdh_elastic.specs.declared.lengths.Lengths.{Lengths}
 use Rattle.sdh_elastic.specs.declared.lengths.Lengths.TheVariants.{Empty, One, Two, Three}
@@ -13,12 +13,12 @@ abbrev pub is_last_steady : List ℕ → Bool
 is_last_steady (a ∷ b ∷ c ∷ d ∷ earlier) = are_four a b c d
 is_last_steady _ = true
 
--- any four turns in a row took in about four frames' bytes
+-- each four turns in a row together took in about four frames' bytes
 abbrev pub is_steady : List ℕ → Bool
 is_steady [] = true
 is_steady (n ∷ earlier) = is_steady earlier && is_last_steady (n ∷ earlier)
 
--- ---- the last three of them
+-- ---- the last three lengths
 
 -- the last three lengths, or all where there are fewer
 abbrev pub last_lengths : List ℕ → Lengths

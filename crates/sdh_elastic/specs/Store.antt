@@ -96,12 +96,12 @@ store_of first past = record {
   steady = is_steady (history.lengths past);
 }
 
--- a store keeps this after a history without drifts, from the first pointer value on
+-- s is what a store keeps after a history without drifts, from the first pointer value on
 pub record CameBy (first : ℕ) (past : List (List ℕ)) (s : Store) : Type 0 where
   pub lasts : history.lasts (history.lengths past) ≡ true
   pub kept : s ≡ store_of first past
 
--- a turn that took this chunk in goes on with a history: it gave the bytes `out` and did `a`
+-- a turn that took this chunk in goes on with a history: it gave the bytes `out`, did `a`, and left the store s
 pub record GoesOn (first : ℕ) (past : List (List ℕ)) (chunk out : List ℕ) (a : Action) (s : Store) : Type 0 where
   pub store : CameBy first (chunk ∷ past) s
   pub bytes : out ≡ history.last_given (chunk ∷ past)

@@ -6,8 +6,8 @@ pub fn given_is_a_front()
     ensures { GivenIsAFront }
 {}
 
-/// No turn of a steady run is a drift. A run is steady if any four turns in a row take in 9393 to 9399 bytes, about
-/// four frames.
+/// No turn of a steady run is a drift. A run is steady if each four turns in a row take in 9393 to 9399 bytes together,
+/// about four frames.
 pub fn steady_runs_last()
     ensures { SteadyRunsLast }
 {}

@@ -3,9 +3,10 @@ ghost use Rattle.std.specs.Prelude.{◌≡◌, ◌≤◌};
 ghost use Rattle.sdh_elastic.specs.Lengths.{with_length, keeps_steady};
 ghost use Rattle.sdh_elastic.specs.Store.{AreChunks};
 
-/// The fewest and the most bytes of four chunks in a row in a steady run.
+/// The fewest bytes that four chunks in a row have together in a steady run.
 const FOUR_LEAST: u16 = 9393;
 
+/// The most bytes that four chunks in a row have together in a steady run.
 const FOUR_MOST: u16 = 9399;
 
 /// The lengths of the last three chunks, the last one first; fewer where there were fewer.

@@ -17,9 +17,10 @@ use std::alloc::{AllocError, Global};
 use std::marker::Model;
 use thiserror::Error;
 
-/// The fewest and the most bytes that are held after a turn.
+/// The fewest bytes that are held after a turn.
 const LEAST: usize = 2340;
 
+/// The most bytes that are held after a turn.
 const MOST: usize = 2358;
 
 /// After the turn fewer than 2340 or more than 2358 bytes would be held. The turn was refused.
@@ -59,8 +60,8 @@ impl Course {
     }
 }
 
-/// An elastic store. In each turn it takes in one chunk, and from the second turn on it gives the bytes of a frame.
-/// Contracts see what it keeps of its history.
+/// An elastic store. In each turn it takes in one chunk, and from the second turn on it gives the bytes of a frame. In
+/// contracts it stands for what it keeps of its history (`Store` in `specs/Store.antt`).
 #[derive(Debug, Drop)]
 pub struct Elastic {
     held: Held,
@@ -145,7 +146,7 @@ impl Elastic {
         self.held.len()
     }
 
-    /// Returns whether any four turns in a row so far took in 9393 to 9399 bytes.
+    /// Returns whether the run was steady so far: each four turns in a row took in 9393 to 9399 bytes together.
     pub fn is_steady(&self) -> bool
         ensures kept { result ≡ self.now.steady }
         ensures history { (first : ℕ) (past : List (List ℕ)) → CameBy first past self.now → result ≡ is_steady (lengths past) }

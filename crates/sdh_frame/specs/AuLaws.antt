@@ -9,7 +9,7 @@ use Rattle.sdh_frame.specs.Fields.{index_of}
 use Rattle.sdh_frame.specs.Aus.{Au, payload_of, pointers_of, with_payload, with_pointers, au_of, with_au, with_aus}
 use Rattle.sdh_frame.specs.PlaceLaws.{IsInFrame, field_of}
 
--- the lists of an AU-4 have 9 and 2349 bytes
+-- an AU-4 has 9 pointer bytes and 2349 bytes of payload
 pub record IsAu (is : Au) : Type 0 where
   pub pointers : length is.pointers ≡ 9
   pub payload : length is.payload ≡ 2349
@@ -29,7 +29,8 @@ WritingKeeps =
     (rate : Rate) (au : ℕ) (is : Au) (bytes : List ℕ) → length bytes ≡ size_of rate → 1 ≤ au → au ≤ n_of rate → IsAu is
     → IsWritten rate au is bytes
 
--- writing one list of an AU-4 is the same as writing the AU-4 with its other list as the frame has it
+-- Writing only the payload of an AU-4 is the same as writing the AU-4 with the pointer bytes that the frame has.
+-- Writing only its pointer bytes is the same as writing it with the payload that the frame has.
 pub record WritingOneList : Type 0 where
   pub payload : (rate : Rate) (au : ℕ) (payload bytes : List ℕ) → length bytes ≡ size_of rate → 1 ≤ au → au ≤ n_of rate
       → with_payload (n_of rate) au payload bytes ≡ with_au (n_of rate) au

@@ -3,11 +3,11 @@ use Rattle.std.specs.Prelude.{ℕ, ◌*◌, List}
 use Rattle.sdh_ringmap.specs.declared.terms.Rate.{Rate}
 use Rattle.sdh_ringmap.specs.Rates.{n_of}
 
--- the bytes of a frame
+-- the number of bytes of a frame
 abbrev pub size_of : Rate → ℕ
 size_of rate = 2430 * n_of rate
 
--- a frame without where it lies in memory: its bytes row by row
+-- a frame: its rate, and its bytes row by row
 pub record Frame : Type 0 where
   pub rate : Rate
   pub bytes : List ℕ

@@ -19,7 +19,8 @@ pub fn writing_an_au_keeps_the_rest()
     ensures { WritingKeeps }
 {}
 
-/// Writing only the payload, or only the pointer bytes, is the same as writing the AU-4 with its other list unchanged.
+/// Writing only the payload of an AU-4 is the same as writing the AU-4 with its pointer bytes unchanged. Writing only
+/// its pointer bytes is the same as writing it with its payload unchanged.
 pub fn writing_one_list_writes_the_au()
     ensures { WritingOneList }
 {}

@@ -93,7 +93,7 @@ after_decision held x = record x { state = if held then x.state else state_after
 unfoldable pub next_word : Bool → Cross → Side → K → K
 next_word held x side k = if held then k else word (scene_of x) side
 
--- ---- where the state leads
+-- ---- where the state connects what comes in
 
 -- the slot of an AU-4
 abbrev pub slot_of : Cross → ℕ → ℕ

@@ -45,7 +45,7 @@ pub record Node : Type 0 where
   -- both sides that send
   pub west_out : Sending
   pub east_out : Sending
-  -- the number of the next rounds that its controller misses
+  -- how many of the next rounds its controller misses
   pub held : ℕ
   -- the last round was calm
   pub calm : Bool

@@ -110,8 +110,8 @@ relayed s d = option_map_or (λ k. if (k.to == own_id s) || (k.from == own_id s)
 abbrev pub weight_of : Option K → ℕ
 weight_of o = option_map_or (λ k. code_number k.code) o 0
 
--- what is sent on a side: the node's own word over the span there, its own word the long way about the span on the
--- opposite side, a relayed word, or the word that asks for nothing
+-- what is sent on a side: the node's own short word, which is about the span there; its own long word, which is about
+-- the span on the opposite side; a relayed word; or the word that asks for nothing
 pub data Choice : Type 0 where
   own_short : Choice
   own_long : Choice

@@ -1,4 +1,4 @@
--- What the code keeps of a scene, as the rules see it.
+-- The code's scenes and choices as those of the rules.
 use Rattle.sdh_nodestate.specs.declared.scene.Scene as code
 use Rattle.sdh_nodestate.specs.declared.scene.Choice as code_choice
 use Rattle.sdh_nodestate.specs.declared.scene.Choice.TheVariants as variant

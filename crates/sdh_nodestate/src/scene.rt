@@ -20,8 +20,8 @@ pub(crate) struct Scene<'a> {
     pub(crate) heard: Heard,
 }
 
-// Which word is sent on a side: the node's own word over the span there, its own word the long way about the span on
-// the opposite side, a relayed word, or the word that asks for nothing.
+// Which word is sent on a side: the node's own short word, which is about the span there; its own long word, which is
+// about the span on the opposite side; a relayed word; or the word that asks for nothing.
 #[derive(Clone, Copy, Debug, PartialEq, Eq)]
 pub(crate) enum Choice {
     OwnShort,

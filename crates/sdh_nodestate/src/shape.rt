@@ -41,7 +41,7 @@ fn same_far(left: Option<Pos>, right: Option<Pos>) -> bool
     }
 }
 
-/// Returns whether two shapes are those of one state, with one far end.
+/// Returns whether two shapes are those of the same state, with the same far end.
 #[tactic(auto, using(crate::proofs::SameStates::state_tells), unfolding(crate::specs::Shapes::same_state))]
 pub fn same_shape(left: Shape, right: Shape) -> bool
     ensures same { result ≡ same_state (state_of left) (state_of right) }

@@ -12,8 +12,8 @@ use sdh_plan::Step;
 use sdh_plant::Plant;
 use sdh_rounds::PlantFault;
 
-/// Changes a ring of add-drop multiplexers or its fibres as a step does before any round runs. A settle step changes
-/// nothing then. A fault leaves all as it was.
+/// Makes the change of a script's step in a ring of add-drop multiplexers or in its fibres. No round is run: a settle
+/// step changes nothing here. A fault leaves all as it was.
 #[tactic(auto, unfolding(sdh_world::specs::Changes::changed))]
 pub fn change<P: Plant>(ring: &mut Ring, plant: &mut P, step: Step) -> Result<(), PlantFault>
     requires prepared { IsPrepared ring.old.settings.rate (length ring.old.ids) (P.fibres plant.old) }

@@ -78,8 +78,9 @@ impl Ring {
         // places, and the fibres carry what was sent.
         ensures whole { IfOk result (λ ring. (f : Fibres) → IsHonest f → IsWhole (world ring (prepared settings.rate (length map) f))) }
 
-        // A new ring is vouched for (`IsVouched`), whatever the clocks of its ports will be: each frame that is under
-        // way holds only the bytes that may be in it.
+        // A new ring is vouched for (`IsVouched`), whatever the clocks of its ports will be. In such a ring each AU-4
+        // under way holds ones, or what one port sent. In a working slot that is a port of the circuit in that slot,
+        // and in a protection slot a port of the circuit that the frame's K word speaks of.
         ensures vouched { IfOk result (λ ring. (f : Fibres) (clocks : PortId → ℕ → Clock) → IsHonest f
             → IsVouched clocks (world ring (prepared settings.rate (length map) f))) }
     {
@@ -111,7 +112,7 @@ impl Ring {
 
     /// Holds the controller of a node for the next `turns` rounds, in place of those left of an earlier call. Where the
     /// node is idle or isolated, the ring stays vouched for (`IsVouched`). Where the node is switched or passes traffic
-    /// through, the ring isn't vouched for as long as the node is held.
+    /// through, the ring isn't vouched for while the node is held.
     pub fn hold(&mut self, at: Pos, turns: u32)
         requires at { at.0 < length self.old.ids }
         requires some { 1 ≤ turns }
@@ -216,8 +217,8 @@ impl Ring {
 
 // Settle steps.
 impl Ring {
-    /// Runs rounds, at most `limit`, until one ends a quiet window. That is `3 * n` calm rounds of this step, the last
-    /// of which has a number that is a multiple of 128. It takes no memory.
+    /// Runs rounds, at most `limit`, until one ends a quiet window: `3 * n` calm rounds of this step, one after the
+    /// other. The number of the last one is a multiple of 128. The function takes no memory.
     pub fn settle<P: Plant>(&mut self, plant: &mut P, limit: u32) -> Result<(), SettleError>
         requires prepared { IsPrepared self.old.settings.rate (length self.old.ids) (P.fibres plant.old) }
         requires whole { self.old.broken ≡ false }

@@ -1,4 +1,4 @@
--- The laws: what a script's reports show follows from its changes alone.
+-- The laws: the requests that decide what a script's reports show follow from its changes alone.
 use Rattle.std.specs.Prelude.{ℕ, ◌≡◌, ◌≢◌, ◌≤◌, ◌+◌, ◌-◌, List, [], ◌∷◌, ◌++◌, map}
 use Rattle.sdh_report.specs.declared.status.Status.{Status}
 use Rattle.sdh_report.specs.declared.status.Status.TheVariants as status

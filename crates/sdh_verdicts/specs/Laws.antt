@@ -81,12 +81,12 @@ pub record IsShown (plan : Planned) (case : List Failure) (reports : List PortRe
   pub verdicts : (c : Provisioned) → verdict_of plan case c ≡ verdict_under (length plan.nodes)
       (is_applied (requests_by (ring_of plan) (stretches_by [] (scenes_with plan case) reports) foretold.last.round)) c
 
--- all reports of the plan with a case after its script show the case, if they come to the script's end and show what
--- they owe
+-- Take reports of the longer plan, which has the case after its script. If they come to the script's end and show what
+-- they owe, the last of them shows each port as its circuit's verdict in the case says.
 abbrev pub CaseIsShown : Planned → List Failure → Type 0
 CaseIsShown plan case = (limit : ℕ) (reports : List Report) → OwesAll (longer_plan plan case limit) reports status.Ok
     → IsShown plan case (map ports_of reports)
 
--- every case of every plan is shown
+-- the last report shows what the verdicts say, for every plan and every case
 abbrev pub CasesAreShown : Type 0
 CasesAreShown = (plan : Planned) (case : List Failure) → IsPlanned plan → CaseIsShown plan case

@@ -1,5 +1,5 @@
 -- The state of each side of a ring at a settle step of a script, by the changes before each settle step alone: no round
--- is counted. So what a report shows can be computed without running a round.
+-- is counted. So the requests that decide what a report shows can be computed without running a round.
 use Rattle.std.specs.Prelude.{ℕ, ◌&&◌, not, nat_le, if◌then◌else◌, Option, Some, None, List, [], ◌∷◌}
 use Rattle.sdh_ringmap.specs.declared.Side.{Side}
 use Rattle.sdh_ringmap.specs.declared.terms.Code.{Code}
@@ -13,8 +13,9 @@ use Rattle.sdh_promise.specs.Changes.{Change}
 use Rattle.sdh_promise.specs.Sides.{Holding, new_holding, all_holding}
 use Rattle.sdh_promise.specs.Owed.{Ring}
 
--- the state of a side: what holds on it now, the defect that it had at the last settle step, and the moment of the
--- settle step at which its last defect was no longer there
+-- the state of a side: the condition of the fibre that comes in, the command and the moment (`Holding`), the defect
+-- that the side had at the last settle step, and the moment of the settle step at which its last defect was no longer
+-- there
 pub record Resting : Type 0 where
   pub holding : Holding
   pub defect : Defect
@@ -30,7 +31,8 @@ defect_of threshold Clear = defect.None
 defect_of threshold Cut = defect.Sf
 defect_of threshold (Degraded k) = if nat_le threshold k then defect.Sd else defect.None
 
--- the state of a side after a settle step at which h holds on it: the side comes to rest in that step
+-- the state of a side after a settle step with the condition, the command and the moment of h, where its state before
+-- was r: the side comes to rest in that step
 abbrev pub at_rest : ℕ → Holding → Resting → Resting
 at_rest threshold h r =
     (let now = defect_of threshold h.condition in
@@ -54,6 +56,6 @@ rest_in threshold n p d (changes ∷ later) r = rest_in threshold n p d later (r
 abbrev pub asks : ℕ → Resting → Code
 asks wait r = highest_code r.holding.command r.defect (waits wait r.defect r.holding.moment r.ended)
 
--- the requests of all spans of a new ring over new fibres, after the changes before each of some settle steps
+-- the requests of all spans after some settle steps, with these changes before each, from a new ring over new fibres on
 abbrev pub requests_after : Ring → List (List Change) → List ℕ
 requests_after ring past = span_requests ring.nodes (λ p d. asks ring.wait (rest_in ring.threshold ring.nodes p d past fresh))

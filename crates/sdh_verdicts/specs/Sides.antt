@@ -16,7 +16,7 @@ resting_of r = record {
   ended = option_map (λ m. m.0) r.ended;
 }
 
--- the state of a side after a settle step, with what holds on it now
+-- the state of a side after a settle step that leaves its condition, command and moment as they are
 abbrev pub at_rest_now : ℕ → rest.Resting → rest.Resting
 at_rest_now threshold r = rest.at_rest threshold r.holding r
 

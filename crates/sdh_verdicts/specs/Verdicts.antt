@@ -109,7 +109,7 @@ asks_with plan case p d =
 abbrev pub asked_at : Planned → List Failure → ℕ → LocalRequests
 asked_at plan case p = record { west = asks_with plan case p West; east = asks_with plan case p East }
 
--- the state of the side that has this number after the plan's script
+-- the state, after the plan's script, of the side that has this number
 abbrev pub numbered : Planned → ℕ → rest.Resting
 numbered plan number = left_by plan (number / 2) (side_of number)
 

@@ -1,5 +1,5 @@
-//! What a plan's reports show follows from the plan's changes alone: no round is counted and none is run. Each function
-//! here has a law as its contract and no work to do.
+//! The requests that decide what a plan's reports show follow from the plan's changes alone: no round is counted and
+//! none is run. Each function here has a law as its contract and no work to do.
 ghost use Rattle.sdh_verdicts.specs.Foretold.{RequestsRest, ReportsAreForetold, LastReportsAreForetold};
 
 /// Where each stretch of a run has at least three rounds, the requests in the last round follow from the changes alone.

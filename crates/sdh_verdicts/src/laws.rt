@@ -15,7 +15,7 @@ pub fn cases_are_shown()
     crate::foretold::last_reports_are_foretold();
 }
 
-/// A plan of three nodes has a case for which both laws hold: a span is cut, and a circuit goes round it.
+/// A plan of three nodes has a case to which both laws apply: a span is cut, and a circuit goes round it.
 pub fn a_case_occurs()
     ensures { CaseOccurs }
 {

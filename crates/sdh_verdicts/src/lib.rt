@@ -1,7 +1,8 @@
 //! What becomes of each circuit of a ring where things fail, by the restoration model alone: no round is run.
 //! `specs/Failures.antt` has the failures and their steps, and `specs/Verdicts.antt` what becomes of a circuit.
-//! `specs/Resting.antt` has the state of a ring's sides at each settle step, and `specs/Foretold.antt` says that the
-//! reports that are owed show just that. `specs/Laws.antt` says that they show what becomes of each circuit.
+//! `specs/Resting.antt` has the state of a ring's sides at each settle step, and the requests that follow from it.
+//! `specs/Foretold.antt` says that these requests decide what reports show, where the reports show what they owe.
+//! `specs/Laws.antt` says that such reports show what becomes of each circuit.
 #![tactic(auto)]
 
 mod failure;
