@@ -5,7 +5,7 @@ ghost use Rattle.sdh_outage.specs.Changes.{same_kind, is_change};
 use crate::kind::Kind;
 
 /// A round of another kind than the one before, or the first of a settle step.
-#[derive(Clone, Copy, Debug, PartialEq, Eq)]
+#[derive(Clone, Copy, Debug)]
 pub struct Change {
     /// The number of the round.
     pub round: u32,

@@ -7,7 +7,6 @@ ghost use Rattle.sdh_outage.specs.Kept.{Stands};
 use crate::part::is_part;
 use sdh_payload::Delivered;
 use std::alloc::{AllocError, Global};
-use std::fmt;
 use std::marker::Model;
 
 /// Room for two chunks, in bytes.
@@ -30,12 +29,6 @@ impl Model for Last {
     ghost view = { λ l. delivered l.is_chunk l.bytes.items };
 
     ghost invariant = { λ l. (vec_len l.bytes ≤ 2352) × (4704 ≤ vec_capacity l.bytes) };
-}
-
-impl fmt::Debug for Last {
-    fn fmt<W: fmt::Write>(&self, f: &mut fmt::Formatter<W>) -> fmt::Result {
-        write!(f, "Last({} bytes)", self.bytes.len())
-    }
 }
 
 impl Last {

@@ -12,7 +12,7 @@ use std::alloc::{AllocError, Global};
 
 /// What came to a port in the round before. Where that is known to be a chunk of a port's stream, the port and the
 /// number of the chunk are kept in place of its bytes, so that these aren't copied in each round.
-#[derive(Debug, Drop)]
+#[derive(Drop)]
 pub(crate) struct Latest {
     pub(crate) plain: Last,
     pub(crate) port: Option<Port>,

@@ -1,5 +1,5 @@
 //! The lines of outages.
-ghost use Rattle.std.specs.Prelude.{◌≡◌, ◌*◌, ◌<◌, ◌≤◌, length};
+ghost use Rattle.std.specs.Prelude.{◌≡◌, ◌*◌, ◌<◌, ◌≤◌, ◌++◌, decimal, length};
 ghost use Rattle.sdh_report.specs.Written.{with_part};
 ghost use Rattle.sdh_outage.specs.Lines.{three_digits, ms_text, rounds_text, stretch_text, runs_text, first_counts_text, counts_text};
 ghost use Rattle.sdh_outage.specs.Lines.{outage_front, of_port, of_nobody, longest_text, kind_word, change_line, more_line, foreign_line, summary_line};
@@ -61,17 +61,23 @@ fn put_stretch(text: &mut Text, stretch: Option<Stretch>)
     }
 }
 
+// Appends a word and a number after it.
+fn put_count(text: &mut Text, word: &[u8], count: u32)
+    requires { length (word.now ++ decimal count) ≤ text.old.room }
+    ensures { text.new ≡ with_part text.old (word.now ++ decimal count) }
+{
+    text.put(word);
+    text.put_number(u64::from(count));
+}
+
 // Appends how many rounds there were of the first three kinds.
 fn put_first_counts(text: &mut Text, outage: &Outage)
     requires { length (first_counts_text outage.now) ≤ text.old.room }
     ensures { text.new ≡ with_part text.old (first_counts_text outage.now) }
 {
-    text.put(b" ais ");
-    text.put_number(u64::from(outage.ais));
-    text.put(b" ones ");
-    text.put_number(u64::from(outage.ones));
-    text.put(b" jump ");
-    text.put_number(u64::from(outage.jump));
+    put_count(text, b" ais ", outage.ais);
+    put_count(text, b" ones ", outage.ones);
+    put_count(text, b" jump ", outage.jump);
 }
 
 // Appends how many rounds there were of each kind.
@@ -80,12 +86,9 @@ fn put_counts(text: &mut Text, outage: &Outage)
     ensures { text.new ≡ with_part text.old (counts_text outage.now) }
 {
     put_first_counts(text, outage);
-    text.put(b" torn ");
-    text.put_number(u64::from(outage.torn));
-    text.put(b" strange ");
-    text.put_number(u64::from(outage.strange));
-    text.put(b" foreign ");
-    text.put_number(u64::from(outage.foreign));
+    put_count(text, b" torn ", outage.torn);
+    put_count(text, b" strange ", outage.strange);
+    put_count(text, b" foreign ", outage.foreign);
 }
 
 // Appends how many runs of rounds there were, and the longest.
@@ -200,10 +203,8 @@ pub fn summary_line(text: &mut Text, summary: &Summary)
     ensures { text.new ≡ with_part text.old (summary_line summary.now) }
 {
     put_longest(text, summary);
-    text.put(b" none ");
-    text.put_number(u64::from(summary.none));
-    text.put(b" still ");
-    text.put_number(u64::from(summary.still));
+    put_count(text, b" none ", summary.none);
+    put_count(text, b" still ", summary.still);
     text.put(b"\n");
     put_foreign(text, summary.foreign);
 }

@@ -18,7 +18,7 @@ use std::marker::Model;
 
 /// A listener at a port, which counts what the port delivers in the rounds of a settle step, and keeps its changes. It
 /// takes all its memory when it is made.
-#[derive(Debug, Drop)]
+#[derive(Drop)]
 pub struct Listener {
     round: u32,
     last: Latest,

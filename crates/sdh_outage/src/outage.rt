@@ -11,7 +11,7 @@ use sdh_circuits::PortId;
 const SWITCH_MAX: u32 = 400;
 
 /// The rounds from one to another.
-#[derive(Clone, Copy, Debug, PartialEq, Eq)]
+#[derive(Clone, Copy, Debug)]
 pub struct Stretch {
     /// The first round that wasn't in order.
     pub from: u32,
@@ -20,7 +20,7 @@ pub struct Stretch {
 }
 
 /// The runs of rounds, one after the other, that brought none of the far customer's bytes.
-#[derive(Clone, Copy, Debug, PartialEq, Eq)]
+#[derive(Clone, Copy, Debug)]
 pub struct Runs {
     /// The number of runs.
     pub count: u32,
@@ -31,7 +31,7 @@ pub struct Runs {
 }
 
 /// What was counted of the rounds of a settle step that weren't in order.
-#[derive(Clone, Copy, Debug, PartialEq, Eq)]
+#[derive(Clone, Copy)]
 pub struct Outage {
     /// The number of rounds that brought AIS.
     pub ais: u32,

@@ -7,7 +7,6 @@ ghost use Rattle.sdh_outage.specs.Kept.{Reached};
 
 use sdh_payload::{Cells, Feed, Port};
 use std::alloc::{AllocError, Global};
-use std::fmt;
 use std::marker::Model;
 
 /// The bytes of a chunk where no clock slips.
@@ -35,12 +34,6 @@ impl Model for Reach {
 
     ghost invariant = { λ r. IsReach r.feed r.first r.made r.bytes.items × (vec_len r.bytes ≡ 2349 * (r.made - r.first))
         × (r.made ≤ r.first + r.most) × (r.most ≤ 78) × (2349 * r.most ≤ vec_capacity r.bytes) };
-}
-
-impl fmt::Debug for Reach {
-    fn fmt<W: fmt::Write>(&self, f: &mut fmt::Formatter<W>) -> fmt::Result {
-        write!(f, "Reach({} to {})", self.first, self.made)
-    }
 }
 
 // Copies the bytes after a place to the front, where they are no more than those before it.

@@ -9,7 +9,6 @@ use crate::last::Last;
 use crate::reach::{CHUNK, put_chunk};
 use sdh_payload::{Cells, Feed, Port};
 use std::alloc::{AllocError, Global};
-use std::fmt;
 use std::marker::Model;
 
 /// The number of chunks that are near.
@@ -34,12 +33,6 @@ impl Model for Scratch {
     ghost view = { λ s. s.bytes.items };
 
     ghost invariant = { λ s. 2349 * 78 ≤ vec_capacity s.bytes };
-}
-
-impl fmt::Debug for Scratch {
-    fn fmt<W: fmt::Write>(&self, f: &mut fmt::Formatter<W>) -> fmt::Result {
-        write!(f, "Scratch({} bytes)", self.bytes.len())
-    }
 }
 
 // Returns the feed of a port before this chunk of its stream.

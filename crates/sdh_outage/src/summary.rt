@@ -7,7 +7,7 @@ ghost use Rattle.sdh_outage.specs.Kept.{ports_in};
 use crate::outage::Outage;
 
 /// The summary of the outages of all ports in a settle step.
-#[derive(Clone, Copy, Debug, PartialEq, Eq)]
+#[derive(Clone, Copy)]
 pub struct Summary {
     /// The number of rounds of the longest run of the ports that came back.
     pub longest: u32,

@@ -12,7 +12,7 @@ use std::marker::Model;
 const KEPT: u32 = 64;
 
 /// The changes of a port in the rounds of a settle step: the first of them, and how many there were.
-#[derive(Debug, Drop)]
+#[derive(Drop)]
 pub struct Trace {
     changes: Vec<Change>,
     count: u32,

@@ -14,7 +14,6 @@ use crate::scratch::{BEHIND, CHUNKS, Scratch};
 use memchr::memmem;
 use sdh_payload::Port;
 use std::alloc::{AllocError, Global};
-use std::fmt;
 use std::marker::Model;
 
 /// The number of the stream's chunks in which the last chunk that came and the next one lie: wherever they begin
@@ -53,12 +52,6 @@ impl Model for Window {
     ghost view = { λ w. record { port = w.port; round = w.round } };
 
     ghost invariant = { λ w. (w.next.most ≡ 6) × (w.next.port ≡ w.port) × (w.at < 2349) };
-}
-
-impl fmt::Debug for Window {
-    fn fmt<W: fmt::Write>(&self, f: &mut fmt::Formatter<W>) -> fmt::Result {
-        write!(f, "Window(round {})", self.round)
-    }
 }
 
 impl Window {

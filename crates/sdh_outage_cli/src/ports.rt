@@ -18,7 +18,7 @@ use sdh_ring::Ring;
 use std::alloc::{AllocError, Global};
 
 /// The listeners on both ports of a circuit.
-#[derive(Debug, Drop)]
+#[derive(Drop)]
 pub struct ListenerPair {
     pub a: Listener,
     pub b: Listener,

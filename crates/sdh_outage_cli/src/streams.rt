@@ -13,7 +13,7 @@ use sdh_ring::Ring;
 use std::alloc::{AllocError, Global};
 
 /// The bytes of both customers of a circuit that can be on their way.
-#[derive(Debug, Drop)]
+#[derive(Drop)]
 pub struct StreamPair {
     pub a: Window,
     pub b: Window,
@@ -65,7 +65,7 @@ impl StreamPair {
 }
 
 /// The bytes of both customers of each circuit, in the order of the circuits, and a scratch to look at them.
-#[derive(Debug, Drop)]
+#[derive(Drop)]
 pub struct Streams {
     pub pairs: Vec<StreamPair>,
     pub scratch: Scratch,

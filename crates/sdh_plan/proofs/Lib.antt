@@ -6,6 +6,7 @@ pub mod Slipping
 pub mod Scripts
 pub mod Elements
 pub mod Refusing
+pub mod Wishes
 pub mod Provisions
 pub mod Nodes
 pub mod Composed

@@ -8,6 +8,7 @@ pub mod Scripts
 pub mod Reasons
 pub mod Refusals
 pub mod Circuits
+pub mod Wishes
 pub mod Planned
 pub mod Plans
 pub mod Answers

@@ -11,6 +11,7 @@ ghost use Rattle.sdh_plan.specs.Check.{answer, first_fault};
 ghost use Rattle.sdh_plan.specs.Document.{is_among, has_only, is_table, elements};
 ghost use Rattle.sdh_plan.specs.Circuits.{circuit_keys, wish_in, text_or, integer_or_0, circuit_of_table, circuit_faults, circuits_checks};
 ghost use Rattle.sdh_plan.specs.Circuits.{members_of, provisioned};
+ghost use Rattle.sdh_plan.specs.Wishes.{way_in, texts_in, traces_in, offsets_in};
 ghost use Rattle.sdh_plan.specs.Refusals.{IsRefused, refusal_at, reason_of};
 
 use crate::document::{integer_under, is_text, text_under, value_under};
@@ -60,21 +61,48 @@ fn integer_or_0(table: &Table, key: &str) -> Option<i64>
     }
 }
 
+// Returns the ends and the slot, where each is there and an integer.
+#[tactic(auto, unfolding(crate::specs::Wishes::way_in))]
+fn way_under(table: &Table) -> Option<((i64, i64), i64)>
+    ensures { result ≡ way_in (table_view table.now) }
+{
+    let ends = integer_under(table, "from").zip(integer_under(table, "to"));
+    ends.zip(integer_under(table, "slot"))
+}
+
+// Returns both texts, where each is there and a string.
+#[tactic(auto, unfolding(crate::specs::Wishes::texts_in))]
+fn texts_under<'a>(table: &'a Table) -> Option<(&'a str, &'a str)>
+    ensures { option_map (λ both. (both.0.now, both.1.now)) result ≡ texts_in (table_view table.now) }
+{
+    text_under(table, "text_a").zip(text_under(table, "text_b"))
+}
+
+// Returns both traces, where each that is there is a string. A missing one is `name`.
+#[tactic(auto, unfolding(crate::specs::Wishes::traces_in))]
+fn traces_under<'a>(table: &'a Table, name: &'a str) -> Option<(&'a str, &'a str)>
+    ensures { option_map (λ both. (both.0.now, both.1.now)) result ≡ traces_in name.now (table_view table.now) }
+{
+    text_or(table, "trace_a", name).zip(text_or(table, "trace_b", name))
+}
+
+// Returns both offsets, where each that is there is an integer. A missing one is 0.
+#[tactic(auto, unfolding(crate::specs::Wishes::offsets_in))]
+fn offsets_under(table: &Table) -> Option<(i64, i64)>
+    ensures { result ≡ offsets_in (table_view table.now) }
+{
+    integer_or_0(table, "offset_a").zip(integer_or_0(table, "offset_b"))
+}
+
 // Returns what the table asks for, where the needed keys are there and each value has its kind.
-#[tactic(auto, unfolding(crate::specs::Circuits::wish_in))]
 fn asked_under<'a>(table: &'a Table) -> Option<Asked<'a>>
     ensures { option_map wish_of result ≡ wish_in (table_view table.now) }
 {
     let name = text_under(table, "name")?;
-    let from = integer_under(table, "from")?;
-    let to = integer_under(table, "to")?;
-    let slot = integer_under(table, "slot")?;
-    let text_a = text_under(table, "text_a")?;
-    let text_b = text_under(table, "text_b")?;
-    let trace_a = text_or(table, "trace_a", name)?;
-    let trace_b = text_or(table, "trace_b", name)?;
-    let offset_a = integer_or_0(table, "offset_a")?;
-    let offset_b = integer_or_0(table, "offset_b")?;
+    let ((from, to), slot) = way_under(table)?;
+    let (text_a, text_b) = texts_under(table)?;
+    let (trace_a, trace_b) = traces_under(table, name)?;
+    let (offset_a, offset_b) = offsets_under(table)?;
     Some(Asked {
         name,
         from,

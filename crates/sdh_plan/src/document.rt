@@ -6,16 +6,13 @@ ghost use Rattle.toml.specs.View.{view, table_view};
 ghost use Rattle.sdh_plan.specs.Document.{IsDocument, IsNoDocument, string_of, number_in, integer_at, number_at, text_at, elements_at};
 
 use std::alloc::Global;
-use thiserror::Error;
 use toml::value::Array;
 use toml::{Table, Value};
 
 /// Why there is no document.
-#[derive(Clone, Copy, Debug, PartialEq, Eq, Error)]
+#[derive(Clone, Copy)]
 pub enum DocumentError {
-    #[error("no memory")]
     Memory,
-    #[error("not a TOML document")]
     NotToml,
 }
 

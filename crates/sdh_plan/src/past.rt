@@ -9,7 +9,7 @@ use crate::slips::Slips;
 use crate::step::Step;
 
 /// The present moment, the number of settle steps, and the slips that ports were given since the last of them.
-#[derive(Debug, Drop)]
+#[derive(Drop)]
 pub struct Past {
     moment: u64,
     settles: u32,

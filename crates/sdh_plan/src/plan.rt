@@ -10,7 +10,7 @@ use sdh_ringmap::RingMap;
 use std::marker::Model;
 
 /// What a run is to do: the ring with its circuits, the settings of its nodes, and the steps of its script.
-#[derive(Debug, Drop)]
+#[derive(Drop)]
 pub struct Plan {
     pub(crate) settings: Settings,
     pub(crate) limit: u32,

@@ -6,7 +6,7 @@ ghost use Rattle.sdh_plan.specs.Counted.{slips_in};
 use sdh_circuits::{End, PortId};
 
 /// The number of slips that each port was given.
-#[derive(Debug, Drop)]
+#[derive(Drop)]
 pub struct Slips {
     at_a: [u8; 256],
     at_b: [u8; 256],
