@@ -25,10 +25,11 @@ pub take-requires : goal.take-requires
 take-requires g c =
     let w = world c.self.inside.ring (g.P.Plant.fibres c.args.plant.now) in
     let left = world c.round-result.new.self (g.P.Plant.fibres c.round-result.new.plant) in
-    may_take (λ (n : PathNode). outlets_of n.ports) fixed (λ (f : Fixed). length f.ports) ports_fixed c.self.inside.deliveries
-    c.self.inside.ring.nodes c.nodes_of.result.now c.self.invariant.delivered
+    may_take (λ (n : PathNode). outlets_of n.ports) fixed (λ (f : Fixed). length f.ports) ports_fixed
+    c.self.inside.deliveries c.self.inside.ring.nodes c.nodes_of.result.now c.self.invariant.delivered
     (ap (map fixed) c.nodes_of.ensures
-    ∙ keeps_one path_node fixed fixed_told (λ _. fixed_next) g.P.Plant.exact w left c.round-result.result _ _ c.round-result.ensures)
+    ∙ keeps_one path_node fixed fixed_told (λ _. fixed_next) g.P.Plant.exact w left c.round-result.result _ _
+    c.round-result.ensures)
 
 pub invariant_of-self : goal.invariant_of-self
 invariant_of-self g c = record {
