@@ -26,9 +26,11 @@ use Rattle.sdh_rounds.specs.Calls.{told_some, first_after}
 use Rattle.sdh_rounds.specs.Faults as breaking
 use Rattle.sdh_rounds.specs.Faults.{had_round}
 use Rattle.sdh_rounds.proofs.Rings.{some_keep}
+use Rattle.sdh_rounds.proofs.Keeping.{keeps_broken}
 use Rattle.sdh_ring.specs.Faults.{ClocksWentOn, BreaksRound, BreaksStep}
 use Rattle.sdh_ring.proofs.Nodes.{length_fixed}
-use Rattle.sdh_ring.proofs.Rings.{broke_fixed}
+use Rattle.sdh_world.specs.Fixed.{fixed}
+use Rattle.sdh_world.proofs.Keeping.{fixed_with, fixed_next}
 use Rattle.sdh_node.specs.Stations.{adm}
 
 -- ---- the ports of circuits at a node, with their clocks: no receive changes them
@@ -104,7 +106,7 @@ breaks_clocks w left b =
       off = b.off;
       ring = b.ring;
       clocks = subst (ClocksWentOn 0 k r) (sym b.ring)
-          (went_on r left.ring.nodes true k (length_fixed r.nodes left.ring.nodes (broke_fixed w left b))
+          (went_on r left.ring.nodes true k (length_fixed r.nodes left.ring.nodes (keeps_broken adm fixed fixed_with fixed_next w left b))
           (λ id p. subst (λ ms. Goes id k r.nodes ms p) (sym b.nodes)
           (subst (λ o. Follows (ticks (if nat_lt p k then 0 + 1 else 0)) o (port_at id (first_after adm r.moment k heard) p))
           (sym (found_same id r.nodes heard p same)) (goes_first id r.moment k heard p))));

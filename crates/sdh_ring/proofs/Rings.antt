@@ -10,11 +10,10 @@ use Rattle.sdh_node.specs.Node.{Node}
 use Rattle.sdh_node.specs.Stations.{adm, MayRun}
 use Rattle.sdh_rounds.specs.Held as held
 use Rattle.sdh_rounds.specs.Rounds as any_round
-use Rattle.sdh_rounds.specs.Calls.{told_some}
-use Rattle.sdh_rounds.specs.Faults.{BreaksRound, had_round}
+use Rattle.sdh_rounds.specs.Faults.{BreaksRound}
 use Rattle.sdh_rounds.specs.Outcome.{IsOneRound}
 use Rattle.sdh_rounds.specs.declared.faults.PlantFault.{PlantFault as Fault}
-use Rattle.sdh_rounds.proofs.Rings.{heard_keep, some_keep, all_keep, first_keep}
+use Rattle.sdh_rounds.proofs.Keeping.{keeps_with, keeps_broken}
 use Rattle.sdh_world.specs.Held.{HeldRing, new_nodes, new_ring}
 use Rattle.sdh_world.specs.Rounds.{World, nodes_with, node_after}
 use Rattle.sdh_world.specs.Runs.{IsRound}
@@ -90,20 +89,15 @@ ring_ran w after h whole is =
     let heard = nodes_with is.arrivals w in
     subst (λ (x : World). IsRing x.ring) (sym is.after_is)
     (ring_with r (map (node_after r.moment) heard) r.moment (r.rounds + 1) r.broken h
-    (all_keep adm fixed r.moment (fixed_next r.moment) heard ∙ heard_keep adm fixed fixed_with is.arrivals r.nodes) h.moment
+    (keeps_with adm fixed fixed_with fixed_next is.arrivals w) h.moment
     (λ _. all_on_next r.rounds r.moment heard (all_on_heard is.arrivals r.rounds r.moment r.nodes (h.going whole))))
-
-pub broke_fixed : (w left : World) → BreaksRound adm w left → map fixed left.ring.nodes ≡ map fixed w.ring.nodes
-broke_fixed w left b =
-    ap (map fixed) b.nodes
-    ∙ first_keep adm fixed w.ring.moment (fixed_next w.ring.moment) (had_round b.off) (told_some adm b.told w.ring.nodes)
-    ∙ some_keep adm fixed fixed_with b.told w.ring.nodes
 
 ring_broke : (w left : World) → IsRing w.ring → BreaksRound adm w left → IsRing left.ring
 ring_broke w left h b =
     let r = w.ring in
     subst IsRing (sym b.ring)
-    (ring_with r left.ring.nodes r.moment r.rounds true h (broke_fixed w left b) h.moment (λ e. true_is_not_false e))
+    (ring_with r left.ring.nodes r.moment r.rounds true h (keeps_broken adm fixed fixed_with fixed_next w left b) h.moment
+    (λ e. true_is_not_false e))
 
 -- a ring stays one over a round, whatever the round answered
 pub ring_after : (exact : Bool) (w left : World) (before after : ℕ) (result : Result (Unit {0}) Fault) → IsRing w.ring

@@ -206,10 +206,8 @@ impl Ring {
         sdh_laws::hearing::whole_rounds_go_as_signals();
         sdh_laws::resting::rest_goes_on();
         sdh_laws::strangers::rounds_keep_strangers_out();
-        self.running.is_ring();
         self.running.circuits_fit();
         let result = self.running.round(plant);
-        self.running.is_ring();
         self.deliveries.take(self.running.nodes());
         result
     }
@@ -231,7 +229,6 @@ impl Ring {
         // Traffic is restored, no port meets a stranger, and a step whose limit is large enough ends with a window.
         ensures laws { KeepsPromises (world self.old (P.fibres plant.old)) limit result (world self.new (P.fibres plant.new)) }
     {
-        self.running.is_ring();
         self.running.circuits_fit();
         self.running.few_slips_wait();
         sdh_laws::hearing::steps_stay_whole();
@@ -241,7 +238,6 @@ impl Ring {
         sdh_laws::converging::steps_answer();
         sdh_laws::strangers::steps_keep_strangers_out();
         let result = sdh_rounds::settle(&mut self.running, plant, limit, &mut Nobody);
-        self.running.is_ring();
         self.deliveries.take(self.running.nodes());
         result
     }

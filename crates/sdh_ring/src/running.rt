@@ -8,7 +8,7 @@ ghost use Rattle.sdh_terminal.specs.Tributaries.{HasPort, outlet_of, waiting_of}
 ghost use Rattle.sdh_node.specs.Node.{at_receiving, held_for, slips_at};
 ghost use Rattle.sdh_world.specs.Held.{new_ring, at_place, node_at, place_of_port, outlet_at};
 ghost use Rattle.sdh_world.specs.Clocks.{HasPortIn, clock_at, waiting_at};
-ghost use Rattle.sdh_world.specs.Fixed.{IsRing, IsRested};
+ghost use Rattle.sdh_world.specs.Fixed.{IsRested};
 ghost use Rattle.sdh_laws.specs.Carrying.Windows.{layout_in, HasCircuits};
 
 use sdh_circuits::{CircuitMap, PortId};
@@ -28,13 +28,13 @@ pub struct Running {
 
 impl Model for Running {
     ghost use Rattle.sdh_world.specs.Held.{HeldRing};
-    ghost use Rattle.sdh_world.specs.Fixed.{IsRing as IsARing};
+    ghost use Rattle.sdh_world.specs.Fixed.{IsRing};
 
     ghost Value = { HeldRing };
 
     ghost view = { λ a. a.ring };
 
-    ghost invariant = { λ a. IsARing a.ring };
+    ghost invariant = { λ a. IsRing a.ring };
 }
 
 fn command_at(ring: &mut StationRing<Adm>, at: usize, side: Side, command: Command)
@@ -81,18 +81,11 @@ impl Running {
         Ok(Running { ring })
     }
 
-    /// What is true of every ring: the function does nothing, and its contract is the law.
-    pub fn is_ring(&self)
-        ensures { IsRing self.now }
-    {
-        // Looking at a field gives the prover the ring's invariant, from which the law follows.
-        let _ = &self.ring;
-    }
-
     /// The circuits fit the ring's size and rate: the function does nothing, and its contract is the law.
     pub fn circuits_fit(&self)
         ensures { HasCircuits (layout_in self.now) }
     {
+        // Looking at a field gives the prover the ring's invariant, from which the law follows.
         let _ = &self.ring;
     }
 

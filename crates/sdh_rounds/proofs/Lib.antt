@@ -12,3 +12,4 @@ pub mod Settling
 pub mod Breaking
 pub mod Observing
 pub mod Stepping
+pub mod Keeping

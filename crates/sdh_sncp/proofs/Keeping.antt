@@ -1,10 +1,9 @@
 -- What calls keep of the nodes of a path ring.
-use Rattle.std.proofs.Common.{◌≡◌, ℕ, zero, suc, ◌+◌, ◌<◌, List, [], ◌∷◌, ◌++◌, length, get_or, map, refl, ap, sym, subst, ◌∙◌, arith}
+use Rattle.std.proofs.Common.{◌≡◌, ℕ, zero, suc, ◌+◌, ◌<◌, List, [], ◌∷◌, length, get_or, map, refl, ap, sym, subst, ◌∙◌, arith}
 use Rattle.std.specs.Prelude.{All, IsSome, Option, Some, None, find, option_map, slice_get}
 use Rattle.std.specs.Option.{option_map_or}
 use Rattle.std.proofs.lemmas.List.{length-map}
 use Rattle.std.proofs.lemmas.List.Elements.{All-map}
-use Rattle.sdh_basics.proofs.CellsLaws.{cells-zero, cells-more}
 use Rattle.sdh_ringmap.specs.declared.Side.{Side}
 use Rattle.sdh_ringmap.specs.declared.Side.TheVariants.{West, East}
 use Rattle.sdh_ringmap.specs.Places.{position_of}
@@ -14,13 +13,14 @@ use Rattle.sdh_payload.specs.Outlet.{silent}
 use Rattle.sdh_plant.specs.Fibres.{Arrival}
 use Rattle.sdh_request.specs.declared.settings.Settings.{Settings}
 use Rattle.sdh_terminal.specs.Receiving.{after_taking}
-use Rattle.sdh_terminal.specs.Tributaries.{port_of, HasPort, outlet_of, tributaries_at}
+use Rattle.sdh_terminal.specs.Tributaries.{port_of, HasPort, outlet_of, outlets_of, tributaries_at}
 use Rattle.sdh_rounds.specs.Rounds as any_round
 use Rattle.sdh_sncp.specs.Node.{PathNode, new_node, path_node_told, crossing, after_crossing, with_calm, node_round}
 use Rattle.sdh_sncp.specs.Ring.{HeldPath, new_nodes, with_arrivals, all_with_arrivals, node_after, outlet_at}
 use Rattle.sdh_terminal.specs.Fixed.{FixedPort, fixed_port}
 use Rattle.sdh_sncp.specs.Fixed.{Fixed, fixed, HaveRun}
 use Rattle.sdh_terminal.proofs.Found.{names, fixed_found}
+use Rattle.sdh_terminal.proofs.Waiting.{count_outlets}
 use Rattle.sdh_sncp.proofs.Nodes.{fixed_ports_after, rounds_after}
 use Rattle.sdh_sncp.proofs.New.{length-new, new_at}
 
@@ -34,6 +34,11 @@ fixed_told East a n = refl
 pub fixed_next : (n : PathNode) → fixed (node_after n) ≡ fixed n
 unfolding fixed node_round with_calm after_crossing crossing after_taking
 fixed_next n = ap (λ (ps : List FixedPort). record (fixed n) { ports = ps }) (fixed_ports_after n)
+
+-- as many ports deliver as the fixed part has
+pub ports_fixed : (n : PathNode) → length (outlets_of n.ports) ≡ length (fixed n).ports
+unfolding fixed
+ports_fixed n = count_outlets n.ports ∙ sym (length-map n.ports fixed_port)
 
 -- ---- all nodes
 

@@ -15,4 +15,3 @@ pub mod Using
 pub mod Wholes
 pub mod Sharing
 pub mod Rings
-pub mod Delivered

@@ -14,13 +14,12 @@ use Rattle.sdh_terminal.specs.Tributaries.{HasPort, outlet_of}
 use Rattle.sdh_rounds.specs.Held as held
 use Rattle.sdh_rounds.specs.Held.{IsNodeOf}
 use Rattle.sdh_rounds.specs.Rounds as any_round
-use Rattle.sdh_rounds.specs.Faults.{BreaksRound, had_round}
-use Rattle.sdh_rounds.specs.Calls.{told_some}
+use Rattle.sdh_rounds.specs.Faults.{BreaksRound}
 use Rattle.sdh_rounds.specs.Outcome.{Outcome, IsOneRound}
 use Rattle.sdh_rounds.specs.declared.faults.PlantFault.{PlantFault as Fault}
 use Rattle.sdh_rounds.specs.declared.faults.SettleError.{SettleError}
 use Rattle.sdh_rounds.specs.declared.faults.SettleError.TheVariants.{Unsettled, PlantFault}
-use Rattle.sdh_rounds.proofs.Rings.{heard_keep, some_keep, all_keep, first_keep}
+use Rattle.sdh_rounds.proofs.Keeping.{keeps_with, keeps_broken}
 use Rattle.sdh_sncp.specs.Node.{PathNode, new_node}
 use Rattle.sdh_sncp.specs.Stations.{path_node, MayRun}
 use Rattle.sdh_sncp.specs.Ring.{HeldPath, new_nodes, new_ring, World, IsRound, nodes_with, outlet_at}
@@ -90,16 +89,14 @@ ring_ran w after h whole is =
     let heard = nodes_with is.arrivals w in
     subst (λ (x : World). IsRing x.ring) (sym is.after_is)
     (ring_with w.ring (map (path_node.after w.ring.moment) heard) (w.ring.rounds + 1) w.ring.broken h
-    (all_keep path_node fixed w.ring.moment fixed_next heard ∙ heard_keep path_node fixed fixed_told is.arrivals w.ring.nodes)
+    (keeps_with path_node fixed fixed_told (λ _. fixed_next) is.arrivals w)
     (λ _. all_run_next w.ring.rounds heard (all_run_heard is.arrivals w.ring.rounds w.ring.nodes (h.going whole)))
     (λ _. placed_round w is.arrivals (h.placed whole)))
 
 ring_broke : (w left : World) → IsRing w.ring → BreaksRound path_node w left → IsRing left.ring
 ring_broke w left h b =
     subst IsRing (sym b.ring) (ring_with w.ring left.ring.nodes w.ring.rounds true h
-    (ap (map fixed) b.nodes
-    ∙ first_keep path_node fixed w.ring.moment fixed_next (had_round b.off) (told_some path_node b.told w.ring.nodes)
-    ∙ some_keep path_node fixed fixed_told b.told w.ring.nodes) (λ e. true_is_not_false e) (λ e. true_is_not_false e))
+    (keeps_broken path_node fixed fixed_told (λ _. fixed_next) w left b) (λ e. true_is_not_false e) (λ e. true_is_not_false e))
 
 -- a ring stays one over a round, whatever the round answered
 pub ring_after : (exact : Bool) (w left : World) (before after : ℕ) (result : Result (Unit {0}) Fault) → IsRing w.ring

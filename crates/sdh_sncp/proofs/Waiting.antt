@@ -1,18 +1,16 @@
 -- Deliveries that wait at a node of a path ring until somebody asks, by what its cross-connect keeps of the last round.
-use Rattle.std.proofs.Common.{◌≡◌, ℕ, ◌+◌, Bool, List, length, refl}
-use Rattle.std.specs.List.{position}
+use Rattle.std.proofs.Common.{◌≡◌, ℕ, Bool, List, length, refl}
 use Rattle.sdh_basics.proofs.CellsLaws.{length-map_from}
 use Rattle.sdh_ringmap.specs.declared.terms.Rate.{Rate}
 use Rattle.sdh_ringmap.specs.declared.Pos.{Pos}
 use Rattle.sdh_ringmap.specs.Rates.{n_of}
 use Rattle.sdh_ringmap.specs.declared.Side.{Side}
 use Rattle.sdh_ringmap.specs.declared.Side.TheVariants.{West, East}
-use Rattle.sdh_circuits.specs.declared.PortId.{PortId}
 use Rattle.sdh_circuits.specs.Provisioned.{Provisioned}
 use Rattle.sdh_plant.specs.Fibres.{Arrival}
 use Rattle.sdh_terminal.specs.Sending.{Sending}
-use Rattle.sdh_terminal.specs.Tributaries.{Tributary, tributaries_at, is_port, HasPort, delivered_with, all_delivered_with}
-use Rattle.sdh_terminal.proofs.Waiting.{place-waiting, has-under, silent-lines, new-waiting}
+use Rattle.sdh_terminal.specs.Tributaries.{Tributary, tributaries_at, delivered_with, all_delivered_with}
+use Rattle.sdh_terminal.proofs.Waiting.{silent-lines, new-waiting}
 use Rattle.sdh_sncp.specs.Node.{PathCross, new_cross, cross_told, path_node_told, lines_of, drops, dropped_to}
 use Rattle.sdh_sncp.proofs.Turning.{node_of}
 
@@ -21,13 +19,6 @@ delivers x ports = all_delivered_with (dropped_to x) ports
 
 pub count_waits : (x : PathCross) (ports : List Tributary) → length (delivers x ports) ≡ length ports
 count_waits x ports = length-map_from (λ i t. delivered_with (dropped_to x) t) 0 ports
-
-pub place_waits : (x : PathCross) (id : PortId) (ports : List Tributary)
-    → position (is_port id) (delivers x ports) ≡ position (is_port id) ports
-place_waits x id ports = place-waiting (dropped_to x) id ports
-
-pub has_waits : (x : PathCross) (id : PortId) (ports : List Tributary) → HasPort (delivers x ports) id → HasPort ports id
-has_waits x id ports h = has-under (dropped_to x) id ports h
 
 told_later : (side : Side) (a : Arrival) (x : PathCross) (ports : List Tributary) → delivers (cross_told side a x) ports ≡ delivers x ports
 unfolding drops

@@ -1,5 +1,5 @@
 -- What each node of a path ring is: its place, the circuits that are at it, and the rounds that it has run.
-use Rattle.std.specs.Prelude.{ℕ, ◌≡◌, ◌*◌, None, List, length, map, All}
+use Rattle.std.specs.Prelude.{ℕ, ◌≡◌, ◌*◌, None, length, map, All}
 use Rattle.sdh_ringmap.specs.Rates.{n_of}
 use Rattle.sdh_ringmap.specs.Ids.{AreIds}
 use Rattle.sdh_ringmap.specs.Places.{position_of}

@@ -1,23 +1,27 @@
-use Rattle.std.proofs.Common.{map, ap, subst, ◌∙◌}
+use Rattle.std.proofs.Common.{length, map, ap, subst, ◌∙◌}
 use Rattle.std.proofs.lemmas.Result.{on_ok_weaker, on_err_weaker}
 use Rattle.sdh_terminal.specs.Tributaries.{outlets_of}
 use Rattle.sdh_node.specs.Node.{Node}
 use Rattle.sdh_node.specs.Stations.{adm}
 use Rattle.sdh_rounds.specs.Outcome.{IsOneRound}
+use Rattle.sdh_rounds.proofs.Keeping.{keeps_one, may_take}
 use Rattle.sdh_world.specs.Held.{HeldRing}
 use Rattle.sdh_world.specs.Rounds.{world}
+use Rattle.sdh_world.specs.Fixed.{Fixed, fixed}
+use Rattle.sdh_world.proofs.Keeping.{fixed_with, fixed_next}
 use Rattle.sdh_laws.specs.Carrying.Windows.{layout_in, HasCircuits}
 use Rattle.sdh_ring.proofs.Breaking.{breaks_clocks}
-use Rattle.sdh_ring.proofs.Delivered.{may_take, stays_one}
+use Rattle.sdh_ring.proofs.Delivered.{ports_fixed}
 use Rattle.sdh_ring.proofs.ring.Ring.round.Goals as goal
 
 pub take-requires : goal.take-requires
 take-requires g c =
-    may_take c.self.inside.running c.round-result.new.self c.self.inside.deliveries c.nodes.result.now c.is_ring.ensures c.is_ring-2.ensures
-    (stays_one g.P.Plant.exact (world c.self.inside.running (g.P.Plant.fibres c.args.plant.now))
-    (world c.round-result.new.self (g.P.Plant.fibres c.round-result.new.plant)) c.round-result.result (g.P.Plant.faults c.args.plant.now)
-    (g.P.Plant.faults c.round-result.new.plant) c.round-result.ensures)
-    c.self.invariant c.nodes.ensures
+    let w = world c.self.inside.running (g.P.Plant.fibres c.args.plant.now) in
+    let left = world c.round-result.new.self (g.P.Plant.fibres c.round-result.new.plant) in
+    may_take (λ (n : Node). outlets_of n.ports) fixed (λ (f : Fixed). length f.ports) ports_fixed
+    c.self.inside.deliveries c.self.inside.running.nodes c.nodes.result.now c.self.invariant
+    (ap (map fixed) c.nodes.ensures
+    ∙ keeps_one adm fixed fixed_with fixed_next g.P.Plant.exact w left c.round-result.result _ _ c.round-result.ensures)
 
 pub invariant_of-self : goal.invariant_of-self
 invariant_of-self g c = c.take.ensures ∙ ap (map (λ (n : Node). outlets_of n.ports)) c.nodes.ensures

@@ -1,23 +1,27 @@
-use Rattle.std.proofs.Common.{map, ap, subst, ◌∙◌}
+use Rattle.std.proofs.Common.{length, map, ap, subst, ◌∙◌}
 use Rattle.sdh_terminal.specs.Tributaries.{outlets_of}
 use Rattle.sdh_node.specs.Node.{Node}
 use Rattle.sdh_node.specs.Stations.{adm}
 use Rattle.sdh_rounds.specs.Outcome.{IsStep}
+use Rattle.sdh_rounds.proofs.Keeping.{keeps_step, may_take}
 use Rattle.sdh_world.specs.Held.{HeldRing}
 use Rattle.sdh_world.specs.Rounds.{world}
+use Rattle.sdh_world.specs.Fixed.{Fixed, fixed}
+use Rattle.sdh_world.proofs.Keeping.{fixed_with, fixed_next}
 use Rattle.sdh_ring.specs.Promises.{KeepsPromises}
-use Rattle.sdh_ring.proofs.Delivered.{may_take, stays_step}
+use Rattle.sdh_ring.proofs.Delivered.{ports_fixed}
 use Rattle.sdh_ring.proofs.Settling.{promises_kept}
 use Rattle.sdh_ring.proofs.ring.Ring.settle.Goals as goal
 
 pub take-requires : goal.take-requires
 take-requires g c =
-    may_take c.self.inside.running c.settle-result.new.ring c.self.inside.deliveries c.nodes.result.now c.is_ring.ensures
-    c.is_ring-2.ensures
-    (stays_step g.P.Plant.exact (world c.self.inside.running (g.P.Plant.fibres c.args.plant.now))
-    (world c.settle-result.new.ring (g.P.Plant.fibres c.settle-result.new.plant)) c.args.limit c.settle-result.result
-    (g.P.Plant.faults c.args.plant.now) (g.P.Plant.faults c.settle-result.new.plant) c.settle-result.ensures.step)
-    c.self.invariant c.nodes.ensures
+    let w = world c.self.inside.running (g.P.Plant.fibres c.args.plant.now) in
+    let left = world c.settle-result.new.ring (g.P.Plant.fibres c.settle-result.new.plant) in
+    may_take (λ (n : Node). outlets_of n.ports) fixed (λ (f : Fixed). length f.ports) ports_fixed
+    c.self.inside.deliveries c.self.inside.running.nodes c.nodes.result.now c.self.invariant
+    (ap (map fixed) c.nodes.ensures
+    ∙ keeps_step adm fixed fixed_with fixed_next g.P.Plant.exact w left c.args.limit c.settle-result.result _ _
+    c.settle-result.ensures.step)
 
 pub invariant_of-self : goal.invariant_of-self
 invariant_of-self g c = c.take.ensures ∙ ap (map (λ (n : Node). outlets_of n.ports)) c.nodes.ensures

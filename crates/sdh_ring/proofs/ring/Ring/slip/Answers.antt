@@ -1,12 +1,14 @@
 use Rattle.std.proofs.Common.{ap, sym, subst, ◌∙◌, ◌+◌, ◌≤◌}
-use Rattle.sdh_node.specs.Node.{slips_at}
+use Rattle.sdh_node.specs.Node.{Node, slips_at}
+use Rattle.sdh_terminal.specs.Tributaries.{outlets_of}
+use Rattle.sdh_world.proofs.Keeping.{all_placed}
 use Rattle.sdh_world.specs.Held.{HeldRing, place_of_port}
 use Rattle.sdh_world.specs.Rounds.{world}
 use Rattle.sdh_world.specs.Clocks.{waiting_at}
 use Rattle.sdh_laws.specs.Hearing.Laws.{IsWhole}
 use Rattle.sdh_laws.specs.Strangers.Vouched.{IsVouched}
 use Rattle.sdh_ring.specs.Delivered.{delivered_in}
-use Rattle.sdh_ring.proofs.Delivered.{placed_delivered, slips_delivered}
+use Rattle.sdh_ring.proofs.Delivered.{slips_delivered}
 use Rattle.sdh_ring.proofs.Whole.{whole_slipped, vouched_slipped}
 use Rattle.sdh_ring.proofs.ring.Ring.slip.Goals as goal
 use Rattle.sdh_ring.proofs.ring.Ring.slip.Goals.{After-slip}
@@ -18,7 +20,7 @@ pub invariant_of-self : goal.invariant_of-self
 invariant_of-self c =
     let r = c.self.inside.running in
     c.self.invariant
-    ∙ sym (placed_delivered (slips_at c.args.port c.args.turn c.args.count)
+    ∙ sym (all_placed (λ (n : Node). outlets_of n.ports) (slips_at c.args.port c.args.turn c.args.count)
     (λ n. slips_delivered c.args.port c.args.turn c.args.count n.ports) (place_of_port r c.args.port) r.nodes)
     ∙ ap delivered_in (sym c.slip.ensures)
 

@@ -1,13 +1,15 @@
-use Rattle.std.proofs.Common.{map, ap, sym, subst, ◌∙◌, ◌<◌, ◌^◌}
+use Rattle.std.proofs.Common.{length, map, ap, sym, subst, ◌∙◌, ◌<◌, ◌^◌}
 use Rattle.std.proofs.lemmas.Result.{on_ok_weaker}
 use Rattle.sdh_rounds.specs.Outcome.{IsOneRound}
+use Rattle.sdh_rounds.proofs.Keeping.{keeps_one, may_take}
 use Rattle.sdh_terminal.specs.Tributaries.{outlets_of}
 use Rattle.sdh_sncp.specs.Node.{PathNode}
 use Rattle.sdh_sncp.specs.Stations.{path_node}
 use Rattle.sdh_sncp.specs.Ring.{HeldPath, world}
 use Rattle.sdh_sncp.specs.Placed.{IsPlacedRing}
+use Rattle.sdh_sncp.specs.Fixed.{Fixed, fixed}
 use Rattle.sdh_sncp.proofs.Rings.{may_receive, may_send, ring_after}
-use Rattle.sdh_sncp.proofs.Delivered.{may_take, stays_one}
+use Rattle.sdh_sncp.proofs.Keeping.{fixed_told, fixed_next, ports_fixed}
 use Rattle.sdh_sncp.proofs.Wholes.{whole_after}
 use Rattle.sdh_sncp.proofs.ring.PathRing.round.Goals as goal
 
@@ -23,11 +25,11 @@ pub take-requires : goal.take-requires
 take-requires g c =
     let w = world c.self.inside.ring (g.P.Plant.fibres c.args.plant.now) in
     let left = world c.round-result.new.self (g.P.Plant.fibres c.round-result.new.plant) in
-    let whole = ap (λ (r : HeldPath). r.broken) c.self.view_is ∙ c.requires.whole in
-    may_take c.self.inside.ring c.round-result.new.self c.self.inside.deliveries c.nodes_of.result.now c.self.invariant.ring
-    (ring_after g.P.Plant.exact w left _ _ _ c.self.invariant.ring whole c.round-result.ensures)
-    (stays_one g.P.Plant.exact w left c.round-result.result (g.P.Plant.faults c.args.plant.now) (g.P.Plant.faults c.round-result.new.plant)
-    c.round-result.ensures) c.self.invariant.delivered c.nodes_of.ensures
+    may_take (λ (n : PathNode). outlets_of n.ports) fixed (λ (f : Fixed). length f.ports) ports_fixed
+    c.self.inside.deliveries c.self.inside.ring.nodes c.nodes_of.result.now c.self.invariant.delivered
+    (ap (map fixed) c.nodes_of.ensures
+    ∙ keeps_one path_node fixed fixed_told (λ _. fixed_next) g.P.Plant.exact w left c.round-result.result _ _
+    c.round-result.ensures)
 
 pub invariant_of-self : goal.invariant_of-self
 invariant_of-self g c = record {
