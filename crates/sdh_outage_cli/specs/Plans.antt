@@ -1,4 +1,4 @@
--- What comes of a plan whose outages are listed, where its fibres aren't made yet.
+-- What comes of a plan whose outages are listed. The run begins with a plant that has made no fibres.
 use Rattle.std.specs.Prelude.{ℕ, List}
 use Rattle.sdh_plant.specs.Fibres.{Fibres}
 use Rattle.sdh_node.specs.Node.{Node}

@@ -163,7 +163,7 @@ fn put_listed(text: &mut Text, circuits: &CircuitMap, items: &Vec<ListenerPair>,
     put_heard(text, circuits, named, port.end, both.at(port.end));
 }
 
-/// Appends what is listed of the settle step of this number, which left a ring.
+/// Appends what is listed of settle step `number`, by the ring that the step left.
 pub fn put_step(
     text: &mut Text,
     ring: &Ring,

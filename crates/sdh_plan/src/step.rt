@@ -13,7 +13,7 @@ pub enum Step {
     Order(Pos, Side, Command),
     /// The present moment is this one.
     Moment(Moment),
-    /// The controller of a node misses this number of the next rounds.
+    /// The controller of a node misses its turn in the next rounds, in as many as the number says.
     Hold(Pos, u32),
     /// The clock of a port is to slip this number of times, at most 16 times between two settle steps.
     Slip(PortId, Turn, u8),

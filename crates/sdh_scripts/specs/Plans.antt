@@ -1,4 +1,4 @@
--- What is reported of a plan whose fibres aren't made yet, for a ring of any kind.
+-- What is reported of a plan, for a ring of any kind. The run begins with a plant that has made no fibres.
 use Rattle.std.specs.Prelude.{ℕ, ◌≡◌, ◌⊎◌, ◌≤◌, true, List, length}
 use Rattle.std.specs.List.{flat_map}
 use Rattle.sdh_plant.specs.Fibres.{Fibres}

@@ -1,4 +1,4 @@
--- What is written of a script whose fibres aren't made yet, step by step, as it comes.
+-- What is written of a script, step by step, while it runs. The run begins with a plant that has made no fibres.
 use Rattle.std.specs.Prelude.{ℕ, ◌≡◌, ◌≢◌, ◌⊎◌, ◌+◌, List, [], ◌∷◌, ◌++◌, length, Option}
 use Rattle.std.specs.List.{flat_map}
 use Rattle.std.specs.Io.KnownBytes.{Appends}
@@ -18,7 +18,7 @@ abbrev pub NoneMade : {N T : Type 0} → Fibres → List T → Status → World 
 NoneMade f reports end left = (end ≡ status.PlantFault) × (reports ≡ []) × (left.fibres ≡ f)
 
 -- What is written after the settle steps that ended. It is nothing where the script was done, or the plant made no
--- fibres. Else it is what is written of the rounds that ran of the step with which the script ended.
+-- fibres. Otherwise a settle step ended the script, and what is written of the rounds that it ran is the tail.
 abbrev pub IsTail : {N T : Type 0} → Walk N T → ℕ → (T → List ℕ) → List Step → World N → Fibres → List T → List ℕ → Status → World N → Type 0
 IsTail walk limit begun_of steps w f reports tail end left =
     ((tail ≡ []) × ((end ≡ status.Ok) ⊎ NoneMade f reports end left)) ⊎ Stopped walk limit begun_of steps w reports tail end left

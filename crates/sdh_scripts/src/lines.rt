@@ -14,7 +14,7 @@ pub fn lines_room(circuits: &CircuitMap) -> usize
     LINE_MAX + 2 * LINE_MAX * circuits.len()
 }
 
-/// Appends the line of settle step `number`, which left a ring in which `rounds` rounds have run.
+/// Appends the line that ends settle step `number`, after which `rounds` rounds have run in all.
 pub fn put_settle(text: &mut Text, number: u32, rounds: u64)
     requires ran { 1 ≤ rounds }
     requires room { 96 ≤ text.old.room }
