@@ -7,7 +7,8 @@ use Rattle.sdh_plan.specs.Circuits.{text_or, integer_or_0}
 
 -- the ends and the slot
 unfoldable pub way_in : Members → Option ((ℤ × ℤ) × ℤ)
-way_in ms = option_zip (option_zip (integer_at (codes "from") ms) (integer_at (codes "to") ms)) (integer_at (codes "slot") ms)
+way_in ms =
+    option_zip (option_zip (integer_at (codes "from") ms) (integer_at (codes "to") ms)) (integer_at (codes "slot") ms)
 
 -- the texts of both ends
 unfoldable pub texts_in : Members → Option (List ℕ × List ℕ)

@@ -1,8 +1,9 @@
 -- Parts of a line that are put one after the other.
-use Rattle.std.proofs.Common.{◌≡◌, ℕ, ◌+◌, ◌*◌, ◌<◌, Bool, true, false, Some, List, [], ◌∷◌, ◌++◌, length, map, take, get_or, inl, inr, sym, ap}
+use Rattle.std.proofs.Common.{◌≡◌, ℕ, ◌+◌, ◌*◌, ◌<◌, ◌≤◌, Bool, true, false, Some, List, [], ◌∷◌, ◌++◌, length, map, take, get_or, inl, inr, refl, sym, ap}
 use Rattle.std.proofs.Common.{◌∙◌, ◌==◌, arith, append_assoc}
 use Rattle.std.specs.Prelude.{count_by, slice_get, if◌then◌else◌}
 use Rattle.std.specs.List.{flat_map}
+use Rattle.std.specs.Option.{option_map_or}
 use Rattle.std.proofs.lemmas.Grind.{flat_map-append}
 use Rattle.std.proofs.lemmas.Bool.{eqb-true}
 use Rattle.std.proofs.lemmas.List.{take_more, append-nil, length-map, length-take-le, map-append}
@@ -10,6 +11,7 @@ use Rattle.std.proofs.lemmas.List.Sums.{count_by_more_yes, count_by_more_no}
 use Rattle.std.proofs.lemmas.Option.{slice_get_cases, get_or_from_slice_get}
 use Rattle.sdh_ringmap.specs.declared.Side.TheVariants.{West}
 use Rattle.sdh_verdicts.specs.declared.failure.Failure.{Failure}
+use Rattle.sdh_verdicts.specs.declared.failure.Failure.TheVariants as failure
 use Rattle.sdh_verdicts.specs.Failures.{steps_of, case_steps}
 use Rattle.sdh_verdicts.specs.declared.judging.Sides.{Sides}
 use Rattle.sdh_verdicts.specs.Sides.{resting_of}
@@ -54,6 +56,32 @@ count_next p xs i x false count next low is holds before more =
     let here : p (get_or xs i x) ≡ false = ap p (get_or_from_slice_get xs i x x is) ∙ sym holds in
     let same : next ≡ count = omega (arith, more) in
     same ∙ before ∙ sym (count_by_more_no p xs i x low here)
+
+-- the texts of up to four, one after the other
+abbrev pub part_at : {X : Type 0} → (X → List ℕ) → List X → ℕ → List ℕ
+part_at f xs i = option_map_or f (slice_get xs i) []
+
+four_parts : {X : Type 0} (f : X → List ℕ) (xs : List X) → length xs ≤ 4
+    → ((part_at f xs 0 ++ part_at f xs 1) ++ part_at f xs 2) ++ part_at f xs 3 ≡ flat_map f xs
+four_parts f [] few = refl
+four_parts f (a ∷ []) few = simp append-nil
+four_parts f (a ∷ (b ∷ [])) few = simp append-nil
+four_parts f (a ∷ (b ∷ (c ∷ []))) few = simp (append-nil, append_assoc)
+four_parts f (a ∷ (b ∷ (c ∷ (d ∷ [])))) few = simp (append-nil, append_assoc)
+four_parts f (a ∷ (b ∷ (c ∷ (d ∷ (e ∷ more))))) few = absurd (omega arith)
+
+few_steps : (n threshold : ℕ) (x : Failure) → length (steps_of n threshold x) ≤ 4
+few_steps n threshold (failure.Degraded at side) = omega arith
+few_steps n threshold (failure.Cut at side) = omega arith
+few_steps n threshold (failure.Span at) = omega arith
+few_steps n threshold (failure.Node at) = omega arith
+few_steps n threshold (failure.Manual at side) = omega arith
+few_steps n threshold (failure.Forced at side) = omega arith
+
+pub step_parts : (f : Step → List ℕ) (n threshold : ℕ) (x : Failure)
+    → ((part_at f (steps_of n threshold x) 0 ++ part_at f (steps_of n threshold x) 1) ++ part_at f (steps_of n threshold x) 2)
+    ++ part_at f (steps_of n threshold x) 3 ≡ flat_map f (steps_of n threshold x)
+step_parts f n threshold x = four_parts f (steps_of n threshold x) (few_steps n threshold x)
 
 -- ---- texts with something between them
 

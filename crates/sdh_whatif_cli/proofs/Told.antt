@@ -1,7 +1,23 @@
--- One result that meets two clauses for Ok.
-use Rattle.std.proofs.Common.{Result, Ok, Err}
-use Rattle.std.specs.Prelude.{IfOk}
+-- One result that meets two clauses for Ok, and how a call ends that has a plan.
+use Rattle.std.proofs.Common.{◌≡◌, ◌⊎◌, ℕ, inl, inr, Result, Ok, Err}
+use Rattle.std.specs.Prelude.{IfOk, ◌≢◌}
+use Rattle.sdh_report.specs.declared.status.Status.{Status}
+use Rattle.sdh_report.specs.declared.status.Status.TheVariants as status
 
 pub ok_two : {T E : Type 0} (r : Result T E) (P Q S : T → Type 0) → ((x : T) → P x → Q x → S x) → IfOk r P → IfOk r Q → IfOk r S
 ok_two (Ok x) P Q S f p q = f x p q
 ok_two (Err e) P Q S f p q = p
+
+-- the status of a plan's table, or of a refusal of the user's own failures, is none of these
+pub record IsNoFault (s : Status) : Type 0 where
+  pub read : s ≢ status.ReadFault
+  pub long : s ≢ status.TooLong
+  pub usage : s ≢ status.Usage
+  pub write : s ≢ status.WriteFault
+  pub memory : s ≢ status.Memory
+
+pub no_fault : (s : Status) → (s ≡ status.Ok) ⊎ ((place : ℕ) × (s ≡ status.BadPlan 24 place)) → IsNoFault s
+no_fault s (inl e) = record { read = λ h. cc; long = λ h. cc; usage = λ h. cc; write = λ h. cc; memory = λ h. cc }
+no_fault s (inr e) =
+    let is : s ≡ status.BadPlan 24 e.0 = e.1 in
+    record { read = λ h. cc; long = λ h. cc; usage = λ h. cc; write = λ h. cc; memory = λ h. cc }

@@ -9,7 +9,7 @@ ghost use Rattle.sdh_whatif_cli.specs.Words.{begin_own, with_own};
 use sdh_plan::numeral_in;
 
 /// The most failures that are taken together in a case.
-#[derive(Clone, Copy, Debug, PartialEq, Eq)]
+#[derive(Clone, Copy, Debug)]
 pub enum Depth {
     Single,
     Double,
@@ -17,7 +17,7 @@ pub enum Depth {
 }
 
 /// A kind of failures.
-#[derive(Clone, Copy, Debug, PartialEq, Eq)]
+#[derive(Clone, Copy, Debug)]
 pub enum Kind {
     /// A fibre is degraded.
     Degraded,
@@ -36,7 +36,7 @@ pub enum Kind {
 }
 
 /// The kinds that are named.
-#[derive(Clone, Copy, Debug, PartialEq, Eq)]
+#[derive(Clone, Copy)]
 pub struct Kinds {
     pub degraded: bool,
     pub fibres: bool,
@@ -48,7 +48,7 @@ pub struct Kinds {
 }
 
 /// The form in which cases are listed.
-#[derive(Clone, Copy, Debug, PartialEq, Eq)]
+#[derive(Clone, Copy, Debug)]
 pub enum Form {
     /// Records of a table.
     Table,
@@ -62,7 +62,7 @@ pub enum Form {
 
 /// Which cases are listed, and how. They have at most `depth` failures, of these kinds; where no kind is named all are
 /// taken. Of these cases part `part` of `parts` is listed, counted from 1.
-#[derive(Clone, Copy, Debug, PartialEq, Eq)]
+#[derive(Clone, Copy)]
 pub struct Ask {
     pub depth: Depth,
     pub kinds: Kinds,
@@ -72,7 +72,7 @@ pub struct Ask {
 }
 
 /// What the next word is.
-#[derive(Clone, Copy, Debug, PartialEq, Eq)]
+#[derive(Clone, Copy)]
 pub enum Awaited {
     /// A kind, a form, `own` or `part`.
     Any,
@@ -85,7 +85,7 @@ pub enum Awaited {
 }
 
 /// What the words so far ask for.
-#[derive(Clone, Copy, Debug, PartialEq, Eq)]
+#[derive(Clone, Copy)]
 pub struct AskedSoFar {
     pub ask: Ask,
     pub awaited: Awaited,
@@ -123,33 +123,17 @@ impl Kinds {
     fn with(self, kind: Kind) -> Kinds
         ensures { result ≡ with_kind self kind }
     {
+        let mut kinds = self;
         match kind {
-            Kind::Degraded => Kinds {
-                degraded: true,
-                ..self
-            },
-            Kind::Fibres => Kinds {
-                fibres: true,
-                ..self
-            },
-            Kind::Spans => Kinds {
-                spans: true,
-                ..self
-            },
-            Kind::Nodes => Kinds {
-                nodes: true,
-                ..self
-            },
-            Kind::Manual => Kinds {
-                manual: true,
-                ..self
-            },
-            Kind::Forced => Kinds {
-                forced: true,
-                ..self
-            },
-            Kind::Own => Kinds { own: true, ..self },
+            Kind::Degraded => kinds.degraded = true,
+            Kind::Fibres => kinds.fibres = true,
+            Kind::Spans => kinds.spans = true,
+            Kind::Nodes => kinds.nodes = true,
+            Kind::Manual => kinds.manual = true,
+            Kind::Forced => kinds.forced = true,
+            Kind::Own => kinds.own = true,
         }
+        kinds
     }
 
     // Returns whether any is named.

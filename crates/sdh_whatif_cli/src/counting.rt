@@ -8,7 +8,7 @@ use sdh_plan::Plan;
 use sdh_verdicts::{CaseSpans, Verdict, told, told_hops, told_impaired};
 
 /// What becomes of a circuit.
-#[derive(Clone, Copy, Debug, PartialEq, Eq)]
+#[derive(Clone, Copy, Debug)]
 pub enum Fate {
     /// Its ends are joined by its own arc, and no span of it is degraded or asked for.
     Kept,
@@ -21,7 +21,7 @@ pub enum Fate {
 }
 
 /// The number of circuits with each of these fates, and the number of spans of the longest way.
-#[derive(Clone, Copy, Debug, PartialEq, Eq)]
+#[derive(Clone, Copy)]
 pub struct Counts {
     pub kept: u8,
     pub impaired: u8,
@@ -66,28 +66,14 @@ fn with_fate(counts: Counts, fate: Fate, hops: u8) -> Counts
         × (result.lost ≤ counts.lost + 1) }
 {
     let hops = hops.max(counts.hops);
+    let mut now = Counts { hops, ..counts };
     match fate {
-        Fate::Kept => Counts {
-            kept: counts.kept + 1,
-            hops,
-            ..counts
-        },
-        Fate::Impaired => Counts {
-            impaired: counts.impaired + 1,
-            hops,
-            ..counts
-        },
-        Fate::Over => Counts {
-            over: counts.over + 1,
-            hops,
-            ..counts
-        },
-        Fate::Lost => Counts {
-            lost: counts.lost + 1,
-            hops,
-            ..counts
-        },
+        Fate::Kept => now.kept += 1,
+        Fate::Impaired => now.impaired += 1,
+        Fate::Over => now.over += 1,
+        Fate::Lost => now.lost += 1,
     }
+    now
 }
 
 const NO_COUNTS: Counts = Counts {

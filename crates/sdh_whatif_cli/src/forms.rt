@@ -6,7 +6,7 @@ use crate::ask::Form;
 use crate::line::Line;
 
 /// The form in which a case is listed, and the number that it has among all that are listed.
-#[derive(Clone, Copy, Debug, PartialEq, Eq)]
+#[derive(Clone, Copy, Debug)]
 pub struct Entry {
     pub form: Form,
     pub number: usize,
@@ -14,7 +14,7 @@ pub struct Entry {
 
 /// The three digits of a case's number: 0 is nothing, and the others are failures, first those of the ring, then the
 /// user's own.
-#[derive(Clone, Copy, Debug, PartialEq, Eq)]
+#[derive(Clone, Copy, Debug)]
 pub struct Digits {
     pub first: usize,
     pub second: usize,

@@ -19,7 +19,7 @@ use std::alloc::{AllocFailed, Global};
 use std::marker::Model;
 
 /// The user's own failures: for each the failures of the ring that come together in it.
-#[derive(Debug, Drop)]
+#[derive(Drop)]
 pub struct OwnFailures {
     lists: Vec<Vec<Failure>>,
 }
@@ -55,7 +55,7 @@ impl OwnFailures {
 }
 
 /// Why there are no failures of the user's own.
-#[derive(Clone, Copy, Debug, PartialEq, Eq)]
+#[derive(Clone, Copy)]
 pub enum OwnError {
     /// Memory ran out.
     Memory,

@@ -13,7 +13,7 @@ use sdh_plan::Plan;
 use sdh_verdicts::{Sides, failure_at};
 
 /// A number of cases, the number of them in which circuits are lost, and the most circuits that are lost in one.
-#[derive(Clone, Copy, Debug, PartialEq, Eq)]
+#[derive(Clone, Copy, Debug)]
 pub struct Tally {
     pub cases: u8,
     pub losing: u8,
@@ -76,20 +76,19 @@ fn put_field(line: &mut Line, number: u8)
     line.put_small(u16::from(number));
 }
 
-// Appends the word of a kind.
-fn put_kind(line: &mut Line, kind: Kind)
-    requires room { length line.old + 8 ≤ 20480 }
-    ensures text { line.new ≡ line.old ++ kind_text kind }
-    ensures short { length line.new ≤ length line.old + 8 }
+// Returns the word of a kind.
+fn kind_word(kind: Kind) -> &'static [u8]
+    ensures word { result.now ≡ kind_text kind }
+    ensures short { length result.now ≤ 8 }
 {
     match kind {
-        Kind::Degraded => line.put(b"degraded"),
-        Kind::Fibres => line.put(b"fibres"),
-        Kind::Spans => line.put(b"spans"),
-        Kind::Nodes => line.put(b"nodes"),
-        Kind::Manual => line.put(b"manual"),
-        Kind::Forced => line.put(b"forced"),
-        Kind::Own => line.put(b"own"),
+        Kind::Degraded => b"degraded",
+        Kind::Fibres => b"fibres",
+        Kind::Spans => b"spans",
+        Kind::Nodes => b"nodes",
+        Kind::Manual => b"manual",
+        Kind::Forced => b"forced",
+        Kind::Own => b"own",
     }
 }
 
@@ -99,7 +98,7 @@ fn put_tally(line: &mut Line, kind: Kind, tally: Tally)
     ensures text { line.new ≡ line.old ++ tally_record kind tally }
     ensures short { length line.new ≤ length line.old + 28 }
 {
-    put_kind(line, kind);
+    line.put(kind_word(kind));
     put_field(line, tally.cases);
     put_field(line, tally.losing);
     put_field(line, tally.most);

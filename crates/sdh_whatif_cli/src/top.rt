@@ -70,6 +70,21 @@ fn unknown(place: u32) -> Status
     }
 }
 
+// Writes the line of a refusal where a text of the user's own failures is unknown. Returns how that ended, or an error
+// where memory ran out.
+fn refuse_own<W: Sink>(alloc: Global, sink: &mut W, why: OwnError) -> Result<Told, AllocError>
+    ensures told { IfOk result (λ x. (place : ℕ) × (why ≡ OwnError.Unknown place) × (x.status ≡ Status.BadPlan 24 place)
+        × Wrote W.exact (W.written sink.old) (W.written sink.new) (W.faults sink.old) (W.faults sink.new)
+        (refusal (Status.BadPlan 24 place)) x.wrote) }
+    ensures memory { OnErr result (sink.new ≡ sink.old) }
+{
+    let OwnError::Unknown(place) = why else {
+        return Err(AllocError);
+    };
+    let text = Text::try_new(alloc, LINE_MAX)?;
+    Ok(refuse(sink, text, unknown(place)))
+}
+
 // Writes the table of a plan, or the line of a refusal where a text of the user's own failures is unknown, and returns
 // how that ended.
 fn tell<W: Sink>(
@@ -89,11 +104,7 @@ fn tell<W: Sink>(
     let mut line = Line::try_new(alloc)?;
     let own = match own_failures(alloc, &mut line, plan.map(), words) {
         Ok(own) => own,
-        Err(OwnError::Memory) => return Err(AllocError),
-        Err(OwnError::Unknown(place)) => {
-            let text = Text::try_new(alloc, LINE_MAX)?;
-            return Ok(refuse(sink, text, unknown(place)));
-        }
+        Err(why) => return refuse_own(alloc, sink, why),
     };
     let sides = Sides::try_new(alloc, plan)?;
     let scene = Scene {

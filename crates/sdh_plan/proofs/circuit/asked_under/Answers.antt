@@ -5,7 +5,8 @@ use Rattle.sdh_plan.proofs.Wishes.{without_name, without_way, without_texts, wit
 use Rattle.sdh_plan.proofs.circuit.asked_under.Goals as goal
 
 pub returns-in_err-name : goal.returns-in_err-name
-returns-in_err-name c = ap (option_map wish_of) c.from_residual.ensures ∙ sym (without_name _ (sym c.in_err-name.ensures))
+returns-in_err-name c =
+    ap (option_map wish_of) c.from_residual.ensures ∙ sym (without_name _ (sym c.in_err-name.ensures))
 
 pub returns-in_err-from : goal.returns-in_err-from
 returns-in_err-from c =
@@ -31,5 +32,5 @@ returns-in_err-offset_a c =
 
 pub returns : goal.returns
 returns c =
-    rw (with_all (table_view c.args.table.now) _ _ _ _ _ (sym c.in_ok-name.ensures) (sym c.in_ok-from.ensures) (sym c.in_ok-text_a.ensures)
-    (sym c.in_ok-trace_a.ensures) (sym c.in_ok-offset_a.ensures)) (search rules)
+    rw (with_all (table_view c.args.table.now) _ _ _ _ _ (sym c.in_ok-name.ensures) (sym c.in_ok-from.ensures)
+    (sym c.in_ok-text_a.ensures) (sym c.in_ok-trace_a.ensures) (sym c.in_ok-offset_a.ensures)) (search rules)

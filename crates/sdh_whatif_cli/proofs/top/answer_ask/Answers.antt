@@ -3,7 +3,7 @@ use Rattle.sdh_shell.specs.Calls.{words_of}
 use Rattle.sdh_shell.proofs.Told.{told_all}
 use Rattle.sdh_whatif_cli.specs.Words.{own_texts}
 use Rattle.sdh_whatif_cli.specs.Outcome.{of_unknown, of_plan, OfBytes}
-use Rattle.sdh_whatif_cli.proofs.Told.{ok_two}
+use Rattle.sdh_whatif_cli.proofs.Told.{ok_two, no_fault}
 use Rattle.sdh_whatif_cli.proofs.Unknown.{known_of}
 use Rattle.sdh_whatif_cli.proofs.top.answer_ask.Goals as goal
 
@@ -32,3 +32,20 @@ returns-in-Ok-clause-complete g c = λ has quiet. (
     let known = known_of (g.R.Source.left c.args.source.now) texts plan has c.in-Ok.ensures.plan in
     ok_two c.tell.result _ _ _ (λ x is same. is ∙ ap (λ o. (of_unknown o plan texts ask).0) known) c.tell.ensures.status
     c.tell.ensures.status)
+
+pub returns-in-Ok-clause-fault : goal.returns-in-Ok-clause-fault
+returns-in-Ok-clause-fault g c =
+    ok_two c.tell.result _ _ _ (λ x own same e. absurd ((no_fault x.status own).read e)) c.tell.ensures.own c.tell.ensures.own
+
+pub returns-in-Ok-clause-too_long : goal.returns-in-Ok-clause-too_long
+returns-in-Ok-clause-too_long g c =
+    ok_two c.tell.result _ _ _ (λ x own same e. absurd ((no_fault x.status own).long e)) c.tell.ensures.own c.tell.ensures.own
+
+pub returns-in-Ok-clause-own : goal.returns-in-Ok-clause-own
+returns-in-Ok-clause-own g c =
+    ok_two c.tell.result _ _ _ (λ x own same. let no = no_fault x.status own in (no.usage, no.write, no.memory))
+    c.tell.ensures.own c.tell.ensures.own
+
+pub returns-in-Ok-clause-read : goal.returns-in-Ok-clause-read
+returns-in-Ok-clause-read g c =
+    ok_two c.tell.result _ _ _ (λ x own same e. c.in-Ok.ensures.end) c.tell.ensures.own c.tell.ensures.own
