@@ -3,7 +3,7 @@ use Rattle.std.proofs.Common.{◌≡◌, ℕ, ◌+◌, ◌-◌, ◌≤◌, ◌�
 use Rattle.std.proofs.Common.{Bool, true, false, append_assoc, take-append-drop, length-drop, take_all}
 use Rattle.std.specs.Str.{bytes_eq}
 use Rattle.std.proofs.lemmas.Slice.Eq.{bytes_eq-Decides}
-use Rattle.std.proofs.lemmas.List.{length-append, take_more, append_cancel_right}
+use Rattle.std.proofs.lemmas.List.{length-append, take_more, take-append-le, append_cancel_right}
 use Rattle.std.proofs.Math.Seq.{get_or-append_seam}
 use Rattle.sdh_node_cli.specs.Streams.{end_of_plan, AreLines, EndsPlan, HasNoEnd, IsDocument}
 
@@ -35,6 +35,13 @@ ends_back bytes at size some (document, is, inr (before, line)) =
     let whole : bytes ≡ before ++ 10 ∷ end_of_plan = is ∙ ap (λ l. l ++ end_of_plan) line ∙ append_assoc before (codes "\n") end_of_plan in
     ap (λ l. get_or l (at - 1) 0) whole ∙ ap (λ k. get_or (before ++ 10 ∷ end_of_plan) k 0) (sym long)
     ∙ get_or-append_seam before 10 end_of_plan 0
+
+-- the bytes before it are the document
+pub cut_document : (bytes document : List ℕ) → bytes ≡ document ++ end_of_plan → take (length bytes - 12) bytes ≡ document
+cut_document bytes document is =
+    let size : length bytes ≡ length document + 12 = omega (arith, ap length is, length-append document end_of_plan) in
+    ap (λ k. take k bytes) (omega (arith, size)) ∙ ap (take (length document)) is
+    ∙ take-append-le (length document) document end_of_plan (omega arith) ∙ take_all _ document (omega arith)
 
 -- ---- one byte more
 
@@ -72,7 +79,7 @@ none_more bytes x none not front rest is ends = go (split_last bytes x front res
     go (inr (more, e)) = none front more e ends
 
 -- what ends a plan ends with a newline byte
-pub last_byte : (bytes : List ℕ) (x : ℕ) → EndsPlan (bytes ++ x ∷ []) → x ≡ 10
+last_byte : (bytes : List ℕ) (x : ℕ) → EndsPlan (bytes ++ x ∷ []) → x ≡ 10
 last_byte bytes x (document, is, lines) =
     let long : length bytes ≡ length document + 11 =
     omega (arith, ap length is, length-append document end_of_plan, length-append bytes (x ∷ [])) in
@@ -89,7 +96,7 @@ clash true e f = cc
 clash false e f = cc
 
 -- a document, and the line that ends it for the first time
-pub is_document : (bytes document before : List ℕ) → bytes ≡ document ++ end_of_plan → bytes ≡ before ++ codes "\n" → HasNoEnd before
+is_document : (bytes document before : List ℕ) → bytes ≡ document ++ end_of_plan → bytes ≡ before ++ codes "\n" → HasNoEnd before
     → EndsPlan bytes → IsDocument document
 is_document bytes document before is line none (other, ends, lines) =
     let same : other ≡ document = append_cancel_right other document end_of_plan (sym ends ∙ is) in
@@ -97,3 +104,10 @@ is_document bytes document before is line none (other, ends, lines) =
     append_cancel_right before (document ++ codes "end of plan") (codes "\n")
     (sym line ∙ is ∙ sym (append_assoc document (codes "end of plan") (codes "\n"))) in
     record { lines = subst AreLines same lines; first = subst HasNoEnd front none }
+
+-- where the last byte is the first one with which a plan is ended, the bytes are a document and the line that ends it
+pub ended_by : (before bytes : List ℕ) (x : ℕ) → bytes ≡ before ++ x ∷ [] → HasNoEnd before → EndsPlan bytes
+    → (document : List ℕ) × (bytes ≡ document ++ end_of_plan) × IsDocument document
+ended_by before bytes x is none ends =
+    let line : bytes ≡ before ++ codes "\n" = is ∙ ap (λ y. before ++ y ∷ []) (last_byte before x (subst EndsPlan is ends)) in
+    (ends.0, ends.1, is_document bytes ends.0 before ends.1 line none ends)

@@ -1,5 +1,6 @@
 pub mod Short
 pub mod Ports
+pub mod Rounds
 pub mod Runs
 pub mod Own
 pub mod Named

@@ -11,7 +11,7 @@ use Rattle.std.proofs.lemmas.List.Splits.{join_with_byte-slice_split}
 use Rattle.sdh_ringmap.specs.declared.Pos.{Pos}
 use Rattle.sdh_circuits.specs.Provisioned.{Provisioned}
 use Rattle.sdh_request.specs.declared.Command.TheVariants as command
-use Rattle.sdh_shell.specs.Lines.{whole_line}
+use Rattle.sdh_node_cli.specs.Lines.{whole_line}
 use Rattle.sdh_plan.specs.Words.{words, is_empty}
 use Rattle.sdh_plan.specs.declared.reason.Reason.{Reason}
 use Rattle.sdh_plan.specs.declared.reason.Reason.TheVariants as reason
@@ -22,15 +22,6 @@ use Rattle.sdh_node_cli.specs.Streams.{fewest}
 use Rattle.sdh_node_cli.specs.Laws.{RecordsAreLong}
 
 -- ---- the fewest bytes
-
-pub fewest_least : (front : List ℕ) → 7 ≤ fewest front
-unfolding fewest
-fewest_least front = by (get_or front 0 0 == 114) (get_or front 6 0 == 102)
-  where
-    by : (r f : Bool) → 7 ≤ cond r (cond f 17 16) 7
-    by true true = omega arith
-    by true false = omega arith
-    by false f = omega arith
 
 pub fewest_most : (front : List ℕ) → fewest front ≤ 17
 unfolding fewest

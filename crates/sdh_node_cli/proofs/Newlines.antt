@@ -8,7 +8,7 @@ use Rattle.std.proofs.lemmas.List.{length-append, length-take, get_or-take, take
 use Rattle.std.proofs.lemmas.List.Elements.{All-nil, All-cons, All-from_get_or}
 use Rattle.std.proofs.lemmas.List.Quantifiers.{position-Some}
 use Rattle.std.proofs.Math.Seq.{drop-cons}
-use Rattle.sdh_shell.specs.Lines.{IsOneLine, whole_line}
+use Rattle.sdh_node_cli.specs.Lines.{IsOneLine, whole_line}
 use Rattle.sdh_node_cli.specs.Streams.{fewest, IsBehind}
 use Rattle.sdh_node_cli.proofs.Long.{fewest_more}
 

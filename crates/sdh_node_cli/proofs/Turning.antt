@@ -5,7 +5,7 @@ use Rattle.std.specs.Io.KnownBytes.{Appends, Consumes}
 use Rattle.std.proofs.KnownBytes.{Appends-nil, Consumes-trans, Keeps-refl}
 use Rattle.std.proofs.lemmas.List.{length-append}
 use Rattle.sdh_outside.specs.Writing.{AppendsFewer}
-use Rattle.sdh_shell.specs.Lines.{whole_line}
+use Rattle.sdh_node_cli.specs.Lines.{whole_line}
 use Rattle.sdh_ringmap.specs.declared.Side.{Side}
 use Rattle.sdh_ringmap.specs.declared.Side.TheVariants.{West, East}
 use Rattle.sdh_request.specs.declared.settings.Settings.{Settings}

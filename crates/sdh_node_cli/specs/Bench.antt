@@ -99,9 +99,13 @@ frames_in b = (node_round b.moment b.node).1
 abbrev pub outlet_text : List ℕ → PortId → Outlet → List ℕ
 outlet_text name port o = port_line name port.end o.delivered o.value
 
+-- the line of a port of the node, of a circuit of this name, if there is such a port
+abbrev pub text_of : Node → List ℕ → Option PortId → List ℕ
+text_of n name port = option_map_or (λ id. outlet_text name id (outlet_of id n.ports)) port []
+
 -- the line of the port of a circuit that is at the node, if one is
 abbrev pub port_text : Node → Pos → ℕ → Provisioned → List ℕ
-port_text n at number c = option_map_or (λ port. outlet_text c.name port (outlet_of port n.ports)) (port_here at number c) []
+port_text n at number c = text_of n c.name (port_here at number c)
 
 -- the lines of the ports of these circuits; the first circuit has this number
 abbrev pub ports_from : Node → Pos → ℕ → List Provisioned → List ℕ

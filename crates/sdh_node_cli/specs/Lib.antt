@@ -1,6 +1,7 @@
 pub mod Words
 pub mod Faults
 pub mod Endings
+pub mod Lines
 pub mod Records
 pub mod Bench
 pub mod Streams

@@ -3,7 +3,7 @@ use Rattle.std.specs.Prelude.{◌≡◌, ◌⊎◌, ℕ, ◌+◌, ◌-◌, ◌<�
 use Rattle.std.specs.Prelude.{Option, Some, None, Ok, Err}
 use Rattle.std.specs.List.{flat_map}
 use Rattle.std.specs.Io.KnownBytes.{IsAtEnd}
-use Rattle.sdh_shell.specs.Lines.{IsOneLine, whole_line}
+use Rattle.sdh_node_cli.specs.Lines.{IsOneLine, whole_line}
 use Rattle.sdh_plan.specs.declared.reason.Reason.{Reason}
 use Rattle.sdh_node_cli.specs.declared.ending.Flaw.{Flaw}
 use Rattle.sdh_node_cli.specs.declared.ending.Flaw.TheVariants as flaw

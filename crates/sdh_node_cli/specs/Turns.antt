@@ -2,9 +2,9 @@
 use Rattle.std.specs.Prelude.{ℕ, ◌≡◌, ◌+◌, ◌<◌, List, [], ◌++◌, length, Option, Ok}
 use Rattle.std.specs.Io.KnownBytes.{Appends, Consumes, IsAtEnd, Keeps}
 use Rattle.sdh_outside.specs.Writing.{AppendsFewer}
-use Rattle.sdh_shell.specs.Lines.{IsOneLine, whole_line}
-use Rattle.sdh_shell.specs.declared.lines.LineEnd.{LineEnd}
-use Rattle.sdh_shell.specs.declared.lines.LineEnd.TheVariants as end
+use Rattle.sdh_node_cli.specs.Lines.{IsOneLine, whole_line}
+use Rattle.sdh_node_cli.specs.declared.line.LineEnd.{LineEnd}
+use Rattle.sdh_node_cli.specs.declared.line.LineEnd.TheVariants as end
 use Rattle.sdh_node_cli.specs.declared.ending.Flaw.TheVariants as flaw
 use Rattle.sdh_node_cli.specs.declared.line.Got.{Got}
 use Rattle.sdh_node_cli.specs.declared.line.Got.TheVariants as got

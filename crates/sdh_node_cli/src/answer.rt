@@ -1,5 +1,5 @@
 //! What is written for a round.
-ghost use Rattle.std.specs.Prelude.{◌≡◌, ◌+◌, ◌*◌, ◌≤◌, ◌++◌, Some, length};
+ghost use Rattle.std.specs.Prelude.{◌≡◌, ◌+◌, ◌*◌, ◌≤◌, ◌++◌, IfSome, length};
 ghost use Rattle.sdh_frame.specs.Sizes.{size_of};
 ghost use Rattle.sdh_circuits.specs.declared.PortId.{PortId};
 ghost use Rattle.sdh_terminal.specs.Tributaries.{HasPort, outlets_of};
@@ -7,10 +7,11 @@ ghost use Rattle.sdh_report.specs.Written.{with_part};
 ghost use Rattle.sdh_shell.specs.Writing.{room_in};
 ghost use Rattle.sdh_aps.specs.Lines.{signal_line};
 ghost use Rattle.sdh_aps.specs.Showing.{shown_of};
-ghost use Rattle.sdh_node_cli.specs.Records.{end_here, IsOwn};
-ghost use Rattle.sdh_node_cli.specs.Bench.{port_text, ports_from, count_line, frames_text};
+ghost use Rattle.sdh_node_cli.specs.Records.{IsOwn};
+ghost use Rattle.sdh_node_cli.specs.Bench.{text_of, ports_from, count_line, frames_text, frames_if};
 
-use crate::record::end_here;
+use crate::record::port_here;
+use crate::words::Mode;
 use sdh_aps::{shown_of, signal_line};
 use sdh_circuits::{Circuit, CircuitMap, PortId};
 use sdh_frame::FrameBuf;
@@ -19,24 +20,21 @@ use sdh_report::Text;
 use sdh_ringmap::Pos;
 use sdh_terminal::Outlets;
 
-// Appends the line of the port of a circuit that is at the node, if one is. `outlets` has what all its ports delivered.
-fn put_port(text: &mut Text, node: &Adm, outlets: &Outlets, at: Pos, number: u8, circuit: &Circuit)
-    requires there { (port : PortId) → port.circuit ≡ number → end_here at circuit.now ≡ Some port.end → HasPort node.now.ports port }
+// Appends the line of the port of a circuit, if it has one at the node. `outlets` has what all ports of the node
+// delivered.
+fn put_port(text: &mut Text, node: &Adm, outlets: &Outlets, circuit: &Circuit, port: Option<PortId>)
+    requires there { IfSome port (HasPort node.now.ports) }
     requires outlets { outlets.now ≡ outlets_of node.now.ports }
     requires room { 96 ≤ text.old.room }
-    ensures bytes { text.new.bytes ≡ text.old.bytes ++ port_text node.now at number circuit.now }
+    ensures bytes { text.new.bytes ≡ text.old.bytes ++ text_of node.now circuit.now.name port }
     ensures room { text.old.room ≤ text.new.room + 96 }
     ensures kept { room_in text.new ≡ room_in text.old }
 {
-    let Some(end) = end_here(at, circuit) else {
+    let Some(port) = port else {
         return;
     };
-    let port = PortId {
-        circuit: number,
-        end,
-    };
     let outlet = node.outlet(port, outlets);
-    text.port_line(circuit.name(), end, outlet.delivered(), outlet.value());
+    text.port_line(circuit.name(), port.end, outlet.delivered(), outlet.value());
 }
 
 /// Appends the lines of the ports that are at the node, in the order of the circuits. `outlets` has what all these ports
@@ -51,7 +49,8 @@ pub fn put_ports(text: &mut Text, node: &Adm, outlets: &Outlets, at: Pos, circui
 {
     for number in 0..circuits.len() {
         let circuit = circuits.get(number as u8);
-        put_port(text, node, outlets, at, number as u8, circuit);
+        let port = port_here(at, number as u8, circuit);
+        put_port(text, node, outlets, circuit, port);
     }
 }
 
@@ -75,9 +74,9 @@ fn put_count(text: &mut Text, count: usize)
     text.put(b"\n");
 }
 
-/// Appends the number of bytes of two frames, and the frames.
+// Appends the number of bytes of two frames, and the frames.
 #[tactic(auto, unfolding(crate::specs::Bench::frames_text))]
-pub fn put_frames(text: &mut Text, west: &FrameBuf, east: &FrameBuf)
+fn put_frames(text: &mut Text, west: &FrameBuf, east: &FrameBuf)
     requires room { 32 + size_of west.now.rate + size_of east.now.rate ≤ text.old.room }
     ensures bytes { text.new.bytes ≡ text.old.bytes ++ frames_text (record { west = west.now; east = east.now }) }
     ensures kept { room_in text.new ≡ room_in text.old }
@@ -85,4 +84,16 @@ pub fn put_frames(text: &mut Text, west: &FrameBuf, east: &FrameBuf)
     put_count(text, west.bytes().len() + east.bytes().len());
     text.put(west.bytes());
     text.put(east.bytes());
+}
+
+/// Appends the number of bytes of two frames, and the frames, where frames are written.
+pub fn put_frames_if(text: &mut Text, mode: Mode, west: &FrameBuf, east: &FrameBuf)
+    requires room { 32 + size_of west.now.rate + size_of east.now.rate ≤ text.old.room }
+    ensures bytes { text.new.bytes ≡ text.old.bytes ++ frames_if mode (record { west = west.now; east = east.now }) }
+    ensures kept { room_in text.new ≡ room_in text.old }
+{
+    match mode {
+        Mode::Lines => {}
+        Mode::Frames => put_frames(text, west, east),
+    }
 }

@@ -8,9 +8,9 @@ ghost use Rattle.sdh_node_cli.specs.Faults.{CountsFault};
 ghost use Rattle.sdh_node_cli.specs.Records.{record_of, IsTold, IsRecord};
 ghost use Rattle.sdh_node_cli.specs.Turns.{TakesPart};
 ghost use Rattle.sdh_node_cli.specs.declared.record.Came.TheVariants as came;
-ghost use Rattle.sdh_node_cli.specs.Bench.{new_bench, refusal_of, after_told, after_coming, after_round, lines_of, answer_to, answer_room};
+ghost use Rattle.sdh_node_cli.specs.Bench.{new_bench, refusal_of, after_told, after_coming, after_round, answer_to, answer_room};
 
-use crate::answer::{put_frames, put_ports, put_shown};
+use crate::answer::{put_frames_if, put_ports, put_shown};
 use crate::ending::Flaw;
 use crate::record::{Record, Told, record_of};
 use crate::stop::Stop;
@@ -72,6 +72,7 @@ impl Bench {
         let east = FrameBuf::try_new(alloc, settings.rate)?;
         let node = Adm::try_new(alloc, settings, &map, &circuits, at)?;
         let outlets = node.outlets(alloc)?;
+        let taken = TakenPair::try_new(alloc)?;
         Ok(Bench {
             mode: ask.mode,
             id: ask.id,
@@ -83,7 +84,7 @@ impl Bench {
             west,
             east,
             outlets,
-            taken: TakenPair::try_new(alloc)?,
+            taken,
         })
     }
 
@@ -151,23 +152,7 @@ impl Bench {
         Ok(())
     }
 
-    // Appends the lines of the last round, what the ports delivered in it among them.
-    #[tactic(auto, unfolding(crate::specs::Bench::lines_of))]
-    fn put_lines(&mut self, text: &mut Text)
-        requires ran { 1 ≤ self.old.node.rounds }
-        requires room { 128 + 96 * length self.old.circuits ≤ text.old.room }
-        ensures same { self.new ≡ self.old }
-        ensures bytes { text.new.bytes ≡ text.old.bytes ++ lines_of self.old }
-        ensures room { text.old.room ≤ text.new.room + (128 + 96 * length self.old.circuits) }
-        ensures kept { room_in text.new ≡ room_in text.old }
-    {
-        put_shown(text, &self.node, self.rounds - 1, self.id);
-        self.node.deliver(&mut self.taken, &mut self.outlets);
-        put_ports(text, &self.node, &self.outlets, self.at, &self.circuits);
-    }
-
     /// Runs a round, and writes its answer into an empty text. It takes no memory.
-    #[tactic(auto, unfolding(crate::specs::Bench::answer_to))]
     pub fn run(&mut self, text: &mut Text)
         requires few { self.old.node.rounds < 2 ^ 32 }
         requires room { answer_room self.old.node.settings.rate (length self.old.circuits) ≤ text.old.room }
@@ -177,12 +162,11 @@ impl Bench {
         ensures kept { room_in text.new ≡ room_in text.old }
     {
         self.node.send(self.moment, &mut self.west, &mut self.east);
+        put_shown(text, &self.node, self.rounds, self.id);
         self.rounds += 1;
-        self.put_lines(text);
-        match self.mode {
-            Mode::Lines => {}
-            Mode::Frames => put_frames(text, &self.west, &self.east),
-        }
+        self.node.deliver(&mut self.taken, &mut self.outlets);
+        put_ports(text, &self.node, &self.outlets, self.at, &self.circuits);
+        put_frames_if(text, self.mode, &self.west, &self.east);
     }
 }
 

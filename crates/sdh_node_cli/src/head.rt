@@ -1,11 +1,10 @@
 //! The plan of a stream, up to the line that ends it.
-ghost use Rattle.std.specs.Prelude.{◌≡◌, ◌≤◌, ◌+◌, ◌++◌, ◌↔◌, List, ℕ, [], codes, IsTrue, Ok, Err, IfOk, IfErr, OnOk, OnErr, length};
-ghost use Rattle.std.specs.Io.KnownBytes.{Consumes, IsAtEnd};
+ghost use Rattle.std.specs.Prelude.{◌≡◌, ◌≤◌, ◌+◌, ◌++◌, ◌↔◌, List, ℕ, [], IsTrue, Ok, Err, IfOk, IfErr, OnErr, length};
 ghost use Rattle.sdh_basics.specs.Causes.{Rose, IsCounted, HasCause};
 ghost use Rattle.sdh_report.specs.declared.status.Status.{Status};
 ghost use Rattle.sdh_shell.specs.Reading.{TellsPlan};
-ghost use Rattle.sdh_node_cli.specs.Streams.{end_of_plan, EndsPlan, HasNoEnd};
-ghost use Rattle.sdh_node_cli.specs.Outcome.{HasHead, TellsNone, IsNoPlan};
+ghost use Rattle.sdh_node_cli.specs.Streams.{end_of_plan, EndsPlan};
+ghost use Rattle.sdh_node_cli.specs.Outcome.{HasHead, HasNoHead, TakesHead, TellsNone, IsNoPlan};
 
 use sdh_outside::{Failed, Source, next_byte};
 use sdh_plan::{Plan, PlanError, read_plan};
@@ -53,13 +52,10 @@ fn ends_plan(bytes: &[u8]) -> bool
 // Reads a document and the line that ends it into an empty text, and no byte after that line.
 fn read_head<R: Source>(source: &mut R, text: &mut Text) -> Result<HeadEnd, Failed>
     requires { text.old.bytes ≡ [] }
-    ensures took { OnOk result (Consumes (R.left source.old) (R.left source.new) text.new.bytes) }
-    ensures part { OnErr result (Consumes (R.left source.old) (R.left source.new) text.new.bytes) }
-    ensures none { OnErr result (HasNoEnd text.new.bytes) }
-    ensures whole { result ≡ Ok HeadEnd.Whole → (before : List ℕ) × (text.new.bytes ≡ before ++ codes "\n") × HasNoEnd before × EndsPlan text.new.bytes }
-    ensures ended { result ≡ Ok HeadEnd.Ended → HasNoEnd text.new.bytes × IsAtEnd (R.left source.new) }
-    ensures full { result ≡ Ok HeadEnd.Full → HasNoEnd text.new.bytes × (text.new.room ≡ 0) }
+    ensures head { IfOk result (TakesHead (R.left source.old) (R.left source.new) text.new.bytes) }
+    ensures part { OnErr result (HasNoHead (R.left source.old) (R.left source.new) text.new.bytes) }
     ensures kept { text.new.room + length text.new.bytes ≡ text.old.room }
+    ensures full { result ≡ Ok HeadEnd.Full → text.new.room ≡ 0 }
     ensures cause { HasCause R.exact (R.faults source.old) (R.faults source.new) result }
 {
     while text.room() > 0 {
@@ -74,14 +70,21 @@ fn read_head<R: Source>(source: &mut R, text: &mut Text) -> Result<HeadEnd, Fail
     Ok(HeadEnd::Full)
 }
 
-// Returns the plan of a document and the line that ends it.
-fn plan_of(alloc: Global, bytes: &[u8]) -> Result<Plan, NoHead>
-    requires ends { EndsPlan bytes.now }
-    requires few { length bytes.now ≤ 1048588 }
-    ensures plan { IfOk result (λ plan. (document : List ℕ) × (bytes.now ≡ document ++ end_of_plan) × TellsPlan document plan) }
-    ensures refused { IfErr result (λ why. (document : List ℕ) × (bytes.now ≡ document ++ end_of_plan) × IsNoPlan document why) }
+// Returns the document, of a document and the line that ends it.
+fn document_of(bytes: &[u8]) -> &[u8]
+    requires { EndsPlan bytes.now }
+    ensures { (document : List ℕ) → bytes.now ≡ document ++ end_of_plan → result.now ≡ document }
 {
-    match read_plan(alloc, &bytes[..bytes.len() - END_OF_PLAN.len()]) {
+    &bytes[..bytes.len() - END_OF_PLAN.len()]
+}
+
+// Returns the plan of a document.
+fn plan_of(alloc: Global, document: &[u8]) -> Result<Plan, NoHead>
+    requires { length document.now ≤ 1048576 }
+    ensures plan { IfOk result (TellsPlan document.now) }
+    ensures refused { IfErr result (IsNoPlan document.now) }
+{
+    match read_plan(alloc, document) {
         Ok(plan) => Ok(plan),
         Err(PlanError::Memory) => Err(NoHead::Memory),
         Err(PlanError::NotToml) => Err(NoHead::Refused(Status::NotToml)),
@@ -104,7 +107,7 @@ pub fn plan_in<R: Source>(alloc: Global, source: &mut R) -> Result<Plan, NoHead>
         return Err(NoHead::Memory);
     };
     match read_head(source, &mut text) {
-        Ok(HeadEnd::Whole) => match plan_of(alloc, text.bytes()) {
+        Ok(HeadEnd::Whole) => match plan_of(alloc, document_of(text.bytes())) {
             Ok(plan) => Ok(plan),
             Err(why) => Err(why),
         },

@@ -3,7 +3,7 @@ ghost use Rattle.std.specs.Prelude.{◌≡◌, ◌+◌, ◌<◌, ◌≤◌, ◌�
 ghost use Rattle.std.specs.Io.KnownBytes.{Consumes, Keeps};
 ghost use Rattle.sdh_basics.specs.Causes.{HasCause};
 ghost use Rattle.sdh_report.specs.Written.{with_part};
-ghost use Rattle.sdh_shell.specs.Lines.{IsOneLine, whole_line};
+ghost use Rattle.sdh_node_cli.specs.Lines.{IsOneLine, whole_line};
 ghost use Rattle.sdh_shell.specs.Writing.{room_in};
 ghost use Rattle.sdh_node_cli.specs.Faults.{CountsFault};
 ghost use Rattle.sdh_node_cli.specs.Bench.{Bench};
@@ -14,10 +14,20 @@ use crate::ending::Flaw;
 use crate::stop::Stop;
 use sdh_outside::{Failed, Source};
 use sdh_report::Text;
-use sdh_shell::LineEnd;
 
 /// The most bytes that are asked for at once.
 const ASKED_MAX: usize = 17;
+
+/// Why no more of a line was read.
+#[derive(Clone, Copy)]
+enum LineEnd {
+    /// It is whole, and its newline byte was taken.
+    Whole,
+    /// The source has ended.
+    Ended,
+    /// There is no room for more.
+    Full,
+}
 
 /// What one read of a line took.
 #[derive(Clone, Copy)]

@@ -1,8 +1,8 @@
 //! The records of a stream, by their lines.
-ghost use Rattle.std.specs.Prelude.{◌≡◌, ◌≤◌, List, map, IfOk, IfSome};
+ghost use Rattle.std.specs.Prelude.{◌≡◌, ◌≤◌, List, map, Some, IfOk, IfSome};
 ghost use Rattle.sdh_ringmap.specs.declared.Pos.{Pos};
 ghost use Rattle.sdh_circuits.specs.Provisioned.{Provisioned};
-ghost use Rattle.sdh_node_cli.specs.Records.{came_at, end_here, own_port, side_in, number_in, slip_in, round_in, command_in, moment_in, hold_in};
+ghost use Rattle.sdh_node_cli.specs.Records.{came_at, end_here, port_here, own_port, side_in, number_in, slip_in, round_in, command_in, moment_in, hold_in};
 ghost use Rattle.sdh_node_cli.specs.Records.{record_by, record_in, record_of, IsOwn, IsRecord};
 
 use sdh_circuits::{Circuit, CircuitMap, End, PortId};
@@ -59,8 +59,8 @@ fn came_at(word: &[u8]) -> Option<Came>
     }
 }
 
-/// Returns the end of a circuit that is at a position, if one is.
-pub fn end_here(at: Pos, circuit: &Circuit) -> Option<End>
+// Returns the end of a circuit that is at a position, if one is.
+fn end_here(at: Pos, circuit: &Circuit) -> Option<End>
     ensures { result ≡ end_here at circuit.now }
 {
     if circuit.from().0 == at.0 {
@@ -69,6 +69,20 @@ pub fn end_here(at: Pos, circuit: &Circuit) -> Option<End>
         Some(End::B)
     } else {
         None
+    }
+}
+
+/// Returns the port at a position of the circuit of this number, if one is there.
+pub fn port_here(at: Pos, number: u8, circuit: &Circuit) -> Option<PortId>
+    ensures port { result ≡ port_here at number circuit.now }
+    ensures own { IfSome result (λ port. (port.circuit ≡ number) × (end_here at circuit.now ≡ Some port.end)) }
+{
+    match end_here(at, circuit) {
+        Some(end) => Some(PortId {
+            circuit: number,
+            end,
+        }),
+        None => None,
     }
 }
 
@@ -81,10 +95,7 @@ fn own_port(circuits: &CircuitMap, at: Pos, word: &[u8]) -> Option<PortId>
     let Some(circuit) = circuit_named(circuits, word) else {
         return None;
     };
-    match end_here(at, circuits.get(circuit)) {
-        Some(end) => Some(PortId { circuit, end }),
-        None => None,
-    }
+    port_here(at, circuit, circuits.get(circuit))
 }
 
 // Returns the side that the only word names.

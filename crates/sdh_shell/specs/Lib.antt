@@ -1,6 +1,5 @@
 pub mod Calls
 pub mod Endings
 pub mod Reading
-pub mod Lines
 pub mod Failing
 pub mod Writing

@@ -1,6 +1,6 @@
 //! What the programs' calls share: whether the words are the one word `run`, which end of a circuit a letter names, a
-//! plan that is read or refused, a line that is read, the endings of a program, and counts of calls that failed. Texts
-//! are written to a sink as they come, or to memory.
+//! plan that is read or refused, the endings of a program, and counts of calls that failed. Texts are written to a sink
+//! as they come, or to memory.
 //!
 //! How a plan is refused is `HasNoPlan` in `specs/Reading.antt`. How a script that was run may end is `HasRun` in
 //! `specs/Calls.antt`. The endings of a program are `Endings` in `specs/Endings.antt`, and the failures that an ending
@@ -10,14 +10,12 @@
 
 mod ended_text;
 mod ending;
-mod lines;
 mod output;
 mod reading;
 mod words;
 
 pub use ended_text::{EndedText, ended, ended_line, write_ended};
 pub use ending::Ends;
-pub use lines::{LineEnd, read_line};
 pub use output::{Kept, Output};
 pub use reading::{NoPlan, plan_in};
 pub use words::{end_lettered, is_run};

@@ -10,7 +10,7 @@ port_line-requires c =
     omega (
       arith,
       c.requires.room,
-      short-port_line c.name.result.now c.in-Some.end c.delivered.result.now c.value.result c.name.ensures.short
+      short-port_line c.name.result.now c.in-Some.port.end c.delivered.result.now c.value.result c.name.ensures.short
           (omega (arith, c.value.ensures.small)),
     )
 
@@ -20,7 +20,7 @@ returns-clause-room c =
       arith,
       c.requires.room,
       ap (λ (w : Written). w.room) c.port_line.ensures,
-      short-port_line c.name.result.now c.in-Some.end c.delivered.result.now c.value.result c.name.ensures.short
+      short-port_line c.name.result.now c.in-Some.port.end c.delivered.result.now c.value.result c.name.ensures.short
           (omega (arith, c.value.ensures.small)),
     )
 
@@ -31,7 +31,7 @@ returns-clause-kept c =
       c.requires.room,
       ap (λ (w : Written). w.room) c.port_line.ensures,
       ap (λ (w : Written). length w.bytes) c.port_line.ensures,
-      length-append c.args.text.now.bytes (port_line c.name.result.now c.in-Some.end c.delivered.result.now c.value.result),
-      short-port_line c.name.result.now c.in-Some.end c.delivered.result.now c.value.result c.name.ensures.short
+      length-append c.args.text.now.bytes (port_line c.name.result.now c.in-Some.port.end c.delivered.result.now c.value.result),
+      short-port_line c.name.result.now c.in-Some.port.end c.delivered.result.now c.value.result c.name.ensures.short
           (omega (arith, c.value.ensures.small)),
     )

@@ -1,6 +1,6 @@
 use Rattle.std.proofs.Common.{◌≡◌, true, ◌≤◌}
 use Rattle.std.specs.Io.KnownBytes.{Consumes}
-use Rattle.sdh_shell.specs.Lines.{IsOneLine}
+use Rattle.sdh_node_cli.specs.Lines.{IsOneLine}
 use Rattle.sdh_shell.specs.Writing.{room_in}
 use Rattle.sdh_node_cli.proofs.line.read_line.Given as goal
 

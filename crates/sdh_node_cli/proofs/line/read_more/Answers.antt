@@ -1,7 +1,7 @@
 use Rattle.std.proofs.Common.{◌≡◌, ◌+◌, ◌≤◌, ◌⊎◌, ◌++◌, length, take, ap, sym, subst, arith}
 use Rattle.std.specs.Io.KnownBytes.{Consumes}
 use Rattle.sdh_report.specs.Written.{Written}
-use Rattle.sdh_shell.specs.Lines.{whole_line}
+use Rattle.sdh_node_cli.specs.Lines.{whole_line}
 use Rattle.sdh_node_cli.specs.Streams.{fewest, IsBehind}
 use Rattle.sdh_node_cli.proofs.Newlines.{few_behind, of_read, at_most}
 use Rattle.sdh_node_cli.proofs.line.read_more.Goals as goal

@@ -17,4 +17,5 @@ invariant_of-result c =
       ap (λ (n : Node). n.rounds) is,
       c.in_ok-west.ensures.rate ∙ ap (λ (n : Node). n.settings.rate) is,
       c.in_ok-east.ensures.rate ∙ ap (λ (n : Node). n.settings.rate) is,
+      c.in_ok-outlets.ensures,
     )
