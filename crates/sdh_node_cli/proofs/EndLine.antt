@@ -1,4 +1,4 @@
--- Where the line stands that ends a plan.
+-- The place of the line that ends a plan.
 use Rattle.std.proofs.Common.{◌≡◌, ℕ, ◌+◌, ◌-◌, ◌≤◌, ◌⊎◌, inl, inr, List, [], ◌∷◌, ◌++◌, length, take, drop, get_or, codes, refl, ap, sym, subst, ◌∙◌, arith}
 use Rattle.std.proofs.Common.{Bool, true, false, append_assoc, take-append-drop, length-drop, take_all}
 use Rattle.std.specs.Str.{bytes_eq}
@@ -45,7 +45,7 @@ cut_document bytes document is =
 
 -- ---- one byte more
 
--- no bytes have no end
+-- the empty list has no front that ends a plan
 pub none_yet : HasNoEnd []
 none_yet front rest is (document, ends, lines) =
     absurd (omega (arith, ap length is, length-append front rest, ap length ends, length-append document end_of_plan))
@@ -70,7 +70,7 @@ split_last (b ∷ bytes) x (y ∷ front) rest is =
     go (inl e) = inl (ap (λ l. y ∷ l) e ∙ ap (λ z. z ∷ bytes ++ x ∷ []) (sym same))
     go (inr (more, e)) = inr (more, ap (λ l. b ∷ l) e ∙ ap (λ z. z ∷ front ++ more) same)
 
--- where all of them don't end a plan, no front does
+-- where neither a front of some bytes nor these with one more byte end a plan, no front of the latter does
 pub none_more : (bytes : List ℕ) (x : ℕ) → HasNoEnd bytes → (EndsPlan (bytes ++ x ∷ []) → ⊥) → HasNoEnd (bytes ++ x ∷ [])
 none_more bytes x none not front rest is ends = go (split_last bytes x front rest is)
   where
@@ -90,7 +90,7 @@ last_byte bytes x (document, is, lines) =
     ∙ ap (λ k. get_or ((document ++ codes "end of plan") ++ 10 ∷ []) k 0) (sym wide)
     ∙ get_or-append_seam (document ++ codes "end of plan") 10 [] 0
 
--- no test says both
+-- a boolean is not both true and false
 pub clash : (b : Bool) → b ≡ true → b ≡ false → ⊥
 clash true e f = cc
 clash false e f = cc

@@ -19,7 +19,7 @@ use Rattle.sdh_node_cli.specs.Bench.{Bench}
 use Rattle.sdh_node_cli.specs.Turns.{TakesPart, Halts}
 use Rattle.sdh_node_cli.specs.Outcome.{TellsNone, RefusesHead, refusal_of, ending_of}
 
--- where no call failed before, the count is that of what came behind
+-- where no call failed in the first part, the count of the whole is that of the second part
 pub counted_behind : (exact : Bool) (Fault : Type 0) (a b c : ℕ) → (exact ≡ true → b ≡ a) → IsCounted exact Fault b c
     → IsCounted exact Fault a c
 counted_behind exact Fault a b c same x = record {
@@ -27,7 +27,7 @@ counted_behind exact Fault a b c same x = record {
   none = λ e no. x.none e no ∙ same e;
 }
 
--- where none fails behind, the count is that of what came before; and the two faults are one
+-- a count for one fault is a count for another fault that happens exactly when the first does
 pub counted_before : (exact : Bool) (Fault Far : Type 0) (a b : ℕ) → (Far → Fault) → (Fault → Far) → IsCounted exact Fault a b
     → IsCounted exact Far a b
 counted_before exact Fault Far a b f g x = record {
@@ -46,7 +46,7 @@ renamed exact a b Fault Far f g x = record {
   counted = counted_before exact Fault Far a b f g x.counted;
 }
 
--- no call failed before, and none was made behind
+-- no call failed in the first part, and none was made after it
 pub quiet : (exact : Bool) (a b : ℕ) (Fault : Type 0) → (Fault → ⊥) → (exact ≡ true → b ≡ a) → a ≤ b → CountsFault exact a b Fault
 quiet exact a b Fault not same later = record {
   later = later;
@@ -54,7 +54,7 @@ quiet exact a b Fault not same later = record {
   counted = record { one = λ e f. absurd (not f); none = λ e g. same e };
 }
 
--- none was made
+-- no call was made at all
 pub none_made : (exact : Bool) (n : ℕ) (Fault : Type 0) → (Fault → ⊥) → CountsFault exact n n Fault
 none_made exact n Fault not = quiet exact n n Fault not (λ e. refl) (le_refl n)
 
@@ -71,33 +71,33 @@ module _ {T : Type 0} (exact : Bool) (a b : ℕ) (why : Stop) (r : Result T Stop
   ok_err : {v : T} → r ≡ Ok v → r ≡ Err why → ⊥
   ok_err is e = cc
 
-  -- the part of a call that came before this one was well
+  -- the first part of a call succeeded, so the fault is that of the second part
   pub well : (c : ℕ) (v : T) (Fault : Type 0) → r ≡ Ok v → CountsFault exact b c Fault → CountsFault exact a c Fault
   well c v Fault is y = behind exact a b c Fault (λ e. x.counted.none e (ok_err is)) x.later y
 
-  -- it was, and no call was made behind it
+  -- the first part succeeded, and no call was made after it
   pub well_alone : (v : T) (Fault : Type 0) → r ≡ Ok v → (Fault → ⊥) → CountsFault exact a b Fault
   well_alone v Fault is not = quiet exact a b Fault not (λ e. x.counted.none e (ok_err is)) x.later
 
-  -- it was the whole call
+  -- the first part was the whole call
   pub whole : {U : Type 0} (s : Result U Stop) → (s ≡ Err why → r ≡ Err why) → (r ≡ Err why → s ≡ Err why) → CountsFault exact a b (s ≡ Err why)
   whole s f g = renamed exact a b (r ≡ Err why) (s ≡ Err why) f g x
 
-  -- it ended the call
+  -- the first part ended the call
   pub ended : {U : Type 0} (stop : Stop) → r ≡ Err stop → CountsFault exact a b (◌≡◌ {A = Result U Stop} (Err stop) (Err why))
   ended {U} stop is = renamed exact a b (r ≡ Err why) (◌≡◌ {A = Result U Stop} (Err stop) (Err why)) (λ e. cc) (λ e. cc) x
 
   pub stopped : (stop : Stop) → r ≡ Err stop → CountsFault exact a b (stop ≡ why)
   stopped stop is = renamed exact a b (r ≡ Err why) (stop ≡ why) (λ e. cc) (λ e. cc) x
 
--- a call of a source or a sink was well
+-- a call of a source or a sink succeeded
 pub calm : {T E : Type 0} (exact : Bool) (a b : ℕ) (Fault : Type 0) (v : T) → HasCause {E = E} exact a b (Ok v) → (Fault → ⊥) → CountsFault exact a b Fault
 calm {T} {E} exact a b Fault v h not = quiet exact a b Fault not (λ e. h.counted.none e no) h.later
   where
     no : IsErr {T = T} {E = E} (Ok v) → ⊥
     no e = cc
 
--- it failed
+-- a call of a source or a sink failed
 pub failing : {T E : Type 0} (exact : Bool) (a b : ℕ) (Fault : Type 0) (w : E) → HasCause {T = T} exact a b (Err w) → Fault → CountsFault exact a b Fault
 failing exact a b Fault w h fault = record {
   later = h.later;
@@ -126,7 +126,7 @@ err_same one other e = cc
 
 -- ---- of the last line
 
--- a read fault is no write fault, and no write fault is a usage or a lack of memory
+-- a read fault is no write fault, and a write fault is neither usage nor out of memory
 pub read_or_write : (end : Ending) → end ≡ ending.Shared status.ReadFault → end ≢ ending.Shared status.WriteFault
 read_or_write end e w = cc
 
@@ -184,7 +184,7 @@ said_own left now status.NotToml h = (λ e. cc, λ e. cc)
 said_own left now (status.BadPlan number place) h = (λ e. cc, λ e. cc)
 said_own left now how h = absurd h
 
--- a refusal is no usage, and no lack of memory
+-- a refusal is neither usage nor out of memory
 pub none_own : (left now : Option (List ℕ)) (why : NoHead) (how : Ending) → TellsNone left now why → Some how ≡ refusal_of why
     → (how ≢ ending.Shared status.Usage) × (how ≢ ending.Shared status.Memory)
 none_own left now nohead.Memory how h is = absurd (none_some is)
@@ -221,7 +221,7 @@ stop_own stop.WriteFault number = (λ e. cc, λ e. cc)
 pub asked_some : (asked : Option Ask) (ask : Ask) → Some ask ≡ asked → asked ≡ None → ⊥
 asked_some asked ask is none = cc
 
--- without memory nothing is called
+-- out of memory, no call is made
 pub no_memory : (exact : Bool) (a b : ℕ) → b ≡ a → IsCounted exact (ending.Shared status.Memory ≡ ending.Shared status.WriteFault) a b
 no_memory exact a b same = record { one = λ e f. cc; none = λ e n. same }
 

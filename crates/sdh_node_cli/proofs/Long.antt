@@ -1,4 +1,4 @@
--- How long a record is at least.
+-- How many bytes a record has at least.
 use Rattle.std.proofs.Common.{◌≡◌, ℕ, zero, suc, ◌+◌, ◌≤◌, ◌⊎◌, inl, inr, List, [], ◌∷◌, ◌++◌, length, get_or, codes, refl, ap, ◌==◌, sym, subst, ◌∙◌, arith}
 use Rattle.std.proofs.Common.{Bool, true, false, cond, ◌||◌}
 use Rattle.std.specs.Prelude.{Option, Some, None, Result, Ok, Err, if◌then◌else◌}
@@ -32,7 +32,7 @@ fewest_most front = by (get_or front 0 0 == 114) (get_or front 6 0 == 102)
     by true false = omega arith
     by false f = omega arith
 
--- a byte that isn't 0 stays where more bytes come behind
+-- a byte that isn't 0 stays where more bytes come after it
 stays : (front rest : List ℕ) (i k : ℕ) → get_or front i 0 ≡ suc k → get_or (front ++ rest) i 0 ≡ suc k
 stays [] rest zero k e = cc
 stays [] rest (suc i) k e = cc
@@ -111,7 +111,7 @@ neither : (b : Bool) (x y : Result Record Reason) (r : Record) → (x ≡ Ok r �
 neither true x y r f g e = f e
 neither false x y r f g e = g e
 
--- a word stands behind the first
+-- a second word comes after the first one
 never_alone : (circuits : List Provisioned) (at : Pos) (first : List ℕ) (r : Record) → record_by circuits at first [] ≡ Ok r → ⊥
 never_alone circuits at first r e =
     let no = no_form reason.StepForm r in
@@ -126,7 +126,7 @@ never_alone circuits at first r e =
 
 -- ---- the words of a round
 
--- a word says what came on a side
+-- a word that says what came on a side has at least four bytes
 record IsCame (word : List ℕ) : Type 0 where
   pub long : 4 ≤ length word
   pub led : (get_or word 0 0 == 102) ≡ true → 5 ≤ length word
@@ -223,7 +223,7 @@ round_long line west east is w e = by (get_or line 6 0 == 102) refl
     by true h = omega (arith, round_fewest line true h, size, w.led (sym (ap (λ x. x == 102) seventh) ∙ h), e.long)
     by false h = omega (arith, round_fewest line false h, size, w.long, e.long)
 
--- the first word, and what stands behind the first space
+-- the first word, and what comes after the first space
 line_of : (line first second : List ℕ) (more : List (List ℕ)) → words line ≡ first ∷ second ∷ more
     → line ≡ first ++ 32 ∷ join_with_byte 32 (second ∷ more)
 line_of line first second more e = sym (join_with_byte-slice_split 32 line) ∙ ap (λ ws. join_with_byte 32 ws) e

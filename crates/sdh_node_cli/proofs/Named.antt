@@ -1,4 +1,4 @@
--- The circuit of a name, and words of which six are kept.
+-- The circuit of a name, and the words of a line, of which only the first six are read.
 use Rattle.std.proofs.Common.{◌≡◌, ℕ, ◌<◌, List, [], ◌∷◌, length, take, refl}
 use Rattle.std.specs.Prelude.{Some}
 use Rattle.std.specs.Str.{bytes_eq}

@@ -19,7 +19,7 @@ clash : (b : Bool) → b ≡ false → b ≡ true → ⊥
 clash true e f = cc
 clash false e f = cc
 
--- there is none
+-- the bytes have no newline byte
 one_more : (x : ℕ) (xs : List ℕ) (b : Bool) → (x == 10) ≡ b → (nat_lt (position_or_len is_newline xs) (length xs) ≡ false → IsOneLine xs)
     → nat_lt (cond (not b) (1 + position_or_len is_newline xs) 0) (suc (length xs)) ≡ false → IsOneLine (x ∷ xs)
 one_more x xs true e more h = absurd (grind arith)
@@ -36,7 +36,7 @@ missing false n e = refl
 pub one_line : (xs : List ℕ) → position (λ byte. byte == 10) xs ≡ None → IsOneLine xs
 one_line xs e = uncut xs (missing _ _ e)
 
--- there is one
+-- the bytes have a newline byte
 pub front_line : (xs : List ℕ) (i : ℕ) → position (λ byte. byte == 10) xs ≡ Some i → IsOneLine (take i xs)
 front_line xs i e =
     let h = position-Some is_newline xs i 0 e in
@@ -51,9 +51,9 @@ front_cut xs i e =
     drop-cons xs i 0 h.0 ∙ ap (λ x. x ∷ drop (suc i) xs) (eqb-true (get_or xs i 0) 10 h.1) in
     sym (take-append-drop i xs) ∙ ap (λ l. take i xs ++ l) behind ∙ sym (append_assoc (take i xs) (10 ∷ []) (drop (suc i) xs))
 
--- ---- what stands behind a line that came in parts
+-- ---- what was read after a line that came in parts
 
--- No more than these bytes were asked for once the first part had come: few stand behind the line.
+-- At most `count` bytes were asked for once the first part of a line had come, so few bytes come after the line.
 pub few_behind : (before part more : List ℕ) (count : ℕ) → length (whole_line part ++ more) ≤ count
     → (count + length before ≤ fewest before) ⊎ (count ≡ 1) → IsBehind (before ++ part) more
 few_behind before part more count all (inl few) =

@@ -1,4 +1,4 @@
--- Records that were done, one after the other, and one more.
+-- Records that were done one after the other, with one more record.
 use Rattle.std.proofs.Common.{◌≡◌, ◌≢◌, ℕ, ◌+◌, ◌<◌, inl, inr, List, [], ◌∷◌, ◌++◌, length, refl, ap, sym, subst, ◌∙◌, arith, append_assoc, append-nil}
 use Rattle.std.specs.Prelude.{Option, Some, None}
 use Rattle.std.specs.Io.KnownBytes.{Appends, Consumes, Keeps}
@@ -87,7 +87,7 @@ halts b (stop.Bad f) left now old_text new_text not s = s
 halts b stop.ReadFault left now old_text new_text not s = s
 halts b stop.WriteFault left now old_text new_text not s = absurd (not refl)
 
--- the records so far, and why there was no other
+-- the records so far, and why there were no more
 pub served_by : (first b : Bench) (left mid now old_text mid_text new_text : Option (List ℕ)) (count : ℕ) (why : Stop) → count < records_max
     → Went first b left mid old_text mid_text count → why ≢ stop.WriteFault → StopsBy b why mid now mid_text new_text
     → (text : List ℕ) × Served first [] left now (count + 1) why text × Appends old_text new_text text
@@ -120,7 +120,7 @@ cut_by first b left mid now old_text mid_text new_text count w f = record {
       (fewer_behind old_text mid_text new_text (answers first w.records) (answer f.given b) w.wrote f.front);
 }
 
--- as many records were done as may be
+-- the most records that may be done were done
 pub served_all : (first b : Bench) (left now old_text new_text : Option (List ℕ)) (count number : ℕ) → count ≡ records_max → number ≡ count + 1
     → Went first b left now old_text new_text count
     → (text : List ℕ) × Served first [] left now number (stop.Bad flaw.Many) text × Appends old_text new_text text

@@ -42,7 +42,7 @@ refused_shown left now status.NotToml h = refl
 refused_shown left now (status.BadPlan number place) h = refl
 refused_shown left now how h = absurd h
 
--- so is the refusal of a stream that has no plan
+-- where no write failed, the refusal of a stream without a plan is shown too
 pub none_shown : (left now : Option (List ℕ)) (why : NoHead) (how : Ending) → TellsNone left now why → Some how ≡ refusal_of why
     → IsShown bench_endings how
 none_shown left now nohead.Memory how h is = absurd (none_some is)
@@ -74,7 +74,7 @@ tells_end may cut how end first line old mid new shown is before (inr (fault, fe
     subst (λ (h : Ending). TellsWith bench_endings may cut h old new) (sym fault)
     (inl (how, first ++ line, is, fewer_behind old mid new first line before few))
 
--- the last line is all of it
+-- the last line is the whole text
 pub tells_line : (may : Ending → List ℕ → Type 0) (cut : Type 0) (how end : Ending) (line : List ℕ) (old new : Option (List ℕ))
     → IsShown bench_endings how → may how line → WroteEnding bench_endings how line end old new → TellsWith bench_endings may cut end old new
 tells_line may cut how end line old new shown is wrote = tells_end may cut how end [] line old old new shown is (Appends-nil old) wrote
@@ -162,14 +162,14 @@ tells_refusal ask left now why how end old new none is shown wrote =
     tells_line (λ h text. IsOutcome (Some ask) left now h text) (MayBeCut (Some ask) left now old new) how end (line_of how) old new shown
     (inl (record { why = why; none = none; how_is = is; text_is = refl })) wrote
 
--- the words had none of the forms that there are
+-- the words have none of the two forms
 pub tells_usage : (left : Option (List ℕ)) (end : Ending) (old new : Option (List ℕ))
     → WroteEnding bench_endings (ending.Shared status.Usage) (own_line usage) end old new → Tells None left left end old new
 tells_usage left end old new wrote =
     tells_line (λ h text. IsOutcome None left left h text) (MayBeCut None left left old new) (ending.Shared status.Usage) end (own_line usage)
     old new refl (refl, refl, refl) wrote
 
--- what was written with an ending is what was to be written with an equal one
+-- an ending and its line may be replaced by equal ones
 pub wrote_line : (said how end : Ending) (bytes line : List ℕ) (old new : Option (List ℕ)) → said ≡ how → bytes ≡ line
     → WroteEnding bench_endings said bytes end old new → WroteEnding bench_endings how line end old new
 wrote_line said how end bytes line old new same is wrote =
@@ -191,7 +191,7 @@ of_served ask plan at b left now number why told found is served =
       text_is = refl;
     })
 
--- a write failed while they were
+-- a write failed while records were done for the node
 pub cut_of : (ask : Ask) (plan : Planned) (at : Pos) (b : Bench) (left now old new : Option (List ℕ)) → found_at plan.nodes ask.id ≡ Some at
     → b ≡ new_bench ask.mode ask.id at plan → CutShort b [] left now old new
     → TellsPlanned ask plan [] left now (ending.Shared status.WriteFault) old new

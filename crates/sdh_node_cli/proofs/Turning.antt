@@ -60,7 +60,7 @@ round_rounds now n = refl
 abbrev came_node : Came → List ℕ → Came → List ℕ → Bench → Node
 came_node west w east e b = after_coming East east e (after_coming West west w b.node)
 
--- a record leaves the settings and the circuits, and at most one round more was run
+-- a record leaves the settings and the circuits, and runs at most one round
 pub after_settings : (g : Given) (b : Bench) → (after g b).node.settings ≡ b.node.settings
 after_settings g b = by g.record_is
   where
@@ -135,7 +135,7 @@ west_part b west east (stop.Bad flaw.Many) left now p = absurd p
 west_part b west east stop.Done left now p = absurd p
 west_part b west east stop.WriteFault left now p = absurd p
 
--- what came from the east was
+-- what came from the east was cut off
 pub east_part : (b c : Bench) (west east : Came) (why : Stop) (left mid now : Option (List ℕ)) (w : List ℕ)
     → Takes b west left mid w → c ≡ record b { node = after_coming West west w b.node }
     → TakesPart (size_after c.node.settings.rate east) mid now why → TakesPart (both_sizes b west east) left now why
@@ -188,7 +188,7 @@ part_stops b west east (stop.Bad flaw.Many) left now text p = absurd p
 part_stops b west east stop.Done left now text p = absurd p
 part_stops b west east stop.WriteFault left now text p = absurd p
 
--- a node over which both came has run as many rounds, and its answer needs as much room
+-- after what came on both sides was kept, the number of rounds and the room for an answer are as before
 pub both_stay : (b d : Bench) (west east : Came) (left now : Option (List ℕ)) → TakesBoth b d west east left now
     → (d.node.rounds ≡ b.node.rounds) × (room_for d ≡ room_for b)
 both_stay b d west east left now both =
@@ -227,14 +227,14 @@ goes_told b new line t left now text l may is = record {
   bench = is;
 }
 
--- ---- where no record more is done
+-- ---- where no more records are done
 
 -- a line that can't be done
 refused_line : (b : Bench) (line more : List ℕ) (why : Reason) → IsLine line → IsRefusedFor b line why → IsBehind line more
     → {tail : List ℕ} → whole_line line ++ more ≡ tail → IsRefused b why tail
 refused_line b line more why is refused few e = record { line = line; more = more; tail_is = sym e; line_is = is; refused = refused; few = few }
 
--- a line that is a record's: nothing was read behind it
+-- where a line is that of a record, nothing was read after it
 pub has_line : (b : Bench) (line : List ℕ) (r : Record) (left now : Option (List ℕ)) → ReadsLine line left now
     → record_of b.circuits b.at line ≡ Ok r → HasLine b line r left now
 has_line b line r left now l reads =
@@ -249,7 +249,7 @@ has_line b line r left now l reads =
     no_bytes [] e = refl
     no_bytes (x ∷ bytes) e = absurd (omega arith)
 
--- a line that is none
+-- a line that is no record
 pub no_record : (b : Bench) (line : List ℕ) (why : Reason) (left now : Option (List ℕ)) → ReadsLine line left now
     → record_of b.circuits b.at line ≡ Err why → Halts b (stop.Bad (flaw.Said why)) left now
 no_record b line why left now l reads =
@@ -323,7 +323,7 @@ round_stops b line west east (stop.Bad flaw.Long) left mid now old_text new_text
 round_stops b line west east (stop.Bad flaw.Many) left mid now old_text new_text l s = absurd s.0
 round_stops b line west east stop.Done left mid now old_text new_text l s = absurd s.0
 
--- ---- what telling answers
+-- ---- the result of telling the node something
 
 pub unless_ok : (o : Option Reason) (r : Result (Unit {0}) Reason) → r ≡ unless o tt → r ≡ Ok tt → o ≡ None
 unless_ok None r is e = refl

@@ -1,4 +1,4 @@
--- The bytes of a stream tell its records.
+-- The bytes of a stream determine its records.
 use Rattle.std.proofs.Common.{◌≡◌, ◌≢◌, ℕ, ◌≤◌, List, [], ◌∷◌, ◌++◌, length, drop, get_or, refl, ap, sym, subst, ◌∙◌, arith, ◌⊎◌, inl, inr, append_assoc}
 use Rattle.std.specs.Prelude.{Option, Some, None, Result, Ok, Err}
 use Rattle.std.proofs.lemmas.List.{length-append}
@@ -20,7 +20,7 @@ use Rattle.sdh_node_cli.specs.Laws.{RecordsAreTold}
 
 -- ---- fronts of bytes
 
--- two lines, and what stands behind their newline bytes
+-- two lines, and what comes after their newline bytes
 lines_same : (l m xs ys : List ℕ) → IsOneLine l → IsOneLine m → l ++ 10 ∷ xs ≡ m ++ 10 ∷ ys → (l ≡ m) × (xs ≡ ys)
 lines_same [] [] xs ys a b e = (refl, ap (λ s. drop 1 s) e)
 lines_same [] (y ∷ m) xs ys a b e = absurd (All-head (λ byte. byte ≢ 10) y m b (sym (ap (λ s. get_or s 0 0) e)))
@@ -31,7 +31,7 @@ lines_same (x ∷ l) (y ∷ m) xs ys a b e =
     let rest : (l ≡ m) × (xs ≡ ys) = lines_same l m xs ys (All-tail one x l a) (All-tail one y m b) (ap (λ s. drop 1 s) e) in
     (ap (λ z. z ∷ l) head ∙ ap (λ s. y ∷ s) rest.0, rest.1)
 
--- a line without its newline byte has no whole line for its front
+-- a line without its newline byte doesn't begin with a whole line
 never_whole : (l xs tail : List ℕ) → IsOneLine tail → l ++ 10 ∷ xs ≡ tail → ⊥
 never_whole l xs tail one e =
     All-get_or (λ byte. byte ≢ 10) tail (length l) 0 (omega (arith, ap length e, length-append l (10 ∷ xs))) one
@@ -67,7 +67,7 @@ parts_same g h a b c d =
     ap (λ (w : List ℕ). record g { line = h.line; record_is = h.record_is; west = w }) c in
     first ∙ second ∙ third ∙ ap (λ (e : List ℕ). record h { east = e }) d
 
--- two records with what stands behind them
+-- two records, and what comes after them
 given_same : (b : Bench) (g h : Given) (x y : List ℕ) → IsGiven b g → IsGiven b h → bytes_of g ++ x ≡ bytes_of h ++ y → (g ≡ h) × (x ≡ y)
 given_same b g h x y p q e =
     let rate = b.node.settings.rate in
@@ -90,7 +90,7 @@ none_some o why p q = cc
 ok_err : (x : Result Record Reason) (r : Record) (why : Reason) → x ≡ Ok r → x ≡ Err why → ⊥
 ok_err x r why p q = cc
 
--- less than a record
+-- a part of a record isn't a record and what comes after it
 no_part : (b : Bench) (g : Given) (x tail : List ℕ) → IsGiven b g → IsCutFrame b tail → bytes_of g ++ x ≡ tail → ⊥
 no_part b g x tail p f e =
     let rate = b.node.settings.rate in
@@ -114,7 +114,7 @@ no_line : (b : Bench) (g : Given) (x tail : List ℕ) → IsOneLine tail → byt
 no_line b g x tail one e =
     never_whole g.line ((g.west ++ g.east) ++ x) tail one (sym (opened g.line (g.west ++ g.east) x) ∙ e)
 
--- one that can't be done
+-- a record that can't be done isn't a record that can and what comes after it
 no_refused : (b : Bench) (g : Given) (x tail : List ℕ) (why : Reason) → IsGiven b g → IsRefused b why tail → bytes_of g ++ x ≡ tail → ⊥
 no_refused b g x tail why p n e = by n.refused
   where
@@ -130,7 +130,7 @@ no_refused b g x tail why p n e = by n.refused
     by (inr (r, ok, refused)) =
         none_some (refusal b g.record_is) why p.said.may (ap (refusal b) (reads_same b g.line line g.record_is r same p.said.reads ok) ∙ refused)
 
--- what was read where no record more was done
+-- what was read where no more records were done doesn't begin with a record that can be done
 no_stop : (b : Bench) (g : Given) (x tail : List ℕ) (why : Stop) (now : Option (List ℕ)) → IsGiven b g → StopsSo b why tail now
     → bytes_of g ++ x ≡ tail → ⊥
 no_stop b g x tail stop.Done now p s e =
@@ -165,7 +165,7 @@ given_first b g h gs hs x y p q e =
     given_same b g h (stream_of gs ++ x) (stream_of hs ++ y) p.0 q.0
     (sym (append_assoc (bytes_of g) (stream_of gs) x) ∙ e ∙ append_assoc (bytes_of h) (stream_of hs) y)
 
--- as many records on both sides
+-- where there are as many records on both sides, they are equal
 same_long : (b : Bench) (gs hs : List Given) (x y : List ℕ) → AreGiven b gs → AreGiven b hs → length gs ≡ length hs
     → stream_of gs ++ x ≡ stream_of hs ++ y → (gs ≡ hs) × (x ≡ y)
 same_long b [] [] x y p q n e = (refl, e)
@@ -177,7 +177,7 @@ same_long b (g ∷ gs) (h ∷ hs) x y p q n e =
     same_long (after g b) gs hs x y p.1 (subst (λ z. AreGiven (after z b) hs) (sym first.0) q.1) (omega arith) first.1 in
     (ap (λ z. z ∷ gs) first.0 ∙ ap (λ zs. h ∷ zs) rest.0, rest.1)
 
--- where no record more was done on one side, there aren't more on the other
+-- where no more records were done on one side, there aren't more on the other
 no_more : (b : Bench) (gs hs : List Given) (x y : List ℕ) (why : Stop) (now : Option (List ℕ)) → AreGiven b gs → AreGiven b hs
     → StopsSo (after_all b gs) why x now → stream_of gs ++ x ≡ stream_of hs ++ y → length hs ≤ length gs
 no_more b gs [] x y why now p q s e = omega arith

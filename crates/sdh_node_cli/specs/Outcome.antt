@@ -48,19 +48,15 @@ pub record HasNoHead (left now : Option (List ℕ)) (bytes : List ℕ) : Type 0 
   pub none : HasNoEnd bytes
   pub read : Consumes left now bytes
 
-<<<<<<< HEAD
--- a document was read, and it is refused with this status
-=======
--- What was read of a document and the line that ends it, and why no more: both were read whole, and nothing behind
--- them; the source has ended before; or there is no room for more.
+-- What was read of a document and the line that ends it, and why no more was read. Both were read whole, and nothing
+-- after them; or the source ended before that; or there was no room for more.
 abbrev pub TakesHead : Option (List ℕ) → Option (List ℕ) → List ℕ → HeadEnd → Type 0
 TakesHead left now bytes end.Whole =
     (document : List ℕ) × (bytes ≡ document ++ end_of_plan) × IsDocument document × Consumes left now bytes
 TakesHead left now bytes end.Ended = HasNoHead left now bytes × IsAtEnd now
 TakesHead left now bytes end.Full = HasNoHead left now bytes
 
--- a document, which is refused with this status
->>>>>>> 147dd59813570268c9857a4f06828822dfc23e00
+-- a document was read, and it is refused with this status
 pub record HasBadHead (left now : Option (List ℕ)) (how : Status) : Type 0 where
   pub document : List ℕ
   pub first : IsDocument document

@@ -37,8 +37,8 @@ fn put_port(text: &mut Text, node: &Adm, outlets: &Outlets, circuit: &Circuit, p
     text.port_line(circuit.name(), port.end, outlet.delivered(), outlet.value());
 }
 
-/// Appends the lines of the ports that are at the node, in the order of the circuits. `outlets` has what all these ports
-/// delivered.
+/// Appends the lines of the ports that are at the node, in the order of the circuits, each at most 96 bytes. `outlets`
+/// has what these ports delivered in the last round.
 pub fn put_ports(text: &mut Text, node: &Adm, outlets: &Outlets, at: Pos, circuits: &CircuitMap)
     requires there { (port : PortId) → IsOwn circuits.now.circuits at port → HasPort node.now.ports port }
     requires outlets { outlets.now ≡ outlets_of node.now.ports }
@@ -54,7 +54,7 @@ pub fn put_ports(text: &mut Text, node: &Adm, outlets: &Outlets, at: Pos, circui
     }
 }
 
-/// Appends the line of what the node shows since a round.
+/// Appends the line of what the node shows after a round.
 pub fn put_shown(text: &mut Text, node: &Adm, round: u64, id: u8)
     requires room { 128 ≤ text.old.room }
     ensures bytes { text.new.bytes ≡ text.old.bytes ++ signal_line round id (shown_of node.now) }
@@ -64,7 +64,7 @@ pub fn put_shown(text: &mut Text, node: &Adm, round: u64, id: u8)
     signal_line(text, round, id, &shown_of(node));
 }
 
-// Appends the line that says how many bytes follow.
+// Appends the line that gives the number of bytes that follow.
 fn put_count(text: &mut Text, count: usize)
     requires { length (count_line count) ≤ text.old.room }
     ensures { text.new ≡ with_part text.old (count_line count) }
@@ -74,7 +74,7 @@ fn put_count(text: &mut Text, count: usize)
     text.put(b"\n");
 }
 
-// Appends the number of bytes of two frames, and the frames.
+// Appends the line with the number of bytes of both frames together, and then the frames, the one to the west first.
 #[tactic(auto, unfolding(crate::specs::Bench::frames_text))]
 fn put_frames(text: &mut Text, west: &FrameBuf, east: &FrameBuf)
     requires room { 32 + size_of west.now.rate + size_of east.now.rate ≤ text.old.room }

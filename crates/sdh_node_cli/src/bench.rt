@@ -28,8 +28,8 @@ use sdh_terminal::{Outlets, TakenPair};
 use std::alloc::{AllocError, Global};
 use std::marker::Model;
 
-/// A node of a plan's ring, with the present moment, the circuits, how many rounds it has run, and room for a frame of
-/// each side and for what its ports deliver.
+/// One node of a plan's ring, with the present moment, the circuits, the number of rounds it has run, and room for a
+/// frame of each side and for what its ports deliver.
 #[derive(Drop)]
 pub struct Bench {
     mode: Mode,
@@ -88,14 +88,14 @@ impl Bench {
         })
     }
 
-    /// Returns how many bytes are room enough for an answer.
+    /// Returns a number of bytes in which every answer has room.
     pub fn answer_room(&self) -> usize
         ensures { result ≡ answer_room self.now.node.settings.rate (length self.now.circuits) }
     {
         128 + 96 * self.circuits.len() + 32 + 2 * self.west.bytes().len()
     }
 
-    /// Returns the record that a line is, or the reason of the first check of its words that fails.
+    /// Returns the record that a line is for this node, or the reason for which the first check of its words fails.
     pub fn record_of(&self, line: &[u8]) -> Result<Record, Reason>
         ensures is { result ≡ record_of self.now.circuits self.now.at line.now }
         ensures form { IfOk result (IsRecord self.now.circuits self.now.at) }
@@ -103,7 +103,8 @@ impl Bench {
         record_of(&self.circuits, self.at, line)
     }
 
-    /// Does what is told to the node, or returns why it can't be done, and changes nothing then.
+    /// Gives the node what a record gives it: a command, a moment, held rounds or slips. Returns the reason where that
+    /// can't be done, and changes nothing then.
     #[tactic(auto, unfolding(crate::specs::Bench::refusal_of, crate::specs::Bench::after_told))]
     pub fn tell(&mut self, told: Told) -> Result<(), Reason>
         requires { IsTold self.old.circuits self.old.at told }
@@ -138,7 +139,8 @@ impl Bench {
         self.node.receive(side, Arrived::Dark, &self.west);
     }
 
-    /// Takes a frame from a source, and keeps it for the next round.
+    /// Reads a frame of a side from a source, and keeps it for the next round. Returns `Cut` where the source ends
+    /// within it, and `ReadFault` where a read fails.
     #[tactic(auto, unfolding(crate::specs::Bench::after_coming))]
     pub fn take_frame<R: Source>(&mut self, source: &mut R, side: Side) -> Result<(), Stop>
         ensures ok { OnOk result ((bytes : List ℕ) × (length bytes ≡ size_of self.old.node.settings.rate)

@@ -20,7 +20,7 @@ const HEAD_MAX: usize = 1_048_588;
 /// Why there is no plan.
 #[derive(Clone, Copy)]
 pub enum NoHead {
-    /// There was no memory.
+    /// Memory ran out.
     Memory,
     /// The stream ended before the line that ends a plan.
     Cut,
@@ -28,18 +28,18 @@ pub enum NoHead {
     Refused(Status),
 }
 
-/// Why no more of it was read.
+/// Why no more of the plan was read.
 #[derive(Clone, Copy)]
 enum HeadEnd {
     /// The line that ends it was read.
     Whole,
     /// The source has ended.
     Ended,
-    /// As many bytes were read as may be.
+    /// The most bytes that may be read were read.
     Full,
 }
 
-// Returns whether a document and the line that ends it are these bytes.
+// Returns whether these bytes are a document and then the line that ends it.
 fn ends_plan(bytes: &[u8]) -> bool
     ensures { IsTrue result ↔ EndsPlan bytes.now }
 {
@@ -78,7 +78,7 @@ fn document_of(bytes: &[u8]) -> &[u8]
     &bytes[..bytes.len() - END_OF_PLAN.len()]
 }
 
-// Returns the plan of a document.
+// Returns the plan that a document is.
 fn plan_of(alloc: Global, document: &[u8]) -> Result<Plan, NoHead>
     requires { length document.now ≤ 1048576 }
     ensures plan { IfOk result (TellsPlan document.now) }
@@ -95,7 +95,8 @@ fn plan_of(alloc: Global, document: &[u8]) -> Result<Plan, NoHead>
     }
 }
 
-/// Returns the plan with which a stream begins. No byte after the line that ends it is read.
+/// Returns the plan with which a stream begins, or why there is none. No byte after the line that ends the plan is
+/// read.
 pub fn plan_in<R: Source>(alloc: Global, source: &mut R) -> Result<Plan, NoHead>
     ensures plan { IfOk result (λ plan. HasHead (R.left source.old) (R.left source.new) plan) }
     ensures refused { IfErr result (TellsNone (R.left source.old) (R.left source.new)) }

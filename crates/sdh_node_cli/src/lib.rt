@@ -1,9 +1,9 @@
-//! The one call of the program `sdhnode`: from the words and a source of bytes to an ending and a text. The source has
-//! a plan and then records, and one node of the plan's ring runs over them, round by round. What it shows, delivers and
-//! sends in a round is written before more is read.
+//! The one call of the program `sdhnode`: from the words of the command line and a source of bytes to an ending and a
+//! text. The source has a plan and then records. One node of the plan's ring runs over the records, round by round.
+//! What it shows and delivers in a round, and with the word `frames` what it sends, is written before more is read.
 //!
-//! Which record a line is says `specs/Records.antt`, what it does with the node `specs/Bench.antt`, which bytes a
-//! stream of records has `specs/Streams.antt`, and what a call comes to `Tells` in `specs/Outcome.antt`.
+//! `specs/Records.antt` defines the record of a line, `specs/Bench.antt` what it does with the node, and
+//! `specs/Streams.antt` the bytes of a stream of records. `Tells` in `specs/Outcome.antt` defines what a call leads to.
 #![tactic(auto)]
 
 ghost use Rattle.sdh_node_cli.specs.Laws.{RecordsAreLong, RecordsAreTold};
@@ -23,14 +23,14 @@ mod words;
 pub use ending::{Ending, Flaw};
 pub use top::sdhnode;
 
-/// The bytes that were read tell which records were done: there is no other way to read them. So what is written is
-/// determined by what was read.
+/// The bytes that were read determine which records were done. So what is written is determined by what was read. The
+/// function does nothing: its contract is the law.
 pub fn records_are_told()
     ensures { RecordsAreTold }
 {}
 
-/// A record has at least as many bytes as are asked for once a part of its line has come. So no byte behind a record is
-/// asked for before the record is done.
+/// Once a part of a line has come, the program asks for no more bytes than every record that begins so still has. So no
+/// byte after a record is asked for before the record is done. The function does nothing: its contract is the law.
 pub fn records_are_long()
     ensures { RecordsAreLong }
 {}

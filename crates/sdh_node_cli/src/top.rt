@@ -29,7 +29,7 @@ use sdh_report::{LINE_MAX, Status, Text};
 use sdh_shell::{EndedText, ended, write_ended};
 use std::alloc::{AllocError, Global};
 
-// Returns how the program ends where no record more was done.
+// Returns how the program ends where no more records were done.
 fn ending_of(stopped: Stopped) -> Ending
     ensures { result ≡ ending_of stopped.stop stopped.number }
 {
@@ -41,7 +41,7 @@ fn ending_of(stopped: Stopped) -> Ending
     }
 }
 
-// Returns how the program ends where there is no plan; with a lack of memory there is no outcome.
+// Returns how the program ends where there is no plan, or `None` where memory ran out.
 fn refusal_of(why: NoHead) -> Option<Ending>
     ensures { result ≡ refusal_of why }
 {
@@ -52,8 +52,8 @@ fn refusal_of(why: NoHead) -> Option<Ending>
     }
 }
 
-// Runs a new node over the records of a source, and writes its answers and the last line, for which the text is room.
-// Returns how it ended.
+// Runs a new node over the records of a source, and writes its answers and the last line. `text` is the room for that
+// line. Returns how the program ended.
 fn answer_records<R: Source, W: Sink>(
     alloc: Global,
     bench: &mut Bench,
@@ -82,7 +82,8 @@ fn answer_records<R: Source, W: Sink>(
     }
 }
 
-// Finds the node that is asked for in a plan's ring, and runs it over the records of a source. Returns how it ended.
+// Finds the node that is asked for in a plan's ring, and runs it over the records of a source. Returns how the program
+// ended.
 fn answer_plan<R: Source, W: Sink>(
     alloc: Global,
     plan: Plan,
@@ -107,7 +108,7 @@ fn answer_plan<R: Source, W: Sink>(
     answer_records(alloc, &mut bench, text, source, sink)
 }
 
-// Returns what is asked for, with the stream that a source has.
+// Does what is asked for with the stream of a source. Returns how the program ended.
 fn answer<R: Source, W: Sink>(
     alloc: Global,
     ask: Ask,
@@ -134,7 +135,7 @@ fn answer<R: Source, W: Sink>(
     }
 }
 
-// Writes how the program is called, and returns that ending, or a write fault.
+// Writes how the program is called. Returns `Usage`, or `WriteFault` where the write fails.
 fn usage<W: Sink>(alloc: Global, sink: &mut W) -> Result<Ending, AllocError>
     ensures wrote { IfOk result
         (λ how. WroteEnding bench_endings (Ending.Shared Status.Usage) (own_line usage) how (W.written sink.old) (W.written sink.new)) }
@@ -148,19 +149,19 @@ fn usage<W: Sink>(alloc: Global, sink: &mut W) -> Result<Ending, AllocError>
     Ok(write_ended(sink, EndedText { ending, text }))
 }
 
-/// Does all that the program does, and returns how it ended. With the identifier of a node it reads a plan from the
-/// source, up to the line that ends it, and then records. A record gives the node a command, the present moment, held
-/// turns or slips, or it runs a round over what came on both sides. For each round it writes what the node shows and
+/// Runs the whole program, and returns how it ended. With the identifier of a node it reads a plan from the source, up
+/// to the line that ends it, and then records. A record gives the node a command, the present moment, held rounds or
+/// slips, or it runs a round over what came on both sides. For each round the program writes what the node shows and
 /// what its ports deliver, and with the word `frames` the frames that leave it, before it reads on. The last line says
-/// how it ended.
+/// how the program ended.
 pub fn sdhnode<R: Source, W: Sink>(
     alloc: Global,
     words: &[String],
     source: &mut R,
     sink: &mut W,
 ) -> Ending
-    // The ending, what was read, and what was written: the answers that the definitions give for exactly the records
-    // that were read.
+    // `Tells` relates the ending, what was read and what was written. What was written is the answers that the
+    // definitions give for exactly the records that were read.
     ensures outcome { Tells (asked (words_of words.now)) (R.left source.old) (R.left source.new) result (W.written sink.old)
         (W.written sink.new) }
 
