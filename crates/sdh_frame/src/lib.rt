@@ -45,7 +45,7 @@ pub enum Field {
     /// The other unscrambled bytes of row 1.
     Fixed,
     B1,
-    /// The byte of BIP-24N of this number, 0 to 3N - 1.
+    /// A byte of the BIP-24N, by its number, 0 to 3N - 1.
     B2(u16),
     K1,
     K2,

@@ -90,8 +90,8 @@ impl Adm {
         self.cross.command(side, command);
     }
 
-    /// Holds the controller for the next `turns` rounds, 1 to 100, in place of those left of an earlier call. In a held
-    /// round the node keeps its state and the words that it sends, and does everything else.
+    /// Holds the controller for the next `turns` rounds, 1 to 100. Rounds left of an earlier call no longer count. In a
+    /// held round the node keeps its state and the words that it sends, and does everything else.
     pub fn hold(&mut self, turns: u32)
         requires some { 1 ≤ turns }
         requires few { turns ≤ 100 }

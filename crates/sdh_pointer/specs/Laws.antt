@@ -165,8 +165,9 @@ abbrev pub IsInStep : Option ℕ → Reading → Type 0
 IsInStep None r = r.mode ≡ mode.Ais
 IsInStep (Some g) r = (r.mode ≡ mode.Norm) × (r.value ≡ g) × (g ≤ 782)
 
--- an action and the value after it go on from what the generator sends: Normal keeps its value, and Up and Down change
--- it by one step, where the interpreter after it reads justifications; New is always possible, Ais only after Ais
+-- An action, with the value v, may follow what the generator sends. Normal keeps the value that is sent. Up and Down
+-- change it by one step, and only where the next interpreter reads justifications. New may always follow, and Ais only
+-- follows Ais.
 abbrev pub GoesOn : Option ℕ → Action → ℕ → Reading → Type 0
 GoesOn s action.New v r = Unit {0}
 GoesOn (Some g) action.Normal v r = v ≡ g
@@ -190,9 +191,10 @@ ReadsWhatIsSent =
 
 -- ---- from span to span
 
--- What happens in round t, h spans after the source. A generator in the given state is given the action and any value
--- that it may have. It sends the given word and goes into the state of the next round. One round later the interpreter
--- after it reads that word, and answers and keeps what is given.
+-- What happens in round t, h spans after the source. The generator there is in the state `sending_over` and is given
+-- the action `action_over`, with any value that can go with it. It sends `word_over`, and its state becomes that of the
+-- next round. One round later the interpreter over the next span reads that word. Its answer is then the `action_over`
+-- of that place and round, and what it keeps is the `reading_over` before the next round.
 pub record SpreadsOver (o : Option ℕ) (h t : ℕ) : Type 0 where
   pub sending : (u : ℕ) → IsValueOver o h t u → next_sending (sending_over o h t) (action_over o h t) u ≡ sending_over o h (t + 1)
   pub word : (u : ℕ) → IsValueOver o h t u → word_sent (sending_over o h t) (action_over o h t) u ≡ word_over o h t

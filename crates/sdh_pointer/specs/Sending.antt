@@ -9,8 +9,9 @@ use Rattle.sdh_pointer.specs.declared.word.Form.{Form}
 use Rattle.sdh_pointer.specs.declared.word.Form.TheVariants as form
 use Rattle.sdh_pointer.specs.Words.{word_of, one_up, one_down}
 
--- The states and inputs of the rows: AIS in any state; where the generator sends g, Normal with g, Up with the value
--- after g and Down with the value before g; and any other.
+-- The states and inputs of the rows. The first row is for the action Ais in any state. The next three are for a
+-- generator that sends the value g: Normal with g, Up with one step more than g, and Down with one step less. The last
+-- row is for all others.
 abbrev pub is_ais_input : Option ℕ → Action → ℕ → Bool
 is_ais_input s action.Ais v = true
 is_ais_input s _ v = false

@@ -20,8 +20,8 @@ abbrev pub action_over : Option ℕ → ℕ → ℕ → Action
 action_over None h t = action.Ais
 action_over (Some v) h t = if nat_lt t h then action.Ais else if nat_le 1 h && (t == h) then action.New else action.Normal
 
--- u may be the value that goes with the action in round t, h spans after the source: any before round h, and then the
--- source's
+-- The value u can go with the action in round t, h spans after the source. From round h on only the source's value can,
+-- if it sends one. Otherwise every value can.
 abbrev pub IsValueOver : Option ℕ → ℕ → ℕ → ℕ → Type 0
 IsValueOver None h t u = Unit {0}
 IsValueOver (Some v) h t u = h ≤ t → u ≡ v

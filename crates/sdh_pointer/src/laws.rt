@@ -13,7 +13,8 @@ pub fn each_input_has_one_row()
     ensures { EachInputHasOneRow }
 {}
 
-/// The answer is `Ais` exactly where the mode after the step isn't `Norm`.
+/// An interpreter answers a word with an action. The answer is `Ais` exactly where the mode after the step isn't
+/// `Norm`.
 pub fn answer_tells_mode()
     ensures { AnswerTellsMode }
 {}
@@ -83,7 +84,8 @@ pub fn repeated_words_rest()
     ensures { RepeatedWordsRest }
 {}
 
-/// Where a source sends one value from round 0 on, each generator and interpreter on its way is known in each round.
+/// Where a source sends one value from round 0 on, it is known what each generator and each interpreter that the value
+/// passes keeps and sends in each round.
 pub fn values_spread()
     ensures { ValuesSpread }
 {}

@@ -24,8 +24,8 @@ abbrev pub went_by : ℕ → List Happening → List Happening
 went_by zero history = history
 went_by (suc k) history = went ∷ went_by k history
 
--- what happened at a port before round t of these stretches, after a history; after the last stretch rounds run without
--- changes
+-- The history of a port before round t of these stretches, where `history` is what it was before the first of them.
+-- Once the last stretch is over, rounds go on without changes.
 abbrev pub happened_in : PortId → List Stretch → List Happening → ℕ → List Happening
 happened_in port [] history t = went_by t history
 happened_in port (s ∷ ss) history t =

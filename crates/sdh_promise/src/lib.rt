@@ -1,7 +1,7 @@
-//! What a plan's reports owe to its customers, over definitions alone. `specs/Changes.antt` has what a script says of a
-//! ring. `specs/Sides.antt` and `specs/Happened.antt` have what happened at its sides and ports. `specs/Owed.antt` says
-//! what each report owes, and `specs/Plans.antt` says it of a plan. Each function here has a law as its contract and no
-//! work to do.
+//! What a plan's reports have to show to its customers, in short what they owe. This crate has definitions of it, and
+//! no code that runs. `specs/Changes.antt` has what a script says of a ring. `specs/Sides.antt` and
+//! `specs/Happened.antt` have what happened at its sides and ports. `specs/Owed.antt` says what each report owes, and
+//! `specs/Plans.antt` says it of a plan. Each function here has a law as its contract and no work to do.
 #![tactic(auto)]
 
 ghost use Rattle.sdh_promise.specs.Laws.{ReportsGoOn, ReportsRemember, SidesAreTold, PortsAreTold, OwedByTheOther};
@@ -12,7 +12,7 @@ pub fn reports_go_on()
     ensures { ReportsGoOn }
 {}
 
-/// The first two reports of a script show what is owed by all that happened before them.
+/// The first two reports of a script show what is owed. All that happened before a report decides what that is.
 pub fn reports_remember()
     ensures { ReportsRemember }
 {}

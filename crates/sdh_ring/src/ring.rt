@@ -79,8 +79,9 @@ impl Ring {
         ensures whole { IfOk result (λ ring. (f : Fibres) → IsHonest f → IsWhole (world ring (prepared settings.rate (length map) f))) }
 
         // A new ring is vouched for (`IsVouched`), whatever the clocks of its ports will be. In such a ring each AU-4
-        // under way holds ones, or what one port sent. In a working slot that is a port of the circuit in that slot,
-        // and in a protection slot a port of the circuit that the frame's K word speaks of.
+        // under way holds ones, or what one port sent. In a working slot that is a port of the circuit in that slot. In
+        // a protection slot it is a port of the circuit that is looped over it. That circuit has the working slot of
+        // the same number on the span beside the source of the frame's long K word.
         ensures vouched { IfOk result (λ ring. (f : Fibres) (clocks : PortId → ℕ → Clock) → IsHonest f
             → IsVouched clocks (world ring (prepared settings.rate (length map) f))) }
     {
@@ -110,9 +111,9 @@ impl Ring {
         self.running.command(at, side, command);
     }
 
-    /// Holds the controller of a node for the next `turns` rounds, in place of those left of an earlier call. Where the
-    /// node is idle or isolated, the ring stays vouched for (`IsVouched`). Where the node is switched or passes traffic
-    /// through, the ring isn't vouched for while the node is held.
+    /// Holds the controller of a node for the next `turns` rounds. Rounds that are left of an earlier call no longer
+    /// count. Where the node is idle or isolated, the ring stays vouched for (`IsVouched`). Where the node is switched
+    /// or passes traffic through, the ring isn't vouched for while the node is held.
     pub fn hold(&mut self, at: Pos, turns: u32)
         requires at { at.0 < length self.old.ids }
         requires some { 1 ≤ turns }

@@ -106,7 +106,8 @@ impl Running {
         command_at(&mut self.ring, at.0 as usize, side, command);
     }
 
-    /// Holds the controller of a node for the next `turns` rounds, in place of those left of an earlier call.
+    /// Holds the controller of a node for the next `turns` rounds. Rounds that are left of an earlier call no longer
+    /// count.
     pub fn hold(&mut self, at: Pos, turns: u32)
         requires at { at.0 < length self.old.ids }
         requires some { 1 ≤ turns }

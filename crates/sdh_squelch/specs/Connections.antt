@@ -31,8 +31,8 @@ module _ (n : ℕ) (p : Pos) (on : Side → Option OnSpan) where
   chain_on West far = west_chain n p far
   chain_on East far = east_chain n p far
 
-  -- Whether the circuit on side d may be carried round the ring, where the node switches that side: `far` is a far end,
-  -- and both ends of the circuit are in the chain.
+  -- Whether the circuit on side d may be carried round the ring, where the node switches that side: the node has a far
+  -- end, and both ends of the circuit are in the chain up to it.
   unfoldable pub may_carry : Side → Option Pos → Bool
   may_carry d far = option_map_or (is_carried n (on d)) (chain_on d far) false
 

@@ -1,6 +1,6 @@
--- The cases that are listed, in their order: nothing; each failure alone; each two; each three. A failure is one of the
--- ring's, or one of the user's own. One of the user's own is a list of failures of the ring that come together. The
--- user's own come after the ring's, in the order of the words.
+-- The cases that are listed, in their order: nothing; each failure alone; each two; each three. There are failures of
+-- the ring and the user's own failures. Each of the user's own is a list of failures of the ring that come together, as
+-- a word of the command line names them. They come after the ring's failures, in the order of these words.
 use Rattle.std.specs.Prelude.{ℕ, zero, suc, ◌≤◌, ◌+◌, ◌-◌, ◌*◌, ◌/◌, ◌%◌, Bool, ◌==◌, ◌&&◌, ◌||◌, not, nat_le, nat_lt, if◌then◌else◌, List, [], ◌∷◌, ◌++◌}
 use Rattle.std.specs.Prelude.{length, slice_index_or, All, Option, Some, None}
 use Rattle.sdh_plan.specs.Planned.{Planned}
@@ -68,13 +68,14 @@ kind_of (Node at) = kind.Nodes
 kind_of (Manual at side) = kind.Manual
 kind_of (Forced at side) = kind.Forced
 
--- a failure of the ring is of a kind that is taken and would mend nothing that the script has set
+-- A failure of the ring is of a kind that is taken, and doesn't mend. It would mend where it takes the place of
+-- something worse that the script has set: a degradation of a cut fibre, or a manual switch of a side with a forced one
+-- (`mends`).
 abbrev pub is_ring_taken : Planned → Ask → Failure → Bool
 is_ring_taken plan ask failure = takes ask.kinds (kind_of failure) && not (mends plan failure)
 
--- A digit is nothing, or its failure is taken. One of the ring's is taken where its kind is and it would mend nothing
--- that the script has set. The user's own are taken by their kind alone, also where one takes the place of what the
--- script has set.
+-- A digit is nothing, or its failure is taken. A failure of the ring is taken if its kind is and it doesn't mend. The
+-- user's own failures are taken by their kind alone, also where one of them mends.
 abbrev pub is_taken : Planned → Ask → ℕ → Bool
 is_taken plan ask d =
     (d == 0) || (if is_of_ring (length plan.nodes) d then is_ring_taken plan ask (failure_at (length plan.nodes) (d - 1))
@@ -101,17 +102,17 @@ case_at plan own c = failures_of (length plan.nodes) own (digits_at plan own c)
 abbrev pub is_told : Planned → List (List Failure) → Ask → ℕ → Bool
 is_told plan own ask c = are_told plan ask (digits_at plan own c)
 
--- the count of those of the first c numbers that stand for a case that is listed, which is the count of cases listed
--- before the case of number c
+-- how many of the numbers below c stand for a case that is listed, and so how many cases are listed before that of c
 abbrev pub told_below : Planned → List (List Failure) → Ask → ℕ → ℕ
 told_below plan own ask zero = 0
 told_below plan own ask (suc c) = told_below plan own ask c + (if is_told plan own ask c then 1 else 0)
 
--- the case that has this number among those that are listed is in the part that is asked for
+-- The part that is asked for has listed case number `number`. Listed cases are counted from 0.
 abbrev pub is_in_part : Ask → ℕ → Bool
 is_in_part ask number = number % ask.parts == ask.part - 1
 
--- how a case is written, where it is listed and in this part: in the form that is asked for and with its number
+-- How a case is written, if it is listed and this part has it: the form that is asked for, and its number among the
+-- listed cases.
 abbrev pub entry_of : Ask → Bool → ℕ → Option Entry
 entry_of ask told number = if told && is_in_part ask number then Some (record { form = ask.form; number = number }) else None
 

@@ -52,8 +52,8 @@ is_json form.Summary = false
 abbrev pub either : Form → List ℕ → List ℕ → List ℕ
 either f json table = if is_json f then json else table
 
--- what stands around a name, and around a step: a field of the table that has quotes stands in quotes, and each of its
--- own is doubled
+-- The quotes around a name and around a step. In the table a name has none. A step has doubled ones there, since RFC
+-- 4180 doubles a quote inside a field that stands in quotes.
 abbrev pub quote : Form → List ℕ
 quote f = either f (codes "\"") []
 
@@ -190,11 +190,11 @@ line_text plan ds case e =
     case_text e.form plan e.number ds case ++ counts_text e.form (counts_of plan case) ++ either e.form (codes ",\"circuits\":{") []
     ++ fates_text e.form plan case ++ either e.form (codes "}}\n") (codes "\r\n")
 
--- the line of the c-th number of digits, where its case is listed in the part that is asked for
+-- the line of the case of number c, where the case is listed in the part that is asked for, and else nothing
 abbrev pub line_at : Planned → List (List Failure) → Ask → ℕ → List ℕ
 line_at plan own ask c = option_map_or (line_text plan (digits_at plan own c) (case_at plan own c)) (entry_at plan own ask c) []
 
--- the lines of the first k numbers of digits
+-- the lines of the cases of the numbers below k
 abbrev pub lines_below : Planned → List (List Failure) → Ask → ℕ → List ℕ
 lines_below plan own ask zero = []
 lines_below plan own ask (suc k) = lines_below plan own ask k ++ line_at plan own ask k

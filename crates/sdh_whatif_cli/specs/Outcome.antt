@@ -33,8 +33,8 @@ OfBytes ask texts bytes how text =
     (HasNoPlan bytes how × (text ≡ refusal how)) ⊎ ((plan : Planned) × TellsPlan bytes plan × (how ≡ (of_plan plan texts ask).0)
     × (text ≡ (of_plan plan texts ask).1))
 
--- What is asked for, with these texts of the user's own failures, comes to this status, with this text, where the
--- source had these bytes left. A write fault and out of memory aren't outcomes: either may come in place of any
+-- The call ends with this status and this text, if this is asked for with these texts of the user's own failures, and
+-- the source had these bytes left. A write fault and out of memory aren't outcomes: either may come in place of any
 -- outcome.
 abbrev pub IsOutcome : Option Ask → List (List ℕ) → List ℕ → Status → List ℕ → Type 0
 IsOutcome None texts bytes how text = (how ≡ status.Usage) × (text ≡ refusal status.Usage)

@@ -76,7 +76,8 @@ takes kinds k = has_kind kinds k || not (has_some kinds)
 
 -- ---- failures of the user's own
 
--- the texts that come after a word `own`; the first of these words is such a text where `own` comes before it
+-- Those of these words that come right after a word `own`. `behind` says whether `own` came right before the first of
+-- these words.
 abbrev pub texts_behind : Bool → List (List ℕ) → List (List ℕ)
 texts_behind behind [] = []
 texts_behind true (text ∷ more) = text ∷ texts_behind false more
@@ -122,7 +123,7 @@ ask_word ask word = ask_named ask (kind_named word) (form_named word)
 abbrev pub with_ask : AskedSoFar → Ask → AskedSoFar
 with_ask r ask = record r { ask = ask }
 
--- a part is asked for, where none is; its two numbers come next
+-- a part is asked for, unless one is already; its two numbers come next
 abbrev pub begin_part : AskedSoFar → Option AskedSoFar
 begin_part r = if r.is_parted then None else Some (record r { awaited = awaited.Part; is_parted = true })
 
@@ -194,7 +195,7 @@ abbrev pub finished : AskedSoFar → Option Ask
 finished r = if is_whole r.awaited && (not r.is_parted || may_be_parted r.ask.form) then Some r.ask else None
 
 -- What the words ask for: a depth; and after it, in any order, kinds, failures of the user's own, at most one form, and
--- at most once `part` with the number of a part and of how many.
+-- at most once `part`, with the number of a part and the number of parts.
 unfoldable pub asked : List (List ℕ) → Option Ask
 asked [] = None
 asked (word ∷ others) = option_and_then (λ depth. option_and_then finished (read_words (begun depth) others)) (depth_named word)

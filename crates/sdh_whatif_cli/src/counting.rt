@@ -10,9 +10,9 @@ use sdh_verdicts::{CaseSpans, Verdict, told, told_hops, told_impaired};
 /// What becomes of a circuit.
 #[derive(Clone, Copy, Debug)]
 pub enum Fate {
-    /// Its ends are joined by its own arc, and no span of it is degraded or asked for.
+    /// Its ends are joined by its own arc, and no span of that has the request of a manual switch or a higher one.
     Kept,
-    /// Its ends are joined by its own arc, and a span of it is degraded or asked for.
+    /// Its ends are joined by its own arc, and a span of that has the request of a manual switch or a higher one.
     Impaired,
     /// Its ends are joined only round applied spans.
     Over,

@@ -69,7 +69,8 @@ fn kind_of(failure: Failure) -> Kind
     }
 }
 
-// Returns whether a failure of the ring is of a kind that is taken and would mend nothing that the script has set.
+// Returns whether a failure of the ring is of a kind that is taken, and doesn't take the place of something worse that
+// the script has set.
 fn is_ring_taken(sides: &Sides<'_>, ask: Ask, failure: Failure) -> bool
     requires sides { length sides.now.rests.items ≡ 2 * length sides.now.map.now }
     requires failure { IsFailureIn (length sides.now.map.now) failure }
@@ -121,8 +122,8 @@ fn are_told(sides: &Sides<'_>, nodes: usize, ask: Ask, digits: Digits) -> bool
         && is_taken(sides, nodes, ask, digits.third)
 }
 
-// Returns how a case is written that has `number` cases listed before it, or `None` where it isn't listed or is in
-// another part.
+// Returns how a case is written, or `None` where it isn't listed or is in another part. `number` is the number of cases
+// that are listed before it.
 fn entry_of(ask: Ask, told: bool, number: usize) -> Option<Entry>
     requires part { IsPart ask }
     ensures { result ≡ entry_of ask told number }

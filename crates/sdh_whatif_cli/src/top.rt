@@ -197,7 +197,7 @@ pub fn whatif<R: Source, W: Sink>(
         (λ bytes. Writes (λ how text. IsOutcome (asked (words_of words.now)) (own_texts (words_of words.now)) bytes how text) result (W.written sink.old)
         (W.written sink.new)) }
 
-    // What each line says is what reports show: the last one of the plan with the line's steps after its script.
+    // Each line says what the last report shows if the plan is run with the line's steps after its script.
     ensures lines { LinesAreTrue }
 
     // These clauses hold over every source and sink.
