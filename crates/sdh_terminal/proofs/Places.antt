@@ -18,8 +18,7 @@ use Rattle.sdh_circuits.specs.declared.End.TheVariants.{A, B}
 use Rattle.sdh_circuits.specs.declared.PortId.{PortId}
 use Rattle.sdh_circuits.specs.Ends.{end_number, port_number}
 use Rattle.sdh_terminal.specs.Tributaries.{Tributary, new_tributary, tributaries_of, tributaries_from, tributaries_at, is_port, fed}
-use Rattle.sdh_terminal.specs.Tributaries.{all_fed, delivered_with, all_delivered_with}
-use Rattle.sdh_terminal.specs.Passing.{Input}
+use Rattle.sdh_terminal.specs.Tributaries.{all_fed}
 use Rattle.sdh_terminal.specs.Places.{port_numbered, ArePlaces}
 
 first-mapped : (p : Tributary → Bool) (f : ℕ → Tributary → Tributary) → ((k : ℕ) (t : Tributary) → p (f k t) ≡ p t)
@@ -35,10 +34,6 @@ place-mapped p f same ts = rw (first-mapped p f same 0 ts, length-map_from f 0 t
 pub fed_stay : (places : List (Option ℕ)) (ports : List Tributary) → ArePlaces places ports → ArePlaces places (all_fed ports)
 unfolding all_fed
 fed_stay places ports are = λ id. are id ∙ sym (place-mapped (is_port id) (λ i t. fed t) (λ k t. refl) ports)
-
-pub delivered_stay : (x : Tributary → Input) (places : List (Option ℕ)) (ports : List Tributary) → ArePlaces places ports
-    → ArePlaces places (all_delivered_with x ports)
-delivered_stay x places ports are = λ id. are id ∙ sym (place-mapped (is_port id) (λ i t. delivered_with x t) (λ k t. refl) ports)
 
 -- ---- the places of a new node's ports
 

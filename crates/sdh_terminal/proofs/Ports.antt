@@ -34,9 +34,9 @@ use Rattle.sdh_circuits.specs.Provisioned.{Provisioned}
 use Rattle.sdh_circuits.specs.Provisioning.{Provisioning, IsProvisioning, IsInSlots, HasOffsets}
 use Rattle.sdh_pointer.specs.declared.word.Form.{Form}
 use Rattle.std.specs.Option.{option_map_or}
-use Rattle.sdh_terminal.specs.Passing.{Input, h3_of, au_with, au_for, no_input}
+use Rattle.sdh_terminal.specs.Passing.{Input, h3_of, au_with, au_for}
 use Rattle.sdh_terminal.specs.Tributaries.{Tributary, new_tributary, tributaries_of, tributaries_from, tributaries_at, is_port, port_of}
-use Rattle.sdh_terminal.specs.Tributaries.{sent_in, input_by, added_by, own_input, added_last, action_of, last_sent, sent_by, fed, all_fed}
+use Rattle.sdh_terminal.specs.Tributaries.{added_by, added_last, action_of, last_sent, sent_by, fed, all_fed}
 use Rattle.sdh_terminal.specs.Tributaries.{delivered_with, all_delivered_with, IsTributary, IsFed}
 
 -- ---- the search for a port
@@ -105,15 +105,6 @@ found-mapped p f g h d same is i (t ∷ ts) = go (p t) refl (found-mapped p f g 
     go true e rest = let here : p (f i t) ≡ true = same i t ∙ e in rw (here, e) (is i t)
     go false e rest = let here : p (f i t) ≡ false = same i t ∙ e in rw (here, e) rest
 
-holds_id : (x : Tributary → Input) (ports : List Tributary) (id : PortId)
-    → added_last (all_fed (all_delivered_with x ports)) id ≡ added_by ports id
-unfolding all_fed port_of
-holds_id x ports id =
-    found-mapped (is_port id) (λ i t. fed t) own_input (λ t. input_by (sent_in t.feed)) no_input (λ k t. refl) (λ k t. refl) 0
-    (map_from (λ i t. delivered_with x t) 0 ports)
-    ∙ found-mapped (is_port id) (λ i t. delivered_with x t) (λ t. input_by (sent_in t.feed)) (λ t. input_by (sent_in t.feed)) no_input
-    (λ k t. refl) (λ k t. refl) 0 ports
-
 -- the clock of a port goes on
 pub clock-next : (x : Tributary → Input) (id : PortId) (ports : List Tributary)
     → option_map_or (λ (t : Tributary). Some t.feed.clock) (port_of id (all_fed (all_delivered_with x ports))) None
@@ -128,9 +119,6 @@ clock-next x id ports =
 -- ports that have taken the chunk of the round hold what they add in it
 abbrev pub Adds : List Tributary → List Tributary → Type 0
 Adds now old = added_last now ≡ added_by old
-
-pub holds-adds : (x : Tributary → Input) (ports : List Tributary) → Adds (all_fed (all_delivered_with x ports)) ports
-holds-adds x ports = λ i id. holds_id x ports id i
 
 -- ---- what a port keeps of a round
 
@@ -195,12 +183,6 @@ in_slots slots rounds ports all = λ k d lt. ((all k d lt).first, (all k d lt).l
 pub few_rounds : (slots rounds : ℕ) (ports : List Tributary) → rounds < 2 ^ 32 → All (IsTributary slots rounds) ports
     → All (λ t. t.feed.clock.rounds < 2 ^ 32) ports
 few_rounds slots rounds ports few all = λ k d lt. omega (arith, (all k d lt).clock.rounds_are)
-
-pub delivered_are : (x : Tributary → Input) (slots rounds : ℕ) (ports : List Tributary) → All (IsTributary slots rounds) ports
-    → All (IsTributary slots rounds) (all_delivered_with x ports)
-delivered_are x slots rounds ports all =
-    placed_all (IsTributary slots rounds) (IsTributary slots rounds) (λ i t. delivered_with x t) ports
-    (λ k t h. record { first = h.first; last = h.last; offset = h.offset; clock = h.clock; few = h.few }) all
 
 pub fed_are : (slots rounds : ℕ) (ports : List Tributary) → All (IsTributary slots rounds) ports
     → All (IsTributary slots (rounds + 1)) (all_fed ports)
