@@ -12,7 +12,7 @@ pub record TurnTold : Type 0 where
   pub fill : ℕ
   pub given : List ℕ
 
--- the lines of turns, the last one first
+-- the lines of all turns, in their order; in the list the last turn stands first
 abbrev pub turns_text : List TurnTold → List ℕ
 turns_text [] = []
 turns_text (t ∷ earlier) =

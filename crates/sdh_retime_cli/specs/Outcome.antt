@@ -90,8 +90,8 @@ pub record Answers (words : List (List ℕ)) (bytes : List ℕ) (reads : Counts)
   pub writes : Writes words bytes reads status old new
 
 -- How many reads failed, and how many bytes were taken, where this status was to be reported. Where the count of faults
--- is exact, one read failed if a read fault was to be reported, and none otherwise. If too many bytes (`TooLong`) were
--- to be reported, one byte more than the program reads was taken.
+-- is exact, one read failed if a read fault was to be reported, and none otherwise. If `TooLong` was to be reported,
+-- 1,048,577 bytes were taken, one more than the program accepts.
 abbrev pub CameTo : Bool → ℕ → ℕ → Option (List ℕ) → Option (List ℕ) → Status → Type 0
 CameTo exact before after left now how =
     CameOfSource exact (record { before = before; after = after }) left now (how ≡ status.ReadFault) (how ≡ status.TooLong)

@@ -1,6 +1,6 @@
-//! The call of the program `sdhretime`, which takes a customer's bytes into an elastic store and gives them at a pace
-//! of its own: from the words and a source of bytes to a number and a text. In a turn the store takes one chunk in, and
-//! gives the bytes of one frame.
+//! The call of the program `sdhretime`. The call is given the words of the command line and a source of bytes. It writes
+//! a text, and returns the number with which the program ends. The program takes a customer's bytes into an elastic
+//! store, and gives them at a pace of its own. In a turn the store takes one chunk in, and gives the bytes of one frame.
 #![tactic(auto)]
 
 mod digits;

@@ -15,7 +15,7 @@ pub enum Status {
     WriteFault,
     /// The source has more than 1,048,576 bytes.
     TooLong,
-    /// This turn, counted from 1, is a drift.
+    /// This turn, counted from 1, is a drift: the store would hold too few or too many bytes after its chunk.
     Drift(usize),
     /// Memory ran out. Nothing was written.
     Memory,

@@ -115,7 +115,8 @@ fn answer<R: Source, W: Sink>(
 /// Does all that the program does, and returns the number with which it ends. With one word of 1 to 64 digits from 0 to
 /// 6 it reads all bytes of the source and takes them into a store chunk by chunk. Digit g means a chunk of 2346 + g
 /// bytes, and the digits repeat. It writes the lines of every turn, and then how many bytes were left, or which turn is
-/// a drift. The text is written once, at the end.
+/// a drift: the store refuses a chunk after which it would hold too few or too many bytes, and the run ends there. The
+/// text is written once, at the end.
 pub fn retime<R: Source, W: Sink>(
     alloc: Global,
     words: &[String],
@@ -132,9 +133,9 @@ pub fn retime<R: Source, W: Sink>(
         → Answers (words_of words.now) [] reads result (W.written sink.old) (W.written sink.new) }
     ensures alone { (¬ AreDigits (words_of words.now)) → source.new ≡ source.old }
 
-    // All bytes given, turn after turn, are the front of those that were read. A drift comes only where four chunks in
-    // a row have together fewer than 9393 or more than 9399 bytes. They come no later than the turn that the last line
-    // names.
+    // All bytes given, turn after turn, are the front of those that were read. A drift comes only where some four chunks
+    // in a row have together fewer than 9393 or more than 9399 bytes. The last of these four is taken in no later than
+    // in the turn that the last line names.
     ensures front { (result ≡ 0) ⊎ (result ≡ 12)
         → IfSome (R.left source.old) (λ bytes. WritesFront bytes (W.written sink.old) (W.written sink.new)) }
     ensures unsteady { result ≡ 12
@@ -148,8 +149,8 @@ pub fn retime<R: Source, W: Sink>(
     ensures memory { result ≡ 70 → sink.new ≡ sink.old }
 
     // Where the count of faults of the source or the sink is exact, each of its calls that failed is reported by its
-    // fault, and none is tried again. A write fault may stand in place of what was to be reported. Where too many bytes
-    // (9) were to be reported, one byte more than the program reads was taken.
+    // fault, and none is tried again. A write fault may stand in place of what was to be reported. Where `TooLong` was to
+    // be reported, 1,048,577 bytes were taken from the source: one more than the program accepts.
     ensures came { (how : Status) × ((result ≡ number_of how) ⊎ (result ≡ 4))
         × CameTo R.exact (R.faults source.old) (R.faults source.new) (R.left source.old) (R.left source.new) how }
     ensures writes { IsCounted W.exact (result ≡ 4) (W.faults sink.old) (W.faults sink.new) }

@@ -80,8 +80,9 @@ impl Ring {
 
         // A new ring is vouched for (`IsVouched`), whatever the clocks of its ports will be. In such a ring each AU-4
         // under way holds ones, or what one port sent. In a working slot that is a port of the circuit in that slot. In
-        // a protection slot it is a port of the circuit that is looped over it. That circuit has the working slot of
-        // the same number on the span beside the source of the frame's long K word.
+        // a protection slot it is a port of the circuit that the source of the frame's long K word loops round. That
+        // circuit is in the working slot of the same number, on the source's span from which the frame travels away.
+        // Where the frame's word isn't a long one with a request, its protection slots hold ones.
         ensures vouched { IfOk result (λ ring. (f : Fibres) (clocks : PortId → ℕ → Clock) → IsHonest f
             → IsVouched clocks (world ring (prepared settings.rate (length map) f))) }
     {
