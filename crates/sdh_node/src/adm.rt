@@ -160,7 +160,8 @@ impl Adm {
         deliver_ports(&self.cross, &self.ports, taken, outlets);
     }
 
-    /// Returns what one port of the node delivered in the last round. `outlets` has what all its ports delivered in it.
+    /// Returns what one port of the node delivered in the last round. `outlets` has what each port of the node delivered
+    /// in that round.
     pub fn outlet<'a>(&self, port: PortId, outlets: &'a Outlets) -> &'a Outlet
         requires there { HasPort self.now.ports port }
         requires outlets { outlets.now ≡ outlets_of self.now.ports }

@@ -42,6 +42,7 @@ impl Station for Adm {
         Adm::calm(self)
     }
 
+    // What arrives at a node changes neither its rate nor whether it may run.
     ghost told_rate = { rate_stays };
 
     ghost told_may = { may_still };

@@ -116,8 +116,8 @@ pub record TellsUnsteady (digits : List ℕ) (turn : ℕ) (text : List ℕ) : Ty
   pub lines : List ℕ
   pub text_is : text ≡ lines ++ drift_line turn
 
--- the words are one word of digits, and the last line of the text names a turn up to which four of its chunks are
--- unsteady
+-- the words are one word of digits, and the last line of the text names a turn: four chunks in a row, the last of them
+-- in that turn or before it, are unsteady
 abbrev pub AreUnsteady : List (List ℕ) → ℕ → List ℕ → Type 0
 AreUnsteady words turn text = (digits : List ℕ) × (words ≡ digits ∷ []) × TellsUnsteady digits turn text
 

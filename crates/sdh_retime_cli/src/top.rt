@@ -148,9 +148,10 @@ pub fn retime<R: Source, W: Sink>(
     ensures write_fault { result ≡ 4 → Rose (W.faults sink.old) (W.faults sink.new) }
     ensures memory { result ≡ 70 → sink.new ≡ sink.old }
 
-    // Where the count of faults of the source or the sink is exact, each of its calls that failed is reported by its
-    // fault, and none is tried again. A write fault may stand in place of what was to be reported. Where `TooLong` was to
-    // be reported, 1,048,577 bytes were taken from the source: one more than the program accepts.
+    // Where the count of faults of the source or the sink is exact, a read that failed is reported as a read fault and a
+    // write that failed as a write fault, and no call that failed is tried again. A write fault may stand in place of
+    // what was to be reported. Where `TooLong` was to be reported, 1,048,577 bytes were taken from the source: one more
+    // than the program accepts.
     ensures came { (how : Status) × ((result ≡ number_of how) ⊎ (result ≡ 4))
         × CameTo R.exact (R.faults source.old) (R.faults source.new) (R.left source.old) (R.left source.new) how }
     ensures writes { IsCounted W.exact (result ≡ 4) (W.faults sink.old) (W.faults sink.new) }

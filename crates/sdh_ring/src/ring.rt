@@ -80,9 +80,10 @@ impl Ring {
 
         // A new ring is vouched for (`IsVouched`), whatever the clocks of its ports will be. In such a ring each AU-4
         // under way holds ones, or what one port sent. In a working slot that is a port of the circuit in that slot. In
-        // a protection slot it is a port of the circuit that the source of the frame's long K word loops round. That
-        // circuit is in the working slot of the same number, on the source's span from which the frame travels away.
-        // Where the frame's word isn't a long one with a request, its protection slots hold ones.
+        // a protection slot it is a port of the circuit that the source of the frame's long K word loops round. Where
+        // the frame left that source on its east side, the circuit is in the working slot of the same number on the
+        // source's west span, and the other way round. Where the frame's word isn't a long one with a request, its
+        // protection slots hold ones.
         ensures vouched { IfOk result (λ ring. (f : Fibres) (clocks : PortId → ℕ → Clock) → IsHonest f
             → IsVouched clocks (world ring (prepared settings.rate (length map) f))) }
     {
@@ -178,9 +179,10 @@ impl Ring {
         ensures ok { OnOk result (IsRound (world self.old (P.fibres plant.old)) (world self.new (P.fibres plant.new))) }
         ensures prepared { OnOk result (IsPrepared self.old.settings.rate (length self.old.ids) (P.fibres plant.new)) }
 
-        // Where the fibres carry what was sent, the round goes as one of a ring of signals (`sdh_signal`). The nodes'
-        // states, the words that they send, and what the last three rounds brought them are those of that ring after a
-        // round with the same local requests, failing sides and held nodes.
+        // Where the fibres carry what was sent, the round agrees with a round of the ring of signals (`sdh_signal`),
+        // whose nodes have states and K words but no frames. The nodes' states, the words that they send, and what the
+        // last three rounds brought them are those of that ring after a round with the same local requests, failing
+        // sides and held nodes.
         ensures signals { OnOk result (IsWhole (world self.old (P.fibres plant.old))
             → GoesAsSignals (world self.old (P.fibres plant.old)) (world self.new (P.fibres plant.new))) }
 

@@ -43,6 +43,7 @@ impl Station for PathNode {
         PathNode::calm(self)
     }
 
+    // What arrives at a node changes neither its rate nor whether it may run.
     ghost told_rate = { rate_stays };
 
     ghost told_may = { may_still };
