@@ -102,7 +102,8 @@ HasRun status.Ok = Unit {0}
 HasRun (status.Drift turn) = Unit {0}
 HasRun _ = ⊥
 
--- four chunks in a row, up to this turn, have together fewer than 9393 or more than 9399 bytes: they are unsteady
+-- some four chunks in a row, the last of them in this turn or before it, have together fewer than 9393 or more than 9399
+-- bytes: they are unsteady
 pub record UnsteadyBy (digits : List ℕ) (turn : ℕ) : Type 0 where
   pub first : ℕ
   pub within : first + 4 ≤ turn
@@ -110,22 +111,25 @@ pub record UnsteadyBy (digits : List ℕ) (turn : ℕ) : Type 0 where
   pub is : sum ≡ size_at digits first + size_at digits (first + 1) + size_at digits (first + 2) + size_at digits (first + 3)
   pub far : (sum < 9393) ⊎ (9399 < sum)
 
--- the text's last line names this turn, and up to it four chunks in a row are unsteady
+-- the text's last line names this turn, and some four chunks in a row are unsteady, the last of them in this turn or
+-- before it
 pub record TellsUnsteady (digits : List ℕ) (turn : ℕ) (text : List ℕ) : Type 0 where
   pub unsteady : UnsteadyBy digits turn
   pub lines : List ℕ
   pub text_is : text ≡ lines ++ drift_line turn
 
--- the words are one word of digits, and the last line of the text names a turn: four chunks in a row, the last of them
--- in that turn or before it, are unsteady
+-- there is one word, and the last line of the text names a turn: some four chunks in a row, the last of them in that
+-- turn or before it, are unsteady
 abbrev pub AreUnsteady : List (List ℕ) → ℕ → List ℕ → Type 0
 AreUnsteady words turn text = (digits : List ℕ) × (words ≡ digits ∷ []) × TellsUnsteady digits turn text
 
--- a text was appended whose last line names a turn up to which four chunks in a row are unsteady
+-- a text was appended whose last line names a turn: some four chunks in a row, the last of them in that turn or before
+-- it, are unsteady
 abbrev pub WritesUnsteady : List (List ℕ) → ℕ → Option (List ℕ) → Option (List ℕ) → Type 0
 WritesUnsteady words turn old new = (text : List ℕ) × AreUnsteady words turn text × Appends old new text
 
--- a run of digits ends with a drift only where four chunks in a row, up to the turn that is the drift, are unsteady
+-- a run of digits ends with a drift only where some four chunks in a row are unsteady, the last of them in the turn that
+-- is the drift or before it
 abbrev pub DriftsAreUnsteady : Type 0
 DriftsAreUnsteady =
     (digits bytes : List ℕ) (k turn : ℕ) (text : List ℕ) → IsDigits digits → IsDrift digits bytes k turn text → UnsteadyBy digits turn

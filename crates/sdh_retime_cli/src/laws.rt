@@ -1,8 +1,8 @@
 //! Laws of runs of digits. The function does nothing, and its contract is the law.
 ghost use Rattle.sdh_retime_cli.specs.Outcome.{DriftsAreUnsteady};
 
-/// A drift comes only where four chunks in a row, up to the turn that is the drift, have together fewer than 9393 or
-/// more than 9399 bytes.
+/// A drift comes only where some four chunks in a row have together fewer than 9393 or more than 9399 bytes. The last of
+/// these four is taken in no later than in the turn that is the drift.
 pub fn drifts_are_unsteady()
     ensures { DriftsAreUnsteady }
 {}

@@ -80,10 +80,10 @@ impl Ring {
 
         // A new ring is vouched for (`IsVouched`), whatever the clocks of its ports will be. In such a ring each AU-4
         // under way holds ones, or what one port sent. In a working slot that is a port of the circuit in that slot. In
-        // a protection slot it is a port of the circuit that the source of the frame's long K word loops round. Where
-        // the frame left that source on its east side, the circuit is in the working slot of the same number on the
-        // source's west span, and the other way round. Where the frame's word isn't a long one with a request, its
-        // protection slots hold ones.
+        // a protection slot it is a port of a circuit that some node loops round: the node that is the source of the
+        // long K word in the frame. Where the frame goes eastwards, that circuit is in the working slot of the same
+        // number on the source's west span. Where it goes westwards, it is the one on the source's east span. Where the
+        // frame's word isn't a long one with a request, its protection slots hold ones.
         ensures vouched { IfOk result (λ ring. (f : Fibres) (clocks : PortId → ℕ → Clock) → IsHonest f
             → IsVouched clocks (world ring (prepared settings.rate (length map) f))) }
     {
@@ -186,7 +186,7 @@ impl Ring {
         ensures signals { OnOk result (IsWhole (world self.old (P.fibres plant.old))
             → GoesAsSignals (world self.old (P.fibres plant.old)) (world self.new (P.fibres plant.new))) }
 
-        // A ring at rest delivers what is owed in a calm round, and stays at rest.
+        // If the ring is at rest, the round is calm, each port delivers what it is owed, and the ring stays at rest.
         ensures rest { OnOk result ((clocks : PortId → ℕ → Clock) → IsAtRest clocks (world self.old (P.fibres plant.old))
             → StaysAtRest clocks (world self.new (P.fibres plant.new))) }
 
