@@ -1,7 +1,10 @@
 //! A node on the bench.
-ghost use Rattle.std.specs.Prelude.{◌≡◌, ℕ, ◌+◌, ◌*◌, ◌^◌, ◌<◌, ◌≤◌, ◌++◌, List, [], Err, IfOk, IfErr, OnOk, OnErr, length};
+ghost use Rattle.std.specs.Prelude.{◌≡◌, ℕ, ◌+◌, ◌*◌, ◌/◌, ◌^◌, ◌<◌, ◌≤◌, ◌++◌, List, [], Err, IfOk, IfErr, OnOk, OnErr, length};
 ghost use Rattle.std.specs.Io.KnownBytes.{Consumes};
+ghost use Rattle.sdh_ringmap.specs.Rates.{n_of};
 ghost use Rattle.sdh_frame.specs.Sizes.{size_of};
+ghost use Rattle.sdh_circuits.specs.Kept.{KeepsRing};
+ghost use Rattle.sdh_node.specs.Node.{new_node};
 ghost use Rattle.sdh_plan.specs.Check.{unless};
 ghost use Rattle.sdh_shell.specs.Writing.{room_in};
 ghost use Rattle.sdh_node_cli.specs.Faults.{CountsFault};
@@ -22,8 +25,8 @@ use sdh_outside::{Source, fill};
 use sdh_plan::{Plan, Reason};
 use sdh_plant::Arrived;
 use sdh_report::Text;
-use sdh_request::Moment;
-use sdh_ringmap::{Pos, Side};
+use sdh_request::{Moment, Settings};
+use sdh_ringmap::{Pos, Rate, RingMap, Side};
 use sdh_terminal::{Outlets, TakenPair};
 use std::alloc::{AllocError, Global};
 use std::marker::Model;
@@ -68,11 +71,8 @@ impl Bench {
         let settings = plan.settings();
         let (map, circuits, _) = plan.into_parts();
         prove!(circuits.len() <= 128);
-        let west = FrameBuf::try_new(alloc, settings.rate)?;
-        let east = FrameBuf::try_new(alloc, settings.rate)?;
-        let node = Adm::try_new(alloc, settings, &map, &circuits, at)?;
-        let outlets = node.outlets(alloc)?;
-        let taken = TakenPair::try_new(alloc)?;
+        let (west, east, taken) = room_for(alloc, settings.rate)?;
+        let (node, outlets) = node_with_outlets(alloc, settings, &map, &circuits, at)?;
         Ok(Bench {
             mode: ask.mode,
             id: ask.id,
@@ -169,6 +169,40 @@ impl Bench {
         self.node.deliver(&mut self.taken, &mut self.outlets);
         put_ports(text, &self.node, &self.outlets, self.at, &self.circuits);
         put_frames_if(text, self.mode, &self.west, &self.east);
+    }
+}
+
+// Returns room for a frame of each side, and for what is taken out of the frames that came.
+fn room_for(alloc: Global, rate: Rate) -> Result<(FrameBuf, FrameBuf, TakenPair), AllocError>
+    ensures { IfOk result (λ room. (room.0.rate ≡ rate) × (room.1.rate ≡ rate)) }
+{
+    let west = FrameBuf::try_new(alloc, rate)?;
+    let east = FrameBuf::try_new(alloc, rate)?;
+    let taken = TakenPair::try_new(alloc)?;
+    Ok((west, east, taken))
+}
+
+// Returns the node at a position of a ring with these circuits, before any round, and room for what its ports deliver.
+fn node_with_outlets(
+    alloc: Global,
+    settings: Settings,
+    map: &RingMap,
+    circuits: &CircuitMap,
+    at: Pos,
+) -> Result<(Adm, Outlets), AllocError>
+    requires at { at.0 < length map.now }
+    requires slots { circuits.now.slots ≡ n_of settings.rate / 2 }
+    requires kept { KeepsRing circuits.now map.now }
+    ensures node { IfOk result (λ made. made.0 ≡ new_node settings map.now circuits.now.circuits at) }
+    ensures outlets { IfOk result (λ made. length made.1 ≡ length made.0.ports) }
+{
+    let node = Adm::try_new(alloc, settings, map, circuits, at)?;
+    match node.outlets(alloc) {
+        Ok(outlets) => Ok((node, outlets)),
+        Err(AllocError) => {
+            drop(node);
+            Err(AllocError)
+        }
     }
 }
 

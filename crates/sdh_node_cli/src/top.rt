@@ -105,7 +105,9 @@ fn answer_plan<R: Source, W: Sink>(
         return Ok(write_ended(sink, ended(Ending::NoSuchNode, text)));
     };
     let mut bench = Bench::try_new(alloc, plan, ask, at)?;
-    answer_records(alloc, &mut bench, text, source, sink)
+    let how = answer_records(alloc, &mut bench, text, source, sink);
+    drop(bench);
+    how
 }
 
 // Does what is asked for with the stream of a source. Returns how the program ended.

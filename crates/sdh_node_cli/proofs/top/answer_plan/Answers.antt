@@ -18,8 +18,8 @@ pub try_new-requires-2 : goal.try_new-requires-2
 try_new-requires-2 g c = found_below c.args.plan.nodes c.args.ask.id c.in-Some.at
     (ap (λ ids. found_at ids c.args.ask.id) (sym c.map.ensures) ∙ sym c.in-Some.ensures)
 
-pub answer_records-requires : goal.answer_records-requires
-answer_records-requires g c = record {
+pub answer_records-how-requires : goal.answer_records-how-requires
+answer_records-how-requires g c = record {
   fresh = new_rounds c.args.ask c.args.plan c.in-Some.at c.in_ok-bench.bench c.in_ok-bench.ensures;
   empty = ap (λ (t : Written). t.bytes) c.in_ok-text.ensures;
   room = omega (arith, ap (λ (t : Written). t.room) c.in_ok-text.ensures);
@@ -66,20 +66,20 @@ returns-in_default-clause-later g c = (le_refl _, c.write_ended.ensures.later)
 pub returns-clause-outcome : goal.returns-clause-outcome
 returns-clause-outcome g c =
     let found = ap (λ ids. found_at ids c.args.ask.id) (sym c.map.ensures) ∙ sym c.in-Some.ensures in
-    IfOk-weaker c.answer_records.result _ _ (λ how x. x c.args.ask c.args.plan c.in-Some.at found c.in_ok-bench.ensures)
-    c.answer_records.ensures.outcome
+    IfOk-weaker c.answer_records-how.result _ _ (λ how x. x c.args.ask c.args.plan c.in-Some.at found c.in_ok-bench.ensures)
+    c.answer_records-how.ensures.outcome
 
 pub returns-clause-reads : goal.returns-clause-reads
-returns-clause-reads g c = c.answer_records.ensures.reads
+returns-clause-reads g c = c.answer_records-how.ensures.reads
 
 pub returns-clause-writes : goal.returns-clause-writes
-returns-clause-writes g c = c.answer_records.ensures.writes
+returns-clause-writes g c = c.answer_records-how.ensures.writes
 
 pub returns-clause-own : goal.returns-clause-own
-returns-clause-own g c = c.answer_records.ensures.own
+returns-clause-own g c = c.answer_records-how.ensures.own
 
 pub returns-clause-later : goal.returns-clause-later
-returns-clause-later g c = c.answer_records.ensures.later
+returns-clause-later g c = c.answer_records-how.ensures.later
 
 pub returns-clause-memory : goal.returns-clause-memory
-returns-clause-memory g c = c.answer_records.ensures.memory
+returns-clause-memory g c = c.answer_records-how.ensures.memory
