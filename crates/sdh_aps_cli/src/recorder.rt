@@ -11,7 +11,7 @@ use crate::listing::SignalListing;
 use crate::showing::shown_at;
 use sdh_aps::{LINE_MAX, Shown, WordPair, same_shown, signal_line};
 use sdh_report::{StateWord, Text, WordBytes};
-use sdh_ring::Ring;
+use sdh_ring::Running;
 use sdh_ringmap::{Code, Pos};
 use std::alloc::{AllocError, Global};
 
@@ -34,7 +34,7 @@ fn lists(listing: SignalListing, id: u8) -> bool
 }
 
 // Appends the line of a node that showed this in the last round, where it is listed.
-fn put_change(text: &mut Text, ring: &Ring, at: Pos, now: &Shown, listing: SignalListing)
+fn put_change(text: &mut Text, ring: &Running, at: Pos, now: &Shown, listing: SignalListing)
     requires at { at.0 < length ring.now.ids }
     requires ran { 1 ≤ ring.now.rounds }
     requires now { now.now ≡ shown_at ring.now at.0 }
@@ -52,7 +52,7 @@ fn put_change(text: &mut Text, ring: &Ring, at: Pos, now: &Shown, listing: Signa
 // Appends the line of the node at a position, where the last round was the ring's first, or the node shows something
 // else after it than `was`.
 #[tactic(auto, unfolding(crate::specs::Signalled::is_told))]
-fn put_new(text: &mut Text, ring: &Ring, at: Pos, was: &Shown, listing: SignalListing)
+fn put_new(text: &mut Text, ring: &Running, at: Pos, was: &Shown, listing: SignalListing)
     requires at { at.0 < length ring.now.ids }
     requires ran { 1 ≤ ring.now.rounds }
     requires room { 128 ≤ text.old.room }
@@ -68,7 +68,7 @@ fn put_new(text: &mut Text, ring: &Ring, at: Pos, was: &Shown, listing: SignalLi
 }
 
 // Appends the lines of the last round. `before` is what the nodes showed before it.
-fn put_round(text: &mut Text, ring: &Ring, before: &Vec<Shown>, listing: SignalListing)
+fn put_round(text: &mut Text, ring: &Running, before: &Vec<Shown>, listing: SignalListing)
     requires many { length before.now.items ≡ length ring.now.ids }
     requires ran { 1 ≤ ring.now.rounds }
     requires room { 128 * length ring.now.ids ≤ text.old.room }
@@ -82,7 +82,7 @@ fn put_round(text: &mut Text, ring: &Ring, before: &Vec<Shown>, listing: SignalL
 }
 
 // Keeps what all nodes show after the last round.
-fn keep_all(before: &mut Vec<Shown>, ring: &Ring)
+fn keep_all(before: &mut Vec<Shown>, ring: &Running)
     requires { length before.old.items ≡ length ring.now.ids }
     ensures many { length before.new.items ≡ length before.old.items }
     ensures shown { AreShown (shown_at ring.now) before.new.items }
@@ -134,7 +134,7 @@ impl SignalRecorder {
     }
 
     /// Begins a settle step: keeps what the nodes of a ring show before it.
-    pub fn begin(&mut self, ring: &Ring)
+    pub fn begin(&mut self, ring: &Running)
         requires { length self.old.before.items ≡ length ring.now.ids }
         ensures many { length self.new.before.items ≡ length self.old.before.items }
         ensures shown { AreShown (shown_at ring.now) self.new.before.items }
@@ -145,7 +145,7 @@ impl SignalRecorder {
     }
 
     /// Makes the lines of the last round, and keeps what the nodes show after it.
-    pub fn look(&mut self, ring: &Ring)
+    pub fn look(&mut self, ring: &Running)
         requires many { length self.old.before.items ≡ length ring.now.ids }
         requires ran { 1 ≤ ring.now.rounds }
         requires room { 128 * length ring.now.ids ≤ room_in self.old.text }
@@ -162,7 +162,7 @@ impl SignalRecorder {
     }
 
     /// Makes the line that ends settle step `number`, by the ring that the step left.
-    pub fn end(&mut self, ring: &Ring, number: u32)
+    pub fn end(&mut self, ring: &Running, number: u32)
         requires ran { 1 ≤ ring.now.rounds }
         requires room { 96 ≤ room_in self.old.text }
         ensures bytes { self.new.text.bytes ≡ settle_line number (ring.now.rounds - 1) }

@@ -6,3 +6,4 @@ pub mod Settling
 pub mod Turns
 mod Whole
 pub mod Delivered
+mod Stopping

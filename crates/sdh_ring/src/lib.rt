@@ -10,4 +10,5 @@ mod running;
 
 pub use changing::change;
 pub use ring::Ring;
+pub use running::Running;
 pub use sdh_rounds::{Observer, PlantFault, SettleError};

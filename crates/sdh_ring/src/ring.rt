@@ -279,9 +279,10 @@ impl Ring {
         sdh_rounds::settle(self, plant, limit, observer)
     }
 
-    /// Runs rounds as `settle` does, with a recorder that looks at the ring after each round and may stop the step
-    /// then. Returns how the step ended, and an error only where the recorder stopped it.
-    pub fn settle_recording<P: Plant, L, O: Recorder<Ring, L>>(
+    /// Runs rounds as `settle` does, with a recorder that looks at the nodes after each round and may stop the step
+    /// then. What the ports deliver waits at the nodes until the step has ended. Returns how the step ended, and an error
+    /// only where the recorder stopped it.
+    pub fn settle_recording<P: Plant, L, O: Recorder<Running, L>>(
         &mut self,
         plant: &mut P,
         limit: u32,
@@ -320,7 +321,9 @@ impl Ring {
         sdh_laws::restoring::unsettled_rings_are_restored();
         sdh_laws::converging::steps_answer();
         sdh_laws::strangers::steps_keep_strangers_out();
-        sdh_rounds::settle_recording(self, plant, limit, recorder, log)
+        let ended = sdh_rounds::settle_recording(&mut self.running, plant, limit, recorder, log);
+        self.deliveries.take(self.running.nodes());
+        ended
     }
 }
 
@@ -368,18 +371,25 @@ impl Ring {
         self.outlet(port).value()
     }
 
+    /// Returns the nodes, without what their ports delivered.
+    pub fn running(&self) -> &Running
+        ensures { result.now ≡ self.now }
+    {
+        &self.running
+    }
+
     /// Returns how many rounds have run. They are numbered from 0, so the last one has a number one below that.
     pub fn rounds(&self) -> u64
         ensures { result ≡ self.now.rounds }
     {
-        self.running.stations().rounds()
+        self.running.rounds()
     }
 
     /// Returns the nodes' identifiers.
     pub fn map(&self) -> &RingMap
         ensures { result.now ≡ self.now.ids }
     {
-        self.running.stations().map()
+        self.running.map()
     }
 
     /// Returns the circuits.
@@ -394,7 +404,7 @@ impl Ring {
         requires { at.0 < length self.now.ids }
         ensures { slice_get self.now.nodes at.0 ≡ Some result.now }
     {
-        self.running.stations().node(at)
+        self.running.node(at)
     }
 
     /// Returns whether a fault of the plant broke a round off.

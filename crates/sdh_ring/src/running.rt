@@ -1,5 +1,5 @@
 //! The nodes of a ring while rounds run without an observer of what the ports deliver.
-ghost use Rattle.std.specs.Prelude.{◌≡◌, ◌+◌, ◌/◌, ◌<◌, ◌≤◌, false, IfOk, length, slice_get};
+ghost use Rattle.std.specs.Prelude.{◌≡◌, ◌+◌, ◌/◌, ◌<◌, ◌≤◌, false, Some, IfOk, length, slice_get};
 ghost use Rattle.sdh_ringmap.specs.Rates.{n_of};
 ghost use Rattle.sdh_circuits.specs.Kept.{KeepsRing};
 ghost use Rattle.sdh_circuits.specs.declared.PortId.{PortId};
@@ -158,6 +158,28 @@ impl Running {
         ensures waiting { waiting_at self.now port ≡ waiting_of port result.now.ports }
     {
         self.ring.node_of(port)
+    }
+
+    /// Returns how many rounds have run. They are numbered from 0, so the last one has a number one below that.
+    pub fn rounds(&self) -> u64
+        ensures { result ≡ self.now.rounds }
+    {
+        self.ring.rounds()
+    }
+
+    /// Returns the nodes' identifiers.
+    pub fn map(&self) -> &RingMap
+        ensures { result.now ≡ self.now.ids }
+    {
+        self.ring.map()
+    }
+
+    /// Returns the node at a position.
+    pub fn node(&self, at: Pos) -> &Adm
+        requires { at.0 < length self.now.ids }
+        ensures { slice_get self.now.nodes at.0 ≡ Some result.now }
+    {
+        self.ring.node(at)
     }
 
     /// Returns the nodes, by position.

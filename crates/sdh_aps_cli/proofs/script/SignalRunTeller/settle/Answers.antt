@@ -7,15 +7,16 @@ use Rattle.sdh_world.specs.Held.{HeldRing}
 use Rattle.sdh_world.specs.Rounds.{World, world}
 use Rattle.sdh_owed.proofs.Standing.{long_step}
 use Rattle.sdh_owed.proofs.Steps.{settled_held, settled_whole, next_by}
-use Rattle.sdh_aps_cli.specs.Recording.{IsCut}
+use Rattle.sdh_report.specs.Lines.{settle_line}
+use Rattle.sdh_aps_cli.specs.Recording.{IsCut, AreShown}
 use Rattle.sdh_aps_cli.proofs.Rounds.{recorded_none}
-use Rattle.sdh_aps_cli.specs.Signalled.{changes_in}
+use Rattle.sdh_aps_cli.specs.Signalled.{changes_in, shown_at}
 use Rattle.sdh_aps_cli.specs.Listing.{changes_text, begun_text, ended_text}
 use Rattle.sdh_aps_cli.proofs.Steps.{on_err_is, on_ok_is, ids_at, begun_some, unsettled_some, cut_some, wrote_step, cut_line, ready_as}
 use Rattle.sdh_aps_cli.proofs.script.SignalRunTeller.settle.Goals as goal
 
 pub begin-requires : goal.begin-requires
-begin-requires g c = c.requires.may.1.1.many
+begin-requires g c = c.requires.may.1.1.many ∙ ap (λ (r : HeldRing). length r.ids) (sym c.running.ensures)
 
 pub settle_recording-requires-clause-ready : goal.settle_recording-requires-clause-ready
 settle_recording-requires-clause-ready g c = λ at is. (
@@ -23,7 +24,8 @@ settle_recording-requires-clause-ready g c = λ at is. (
   recorded_none c.begin.new.self.listing at c.args.self.now.ring c.begin.new.self.before.items c.begin.new.self.text _
       (ap (λ (v : World). v.ring) (sym is))
       (ready_as c.args.self.now.ring c.args.self.now.ring _ _ _ _ refl c.begin.ensures.many
-      (ap (λ t. t.room + length t.bytes) c.begin.ensures.text) c.requires.may.1.1) c.begin.ensures.shown,
+      (ap (λ t. t.room + length t.bytes) c.begin.ensures.text) c.requires.may.1.1)
+      (subst (λ (r : HeldRing). AreShown (shown_at r) c.begin.new.self.before.items) c.running.ensures c.begin.ensures.shown),
   record { later = le_refl _; none = λ e. refl },
 )
 
@@ -85,7 +87,9 @@ returns-in-Ok-write_text-clause-ok g c =
     let new = g.W.Sink.written c.write_text.new.sink in
     let x = on_ok_is c.in-Ok.ended c.in-Ok-ended.field-0 c.in-Ok-ended.is c.in-Ok.ensures.heard in
     wrote_step w left c.args.limit (c.args.number + 1) listing old new _ x c.begin.new.self.listing c.begin.ensures.listing mid
-    x.kept.1.written (subst (Appends mid new) (c.bytes.ensures ∙ c.end.ensures.bytes) c.in-Ok-write_text.ensures.ok)
+    x.kept.1.written (subst (Appends mid new)
+    (c.bytes.ensures ∙ c.end.ensures.bytes ∙ ap (λ (r : HeldRing). settle_line (c.args.number + 1) (r.rounds - 1)) c.running-2.ensures)
+    c.in-Ok-write_text.ensures.ok)
 
 pub returns-in-Ok-write_text-clause-next : goal.returns-in-Ok-write_text-clause-next
 returns-in-Ok-write_text-clause-next g c later may =
@@ -118,4 +122,6 @@ returns-in-Err-clause-begun g c =
     let new = g.W.Sink.written c.write_text.new.sink in
     let x = on_ok_is c.in-Ok.ended c.in-Ok-ended.field-0 c.in-Ok-ended.is c.in-Ok.ensures.heard in
     cut_line w left c.args.limit (c.args.number + 1) listing old new _ x c.begin.new.self.listing c.begin.ensures.listing mid
-    x.kept.1.written (subst (AppendsFewer mid new) (c.bytes.ensures ∙ c.end.ensures.bytes) c.in-Err.ensures.front)
+    x.kept.1.written (subst (AppendsFewer mid new)
+    (c.bytes.ensures ∙ c.end.ensures.bytes ∙ ap (λ (r : HeldRing). settle_line (c.args.number + 1) (r.rounds - 1)) c.running-2.ensures)
+    c.in-Err.ensures.front)

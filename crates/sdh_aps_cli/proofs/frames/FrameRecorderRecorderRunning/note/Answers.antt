@@ -8,7 +8,7 @@ use Rattle.sdh_world.specs.Held.{HeldRing}
 use Rattle.sdh_aps_cli.specs.Frames.{sent_last, is_wanted}
 use Rattle.sdh_aps_cli.proofs.Rounds.{has_run, none_more, one_fails}
 use Rattle.sdh_aps_cli.proofs.FrameRounds.{place_next, not_wanted, one_frame, no_frame, written_more, cut_more, wanted_as, frame_as}
-use Rattle.sdh_aps_cli.proofs.frames.FrameRecorderRecorderRing.note.Goals as goal
+use Rattle.sdh_aps_cli.proofs.frames.FrameRecorderRecorderRunning.note.Goals as goal
 
 -- the plant has the node: its fibres are those of the world after the round
 pub overflow_sub-round : goal.overflow_sub-round

@@ -4,7 +4,7 @@ use Rattle.sdh_outside.specs.Writing.{AppendsFewer}
 use Rattle.sdh_aps_cli.specs.Signalled.{changes_to}
 use Rattle.sdh_aps_cli.specs.Listing.{changes_text}
 use Rattle.sdh_aps_cli.proofs.Rounds.{same_size, has_run, recorded_more, cut_more, none_more, one_fails}
-use Rattle.sdh_aps_cli.proofs.recording.SignalRecorderRecorderRing.note.Goals as goal
+use Rattle.sdh_aps_cli.proofs.recording.SignalRecorderRecorderRunning.note.Goals as goal
 
 pub look-requires-clause-many : goal.look-requires-clause-many
 look-requires-clause-many g c = let r = c.requires in r.6.1.ready.many ∙ sym (same_size r.2 r.3 c.args.ring.now r.4)
