@@ -1,8 +1,6 @@
-use Rattle.std.proofs.Common.{◌≡◌, false, length, sym, subst, ◌∙◌, arith, rules}
-use Rattle.sdh_ringmap.specs.declared.terms.Rate.{Rate}
+use Rattle.std.proofs.Common.{◌≡◌, false, length, sym, subst, rules}
 use Rattle.sdh_request.specs.declared.settings.Settings.{Settings}
 use Rattle.sdh_plant.specs.Fibres.{IsPrepared}
-use Rattle.sdh_world.specs.Held.{HeldRing}
 use Rattle.sdh_world.specs.Rounds.{world}
 use Rattle.sdh_ring.proofs.Delivered.{stays_step}
 use Rattle.sdh_bench_ring.proofs.settle_often.Goals as goal
