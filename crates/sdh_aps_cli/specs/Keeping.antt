@@ -1,7 +1,7 @@
 -- What is recorded depends only on the rounds that have run.
 use Rattle.std.specs.Prelude.{◌≡◌, ℕ, zero, suc, ◌≤◌, List, ◌++◌, Option}
 use Rattle.std.specs.Io.KnownBytes.{Appends}
-use mathlib.Core.Path.{refl, ap, ap₂, subst}
+use mathlib.Core.Path.{refl, subst}
 use native.Mathlib.Nat.{le_refl, le_step}
 use Rattle.sdh_world.specs.Rounds.{World}
 use Rattle.sdh_report.specs.Written.{Written}

@@ -70,10 +70,12 @@ fn run_lines<W: Sink, P: Plant>(
     crate::laws::scripts_go_as_signals();
     crate::laws::steps_go_as_signals();
     let (mut run, script) = new_run(alloc, plan, lines)?;
-    let status = start_over(alloc, plant, &mut run, script, sink)?;
+    let ended = start_over(alloc, plant, &mut run, script, sink);
+    let rounds = run.ring.rounds();
+    drop(run);
     Ok(RanPlan {
-        status,
-        rounds: run.ring.rounds(),
+        status: ended?,
+        rounds,
     })
 }
 
@@ -105,10 +107,12 @@ fn run_frames<W: Sink, P: Plant>(
     let PlanParts { ring, script } = parts;
     let recorder = FrameRecorder { ask };
     let mut run = FrameRun { ring, recorder };
-    let status = start_over(alloc, plant, &mut run, script, sink)?;
+    let ended = start_over(alloc, plant, &mut run, script, sink);
+    let rounds = run.ring.rounds();
+    drop(run);
     Ok(RanPlan {
-        status,
-        rounds: run.ring.rounds(),
+        status: ended?,
+        rounds,
     })
 }
 

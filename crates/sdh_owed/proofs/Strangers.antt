@@ -15,7 +15,7 @@ use Rattle.sdh_payload.specs.Outlet.{Outlet}
 use Rattle.sdh_plant.specs.Fibres.{Fibres}
 use Rattle.sdh_request.specs.declared.settings.Settings.{Settings}
 use Rattle.sdh_signal.specs.Laws.{StillRingsAreSettled}
-use Rattle.sdh_world.specs.Held.{HeldRing, new_ring, outlet_at, node_at}
+use Rattle.sdh_world.specs.Held.{HeldRing, new_ring, outlet_at}
 use Rattle.sdh_world.specs.Rounds.{World, round}
 use Rattle.sdh_world.specs.Runs.{run, course}
 use Rattle.sdh_world.specs.Quiet.{is_calm, EndsWindow}

@@ -1,5 +1,5 @@
 -- What a table asks for, from its parts.
-use Rattle.std.proofs.Common.{◌≡◌, ℕ, ℤ, List, Option, Some, None, option_map, refl, codes}
+use Rattle.std.proofs.Common.{◌≡◌, ℕ, ℤ, List, Option, Some, None, refl, codes}
 use Rattle.std.specs.Option.{option_zip}
 use Rattle.toml.specs.Data.{Members}
 use Rattle.sdh_circuits.specs.Checks.{Wish}

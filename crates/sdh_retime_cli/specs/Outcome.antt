@@ -102,8 +102,8 @@ HasRun status.Ok = Unit {0}
 HasRun (status.Drift turn) = Unit {0}
 HasRun _ = ⊥
 
--- some four chunks in a row, the last of them in this turn or before it, have together fewer than 9393 or more than 9399
--- bytes: they are unsteady
+-- some four chunks in a row, the last of them in this turn or before it, have together fewer than 9393 or more than
+-- 9399 bytes: they are unsteady
 pub record UnsteadyBy (digits : List ℕ) (turn : ℕ) : Type 0 where
   pub first : ℕ
   pub within : first + 4 ≤ turn
@@ -128,8 +128,8 @@ AreUnsteady words turn text = (digits : List ℕ) × (words ≡ digits ∷ []) �
 abbrev pub WritesUnsteady : List (List ℕ) → ℕ → Option (List ℕ) → Option (List ℕ) → Type 0
 WritesUnsteady words turn old new = (text : List ℕ) × AreUnsteady words turn text × Appends old new text
 
--- a run of digits ends with a drift only where some four chunks in a row are unsteady, the last of them in the turn that
--- is the drift or before it
+-- a run of digits ends with a drift only where some four chunks in a row are unsteady, the last of them in the turn
+-- that is the drift or before it
 abbrev pub DriftsAreUnsteady : Type 0
 DriftsAreUnsteady =
     (digits bytes : List ℕ) (k turn : ℕ) (text : List ℕ) → IsDigits digits → IsDrift digits bytes k turn text → UnsteadyBy digits turn

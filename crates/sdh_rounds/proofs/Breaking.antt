@@ -18,7 +18,7 @@ use Rattle.sdh_rounds.specs.Outcome.{IsOneRound}
 use Rattle.sdh_rounds.specs.declared.faults.PlantFault.{PlantFault}
 use Rattle.sdh_rounds.proofs.Runs.{known_arrive}
 use Rattle.sdh_rounds.proofs.Rings as rings
-use Rattle.sdh_rounds.proofs.Rings.{heard_keep, some_keep, all_keep, first_keep, off_hearing, off_sending}
+use Rattle.sdh_rounds.proofs.Rings.{heard_keep, some_keep, first_keep, off_hearing, off_sending}
 
 -- a ring that changed in all but its size
 pub fits_with : {N : Type 0} (r : HeldRing N) (ns : List N) (m rounds : ℕ) (broken : Bool) → HasItsNodes r → length ns ≡ length r.nodes

@@ -6,7 +6,7 @@ use Rattle.sdh_plant.specs.Fibres.{Fibres}
 use Rattle.sdh_plan.specs.Planned.{Planned}
 use Rattle.sdh_report.specs.declared.status.Status.{Status}
 use Rattle.sdh_shell.proofs.Endings.{has_run}
-use Rattle.sdh_scripts.specs.Programs.{Deed, Writes, Runs, deed_listing, Closing, as_script, Program}
+use Rattle.sdh_scripts.specs.Programs.{Writes, deed_listing, Closing, as_script, Program}
 use Rattle.sdh_scripts.specs.Outcome.{IsRunOutcome}
 use Rattle.sdh_scripts.specs.Plans.{Account, ReportsOwe, IsRunOf, Tells}
 use Rattle.sdh_scripts.proofs.Plans.{ends_of}

@@ -1,8 +1,7 @@
 -- The outcome, stage by stage: a plan, the bytes of a source, the words.
-use Rattle.std.proofs.Common.{◌≡◌, ◌≢◌, ℕ, true, false, None, Some, List, [], refl, ap, sym, ◌∙◌, subst, inl, inr, arith}
-use Rattle.std.specs.Prelude.{Option, IfSome, is_some, ◌↔◌}
+use Rattle.std.proofs.Common.{◌≡◌, ℕ, None, Some, List, [], refl, ap, sym, ◌∙◌, subst, inl, inr}
+use Rattle.std.specs.Prelude.{Option, IfSome, is_some}
 use Rattle.std.specs.Io.KnownBytes.{IsAtEnd, Appends}
-use Rattle.sdh_outside.specs.Writing.{AppendsFewer}
 use Rattle.sdh_plant.specs.Fibres.{Fibres}
 use Rattle.sdh_plan.specs.Planned.{Planned}
 use Rattle.sdh_report.specs.declared.status.Status.{Status}
@@ -16,8 +15,8 @@ use Rattle.sdh_shell.proofs.Told.{told_all}
 use Rattle.sdh_shell.proofs.Endings.{EndsPlan}
 use Rattle.sdh_shell.proofs.Writing.{told_whole}
 use Rattle.sdh_scripts.specs.Programs.{Deed, Refuses, Writes, Runs, IsRunEnd, Program}
-use Rattle.sdh_scripts.specs.Outcome.{HasRefused, OfDeed, OfPlan, OfBytes, OfOwnPlan, IsOutcome, MayEnd}
-use Rattle.sdh_scripts.specs.Outcome.{HasRead, LeavesPlant, reads_without, reads_source, told}
+use Rattle.sdh_scripts.specs.Outcome.{OfDeed, OfPlan, OfBytes, OfOwnPlan, IsOutcome, MayEnd}
+use Rattle.sdh_scripts.specs.Outcome.{HasRead, reads_without, reads_source, told}
 use Rattle.sdh_scripts.specs.Headline.{is_plan_for, MayGo, MayBeDone}
 
 module _ {A L T E : Type 0} (program : Program A L T E) (plan : Planned) (f left : Fibres) (how : E) (text : List ℕ) where

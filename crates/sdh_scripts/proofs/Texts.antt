@@ -18,7 +18,7 @@ use Rattle.sdh_scripts.specs.Walks.{Walk}
 use Rattle.sdh_scripts.specs.Scripts.{Breaks, Runs}
 use Rattle.sdh_scripts.specs.Texts.{room_for, HasRoom, Went, WritesLast, StopsAt, FailsAt, Lists, WriteFailed}
 use Rattle.sdh_scripts.specs.Streams.{IsTail}
-use Rattle.sdh_scripts.specs.Runners.{Refused, WroteStep}
+use Rattle.sdh_scripts.specs.Runners.{WroteStep}
 use Rattle.sdh_scripts.specs.Tellers.{WasToWrite, WroteBegun}
 use Rattle.sdh_scripts.specs.declared.teller.StepError.TheVariants as why
 

@@ -1,12 +1,12 @@
 -- How a call that read a plan may end.
-use Rattle.std.proofs.Common.{◌≡◌, ◌≢◌, ℕ, None, Some, refl, ap, sym, ◌∙◌, subst, inl, inr, arith}
+use Rattle.std.proofs.Common.{◌≡◌, ◌≢◌, ℕ, None, Some, refl, ap, sym, ◌∙◌, subst, inl, inr}
 use Rattle.std.specs.Prelude.{◌⊎◌, Option}
 use Rattle.sdh_report.specs.declared.status.Status.{Status}
 use Rattle.sdh_report.specs.declared.status.Status.TheVariants as status
 use Rattle.sdh_shell.specs.Calls.{HasRun}
 use Rattle.sdh_shell.specs.Endings.{Endings, refuses_plan, RefusesPlan}
 use Rattle.sdh_shell.specs.Failing.{Counts, HaveFailed, HasCause, cause_of, EndsWithCause}
-use Rattle.sdh_shell.specs.Writing.{Whole, Nothing, telling_of, telling_if, IsShown}
+use Rattle.sdh_shell.specs.Writing.{Whole, telling_of, telling_if, IsShown}
 use Rattle.sdh_shell.proofs.Plans.{some_same}
 
 -- a script ends with one of these

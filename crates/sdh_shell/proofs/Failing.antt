@@ -1,12 +1,8 @@
 -- Calls that failed, and answers.
-use Rattle.std.proofs.Common.{◌≡◌, ℕ, Bool, true, List, refl, ap, arith}
+use Rattle.std.proofs.Common.{◌≡◌, ℕ, Bool, true, List, refl, arith}
 use Rattle.std.specs.Prelude.{Result, Ok, Err, Option}
 use Rattle.sdh_basics.specs.Causes.{IsCounted}
-use Rattle.sdh_report.specs.declared.status.Status.{Status}
-use Rattle.sdh_report.specs.declared.status.Status.TheVariants as status
-use Rattle.sdh_shell.specs.Endings.{Endings}
-use Rattle.sdh_shell.specs.Failing.{Counts, CameOfSource, CameToFaults, CameToEnding}
-use Rattle.sdh_shell.proofs.Endings.{one_status}
+use Rattle.sdh_shell.specs.Failing.{Counts, CameOfSource}
 
 not_err_eq : {T E : Type 0} (x : T) (e : E) (r : Result T E) → r ≡ Ok x → r ≡ Err e → ⊥
 not_err_eq x e r a b = grind arith

@@ -1,13 +1,9 @@
 -- Bytes, and their one plan.
-use Rattle.std.proofs.Common.{◌≡◌, ℕ, None, Some, List, refl, ap, sym, ◌∙◌, arith}
+use Rattle.std.proofs.Common.{◌≡◌, ℕ, Some, List, ap, sym, ◌∙◌, arith}
 use Rattle.std.specs.Prelude.{Option}
 use Rattle.sdh_plan.specs.Planned.{Planned}
-use Rattle.toml.specs.Data.{Members}
-use Rattle.sdh_plan.specs.Check.{answer}
-use Rattle.sdh_plan.specs.Plans.{plan_of, checks}
-use Rattle.sdh_report.specs.declared.status.Status.{Status}
-use Rattle.sdh_report.specs.declared.status.Status.TheVariants as status
-use Rattle.sdh_shell.specs.Reading.{HasNoPlan, TellsPlan}
+use Rattle.sdh_plan.specs.Plans.{plan_of}
+use Rattle.sdh_shell.specs.Reading.{TellsPlan}
 
 pub some_same : {A : Type 0} (a b : A) → ◌≡◌ {A = Option A} (Some a) (Some b) → a ≡ b
 some_same a b e = grind arith

@@ -1,15 +1,9 @@
 -- What cannot be where a source has no plan.
-use Rattle.std.proofs.Common.{◌≡◌, ℕ, List, ap, sym, ◌∙◌}
-use Rattle.std.specs.Prelude.{Result, Err}
-use Rattle.sdh_plan.specs.Planned.{Planned}
+use Rattle.std.proofs.Common.{ℕ, List}
 use Rattle.sdh_report.specs.declared.status.Status.{Status}
 use Rattle.sdh_report.specs.declared.status.Status.TheVariants as status
 use Rattle.sdh_shell.specs.Calls.{HasRun}
-use Rattle.sdh_shell.specs.Endings.{Endings}
 use Rattle.sdh_shell.specs.Reading.{HasNoPlan}
-use Rattle.sdh_shell.specs.declared.reading.NoPlan.{NoPlan}
-use Rattle.sdh_shell.specs.declared.reading.NoPlan.TheVariants.{Refused}
-use Rattle.sdh_shell.proofs.Endings.{one_status}
 
 -- without a plan nothing is run
 pub no_run : (bytes : List ℕ) (how : Status) (A : Type 0) → HasNoPlan bytes how → HasRun how → A

@@ -1,13 +1,10 @@
 -- What is written, where the source shows its bytes.
-use Rattle.std.proofs.Common.{◌≡◌, ℕ, List, ap, sym, subst}
+use Rattle.std.proofs.Common.{◌≡◌, ℕ, List, sym, subst}
 use Rattle.std.specs.Prelude.{Option, IfSome}
 use Rattle.std.specs.Io.KnownBytes.{Appends}
-use Rattle.sdh_outside.specs.Writing.{AppendsFewer}
-use Rattle.sdh_report.specs.declared.status.Status.{Status}
-use Rattle.sdh_report.specs.declared.status.Status.TheVariants as status
 use Rattle.sdh_shell.specs.Endings.{Endings}
 use Rattle.sdh_shell.specs.Failing.{Counts, EndsWithCause}
-use Rattle.sdh_shell.specs.Writing.{Telling, Whole, Front, telling_if, WritesAs, WritesWith, IsShown}
+use Rattle.sdh_shell.specs.Writing.{Telling, Whole, WritesAs, WritesWith, IsShown}
 use Rattle.sdh_shell.proofs.Told.{told_all}
 
 -- the text of an outcome was written whole

@@ -1,6 +1,6 @@
 -- What the program promises follows from its outcome.
-use Rattle.std.proofs.Common.{arith, ◌≡◌, ◌≢◌, ◌++◌, ℕ, true, None, Some, List, refl, ap, sym, ◌∙◌, subst, inl, inr}
-use Rattle.std.specs.Prelude.{Option, IfSome, ◌⊎◌}
+use Rattle.std.proofs.Common.{arith, ◌≡◌, ◌≢◌, ◌++◌, ℕ, true, None, Some, List, refl, sym, subst, inl, inr}
+use Rattle.std.specs.Prelude.{Option, IfSome}
 use Rattle.std.specs.Io.KnownBytes.{Appends}
 use Rattle.sdh_plant.specs.Fibres.{Fibres}
 use Rattle.sdh_plant.specs.Arrivals.{Knows}

@@ -1,14 +1,13 @@
 -- Sets of spans, by marks.
-use Rattle.std.proofs.Common.{◌≡◌, ℕ, zero, suc, ◌+◌, ◌%◌, ◌<◌, ◌≤◌, Bool, true, false, List, [], ◌∷◌, ◌++◌, length, get_or, set, take, refl, sym, ap, ◌∙◌}
+use Rattle.std.proofs.Common.{◌≡◌, ℕ, zero, suc, ◌+◌, ◌%◌, ◌<◌, ◌≤◌, Bool, true, false, List, [], ◌∷◌, ◌++◌, length, get_or, take, refl, ap, ◌∙◌}
 use Rattle.std.proofs.Common.{arith, subst, inl, inr, length-append}
 use Rattle.std.specs.Prelude.{if◌then◌else◌}
 use Rattle.std.proofs.Math.Nat.{mod-lt}
 use Rattle.std.proofs.Math.Seq.{get_or-append_seam}
 use Rattle.std.proofs.lemmas.Bool.{cases_lt}
-use Rattle.std.proofs.lemmas.List.{append-nil, get_or-take, get_or_append_left, length-take-le, map-append, take_more_set}
-use Rattle.sdh_ringmap.specs.declared.Span.{Span}
+use Rattle.std.proofs.lemmas.List.{append-nil, get_or-take, get_or_append_left, length-take-le}
 use Rattle.sdh_verdicts.specs.declared.judging.SpanSet.{SpanSet}
-use Rattle.sdh_verdicts.specs.Verdicts.{AreSpans, numbers_of, places_below}
+use Rattle.sdh_verdicts.specs.Verdicts.{AreSpans, places_below}
 use Rattle.sdh_verdicts.proofs.Counts.{counted_same}
 
 places_same : (p q : ℕ → Bool) (k : ℕ) → ((s : ℕ) → s < k → p s ≡ q s) → places_below p k ≡ places_below q k

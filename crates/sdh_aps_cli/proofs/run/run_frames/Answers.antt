@@ -8,8 +8,8 @@ use Rattle.sdh_aps_cli.specs.declared.listing.PlanListing.TheVariants as listed
 use Rattle.sdh_aps_cli.proofs.Plans.{came_of_run, fits_ring}
 use Rattle.sdh_aps_cli.proofs.run.run_frames.Goals as goal
 
-pub start_over-requires-clause-ready : goal.start_over-requires-clause-ready
-start_over-requires-clause-ready g c =
+pub start_over-ended-requires-clause-ready : goal.start_over-ended-requires-clause-ready
+start_over-ended-requires-clause-ready g c =
     let plan = c.args.plan in
     let parts = c.in_ok-parts.ensures in
     let ring = c.in_ok-parts.parts.ring in
@@ -33,17 +33,17 @@ returns-clause-ran g c =
     let means = g.P.Plant.fibres in
     let f = means c.args.plant.now in
     let parts = c.in_ok-parts.ensures in
-    let ran = c.in_ok-status.ensures in
+    let ran = c.in_ok-ended.ensures in
     let failures : Failures = record {
-      calls = record { before = g.P.Plant.faults c.args.plant.now; after = g.P.Plant.faults c.start_over.new.plant };
-      writes = record { before = g.W.Sink.faults c.args.sink.now; after = g.W.Sink.faults c.start_over.new.output };
+      calls = record { before = g.P.Plant.faults c.args.plant.now; after = g.P.Plant.faults c.start_over-ended.new.plant };
+      writes = record { before = g.W.Sink.faults c.args.sink.now; after = g.W.Sink.faults c.start_over-ended.new.output };
       calls_exact = g.P.Plant.exact;
       writes_exact = g.W.Sink.exact;
     } in
     came_of_run c.scripts_settle.ensures c.scripts_go_as_signals.ensures c.steps_go_as_signals.ensures
     c.args.plan (listed.Frames c.args.ask) f parts.form
     (λ (h : f.honest ≡ true). record { honest = h; tells_none = g.met.P.Plant.honest_tells_none c.args.plant.now h })
-    c.in_ok-parts.parts.script parts.script c.in_ok-parts.parts.ring parts.ring failures c.in_ok-status.status _
-    (g.W.Sink.written c.args.sink.now) (g.W.Sink.written c.start_over.new.output)
-    (world c.start_over.new.runner.ring (means c.start_over.new.plant)) c.rounds.ensures ran.wrote ran.breaks ran.failed ran.cut
+    c.in_ok-parts.parts.script parts.script c.in_ok-parts.parts.ring parts.ring failures c.in_ok-ended.field-0 _
+    (g.W.Sink.written c.args.sink.now) (g.W.Sink.written c.start_over-ended.new.output)
+    (world c.start_over-ended.new.runner.ring (means c.start_over-ended.new.plant)) c.rounds-rounds.ensures ran.wrote ran.breaks ran.failed ran.cut
     ran.counted ran.writes_counted

@@ -13,8 +13,8 @@ use Rattle.sdh_aps_cli.specs.declared.listing.PlanListing.TheVariants as listed
 use Rattle.sdh_aps_cli.proofs.Plans.{came_of_run, fits_ring}
 use Rattle.sdh_aps_cli.proofs.run.run_lines.Goals as goal
 
-pub start_over-requires-clause-ready : goal.start_over-requires-clause-ready
-start_over-requires-clause-ready g c =
+pub start_over-ended-requires-clause-ready : goal.start_over-ended-requires-clause-ready
+start_over-ended-requires-clause-ready g c =
     let plan = c.args.plan in
     let made = c.in_ok-run.ensures in
     let ring = c.in_ok-run.run'.ring in
@@ -41,21 +41,21 @@ returns-clause-ran g c =
     let ring = c.in_ok-run.run'.ring in
     let script = c.in_ok-run.script in
     let old = g.W.Sink.written c.args.sink.now in
-    let new = g.W.Sink.written c.start_over.new.output in
-    let left = world c.start_over.new.runner.ring (means c.start_over.new.plant) in
-    let ran = c.in_ok-status.ensures in
+    let new = g.W.Sink.written c.start_over-ended.new.output in
+    let left = world c.start_over-ended.new.runner.ring (means c.start_over-ended.new.plant) in
+    let ran = c.in_ok-ended.ensures in
     let failures : Failures = record {
-      calls = record { before = g.P.Plant.faults c.args.plant.now; after = g.P.Plant.faults c.start_over.new.plant };
-      writes = record { before = g.W.Sink.faults c.args.sink.now; after = g.W.Sink.faults c.start_over.new.output };
+      calls = record { before = g.P.Plant.faults c.args.plant.now; after = g.P.Plant.faults c.start_over-ended.new.plant };
+      writes = record { before = g.W.Sink.faults c.args.sink.now; after = g.W.Sink.faults c.start_over-ended.new.output };
       calls_exact = g.P.Plant.exact;
       writes_exact = g.W.Sink.exact;
     } in
     came_of_run c.scripts_settle.ensures c.scripts_go_as_signals.ensures c.steps_go_as_signals.ensures
     plan (listed.Lines c.args.lines) f made.form
     (λ (h : f.honest ≡ true). record { honest = h; tells_none = g.met.P.Plant.honest_tells_none c.args.plant.now h })
-    script made.script ring made.ring failures c.in_ok-status.status _ old new left c.rounds.ensures
+    script made.script ring made.ring failures c.in_ok-ended.field-0 _ old new left c.rounds-rounds.ensures
     (λ other. subst (λ (l : SignalListing). WroteSteps signalling_walk script.limit (ended_text l) (begun_text l) script.steps.items
-    (with_fibres ring f) f old new c.in_ok-status.status left) made.listing (ran.wrote other))
+    (with_fibres ring f) f old new c.in_ok-ended.field-0 left) made.listing (ran.wrote other))
     (λ fault. subst (λ (l : SignalListing). WriteFailed signalling_walk script.limit (ended_text l) (begun_text l) script.steps.items
     (with_fibres ring f) old new left) made.listing (ran.breaks fault))
     ran.failed ran.cut ran.counted ran.writes_counted

@@ -1,7 +1,7 @@
 use Rattle.std.proofs.Common.{◌≡◌, ◌∷◌, ap, sym, ◌∙◌}
 use Rattle.sdh_circuits.specs.Ends.{other_end}
 use Rattle.sdh_circuits.specs.Provisioned.{customer_at}
-use Rattle.sdh_outage.specs.Kinds.{kind_of, last_heard}
+use Rattle.sdh_outage.specs.Kinds.{kind_of}
 use Rattle.sdh_outage.specs.Kept.{Heard, heard}
 use Rattle.sdh_outage_cli.specs.Streams.{holder_of}
 use Rattle.sdh_outage_cli.proofs.ports.look.Goals as goal

@@ -1,4 +1,4 @@
-use Rattle.std.proofs.Common.{◌≡◌, None, option_map, ap, sym, ◌∙◌, rules}
+use Rattle.std.proofs.Common.{option_map, ap, sym, ◌∙◌, rules}
 use Rattle.toml.specs.View.{table_view}
 use Rattle.sdh_circuits.specs.Checks.{wish_of}
 use Rattle.sdh_plan.proofs.Wishes.{without_name, without_way, without_texts, without_traces, without_offsets, with_all}

@@ -1,4 +1,4 @@
-use Rattle.std.proofs.Common.{◌≡◌, ◌<◌, length, get_or, refl, ap, sym, ◌∙◌, arith, rules}
+use Rattle.std.proofs.Common.{length, refl, ap, sym, ◌∙◌, arith, rules}
 use Rattle.sdh_basics.proofs.Indexing.{read_here, place_more, rest_more, place_all}
 use Rattle.sdh_terminal.proofs.Waiting.{mapped, size_at, size_count}
 use Rattle.sdh_terminal.proofs.deliveries.deliver_nodes.Goals as goal

@@ -1,4 +1,4 @@
-use Rattle.std.proofs.Common.{◌≡◌, ℕ, ◌+◌, List, Err, length, ap, refl, subst, ◌∙◌, arith, le_refl}
+use Rattle.std.proofs.Common.{◌≡◌, ℕ, ◌+◌, List, Err, length, ap, refl, subst, arith, le_refl}
 use Rattle.std.proofs.KnownBytes.{Appends-nil}
 use Rattle.sdh_circuits.specs.declared.PortId.{PortId}
 use Rattle.sdh_rounds.specs.declared.faults.SettleError.{SettleError}

@@ -1,4 +1,4 @@
-use Rattle.std.proofs.Common.{◌≤◌, sym, subst, ap, ◌∙◌, arith, rules}
+use Rattle.std.proofs.Common.{◌≤◌, sym, subst, ap, ◌∙◌, arith}
 use Rattle.sdh_terminal.specs.Tributaries.{HasPort}
 use Rattle.sdh_node.specs.Node.{Node, new_node, moment_of}
 use Rattle.sdh_node_cli.proofs.Own.{own_there}
