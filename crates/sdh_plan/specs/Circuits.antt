@@ -7,7 +7,7 @@ use Rattle.sdh_circuits.specs.Checks.{circuit_of}
 use Rattle.sdh_circuits.specs.Provisioned.{Provisioned}
 use Rattle.sdh_circuits.specs.Provisioning.{Provisioning}
 use Rattle.sdh_plan.specs.Check.{Check, Fault, checks_at_place}
-use Rattle.sdh_plan.specs.Document.{integer_at, text_at, has_only}
+use Rattle.sdh_plan.specs.Document.{◌>>=◌, integer_at, text_at, has_only}
 use Rattle.sdh_plan.specs.declared.reason.Reason.TheVariants as reason
 
 -- the keys that a circuit may have

@@ -11,7 +11,7 @@ use Rattle.sdh_ringmap.specs.Numbering.{is_ring_size, first_unfit, first_repeat,
 use Rattle.sdh_circuits.specs.Provisioned.{Provisioned}
 use Rattle.sdh_plan.specs.declared.step.Step.{Step}
 use Rattle.sdh_plan.specs.Check.{Check}
-use Rattle.sdh_plan.specs.Document.{has_only, number_at, elements_in, is_array_of, is_integer, is_string, is_table, integer_of}
+use Rattle.sdh_plan.specs.Document.{◌>>=◌, has_only, number_at, elements_in, is_array_of, is_integer, is_string, is_table, integer_of}
 use Rattle.sdh_plan.specs.Document.{string_of}
 use Rattle.sdh_plan.specs.Circuits.{members_of, circuit_of_table, circuits_checks}
 use Rattle.sdh_plan.specs.Steps.{step_of, steps_checks, new_past, ends_settled}
