@@ -14,7 +14,7 @@ use Rattle.sdh_terminal.specs.Tributaries.{Tributary, is_port, port_of, HasPort,
 use Rattle.sdh_terminal.proofs.Found.{has_own}
 use Rattle.sdh_node.specs.Crossing.{all_delivered}
 use Rattle.sdh_node.specs.Node.{Node, crossing, ports_after, after_crossing, with_calm, node_round}
-use Rattle.sdh_node.proofs.Waiting.{count_waits}
+use Rattle.sdh_node.proofs.Later.{count_waits}
 use Rattle.sdh_node_cli.specs.Records.{end_here, IsOwn}
 
 -- ---- slips leave each port where it is
