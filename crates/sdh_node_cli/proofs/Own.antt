@@ -14,7 +14,7 @@ use Rattle.sdh_terminal.specs.Tributaries.{Tributary, is_port, port_of, HasPort,
 use Rattle.sdh_terminal.proofs.Found.{has_own}
 use Rattle.sdh_node.specs.Crossing.{all_delivered}
 use Rattle.sdh_node.specs.Node.{Node, crossing, ports_after, after_crossing, with_calm, node_round}
-use Rattle.sdh_node.proofs.Waiting.{count_waits}
+use Rattle.sdh_node.proofs.Later.{count_waits}
 use Rattle.sdh_node_cli.specs.Records.{end_here, IsOwn}
 
 -- ---- slips leave each port where it is
@@ -63,10 +63,3 @@ own_there cs at port own =
     let place = end_there at c port.end own.2 in
     subst (λ (p : ℕ). HasPort (tributaries_at (record { 0 = p }) cs) port) place
     (has_own cs c port (slice_get_within cs port.circuit c get) (get_or_from_slice_get cs port.circuit c c get))
-
--- ---- a round leaves their number
-
-pub count_round : (now : ℕ) (n : Node) → length (node_round now n).0.ports ≡ length n.ports
-unfolding node_round with_calm after_crossing ports_after all_fed
-count_round now n =
-    length-map_from (λ i (t : Tributary). fed t) 0 (all_delivered (crossing now n) n.ports) ∙ count_waits (crossing now n) n.ports
