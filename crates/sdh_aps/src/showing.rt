@@ -7,7 +7,7 @@ ghost use Rattle.sdh_aps.specs.Showing.{shown_of};
 use crate::shown::{Shown, WordPair};
 use crate::told::{bytes_told, state_told};
 use sdh_kbytes::K;
-use sdh_node::Adm;
+use sdh_node::Multiplexer;
 use sdh_report::WordBytes;
 use sdh_ringmap::Side;
 
@@ -24,7 +24,7 @@ fn heard_told(word: Option<K>) -> Option<WordBytes>
 
 /// Returns what a node shows after the last round.
 #[tactic(auto, unfolding(crate::specs::Showing::shown_of))]
-pub fn shown_of(node: &Adm) -> Shown
+pub fn shown_of(node: &Multiplexer) -> Shown
     ensures { result ≡ shown_of node.now }
 {
     Shown {

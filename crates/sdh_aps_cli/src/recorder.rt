@@ -11,7 +11,7 @@ use crate::listing::SignalListing;
 use crate::showing::shown_at;
 use sdh_aps::{LINE_MAX, Shown, WordPair, same_shown, signal_line};
 use sdh_report::{StateWord, Text, WordBytes};
-use sdh_ring::Running;
+use sdh_ring::{Ring, Running, ShowsNodes};
 use sdh_ringmap::{Code, Pos};
 use std::alloc::{AllocError, Global};
 
@@ -82,12 +82,12 @@ fn put_round(text: &mut Text, ring: &Running, before: &Vec<Shown>, listing: Sign
 }
 
 // Keeps what all nodes show after the last round.
-fn keep_all(before: &mut Vec<Shown>, ring: &Running)
-    requires { length before.old.items ≡ length ring.now.ids }
+fn keep_all<R: ShowsNodes>(before: &mut Vec<Shown>, ring: &R)
+    requires { length before.old.items ≡ length (R.held ring.now).ids }
     ensures many { length before.new.items ≡ length before.old.items }
-    ensures shown { AreShown (shown_at ring.now) before.new.items }
+    ensures shown { AreShown (shown_at (R.held ring.now)) before.new.items }
 {
-    for i in 0..ring.map().len() {
+    for i in 0..ring.size() {
         before[i] = shown_at(ring, Pos(i as u8));
     }
 }
@@ -134,7 +134,7 @@ impl SignalRecorder {
     }
 
     /// Begins a settle step: keeps what the nodes of a ring show before it.
-    pub fn begin(&mut self, ring: &Running)
+    pub fn begin(&mut self, ring: &Ring)
         requires { length self.old.before.items ≡ length ring.now.ids }
         ensures many { length self.new.before.items ≡ length self.old.before.items }
         ensures shown { AreShown (shown_at ring.now) self.new.before.items }
@@ -162,7 +162,7 @@ impl SignalRecorder {
     }
 
     /// Makes the line that ends settle step `number`, by the ring that the step left.
-    pub fn end(&mut self, ring: &Running, number: u32)
+    pub fn end(&mut self, ring: &Ring, number: u32)
         requires ran { 1 ≤ ring.now.rounds }
         requires room { 96 ≤ room_in self.old.text }
         ensures bytes { self.new.text.bytes ≡ settle_line number (ring.now.rounds - 1) }

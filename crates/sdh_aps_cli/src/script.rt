@@ -49,7 +49,7 @@ impl<W: Sink> Teller<W> for SignalRun {
         number: u32,
         output: &mut W,
     ) -> Result<(), StepError> {
-        self.recorder.begin(self.ring.running());
+        self.recorder.begin(&self.ring);
         let Ok(ended) = self
             .ring
             .settle_recording(plant, limit, &mut self.recorder, output)
@@ -61,7 +61,7 @@ impl<W: Sink> Teller<W> for SignalRun {
             Err(SettleError::Unsettled) => return Err(StepError::Unsettled),
             Err(SettleError::PlantFault) => return Err(StepError::PlantFault),
         }
-        self.recorder.end(self.ring.running(), number + 1);
+        self.recorder.end(&self.ring, number + 1);
         match write_text(output, self.recorder.text.bytes()) {
             Ok(()) => Ok(()),
             Err(_) => Err(StepError::WriteFault),

@@ -1,5 +1,6 @@
 pub mod Rounds
-pub mod Waiting
+pub mod Later
+pub mod Kept
 pub mod Turning
 pub mod Steps
 pub mod Itself

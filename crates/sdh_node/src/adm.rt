@@ -1,61 +1,54 @@
-//! One multiplexer.
-ghost use Rattle.std.specs.Prelude.{◌≡◌, ◌&&◌, not, nat_le, ◌+◌, ◌-◌, ◌/◌, ◌^◌, ◌<◌, ◌≤◌, ◌≢◌, None, IfOk, IfSome, length, get_or, option_map};
+//! One add-drop multiplexer.
+ghost use Rattle.std.specs.Prelude.{◌≡◌, ◌+◌, ◌/◌, ◌^◌, ◌<◌, ◌≤◌, ◌≢◌, None, IfOk, IfSome, length, get_or, option_map};
 ghost use Rattle.sdh_ringmap.specs.Rates.{n_of};
 ghost use Rattle.sdh_circuits.specs.Kept.{KeepsRing};
 ghost use Rattle.sdh_kbytes.specs.KBytes.{IsSpellable};
 ghost use Rattle.sdh_ringmap.specs.declared.Pos.{Pos};
 ghost use Rattle.sdh_nodestate.specs.FarEnds.{far_of};
 ghost use Rattle.sdh_nodestate.specs.Filtering.{hears};
-ghost use Rattle.sdh_nodestate.specs.Words.{SendsSpellable};
 ghost use Rattle.sdh_plant.specs.Arrivals.{as_arrival, arrived_in};
 ghost use Rattle.sdh_node.specs.Receiving.{commanded_by, arrived_on};
-ghost use Rattle.sdh_terminal.specs.Tributaries.{HasPort, outlet_of, outlets_of, waiting_of};
+ghost use Rattle.sdh_terminal.specs.Tributaries.{HasPort, outlet_of, waiting_of};
 ghost use Rattle.sdh_node.specs.Node.{new_node, at_receiving, held_for, slips_at, node_round, GoesOn, receiving_on, sending_on, moment_of};
 
-use crate::cross::{CrossConnect, deliver_ports};
+use crate::multiplexer::Multiplexer;
+use crate::waiting::Waiting;
 use sdh_circuits::{CircuitMap, PortId};
 use sdh_frame::FrameBuf;
 use sdh_kbytes::K;
-use sdh_nodestate::{NodeState, Sent, first_word};
+use sdh_nodestate::NodeState;
 use sdh_overhead::Landed;
-use sdh_payload::Turn;
+use sdh_payload::{Delivered, Turn};
 use sdh_plant::Arrived;
 use sdh_request::{Command, Moment, Settings};
 use sdh_ringmap::{Code, Pos, RingMap, Side};
-use sdh_terminal::{Outlet, Outlets, Sender, TakenPair, Tributaries, send_both};
+use sdh_terminal::{Outlet, Outlets, TakenPair};
 use std::alloc::{AllocError, Global};
 use std::marker::Model;
 
-/// One add-drop multiplexer of the ring. What its ports delivered in the last round waits in the frames that came in
-/// that round, and is taken out of them only when it is asked for. Both frames, the interpreters and the state stay as
-/// that round left them until the next one.
+/// One add-drop multiplexer of the ring, with what its ports delivered in the last round.
 #[derive(Debug, Drop)]
 pub struct Adm {
-    settings: Settings,
-    rounds: u64,
-    cross: CrossConnect,
-    ports: Tributaries,
-    west_out: Sender,
-    east_out: Sender,
-    held: u32,
-    calm: bool,
+    pub(crate) node: Multiplexer,
+    pub(crate) outlets: Outlets,
+    pub(crate) taken: TakenPair,
 }
 
 impl Model for Adm {
-    ghost use Rattle.sdh_node.specs.Crossing.{all_delivered};
-    ghost use Rattle.sdh_node.specs.Node.{Node, IsNode};
+    ghost use Rattle.std.specs.Prelude.{◌≡◌};
+    ghost use Rattle.sdh_terminal.specs.Tributaries.{outlets_of};
+    ghost use Rattle.sdh_node.specs.Node.{Node};
 
     ghost Value = { Node };
 
-    ghost view = { λ a. record { settings = a.settings; ids = a.cross.ids; at = a.cross.at; circuits = a.cross.circuits; rounds = a.rounds; west = a.cross.west; east = a.cross.east; state = a.cross.state; ports = all_delivered a.cross a.ports; west_out = a.west_out; east_out = a.east_out; held = a.held; calm = a.calm } };
+    ghost view = { λ a. a.node };
 
-    ghost invariant = { λ a. IsNode (record { settings = a.settings; ids = a.cross.ids; at = a.cross.at; circuits = a.cross.circuits; rounds = a.rounds; west = a.cross.west; east = a.cross.east; state = a.cross.state; ports = a.ports; west_out = a.west_out; east_out = a.east_out; held = a.held; calm = a.calm }) };
+    ghost invariant = { λ a. a.outlets ≡ outlets_of a.node.ports };
 }
 
 impl Adm {
     /// Returns the node at a position of a ring with these circuits: idle, without commands and defects. All its memory
     /// is taken here.
-    #[tactic(auto, unfolding(crate::specs::Node::new_node))]
     pub fn try_new(
         alloc: Global,
         settings: Settings,
@@ -68,18 +61,31 @@ impl Adm {
         requires kept { KeepsRing circuits.now map.now }
         ensures { IfOk result (λ node. node ≡ new_node settings map.now circuits.now.circuits at) }
     {
-        let west = first_word(map, at, Side::West);
-        let east = first_word(map, at, Side::East);
-        Ok(Adm {
-            settings,
-            rounds: 0,
-            ports: Tributaries::try_new(alloc, circuits, at)?,
-            west_out: Sender::try_new(alloc, settings.rate, west)?,
-            east_out: Sender::try_new(alloc, settings.rate, east)?,
-            cross: CrossConnect::try_new(alloc, settings, map, circuits, at)?,
-            held: 0,
-            calm: false,
-        })
+        let waiting = Waiting::try_new(alloc, settings, map, circuits, at)?;
+        Ok(waiting.deliver())
+    }
+
+    /// Returns the same node for rounds after which what its ports deliver waits until it is asked for.
+    pub fn wait(self) -> Waiting
+        ensures { result ≡ self }
+    {
+        let Adm {
+            node,
+            outlets,
+            taken,
+        } = self;
+        Waiting {
+            node,
+            outlets,
+            taken,
+        }
+    }
+
+    /// Returns the multiplexer, without what its ports delivered.
+    pub fn node(&self) -> &Multiplexer
+        ensures { result.now ≡ self.now }
+    {
+        &self.node
     }
 
     /// Gives one side a command.
@@ -87,7 +93,7 @@ impl Adm {
         ensures node { self.new ≡ at_receiving side (commanded_by command) self.old }
         ensures moment { moment_of self.new ≡ moment_of self.old }
     {
-        self.cross.command(side, command);
+        self.node.command(side, command);
     }
 
     /// Holds the controller for the next `turns` rounds, 1 to 100. Rounds left of an earlier call no longer count. In a
@@ -98,7 +104,7 @@ impl Adm {
         ensures node { self.new ≡ held_for turns self.old }
         ensures moment { moment_of self.new ≡ moment_of self.old }
     {
-        self.held = turns;
+        self.node.hold(turns);
     }
 
     /// Adds `count` pending slips to the clock of the customer who sends at a port. At most 16 may wait. Each is used
@@ -109,7 +115,7 @@ impl Adm {
         ensures node { self.new ≡ slips_at port turn count self.old }
         ensures moment { moment_of self.new ≡ moment_of self.old }
     {
-        self.ports.slip(port, turn, count);
+        self.node.slip(port, turn, count);
     }
 
     /// Returns the number of slips that wait at a port, 0 to 16.
@@ -118,17 +124,16 @@ impl Adm {
         ensures waiting { result ≡ waiting_of port self.now.ports }
         ensures few { result ≤ 16 }
     {
-        self.ports.waiting(port)
+        self.node.waiting(port)
     }
 
-    /// Keeps what arrived on a side for the next `send`. If it is called again before that `send`, only what arrived last
-    /// is kept.
+    /// Keeps what arrived on a side for the next `send`. A second call before it replaces the first.
     pub fn receive(&mut self, side: Side, arrived: Arrived, frame: &FrameBuf)
         requires { frame.now.rate ≡ self.old.settings.rate }
         ensures node { self.new ≡ at_receiving side (arrived_on (as_arrival arrived frame.now.bytes)) self.old }
         ensures moment { moment_of self.new ≡ moment_of self.old }
     {
-        self.cross.receive(side, arrived, frame);
+        self.node.receive(side, arrived, frame);
     }
 
     /// Keeps what arrived on a side as `receive` does, but without a copy: the buffer in which the frame landed is
@@ -142,41 +147,40 @@ impl Adm {
         ensures dark { arrived ≡ Arrived.Dark → inbox.new ≡ inbox.old }
         ensures taken { arrived ≡ Arrived.Frame → inbox.new.landed ≡ None }
     {
-        self.cross.receive_landed(side, arrived, inbox);
+        self.node.receive_landed(side, arrived, inbox);
     }
 
-    /// Returns room for what each port of the node delivers. All its memory is taken here.
-    pub fn outlets(&self, alloc: Global) -> Result<Outlets, AllocError>
-        ensures { IfOk result (λ outlets. length outlets ≡ length self.now.ports) }
-    {
-        self.ports.outlets(alloc)
-    }
-
-    /// Takes what each port of the node delivered in the last round out of the frames in which it waits. Before the
-    /// first round that is AIS. The function takes no memory.
-    pub fn deliver(&self, taken: &mut TakenPair, outlets: &mut Outlets)
-        requires { length outlets.old ≡ length self.now.ports }
-        ensures { outlets.new ≡ outlets_of self.now.ports }
-    {
-        deliver_ports(&self.cross, &self.ports, taken, outlets);
-    }
-
-    /// Returns what one port of the node delivered in the last round. `outlets` has what each port of the node delivered
-    /// in that round.
-    pub fn outlet<'a>(&self, port: PortId, outlets: &'a Outlets) -> &'a Outlet
-        requires there { HasPort self.now.ports port }
-        requires outlets { outlets.now ≡ outlets_of self.now.ports }
+    // Returns what a port of the node delivered in the last round, with its pointer value.
+    fn outlet(&self, port: PortId) -> &Outlet
+        requires { HasPort self.now.ports port }
         ensures { result.now ≡ outlet_of port self.now.ports }
     {
-        let place = self.ports.place_of(port);
-        outlets.at(place)
+        self.node.outlet(port, &self.outlets)
+    }
+
+    /// Returns what a port of the node delivered in the last round, and AIS before the first.
+    pub fn delivered(&self, port: PortId) -> &Delivered
+        requires { HasPort self.now.ports port }
+        ensures { result.now ≡ (outlet_of port self.now.ports).delivered }
+    {
+        self.outlet(port).delivered()
+    }
+
+    /// Returns the pointer value of the interpreter through which a port's bytes came, and 0 where the port delivers
+    /// AIS.
+    pub fn value(&self, port: PortId) -> u16
+        requires { HasPort self.now.ports port }
+        ensures value { result ≡ (outlet_of port self.now.ports).value }
+        ensures small { result ≤ 782 }
+    {
+        self.outlet(port).value()
     }
 
     /// Returns the state.
     pub fn state(&self) -> &NodeState
         ensures { result.now ≡ self.now.state }
     {
-        self.cross.state()
+        self.node.state()
     }
 
     /// Returns the word sent on a side in the last round. Before the first round it is the idle word to the neighbour,
@@ -186,24 +190,21 @@ impl Adm {
         ensures to { result.to ≤ 15 }
         ensures from { result.from ≤ 15 }
     {
-        match side {
-            Side::West => self.west_out.word(),
-            Side::East => self.east_out.word(),
-        }
+        self.node.sent_k(side)
     }
 
     /// Returns the local request of a side in the last round, or `Nr` before the first.
     pub fn request(&self, side: Side) -> Code
         ensures { result ≡ (receiving_on side self.now).request }
     {
-        self.cross.receiver(side).request()
+        self.node.request(side)
     }
 
     /// Returns the identifier of the far end, 0 to 15, where the node switches one side and its switch has a far end.
     pub fn far_id(&self) -> Option<u8>
         ensures { result ≡ option_map (λ (p : Pos). get_or self.now.ids p.0 0) (far_of self.now.state) }
     {
-        self.cross.far_id()
+        self.node.far_id()
     }
 
     /// Returns the word heard on a side in the last round, if one was.
@@ -211,7 +212,7 @@ impl Adm {
         ensures word { result ≡ hears (receiving_on side self.now).brought }
         ensures spellable { IfSome result IsSpellable }
     {
-        self.cross.receiver(side).heard()
+        self.node.heard(side)
     }
 
     /// Returns whether the last round was calm. In a calm round the controller isn't held, and these stay as they were:
@@ -220,12 +221,11 @@ impl Adm {
     pub fn calm(&self) -> bool
         ensures { result ≡ self.now.calm }
     {
-        self.calm
+        self.node.calm()
     }
 
-    /// Runs one round at a moment: it reads what arrived, decides the state and the words, and writes a frame for each
-    /// side. What the ports deliver waits until it is asked for. It takes no memory.
-    #[tactic(auto, unfolding(crate::specs::Node::node_round))]
+    /// Runs one round at a moment: it reads what arrived, decides the state and the words, delivers at the ports, and
+    /// writes a frame for each side. It takes no memory.
     pub fn send(&mut self, now: Moment, west: &mut FrameBuf, east: &mut FrameBuf)
         requires west { west.old.rate ≡ self.old.settings.rate }
         requires east { east.old.rate ≡ self.old.settings.rate }
@@ -238,94 +238,7 @@ impl Adm {
         ensures rates { (west.new.rate ≡ west.old.rate) × (east.new.rate ≡ east.old.rate) }
         ensures goes_on { GoesOn now.0 self.old self.new }
     {
-        let held = is_held(self.held);
-        let counts = may_be_calm(self.rounds, held);
-        let taken = self.cross.take(self.settings.threshold, now);
-        let before = words_of(&self.west_out, &self.east_out);
-        let (sent, decided) = self.cross.decide(held, before);
-        let west_said = self.west_out.say(sent.west);
-        let east_said = self.east_out.say(sent.east);
-        self.ports.feed();
-        self.rounds += 1;
-        self.held = one_less(self.held);
-        let (west_made, east_made) = send_both(
-            &mut self.west_out,
-            &mut self.east_out,
-            &self.cross,
-            &self.ports,
-            west,
-            east,
-        );
-        let signs = Signs {
-            counts,
-            taken,
-            decided,
-            west_said,
-            west_made,
-            east_said,
-            east_made,
-        };
-        let calm = is_calm(&signs);
-        self.calm = calm;
+        self.node.send(now, west, east);
+        self.node.deliver(&mut self.taken, &mut self.outlets);
     }
-}
-
-// What decides whether a round is calm. `counts` says whether it may be calm at all. Each other field is the result of
-// one call: whether what that call compares is as before.
-#[derive(Drop)]
-struct Signs {
-    counts: bool,
-    taken: bool,
-    decided: bool,
-    west_said: bool,
-    west_made: bool,
-    east_said: bool,
-    east_made: bool,
-}
-
-// Returns whether the round is calm: it may be calm, and all that is compared is as before.
-fn is_calm(signs: &Signs) -> bool
-    ensures { result ≡ (signs.now.counts && (signs.now.taken && signs.now.decided && (signs.now.west_said && signs.now.west_made)
-        && (signs.now.east_said && signs.now.east_made))) }
-{
-    signs.counts
-        && signs.taken
-        && signs.decided
-        && signs.west_said
-        && signs.west_made
-        && signs.east_said
-        && signs.east_made
-}
-
-// Returns the words of both sides.
-fn words_of(west: &Sender, east: &Sender) -> Sent
-    ensures west { result.west ≡ west.now.word }
-    ensures east { result.east ≡ east.now.word }
-    ensures spellable { SendsSpellable result }
-{
-    Sent {
-        west: west.word(),
-        east: east.word(),
-    }
-}
-
-// Returns whether the controller misses this round: there are rounds left to miss.
-fn is_held(turns: u32) -> bool
-    ensures { result ≡ nat_le 1 turns }
-{
-    turns >= 1
-}
-
-// Returns the number of rounds left to miss after this one.
-fn one_less(turns: u32) -> u32
-    ensures { result ≡ turns - 1 }
-{
-    turns.saturating_sub(1)
-}
-
-// Returns whether a round may be calm: one ran before it, and the controller doesn't miss it.
-fn may_be_calm(rounds: u64, held: bool) -> bool
-    ensures { result ≡ (nat_le 1 rounds && not held) }
-{
-    rounds >= 1 && !held
 }

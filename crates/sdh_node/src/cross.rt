@@ -12,10 +12,11 @@ ghost use Rattle.sdh_nodestate.specs.Shapes.{same_state};
 ghost use Rattle.sdh_node.specs.Same.{same_in};
 ghost use Rattle.sdh_plant.specs.Arrivals.{as_arrival, arrived_in};
 ghost use Rattle.sdh_node.specs.Receiving.{commanded_by, arrived_on};
-ghost use Rattle.sdh_node.specs.Node.{new_cross, compared_in};
+ghost use Rattle.sdh_node.specs.Node.{new_cross, new_receiving, compared_in};
 ghost use Rattle.sdh_node.specs.Crossing.{on_side, at_side, half_of, after_intakes, scene_of, after_decision, next_word, feeder_of};
 ghost use Rattle.sdh_node.specs.Crossing.{lines_of, leads, drops, all_delivered};
 ghost use Rattle.sdh_terminal.specs.Lines.{IsFeeder};
+ghost use Rattle.sdh_terminal.specs.Receiving.{new_intake};
 ghost use Rattle.sdh_terminal.specs.Tributaries.{outlets_of};
 
 use crate::receiver::Receiver;
@@ -70,6 +71,25 @@ fn far_of(state: &NodeState) -> Option<Pos>
     }
 }
 
+// Returns the receivers of both sides, which have received nothing.
+fn new_receivers(alloc: Global, settings: Settings) -> Result<(Receiver, Receiver), AllocError>
+    ensures west { IfOk result (λ both. both.0 ≡ new_receiving settings) }
+    ensures east { IfOk result (λ both. both.1 ≡ new_receiving settings) }
+{
+    Ok((
+        Receiver::try_new(alloc, settings)?,
+        Receiver::try_new(alloc, settings)?,
+    ))
+}
+
+// Returns the intakes of both sides, which have taken nothing in.
+fn new_intakes(alloc: Global, rate: Rate) -> Result<(Intake, Intake), AllocError>
+    ensures west { IfOk result (λ both. both.0 ≡ new_intake rate) }
+    ensures east { IfOk result (λ both. both.1 ≡ new_intake rate) }
+{
+    Ok((Intake::try_new(alloc, rate)?, Intake::try_new(alloc, rate)?))
+}
+
 impl CrossConnect {
     /// Returns an idle cross-connect that has received nothing. All memory is taken here.
     pub fn try_new(
@@ -83,15 +103,20 @@ impl CrossConnect {
         requires kept { KeepsRing circuits.now map.now }
         ensures { IfOk result (λ x. x ≡ new_cross settings map.now circuits.now.circuits at) }
     {
+        let table = Table::try_new(alloc, map, circuits, at)?;
+        let intakes = new_intakes(alloc, settings.rate)?;
+        let receivers = new_receivers(alloc, settings)?;
+        let (west_in, east_in) = intakes;
+        let (west, east) = receivers;
         Ok(CrossConnect {
             map: map.copy(),
             at,
-            table: Table::try_new(alloc, map, circuits, at)?,
+            table,
             state: start(),
-            west: Receiver::try_new(alloc, settings)?,
-            east: Receiver::try_new(alloc, settings)?,
-            west_in: Intake::try_new(alloc, settings.rate)?,
-            east_in: Intake::try_new(alloc, settings.rate)?,
+            west,
+            east,
+            west_in,
+            east_in,
         })
     }
 

@@ -7,9 +7,13 @@
 
 mod adm;
 mod cross;
+mod multiplexer;
 mod receiver;
 mod station;
+mod waiting;
 
 pub use adm::Adm;
+pub use multiplexer::Multiplexer;
 pub use sdh_payload::{Delivered, Turn};
 pub use sdh_request::Settings;
+pub use waiting::Waiting;

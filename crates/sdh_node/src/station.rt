@@ -1,6 +1,8 @@
-//! An add-drop multiplexer as a node that runs in rounds, and whose ports deliver.
+//! Add-drop multiplexers as nodes that run in rounds, and whose ports deliver.
 
 use crate::adm::Adm;
+use crate::multiplexer::Multiplexer;
+use crate::waiting::Waiting;
 use sdh_circuits::CircuitMap;
 use sdh_frame::FrameBuf;
 use sdh_overhead::Landed;
@@ -48,18 +50,55 @@ impl Station for Adm {
     ghost told_may = { may_still };
 }
 
-impl Delivers for Adm {
+impl Station for Waiting {
+    ghost use Rattle.sdh_node.specs.Stations.{adm, MayRun as MayRunAt, told_rate as rate_stays, told_may as may_still};
+
+    ghost kind = { adm };
+
+    ghost rate = { λ n. n.settings.rate };
+
+    ghost MayRun = { MayRunAt };
+
+    fn try_new(
+        alloc: Global,
+        settings: Settings,
+        map: &RingMap,
+        circuits: &CircuitMap,
+        at: Pos,
+    ) -> Result<Waiting, AllocError> {
+        Waiting::try_new(alloc, settings, map, circuits, at)
+    }
+
+    fn receive_landed(&mut self, side: Side, arrived: Arrived, inbox: &mut Landed) {
+        self.node.receive_landed(side, arrived, inbox);
+    }
+
+    fn send(&mut self, now: Moment, west: &mut FrameBuf, east: &mut FrameBuf) {
+        self.node.send(now, west, east);
+    }
+
+    fn calm(&self) -> bool {
+        self.node.calm()
+    }
+
+    // What arrives at a node changes neither its rate nor whether it may run.
+    ghost told_rate = { rate_stays };
+
+    ghost told_may = { may_still };
+}
+
+impl Delivers for Multiplexer {
     ghost use Rattle.sdh_terminal.specs.Tributaries.{outlets_of};
 
     ghost delivered = { λ n. outlets_of n.ports };
 
     #[tactic(auto, using(sdh_terminal::proofs::Waiting::count_outlets))]
     fn outlets(&self, alloc: Global) -> Result<Outlets, AllocError> {
-        Adm::outlets(self, alloc)
+        Multiplexer::outlets(self, alloc)
     }
 
     #[tactic(auto, using(sdh_terminal::proofs::Waiting::count_outlets))]
     fn deliver(&self, taken: &mut TakenPair, outlets: &mut Outlets) {
-        Adm::deliver(self, taken, outlets);
+        Multiplexer::deliver(self, taken, outlets);
     }
 }

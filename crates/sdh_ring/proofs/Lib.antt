@@ -5,5 +5,5 @@ pub mod Breaking
 pub mod Settling
 pub mod Turns
 mod Whole
-pub mod Delivered
+mod There
 mod Stopping

@@ -104,3 +104,14 @@ pub ring_after : (exact : Bool) (w left : World) (before after : ℕ) (result : 
     → w.ring.broken ≡ false → IsOneRound adm exact w result left before after → IsRing left.ring
 ring_after exact w left before after (Ok u) h whole one = ring_ran w left h whole one.ok
 ring_after exact w left before after (Err e) h whole one = ring_broke w left h one.breaks
+
+-- a round leaves the identifiers as they were
+pub ids_after : (exact : Bool) (w left : World) (before after : ℕ) (result : Result (Unit {0}) Fault)
+    → IsOneRound adm exact w result left before after → left.ring.ids ≡ w.ring.ids
+unfolding any_round.round_with
+ids_after exact w left before after (Ok u) one = ap (λ (x : World). x.ring.ids) one.ok.after_is
+ids_after exact w left before after (Err e) one = ap (λ (r : HeldRing). r.ids) one.breaks.ring
+
+-- a ring has a node for each of its identifiers
+pub has_its_nodes : (r : HeldRing) → IsRing r → held.HasItsNodes r
+has_its_nodes r h = record { ids = h.ids; circuits = h.circuits; slots = h.slots; kept = h.kept; size = count_of r h }

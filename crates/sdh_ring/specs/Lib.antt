@@ -1,4 +1,4 @@
 pub mod Faults
 pub mod Observed
 pub mod Promises
-pub mod Delivered
+pub mod Held

@@ -5,10 +5,13 @@
 #![tactic(auto)]
 
 mod changing;
+mod resting;
 mod ring;
 mod running;
+mod showing;
 
 pub use changing::change;
 pub use ring::Ring;
 pub use running::Running;
 pub use sdh_rounds::{Observer, PlantFault, SettleError};
+pub use showing::ShowsNodes;

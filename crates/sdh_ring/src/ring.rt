@@ -28,6 +28,7 @@ ghost use Rattle.sdh_ring.specs.Faults.{BreaksRound};
 ghost use Rattle.sdh_ring.specs.Observed.{Hears, RanSome, HearsSome, IsStopped};
 ghost use Rattle.sdh_ring.specs.Promises.{KeepsPromises};
 
+use crate::resting::Resting;
 use crate::running::Running;
 use sdh_circuits::{CircuitMap, PortId};
 use sdh_node::{Adm, Delivered, Settings, Turn};
@@ -37,28 +38,27 @@ use sdh_ringmap::{Pos, RingMap, Side};
 use sdh_rounds::{
     Nobody, Observer, PlantFault, Recorder, RunsRounds, SettleError, StationRing, Stopped,
 };
-use sdh_terminal::{Deliveries, Outlet};
 use std::alloc::{AllocError, Global};
 use std::marker::Model;
 
-/// The nodes of a ring, which run in rounds, and what their ports delivered in the last one. While a settle step runs
-/// without an observer, what the ports delivered waits at the nodes.
+/// The nodes of a ring, which run in rounds, and what their ports delivered in the last one.
 #[derive(Debug, Drop)]
 pub struct Ring {
-    running: Running,
-    deliveries: Deliveries,
+    // There but while a settle step runs without an observer: then the nodes are taken out, and what their ports deliver
+    // waits at them.
+    resting: Option<Resting>,
 }
 
 impl Model for Ring {
-    ghost use Rattle.std.specs.Prelude.{◌≡◌};
+    ghost use Rattle.std.specs.Prelude.{IsSome};
     ghost use Rattle.sdh_world.specs.Held.{HeldRing};
-    ghost use Rattle.sdh_ring.specs.Delivered.{delivered_in};
+    ghost use Rattle.sdh_ring.specs.Held.{ring_or_none};
 
     ghost Value = { HeldRing };
 
-    ghost view = { λ a. a.running };
+    ghost view = { λ a. ring_or_none a.resting };
 
-    ghost invariant = { λ a. a.deliveries ≡ delivered_in a.running };
+    ghost invariant = { λ a. IsSome a.resting };
 }
 
 impl Ring {
@@ -92,11 +92,9 @@ impl Ring {
 
         prove!(map.len() <= 16);
         prove!(circuits.len() <= 128);
-        let running = Running::try_new(alloc, settings, map, circuits)?;
-        let deliveries = Deliveries::try_new(alloc, running.nodes())?;
+        let resting = Resting::try_new(alloc, settings, map, circuits)?;
         Ok(Ring {
-            running,
-            deliveries,
+            resting: Some(resting),
         })
     }
 
@@ -110,7 +108,10 @@ impl Ring {
     {
         sdh_laws::hearing::stay_whole();
         sdh_laws::strangers::vouched_rings_stay();
-        self.running.command(at, side, command);
+        let Some(resting) = &mut self.resting else {
+            unreachable!()
+        };
+        resting.command(at, side, command);
     }
 
     /// Holds the controller of a node for the next `turns` rounds. Rounds that are left of an earlier call no longer
@@ -127,7 +128,10 @@ impl Ring {
     {
         sdh_laws::hearing::stay_whole();
         sdh_laws::strangers::vouched_rings_stay();
-        self.running.hold(at, turns);
+        let Some(resting) = &mut self.resting else {
+            unreachable!()
+        };
+        resting.hold(at, turns);
     }
 
     /// Adds `count` pending slips to the clock of the customer who sends at a port: ups or downs, as `turn` says. For
@@ -144,7 +148,10 @@ impl Ring {
     {
         sdh_laws::hearing::stay_whole();
         sdh_laws::strangers::vouched_rings_stay();
-        self.running.slip(port, turn, count);
+        let Some(resting) = &mut self.resting else {
+            unreachable!()
+        };
+        resting.slip(port, turn, count);
     }
 
     /// Returns the number of slips that wait at a port of a circuit, 0 to 16.
@@ -153,7 +160,7 @@ impl Ring {
         ensures waiting { result ≡ waiting_at self.now port }
         ensures few { result ≤ 16 }
     {
-        self.running.node_of(port).waiting(port)
+        self.resting().node_of(port).waiting(port)
     }
 
     /// Sets the present moment, at which the next rounds run.
@@ -167,7 +174,10 @@ impl Ring {
     {
         sdh_laws::hearing::stay_whole();
         sdh_laws::strangers::vouched_rings_stay();
-        self.running.moment(now);
+        let Some(resting) = &mut self.resting else {
+            unreachable!()
+        };
+        resting.moment(now);
     }
 
     /// Runs one round: all nodes receive, except in round 0, and then all send. It takes no memory. After a fault of
@@ -210,10 +220,11 @@ impl Ring {
         sdh_laws::hearing::whole_rounds_go_as_signals();
         sdh_laws::resting::rest_goes_on();
         sdh_laws::strangers::rounds_keep_strangers_out();
-        self.running.circuits_fit();
-        let result = self.running.round(plant);
-        self.deliveries.take(self.running.nodes());
-        result
+        let Some(resting) = &mut self.resting else {
+            unreachable!()
+        };
+        resting.circuits_fit();
+        resting.round(plant)
     }
 }
 
@@ -233,16 +244,20 @@ impl Ring {
         // Traffic is restored, no port meets a stranger, and a step whose limit is large enough ends with a window.
         ensures laws { KeepsPromises (world self.old (P.fibres plant.old)) limit result (world self.new (P.fibres plant.new)) }
     {
-        self.running.circuits_fit();
-        self.running.few_slips_wait();
+        self.resting().circuits_fit();
+        self.resting().few_slips_wait();
         sdh_laws::hearing::steps_stay_whole();
         sdh_laws::carrying::settled_rings_are_restored();
         sdh_laws::resting::steps_leave_at_rest();
         sdh_laws::restoring::unsettled_rings_are_restored();
         sdh_laws::converging::steps_answer();
         sdh_laws::strangers::steps_keep_strangers_out();
-        let result = sdh_rounds::settle(&mut self.running, plant, limit, &mut Nobody);
-        self.deliveries.take(self.running.nodes());
+        let Some(resting) = self.resting.take() else {
+            unreachable!()
+        };
+        let mut running = resting.wait();
+        let result = sdh_rounds::settle(&mut running, plant, limit, &mut Nobody);
+        self.resting = Some(running.deliver());
         result
     }
 
@@ -268,8 +283,8 @@ impl Ring {
         ensures heard { OnOk result
             (Hears (λ at k. O.Heard at k observer.new) (world self.old (P.fibres plant.old)) limit (world self.new (P.fibres plant.new))) }
     {
-        self.running.circuits_fit();
-        self.running.few_slips_wait();
+        self.resting().circuits_fit();
+        self.resting().few_slips_wait();
         sdh_laws::hearing::steps_stay_whole();
         sdh_laws::carrying::settled_rings_are_restored();
         sdh_laws::resting::steps_leave_at_rest();
@@ -313,16 +328,20 @@ impl Ring {
         ensures stopped { OnErr result (IsStopped P.exact (λ at k. O.Stops recorder.old log.old at k recorder.new log.new)
             (world self.old (P.fibres plant.old)) limit (world self.new (P.fibres plant.new)) (P.faults plant.old) (P.faults plant.new)) }
     {
-        self.running.circuits_fit();
-        self.running.few_slips_wait();
+        self.resting().circuits_fit();
+        self.resting().few_slips_wait();
         sdh_laws::hearing::steps_stay_whole();
         sdh_laws::carrying::settled_rings_are_restored();
         sdh_laws::resting::steps_leave_at_rest();
         sdh_laws::restoring::unsettled_rings_are_restored();
         sdh_laws::converging::steps_answer();
         sdh_laws::strangers::steps_keep_strangers_out();
-        let ended = sdh_rounds::settle_recording(&mut self.running, plant, limit, recorder, log);
-        self.deliveries.take(self.running.nodes());
+        let Some(resting) = self.resting.take() else {
+            unreachable!()
+        };
+        let mut running = resting.wait();
+        let ended = sdh_rounds::settle_recording(&mut running, plant, limit, recorder, log);
+        self.resting = Some(running.deliver());
         ended
     }
 }
@@ -333,7 +352,7 @@ impl RunsRounds for Ring {
     ghost held = { λ ring. ring };
 
     fn stations(&self) -> &StationRing<Adm> {
-        self.running.stations()
+        self.resting().stations()
     }
 
     fn round<P: Plant>(&mut self, plant: &mut P) -> Result<(), PlantFault> {
@@ -343,14 +362,14 @@ impl RunsRounds for Ring {
 
 // What can be read of the ring's ports and nodes.
 impl Ring {
-    // Returns what a port of a circuit delivered in the last round, with its pointer value.
-    fn outlet(&self, port: PortId) -> &Outlet
-        requires { port.circuit < length self.now.circuits.circuits }
-        ensures { result.now ≡ outlet_at self.now port }
+    // Returns the nodes.
+    fn resting(&self) -> &Resting
+        ensures { result.now ≡ self.now }
     {
-        let at = self.running.place_of(port);
-        let node = &self.running.nodes()[at];
-        node.outlet(port, self.deliveries.of(at))
+        let Some(resting) = &self.resting else {
+            unreachable!()
+        };
+        resting
     }
 
     /// Returns what a port of a circuit delivered in the last round, and AIS before the first.
@@ -358,7 +377,7 @@ impl Ring {
         requires { port.circuit < length self.now.circuits.circuits }
         ensures { result.now ≡ (outlet_at self.now port).delivered }
     {
-        self.outlet(port).delivered()
+        self.resting().node_of(port).delivered(port)
     }
 
     /// Returns the pointer value of the interpreter through which a port's bytes came, and 0 where the port delivers
@@ -368,35 +387,28 @@ impl Ring {
         ensures value { result ≡ (outlet_at self.now port).value }
         ensures small { result ≤ 782 }
     {
-        self.outlet(port).value()
-    }
-
-    /// Returns the nodes, without what their ports delivered.
-    pub fn running(&self) -> &Running
-        ensures { result.now ≡ self.now }
-    {
-        &self.running
+        self.resting().node_of(port).value(port)
     }
 
     /// Returns how many rounds have run. They are numbered from 0, so the last one has a number one below that.
     pub fn rounds(&self) -> u64
         ensures { result ≡ self.now.rounds }
     {
-        self.running.rounds()
+        self.resting().rounds()
     }
 
     /// Returns the nodes' identifiers.
     pub fn map(&self) -> &RingMap
         ensures { result.now ≡ self.now.ids }
     {
-        self.running.map()
+        self.resting().map()
     }
 
     /// Returns the circuits.
     pub fn circuits(&self) -> &CircuitMap
         ensures { result.now ≡ self.now.circuits }
     {
-        self.running.stations().circuits()
+        self.resting().stations().circuits()
     }
 
     /// Returns the node at a position.
@@ -404,13 +416,13 @@ impl Ring {
         requires { at.0 < length self.now.ids }
         ensures { slice_get self.now.nodes at.0 ≡ Some result.now }
     {
-        self.running.node(at)
+        self.resting().node(at)
     }
 
     /// Returns whether a fault of the plant broke a round off.
     pub fn is_broken(&self) -> bool
         ensures { result ≡ self.now.broken }
     {
-        self.running.stations().is_broken()
+        self.resting().stations().is_broken()
     }
 }

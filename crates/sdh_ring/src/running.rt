@@ -1,32 +1,24 @@
-//! The nodes of a ring while rounds run without an observer of what the ports deliver.
-ghost use Rattle.std.specs.Prelude.{◌≡◌, ◌+◌, ◌/◌, ◌<◌, ◌≤◌, false, Some, IfOk, length, slice_get};
-ghost use Rattle.sdh_ringmap.specs.Rates.{n_of};
-ghost use Rattle.sdh_circuits.specs.Kept.{KeepsRing};
-ghost use Rattle.sdh_circuits.specs.declared.PortId.{PortId};
-ghost use Rattle.sdh_node.specs.Receiving.{commanded_by};
-ghost use Rattle.sdh_terminal.specs.Tributaries.{HasPort, outlet_of, waiting_of};
-ghost use Rattle.sdh_node.specs.Node.{at_receiving, held_for, slips_at};
-ghost use Rattle.sdh_world.specs.Held.{new_ring, at_place, node_at, place_of_port, outlet_at};
-ghost use Rattle.sdh_world.specs.Clocks.{HasPortIn, clock_at, waiting_at};
-ghost use Rattle.sdh_world.specs.Fixed.{IsRested};
-ghost use Rattle.sdh_laws.specs.Carrying.Windows.{layout_in, HasCircuits};
+//! The nodes of a ring while the rounds of a settle step run, after which nobody looks at what the ports delivered.
+ghost use Rattle.std.specs.Prelude.{◌≡◌, ◌≤◌, ◌<◌, [], Some, length, slice_get, vec_capacity};
 
-use sdh_circuits::{CircuitMap, PortId};
-use sdh_node::{Adm, Settings, Turn};
+use crate::resting::Resting;
+use sdh_node::{Adm, Multiplexer, Waiting};
 use sdh_plant::Plant;
-use sdh_request::{Command, Moment};
-use sdh_ringmap::{Pos, RingMap, Side};
+use sdh_ringmap::{Pos, RingMap};
 use sdh_rounds::{PlantFault, RunsRounds, StationRing};
-use std::alloc::{AllocError, Global};
 use std::marker::Model;
 
-/// The nodes of a ring, which run in rounds. What their ports deliver waits at the nodes until somebody asks.
+/// The nodes of a ring while the rounds of a settle step run. What their ports deliver waits at the nodes until somebody
+/// asks.
 #[derive(Debug, Drop)]
 pub struct Running {
-    ring: StationRing<Adm>,
+    pub(crate) ring: StationRing<Waiting>,
+    // Room for the nodes after the step. It is empty, and takes no more memory for a node at each position.
+    pub(crate) spare: Vec<Adm>,
 }
 
 impl Model for Running {
+    ghost use Rattle.std.specs.Prelude.{◌≡◌, ◌≤◌, [], length, vec_capacity};
     ghost use Rattle.sdh_world.specs.Held.{HeldRing};
     ghost use Rattle.sdh_world.specs.Fixed.{IsRing};
 
@@ -34,130 +26,38 @@ impl Model for Running {
 
     ghost view = { λ a. a.ring };
 
-    ghost invariant = { λ a. IsRing a.ring };
+    ghost invariant = { λ a. record {
+      ring : IsRing a.ring;
+      spare : a.spare.items ≡ [];
+      room : length a.ring.ids ≤ vec_capacity a.spare;
+    } };
 }
 
-fn command_at(ring: &mut StationRing<Adm>, at: usize, side: Side, command: Command)
-    requires { at < length ring.old.nodes }
-    ensures { ring.new ≡ record ring.old { nodes = at_place at (at_receiving side (commanded_by command)) ring.old.nodes } }
+// Moves the nodes to where they have what their ports delivered.
+fn deliver_all(nodes: &mut Vec<Waiting>, delivered: &mut Vec<Adm>)
+    requires empty { delivered.old.items ≡ [] }
+    requires room { length nodes.old.items ≤ vec_capacity delivered.old }
+    ensures nodes { delivered.new.items ≡ nodes.old.items }
+    ensures empty { nodes.new.items ≡ [] }
+    ensures room { length nodes.old.items ≤ vec_capacity nodes.new }
 {
-    ring.nodes[at].command(side, command);
-}
-
-fn hold_at(ring: &mut StationRing<Adm>, at: usize, turns: u32)
-    requires at { at < length ring.old.nodes }
-    requires some { 1 ≤ turns }
-    requires few { turns ≤ 100 }
-    ensures { ring.new ≡ record ring.old { nodes = at_place at (held_for turns) ring.old.nodes } }
-{
-    ring.nodes[at].hold(turns);
-}
-
-fn slip_at(ring: &mut StationRing<Adm>, at: usize, port: PortId, turn: Turn, count: u8)
-    requires at { at < length ring.old.nodes }
-    requires port { HasPort (node_at ring.old.nodes at).ports port }
-    requires few { waiting_of port (node_at ring.old.nodes at).ports + count ≤ 16 }
-    ensures { ring.new ≡ record ring.old { nodes = at_place at (slips_at port turn count) ring.old.nodes } }
-{
-    ring.nodes[at].slip(port, turn, count);
+    for node in nodes.drain(..) {
+        delivered.push_reserved(node.deliver());
+    }
 }
 
 impl Running {
-    /// Returns a ring of new nodes, in which no round has run, at moment 0. All its memory is taken here.
-    #[tactic(auto, unfolding(sdh_world::specs::Held::new_nodes))]
-    pub fn try_new(
-        alloc: Global,
-        settings: Settings,
-        map: RingMap,
-        circuits: CircuitMap,
-    ) -> Result<Running, AllocError>
-        requires slots { circuits.slots ≡ n_of settings.rate / 2 }
-        requires kept { KeepsRing circuits map }
-        ensures { IfOk result (λ ring. ring ≡ new_ring settings map circuits) }
+    /// Returns the same nodes with what their ports delivered in the last round. The function takes no memory.
+    pub(crate) fn deliver(self) -> Resting
+        ensures { result ≡ self }
     {
-        prove!(map.len() <= 16);
-        prove!(circuits.len() <= 128);
-        let ring = StationRing::try_new(alloc, settings, map, circuits)?;
-        Ok(Running { ring })
-    }
-
-    /// The circuits fit the ring's size and rate: the function does nothing, and its contract is the law.
-    pub fn circuits_fit(&self)
-        ensures { HasCircuits (layout_in self.now) }
-    {
-        // Looking at a field gives the prover the ring's invariant, from which the law follows.
-        let _ = &self.ring;
-    }
-
-    /// At most 16 slips wait at each port, and at most four rounds come before one in which its clock may justify. The
-    /// function does nothing: its contract is the law.
-    pub fn few_slips_wait(&self)
-        requires { self.now.broken ≡ false }
-        ensures { (port : PortId) → HasPortIn self.now port → IsRested (clock_at self.now port) }
-    {
-        let _ = &self.ring;
-    }
-
-    /// Gives one side of a node a command.
-    pub fn command(&mut self, at: Pos, side: Side, command: Command)
-        requires { at.0 < length self.old.ids }
-        ensures { self.new ≡ record self.old { nodes = at_place at.0 (at_receiving side (commanded_by command)) self.old.nodes } }
-    {
-        command_at(&mut self.ring, at.0 as usize, side, command);
-    }
-
-    /// Holds the controller of a node for the next `turns` rounds. Rounds that are left of an earlier call no longer
-    /// count.
-    pub fn hold(&mut self, at: Pos, turns: u32)
-        requires at { at.0 < length self.old.ids }
-        requires some { 1 ≤ turns }
-        requires few { turns ≤ 100 }
-        ensures { self.new ≡ record self.old { nodes = at_place at.0 (held_for turns) self.old.nodes } }
-    {
-        hold_at(&mut self.ring, at.0 as usize, turns);
-    }
-
-    /// Returns the position of the node where a port of a circuit is.
-    pub fn place_of(&self, port: PortId) -> usize
-        requires { port.circuit < length self.now.circuits.circuits }
-        ensures place { result ≡ place_of_port self.now port }
-        ensures inside { result < length self.now.nodes }
-        ensures port { HasPort (node_at self.now.nodes result).ports port }
-        ensures outlet { outlet_at self.now port ≡ outlet_of port (node_at self.now.nodes result).ports }
-        ensures waiting { waiting_of port (node_at self.now.nodes result).ports ≡ waiting_at self.now port }
-    {
-        self.ring.place_of(port)
-    }
-
-    /// Adds `count` pending slips to the clock of the customer who sends at a port.
-    pub fn slip(&mut self, port: PortId, turn: Turn, count: u8)
-        requires port { port.circuit < length self.old.circuits.circuits }
-        requires few { waiting_at self.old port + count ≤ 16 }
-        ensures { self.new ≡ record self.old {
-          nodes = at_place (place_of_port self.old port) (slips_at port turn count) self.old.nodes;
-        } }
-    {
-        let at = self.place_of(port);
-        slip_at(&mut self.ring, at, port, turn, count);
-    }
-
-    /// Sets the present moment, at which the next rounds run.
-    pub fn moment(&mut self, now: Moment)
-        requires later { self.old.moment ≤ now.0 }
-        requires within { now.0 ≤ 1000000000 }
-        ensures { self.new ≡ record self.old { moment = now.0 } }
-    {
-        self.ring.moment(now);
-    }
-
-    /// Returns the node where a port of a circuit is.
-    pub fn node_of(&self, port: PortId) -> &Adm
-        requires { port.circuit < length self.now.circuits.circuits }
-        ensures port { HasPort result.now.ports port }
-        ensures outlet { outlet_at self.now port ≡ outlet_of port result.now.ports }
-        ensures waiting { waiting_at self.now port ≡ waiting_of port result.now.ports }
-    {
-        self.ring.node_of(port)
+        let Running { ring, mut spare } = self;
+        let (rest, mut nodes) = ring.empty();
+        deliver_all(&mut nodes, &mut spare);
+        Resting {
+            ring: StationRing::filled(rest, spare),
+            spare: nodes,
+        }
     }
 
     /// Returns how many rounds have run. They are numbered from 0, so the last one has a number one below that.
@@ -175,27 +75,20 @@ impl Running {
     }
 
     /// Returns the node at a position.
-    pub fn node(&self, at: Pos) -> &Adm
+    pub fn node(&self, at: Pos) -> &Multiplexer
         requires { at.0 < length self.now.ids }
         ensures { slice_get self.now.nodes at.0 ≡ Some result.now }
     {
-        self.ring.node(at)
-    }
-
-    /// Returns the nodes, by position.
-    pub fn nodes(&self) -> &[Adm]
-        ensures { result.now ≡ self.now.nodes }
-    {
-        self.ring.nodes.as_slice()
+        self.ring.node(at).node()
     }
 }
 
 impl RunsRounds for Running {
-    type Node = Adm;
+    type Node = Waiting;
 
     ghost held = { λ ring. ring };
 
-    fn stations(&self) -> &StationRing<Adm> {
+    fn stations(&self) -> &StationRing<Waiting> {
         &self.ring
     }
 

@@ -30,6 +30,37 @@ pub record HeldRing (N : Type 0) : Type 0 where
   -- a fault of the plant broke a round off
   pub broken : Bool
 
+-- all of a ring but its nodes
+pub record Emptied : Type 0 where
+  pub settings : Settings
+  pub ids : List ℕ
+  pub circuits : Provisioning
+  pub moment : ℕ
+  pub rounds : ℕ
+  pub broken : Bool
+
+abbrev pub emptied : {N : Type 0} → HeldRing N → Emptied
+emptied r = record {
+  settings = r.settings;
+  ids = r.ids;
+  circuits = r.circuits;
+  moment = r.moment;
+  rounds = r.rounds;
+  broken = r.broken;
+}
+
+-- the ring with these nodes
+abbrev pub filled : {N : Type 0} → Emptied → List N → HeldRing N
+filled r nodes = record {
+  settings = r.settings;
+  ids = r.ids;
+  circuits = r.circuits;
+  nodes = nodes;
+  moment = r.moment;
+  rounds = r.rounds;
+  broken = r.broken;
+}
+
 -- a ring and its fibres
 pub record World (N : Type 0) : Type 0 where
   pub ring : HeldRing N

@@ -6,6 +6,7 @@
 ghost use Rattle.sdh_rounds.specs.Laws.{KnownRounds, RoundsKeep, FaultsKeep, HonestRounds, RunsKeep, SettledNumbers, BrokenStepsSend};
 ghost use Rattle.sdh_rounds.specs.Laws.{KnownSteps, StepsAreComputed};
 
+mod emptied;
 mod faults;
 mod receiving;
 mod ring;
@@ -13,6 +14,7 @@ mod sending;
 mod station;
 mod steps;
 
+pub use emptied::Emptied;
 pub use faults::{PlantFault, SettleError, Stopped};
 pub use ring::StationRing;
 pub use station::Station;

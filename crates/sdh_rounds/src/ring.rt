@@ -5,10 +5,11 @@ ghost use Rattle.sdh_ringmap.specs.Rates.{n_of};
 ghost use Rattle.sdh_circuits.specs.Kept.{KeepsRing};
 ghost use Rattle.sdh_circuits.specs.Provisioned.{end_of};
 ghost use Rattle.sdh_plant.specs.Fibres.{IsPrepared};
-ghost use Rattle.sdh_rounds.specs.Held.{world, new_nodes, new_ring, ring_of, IsPlaceOf, IsNodeOf};
+ghost use Rattle.sdh_rounds.specs.Held.{world, new_nodes, new_ring, ring_of, emptied, filled, HasItsNodes, IsPlaceOf, IsNodeOf};
 ghost use Rattle.sdh_rounds.specs.Quiet.{is_calm};
 ghost use Rattle.sdh_rounds.specs.Outcome.{IsOneRound};
 
+use crate::emptied::Emptied;
 use crate::faults::PlantFault;
 use crate::receiving::hear;
 use crate::sending::send_all;
@@ -135,6 +136,44 @@ impl<N: Station> StationRing<N> {
             present: Moment(0),
             rounds: 0,
             broken: false,
+        }
+    }
+
+    /// Takes the nodes out of the ring. They are in the order of their positions.
+    pub fn empty(self) -> (Emptied, Vec<N>)
+        ensures ring { result.0 ≡ emptied self }
+        ensures nodes { result.1.items ≡ self.nodes }
+    {
+        let rest = Emptied {
+            settings: self.settings,
+            map: self.map,
+            circuits: self.circuits,
+            arrived: self.arrived,
+            west: self.west,
+            east: self.east,
+            present: self.present,
+            rounds: self.rounds,
+            broken: self.broken,
+        };
+        (rest, self.nodes)
+    }
+
+    /// Returns the ring with these nodes, one for each position.
+    pub fn filled(rest: Emptied, nodes: Vec<N>) -> StationRing<N>
+        requires { HasItsNodes (filled rest nodes.items) }
+        ensures { result ≡ filled rest nodes.items }
+    {
+        StationRing {
+            settings: rest.settings,
+            map: rest.map,
+            circuits: rest.circuits,
+            nodes,
+            arrived: rest.arrived,
+            west: rest.west,
+            east: rest.east,
+            present: rest.present,
+            rounds: rest.rounds,
+            broken: rest.broken,
         }
     }
 

@@ -16,7 +16,7 @@ use Rattle.sdh_aps_cli.proofs.Steps.{on_err_is, on_ok_is, ids_at, begun_some, un
 use Rattle.sdh_aps_cli.proofs.script.SignalRunTeller.settle.Goals as goal
 
 pub begin-requires : goal.begin-requires
-begin-requires g c = c.requires.may.1.1.many ∙ ap (λ (r : HeldRing). length r.ids) (sym c.running.ensures)
+begin-requires g c = c.requires.may.1.1.many
 
 pub settle_recording-requires-clause-ready : goal.settle_recording-requires-clause-ready
 settle_recording-requires-clause-ready g c = λ at is. (
@@ -25,7 +25,7 @@ settle_recording-requires-clause-ready g c = λ at is. (
       (ap (λ (v : World). v.ring) (sym is))
       (ready_as c.args.self.now.ring c.args.self.now.ring _ _ _ _ refl c.begin.ensures.many
       (ap (λ t. t.room + length t.bytes) c.begin.ensures.text) c.requires.may.1.1)
-      (subst (λ (r : HeldRing). AreShown (shown_at r) c.begin.new.self.before.items) c.running.ensures c.begin.ensures.shown),
+      c.begin.ensures.shown,
   record { later = le_refl _; none = λ e. refl },
 )
 
@@ -88,7 +88,7 @@ returns-in-Ok-write_text-clause-ok g c =
     let x = on_ok_is c.in-Ok.ended c.in-Ok-ended.field-0 c.in-Ok-ended.is c.in-Ok.ensures.heard in
     wrote_step w left c.args.limit (c.args.number + 1) listing old new _ x c.begin.new.self.listing c.begin.ensures.listing mid
     x.kept.1.written (subst (Appends mid new)
-    (c.bytes.ensures ∙ c.end.ensures.bytes ∙ ap (λ (r : HeldRing). settle_line (c.args.number + 1) (r.rounds - 1)) c.running-2.ensures)
+    (c.bytes.ensures ∙ c.end.ensures.bytes)
     c.in-Ok-write_text.ensures.ok)
 
 pub returns-in-Ok-write_text-clause-next : goal.returns-in-Ok-write_text-clause-next
@@ -123,5 +123,5 @@ returns-in-Err-clause-begun g c =
     let x = on_ok_is c.in-Ok.ended c.in-Ok-ended.field-0 c.in-Ok-ended.is c.in-Ok.ensures.heard in
     cut_line w left c.args.limit (c.args.number + 1) listing old new _ x c.begin.new.self.listing c.begin.ensures.listing mid
     x.kept.1.written (subst (AppendsFewer mid new)
-    (c.bytes.ensures ∙ c.end.ensures.bytes ∙ ap (λ (r : HeldRing). settle_line (c.args.number + 1) (r.rounds - 1)) c.running-2.ensures)
+    (c.bytes.ensures ∙ c.end.ensures.bytes)
     c.in-Err.ensures.front)

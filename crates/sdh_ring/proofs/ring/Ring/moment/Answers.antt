@@ -1,22 +1,23 @@
-use Rattle.std.proofs.Common.{ap, sym, subst, ◌∙◌}
+use Rattle.std.proofs.Common.{◌≡◌, sym, subst}
 use Rattle.sdh_world.specs.Held.{HeldRing}
 use Rattle.sdh_world.specs.Rounds.{world}
 use Rattle.sdh_laws.specs.Hearing.Laws.{IsWhole}
 use Rattle.sdh_laws.specs.Strangers.Vouched.{IsVouched}
-use Rattle.sdh_ring.specs.Delivered.{delivered_in}
 use Rattle.sdh_ring.proofs.Whole.{whole_later, vouched_later}
+use Rattle.sdh_ring.proofs.There.{there}
 use Rattle.sdh_ring.proofs.ring.Ring.moment.Goals as goal
+use Rattle.sdh_ring.proofs.ring.Ring.moment.Goals.{After-moment}
 
-pub invariant_of-self : goal.invariant_of-self
-invariant_of-self c = c.self.invariant ∙ ap delivered_in (sym c.moment.ensures)
+held : (c : After-moment) → c.in-Some.resting ≡ c.args.self.now
+held c = there c.self.inside.resting c.in-Some.resting c.args.self.now c.in-Some.is c.self.view_is
 
 pub returns-clause-whole : goal.returns-clause-whole
 returns-clause-whole c = λ f whole.
     subst (λ (r : HeldRing). IsWhole (world r f)) (sym c.moment.ensures)
-    (whole_later c.stay_whole.ensures _ f c.args.now.0 (subst (λ (r : HeldRing). IsWhole (world r f)) (sym c.self.view_is) whole))
+    (whole_later c.stay_whole.ensures _ f c.args.now.0 (subst (λ (r : HeldRing). IsWhole (world r f)) (sym (held c)) whole))
 
 pub returns-clause-vouched : goal.returns-clause-vouched
 returns-clause-vouched c = λ f clocks is.
     subst (λ (r : HeldRing). IsVouched clocks (world r f)) (sym c.moment.ensures)
     (vouched_later c.vouched_rings_stay.ensures _ f clocks
-    (subst (λ (r : HeldRing). IsVouched clocks (world r f)) (sym c.self.view_is) is) c.args.now.0)
+    (subst (λ (r : HeldRing). IsVouched clocks (world r f)) (sym (held c)) is) c.args.now.0)

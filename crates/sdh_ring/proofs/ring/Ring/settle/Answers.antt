@@ -1,35 +1,25 @@
-use Rattle.std.proofs.Common.{length, map, ap, subst, ◌∙◌}
-use Rattle.sdh_terminal.specs.Tributaries.{outlets_of}
-use Rattle.sdh_node.specs.Node.{Node}
-use Rattle.sdh_node.specs.Stations.{adm}
-use Rattle.sdh_rounds.specs.Outcome.{IsStep}
-use Rattle.sdh_rounds.proofs.Keeping.{keeps_step, may_take}
+use Rattle.std.proofs.Common.{◌≡◌, sym, subst, ◌∙◌}
+use Rattle.sdh_circuits.specs.declared.PortId.{PortId}
+use Rattle.sdh_laws.specs.Carrying.Windows.{layout_in, HasCircuits}
 use Rattle.sdh_world.specs.Held.{HeldRing}
 use Rattle.sdh_world.specs.Rounds.{world}
-use Rattle.sdh_world.specs.Fixed.{Fixed, fixed}
-use Rattle.sdh_world.proofs.Keeping.{fixed_with, fixed_next}
+use Rattle.sdh_world.specs.Clocks.{HasPortIn, clock_at}
+use Rattle.sdh_world.specs.Fixed.{IsRested}
 use Rattle.sdh_ring.specs.Promises.{KeepsPromises}
-use Rattle.sdh_ring.proofs.Delivered.{ports_fixed}
 use Rattle.sdh_ring.proofs.Settling.{promises_kept}
+use Rattle.sdh_ring.proofs.There.{there}
 use Rattle.sdh_ring.proofs.ring.Ring.settle.Goals as goal
 
-pub take-requires : goal.take-requires
-take-requires g c =
-    let w = world c.self.inside.running (g.P.Plant.fibres c.args.plant.now) in
-    let left = world c.settle-result.new.ring (g.P.Plant.fibres c.settle-result.new.plant) in
-    may_take (λ (n : Node). outlets_of n.ports) fixed (λ (f : Fixed). length f.ports) ports_fixed
-    c.self.inside.deliveries c.self.inside.running.nodes c.nodes.result.now c.self.invariant
-    (ap (map fixed) c.nodes.ensures
-    ∙ keeps_step adm fixed fixed_with fixed_next g.P.Plant.exact w left c.args.limit c.settle-result.result _ _
-    c.settle-result.ensures.step)
-
-pub invariant_of-self : goal.invariant_of-self
-invariant_of-self g c = c.take.ensures ∙ ap (map (λ (n : Node). outlets_of n.ports)) c.nodes.ensures
-
-pub returns : goal.returns
-returns g c =
+pub returns-clause-laws : goal.returns-clause-laws
+returns-clause-laws g c =
     let f = g.P.Plant.fibres c.args.plant.now in
-    let left = world c.settle-result.new.ring (g.P.Plant.fibres c.settle-result.new.plant) in
+    let end = g.P.Plant.fibres c.settle-result.new.plant in
+    let begun : c.wait-running.result ≡ c.args.self.now =
+    c.wait-running.ensures ∙ there c.self.inside.resting c.in-Some.resting c.args.self.now
+    (sym c.take.ensures.value ∙ c.in-Some.is) c.self.view_is in
+    let fit = subst (λ (r : HeldRing). HasCircuits (layout_in r)) (c.resting.ensures ∙ sym begun) c.circuits_fit.ensures in
+    let rested = subst (λ (r : HeldRing). (port : PortId) → HasPortIn r port → IsRested (clock_at r port))
+        (c.resting-2.ensures ∙ sym begun) c.few_slips_wait.ensures in
     let step = c.settle-result.ensures.step in
     let kept = promises_kept (record {
       whole = c.steps_stay_whole.ensures;
@@ -38,10 +28,8 @@ returns g c =
       soon = c.unsettled_rings_are_restored.ensures;
       answers = c.steps_answer.ensures;
       strangers = c.steps_keep_strangers_out.ensures;
-    }) (world c.self.inside.running f) left c.args.limit c.settle-result.result c.circuits_fit.ensures
-    c.few_slips_wait.ensures step.outcome step.breaks in
-    record {
-      step = subst (λ (r : HeldRing). IsStep adm g.P.Plant.exact (world r f) c.args.limit c.settle-result.result left
-          (g.P.Plant.faults c.args.plant.now) (g.P.Plant.faults c.settle-result.new.plant)) c.self.view_is step;
-      laws = subst (λ (r : HeldRing). KeepsPromises (world r f) c.args.limit c.settle-result.result left) c.self.view_is kept;
-    }
+    }) (world c.wait-running.result f) (world c.settle-result.new.ring end) c.args.limit c.settle-result.result fit rested step.outcome
+        step.breaks in
+    subst (λ (r : HeldRing). KeepsPromises (world c.args.self.now f) c.args.limit c.settle-result.result (world r end))
+    (sym c.deliver.ensures)
+    (subst (λ (r : HeldRing). KeepsPromises (world r f) c.args.limit c.settle-result.result (world c.settle-result.new.ring end)) begun kept)

@@ -9,9 +9,9 @@ use Rattle.sdh_ring.proofs.ring.Ring.settle_with.Goals as goal
 
 pub returns-clause-laws : goal.returns-clause-laws
 returns-clause-laws g c =
-    let fit = subst (λ (r : HeldRing). HasCircuits (layout_in r)) c.self.view_is c.circuits_fit.ensures in
+    let fit = subst (λ (r : HeldRing). HasCircuits (layout_in r)) c.resting.ensures c.circuits_fit.ensures in
     let rested =
-    subst (λ (r : HeldRing). (port : PortId) → HasPortIn r port → IsRested (clock_at r port)) c.self.view_is c.few_slips_wait.ensures in
+    subst (λ (r : HeldRing). (port : PortId) → HasPortIn r port → IsRested (clock_at r port)) c.resting-2.ensures c.few_slips_wait.ensures in
     promises_kept (record {
       whole = c.steps_stay_whole.ensures;
       restored = c.settled_rings_are_restored.ensures;

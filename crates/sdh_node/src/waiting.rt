@@ -1,0 +1,85 @@
+//! A multiplexer with room for what its ports deliver, while that waits.
+ghost use Rattle.std.specs.Prelude.{◌≡◌, ◌/◌, ◌<◌, IfOk, length};
+ghost use Rattle.sdh_ringmap.specs.Rates.{n_of};
+ghost use Rattle.sdh_circuits.specs.Kept.{KeepsRing};
+ghost use Rattle.sdh_node.specs.Node.{new_node};
+
+use crate::adm::Adm;
+use crate::multiplexer::Multiplexer;
+use sdh_circuits::CircuitMap;
+use sdh_request::Settings;
+use sdh_ringmap::{Pos, RingMap};
+use sdh_terminal::{Outlets, TakenPair};
+use std::alloc::{AllocError, Global};
+use std::marker::Model;
+
+/// A multiplexer, and room for what its ports deliver. What they delivered in the last round waits in the frames that
+/// came in that round. An `Adm` becomes such a node for rounds after which nobody looks at its ports.
+#[derive(Debug, Drop)]
+pub struct Waiting {
+    pub(crate) node: Multiplexer,
+    pub(crate) outlets: Outlets,
+    pub(crate) taken: TakenPair,
+}
+
+impl Model for Waiting {
+    ghost use Rattle.std.specs.Prelude.{◌≡◌, length};
+    ghost use Rattle.sdh_node.specs.Node.{Node};
+
+    ghost Value = { Node };
+
+    ghost view = { λ w. w.node };
+
+    ghost invariant = { λ w. length w.outlets ≡ length w.node.ports };
+}
+
+impl Waiting {
+    /// Returns the node at a position of a ring with these circuits: idle, without commands and defects. All its memory
+    /// is taken here.
+    pub fn try_new(
+        alloc: Global,
+        settings: Settings,
+        map: &RingMap,
+        circuits: &CircuitMap,
+        at: Pos,
+    ) -> Result<Waiting, AllocError>
+        requires at { at.0 < length map.now }
+        requires slots { circuits.now.slots ≡ n_of settings.rate / 2 }
+        requires kept { KeepsRing circuits.now map.now }
+        ensures { IfOk result (λ node. node ≡ new_node settings map.now circuits.now.circuits at) }
+    {
+        let node = Multiplexer::try_new(alloc, settings, map, circuits, at)?;
+        let outlets = node.outlets(alloc)?;
+        let taken = TakenPair::try_new(alloc)?;
+        Ok(Waiting {
+            node,
+            outlets,
+            taken,
+        })
+    }
+
+    /// Returns the multiplexer.
+    pub fn node(&self) -> &Multiplexer
+        ensures { result.now ≡ self.now }
+    {
+        &self.node
+    }
+
+    /// Returns the node with what its ports delivered in the last round. Before the first round that is AIS. The
+    /// function takes no memory.
+    pub fn deliver(self) -> Adm
+        ensures { result ≡ self }
+    {
+        let Waiting {
+            node,
+            mut outlets,
+            mut taken,
+        } = self;
+        node.deliver(&mut taken, &mut outlets);
+        Adm {
+            node,
+            outlets,
+            taken,
+        }
+    }
+}
