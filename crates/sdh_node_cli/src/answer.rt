@@ -55,7 +55,7 @@ pub fn put_shown(text: &mut Text, node: &Adm, round: u64, id: u8)
     ensures room { text.old.room ≤ text.new.room + 128 }
     ensures kept { room_in text.new ≡ room_in text.old }
 {
-    signal_line(text, round, id, &shown_of(node));
+    signal_line(text, round, id, &shown_of(node.node()));
 }
 
 // Appends the line that gives the number of bytes that follow.
