@@ -36,13 +36,6 @@ ends_back bytes at size some (document, is, inr (before, line)) =
     ap (λ l. get_or l (at - 1) 0) whole ∙ ap (λ k. get_or (before ++ 10 ∷ end_of_plan) k 0) (sym long)
     ∙ get_or-append_seam before 10 end_of_plan 0
 
--- the bytes before it are the document
-pub cut_document : (bytes document : List ℕ) → bytes ≡ document ++ end_of_plan → take (length bytes - 12) bytes ≡ document
-cut_document bytes document is =
-    let size : length bytes ≡ length document + 12 = omega (arith, ap length is, length-append document end_of_plan) in
-    ap (λ k. take k bytes) (omega (arith, size)) ∙ ap (take (length document)) is
-    ∙ take-append-le (length document) document end_of_plan (omega arith) ∙ take_all _ document (omega arith)
-
 -- ---- one byte more
 
 -- the empty list has no front that ends a plan

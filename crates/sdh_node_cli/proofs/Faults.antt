@@ -126,22 +126,11 @@ err_same one other e = cc
 
 -- ---- of the last line
 
--- a read fault is no write fault, and a write fault is neither usage nor out of memory
-pub read_or_write : (end : Ending) → end ≡ ending.Shared status.ReadFault → end ≢ ending.Shared status.WriteFault
-read_or_write end e w = cc
-
 pub write_or_usage : ending.Shared status.WriteFault ≢ ending.Shared status.Usage
 write_or_usage e = cc
 
 pub write_or_memory : ending.Shared status.WriteFault ≢ ending.Shared status.Memory
 write_or_memory e = cc
-
-pub write_or_read : ending.Shared status.WriteFault ≢ ending.Shared status.ReadFault
-write_or_read e = cc
-
--- there was no such node, and that is no shared status
-pub no_node_own : (end : Ending) (how : Status) → end ≡ ending.NoSuchNode → end ≢ ending.Shared how
-no_node_own end how is e = cc
 
 -- an ending that is no write fault is the one that was to be returned
 pub ended_so : (how end : Ending) (line : List ℕ) (old new : Option (List ℕ)) → WroteEnding bench_endings how line end old new
@@ -154,50 +143,6 @@ pub ended_not : (how end other : Ending) (line : List ℕ) (old new : Option (Li
     → how ≢ other → ending.Shared status.WriteFault ≢ other → end ≢ other
 ended_not how end other line old new (inl x) other_is never e = other_is (sym x.0 ∙ e)
 ended_not how end other line old new (inr x) other_is never e = never (sym x.0 ∙ e)
-
--- ---- of a stream without a plan
-
-pub err_of : {T : Type 0} (r : Result T NoHead) (why other : NoHead) → r ≡ Err why → r ≡ Err other → why ≡ other
-err_of r why other p q = cc
-
-pub fault_of : (why : NoHead) (how : Ending) → Some how ≡ refusal_of why → how ≡ ending.Shared status.ReadFault
-    → why ≡ nohead.Refused status.ReadFault
-fault_of nohead.Memory how is e = absurd (none_some is)
-  where
-    none_some : Some how ≡ None → ⊥
-    none_some h = cc
-fault_of nohead.Cut how is e = cc
-fault_of (nohead.Refused said) how is e = cc
-
-pub of_fault : (why : NoHead) (how : Ending) → Some how ≡ refusal_of why → why ≡ nohead.Refused status.ReadFault
-    → how ≡ ending.Shared status.ReadFault
-of_fault why how is e =
-    some_same (is ∙ ap refusal_of e)
-  where
-    some_same : Some how ≡ Some (ending.Shared status.ReadFault) → how ≡ ending.Shared status.ReadFault
-    some_same h = cc
-
-said_own : (left now : Option (List ℕ)) (how : Status) → RefusesHead left now how → (how ≢ status.Usage) × (how ≢ status.Memory)
-said_own left now status.ReadFault h = (λ e. cc, λ e. cc)
-said_own left now status.TooLong h = (λ e. cc, λ e. cc)
-said_own left now status.NotToml h = (λ e. cc, λ e. cc)
-said_own left now (status.BadPlan number place) h = (λ e. cc, λ e. cc)
-said_own left now how h = absurd h
-
--- a refusal is neither usage nor out of memory
-pub none_own : (left now : Option (List ℕ)) (why : NoHead) (how : Ending) → TellsNone left now why → Some how ≡ refusal_of why
-    → (how ≢ ending.Shared status.Usage) × (how ≢ ending.Shared status.Memory)
-none_own left now nohead.Memory how h is = absurd (none_some is)
-  where
-    none_some : Some how ≡ None → ⊥
-    none_some e = cc
-none_own left now nohead.Cut how h is = (λ e. cc, λ e. cc)
-none_own left now (nohead.Refused said) how h is =
-    let own = said_own left now said h in
-    (λ e. own.0 (same status.Usage is e), λ e. own.1 (same status.Memory is e))
-  where
-    same : (other : Status) → Some how ≡ Some (ending.Shared said) → how ≡ ending.Shared other → said ≡ other
-    same other i e = cc
 
 -- ---- of records
 
@@ -215,28 +160,3 @@ stop_own stop.Done number = (λ e. cc, λ e. cc)
 stop_own (stop.Bad f) number = (λ e. cc, λ e. cc)
 stop_own stop.ReadFault number = (λ e. cc, λ e. cc)
 stop_own stop.WriteFault number = (λ e. cc, λ e. cc)
-
--- ---- of a call
-
-pub asked_some : (asked : Option Ask) (ask : Ask) → Some ask ≡ asked → asked ≡ None → ⊥
-asked_some asked ask is none = cc
-
--- out of memory, no call is made
-pub no_memory : (exact : Bool) (a b : ℕ) → b ≡ a → IsCounted exact (ending.Shared status.Memory ≡ ending.Shared status.WriteFault) a b
-no_memory exact a b same = record { one = λ e f. cc; none = λ e n. same }
-
-abbrev WroteUsage : Ending → List ℕ → Option (List ℕ) → Option (List ℕ) → Type 0
-WroteUsage end line old new = WroteEnding bench_endings (ending.Shared status.Usage) line end old new
-
-pub wrote_usage : (end : Ending) (line : List ℕ) (old new : Option (List ℕ)) → WroteUsage end line old new
-    → (end ≡ ending.Shared status.Usage) ⊎ (end ≡ ending.Shared status.WriteFault) ⊎ (end ≡ ending.Shared status.Memory)
-wrote_usage end line old new (inl x) = inl x.0
-wrote_usage end line old new (inr x) = inr (inl x.0)
-
-pub usage_no_read : (end : Ending) (line : List ℕ) (old new : Option (List ℕ)) → WroteUsage end line old new → end ≢ ending.Shared status.ReadFault
-usage_no_read end line old new wrote =
-    ended_not (ending.Shared status.Usage) end (ending.Shared status.ReadFault) line old new wrote (λ e. cc) (λ e. cc)
-
-pub usage_no_memory : (end : Ending) (line : List ℕ) (old new : Option (List ℕ)) → WroteUsage end line old new → end ≢ ending.Shared status.Memory
-usage_no_memory end line old new wrote =
-    ended_not (ending.Shared status.Usage) end (ending.Shared status.Memory) line old new wrote (λ e. cc) (λ e. cc)

@@ -63,10 +63,3 @@ own_there cs at port own =
     let place = end_there at c port.end own.2 in
     subst (λ (p : ℕ). HasPort (tributaries_at (record { 0 = p }) cs) port) place
     (has_own cs c port (slice_get_within cs port.circuit c get) (get_or_from_slice_get cs port.circuit c c get))
-
--- ---- a round leaves their number
-
-pub count_round : (now : ℕ) (n : Node) → length (node_round now n).0.ports ≡ length n.ports
-unfolding node_round with_calm after_crossing ports_after all_fed
-count_round now n =
-    length-map_from (λ i (t : Tributary). fed t) 0 (all_delivered (crossing now n) n.ports) ∙ count_waits (crossing now n) n.ports

@@ -35,31 +35,6 @@ stop_shown (stop.Bad f) number not = refl
 stop_shown stop.ReadFault number not = refl
 stop_shown stop.WriteFault number not = absurd (not refl)
 
-refused_shown : (left now : Option (List ℕ)) (how : Status) → RefusesHead left now how → IsShown bench_endings (ending.Shared how)
-refused_shown left now status.ReadFault h = refl
-refused_shown left now status.TooLong h = refl
-refused_shown left now status.NotToml h = refl
-refused_shown left now (status.BadPlan number place) h = refl
-refused_shown left now how h = absurd h
-
--- where no write failed, the refusal of a stream without a plan is shown too
-pub none_shown : (left now : Option (List ℕ)) (why : NoHead) (how : Ending) → TellsNone left now why → Some how ≡ refusal_of why
-    → IsShown bench_endings how
-none_shown left now nohead.Memory how h is = absurd (none_some is)
-  where
-    none_some : Some how ≡ None → ⊥
-    none_some e = cc
-none_shown left now nohead.Cut how h is =
-    subst (IsShown bench_endings) (some_same is) refl
-  where
-    some_same : Some how ≡ Some (ending.BadRecord flaw.Cut 0) → ending.BadRecord flaw.Cut 0 ≡ how
-    some_same e = cc
-none_shown left now (nohead.Refused said) how h is =
-    subst (IsShown bench_endings) (some_same is) (refused_shown left now said h)
-  where
-    some_same : Some how ≡ Some (ending.Shared said) → ending.Shared said ≡ how
-    some_same e = cc
-
 -- ---- a text, and its last line
 
 -- the text of an outcome was to be written; `line` is its end, which was written last
@@ -87,10 +62,6 @@ map_as Front may more off far how old new f g (inr x) = inr (g x)
 map_as Nothing may more off far how old new f g x = x
 
 -- ---- with a plan
-
-pub of_none : (ask : Ask) (plan : Planned) (left : Option (List ℕ)) → found_at plan.nodes ask.id ≡ None → Consumes left left []
-    → OfPlan ask plan [] left left ending.NoSuchNode (line_of ending.NoSuchNode)
-of_none ask plan left none read = inl (record { none = none; read = read; how_is = refl; text_is = refl })
 
 -- after the bytes of a document
 module _ (ask : Ask) (plan : Planned) (head : List ℕ) (left mid now : Option (List ℕ)) (read : Consumes left mid head) where
@@ -153,14 +124,6 @@ tells_planned ask plan left mid now how old new head x =
     (λ h text y. inr (record { document = head.document; first = head.first; plan = plan; plan_is = head.plan_is; of_plan = y }))
     (λ y. record { document = head.document; first = head.first; plan = plan; plan_is = head.plan_is; cut = y })
     (planned_behind ask plan bytes left mid now head.read how old new x)
-
--- there was no plan, and the line of that was to be written
-pub tells_refusal : (ask : Ask) (left now : Option (List ℕ)) (why : NoHead) (how end : Ending) (old new : Option (List ℕ))
-    → TellsNone left now why → Some how ≡ refusal_of why → IsShown bench_endings how
-    → WroteEnding bench_endings how (line_of how) end old new → Tells (Some ask) left now end old new
-tells_refusal ask left now why how end old new none is shown wrote =
-    tells_line (λ h text. IsOutcome (Some ask) left now h text) (MayBeCut (Some ask) left now old new) how end (line_of how) old new shown
-    (inl (record { why = why; none = none; how_is = is; text_is = refl })) wrote
 
 -- the words have none of the two forms
 pub tells_usage : (left : Option (List ℕ)) (end : Ending) (old new : Option (List ℕ))

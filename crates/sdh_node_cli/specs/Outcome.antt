@@ -169,6 +169,18 @@ pub record HasPlan (ask : Ask) (left now : Option (List ℕ)) (how : Ending) (te
   pub plan_is : TellsPlan document plan
   pub of_plan : OfPlan ask plan (document ++ end_of_plan) left now how text
 
+-- the node that is asked for in a plan's ring, before any record
+pub record IsNodeOf (ask : Ask) (plan : Planned) (b : Bench) : Type 0 where
+  pub at : Pos
+  pub found : found_at plan.nodes ask.id ≡ Some at
+  pub new : b ≡ new_bench ask.mode ask.id at plan
+
+-- the source had a plan, and no more was read; and this is the node that is asked for in its ring, before any record
+pub record HasNode (ask : Ask) (left now : Option (List ℕ)) (b : Bench) : Type 0 where
+  pub plan : Planned
+  pub head : HasHead left now plan
+  pub node : IsNodeOf ask plan b
+
 -- What is asked, if anything, leads to this ending with this text, and the source goes from `left` to `now`. A write
 -- fault and out of memory aren't outcomes: either may come in place of any outcome.
 abbrev pub IsOutcome : Option Ask → Option (List ℕ) → Option (List ℕ) → Ending → List ℕ → Type 0

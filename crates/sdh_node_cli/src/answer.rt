@@ -2,7 +2,7 @@
 ghost use Rattle.std.specs.Prelude.{◌≡◌, ◌+◌, ◌*◌, ◌≤◌, ◌++◌, IfSome, length};
 ghost use Rattle.sdh_frame.specs.Sizes.{size_of};
 ghost use Rattle.sdh_circuits.specs.declared.PortId.{PortId};
-ghost use Rattle.sdh_terminal.specs.Tributaries.{HasPort, outlets_of};
+ghost use Rattle.sdh_terminal.specs.Tributaries.{HasPort};
 ghost use Rattle.sdh_report.specs.Written.{with_part};
 ghost use Rattle.sdh_shell.specs.Writing.{room_in};
 ghost use Rattle.sdh_aps.specs.Lines.{signal_line};
@@ -18,13 +18,10 @@ use sdh_frame::FrameBuf;
 use sdh_node::Adm;
 use sdh_report::Text;
 use sdh_ringmap::Pos;
-use sdh_terminal::Outlets;
 
-// Appends the line of the port of a circuit, if it has one at the node. `outlets` has what all ports of the node
-// delivered.
-fn put_port(text: &mut Text, node: &Adm, outlets: &Outlets, circuit: &Circuit, port: Option<PortId>)
+// Appends the line of the port of a circuit, if it has one at the node.
+fn put_port(text: &mut Text, node: &Adm, circuit: &Circuit, port: Option<PortId>)
     requires there { IfSome port (HasPort node.now.ports) }
-    requires outlets { outlets.now ≡ outlets_of node.now.ports }
     requires room { 96 ≤ text.old.room }
     ensures bytes { text.new.bytes ≡ text.old.bytes ++ text_of node.now circuit.now.name port }
     ensures room { text.old.room ≤ text.new.room + 96 }
@@ -33,15 +30,12 @@ fn put_port(text: &mut Text, node: &Adm, outlets: &Outlets, circuit: &Circuit, p
     let Some(port) = port else {
         return;
     };
-    let outlet = node.outlet(port, outlets);
-    text.port_line(circuit.name(), port.end, outlet.delivered(), outlet.value());
+    text.port_line(circuit.name(), port.end, node.delivered(port), node.value(port));
 }
 
-/// Appends the lines of the ports that are at the node, in the order of the circuits, each at most 96 bytes. `outlets`
-/// has what these ports delivered in the last round.
-pub fn put_ports(text: &mut Text, node: &Adm, outlets: &Outlets, at: Pos, circuits: &CircuitMap)
+/// Appends the lines of the ports that are at the node, in the order of the circuits, each at most 96 bytes.
+pub fn put_ports(text: &mut Text, node: &Adm, at: Pos, circuits: &CircuitMap)
     requires there { (port : PortId) → IsOwn circuits.now.circuits at port → HasPort node.now.ports port }
-    requires outlets { outlets.now ≡ outlets_of node.now.ports }
     requires room { 96 * length circuits.now.circuits ≤ text.old.room }
     ensures bytes { text.new.bytes ≡ text.old.bytes ++ ports_from node.now at 0 circuits.now.circuits }
     ensures room { text.old.room ≤ text.new.room + 96 * length circuits.now.circuits }
@@ -50,7 +44,7 @@ pub fn put_ports(text: &mut Text, node: &Adm, outlets: &Outlets, at: Pos, circui
     for number in 0..circuits.len() {
         let circuit = circuits.get(number as u8);
         let port = port_here(at, number as u8, circuit);
-        put_port(text, node, outlets, circuit, port);
+        put_port(text, node, circuit, port);
     }
 }
 
@@ -61,7 +55,7 @@ pub fn put_shown(text: &mut Text, node: &Adm, round: u64, id: u8)
     ensures room { text.old.room ≤ text.new.room + 128 }
     ensures kept { room_in text.new ≡ room_in text.old }
 {
-    signal_line(text, round, id, &shown_of(node));
+    signal_line(text, round, id, &shown_of(node.node()));
 }
 
 // Appends the line that gives the number of bytes that follow.

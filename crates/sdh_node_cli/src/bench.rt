@@ -1,10 +1,7 @@
 //! A node on the bench.
-ghost use Rattle.std.specs.Prelude.{◌≡◌, ℕ, ◌+◌, ◌*◌, ◌/◌, ◌^◌, ◌<◌, ◌≤◌, ◌++◌, List, [], Err, IfOk, IfErr, OnOk, OnErr, length};
+ghost use Rattle.std.specs.Prelude.{◌≡◌, ℕ, ◌^◌, ◌<◌, ◌≤◌, List, [], Err, IfOk, IfErr, OnOk, OnErr, length};
 ghost use Rattle.std.specs.Io.KnownBytes.{Consumes};
-ghost use Rattle.sdh_ringmap.specs.Rates.{n_of};
 ghost use Rattle.sdh_frame.specs.Sizes.{size_of};
-ghost use Rattle.sdh_circuits.specs.Kept.{KeepsRing};
-ghost use Rattle.sdh_node.specs.Node.{new_node};
 ghost use Rattle.sdh_plan.specs.Check.{unless};
 ghost use Rattle.sdh_shell.specs.Writing.{room_in};
 ghost use Rattle.sdh_node_cli.specs.Faults.{CountsFault};
@@ -25,14 +22,13 @@ use sdh_outside::{Source, fill};
 use sdh_plan::{Plan, Reason};
 use sdh_plant::Arrived;
 use sdh_report::Text;
-use sdh_request::{Moment, Settings};
-use sdh_ringmap::{Pos, Rate, RingMap, Side};
-use sdh_terminal::{Outlets, TakenPair};
+use sdh_request::Moment;
+use sdh_ringmap::{Pos, Rate, Side};
 use std::alloc::{AllocError, Global};
 use std::marker::Model;
 
 /// One node of a plan's ring, with the present moment, the circuits, the number of rounds it has run, and room for a
-/// frame of each side and for what its ports deliver.
+/// frame of each side.
 #[derive(Drop)]
 pub struct Bench {
     mode: Mode,
@@ -44,8 +40,6 @@ pub struct Bench {
     node: Adm,
     west: FrameBuf,
     east: FrameBuf,
-    outlets: Outlets,
-    taken: TakenPair,
 }
 
 impl Model for Bench {
@@ -57,8 +51,7 @@ impl Model for Bench {
     ghost view = { λ b. record { mode = b.mode; id = b.id; at = b.at; circuits = b.circuits.circuits; moment = b.moment.0; node = b.node } };
 
     ghost invariant = { λ b. IsBench (record { mode = b.mode; id = b.id; at = b.at; circuits = b.circuits.circuits; moment = b.moment.0; node = b.node })
-        × (b.rounds ≡ b.node.rounds) × (b.west.rate ≡ b.node.settings.rate) × (b.east.rate ≡ b.node.settings.rate)
-        × (length b.outlets ≡ length b.node.ports) };
+        × (b.rounds ≡ b.node.rounds) × (b.west.rate ≡ b.node.settings.rate) × (b.east.rate ≡ b.node.settings.rate) };
 }
 
 impl Bench {
@@ -71,8 +64,8 @@ impl Bench {
         let settings = plan.settings();
         let (map, circuits, _) = plan.into_parts();
         prove!(circuits.len() <= 128);
-        let (west, east, taken) = room_for(alloc, settings.rate)?;
-        let (node, outlets) = node_with_outlets(alloc, settings, &map, &circuits, at)?;
+        let (west, east) = room_for(alloc, settings.rate)?;
+        let node = Adm::try_new(alloc, settings, &map, &circuits, at)?;
         Ok(Bench {
             mode: ask.mode,
             id: ask.id,
@@ -83,8 +76,6 @@ impl Bench {
             node,
             west,
             east,
-            outlets,
-            taken,
         })
     }
 
@@ -166,44 +157,18 @@ impl Bench {
         self.node.send(self.moment, &mut self.west, &mut self.east);
         put_shown(text, &self.node, self.rounds, self.id);
         self.rounds += 1;
-        self.node.deliver(&mut self.taken, &mut self.outlets);
-        put_ports(text, &self.node, &self.outlets, self.at, &self.circuits);
+        put_ports(text, &self.node, self.at, &self.circuits);
         put_frames_if(text, self.mode, &self.west, &self.east);
     }
 }
 
-// Returns room for a frame of each side, and for what is taken out of the frames that came.
-fn room_for(alloc: Global, rate: Rate) -> Result<(FrameBuf, FrameBuf, TakenPair), AllocError>
+// Returns room for a frame of each side.
+fn room_for(alloc: Global, rate: Rate) -> Result<(FrameBuf, FrameBuf), AllocError>
     ensures { IfOk result (λ room. (room.0.rate ≡ rate) × (room.1.rate ≡ rate)) }
 {
     let west = FrameBuf::try_new(alloc, rate)?;
     let east = FrameBuf::try_new(alloc, rate)?;
-    let taken = TakenPair::try_new(alloc)?;
-    Ok((west, east, taken))
-}
-
-// Returns the node at a position of a ring with these circuits, before any round, and room for what its ports deliver.
-fn node_with_outlets(
-    alloc: Global,
-    settings: Settings,
-    map: &RingMap,
-    circuits: &CircuitMap,
-    at: Pos,
-) -> Result<(Adm, Outlets), AllocError>
-    requires at { at.0 < length map.now }
-    requires slots { circuits.now.slots ≡ n_of settings.rate / 2 }
-    requires kept { KeepsRing circuits.now map.now }
-    ensures node { IfOk result (λ made. made.0 ≡ new_node settings map.now circuits.now.circuits at) }
-    ensures outlets { IfOk result (λ made. length made.1 ≡ length made.0.ports) }
-{
-    let node = Adm::try_new(alloc, settings, map, circuits, at)?;
-    match node.outlets(alloc) {
-        Ok(outlets) => Ok((node, outlets)),
-        Err(AllocError) => {
-            drop(node);
-            Err(AllocError)
-        }
-    }
+    Ok((west, east))
 }
 
 // Reads a frame.

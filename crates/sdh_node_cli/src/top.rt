@@ -1,5 +1,5 @@
 //! The program's call.
-ghost use Rattle.std.specs.Prelude.{◌≡◌, ◌≢◌, ◌⊎◌, ◌≤◌, [], None, Some, IfOk, OnErr};
+ghost use Rattle.std.specs.Prelude.{◌≡◌, ◌≢◌, ◌⊎◌, ◌≤◌, [], None, Some, Err, IfOk, IfErr, IfSome, OnErr};
 ghost use Rattle.sdh_basics.specs.Causes.{Rose, IsCounted};
 ghost use Rattle.sdh_ringmap.specs.declared.Pos.{Pos};
 ghost use Rattle.sdh_ringmap.specs.Places.{found_at};
@@ -7,12 +7,12 @@ ghost use Rattle.sdh_plan.specs.Planned.{Planned};
 ghost use Rattle.sdh_report.specs.Lines.{own_line};
 ghost use Rattle.sdh_report.specs.declared.status.Status.{Status};
 ghost use Rattle.sdh_shell.specs.Calls.{words_of};
-ghost use Rattle.sdh_shell.specs.Writing.{WroteEnding};
-ghost use Rattle.sdh_node_cli.specs.Endings.{bench_endings};
+ghost use Rattle.sdh_shell.specs.Writing.{IsShown, WroteEnding};
+ghost use Rattle.sdh_node_cli.specs.Endings.{line_of, bench_endings};
 ghost use Rattle.sdh_node_cli.specs.Words.{asked};
 ghost use Rattle.sdh_node_cli.specs.Faults.{CountsFault};
 ghost use Rattle.sdh_node_cli.specs.Bench.{new_bench};
-ghost use Rattle.sdh_node_cli.specs.Outcome.{usage, ending_of, refusal_of, TellsPlanned, Tells};
+ghost use Rattle.sdh_node_cli.specs.Outcome.{usage, ending_of, refusal_of, IsNodeOf, HasNode, IsOutcome, TellsPlanned, Tells};
 ghost use Rattle.sdh_node_cli.specs.declared.ending.Ending.{Ending};
 ghost use Rattle.sdh_node_cli.specs.declared.words.Ask.{Ask};
 
@@ -82,32 +82,37 @@ fn answer_records<R: Source, W: Sink>(
     }
 }
 
-// Finds the node that is asked for in a plan's ring, and runs it over the records of a source. Returns how the program
-// ended.
-fn answer_plan<R: Source, W: Sink>(
-    alloc: Global,
-    plan: Plan,
-    ask: Ask,
-    source: &mut R,
-    sink: &mut W,
-) -> Result<Ending, AllocError>
-    ensures outcome { IfOk result (λ how. TellsPlanned ask plan [] (R.left source.old) (R.left source.new) how (W.written sink.old)
-        (W.written sink.new)) }
-    ensures reads { IfOk result (λ how. how ≢ Ending.Shared Status.WriteFault
-        → CountsFault R.exact (R.faults source.old) (R.faults source.new) (how ≡ Ending.Shared Status.ReadFault)) }
-    ensures writes { IfOk result (λ how. CountsFault W.exact (W.faults sink.old) (W.faults sink.new) (how ≡ Ending.Shared Status.WriteFault)) }
-    ensures own { IfOk result (λ how. (how ≢ Ending.Shared Status.Usage) × (how ≢ Ending.Shared Status.Memory)) }
-    ensures later { (R.faults source.old ≤ R.faults source.new) × (W.faults sink.old ≤ W.faults sink.new) }
-    ensures memory { OnErr result (sink.new ≡ sink.old) }
+// Returns the node that is asked for in a plan's ring, before any record, or `None` where the ring has no such node.
+fn bench_of(alloc: Global, plan: Plan, ask: Ask) -> Result<Option<Bench>, AllocError>
+    ensures node { IfOk result (λ made. IfSome made (IsNodeOf ask plan)) }
+    ensures none { IfOk result (λ made. made ≡ None → found_at plan.nodes ask.id ≡ None) }
 {
-    let text = Text::try_new(alloc, LINE_MAX)?;
-    let Some(at) = plan.map().find(ask.id) else {
-        return Ok(write_ended(sink, ended(Ending::NoSuchNode, text)));
-    };
-    let mut bench = Bench::try_new(alloc, plan, ask, at)?;
-    let how = answer_records(alloc, &mut bench, text, source, sink);
-    drop(bench);
-    how
+    match plan.map().find(ask.id) {
+        Some(at) => match Bench::try_new(alloc, plan, ask, at) {
+            Ok(bench) => Ok(Some(bench)),
+            Err(AllocError) => Err(AllocError),
+        },
+        None => Ok(None),
+    }
+}
+
+// Reads the plan of a stream, and returns the node that is asked for. Where there is no plan or no such node, the error
+// is how the program ends, or `None` where memory ran out.
+fn bench_in<R: Source>(alloc: Global, ask: Ask, source: &mut R) -> Result<Bench, Option<Ending>>
+    ensures node { IfOk result (HasNode ask (R.left source.old) (R.left source.new)) }
+    ensures ends { IfErr result (λ why. IfSome why (λ how. IsOutcome (Some ask) (R.left source.old) (R.left source.new) how (line_of how))) }
+    ensures shown { IfErr result (λ why. IfSome why (IsShown bench_endings)) }
+    ensures own { IfErr result (λ why. IfSome why (λ how. how ≢ Ending.Shared Status.Usage)) }
+    ensures reads { CountsFault R.exact (R.faults source.old) (R.faults source.new) (result ≡ Err (Some (Ending.Shared Status.ReadFault))) }
+{
+    match plan_in(alloc, source) {
+        Ok(plan) => match bench_of(alloc, plan, ask) {
+            Ok(Some(bench)) => Ok(bench),
+            Ok(None) => Err(Some(Ending::NoSuchNode)),
+            Err(AllocError) => Err(None),
+        },
+        Err(why) => Err(refusal_of(why)),
+    }
 }
 
 // Does what is asked for with the stream of a source. Returns how the program ended.
@@ -126,14 +131,16 @@ fn answer<R: Source, W: Sink>(
     ensures later { (R.faults source.old ≤ R.faults source.new) × (W.faults sink.old ≤ W.faults sink.new) }
     ensures memory { OnErr result (sink.new ≡ sink.old) }
 {
-    // Room for the line is taken first, so that a read that fails is always reported.
+    // Room for the last line is taken first, so that a read that fails is always reported.
     let text = Text::try_new(alloc, LINE_MAX)?;
-    match plan_in(alloc, source) {
-        Ok(plan) => answer_plan(alloc, plan, ask, source, sink),
-        Err(why) => match refusal_of(why) {
-            Some(how) => Ok(write_ended(sink, ended(how, text))),
-            None => Err(AllocError),
-        },
+    match bench_in(alloc, ask, source) {
+        Ok(mut bench) => {
+            let how = answer_records(alloc, &mut bench, text, source, sink);
+            drop(bench);
+            how
+        }
+        Err(Some(how)) => Ok(write_ended(sink, ended(how, text))),
+        Err(None) => Err(AllocError),
     }
 }
 

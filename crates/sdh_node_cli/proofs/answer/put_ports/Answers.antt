@@ -7,7 +7,6 @@ pub put_port-requires : goal.put_port-requires
 put_port-requires c = record {
   there = own_here c.args.circuits.now.circuits c.args.at c.loop-number.number c.get-circuit.result.now c.args.node.now.ports c.port_here-port.result
       c.get-circuit.ensures c.requires.there c.port_here-port.ensures.own;
-  outlets = c.requires.outlets;
   room = omega (arith, c.requires.room, c.loop-number.invariant.room, c.loop-number-test.true, c.len-number-end.ensures.len);
 }
 

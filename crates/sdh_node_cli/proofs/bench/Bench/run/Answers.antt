@@ -1,10 +1,7 @@
 use Rattle.std.proofs.Common.{◌<◌, ◌^◌, length, ap, sym, subst, ◌∙◌, arith}
 use Rattle.sdh_frame.specs.Sizes.{size_of}
 use Rattle.sdh_request.specs.declared.settings.Settings.{Settings}
-use Rattle.sdh_terminal.proofs.Waiting.{count_outlets}
-use Rattle.sdh_node.specs.Node.{Node}
 use Rattle.sdh_node_cli.specs.Bench.{Bench}
-use Rattle.sdh_node_cli.proofs.Own.{count_round}
 use Rattle.sdh_node_cli.proofs.Rounds.{round_is, answered}
 use Rattle.sdh_node_cli.proofs.bench.Bench.run.Goals as goal
 
@@ -22,15 +19,9 @@ send-requires c =
 pub put_shown-requires : goal.put_shown-requires
 put_shown-requires c = record { room = omega (arith, c.requires.room) }
 
-pub deliver-requires : goal.deliver-requires
-deliver-requires c =
-    let i = c.self.inside in
-    c.self.invariant.4 ∙ sym (count_round i.moment.0 i.node) ∙ ap (λ (n : Node). length n.ports) (sym c.send.ensures.node)
-
 pub put_ports-requires : goal.put_ports-requires
 put_ports-requires c = record {
   there = λ port own. c.send.ensures.goes_on.ports port (c.self.invariant.0.ports port own);
-  outlets = c.deliver.ensures;
   room = omega (arith, c.requires.room, c.put_shown.ensures.room, ap (λ (b : Bench). length b.circuits) c.self.view_is);
 }
 
@@ -64,7 +55,6 @@ invariant_of-self c =
       omega (arith, inv.1, on.rounds),
       rates.0 ∙ inv.2 ∙ rate,
       rates.1 ∙ inv.3 ∙ rate,
-      ap length c.deliver.ensures ∙ count_outlets c.send.new.self.ports,
     )
 
 pub returns-clause-bench : goal.returns-clause-bench

@@ -1,7 +1,6 @@
 use Rattle.std.proofs.Common.{length, ap, sym, subst, ◌∙◌, arith}
 use Rattle.sdh_node.specs.Node.{Node}
 use Rattle.sdh_terminal.specs.Tributaries.{HasPort}
-use Rattle.sdh_terminal.proofs.Slips.{length-with_slips}
 use Rattle.sdh_node_cli.proofs.Own.{has_slipped}
 use Rattle.sdh_node_cli.proofs.bench.Bench.tell.Goals as goal
 
@@ -19,6 +18,4 @@ invariant_of-self-in-Slip c =
       inv.1 ∙ ap (λ (n : Node). n.rounds) is,
       inv.2 ∙ ap (λ (n : Node). n.settings.rate) is,
       inv.3 ∙ ap (λ (n : Node). n.settings.rate) is,
-      inv.4 ∙ sym (length-with_slips c.in-Slip.port c.in-Slip.turn c.in-Slip.count c.self.inside.node.ports)
-          ∙ ap (λ (n : Node). length n.ports) is,
     )

@@ -7,7 +7,7 @@ use Rattle.sdh_node_cli.proofs.bench.Bench.try_new.Goals as goal
 pub invariant_of-result : goal.invariant_of-result
 unfolding new_node
 invariant_of-result c =
-    let is = sym c.in_ok-node.ensures.node in
+    let is = sym c.in_ok-node.ensures in
     let rate = ap (λ (n : Node). n.settings.rate) is in (
       record {
         forward = subst (λ (n : Node). moment_of n ≤ 0) is (omega arith);
@@ -18,5 +18,4 @@ invariant_of-result c =
       ap (λ (n : Node). n.rounds) is,
       c.in_ok-west.ensures.0 ∙ rate,
       c.in_ok-west.ensures.1 ∙ rate,
-      c.in_ok-node.ensures.outlets,
     )
