@@ -1,7 +1,11 @@
 //! The nodes of a ring while the rounds of a settle step run, after which nobody looks at what the ports delivered.
 ghost use Rattle.std.specs.Prelude.{◌≡◌, ◌≤◌, ◌<◌, [], Some, length, slice_get, vec_capacity};
+ghost use Rattle.sdh_terminal.specs.Tributaries.{HasPort, outlet_of};
+ghost use Rattle.sdh_world.specs.Held.{node_at, place_of_port, outlet_at};
+ghost use Rattle.sdh_laws.specs.Carrying.Windows.{layout_in, HasCircuits};
 
 use crate::resting::Resting;
+use sdh_circuits::PortId;
 use sdh_node::{Adm, Multiplexer, Waiting};
 use sdh_plant::Plant;
 use sdh_ringmap::{Pos, RingMap};
@@ -58,6 +62,25 @@ impl Running {
             ring: StationRing::filled(rest, spare),
             spare: nodes,
         }
+    }
+
+    /// The circuits fit the ring's size and rate: the function does nothing, and its contract is the law.
+    pub fn circuits_fit(&self)
+        ensures { HasCircuits (layout_in self.now) }
+    {
+        // Looking at a field gives the prover the ring's invariant, from which the law follows.
+        let _ = &self.ring;
+    }
+
+    /// Returns the position of the node where a port of a circuit is.
+    pub fn place_of(&self, port: PortId) -> usize
+        requires { port.circuit < length self.now.circuits.circuits }
+        ensures place { result ≡ place_of_port self.now port }
+        ensures inside { result < length self.now.nodes }
+        ensures port { HasPort (node_at self.now.nodes result).ports port }
+        ensures outlet { outlet_at self.now port ≡ outlet_of port (node_at self.now.nodes result).ports }
+    {
+        self.ring.place_of(port)
     }
 
     /// Returns how many rounds have run. They are numbered from 0, so the last one has a number one below that.
