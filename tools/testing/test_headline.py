@@ -52,9 +52,8 @@ class Headline(unittest.TestCase):
     def test_late_steps_are_counted(self):
         steps, late, alone = soon.all_counted()
         self.assertLess(alone, late)
-        for page, plans in ((PAGE, "plans in `tools/testing/rings`"), (ROOT / "README.md", "tested plans")):
-            words = " ".join(page.read_text().split())
-            self.assertIn(f"Of the {steps} settle steps of the {plans} {late} are", words)
+        words = " ".join(PAGE.read_text().split())
+        self.assertIn(f"Of the {steps} settle steps of the plans in `tools/testing/rings` {late} are", words)
 
     def test_bounds_are_those_of_the_changes(self):
         bounds = [soon.bound(4, words) for words in ([], ["cut", "degrade"], ["slip", "cut"], ["hold", "slip"])]

@@ -65,7 +65,8 @@ impl Adm {
         Ok(waiting.deliver())
     }
 
-    /// Returns the same node for rounds after which what its ports deliver waits until it is asked for.
+    /// Returns the same node as a `Waiting`: in its rounds what the ports deliver stays in the received frames until it is
+    /// asked for.
     pub fn wait(self) -> Waiting
         ensures { result ≡ self }
     {

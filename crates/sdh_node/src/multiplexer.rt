@@ -1,4 +1,4 @@
-//! One multiplexer, at which what the ports deliver waits.
+//! One multiplexer. What its ports deliver stays in the received frames until it is asked for.
 ghost use Rattle.std.specs.Prelude.{◌≡◌, ◌&&◌, not, nat_le, ◌+◌, ◌-◌, ◌/◌, ◌^◌, ◌<◌, ◌≤◌, ◌≢◌, None, IfOk, IfSome, length, get_or, option_map};
 ghost use Rattle.sdh_ringmap.specs.Rates.{n_of};
 ghost use Rattle.sdh_circuits.specs.Kept.{KeepsRing};
@@ -26,9 +26,10 @@ use sdh_terminal::{Outlet, Outlets, Sender, TakenPair, Tributaries, send_both};
 use std::alloc::{AllocError, Global};
 use std::marker::Model;
 
-/// The rounds of one add-drop multiplexer of the ring. What its ports delivered in the last round waits in the frames
-/// that came in that round, and is taken out of them only when it is asked for. Both frames, the interpreters and the
-/// state stay as that round left them until the next one. An `Adm` takes it out in every round.
+/// One add-drop multiplexer of the ring, which runs in rounds. What its ports delivered in the last round stays in the
+/// frames that came in that round, and is taken out of them only when it is asked for. That is possible until the next
+/// round, since both frames, the interpreters and the state stay as they are until then. An `Adm` takes out in every
+/// round what its ports deliver.
 #[derive(Debug, Drop)]
 pub struct Multiplexer {
     settings: Settings,

@@ -1,4 +1,4 @@
-//! A multiplexer with room for what its ports deliver, while that waits.
+//! A multiplexer with room for what its ports deliver. Until that is asked for, it stays in the received frames.
 ghost use Rattle.std.specs.Prelude.{◌≡◌, ◌/◌, ◌<◌, IfOk, length};
 ghost use Rattle.sdh_ringmap.specs.Rates.{n_of};
 ghost use Rattle.sdh_circuits.specs.Kept.{KeepsRing};
@@ -13,8 +13,8 @@ use sdh_terminal::{Outlets, TakenPair};
 use std::alloc::{AllocError, Global};
 use std::marker::Model;
 
-/// A multiplexer, and room for what its ports deliver. What they delivered in the last round waits in the frames that
-/// came in that round. An `Adm` becomes such a node for rounds after which nobody looks at its ports.
+/// A multiplexer, and room for what its ports deliver. What they delivered in the last round stays in the frames that
+/// came in that round. An `Adm` takes this form for rounds in which nobody reads its ports.
 #[derive(Debug, Drop)]
 pub struct Waiting {
     pub(crate) node: Multiplexer,

@@ -30,8 +30,8 @@ ReportsGoOn =
     (ring : Ring) (limit : ℕ) (earlier : List Stretch) (before : ℕ) (later : List (List Change)) (reports : List PortReport) (end : Status)
     → 2 ≤ ring.nodes → AreOwed ring limit earlier before later reports end → GoOn limit (rounds_in earlier) reports
 
--- The first two reports of a script show what is owed. For the first one, the changes `one` and the k rounds after them
--- decide what that is. For the second one these do, with the changes `two` and m rounds more.
+-- The first two reports of a script show what is owed. For the first report that follows from the changes `one` and the
+-- k rounds after them. For the second it follows from these together with the changes `two` and m more rounds.
 abbrev pub ReportsRemember : Type 0
 ReportsRemember =
     (ring : Ring) (limit : ℕ) (one two : List Change) (later : List (List Change)) (r s : PortReport) (reports : List PortReport) (end : Status)

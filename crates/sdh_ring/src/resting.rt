@@ -25,7 +25,7 @@ use std::marker::Model;
 #[derive(Debug, Drop)]
 pub struct Resting {
     pub(crate) ring: StationRing<Adm>,
-    // Room for the nodes of a settle step. It is empty, and takes no more memory for a node at each position.
+    // Room for the nodes of a settle step. It is empty, and its capacity is enough for a node at each position.
     pub(crate) spare: Vec<Waiting>,
 }
 
@@ -45,7 +45,7 @@ impl Model for Resting {
     } };
 }
 
-// Moves the nodes to where what their ports deliver waits.
+// Moves the nodes from `nodes` to `waiting`, where what they deliver later stays in the received frames.
 fn wait_all(nodes: &mut Vec<Adm>, waiting: &mut Vec<Waiting>)
     requires empty { waiting.old.items ≡ [] }
     requires room { length nodes.old.items ≤ vec_capacity waiting.old }
@@ -103,7 +103,7 @@ impl Resting {
         Ok(Resting { ring, spare })
     }
 
-    /// Returns the same nodes for the rounds of a settle step, in which what their ports deliver waits. The function
+    /// Returns the same nodes, made ready for the rounds of a settle step in which nobody reads the ports. The function
     /// takes no memory.
     pub fn wait(self) -> Running
         ensures { result ≡ self }
@@ -125,7 +125,7 @@ impl Resting {
         let _ = &self.ring;
     }
 
-    /// At most 16 slips wait at each port, and at most four more rounds must run before a round in which its clock may
+    /// At most 16 slips wait at each port, and no port's clock has to wait for more than four rounds before it may
     /// justify. The function does nothing: its contract is the law.
     pub fn few_slips_wait(&self)
         requires { self.now.broken ≡ false }

@@ -44,8 +44,7 @@ use std::marker::Model;
 /// The nodes of a ring, which run in rounds, and what their ports delivered in the last one.
 #[derive(Debug, Drop)]
 pub struct Ring {
-    // There but while a settle step runs without an observer: then the nodes are taken out, and what their ports deliver
-    // waits at them.
+    // `Some`, except while a settle step runs without an observer: for that time the nodes are taken out.
     resting: Option<Resting>,
 }
 
@@ -295,8 +294,8 @@ impl Ring {
     }
 
     /// Runs rounds as `settle` does, with a recorder that looks at the nodes after each round and may stop the step
-    /// then. What the ports deliver waits at the nodes until the step has ended. Returns how the step ended, and an error
-    /// only where the recorder stopped it.
+    /// then. What the ports deliver stays in the frames that the nodes received, and is taken out of them when the step
+    /// has ended. Returns how the step ended, and an error only where the recorder stopped it.
     pub fn settle_recording<P: Plant, L, O: Recorder<Running, L>>(
         &mut self,
         plant: &mut P,

@@ -1,4 +1,4 @@
-//! The nodes of a ring while the rounds of a settle step run, after which nobody looks at what the ports delivered.
+//! The nodes of a ring during a settle step in which nobody reads the ports after each round.
 ghost use Rattle.std.specs.Prelude.{◌≡◌, ◌≤◌, ◌<◌, [], Some, length, slice_get, vec_capacity};
 ghost use Rattle.sdh_terminal.specs.Tributaries.{HasPort, outlet_of};
 ghost use Rattle.sdh_world.specs.Held.{node_at, place_of_port, outlet_at};
@@ -12,12 +12,12 @@ use sdh_ringmap::{Pos, RingMap};
 use sdh_rounds::{PlantFault, RunsRounds, StationRing};
 use std::marker::Model;
 
-/// The nodes of a ring while the rounds of a settle step run. What their ports deliver waits at the nodes until somebody
-/// asks.
+/// The nodes of a ring while the rounds of a settle step run. What their ports deliver stays in the frames that the
+/// nodes received until it is asked for, or until the step ends.
 #[derive(Debug, Drop)]
 pub struct Running {
     pub(crate) ring: StationRing<Waiting>,
-    // Room for the nodes after the step. It is empty, and takes no more memory for a node at each position.
+    // Room for the nodes after the step. It is empty, and its capacity is enough for a node at each position.
     pub(crate) spare: Vec<Adm>,
 }
 
@@ -37,7 +37,7 @@ impl Model for Running {
     } };
 }
 
-// Moves the nodes to where they have what their ports delivered.
+// Moves the nodes from `nodes` to `delivered`, each with what its ports delivered in the last round.
 fn deliver_all(nodes: &mut Vec<Waiting>, delivered: &mut Vec<Adm>)
     requires empty { delivered.old.items ≡ [] }
     requires room { length nodes.old.items ≤ vec_capacity delivered.old }
