@@ -6,8 +6,8 @@
 
 ghost use Rattle.sdh_promise.specs.Laws.{ReportsGoOn, ReportsRemember, SidesAreTold, PortsAreTold, OwedByTheOther};
 
-/// The round of each report that is owed comes after the round of the report before it, within the limit of a settle
-/// step, and the number of this round is a multiple of 128.
+/// In a list of reports that show what they owe, the round of each comes after the round of the report before it, within
+/// the limit of a settle step, and the number of this round is a multiple of 128.
 pub fn reports_go_on()
     ensures { ReportsGoOn }
 {}
@@ -17,8 +17,8 @@ pub fn reports_remember()
     ensures { ReportsRemember }
 {}
 
-/// A side sees the condition of the fibre that ends at it. A port gets its own slips alone. What a port is owed follows
-/// from what happened at the other end of its circuit.
+/// A side sees the condition of the fibre that ends at it. A port gets its own slips alone. Where no span is applied,
+/// what a port is owed follows from what happened at the other end of its circuit.
 pub fn all_are_told()
     ensures sides { SidesAreTold }
     ensures ports { PortsAreTold }

@@ -68,7 +68,7 @@ abbrev pub HasCause : Counts → Status → Type 0
 HasCause reads status.ReadFault = HaveFailed reads
 HasCause reads how = Unit {0}
 
--- an outcome that has its cause, if it is a read fault, in a call that failed
+-- an outcome; if it is a read fault, a call of the source has failed
 abbrev pub MayEnd : List (List ℕ) → List ℕ → Counts → Status → List ℕ → Type 0
 MayEnd words bytes reads how text = IsOutcome words bytes how text × HasCause reads how
 

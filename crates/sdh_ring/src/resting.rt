@@ -125,8 +125,8 @@ impl Resting {
         let _ = &self.ring;
     }
 
-    /// At most 16 slips wait at each port, and at most four rounds come before one in which its clock may justify. The
-    /// function does nothing: its contract is the law.
+    /// At most 16 slips wait at each port, and at most four more rounds must run before a round in which its clock may
+    /// justify. The function does nothing: its contract is the law.
     pub fn few_slips_wait(&self)
         requires { self.now.broken ≡ false }
         ensures { (port : PortId) → HasPortIn self.now port → IsRested (clock_at self.now port) }

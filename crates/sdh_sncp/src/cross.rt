@@ -4,7 +4,7 @@ ghost use Rattle.sdh_ringmap.specs.Rates.{n_of};
 ghost use Rattle.sdh_plant.specs.Arrivals.{arrived_in};
 ghost use Rattle.sdh_ringmap.specs.Places.{opposite};
 ghost use Rattle.sdh_terminal.specs.Same.{same_readings};
-ghost use Rattle.sdh_terminal.specs.Receiving.{inlet_told};
+ghost use Rattle.sdh_terminal.specs.Receiving.{new_inlet, new_intake, inlet_told};
 ghost use Rattle.sdh_terminal.specs.Lines.{line_on, received, IsFeeder};
 ghost use Rattle.sdh_sncp.specs.Node.{new_cross, cross_told, after_taken, lines_of, leads, comes, drops, fed_for};
 
@@ -50,6 +50,14 @@ fn fed_for(used: Use, side: Side, au: u16) -> Feeder
     }
 }
 
+// Returns what receives on one side, which has received nothing, and what that side takes in.
+fn new_side(alloc: Global, rate: Rate) -> Result<(Inlet, Intake), AllocError>
+    ensures inlet { IfOk result (λ side. side.0 ≡ new_inlet rate) }
+    ensures intake { IfOk result (λ side. side.1 ≡ new_intake rate) }
+{
+    Ok((Inlet::try_new(alloc, rate)?, Intake::try_new(alloc, rate)?))
+}
+
 impl PathCross {
     /// Returns a cross-connect that has received nothing. All memory is taken here.
     pub fn try_new(
@@ -60,12 +68,17 @@ impl PathCross {
     ) -> Result<PathCross, AllocError>
         ensures { IfOk result (λ x. x ≡ new_cross rate circuits.now.circuits at) }
     {
+        let uses = uses_at(alloc, circuits, at, rate.n())?;
+        let west_side = new_side(alloc, rate)?;
+        let east_side = new_side(alloc, rate)?;
+        let (west, west_in) = west_side;
+        let (east, east_in) = east_side;
         Ok(PathCross {
-            uses: uses_at(alloc, circuits, at, rate.n())?,
-            west: Inlet::try_new(alloc, rate)?,
-            east: Inlet::try_new(alloc, rate)?,
-            west_in: Intake::try_new(alloc, rate)?,
-            east_in: Intake::try_new(alloc, rate)?,
+            uses,
+            west,
+            east,
+            west_in,
+            east_in,
         })
     }
 

@@ -122,8 +122,8 @@ pub fn working_origin(
 }
 
 /// Returns the origin of what leaves on a side in a protection slot. In a node that passes through, it is what arrives
-/// in the protection slot on the other side. Where the other side alone is switched and the circuit there may be
-/// carried round, it is what leaves on that side in the working slot. Else it is AIS.
+/// in the protection slot on the other side. Where only the other side is switched, and the circuit on that other side
+/// may be carried round, it is what leaves on the other side in the working slot. Else it is AIS.
 #[tactic(auto, unfolding(crate::specs::Connections::leaves_protection, crate::specs::Connections::may_carry))]
 pub fn protection_origin(
     state: &NodeState,

@@ -1,10 +1,11 @@
 -- Ports, with more slips that wait at one of them.
-use Rattle.std.proofs.Common.{◌≡◌, ℕ, zero, suc, ◌+◌, ◌<◌, ◌≤◌, Bool, true, false, Some, None, Option, List, [], ◌∷◌, length, set, get_or}
+use Rattle.std.proofs.Common.{◌≡◌, ℕ, zero, suc, ◌+◌, ◌<◌, ◌≤◌, Bool, true, false, Some, None, Option, List, [], ◌∷◌, length, set, get_or, map}
 use Rattle.std.proofs.Common.{inl, inr, refl, ap, sym, ◌∙◌, arith}
 use Rattle.std.specs.Prelude.{◌==◌, ◌&&◌, if◌then◌else◌, All}
 use Rattle.std.specs.List.{position, position_or_len}
 use Rattle.std.specs.Option.{option_map, option_map_or}
 use Rattle.std.proofs.lemmas.Bool.{eqb-true, eq-eqb, ne_eqb, cases_eq}
+use Rattle.std.proofs.lemmas.List.{length-map}
 use Rattle.std.proofs.lemmas.List.Elements.{All-nil, All-cons}
 use Rattle.std.proofs.lemmas.List.Quantifiers.{position-Some}
 use Rattle.sdh_payload.specs.declared.clock.Turn.{Turn}
@@ -20,15 +21,23 @@ use Rattle.sdh_terminal.proofs.Ports.{port_found}
 
 -- ---- their places
 
-pub length-with_slips : (id : PortId) (turn : Turn) (count : ℕ) (ts : List Tributary) → length (with_slips id turn count ts) ≡ length ts
+-- what slips leave of each port is left of all of them
+pub map-with_slips : {A : Type 0} (f : Tributary → A) → ((turn : Turn) (count : ℕ) (t : Tributary) → f (slipped turn count t) ≡ f t)
+    → (id : PortId) (turn : Turn) (count : ℕ) (ts : List Tributary) → map f (with_slips id turn count ts) ≡ map f ts
 unfolding with_slips
-length-with_slips id turn count [] = refl
-length-with_slips id turn count (t ∷ ts) = go (is_port id t) refl (length-with_slips id turn count ts)
+map-with_slips f same id turn count [] = refl
+map-with_slips {A} f same id turn count (t ∷ ts) = go (is_port id t) (map-with_slips f same id turn count ts)
   where
-    go : (b : Bool) → is_port id t ≡ b → length (with_slips id turn count ts) ≡ length ts
-        → length (with_slips id turn count (t ∷ ts)) ≡ length (t ∷ ts)
-    go true e rest = rw e refl
-    go false e rest = rw e (ap suc rest)
+    go : (b : Bool) → map f (with_slips id turn count ts) ≡ map f ts
+        → map f (if b then slipped turn count t ∷ ts else t ∷ with_slips id turn count ts) ≡ map f (t ∷ ts)
+    go true rest = ap (λ (a : A). a ∷ map f ts) (same turn count t)
+    go false rest = ap (λ (others : List A). f t ∷ others) rest
+
+pub length-with_slips : (id : PortId) (turn : Turn) (count : ℕ) (ts : List Tributary) → length (with_slips id turn count ts) ≡ length ts
+length-with_slips id turn count ts =
+    let port : Tributary → PortId = λ t. t.port in
+    sym (length-map (with_slips id turn count ts) port) ∙ ap length (map-with_slips port (λ turn count t. refl) id turn count ts)
+    ∙ length-map ts port
 
 first-slipped : (other id : PortId) (turn : Turn) (count : ℕ) (ts : List Tributary)
     → position_or_len (is_port other) (with_slips id turn count ts) ≡ position_or_len (is_port other) ts

@@ -8,6 +8,11 @@ pub ok_two : {T E : Type 0} (r : Result T E) (P Q S : T → Type 0) → ((x : T)
 ok_two (Ok x) P Q S f p q = f x p q
 ok_two (Err e) P Q S f p q = p
 
+pub ok_three : {T E : Type 0} (r : Result T E) (P Q S V : T → Type 0) → ((x : T) → P x → Q x → S x → V x) → IfOk r P → IfOk r Q
+    → IfOk r S → IfOk r V
+ok_three (Ok x) P Q S V f p q s = f x p q s
+ok_three (Err e) P Q S V f p q s = p
+
 -- the status of a plan's table, or of a refusal of the user's own failures, is none of these
 pub record IsNoFault (s : Status) : Type 0 where
   pub read : s ≢ status.ReadFault

@@ -1,5 +1,8 @@
 -- How a call ends: each status, when it is returned, and the text that goes with it.
-use Rattle.std.specs.Prelude.{◌≡◌, ◌⊎◌, ℕ, List, [], Option, Some, None, codes}
+use Rattle.std.specs.Prelude.{◌≡◌, ◌≢◌, ◌⊎◌, ◌↔◌, ℕ, Bool, List, [], Option, Some, None, Result, IfSome, codes}
+use Rattle.std.specs.Io.KnownBytes.{IsAtEnd}
+use Rattle.sdh_basics.specs.Causes.{Rose, IsCounted}
+use Rattle.sdh_outside.specs.Reading.{TakesCount}
 use Rattle.sdh_plan.specs.Reasons.{reason_number}
 use Rattle.sdh_plan.specs.declared.reason.Reason.TheVariants as reason
 use Rattle.sdh_plan.specs.Planned.{Planned}
@@ -8,6 +11,7 @@ use Rattle.sdh_report.specs.declared.status.Status.TheVariants as status
 use Rattle.sdh_report.specs.Lines.{own_line}
 use Rattle.sdh_report.specs.Statuses.{last_line}
 use Rattle.sdh_shell.specs.Reading.{HasNoPlan, TellsPlan}
+use Rattle.sdh_shell.specs.Writing.{Wrote}
 use Rattle.sdh_whatif_cli.specs.declared.ask.Ask.{Ask}
 use Rattle.sdh_whatif_cli.specs.Lines.{table_text}
 use Rattle.sdh_whatif_cli.specs.Own.{own_failures, first_unknown}
@@ -50,3 +54,34 @@ HasPlanFor texts (Some bytes) = (plan : Planned) × TellsPlan bytes plan × (fir
 abbrev pub told : Option Ask → Option (List ℕ) → Option (List ℕ)
 told None left = Some []
 told (Some ask) left = left
+
+-- a source and a sink, before a call and after it: whether their counts of faults are exact, the counts, the bytes that
+-- are left, and what was written, where they are known
+pub record Seen : Type 0 where
+  pub reads_exact : Bool
+  pub reads : ℕ
+  pub reads_after : ℕ
+  pub left : Option (List ℕ)
+  pub left_after : Option (List ℕ)
+  pub writes_exact : Bool
+  pub writes : ℕ
+  pub writes_after : ℕ
+  pub written : Option (List ℕ)
+  pub written_after : Option (List ℕ)
+
+-- A call in which memory didn't run out ended with a status, which its write may have kept it from telling: what is
+-- asked for, with which texts of the user's own failures, what was seen of the source and the sink, the status, and how
+-- the write of the text ended.
+pub record Ended {T E : Type 0} (ask : Option Ask) (texts : List (List ℕ)) (seen : Seen) (how : Status) (put : Result T E)
+    : Type 0 where
+  pub text : List ℕ
+  pub outcome : IfSome (told ask seen.left) (λ bytes. IsOutcome ask texts bytes how text)
+  pub wrote : Wrote seen.writes_exact seen.written seen.written_after seen.writes seen.writes_after text put
+  pub fault : how ≡ status.ReadFault → Rose seen.reads seen.reads_after
+  pub reads : IsCounted seen.reads_exact (how ≡ status.ReadFault) seen.reads seen.reads_after
+  pub too_long : how ≡ status.TooLong → TakesCount seen.left seen.left_after 1048577
+  pub usage : how ≡ status.Usage ↔ (ask ≡ None)
+  pub own : (how ≢ status.WriteFault) × (how ≢ status.Memory)
+  pub read : how ≡ status.Ok → IsAtEnd seen.left_after
+  -- everything was written, where something is asked for, the plan's ring has the user's own failures and no read failed
+  pub complete : ask ≢ None → HasPlanFor texts seen.left → ¬ (Rose seen.reads seen.reads_after) → how ≡ status.Ok

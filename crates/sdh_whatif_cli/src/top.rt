@@ -1,5 +1,5 @@
 //! The program's call.
-ghost use Rattle.std.specs.Prelude.{◌≡◌, ◌≢◌, ◌⊎◌, ◌+◌, ◌≤◌, ◌↔◌, ℕ, List, [], length, true, None, IfOk, OnErr, IfSome};
+ghost use Rattle.std.specs.Prelude.{◌≡◌, ◌≢◌, ◌⊎◌, ◌≤◌, ℕ, [], true, Some, None, IfOk, OnErr, IfSome};
 ghost use Rattle.std.specs.Io.KnownBytes.{IsAtEnd};
 ghost use Rattle.sdh_basics.specs.Causes.{Rose, IsCounted};
 ghost use Rattle.sdh_outside.specs.Reading.{TakesCount};
@@ -7,7 +7,7 @@ ghost use Rattle.sdh_shell.specs.Writing.{Writes, Wrote};
 ghost use Rattle.sdh_shell.specs.Calls.{words_of};
 ghost use Rattle.sdh_whatif_cli.specs.Words.{asked, own_texts, IsPart};
 ghost use Rattle.sdh_whatif_cli.specs.Laws.{LinesAreTrue};
-ghost use Rattle.sdh_whatif_cli.specs.Outcome.{refusal, of_plan, OfBytes, IsOutcome, HasPlanFor, told};
+ghost use Rattle.sdh_whatif_cli.specs.Outcome.{refusal, of_plan, IsOutcome, HasPlanFor, told, Seen, Ended};
 
 use crate::ask::{Ask, asked};
 use crate::laws::lines_are_true;
@@ -128,16 +128,18 @@ fn answer_ask<R: Source, W: Sink>(
     sink: &mut W,
 ) -> Result<Told, AllocError>
     requires part { IsPart ask }
-    ensures outcome { IfOk result (λ x. (text : List ℕ) × (IfSome (R.left source.old)
-        (λ bytes. OfBytes ask (own_texts (words_of words.now)) bytes x.status text)
-        × Wrote W.exact (W.written sink.old) (W.written sink.new) (W.faults sink.old) (W.faults sink.new) text x.wrote)) }
-    ensures fault { IfOk result (λ x. x.status ≡ Status.ReadFault → Rose (R.faults source.old) (R.faults source.new)) }
-    ensures reads { IfOk result (λ x. IsCounted R.exact (x.status ≡ Status.ReadFault) (R.faults source.old) (R.faults source.new)) }
-    ensures too_long { IfOk result (λ x. x.status ≡ Status.TooLong → TakesCount (R.left source.old) (R.left source.new) 1048577) }
-    ensures own { IfOk result (λ x. (x.status ≢ Status.Usage) × (x.status ≢ Status.WriteFault) × (x.status ≢ Status.Memory)) }
-    ensures read { IfOk result (λ x. x.status ≡ Status.Ok → IsAtEnd (R.left source.new)) }
-    ensures complete { HasPlanFor (own_texts (words_of words.now)) (R.left source.old) → ¬ (Rose (R.faults source.old) (R.faults source.new))
-        → IfOk result (λ x. x.status ≡ Status.Ok) }
+    ensures ended { IfOk result (λ x. let seen : Seen = record {
+      reads_exact = R.exact;
+      reads = R.faults source.old;
+      reads_after = R.faults source.new;
+      left = R.left source.old;
+      left_after = R.left source.new;
+      writes_exact = W.exact;
+      writes = W.faults sink.old;
+      writes_after = W.faults sink.new;
+      written = W.written sink.old;
+      written_after = W.written sink.new;
+    } in Ended (Some ask) (own_texts (words_of words.now)) seen x.status x.wrote) }
     ensures later { R.faults source.old ≤ R.faults source.new }
     ensures memory { OnErr result ((R.exact ≡ true → R.faults source.new ≡ R.faults source.old) × (sink.new ≡ sink.old)) }
 {
@@ -156,18 +158,19 @@ fn answer<R: Source, W: Sink>(
     source: &mut R,
     sink: &mut W,
 ) -> Result<Told, AllocError>
-    ensures outcome { IfOk result (λ x. (text : List ℕ) × (IfSome (told (asked (words_of words.now)) (R.left source.old))
-        (λ bytes. IsOutcome (asked (words_of words.now)) (own_texts (words_of words.now)) bytes x.status text)
-        × Wrote W.exact (W.written sink.old) (W.written sink.new) (W.faults sink.old) (W.faults sink.new) text x.wrote)) }
-    ensures fault { IfOk result (λ x. x.status ≡ Status.ReadFault → Rose (R.faults source.old) (R.faults source.new)) }
-    ensures reads { IfOk result (λ x. IsCounted R.exact (x.status ≡ Status.ReadFault) (R.faults source.old) (R.faults source.new)) }
-    ensures too_long { IfOk result (λ x. x.status ≡ Status.TooLong → TakesCount (R.left source.old) (R.left source.new) 1048577) }
-    ensures usage { IfOk result (λ x. x.status ≡ Status.Usage ↔ (asked (words_of words.now) ≡ None)) }
-    ensures own { IfOk result (λ x. (x.status ≢ Status.WriteFault) × (x.status ≢ Status.Memory)) }
-    ensures read { IfOk result (λ x. x.status ≡ Status.Ok → IsAtEnd (R.left source.new)) }
+    ensures ended { IfOk result (λ x. let seen : Seen = record {
+      reads_exact = R.exact;
+      reads = R.faults source.old;
+      reads_after = R.faults source.new;
+      left = R.left source.old;
+      left_after = R.left source.new;
+      writes_exact = W.exact;
+      writes = W.faults sink.old;
+      writes_after = W.faults sink.new;
+      written = W.written sink.old;
+      written_after = W.written sink.new;
+    } in Ended (asked (words_of words.now)) (own_texts (words_of words.now)) seen x.status x.wrote) }
     ensures unread { asked (words_of words.now) ≡ None → source.new ≡ source.old }
-    ensures complete { asked (words_of words.now) ≢ None → HasPlanFor (own_texts (words_of words.now)) (R.left source.old)
-        → ¬ (Rose (R.faults source.old) (R.faults source.new)) → IfOk result (λ x. x.status ≡ Status.Ok) }
     ensures later { R.faults source.old ≤ R.faults source.new }
     ensures memory { OnErr result ((R.exact ≡ true → R.faults source.new ≡ R.faults source.old) × (sink.new ≡ sink.old)) }
 {

@@ -3,7 +3,7 @@
 use sdh_node_cli::{Ending, sdhnode};
 use sdh_outside::{MemSink, MemSource};
 use std::alloc::{AllocError, Global};
-use test_texts::words_of;
+use test_texts::{SMALLEST, words_of};
 
 /// Which calls of a source and a sink fail, counted from 1, and how many bytes each takes.
 #[derive(Clone, Copy, Debug)]
@@ -27,22 +27,8 @@ pub const NO_WORDS: &[&str] = &[];
 
 pub const USAGE: &str = "usage: sdhnode ID, frames, lines\n";
 
-/// A ring of three with one circuit, and the line that ends the plan.
-pub const PLAN: &str = "rate = 4\n\
-nodes = [1, 2, 3]\n\
-threshold = 3\n\
-wait = 10\n\
-limit = 1000\n\
-script = [\"settle\"]\n\
-[[circuit]]\n\
-name = \"c1\"\n\
-from = 1\n\
-to = 2\n\
-slot = 1\n\
-text_a = \"ALPHA\"\n\
-text_b = \"BETA!\"\n\
-end of plan\n\
-";
+/// The line that ends a plan.
+pub const END: &str = "end of plan\n";
 
 /// A record: the first round.
 pub const FIRST: &str = "round none none\n";
@@ -88,7 +74,7 @@ pub fn joined(alloc: Global, texts: &[&str]) -> Result<Vec<u8>, AllocError> {
     Ok(all)
 }
 
-/// Returns the plan and the records.
+/// Returns the smallest plan and the records.
 pub fn stream(alloc: Global) -> Result<Vec<u8>, AllocError> {
-    joined(alloc, &[PLAN, FIRST, FORCED, DARK])
+    joined(alloc, &[SMALLEST, END, FIRST, FORCED, DARK])
 }

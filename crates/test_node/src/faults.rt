@@ -1,12 +1,12 @@
 //! What is outside fails, and how far the stream was read by then.
 
 use crate::called::{
-    DARK, FIRST, FORCED, IDLE, ISOLATED, NODE_2, Outside, PLAN, RECORDS, SOUND, call, joined,
-    stream,
+    DARK, END, FIRST, FORCED, IDLE, ISOLATED, NODE_2, Outside, RECORDS, SOUND, call, joined, stream,
 };
 use sdh_node_cli::Ending;
 use sdh_outside::read_all;
 use std::test::Fail;
+use test_texts::SMALLEST;
 
 // The write that fails, what was written by then, and the records that are left.
 type Row = (u32, &'static [&'static str], &'static [&'static str]);
@@ -44,7 +44,7 @@ fn each_write_that_fails_is_told(rt: HostRuntime) -> Result<(), Fail> {
 // A read gives one byte here, so the number of a read is that of a byte.
 #[test]
 fn each_read_of_a_record_that_fails_is_told(rt: HostRuntime) -> Result<(), Fail> {
-    let mut before = PLAN.len();
+    let mut before = SMALLEST.len().saturating_add(END.len());
     for (at, record) in RECORDS.iter().enumerate() {
         let written = joined(
             rt.alloc(),
@@ -100,7 +100,7 @@ const BAD: &[(&str, &str, &str)] = &[
 #[test]
 fn a_bad_record_is_told_with_its_number(rt: HostRuntime) -> Result<(), Fail> {
     for (bad, why, left) in BAD {
-        let given = joined(rt.alloc(), &[PLAN, FIRST, bad, DARK])?;
+        let given = joined(rt.alloc(), &[SMALLEST, END, FIRST, bad, DARK])?;
         let (ending, mut source, sink) = call(rt.alloc(), NODE_2, &given, SOUND)?;
         assert!(rt;
             matches!(ending, Ending::BadRecord(_, 2)) && ending.number() == 17,

@@ -1,7 +1,8 @@
 //! Calls that run out of memory.
 
-use crate::called::{FIRST, IDLE, NO_WORDS, NODE_2, PLAN, SOUND, USAGE, call, joined};
+use crate::called::{END, FIRST, IDLE, NO_WORDS, NODE_2, SOUND, USAGE, call, joined};
 use std::test::Fail;
+use test_texts::SMALLEST;
 
 // The words, the stream, and the number and the text of the answer.
 type Row = (
@@ -12,11 +13,11 @@ type Row = (
 );
 
 const ROWS: &[Row] = &[
-    (NODE_2, &[PLAN, FIRST], 0, &[IDLE, "done\n"]),
+    (NODE_2, &[SMALLEST, END, FIRST], 0, &[IDLE, "done\n"]),
     (NODE_2, &["rate = \nend of plan\n"], 5, &["not toml\n"]),
     (NODE_2, &[FIRST], 17, &["bad record 32 at 0\n"]),
-    (&["4"], &[PLAN, FIRST], 15, &["no such node\n"]),
-    (NO_WORDS, &[PLAN], 2, &[USAGE]),
+    (&["4"], &[SMALLEST, END, FIRST], 15, &["no such node\n"]),
+    (NO_WORDS, &[SMALLEST, END], 2, &[USAGE]),
 ];
 
 // This test shows most where one of its allocations is made to fail (`rt try --test --fail-alloc`).

@@ -11,7 +11,7 @@ steps-preserved g c =
     let after = c.settle.new.self in
     let whole : after.broken ≡ false = search rules in
     let stays = stays_step g.P.Plant.exact (world before (g.P.Plant.fibres c.steps.plant)) (world after (g.P.Plant.fibres c.settle.new.plant))
-    128 c.settle.result (g.P.Plant.faults c.steps.plant) (g.P.Plant.faults c.settle.new.plant) c.settle.ensures.step in
+    128 c.settle.result (g.P.Plant.faults c.steps.plant) (g.P.Plant.faults c.settle.new.plant) c.settle.ensures.step whole in
     record {
       prepared =
           subst (λ (s : Settings). IsPrepared s.rate (length after.ids) (g.P.Plant.fibres c.settle.new.plant)) (sym stays.settings)

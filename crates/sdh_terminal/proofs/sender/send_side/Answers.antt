@@ -8,53 +8,59 @@ use Rattle.sdh_terminal.specs.Tributaries.{added_last}
 use Rattle.sdh_terminal.specs.Lines.{Lines, all_fed_by}
 use Rattle.sdh_terminal.specs.Sending.{Sending, frame_from, after_sending}
 use Rattle.sdh_terminal.proofs.Frames.{sent-is, kept-is}
+use Rattle.sdh_terminal.proofs.sender.send_side.Given as given
 use Rattle.sdh_terminal.proofs.sender.send_side.Goals as goal
+
+-- what is sent on the side: the AU-4s, as they were put together
+module _ (g : given.Over) (c : goal.After-write_frame g) where
+  abbrev input : ℕ → Input
+  input =
+      all_fed_by (g.X.Matrix.lines c.args.cross.now) (added_last c.args.ports.now) (g.X.Matrix.leads c.args.cross.now c.args.side)
+
+  abbrev s : Sending
+  s = record {
+    section = c.sender.inside.section;
+    generators = states_of c.sender.inside.generators.items;
+    word = c.sender.inside.word;
+  }
+
+  is : s ≡ c.args.sender.now
+  is = c.sender.view_is
+
+  at : c.args.out.now.rate ≡ s.section.rate
+  at = sym (ap (λ (x : Sending). x.section.rate) is ∙ c.requires.section)
+
+  abbrev aus : List Au
+  aus =
+      let content = c.content_of-content.result in
+      assembled (n_of c.args.out.now.rate) c.frame-first.result.now.bytes c.frame-second.result.now.bytes content.own
+      content.choice.sources content.pointers.now
+
+  same : aus ≡ aus_sent input s.generators
+  same =
+      let lines : Lines = g.X.Matrix.lines c.args.cross.now in
+      let content = c.content_of-content in
+      let first : c.frame-first.result.now ≡ lines.west.intake.frame =
+      c.frame-first.ensures ∙ ap (λ (i : Intake). i.frame) c.intake.ensures.intake in
+      let second : c.frame-second.result.now ≡ lines.east.intake.frame =
+      c.frame-second.ensures ∙ ap (λ (i : Intake). i.frame) c.intake-2.ensures.intake in
+      (λ i. assembled (n_of (sym c.requires.rate i)) (first i).bytes (second i).bytes (content.ensures.own i)
+      (content.ensures.choice i).sources (content.ensures.pointers i)) ∙ c.plan-same.ensures.aus
 
 pub returns-clause-frame : goal.returns-clause-frame
 returns-clause-frame g c =
-    let lines : Lines = g.X.Matrix.lines c.args.cross.now in
-    let input : ℕ → Input = all_fed_by lines (added_last c.args.ports.now) (g.X.Matrix.leads c.args.cross.now c.args.side) in
-    let s : Sending = record {
-      section = c.sender.inside.section;
-      generators = states_of c.sender.inside.generators.items;
-      word = c.sender.inside.word;
-    } in
-    let is : s ≡ c.args.sender.now = c.sender.view_is in
-    let at : c.args.out.now.rate ≡ s.section.rate = sym (ap (λ (x : Sending). x.section.rate) is ∙ c.requires.section) in
     let content = c.content_of-content in
-    let first : c.frame-first.result.now ≡ lines.west.intake.frame =
-    c.frame-first.ensures ∙ ap (λ (i : Intake). i.frame) c.intake.ensures.intake in
-    let second : c.frame-second.result.now ≡ lines.east.intake.frame =
-    c.frame-second.ensures ∙ ap (λ (i : Intake). i.frame) c.intake-2.ensures.intake in
-    let aus : List Au =
-    assembled (n_of c.args.out.now.rate) c.frame-first.result.now.bytes c.frame-second.result.now.bytes content.result.own content.result.choice.sources content.result.pointers.now in
-    let same : aus ≡ aus_sent input s.generators =
-    (λ i. assembled (n_of (sym c.requires.rate i)) (first i).bytes (second i).bytes (content.ensures.own i)
-    (content.ensures.choice i).sources (content.ensures.pointers i)) ∙ c.plan-same.ensures.aus in
-    sent-is input s c.args.out.now c.write_frame.new.out aus content.result.k1 content.result.k2 c.rate.ensures.len at c.sender.invariant.side.generators same content.ensures.k1 content.ensures.k2 c.write_frame.ensures.frame ∙ ap (frame_from input) is
+    sent-is (input g c) (s g c) c.args.out.now c.write_frame.new.out (aus g c) content.result.k1 content.result.k2 c.rate.ensures.len
+    (at g c) c.sender.invariant.side.generators (same g c) content.ensures.k1 content.ensures.k2 c.write_frame.ensures.frame
+    ∙ ap (frame_from (input g c)) (is g c)
 
 pub returns-clause-sender : goal.returns-clause-sender
 unfolding after_sending
 returns-clause-sender g c =
-    let lines : Lines = g.X.Matrix.lines c.args.cross.now in
-    let input : ℕ → Input = all_fed_by lines (added_last c.args.ports.now) (g.X.Matrix.leads c.args.cross.now c.args.side) in
-    let s : Sending = record {
-      section = c.sender.inside.section;
-      generators = states_of c.sender.inside.generators.items;
-      word = c.sender.inside.word;
-    } in
-    let is : s ≡ c.args.sender.now = c.sender.view_is in
-    let at : c.args.out.now.rate ≡ s.section.rate = sym (ap (λ (x : Sending). x.section.rate) is ∙ c.requires.section) in
     let content = c.content_of-content in
-    let first : c.frame-first.result.now ≡ lines.west.intake.frame =
-    c.frame-first.ensures ∙ ap (λ (i : Intake). i.frame) c.intake.ensures.intake in
-    let second : c.frame-second.result.now ≡ lines.east.intake.frame =
-    c.frame-second.ensures ∙ ap (λ (i : Intake). i.frame) c.intake-2.ensures.intake in
-    let aus : List Au =
-    assembled (n_of c.args.out.now.rate) c.frame-first.result.now.bytes c.frame-second.result.now.bytes content.result.own content.result.choice.sources content.result.pointers.now in
-    let same : aus ≡ aus_sent input s.generators =
-    (λ i. assembled (n_of (sym c.requires.rate i)) (first i).bytes (second i).bytes (content.ensures.own i)
-    (content.ensures.choice i).sources (content.ensures.pointers i)) ∙ c.plan-same.ensures.aus in
     let kept =
-    kept-is input s c.args.out.now c.write_frame.new.out aus content.result.k1 content.result.k2 c.rate.ensures.len at c.sender.invariant.side.generators same content.ensures.k1 content.ensures.k2 c.write_frame.ensures.frame c.write_frame.new.section c.write_frame.ensures.section in
-    (λ i. record { section = kept i; generators = c.plan-same.ensures.generators i; word = s.word }) ∙ ap (after_sending input) is
+    kept-is (input g c) (s g c) c.args.out.now c.write_frame.new.out (aus g c) content.result.k1 content.result.k2 c.rate.ensures.len
+    (at g c) c.sender.invariant.side.generators (same g c) content.ensures.k1 content.ensures.k2 c.write_frame.ensures.frame
+    c.write_frame.new.section c.write_frame.ensures.section in
+    (λ i. record { section = kept i; generators = c.plan-same.ensures.generators i; word = (s g c).word })
+    ∙ ap (after_sending (input g c)) (is g c)

@@ -11,14 +11,14 @@ use Rattle.sdh_whatif_cli.proofs.top.whatif.Goals as goal
 -- a write failed: a front of the text was written
 pub returns-in-Err-clause-outcome : goal.returns-in-Err-clause-outcome
 returns-in-Err-clause-outcome g c =
-    let outcome = c.in-Ok.ensures.outcome in
+    let ended = c.in-Ok.ensures.ended in
     let old = g.W.Sink.written c.args.sink.now in
     let new = g.W.Sink.written c.answer.new.sink in
-    let fewer : AppendsFewer old new outcome.0 =
-    subst (λ r. OnErr r (AppendsFewer old new outcome.0)) c.in-Err.is outcome.1.1.front in
+    let fewer : AppendsFewer old new ended.text =
+    subst (λ r. OnErr r (AppendsFewer old new ended.text)) c.in-Err.is ended.wrote.front in
     let is_outcome = IsOutcome (asked (words_of c.args.words.now)) (own_texts (words_of c.args.words.now)) in
     told_all _ _ (λ (bytes : List ℕ). Writes (λ how text. is_outcome bytes how text) status.WriteFault old new)
-    (λ bytes is. (c.in-Ok.told.status, outcome.0, is, fewer)) outcome.1.0
+    (λ bytes is. (c.in-Ok.told.status, ended.text, is, fewer)) ended.outcome
 
 pub returns-in_default-clause-came : goal.returns-in_default-clause-came
 returns-in_default-clause-came g c =
