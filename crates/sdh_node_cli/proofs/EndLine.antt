@@ -3,7 +3,7 @@ use Rattle.std.proofs.Common.{◌≡◌, ℕ, ◌+◌, ◌-◌, ◌≤◌, ◌�
 use Rattle.std.proofs.Common.{Bool, true, false, append_assoc, take-append-drop, length-drop, take_all}
 use Rattle.std.specs.Str.{bytes_eq}
 use Rattle.std.proofs.lemmas.Slice.Eq.{bytes_eq-Decides}
-use Rattle.std.proofs.lemmas.List.{length-append, take_more, take-append-le, append_cancel_right}
+use Rattle.std.proofs.lemmas.List.{length-append, take_more, append_cancel_right}
 use Rattle.std.proofs.Math.Seq.{get_or-append_seam}
 use Rattle.sdh_node_cli.specs.Streams.{end_of_plan, AreLines, EndsPlan, HasNoEnd, IsDocument}
 

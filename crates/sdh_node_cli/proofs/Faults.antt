@@ -1,23 +1,19 @@
 -- Faults of the parts of a call.
-use Rattle.std.proofs.Common.{◌≡◌, ◌≢◌, ◌≤◌, ◌⊎◌, ℕ, List, Bool, true, refl, ap, sym, ◌∙◌, inl, inr, arith}
-use Rattle.std.specs.Prelude.{Option, Some, None, Result, Ok, Err, IsErr}
+use Rattle.std.proofs.Common.{◌≡◌, ◌≢◌, ◌≤◌, ℕ, List, Bool, true, refl, ap, sym, ◌∙◌, inl, inr, arith}
+use Rattle.std.specs.Prelude.{Option, Result, Ok, Err, IsErr}
 use native.Mathlib.Nat.{le_refl}
 use Rattle.sdh_basics.specs.Causes.{IsCounted, HasCause, one_more}
-use Rattle.sdh_report.specs.declared.status.Status.{Status}
 use Rattle.sdh_report.specs.declared.status.Status.TheVariants as status
 use Rattle.sdh_shell.specs.Writing.{WroteEnding}
-use Rattle.sdh_node_cli.specs.declared.words.Ask.{Ask}
 use Rattle.sdh_node_cli.specs.declared.ending.Ending.{Ending}
 use Rattle.sdh_node_cli.specs.declared.ending.Ending.TheVariants as ending
-use Rattle.sdh_node_cli.specs.declared.head.NoHead.{NoHead}
-use Rattle.sdh_node_cli.specs.declared.head.NoHead.TheVariants as nohead
 use Rattle.sdh_node_cli.specs.declared.stop.Stop.{Stop}
 use Rattle.sdh_node_cli.specs.declared.stop.Stop.TheVariants as stop
 use Rattle.sdh_node_cli.specs.Endings.{bench_endings}
 use Rattle.sdh_node_cli.specs.Faults.{CountsFault}
 use Rattle.sdh_node_cli.specs.Bench.{Bench}
 use Rattle.sdh_node_cli.specs.Turns.{TakesPart, Halts}
-use Rattle.sdh_node_cli.specs.Outcome.{TellsNone, RefusesHead, refusal_of, ending_of}
+use Rattle.sdh_node_cli.specs.Outcome.{ending_of}
 
 -- where no call failed in the first part, the count of the whole is that of the second part
 pub counted_behind : (exact : Bool) (Fault : Type 0) (a b c : ℕ) → (exact ≡ true → b ≡ a) → IsCounted exact Fault b c

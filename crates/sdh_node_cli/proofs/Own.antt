@@ -1,20 +1,16 @@
 -- Ports at a node: where they are, and that they stay.
-use Rattle.std.proofs.Common.{◌≡◌, ℕ, Bool, true, false, cond, ◌==◌, List, [], ◌∷◌, length, refl, subst, ◌∙◌}
+use Rattle.std.proofs.Common.{◌≡◌, ℕ, Bool, true, false, cond, ◌==◌, List, [], ◌∷◌, refl, subst}
 use Rattle.std.specs.Prelude.{Option, Some, None, IsSome, find}
 use Rattle.std.proofs.lemmas.Bool.{eqb-true}
 use Rattle.std.proofs.lemmas.Option.{slice_get_within, get_or_from_slice_get}
-use Rattle.sdh_basics.proofs.CellsLaws.{length-map_from}
 use Rattle.sdh_ringmap.specs.declared.Pos.{Pos}
 use Rattle.sdh_circuits.specs.declared.End.{End}
 use Rattle.sdh_circuits.specs.declared.End.TheVariants.{A, B}
 use Rattle.sdh_circuits.specs.declared.PortId.{PortId}
 use Rattle.sdh_circuits.specs.Provisioned.{Provisioned, end_of}
 use Rattle.sdh_payload.specs.declared.clock.Turn.{Turn}
-use Rattle.sdh_terminal.specs.Tributaries.{Tributary, is_port, port_of, HasPort, slipped, with_slips, tributaries_at, fed, all_fed}
+use Rattle.sdh_terminal.specs.Tributaries.{Tributary, is_port, port_of, HasPort, slipped, with_slips, tributaries_at}
 use Rattle.sdh_terminal.proofs.Found.{has_own}
-use Rattle.sdh_node.specs.Crossing.{all_delivered}
-use Rattle.sdh_node.specs.Node.{Node, crossing, ports_after, after_crossing, with_calm, node_round}
-use Rattle.sdh_node.proofs.Later.{count_waits}
 use Rattle.sdh_node_cli.specs.Records.{end_here, IsOwn}
 
 -- ---- slips leave each port where it is

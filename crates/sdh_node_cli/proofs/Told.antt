@@ -7,7 +7,6 @@ use Rattle.sdh_ringmap.specs.declared.Pos.{Pos}
 use Rattle.sdh_ringmap.specs.Places.{found_at}
 use Rattle.sdh_node.specs.Node.{new_node}
 use Rattle.sdh_plan.specs.Planned.{Planned}
-use Rattle.sdh_report.specs.declared.status.Status.{Status}
 use Rattle.sdh_report.specs.declared.status.Status.TheVariants as status
 use Rattle.sdh_report.specs.Lines.{own_line}
 use Rattle.sdh_shell.specs.Writing.{Telling, Whole, Front, Nothing, TellsAs, TellsWith, IsShown, WroteEnding, telling_in}
@@ -15,15 +14,12 @@ use Rattle.sdh_shell.proofs.Pieces.{fewer_behind}
 use Rattle.sdh_node_cli.specs.declared.words.Ask.{Ask}
 use Rattle.sdh_node_cli.specs.declared.ending.Ending.{Ending}
 use Rattle.sdh_node_cli.specs.declared.ending.Ending.TheVariants as ending
-use Rattle.sdh_node_cli.specs.declared.ending.Flaw.TheVariants as flaw
-use Rattle.sdh_node_cli.specs.declared.head.NoHead.{NoHead}
-use Rattle.sdh_node_cli.specs.declared.head.NoHead.TheVariants as nohead
 use Rattle.sdh_node_cli.specs.declared.stop.Stop.{Stop}
 use Rattle.sdh_node_cli.specs.declared.stop.Stop.TheVariants as stop
 use Rattle.sdh_node_cli.specs.Endings.{line_of, bench_endings}
 use Rattle.sdh_node_cli.specs.Bench.{Bench, new_bench}
 use Rattle.sdh_node_cli.specs.Streams.{bytes_of, end_of_plan, stream_of}
-use Rattle.sdh_node_cli.specs.Outcome.{usage, HasHead, RefusesHead, TellsNone, refusal_of, Served, CutShort, ending_of, OfPlan, IsOutcome}
+use Rattle.sdh_node_cli.specs.Outcome.{usage, HasHead, Served, CutShort, ending_of, OfPlan, IsOutcome}
 use Rattle.sdh_node_cli.specs.Outcome.{IsCutPlan, MayBeCut, TellsPlanned, Tells}
 
 -- ---- endings

@@ -30,7 +30,12 @@ fn put_port(text: &mut Text, node: &Adm, circuit: &Circuit, port: Option<PortId>
     let Some(port) = port else {
         return;
     };
-    text.port_line(circuit.name(), port.end, node.delivered(port), node.value(port));
+    text.port_line(
+        circuit.name(),
+        port.end,
+        node.delivered(port),
+        node.value(port),
+    );
 }
 
 /// Appends the lines of the ports that are at the node, in the order of the circuits, each at most 96 bytes.

@@ -1,4 +1,4 @@
-use Rattle.std.proofs.Common.{length, ap, sym, subst, ◌∙◌, arith}
+use Rattle.std.proofs.Common.{ap, sym, subst, ◌∙◌, arith}
 use Rattle.sdh_node.specs.Node.{Node}
 use Rattle.sdh_terminal.specs.Tributaries.{HasPort}
 use Rattle.sdh_node_cli.proofs.Own.{has_slipped}
