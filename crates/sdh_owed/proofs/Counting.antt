@@ -63,7 +63,7 @@ size_changed (change.Hold p turns) w = length-placed _ p w.ring.nodes
 size_changed (change.Slip port turn count) w = length-placed _ (place_of_port w.ring port) w.ring.nodes
 size_changed (change.Now t) w = refl
 
-size_all : (cs : List Change) (w : World) → length (all_changed cs w).ring.nodes ≡ length w.ring.nodes
+pub size_all : (cs : List Change) (w : World) → length (all_changed cs w).ring.nodes ≡ length w.ring.nodes
 size_all [] w = refl
 size_all (c ∷ cs) w = size_all cs (changed c w) ∙ size_changed c w
 

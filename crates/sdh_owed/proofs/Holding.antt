@@ -3,7 +3,6 @@ use Rattle.std.proofs.Common.{◌≡◌, ℕ, zero, suc, ◌+◌, ◌-◌, ◌�
 use Rattle.std.proofs.Math.Nat.{le-max_left, le-max_right}
 use Rattle.std.proofs.lemmas.Bool.{cases_lt}
 use Rattle.sdh_circuits.specs.Provisioning.{Provisioning}
-use Rattle.sdh_nodestate.specs.declared.NodeState.{NodeState}
 use Rattle.sdh_nodestate.specs.declared.NodeState.TheVariants as state
 use Rattle.sdh_plant.specs.Fibres.{Fibres}
 use Rattle.sdh_request.specs.declared.settings.Settings.{Settings}
@@ -24,7 +23,6 @@ use Rattle.sdh_promise.specs.Changes as change
 use Rattle.sdh_promise.specs.Owed.{asked_in}
 use Rattle.sdh_laws.specs.Hearing.Laws.{IsWhole, MayStart}
 use Rattle.sdh_laws.specs.Restoring.Laws.{NoneHeld}
-use Rattle.sdh_laws.specs.Strangers.Vouched.{IsAside}
 use Rattle.sdh_laws.specs.Strangers.Laws.{EachMay, IsNoPass, HoldsNoPass, last_requests, HoldsNonePassing, HoldNonePassing}
 use Rattle.sdh_laws.proofs.hearing.Changes.{each_at_place, whole_run}
 use Rattle.sdh_laws.proofs.hearing.Nodes.{count}
@@ -36,6 +34,7 @@ use Rattle.sdh_laws.proofs.strangers.Keeping.{rounds_together}
 use Rattle.sdh_laws.proofs.strangers.Quiet.{node_beyond}
 use Rattle.sdh_laws.proofs.strangers.Vouched.{held_after}
 use Rattle.sdh_owed.specs.Strangers.{longest_hold}
+use Rattle.sdh_laws.proofs.strangers.Scripts.{no_pass_aside}
 
 -- ---- for how many turns
 
@@ -81,13 +80,6 @@ held_run most w whole few (suc k) =
     (held_after (run k w) (whole_run w k whole) (most - k) (held_run most w whole few k))
 
 -- ---- at which nodes
-
-no_pass_aside : (x : NodeState) → IsAside x → IsNoPass x
-no_pass_aside (state.Idle i) a = tt
-no_pass_aside (state.Isolated i) a = tt
-no_pass_aside (state.PassThrough i) a = absurd a
-no_pass_aside (state.SwitchWest f) a = tt
-no_pass_aside (state.SwitchEast f) a = tt
 
 -- each node is in the settled state of these requests
 abbrev Follow : List ℕ → World → Type 0

@@ -59,7 +59,7 @@ rounds_last : (ss : List Stretch) (s : Stretch) → rounds_in (ss ++ s ∷ []) �
 rounds_last [] s = omega arith
 rounds_last (t ∷ ss) s = let r = rounds_last ss s in omega arith
 
-happens_last : (ss : List Stretch) (s : Stretch) (w : World) → MayHappen w ss → AreChangesOf (after_stretches ss w) s.changes
+pub happens_last : (ss : List Stretch) (s : Stretch) (w : World) → MayHappen w ss → AreChangesOf (after_stretches ss w) s.changes
     → MayHappen w (ss ++ s ∷ [])
 happens_last [] s w may last = (last, tt)
 happens_last (r ∷ ss) s w may last = (may.0, happens_last ss s (after_stretch r w) may.1 last)

@@ -48,6 +48,7 @@ use Rattle.sdh_owed.specs.Strangers.{HoldsSince, MeetsNoStrangerSince, NoneMeets
 use Rattle.sdh_owed.specs.Strangers as since
 use Rattle.sdh_owed.proofs.Soon.{IsReady}
 use Rattle.sdh_owed.proofs.Holding.{AreHeldFor, held_for_none, held_by_all, held_run, held_beside_passing}
+use Rattle.sdh_laws.proofs.strangers.Scripts.{snoc}
 
 -- ---- clocks that aren't known before a round
 
@@ -137,11 +138,6 @@ from_first clocks r none i c get e = meets (port_id i e) (outlet_at r (port_id i
     meets port o (owner.bytes_come value form a is own) = since.bytes_come value form a is (holds (other_port port) a own)
 
 -- ---- stretches
-
--- stretches that aren't empty end with a last one
-snoc : (x : Stretch) (xs : List Stretch) → (before : List Stretch) × (last : Stretch) × (x ∷ xs ≡ before ++ last ∷ [])
-snoc x [] = ([], x, refl)
-snoc x (y ∷ xs) = (let parted = snoc y xs in (x ∷ parted.0, parted.1, ap (λ ss. x ∷ ss) parted.2))
 
 -- the last but one ended with a window
 ends_behind : (before : List Stretch) (last next : Stretch) (w : World) → EndQuietly w (before ++ last ∷ next ∷ [])

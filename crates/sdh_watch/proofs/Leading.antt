@@ -1,34 +1,23 @@
 -- Rounds one after the other, and what the watches were given in them.
-use Rattle.std.proofs.Common.{◌≡◌, ℕ, zero, suc, ◌+◌, ◌≤◌, List, [], ◌∷◌, length, map, Option, Some, None, refl, ap, sym, subst, ◌∙◌, arith}
-use Rattle.std.specs.Prelude.{IsSome, slice_get, option_and_then, option_map}
-use Rattle.std.specs.Option.{option_map_or}
-use Rattle.std.proofs.lemmas.List.{length-map}
-use Rattle.std.proofs.lemmas.Option.{slice_get-map, same_Some, slice_get_within}
+use Rattle.std.proofs.Common.{◌≡◌, ℕ, zero, suc, ◌+◌, ◌≤◌, List, [], ◌∷◌, length, Some, refl, ap, sym, subst, ◌∙◌, arith}
+use Rattle.std.specs.Prelude.{slice_get}
+use Rattle.std.proofs.lemmas.Option.{slice_get_within}
 use Rattle.sdh_circuits.specs.declared.PortId.{PortId}
 use Rattle.sdh_circuits.specs.declared.End.TheVariants.{A, B}
-use Rattle.sdh_circuits.specs.Provisioned.{Provisioned, end_of}
 use Rattle.sdh_circuits.specs.Ends.{port_id}
-use Rattle.sdh_payload.specs.Clock.{Clock, new_clock, waiting}
-use Rattle.sdh_payload.proofs.Clocking.{next_few}
-use Rattle.sdh_plant.specs.Fibres.{Arrival}
-use Rattle.sdh_terminal.specs.Tributaries.{port_of}
-use Rattle.sdh_node.specs.Node.{Node}
-use Rattle.sdh_world.specs.Held.{HeldRing, place_of_port}
-use Rattle.sdh_world.specs.Fixed.{fixed}
-use Rattle.sdh_world.specs.Rounds.{World, nodes_with, round_with}
+use Rattle.sdh_world.specs.Held.{HeldRing}
+use Rattle.sdh_world.specs.Rounds.{World}
 use Rattle.sdh_world.specs.Runs.{IsRound}
-use Rattle.sdh_world.specs.Clocks.{port_in, HasPortIn, clock_at, waiting_at}
+use Rattle.sdh_world.specs.Clocks.{waiting_at}
 use Rattle.sdh_node.specs.Stations.{adm}
-use Rattle.sdh_rounds.specs.Rounds as any_round
 use Rattle.sdh_rounds.proofs.Runs.{held_round}
 use Rattle.sdh_rounds.proofs.Settling.{held_none}
-use Rattle.sdh_world.proofs.Keeping.{all_heard, all_next, has_fixed}
-use Rattle.sdh_world.proofs.Clocks.{clock_of, clocks_go_on}
 use Rattle.sdh_path.specs.History.{Given}
 use Rattle.sdh_scripts.proofs.Lists.{some_at}
 use Rattle.sdh_watch.specs.declared.ports.WatchPair.{WatchPair}
 use Rattle.sdh_watch.specs.Watching.{Lead, given_at}
 use Rattle.sdh_watch.specs.Ports.{AreWatching, AreFew, Looked, Shown}
+use Rattle.sdh_world.proofs.Waiting.{none_round}
 
 -- ---- the ring
 
@@ -53,50 +42,7 @@ held_lead (suc k) w left heard (mid, before, lead, is, more) =
     held_more w mid left k (held_lead k w mid before lead) is
     ∙ ap (λ n. record w.ring { nodes = left.ring.nodes; rounds = n }) (omega arith)
 
--- ---- slips: these are as in `sdh_world`, whose names aren't public
-
-was_at : (id : PortId) (ns ms : List Node) (p : ℕ) → map fixed ms ≡ map fixed ns
-    → IsSome (option_and_then (λ n. port_of id n.ports) (slice_get ms p))
-    → IsSome (option_and_then (λ n. port_of id n.ports) (slice_get ns p))
-was_at id ns ms p same there =
-    by (slice_get ns p) (slice_get ms p) (sym (slice_get-map fixed ms p) ∙ ap (λ l. slice_get l p) same ∙ slice_get-map fixed ns p) there
-  where
-    by : (a b : Option Node) → option_map fixed b ≡ option_map fixed a → IsSome (option_and_then (λ n. port_of id n.ports) b)
-        → IsSome (option_and_then (λ n. port_of id n.ports) a)
-    by a None e h = absurd (cc)
-    by None (Some m) e h = absurd (cc)
-    by (Some n) (Some m) e h = has_fixed id n m (sym (same_Some (fixed m) (fixed n) e)) h
-
-record IsLike (r s : HeldRing) : Type 0 where
-  circuits : s.circuits ≡ r.circuits
-  nodes : map fixed s.nodes ≡ map fixed r.nodes
-
-was_there : (id : PortId) (r s : HeldRing) → IsLike r s → HasPortIn s id → HasPortIn r id
-unfolding place_of_port
-was_there id r s like there =
-    let size : length s.nodes ≡ length r.nodes = sym (length-map s.nodes fixed) ∙ ap length like.nodes ∙ length-map r.nodes fixed in
-    let place : place_of_port s id ≡ place_of_port r id =
-    λ i. option_map_or (λ (c : Provisioned). (end_of c id.end).0) (slice_get (like.circuits i).circuits id.circuit) (size i) in
-    was_at id r.nodes s.nodes (place_of_port r id) like.nodes
-    (subst (λ p. IsSome (option_and_then (λ (n : Node). port_of id n.ports) (slice_get s.nodes p))) place there)
-
-like_round : (xs : List Arrival) (w : World) → IsLike w.ring (round_with xs w).ring
-unfolding any_round.round_with
-like_round xs w = record { circuits = refl; nodes = all_next w.ring.moment (nodes_with xs w) ∙ all_heard xs w.ring.nodes }
-
-by_found : (r : HeldRing) (id : PortId) (P : Clock → Type 0) → P (new_clock 0) → (HasPortIn r id → P (clock_at r id)) → P (clock_at r id)
-unfolding clock_at
-by_found r id P none some = by (port_in r id) refl
-  where
-    by : (o : Option _) → port_in r id ≡ o → P (clock_of (port_in r id))
-    by None e = subst (λ o. P (clock_of o)) (sym e) none
-    by (Some t) e = some (subst (λ o. IsSome o) (sym e) refl)
-
-none_round : (xs : List Arrival) (w : World) (id : PortId) → waiting_at w.ring id ≡ 0 → waiting_at (round_with xs w).ring id ≡ 0
-none_round xs w id none = by_found (round_with xs w).ring id (λ k. waiting k ≡ 0) refl (λ there. (
-    let next = (clocks_go_on.round xs w id (was_there id w.ring (round_with xs w).ring (like_round xs w) there)).1 in
-    let few = next_few (clock_at w.ring id) 0 (omega (arith, none)) in
-    omega (arith, ap (λ (k : Clock). waiting k) next, few)))
+-- ---- slips
 
 -- where no slip waits, none waits after more rounds
 pub none_lead : (k : ℕ) (w left : World) (heard : PortId → List Given) → Lead k w left heard → (id : PortId) → waiting_at w.ring id ≡ 0

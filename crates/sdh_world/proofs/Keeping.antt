@@ -1,7 +1,7 @@
 -- What calls keep of a node, and of all nodes of a ring.
 use Rattle.std.proofs.Common.{◌≡◌, ℕ, zero, suc, ◌+◌, ◌<◌, ◌≤◌, Bool, true, false, List, [], ◌∷◌, length, get_or, map, refl, ap, sym}
 use Rattle.std.proofs.Common.{subst, ◌∙◌, arith}
-use Rattle.std.specs.Prelude.{All, IsSome, Some, find, slice_get, ◌==◌, ◌&&◌, if◌then◌else◌}
+use Rattle.std.specs.Prelude.{All, IsSome, Some, find, slice_get, ◌==◌, ◌&&◌}
 use Rattle.std.proofs.lemmas.List.{length-map}
 use Rattle.std.proofs.lemmas.List.Elements.{All-map}
 use Rattle.sdh_basics.specs.Indexed.{map_from}
@@ -15,13 +15,12 @@ use Rattle.sdh_payload.specs.Clock.{Clock, waiting, next_form, after_form, ticke
 use Rattle.sdh_payload.specs.Feed.{Fed, next_feed}
 use Rattle.sdh_payload.proofs.Clocking.{next_few}
 use Rattle.sdh_payload.specs.declared.clock.Turn.{Turn}
-use Rattle.sdh_payload.specs.declared.clock.Turn.TheVariants.{Up, Down}
 use Rattle.sdh_circuits.specs.declared.PortId.{PortId}
 use Rattle.sdh_circuits.specs.Provisioned.{Provisioned, same_end}
 use Rattle.sdh_plant.specs.Fibres.{Arrival}
 use Rattle.sdh_request.specs.declared.settings.Settings.{Settings}
 use Rattle.sdh_node.specs.Receiving.{after_intake, after_overhead, commanded_by}
-use Rattle.sdh_terminal.specs.Tributaries.{Tributary, is_port, port_of, HasPort, slipped, with_slips, fed, all_fed, tributaries_at}
+use Rattle.sdh_terminal.specs.Tributaries.{Tributary, is_port, port_of, HasPort, fed, all_fed, tributaries_at}
 use Rattle.sdh_node.specs.Crossing.{Cross, after_decision, delivered_to, all_delivered}
 use Rattle.sdh_node.specs.Node.{Node, new_node, at_receiving, held_for, slips_at, crossing, ports_after, after_crossing, with_calm}
 use Rattle.sdh_node.specs.Node.{node_round}
@@ -33,6 +32,7 @@ use Rattle.sdh_world.specs.Fixed.{Fixed, fixed, IsRested, IsOn}
 use Rattle.sdh_ringmap.specs.Places.{position_of}
 use Rattle.sdh_rounds.specs.Rounds as any_round
 use Rattle.sdh_terminal.proofs.Found.{ports_mapped, new_ports}
+use Rattle.sdh_terminal.proofs.Slips.{map-with_slips}
 
 -- ---- one node
 
@@ -56,24 +56,10 @@ ports_kept x ports =
     ports_mapped (λ i t. fed t) 0 (map_from (λ i t. delivered_to x t) 0 ports) (λ k t. refl)
     ∙ ports_mapped (λ i t. delivered_to x t) 0 ports (λ k t. refl)
 
-port_slipped : (turn : Turn) (count : ℕ) (t : Tributary) → fixed_port (slipped turn count t) ≡ fixed_port t
-port_slipped Up count t = refl
-port_slipped Down count t = refl
-
-ports_slipped : (id : PortId) (turn : Turn) (count : ℕ) (ts : List Tributary)
-    → map fixed_port (with_slips id turn count ts) ≡ map fixed_port ts
-unfolding with_slips
-ports_slipped id turn count [] = refl
-ports_slipped id turn count (t ∷ ts) = go (is_port id t) (ports_slipped id turn count ts)
-  where
-    go : (b : Bool) → map fixed_port (with_slips id turn count ts) ≡ map fixed_port ts
-        → map fixed_port (if b then slipped turn count t ∷ ts else t ∷ with_slips id turn count ts) ≡ map fixed_port (t ∷ ts)
-    go true rest = ap (λ p. p ∷ map fixed_port ts) (port_slipped turn count t)
-    go false rest = ap (λ ps. fixed_port t ∷ ps) rest
-
 pub fixed_slipped : (id : PortId) (turn : Turn) (count : ℕ) (n : Node) → fixed (slips_at id turn count n) ≡ fixed n
 unfolding fixed
-fixed_slipped id turn count n = ap (λ (ps : List FixedPort). record (fixed n) { ports = ps }) (ports_slipped id turn count n.ports)
+fixed_slipped id turn count n =
+    ap (λ (ps : List FixedPort). record (fixed n) { ports = ps }) (map-with_slips fixed_port (λ turn count t. refl) id turn count n.ports)
 
 pub fixed_next : (now : ℕ) (n : Node) → fixed (node_after now n) ≡ fixed n
 unfolding fixed node_round with_calm after_crossing crossing after_decision after_intake after_overhead

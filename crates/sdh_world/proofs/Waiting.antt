@@ -17,6 +17,7 @@ use Rattle.sdh_world.specs.Fixed.{fixed}
 use Rattle.sdh_world.specs.Rounds.{World, nodes_with, round_with}
 use Rattle.sdh_world.specs.Runs.{run_with}
 use Rattle.sdh_promise.specs.Changes.{Change, Fibre, Order, Hold, Slip, Now}
+use Rattle.sdh_payload.proofs.Clocking.{next_few}
 use Rattle.sdh_world.specs.Changes.{changed}
 use Rattle.sdh_world.specs.Clocks.{first_clock, clock_after, port_in, HasPortIn, clock_at, waiting_at}
 use Rattle.sdh_world.proofs.Keeping.{all_heard, all_next, all_commanded, all_held, all_slipped, has_fixed}
@@ -103,3 +104,10 @@ waits_run_out rounds w id few long = by_found (run_with rounds w).ring id (λ k.
     let was = was_there id w.ring (run_with rounds w).ring (like_run rounds w) there in
     let h = few was in
     clocks_go_on.run_out rounds w id was h.0 h.1 long))
+
+-- where no slip waits, none waits after a round
+pub none_round : (xs : List Arrival) (w : World) (id : PortId) → waiting_at w.ring id ≡ 0 → waiting_at (round_with xs w).ring id ≡ 0
+none_round xs w id none = by_found (round_with xs w).ring id (λ k. waiting k ≡ 0) refl (λ there. (
+    let next = (clocks_go_on.round xs w id (was_there id w.ring (round_with xs w).ring (like_run (xs ∷ []) w) there)).1 in
+    let few = next_few (clock_at w.ring id) 0 (omega (arith, none)) in
+    omega (arith, ap (λ (k : Clock). waiting k) next, few)))

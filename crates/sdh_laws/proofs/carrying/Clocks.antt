@@ -40,7 +40,7 @@ plain_by_value c same = value_moves (next_form c) c same
 
 -- ---- a generator
 
-lasts : (f : ChunkForm) (v : ℕ) → lasting_state (action_of f) v ≡ Some v
+pub lasts : (f : ChunkForm) (v : ℕ) → lasting_state (action_of f) v ≡ Some v
 lasts Plain v = refl
 lasts Short v = refl
 lasts Long v = refl

@@ -50,7 +50,7 @@ pub generators_on : (d : Side) (a b : Node) → compared a ≡ compared b → (s
 generators_on West a b e = ap (λ (c : Compared). c.west_out.generators) e
 generators_on East a b e = ap (λ (c : Compared). c.east_out.generators) e
 
-readings_on : (d : Side) (a b : Node) → compared a ≡ compared b → (receiving_on d a).readings ≡ (receiving_on d b).readings
+pub readings_on : (d : Side) (a b : Node) → compared a ≡ compared b → (receiving_on d a).readings ≡ (receiving_on d b).readings
 readings_on West a b e = ap (λ (c : Compared). c.west.readings) e
 readings_on East a b e = ap (λ (c : Compared). c.east.readings) e
 

@@ -1,9 +1,8 @@
 -- From any ring that is paired with its fibres: all rounds are calm from some round on.
-use Rattle.std.proofs.Common.{◌≡◌, ℕ, zero, suc, ◌+◌, ◌-◌, ◌*◌, ◌<◌, ◌≤◌, Bool, List, length, map, get_or, Option, Some, None, ap, sym, ◌∙◌}
+use Rattle.std.proofs.Common.{◌≡◌, ℕ, zero, suc, ◌+◌, ◌-◌, ◌*◌, ◌<◌, ◌≤◌, Bool, List, length, get_or, Option, Some, None, ap, sym, ◌∙◌}
 use Rattle.std.proofs.Common.{subst, arith, inl, inr}
 use Rattle.std.specs.Prelude.{if◌then◌else◌}
 use Rattle.std.proofs.lemmas.Bool.{cases_Bool}
-use Rattle.std.proofs.lemmas.List.{get_or-map}
 use Rattle.sdh_ringmap.specs.declared.Side.{Side}
 use Rattle.sdh_ringmap.specs.declared.Side.TheVariants.{West, East}
 use Rattle.sdh_ringmap.specs.Places.{neighbour, opposite}
@@ -40,16 +39,11 @@ use Rattle.sdh_laws.proofs.converging.Spreading.{pointers_rest}
 use Rattle.sdh_laws.proofs.converging.Windows.{calm_ends_windows, answers_by}
 use Rattle.sdh_laws.proofs.converging.Calming.{AreSame, calm_round}
 use Rattle.sdh_ringmap.specs.Fibres.{is_cut}
-use Rattle.sdh_world.specs.Held.{nowhere, node_at}
+use Rattle.sdh_world.specs.Held.{node_at}
 use Rattle.sdh_world.specs.Sides.{condition_to}
 use Rattle.sdh_node.specs.Stations.{adm}
 use Rattle.sdh_rounds.specs.Runs as any_run
-
--- elements at one place of two lists that are equal when mapped
-same_at : {Y : Type 0} (f : Node → Y) (xs ys : List Node) (p : ℕ) → p < length xs → p < length ys → map f xs ≡ map f ys
-    → f (node_at xs p) ≡ f (node_at ys p)
-same_at f xs ys p hx hy e =
-    sym (get_or-map f xs p nowhere (f nowhere) hx) ∙ ap (λ l. get_or l p (f nowhere)) e ∙ get_or-map f ys p nowhere (f nowhere) hy
+use Rattle.sdh_laws.proofs.resting.Signals.{same_at}
 
 -- ---- what comes
 

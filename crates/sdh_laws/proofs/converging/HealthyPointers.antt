@@ -64,7 +64,7 @@ from_source : (f : ℕ → Input) (o : Option ℕ) → ((t : ℕ) → IsSent (f 
 from_source f None sent = record { does = λ t. (sent t).does; value = λ t. tt }
 from_source f (Some v) sent = record { does = λ t. (sent t).does ∙ sym (source_sends v t); value = λ t late. (sent t).value }
 
-same_all : {A : Type 0} (m i : ℕ) (a : A) → get_or (replicate m a) i a ≡ a
+pub same_all : {A : Type 0} (m i : ℕ) (a : A) → get_or (replicate m a) i a ≡ a
 same_all m i a = elim (cases_lt i m) [
   | inl lt ↦ get_or-replicate m i a a lt
   | inr past ↦ get_or_past (replicate m a) i a (omega (arith, length-replicate m a))

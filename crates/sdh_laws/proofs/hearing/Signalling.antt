@@ -91,7 +91,7 @@ pub needs_at : (ns : List Node) (p : ℕ) (d : Side) → p < length ns
 needs_at ns p West h = ap (λ (y : Needs). y.west) (get_or-map needed ns p nowhere no_needs h)
 needs_at ns p East h = ap (λ (y : Needs). y.east) (get_or-map needed ns p nowhere no_needs h)
 
-same_signals : (a b : Signals) → a.ids ≡ b.ids → a.states ≡ b.states → a.words ≡ b.words → a.filters ≡ b.filters → a.running ≡ b.running
+pub same_signals : (a b : Signals) → a.ids ≡ b.ids → a.states ≡ b.states → a.words ≡ b.words → a.filters ≡ b.filters → a.running ≡ b.running
     → a ≡ b
 same_signals a b ids states words filters running =
     λ i. record { ids = ids i; states = states i; words = words i; filters = filters i; running = running i }

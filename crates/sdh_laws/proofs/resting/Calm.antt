@@ -7,7 +7,6 @@ use Rattle.std.proofs.lemmas.Bool.{cases_lt}
 use Rattle.std.proofs.lemmas.List.{ext_get_or}
 use Rattle.sdh_ringmap.specs.Rates.{n_of}
 use Rattle.sdh_ringmap.specs.declared.Side.{Side}
-use Rattle.sdh_ringmap.specs.declared.Side.TheVariants.{West, East}
 use Rattle.sdh_ringmap.specs.Places.{neighbour, opposite}
 use Rattle.sdh_circuits.specs.declared.PortId.{PortId}
 use Rattle.sdh_circuits.specs.Provisioned.{Provisioned}
@@ -30,8 +29,7 @@ use Rattle.sdh_pointer.specs.Sending.{next_sending}
 use Rattle.sdh_ringmap.specs.Fibres.{is_cut}
 use Rattle.sdh_terminal.specs.Passing.{Input}
 use Rattle.sdh_terminal.specs.Tributaries.{action_of}
-use Rattle.sdh_node.specs.Same.{Compared}
-use Rattle.sdh_node.specs.Node.{Node, receiving_on, is_held, compared}
+use Rattle.sdh_node.specs.Node.{is_held}
 use Rattle.sdh_world.specs.Held.{node_at, AtEach}
 use Rattle.sdh_world.specs.Rounds.{World, round}
 use Rattle.sdh_world.specs.Runs.{run, course}
@@ -42,7 +40,7 @@ use Rattle.sdh_laws.proofs.hearing.Changes.{whole_run}
 use Rattle.sdh_laws.proofs.hearing.Nodes.{count}
 use Rattle.sdh_laws.specs.Carrying.Windows.{Layout, layout_of, slots_of, HasCircuits, AreSettled, requests_of}
 use Rattle.sdh_laws.proofs.carrying.Clocks.{form_there, goes_plain as port_goes_plain}
-use Rattle.sdh_laws.proofs.carrying.Spans.{generators_on}
+use Rattle.sdh_laws.proofs.carrying.Spans.{generators_on, readings_on}
 use Rattle.sdh_spans.specs.Spans.{word_behind}
 use Rattle.sdh_laws.proofs.carrying.Ways.{layout_run}
 use Rattle.sdh_laws.specs.Converging.Steady.{went, came, brought}
@@ -57,10 +55,6 @@ use Rattle.sdh_laws.proofs.resting.Clocks.{goes_five, form_by, added_so, none_ad
 use Rattle.sdh_laws.proofs.resting.Signals.{calm_at, still_at, inside_run, started, free_at, request_stays, heard_stays, word_last}
 use Rattle.sdh_laws.proofs.resting.Signals.{settled_at, spans_are}
 use Rattle.sdh_rounds.specs.Runs as any_run
-
-readings_on : (d : Side) (a b : Node) → compared a ≡ compared b → (receiving_on d a).readings ≡ (receiving_on d b).readings
-readings_on West a b e = ap (λ (c : Compared). c.west.readings) e
-readings_on East a b e = ap (λ (c : Compared). c.east.readings) e
 
 even_as : (a b : Action) (v u : ℕ) → a ≡ b → v ≡ u → IsEven b u → IsEven a v
 even_as a b v u ea ev (inl e) = inl (ea ∙ e)

@@ -35,7 +35,7 @@ state_word (Some v) = word_of form.Normal v
 abbrev pub IsEvenWord : ℕ → Type 0
 IsEvenWord w = (w ≡ 65535) ⊎ ((v : ℕ) × (v ≤ 782) × (w ≡ word_of form.Normal v))
 
-ones_sent : (s : Option ℕ) (v : ℕ) → word_sent s action.Ais v ≡ 65535
+pub ones_sent : (s : Option ℕ) (v : ℕ) → word_sent s action.Ais v ≡ 65535
 unfolding word_of
 ones_sent s v = (ais_sent s v).word
 

@@ -28,7 +28,7 @@ use Rattle.sdh_laws.specs.Hearing.Laws.{IsWhole, IsStill}
 use Rattle.sdh_laws.proofs.hearing.Changes.{whole_run}
 use Rattle.sdh_laws.proofs.hearing.Nodes.{count}
 use Rattle.sdh_laws.proofs.hearing.Rounds.{brings, neighbour_inside}
-use Rattle.sdh_laws.proofs.hearing.Signalling.{mapped_same, needs_at, goes_free, calm_rounds_are_still, three_calm_rounds_are_settled}
+use Rattle.sdh_laws.proofs.hearing.Signalling.{mapped_same, needs_at, goes_free, calm_rounds_are_still, three_calm_rounds_are_settled, same_signals}
 use Rattle.sdh_laws.proofs.hearing.Staying.{left_run}
 use Rattle.sdh_laws.specs.Carrying.Windows.{AreSettled, requests_of}
 use Rattle.sdh_laws.proofs.carrying.Applied.{length-requests_of}
@@ -43,7 +43,7 @@ words_on : (d : Side) (a b : Node) → compared a ≡ compared b → word_of d a
 words_on West a b e = ap (λ (c : Compared). c.west_out.word) e
 words_on East a b e = ap (λ (c : Compared). c.east_out.word) e
 
-same_at : {Y : Type 0} (f : Node → Y) (xs ys : List Node) (p : ℕ) → p < length xs → p < length ys → map f xs ≡ map f ys
+pub same_at : {Y : Type 0} (f : Node → Y) (xs ys : List Node) (p : ℕ) → p < length xs → p < length ys → map f xs ≡ map f ys
     → f (node_at xs p) ≡ f (node_at ys p)
 same_at f xs ys p hx hy e =
     sym (get_or-map f xs p nowhere (f nowhere) hx) ∙ ap (λ l. get_or l p (f nowhere)) e ∙ get_or-map f ys p nowhere (f nowhere) hy
@@ -64,11 +64,6 @@ came_after u whole p d inside started =
 word_by : (v : Node) (d : Side) (s : Node) → sent_of v ≡ sent_of s → word_of d v ≡ word_of d s
 word_by v West s e = ap (λ (z : Sent). z.west) e
 word_by v East s e = ap (λ (z : Sent). z.east) e
-
-same_signals : (a b : Signals) → a.ids ≡ b.ids → a.states ≡ b.states → a.words ≡ b.words → a.filters ≡ b.filters → a.running ≡ b.running
-    → a ≡ b
-same_signals a b ids states words filters running =
-    λ i. record { ids = ids i; states = states i; words = words i; filters = filters i; running = running i }
 
 same_brought : (a b : Brought) → a.last ≡ b.last → a.second ≡ b.second → a.third ≡ b.third → a ≡ b
 same_brought a b last second third = λ i. record { last = last i; second = second i; third = third i }

@@ -21,7 +21,7 @@ use Rattle.sdh_pointer.specs.Repeated.{after_rounds}
 use Rattle.sdh_pointer.specs.Laws.{is_ais_action, lasting_state}
 use Rattle.sdh_pointer.proofs.Bounds.{answer_tells_mode}
 use Rattle.sdh_pointer.proofs.Forms.{normal_word, normal_value, enabled_word, enabled_value}
-use Rattle.sdh_pointer.proofs.Sent.{ais_sent, normal_sent, new_sent, next_by_action}
+use Rattle.sdh_pointer.proofs.Sent.{normal_sent, new_sent, next_by_action}
 use Rattle.sdh_pointer.proofs.Settling.{ais_settles}
 use Rattle.sdh_terminal.specs.Passing.{Input, au_for, au_sent}
 use Rattle.sdh_terminal.specs.Lines.{received}
@@ -45,6 +45,7 @@ use Rattle.sdh_laws.proofs.converging.Spans.{sending_in, reading_in, word_in, Ta
 use Rattle.sdh_laws.specs.Restoring.Flowing.{Flows, FlowsBehind, IsSilent}
 use Rattle.sdh_laws.proofs.restoring.Landing.{IsAt, ByNew, keeps, answers_there, answered, lands, outside, enabled_taken, enabled_left}
 use Rattle.sdh_rounds.specs.Runs as any_run
+use Rattle.sdh_laws.proofs.resting.Pointers.{ones_sent}
 
 -- ---- a generator
 
@@ -72,10 +73,6 @@ is_ais action.Normal e = absurd (cc)
 is_ais action.New e = absurd (cc)
 is_ais action.Up e = absurd (cc)
 is_ais action.Down e = absurd (cc)
-
-ones_sent : (s : Option ℕ) (v : ℕ) → word_sent s action.Ais v ≡ 65535
-unfolding word_of
-ones_sent s v = (ais_sent s v).word
 
 ones_behind : (b : Bool) → word_behind b 65535 ≡ 65535
 ones_behind true = refl

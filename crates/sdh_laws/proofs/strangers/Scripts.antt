@@ -65,7 +65,7 @@ state_stays (Hold p turns) w q = state_at (held_for turns) (λ n. refl) p w.ring
 state_stays (Slip id turn many) w q = state_at (slips_at id turn many) (λ n. refl) (place_of_port w.ring id) w.ring.nodes q
 state_stays (Now t) w q = refl
 
-no_pass_aside : (x : NodeState) → IsAside x → IsNoPass x
+pub no_pass_aside : (x : NodeState) → IsAside x → IsNoPass x
 no_pass_aside (state.Idle i) a = tt
 no_pass_aside (state.Isolated i) a = tt
 no_pass_aside (state.PassThrough i) a = absurd a
@@ -133,7 +133,7 @@ module _ (threshold wait n : ℕ) (earlier : List Stretch) (ran : earlier ≡ []
       (one_no_pass c w all may.0, each_no_pass cs (changed c w) (follows_on rs n c w all) may.1)
 
 -- the last of some stretches
-snoc : (x : Stretch) (xs : List Stretch) → (before : List Stretch) × (last : Stretch) × (x ∷ xs ≡ before ++ last ∷ [])
+pub snoc : (x : Stretch) (xs : List Stretch) → (before : List Stretch) × (last : Stretch) × (x ∷ xs ≡ before ++ last ∷ [])
 snoc x [] = ([], x, refl)
 snoc x (y ∷ xs) = (let parted = snoc y xs in (x ∷ parted.0, parted.1, ap (λ ss. x ∷ ss) parted.2))
 

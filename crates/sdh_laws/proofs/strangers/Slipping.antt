@@ -15,7 +15,7 @@ use Rattle.sdh_pointer.specs.Words.{word_of, one_down}
 use Rattle.sdh_pointer.specs.Reading.{Interpreter, start, after_word, action_on, after_step, settled}
 use Rattle.sdh_pointer.specs.Sending.{form_sent, word_sent, next_sending}
 use Rattle.sdh_pointer.specs.Spreading.{action_over, word_over, sending_over, reading_over}
-use Rattle.sdh_pointer.specs.Laws.{IsInStep, GoesOn, lasting_state}
+use Rattle.sdh_pointer.specs.Laws.{IsInStep, GoesOn}
 use Rattle.sdh_pointer.proofs.Sent.{ais_sent, normal_sent, down_sent, next_by_action}
 use Rattle.sdh_pointer.proofs.Forms.{normal_word, normal_value}
 use Rattle.sdh_pointer.proofs.Coupling.{reads_what_is_sent}
@@ -23,6 +23,7 @@ use Rattle.sdh_pointer.proofs.Unmoved.{steady_is_normal}
 use Rattle.sdh_pointer.proofs.Spreading.{values_spread, sending_start, reading_start}
 use Rattle.sdh_terminal.specs.Tributaries.{action_of}
 use Rattle.sdh_terminal.specs.Outlets.{chunk_form}
+use Rattle.sdh_laws.proofs.carrying.Clocks.{lasts}
 
 -- the clocks of a port before each round: they go on by rounds, and between them only slips may come
 pub record IsSource (clock : ℕ → Clock) : Type 0 where
@@ -40,11 +41,6 @@ rest_none c f e other = by (nat_le 1 c.rest) refl
 
 plain_first : (c : Clock) → 1 ≤ c.rest → next_form c ≡ Plain
 plain_first c h = cond-true (nat_le 1 c.rest) Plain _ (le-leb 1 c.rest h)
-
-lasts : (f : ChunkForm) (v : ℕ) → lasting_state (action_of f) v ≡ Some v
-lasts Plain v = refl
-lasts Short v = refl
-lasts Long v = refl
 
 never_ais : (f : ChunkForm) → action_of f ≢ action.Ais
 never_ais Plain e = cc

@@ -1,10 +1,10 @@
 -- A circuit on whose arc nothing is asked, from a new ring on: its ports deliver straight over the arc.
-use Rattle.std.proofs.Common.{◌≡◌, ◌≢◌, ℕ, zero, suc, ◌+◌, ◌-◌, ◌<◌, ◌≤◌, Bool, true, false, List, [], ◌∷◌, length, get_or, replicate, Some}
+use Rattle.std.proofs.Common.{◌≡◌, ◌≢◌, ℕ, zero, suc, ◌+◌, ◌-◌, ◌<◌, ◌≤◌, Bool, true, false, List, [], ◌∷◌, length, get_or, Some}
 use Rattle.std.proofs.Common.{None, refl, ap, ap₂, sym, ◌∙◌, subst, arith, inl, inr}
 use Rattle.std.specs.Prelude.{◌/◌, if◌then◌else◌, slice_get, nat_lt, drop}
 use Rattle.std.specs.Option.{option_map_or}
 use Rattle.std.proofs.lemmas.Bool.{cases_lt, lt-ltb, le-ltb, cond-true, cond-false}
-use Rattle.std.proofs.lemmas.List.{get_or-replicate, get_or_past, length-replicate, length-take-le, length-drop}
+use Rattle.std.proofs.lemmas.List.{length-take-le, length-drop}
 use Rattle.std.proofs.lemmas.Option.{get_or_from_slice_get, slice_get_within}
 use Rattle.sdh_ringmap.specs.Rates.{n_of}
 use Rattle.sdh_ringmap.specs.Requests.{code_number}
@@ -78,6 +78,7 @@ use Rattle.sdh_laws.specs.Strangers.Undisturbed.{NoneAsks, straight, Undisturbed
 use Rattle.sdh_laws.proofs.strangers.Slipping.{IsSource, value_in_round, state, Follows, does_before, state_before, does_zero, long_down}
 use Rattle.sdh_laws.proofs.strangers.Slipping.{chunk_is, not_ais}
 use Rattle.sdh_laws.proofs.strangers.Arc.{sent, HasCome, IsTuned, IsUndisturbed, AsksNothing, undisturbed_round, arrives}
+use Rattle.sdh_laws.proofs.converging.HealthyPointers.{same_all}
 
 -- ---- a clock by its history
 
@@ -457,12 +458,6 @@ module _ (i : ℕ) (c : Provisioned) (d : Side) (clock : ℕ → Clock) (source 
       ]
 
 -- ---- from a new ring on
-
-same_all : {A : Type 0} (m i : ℕ) (a : A) → get_or (replicate m a) i a ≡ a
-same_all m i a = elim (cases_lt i m) [
-  | inl lt ↦ get_or-replicate m i a a lt
-  | inr past ↦ get_or_past (replicate m a) i a (omega (arith, length-replicate m a))
-]
 
 module _ (s : Settings) (ids : List ℕ) (circuits : Provisioning) (f : Fibres) (ss : List Stretch) (start_is : MayStart s ids f)
     (happen : MayHappen (new_world s ids circuits f) ss)

@@ -3,7 +3,7 @@ use Rattle.sdh_circuits.specs.Provisioning.{Provisioning}
 use Rattle.sdh_plant.specs.Fibres.{IsPrepared}
 use Rattle.sdh_world.specs.Held.{HeldRing}
 use Rattle.sdh_world.specs.Rounds.{world}
-use Rattle.sdh_scripts.proofs.Answered.{err_by}
+use Rattle.sdh_rounds.proofs.Stepping.{err_by}
 use Rattle.sdh_watch.specs.Ports.{AreWatching}
 use Rattle.sdh_rounds.proofs.Settling.{held_none}
 use Rattle.sdh_watch.proofs.Leading.{held_more, shown_none, shown_more, few_more, few_enough}
