@@ -4,32 +4,30 @@ use Rattle.std.specs.Prelude.{Some, slice_get}
 use Rattle.std.specs.List.{range_with_len}
 use Rattle.std.proofs.Math.ListN.{drop_of_length-le, length-set, set}
 use Rattle.std.proofs.Math.Seq.{map-set_same}
-use Rattle.std.proofs.lemmas.List.{length-append, length-map, get_or-map, get_or_default}
+use Rattle.std.proofs.lemmas.List.{length-append, length-map, get_or-map}
 use Rattle.std.proofs.lemmas.Option.{get_or_from_slice_get, slice_get_within}
 use Rattle.std.proofs.lemmas.Simd.{map-map}
 use Rattle.sdh_basics.specs.Cells.{cells}
-use Rattle.sdh_basics.proofs.CellsLaws.{cells-zero, cells-more, length-cells, get_or-cells}
+use Rattle.sdh_basics.proofs.CellsLaws.{get_or-cells}
 use Rattle.sdh_ringmap.specs.Places.{position_of}
 use Rattle.sdh_circuits.specs.Provisioned.{Provisioned}
 use Rattle.sdh_payload.specs.Outlet.{Outlet}
 use Rattle.sdh_plan.specs.declared.step.Step.{Step}
 use Rattle.sdh_plan.specs.declared.step.Step.TheVariants as step
-use Rattle.sdh_terminal.specs.Tributaries.{outlets_of, tributaries_of, tributaries_from, tributaries_at}
+use Rattle.sdh_terminal.specs.Tributaries.{tributaries_of, tributaries_from, tributaries_at}
 use Rattle.sdh_terminal.specs.Fixed.{fixed_port}
-use Rattle.sdh_terminal.proofs.Waiting.{count_outlets}
 use Rattle.sdh_node.specs.Node.{Node, new_node}
 use Rattle.sdh_node.specs.Stations.{adm}
 use Rattle.sdh_rounds.proofs.Keeping.{keeps_round}
 use Rattle.sdh_request.specs.declared.settings.Settings.{Settings}
-use Rattle.sdh_circuits.specs.Provisioning.{Provisioning}
-use Rattle.sdh_world.specs.Held.{HeldRing, new_nodes, new_ring, node_at, nowhere}
+use Rattle.sdh_world.specs.Held.{HeldRing, new_nodes, node_at, nowhere}
 use Rattle.sdh_world.specs.Rounds.{World}
 use Rattle.sdh_world.specs.Runs.{IsRound}
 use Rattle.sdh_world.specs.Steps.{after_step}
 use Rattle.sdh_world.specs.Changes.{changed}
 use Rattle.sdh_world.specs.Fixed.{Fixed, fixed}
 use Rattle.sdh_world.proofs.Keeping.{fixed_with, fixed_next, all_commanded, all_held, all_slipped}
-use Rattle.sdh_ring.specs.Observed.{RanOne, Hears}
+use Rattle.sdh_ring.specs.Observed.{RanOne}
 use Rattle.sdh_outage_cli.specs.Ports.{ports_in}
 use Rattle.sdh_outage_cli.specs.Rooms.{AreRooms, ports_at}
 use Rattle.sdh_outage_cli.proofs.Holding.{rest_from}

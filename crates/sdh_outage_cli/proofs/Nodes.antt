@@ -12,7 +12,7 @@ use Rattle.sdh_circuits.specs.Provisioning.{IsInRing, AreCircuits}
 use Rattle.sdh_world.specs.Held.{HeldRing, place_of_port}
 use Rattle.sdh_outage.specs.Kept.{Heard}
 use Rattle.sdh_scripts.proofs.Lists.{some_at}
-use Rattle.sdh_outage_cli.specs.Ports.{Listens, HeardAt, LookedAt, Looked, AreFew, AreFewAt}
+use Rattle.sdh_outage_cli.specs.Ports.{Listens, HeardAt, LookedAt, Looked, AreFewAt}
 use Rattle.sdh_outage_cli.specs.declared.ports.ListenerPair.{ListenerPair}
 use Rattle.sdh_outage_cli.specs.declared.streams.StreamPair.{StreamPair}
 

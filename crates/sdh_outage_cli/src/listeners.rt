@@ -1,5 +1,4 @@
 //! The listeners, who look at the ring after each round.
-ghost use Rattle.std.specs.Prelude.{◌≤◌};
 ghost use Rattle.sdh_outage_cli.specs.Ports.{AreListening, ports_in};
 ghost use Rattle.sdh_outage_cli.specs.Rooms.{AreRooms};
 ghost use Rattle.sdh_outage_cli.specs.Keeping.{listening_same, rooms_same};

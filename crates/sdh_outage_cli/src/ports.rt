@@ -8,7 +8,7 @@ ghost use Rattle.sdh_outage.specs.Kept.{heard};
 ghost use Rattle.sdh_outage_cli.specs.Outages.{delivered_at};
 ghost use Rattle.sdh_terminal.specs.Tributaries.{outlets_of};
 ghost use Rattle.sdh_world.specs.Held.{node_at, place_of_port};
-ghost use Rattle.sdh_outage_cli.specs.Ports.{AreAt, AreFew, HaveBegun, Looked, listener_at};
+ghost use Rattle.sdh_outage_cli.specs.Ports.{AreAt, AreFew, HaveBegun, Listens, Looked, listener_at};
 ghost use Rattle.sdh_outage_cli.specs.Ports.{ListensTo, HeardAt, LookedAt, AreFewAt, ports_in};
 ghost use Rattle.sdh_outage_cli.specs.Rooms.{AreRooms};
 ghost use Rattle.sdh_outage_cli.specs.Streams.{holder_of, AreNear, AreEarly};
@@ -166,7 +166,28 @@ pub struct NodePorts<'a> {
     pub outlets: &'a Outlets,
 }
 
-// Lets the listener on a port hear what the port delivered in the last round, where it is at this node.
+// Lets the listener on a port of this node hear what the port delivered in the last round.
+#[inline(never)]
+fn look_here(listener: &mut Listener, node: &NodePorts<'_>, streams: &mut Streams, port: PortId)
+    requires port { port.circuit < length node.now.ring.now.circuits.circuits }
+    requires here { place_of_port node.now.ring.now port ≡ node.now.at.0 }
+    requires many { length streams.old.pairs.items ≡ length node.now.ring.now.circuits.circuits }
+    requires early { AreEarly streams.old.pairs.items }
+    requires outlets { node.now.outlets.now ≡ outlets_of (node_at node.now.ring.now.nodes node.now.at.0).ports }
+    requires few { listener.old.round ≤ 2 ^ 31 + 65536 }
+    ensures hears { Listens node.now.ring.now port streams.old.pairs.items listener.old listener.new }
+    ensures streams { streams.new.pairs.items ≡ streams.old.pairs.items }
+{
+    let place = node.ring.place_of(port);
+    let there = &node.ring.nodes()[place];
+    let now = there.outlet(port, node.outlets).delivered();
+    let circuits = node.ring.stations().circuits();
+    look(listener, circuits, streams, port, now);
+}
+
+// Lets the listener on a port hear what the port delivered in the last round, where it is at this node. It is inlined
+// since it is called for each port at each node, and most ports aren't there.
+#[inline(always)]
 fn look_at(listener: &mut Listener, node: &NodePorts<'_>, streams: &mut Streams, port: PortId)
     requires port { port.circuit < length node.now.ring.now.circuits.circuits }
     requires many { length streams.old.pairs.items ≡ length node.now.ring.now.circuits.circuits }
@@ -176,17 +197,14 @@ fn look_at(listener: &mut Listener, node: &NodePorts<'_>, streams: &mut Streams,
     ensures hears { HeardAt node.now.ring.now node.now.at.0 port streams.old.pairs.items listener.old listener.new }
     ensures streams { streams.new.pairs.items ≡ streams.old.pairs.items }
 {
-    let place = node.ring.place_of(port);
-    if place == usize::from(node.at.0) {
-        let there = &node.ring.nodes()[place];
-        let now = there.outlet(port, node.outlets).delivered();
-        let circuits = node.ring.stations().circuits();
-        look(listener, circuits, streams, port, now);
+    if node.ring.place_of(port) == usize::from(node.at.0) {
+        look_here(listener, node, streams, port);
     }
 }
 
 // Lets the listeners on both ports of a circuit hear what the ports delivered in the last round, where they are at this
 // node.
+#[inline(always)]
 fn look_both(both: &mut ListenerPair, node: &NodePorts<'_>, streams: &mut Streams, circuit: u8)
     requires port { circuit < length node.now.ring.now.circuits.circuits }
     requires many { length streams.old.pairs.items ≡ length node.now.ring.now.circuits.circuits }

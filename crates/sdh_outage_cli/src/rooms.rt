@@ -47,11 +47,7 @@ fn ports_at(circuits: &CircuitMap, at: u8) -> usize
 }
 
 // Returns how many ports are at each of the first positions.
-fn new_counts(
-    alloc: Global,
-    circuits: &CircuitMap,
-    nodes: usize,
-) -> Result<Vec<usize>, AllocError>
+fn new_counts(alloc: Global, circuits: &CircuitMap, nodes: usize) -> Result<Vec<usize>, AllocError>
     requires { nodes ≤ 16 }
     ensures counts { IfOk result (λ v. v.items ≡ cells (ports_at circuits.now.circuits) nodes) }
     ensures few { IfOk result (λ v. (i : ℕ) → slice_index v.items i ≤ 256) }

@@ -1,6 +1,4 @@
-use Rattle.std.proofs.Common.{◌≡◌, ◌+◌, ◌≤◌, length, ap, ◌∙◌, arith}
-use Rattle.sdh_ringmap.specs.Places.{position_of}
-use Rattle.sdh_terminal.specs.Tributaries.{tributaries_from}
+use Rattle.std.proofs.Common.{arith}
 use Rattle.sdh_outage_cli.proofs.Counting.{ports_none, ports_more, ports_all}
 use Rattle.sdh_outage_cli.proofs.rooms.ports_at.Goals as goal
 

@@ -29,12 +29,12 @@ step_all-requires c =
 
 pub returns : goal.returns
 returns c = λ at k ran heard. (
-    let same = c.look_all.ensures.streams in
-    listening_more at k c.args.ring.now c.args.self.now.items.items c.look_all.new.items.items c.args.self.now.streams.pairs.items
-    c.step_all.new.streams.pairs.items heard.0 ran c.look_all.ensures.many c.look_all.ensures.each (c.step_all.ensures.many ∙ ap length same)
-    (λ i before after was here. c.step_all.ensures.each i before after (ap (λ l. slice_get l i) same ∙ was) here),
-    rooms_next at k c.args.ring.now _ _ ran c.look_all.ensures.rooms,
-  )
+  let same = c.look_all.ensures.streams in
+      listening_more at k c.args.ring.now c.args.self.now.items.items c.look_all.new.items.items c.args.self.now.streams.pairs.items
+      c.step_all.new.streams.pairs.items heard.0 ran c.look_all.ensures.many c.look_all.ensures.each (c.step_all.ensures.many ∙ ap length same)
+      (λ i before after was here. c.step_all.ensures.each i before after (ap (λ l. slice_get l i) same ∙ was) here),
+  rooms_next at k c.args.ring.now _ _ ran c.look_all.ensures.rooms,
+)
 
 pub look_all-requires-clause-rooms : goal.look_all-requires-clause-rooms
 look_all-requires-clause-rooms c =

@@ -20,11 +20,11 @@ begin_all-requires g c = c.requires.may.1.1.ready.many
 
 pub settle_with-requires-clause-ready : goal.settle_with-requires-clause-ready
 settle_with-requires-clause-ready g c = λ at is. (
-    listening_none c.args.self.now.ring c.args.self.now.listeners.items.items c.begin_all.new.items.items
-    c.args.self.now.listeners.streams.pairs.items
-    (few_before c.args.number _ _ _ c.requires.may.1.1.ring_may) c.requires.may.1.1.ready c.begin_all.ensures.many c.begin_all.ensures.each at (ap (λ (v : World). v.ring) (sym is)),
-    subst (λ (v : World). AreRooms (ports_in v.ring) c.args.self.now.listeners.rooms.counts.items c.args.self.now.listeners.rooms.rooms.items) (sym is) c.requires.may.1.2,
-  )
+  listening_none c.args.self.now.ring c.args.self.now.listeners.items.items c.begin_all.new.items.items
+      c.args.self.now.listeners.streams.pairs.items
+      (few_before c.args.number _ _ _ c.requires.may.1.1.ring_may) c.requires.may.1.1.ready c.begin_all.ensures.many c.begin_all.ensures.each at (ap (λ (v : World). v.ring) (sym is)),
+  subst (λ (v : World). AreRooms (ports_in v.ring) c.args.self.now.listeners.rooms.counts.items c.args.self.now.listeners.rooms.rooms.items) (sym is) c.requires.may.1.2,
+)
 
 pub put_step-requires-clause-many : goal.put_step-requires-clause-many
 put_step-requires-clause-many g c = many_then _ _ c.args.limit c.settle_with.new.listeners.items.items c.settle_with.new.listeners.streams.pairs.items (listens_only c.in_ok-settle_with.ensures.heard)
