@@ -7,3 +7,5 @@ pub mod Steps
 pub mod Plans
 pub mod Stages
 pub mod Holding
+pub mod Counting
+pub mod Nodes

@@ -7,11 +7,13 @@ use Rattle.sdh_circuits.specs.declared.End.TheVariants.{A, B}
 use Rattle.sdh_circuits.specs.declared.PortId.{PortId}
 use Rattle.sdh_circuits.specs.Ends.{port_id}
 use Rattle.sdh_payload.specs.Customer.{Customer}
+use Rattle.sdh_payload.specs.Outlet.{Outlet}
 use Rattle.sdh_world.specs.Rounds.{World}
 use Rattle.sdh_outage.specs.Kept.{heard}
 use Rattle.sdh_outage_cli.specs.Outages.{delivered_at, whose_in}
 use Rattle.sdh_outage_cli.specs.Streams.{holder_of, AreNear}
-use Rattle.sdh_outage_cli.specs.Ports.{delivered_in, heard_in, AreListening}
+use Rattle.sdh_outage_cli.specs.Ports.{delivered_in, heard_in, AreListening, ports_in}
+use Rattle.sdh_outage_cli.specs.Rooms.{AreRooms}
 use Rattle.sdh_outage_cli.specs.declared.ports.ListenerPair.{ListenerPair}
 use Rattle.sdh_outage_cli.specs.declared.streams.StreamPair.{StreamPair}
 
@@ -44,3 +46,7 @@ listening_same at bt k items streams same x =
           record { at_a = h.at_a ∙ heard_same c.b i (port_id i A) k at bt same; at_b = h.at_b ∙ heard_same c.a i (port_id i B) k at bt same });
       near = subst (λ (v : World). AreNear v.ring.circuits.circuits (v.ring.rounds + k) streams) first x.near;
     }
+
+pub rooms_same : (at bt : ℕ → World) (k : ℕ) (counts : List ℕ) (rooms : List (List Outlet)) → ((j : ℕ) → j ≤ k → at j ≡ bt j)
+    → AreRooms (ports_in (at k).ring) counts rooms → AreRooms (ports_in (bt k).ring) counts rooms
+rooms_same at bt k counts rooms same x = subst (λ (v : World). AreRooms (ports_in v.ring) counts rooms) (same k (le_refl k)) x

@@ -4,6 +4,7 @@ pub mod Scripts
 pub mod Lines
 pub mod Ports
 pub mod Keeping
+pub mod Rooms
 pub mod Running
 pub mod Plans
 pub mod Words

@@ -1,5 +1,5 @@
 -- The state of the listeners on a ring's ports.
-use Rattle.std.specs.Prelude.{ℕ, zero, suc, ◌≡◌, ◌+◌, ◌-◌, ◌^◌, ◌≤◌, Option, Some, List, [], ◌∷◌, ◌++◌, length, slice_get}
+use Rattle.std.specs.Prelude.{ℕ, zero, suc, ◌≡◌, ◌+◌, ◌-◌, ◌^◌, ◌≤◌, Option, Some, List, [], ◌∷◌, ◌++◌, length, map, slice_get}
 use Rattle.sdh_circuits.specs.declared.End.{End}
 use Rattle.sdh_circuits.specs.declared.End.TheVariants.{A, B}
 use Rattle.sdh_circuits.specs.declared.PortId.{PortId}
@@ -10,6 +10,8 @@ use Rattle.sdh_payload.specs.declared.delivered.Delivered.{Delivered}
 use Rattle.sdh_world.specs.Held.{HeldRing}
 use Rattle.sdh_world.specs.Rounds.{World}
 use Rattle.sdh_report.specs.Lines.{settle_line}
+use Rattle.sdh_node.specs.Node.{Node}
+use Rattle.sdh_world.specs.Held.{place_of_port}
 use Rattle.sdh_outage.specs.Kinds.{Whose}
 use Rattle.sdh_outage.specs.Kept.{Heard, heard}
 use Rattle.sdh_outage_cli.specs.Outages.{delivered_at, whose_in, PortOutage}
@@ -75,16 +77,41 @@ HearsOne far whose now before after =
     (first : ℕ) (last : Delivered) (past : List Delivered) → before ≡ heard far whose first last past
     → after ≡ heard far whose first last (now ∷ past)
 
--- the listener on a port heard what it delivered, where these bytes were near
-abbrev pub Listens : HeldRing → PortId → List StreamPair → Heard → Heard → Type 0
-Listens r port streams before after =
+-- the listener on a port heard of a round in which it delivered this, where these bytes were near
+abbrev pub ListensTo : Delivered → PortId → List StreamPair → Heard → Heard → Type 0
+ListensTo now port streams before after =
     (circuits : List Provisioned) (c : Provisioned) → AreNear circuits before.round streams → slice_get circuits port.circuit ≡ Some c
-    → HearsOne (customer_at c (other_end port.end)) (holder_of circuits port.circuit) (delivered_at r port) before after
+    → HearsOne (customer_at c (other_end port.end)) (holder_of circuits port.circuit) now before after
+
+-- the listener on a port heard what it delivered
+abbrev pub Listens : HeldRing → PortId → List StreamPair → Heard → Heard → Type 0
+Listens r port streams before after = ListensTo (delivered_at r port) port streams before after
 
 -- the listeners of the circuit of this number heard what their ports delivered, where these bytes were near
 pub record Looked (r : HeldRing) (streams : List StreamPair) (index : ℕ) (before after : ListenerPair) : Type 0 where
   pub a : Listens r (port_id index A) streams before.a after.a
   pub b : Listens r (port_id index B) streams before.b after.b
+
+-- ---- node by node
+
+-- how many ports each node of a ring has
+abbrev pub ports_in : HeldRing → List ℕ
+ports_in r = map (λ (n : Node). length n.ports) r.nodes
+
+-- the listener on a port heard what it delivered, if the port is at this position, and heard of nothing otherwise
+pub record HeardAt (r : HeldRing) (at : ℕ) (port : PortId) (streams : List StreamPair) (before after : Heard) : Type 0 where
+  pub here : place_of_port r port ≡ at → Listens r port streams before after
+  pub elsewhere : (place_of_port r port ≡ at → ⊥) → after ≡ before
+
+-- so did the listeners on both ports of the circuit of this number
+pub record LookedAt (r : HeldRing) (at : ℕ) (streams : List StreamPair) (index : ℕ) (before after : ListenerPair) : Type 0 where
+  pub a : HeardAt r at (port_id index A) streams before.a after.a
+  pub b : HeardAt r at (port_id index B) streams before.b after.b
+
+-- the listeners on those ports of a circuit that are at this position have heard of few rounds
+pub record AreFewAt (r : HeldRing) (at index : ℕ) (both : ListenerPair) : Type 0 where
+  pub a : place_of_port r (port_id index A) ≡ at → both.a.round ≤ 2 ^ 31 + 65536
+  pub b : place_of_port r (port_id index B) ≡ at → both.b.round ≤ 2 ^ 31 + 65536
 
 -- ---- what they show
 

@@ -11,6 +11,7 @@ mod listeners;
 mod listing;
 mod ports;
 mod program;
+mod rooms;
 mod run;
 mod script;
 mod streams;

@@ -6,15 +6,23 @@ ghost use Rattle.sdh_payload.specs.Customer.{Customer};
 ghost use Rattle.sdh_outage.specs.Kinds.{Whose, kind_of};
 ghost use Rattle.sdh_outage.specs.Kept.{heard};
 ghost use Rattle.sdh_outage_cli.specs.Outages.{delivered_at};
+ghost use Rattle.sdh_terminal.specs.Tributaries.{outlets_of};
+ghost use Rattle.sdh_world.specs.Held.{node_at, place_of_port};
 ghost use Rattle.sdh_outage_cli.specs.Ports.{AreAt, AreFew, HaveBegun, Listens, Looked, listener_at};
+ghost use Rattle.sdh_outage_cli.specs.Ports.{ListensTo, HeardAt, LookedAt, AreFewAt, ports_in};
+ghost use Rattle.sdh_outage_cli.specs.Rooms.{AreRooms};
 ghost use Rattle.sdh_outage_cli.specs.Streams.{holder_of, AreNear, AreEarly};
 ghost use Rattle.sdh_outage_cli.specs.declared.ports.ListenerPair.{ListenerPair};
 
+use crate::rooms::{DeliveryRooms, deliver_at};
 use crate::streams::{Streams, holder};
 use sdh_circuits::{CircuitMap, End, PortId};
 use sdh_outage::{Kind, Listener, kind_of_others};
 use sdh_payload::Delivered;
-use sdh_ring::Ring;
+use sdh_ring::{Ring, Running};
+use sdh_ringmap::Pos;
+use sdh_rounds::RunsRounds;
+use sdh_terminal::Outlets;
 use std::alloc::{AllocError, Global};
 
 /// The listeners on both ports of a circuit.
@@ -102,16 +110,16 @@ pub fn begin_all(ring: &Ring, items: &mut Vec<ListenerPair>)
     }
 }
 
-// Returns the kind of the last round for a port. The port's listener keeps what was delivered in that round.
+// Returns the kind of a round that delivers `now` at a port. The port's listener keeps `now`.
 fn kind_at(
     listener: &mut Listener,
-    ring: &Ring,
+    circuits: &CircuitMap,
     streams: &mut Streams,
     port: PortId,
     now: &Delivered,
 ) -> Kind
-    requires port { port.circuit < length ring.now.circuits.circuits }
-    requires many { length streams.old.pairs.items ≡ length ring.now.circuits.circuits }
+    requires port { port.circuit < length circuits.now.circuits }
+    requires many { length streams.old.pairs.items ≡ length circuits.now.circuits }
     requires early { AreEarly streams.old.pairs.items }
     ensures kind { (circuits : List Provisioned) (c : Provisioned) → AreNear circuits listener.old.round streams.old.pairs.items
         → slice_get circuits port.circuit ≡ Some c
@@ -127,45 +135,97 @@ fn kind_at(
     );
     match own {
         Some(kind) => kind,
-        None => kind_of_others(holder(ring, streams, port.circuit, now)),
+        None => kind_of_others(holder(circuits, streams, port.circuit, now)),
     }
 }
 
-// Lets the listener on a port hear what the port delivered in the last round.
-fn look(listener: &mut Listener, ring: &Ring, streams: &mut Streams, port: PortId)
-    requires port { port.circuit < length ring.now.circuits.circuits }
-    requires many { length streams.old.pairs.items ≡ length ring.now.circuits.circuits }
+// Lets the listener on a port hear of a round that delivers `now` there.
+fn look(
+    listener: &mut Listener,
+    circuits: &CircuitMap,
+    streams: &mut Streams,
+    port: PortId,
+    now: &Delivered,
+)
+    requires port { port.circuit < length circuits.now.circuits }
+    requires many { length streams.old.pairs.items ≡ length circuits.now.circuits }
     requires early { AreEarly streams.old.pairs.items }
     requires few { listener.old.round ≤ 2 ^ 31 + 65536 }
-    ensures hears { Listens ring.now port streams.old.pairs.items listener.old listener.new }
+    ensures hears { ListensTo now.now port streams.old.pairs.items listener.old listener.new }
     ensures streams { streams.new.pairs.items ≡ streams.old.pairs.items }
 {
-    let now = ring.port(port);
-    let kind = kind_at(listener, ring, streams, port, now);
+    let kind = kind_at(listener, circuits, streams, port, now);
     listener.hear(kind);
 }
 
-// Lets the listeners on both ports of a circuit hear what the ports delivered in the last round.
-fn look_both(both: &mut ListenerPair, ring: &Ring, streams: &mut Streams, circuit: u8)
-    requires port { circuit < length ring.now.circuits.circuits }
-    requires many { length streams.old.pairs.items ≡ length ring.now.circuits.circuits }
+/// A node of a ring, and what its ports delivered in the last round.
+#[derive(Drop)]
+pub struct NodePorts<'a> {
+    pub ring: &'a Running,
+    pub at: Pos,
+    pub outlets: &'a Outlets,
+}
+
+// Lets the listener on a port of this node hear what the port delivered in the last round.
+#[inline(never)]
+fn look_here(listener: &mut Listener, node: &NodePorts<'_>, streams: &mut Streams, port: PortId)
+    requires port { port.circuit < length node.now.ring.now.circuits.circuits }
+    requires here { place_of_port node.now.ring.now port ≡ node.now.at.0 }
+    requires many { length streams.old.pairs.items ≡ length node.now.ring.now.circuits.circuits }
     requires early { AreEarly streams.old.pairs.items }
-    requires few { (both.old.a.round ≤ 2 ^ 31 + 65536) × (both.old.b.round ≤ 2 ^ 31 + 65536) }
-    ensures looked { Looked ring.now streams.old.pairs.items circuit both.old both.new }
+    requires outlets { node.now.outlets.now ≡ outlets_of (node_at node.now.ring.now.nodes node.now.at.0).ports }
+    requires few { listener.old.round ≤ 2 ^ 31 + 65536 }
+    ensures hears { Listens node.now.ring.now port streams.old.pairs.items listener.old listener.new }
     ensures streams { streams.new.pairs.items ≡ streams.old.pairs.items }
 {
-    look(
+    let place = node.ring.place_of(port);
+    let there = &node.ring.nodes()[place];
+    let now = there.outlet(port, node.outlets).delivered();
+    let circuits = node.ring.stations().circuits();
+    look(listener, circuits, streams, port, now);
+}
+
+// Lets the listener on a port hear what the port delivered in the last round, where it is at this node. It is inlined
+// since it is called for each port at each node, and most ports aren't there.
+#[inline(always)]
+fn look_at(listener: &mut Listener, node: &NodePorts<'_>, streams: &mut Streams, port: PortId)
+    requires port { port.circuit < length node.now.ring.now.circuits.circuits }
+    requires many { length streams.old.pairs.items ≡ length node.now.ring.now.circuits.circuits }
+    requires early { AreEarly streams.old.pairs.items }
+    requires outlets { node.now.outlets.now ≡ outlets_of (node_at node.now.ring.now.nodes node.now.at.0).ports }
+    requires few { place_of_port node.now.ring.now port ≡ node.now.at.0 → listener.old.round ≤ 2 ^ 31 + 65536 }
+    ensures hears { HeardAt node.now.ring.now node.now.at.0 port streams.old.pairs.items listener.old listener.new }
+    ensures streams { streams.new.pairs.items ≡ streams.old.pairs.items }
+{
+    if node.ring.place_of(port) == usize::from(node.at.0) {
+        look_here(listener, node, streams, port);
+    }
+}
+
+// Lets the listeners on both ports of a circuit hear what the ports delivered in the last round, where they are at this
+// node.
+#[inline(always)]
+fn look_both(both: &mut ListenerPair, node: &NodePorts<'_>, streams: &mut Streams, circuit: u8)
+    requires port { circuit < length node.now.ring.now.circuits.circuits }
+    requires many { length streams.old.pairs.items ≡ length node.now.ring.now.circuits.circuits }
+    requires early { AreEarly streams.old.pairs.items }
+    requires outlets { node.now.outlets.now ≡ outlets_of (node_at node.now.ring.now.nodes node.now.at.0).ports }
+    requires few { AreFewAt node.now.ring.now node.now.at.0 circuit both.old }
+    ensures looked { LookedAt node.now.ring.now node.now.at.0 streams.old.pairs.items circuit both.old both.new }
+    ensures streams { streams.new.pairs.items ≡ streams.old.pairs.items }
+{
+    look_at(
         &mut both.a,
-        ring,
+        node,
         streams,
         PortId {
             circuit,
             end: End::A,
         },
     );
-    look(
+    look_at(
         &mut both.b,
-        ring,
+        node,
         streams,
         PortId {
             circuit,
@@ -174,18 +234,71 @@ fn look_both(both: &mut ListenerPair, ring: &Ring, streams: &mut Streams, circui
     );
 }
 
+// Lets the listeners on the ports of a node hear what these delivered in the last round.
+fn look_node(items: &mut Vec<ListenerPair>, node: &NodePorts<'_>, streams: &mut Streams)
+    requires many { length items.old.items ≡ length node.now.ring.now.circuits.circuits }
+    requires streams { length streams.old.pairs.items ≡ length node.now.ring.now.circuits.circuits }
+    requires early { AreEarly streams.old.pairs.items }
+    requires outlets { node.now.outlets.now ≡ outlets_of (node_at node.now.ring.now.nodes node.now.at.0).ports }
+    requires few { (i : ℕ) (both : ListenerPair) → slice_get items.old.items i ≡ Some both → AreFewAt node.now.ring.now node.now.at.0 i both }
+    ensures many { length items.new.items ≡ length items.old.items }
+    ensures each { (i : ℕ) (before after : ListenerPair) → slice_get items.old.items i ≡ Some before → slice_get items.new.items i ≡ Some after
+        → LookedAt node.now.ring.now node.now.at.0 streams.old.pairs.items i before after }
+    ensures streams { streams.new.pairs.items ≡ streams.old.pairs.items }
+{
+    for i in 0..node.ring.stations().circuits().len() {
+        look_both(&mut items[i], node, streams, i as u8);
+    }
+}
+
+// Lets the listeners on the ports of the node at a position hear what these delivered in the last round.
+fn look_there(
+    ring: &Running,
+    at: Pos,
+    items: &mut Vec<ListenerPair>,
+    streams: &mut Streams,
+    rooms: &mut DeliveryRooms,
+)
+    requires at { at.0 < length ring.now.ids }
+    requires rooms { AreRooms (ports_in ring.now) rooms.old.counts.items rooms.old.rooms.items }
+    requires many { length items.old.items ≡ length ring.now.circuits.circuits }
+    requires streams { length streams.old.pairs.items ≡ length ring.now.circuits.circuits }
+    requires early { AreEarly streams.old.pairs.items }
+    requires few { (i : ℕ) (both : ListenerPair) → slice_get items.old.items i ≡ Some both → AreFewAt ring.now at.0 i both }
+    ensures many { length items.new.items ≡ length items.old.items }
+    ensures each { (i : ℕ) (before after : ListenerPair) → slice_get items.old.items i ≡ Some before → slice_get items.new.items i ≡ Some after
+        → LookedAt ring.now at.0 streams.old.pairs.items i before after }
+    ensures streams { streams.new.pairs.items ≡ streams.old.pairs.items }
+    ensures rooms { AreRooms (ports_in ring.now) rooms.new.counts.items rooms.new.rooms.items }
+{
+    deliver_at(ring, at, rooms);
+    let outlets = &rooms.rooms[rooms.counts[at.0 as usize]];
+    look_node(items, &NodePorts { ring, at, outlets }, streams);
+}
+
 /// Lets all listeners hear what the ports delivered in the last round, where these bytes of all customers were near.
-pub fn look_all(ring: &Ring, items: &mut Vec<ListenerPair>, streams: &mut Streams)
+/// One node comes after the other, the last one first, since its frames were the last that the round went over.
+pub fn look_all(
+    ring: &Running,
+    items: &mut Vec<ListenerPair>,
+    streams: &mut Streams,
+    rooms: &mut DeliveryRooms,
+)
     requires many { length items.old.items ≡ length ring.now.circuits.circuits }
     requires streams { length streams.old.pairs.items ≡ length ring.now.circuits.circuits }
     requires early { AreEarly streams.old.pairs.items }
     requires few { AreFew (2 ^ 31 + 65536) items.old.items }
+    requires rooms { AreRooms (ports_in ring.now) rooms.old.counts.items rooms.old.rooms.items }
     ensures many { length items.new.items ≡ length items.old.items }
     ensures each { (i : ℕ) (before after : ListenerPair) → slice_get items.old.items i ≡ Some before → slice_get items.new.items i ≡ Some after
         → Looked ring.now streams.old.pairs.items i before after }
     ensures streams { streams.new.pairs.items ≡ streams.old.pairs.items }
+    ensures rooms { AreRooms (ports_in ring.now) rooms.new.counts.items rooms.new.rooms.items }
 {
-    for i in 0..ring.circuits().len() {
-        look_both(&mut items[i], ring, streams, i as u8);
+    ring.circuits_fit();
+    let count = ring.map().len();
+    for i in 0..count {
+        let at = Pos((count - 1 - i) as u8);
+        look_there(ring, at, items, streams, rooms);
     }
 }

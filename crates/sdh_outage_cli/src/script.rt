@@ -1,9 +1,17 @@
 //! A ring with listeners on its ports, over which a script is run.
-ghost use Rattle.std.specs.Prelude.{length};
+ghost use Rattle.std.specs.Prelude.{ℕ, ◌≡◌, ◌+◌, ◌^◌, ◌≤◌, false, OnOk, length};
+ghost use Rattle.sdh_plant.specs.Fibres.{IsPrepared};
+ghost use Rattle.sdh_rounds.specs.Outcome.{IsStep};
+ghost use Rattle.sdh_world.specs.Rounds.{World, world};
+ghost use Rattle.sdh_node.specs.Stations.{adm};
+ghost use Rattle.sdh_ring.specs.Observed.{Hears};
+ghost use Rattle.sdh_ring.specs.Promises.{KeepsPromises};
 ghost use Rattle.sdh_node.specs.Node.{Node as AddDrop};
 ghost use Rattle.sdh_outage_cli.specs.Outages.{Outaged};
 ghost use Rattle.sdh_outage_cli.specs.Scripts.{outage_walk};
 ghost use Rattle.sdh_outage_cli.specs.Lines.{listed};
+ghost use Rattle.sdh_outage_cli.specs.Ports.{AreListening, ports_in};
+ghost use Rattle.sdh_outage_cli.specs.Rooms.{AreRooms};
 ghost use Rattle.sdh_outage_cli.specs.Running.{MayList, lines_room, MayRun as MayListen};
 
 use crate::lines::put_step;
@@ -14,6 +22,7 @@ use sdh_plan::Step;
 use sdh_plant::Plant;
 use sdh_report::Text;
 use sdh_ring::{PlantFault, Ring, SettleError, change};
+use sdh_rounds::{Nowhere, Stopped};
 use sdh_scripts::Runner;
 
 /// A ring, the listeners on its ports, and what is listed of each settle step.
@@ -22,6 +31,35 @@ pub struct OutageRun {
     pub ring: Ring,
     pub listeners: Listeners,
     pub listing: OutageListing,
+}
+
+// Runs the rounds of a settle step, and lets the listeners look at the nodes after each one. They never stop the step.
+fn settle_with<P: Plant>(
+    ring: &mut Ring,
+    plant: &mut P,
+    limit: u32,
+    listeners: &mut Listeners,
+) -> Result<(), SettleError>
+    requires prepared { IsPrepared ring.old.settings.rate (length ring.old.ids) (P.fibres plant.old) }
+    requires whole { ring.old.broken ≡ false }
+    requires some { 1 ≤ limit }
+    requires few { limit ≤ 65536 }
+    requires room { ring.old.rounds + limit ≤ 2 ^ 32 }
+    requires ready { (at : ℕ → World) → at 0 ≡ world ring.old (P.fibres plant.old)
+        → AreListening at 0 listeners.old.items.items listeners.old.streams.pairs.items
+        × AreRooms (ports_in (at 0).ring) listeners.old.rooms.counts.items listeners.old.rooms.rooms.items }
+    ensures step { IsStep adm P.exact (world ring.old (P.fibres plant.old)) limit result (world ring.new (P.fibres plant.new))
+        (P.faults plant.old) (P.faults plant.new) }
+    ensures laws { KeepsPromises (world ring.old (P.fibres plant.old)) limit result (world ring.new (P.fibres plant.new)) }
+    ensures heard { OnOk result
+        (Hears (λ at k. AreListening at k listeners.new.items.items listeners.new.streams.pairs.items
+        × AreRooms (ports_in (at k).ring) listeners.new.rooms.counts.items listeners.new.rooms.rooms.items)
+        (world ring.old (P.fibres plant.old)) limit (world ring.new (P.fibres plant.new))) }
+{
+    match ring.settle_recording(plant, limit, listeners, &mut Nowhere) {
+        Ok(ended) => ended,
+        Err(Stopped) => Err(SettleError::Unsettled),
+    }
 }
 
 impl Runner for OutageRun {
@@ -37,7 +75,7 @@ impl Runner for OutageRun {
 
     ghost room = { λ r. lines_room r.listing (length r.ring.circuits.circuits) };
 
-    ghost MayRun = { λ number steps r f. MayList (length r.ring.circuits.circuits) r.listing × MayListen number steps r.ring r.listeners.items.items r.listeners.streams.pairs.items f };
+    ghost MayRun = { λ number steps r f. MayList (length r.ring.circuits.circuits) r.listing × MayListen number steps r.ring r.listeners.items.items r.listeners.streams.pairs.items f × AreRooms (ports_in r.ring) r.listeners.rooms.counts.items r.listeners.rooms.rooms.items };
 
     fn change<P: Plant>(&mut self, plant: &mut P, step: Step) -> Result<(), PlantFault> {
         change(&mut self.ring, plant, step)?;
@@ -52,7 +90,7 @@ impl Runner for OutageRun {
         text: &mut Text,
     ) -> Result<(), SettleError> {
         begin_all(&self.ring, &mut self.listeners.items);
-        self.ring.settle_with(plant, limit, &mut self.listeners)?;
+        settle_with(&mut self.ring, plant, limit, &mut self.listeners)?;
         put_step(
             text,
             &self.ring,

@@ -9,7 +9,6 @@ ghost use Rattle.sdh_outage_cli.specs.declared.streams.StreamPair.{StreamPair};
 use sdh_circuits::{Circuit, CircuitMap, End, PortId};
 use sdh_outage::{Kind, Listener, Scratch, Window};
 use sdh_payload::Delivered;
-use sdh_ring::Ring;
 use std::alloc::{AllocError, Global};
 
 /// The bytes of both customers of a circuit that can be on their way.
@@ -121,14 +120,19 @@ fn end_of_other(streams: &mut Streams, i: usize, own: u8, chunk: &[u8]) -> Optio
 }
 
 // Returns the first port of another circuit than this one that sends what a chunk holds.
-fn chunk_holder(ring: &Ring, streams: &mut Streams, own: u8, chunk: &[u8]) -> Option<PortId>
-    requires many { length streams.old.pairs.items ≡ length ring.now.circuits.circuits }
+fn chunk_holder(
+    circuits: &CircuitMap,
+    streams: &mut Streams,
+    own: u8,
+    chunk: &[u8],
+) -> Option<PortId>
+    requires many { length streams.old.pairs.items ≡ length circuits.now.circuits }
     requires early { AreEarly streams.old.pairs.items }
     ensures holder { (circuits : List Provisioned) (round : ℕ) → AreNear circuits round streams.old.pairs.items
         → result ≡ holder_from own 0 circuits round chunk.now }
     ensures same { streams.new.pairs.items ≡ streams.old.pairs.items }
 {
-    for i in 0..ring.circuits().len() {
+    for i in 0..circuits.len() {
         if let Some(end) = end_of_other(streams, i, own, chunk) {
             return Some(PortId {
                 circuit: i as u8,
@@ -140,8 +144,13 @@ fn chunk_holder(ring: &Ring, streams: &mut Streams, own: u8, chunk: &[u8]) -> Op
 }
 
 /// Returns the first port of another circuit than this one that sends what was delivered.
-pub fn holder(ring: &Ring, streams: &mut Streams, own: u8, now: &Delivered) -> Option<PortId>
-    requires many { length streams.old.pairs.items ≡ length ring.now.circuits.circuits }
+pub fn holder(
+    circuits: &CircuitMap,
+    streams: &mut Streams,
+    own: u8,
+    now: &Delivered,
+) -> Option<PortId>
+    requires many { length streams.old.pairs.items ≡ length circuits.now.circuits }
     requires early { AreEarly streams.old.pairs.items }
     ensures holder { (circuits : List Provisioned) (round : ℕ) → AreNear circuits round streams.old.pairs.items
         → result ≡ holder_of circuits own round now.now }
@@ -149,6 +158,6 @@ pub fn holder(ring: &Ring, streams: &mut Streams, own: u8, now: &Delivered) -> O
 {
     match now {
         Delivered::Ais => None,
-        Delivered::Chunk(chunk) => chunk_holder(ring, streams, own, chunk.as_slice()),
+        Delivered::Chunk(chunk) => chunk_holder(circuits, streams, own, chunk.as_slice()),
     }
 }

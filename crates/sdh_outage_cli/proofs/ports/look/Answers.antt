@@ -10,7 +10,7 @@ pub returns-clause-hears : goal.returns-clause-hears
 returns-clause-hears c = λ circuits x near there first last past is.
     let far = customer_at x (other_end c.args.port.end) in
     let whose = holder_of circuits c.args.port.circuit in
-    let now = c.port-now.result.now in
+    let now = c.args.now.now in
     let then = c.kind_at-kind.new.listener in
     let kept = c.kind_at-kind.ensures.last in
     let came : now ≡ then.last = sym (ap (λ (h : Heard). h.last) kept) in
@@ -19,4 +19,4 @@ returns-clause-hears c = λ circuits x near there first last past is.
     let before = ap (λ (h : Heard). h.last) is in
     let kind = c.kind_at-kind.ensures.kind circuits x near there ∙ (λ i. kind_of far whose (number i) (before i) (came i)) in
     c.hear.ensures.history far whose first last past begun kind
-    ∙ ap (λ d. heard far whose first last (d ∷ past)) (sym came ∙ c.port-now.ensures)
+    ∙ ap (λ d. heard far whose first last (d ∷ past)) (sym came)

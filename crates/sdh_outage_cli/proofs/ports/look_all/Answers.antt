@@ -1,59 +1,63 @@
-use Rattle.std.proofs.Common.{◌≡◌, ◌<◌, length, Some, refl, ap, sym, subst, ◌∙◌, arith}
-use Rattle.std.specs.Prelude.{slice_get}
-use Rattle.std.proofs.Math.ListN.{length-set}
-use Rattle.std.proofs.lemmas.Option.{same_Some, slice_get_read, slice_get_within}
-use Rattle.sdh_circuits.specs.Provisioning.{Provisioning}
-use Rattle.sdh_scripts.proofs.Lists.{set_upto, set_behind}
-use Rattle.sdh_outage_cli.specs.declared.ports.ListenerPair.{ListenerPair}
-use Rattle.sdh_outage_cli.specs.Ports.{Looked}
-use Rattle.sdh_outage_cli.specs.Streams.{AreEarly}
+use Rattle.std.proofs.Common.{◌≡◌, ◌+◌, ◌-◌, length, refl, ap, sym, subst, ◌∙◌, arith}
+use Rattle.std.proofs.lemmas.Option.{slice_get_within}
+use Rattle.std.proofs.lemmas.Option.{same_Some}
+use Rattle.sdh_scripts.proofs.Lists.{some_at}
+use Rattle.sdh_outage_cli.specs.Ports.{LookedAt}
+use Rattle.sdh_outage_cli.proofs.Nodes.{LookedFrom, looked_none, looked_more, few_at, looked_all}
 use Rattle.sdh_outage_cli.proofs.ports.look_all.Goals as goal
 
-pub look_both-requires-clause-many : goal.look_both-requires-clause-many
-look_both-requires-clause-many c = ap length c.loop-i.invariant.streams ∙ c.requires.streams
+pub loop-i-init : goal.loop-i-init
+loop-i-init c = record {
+  len = refl;
+  each =
+      λ j before after was here. looked_none c.args.ring.now (length c.args.ring.now.ids - 0) c.args.streams.now.pairs.items j before after
+      (omega arith) (sym (same_Some before after (sym was ∙ here)));
+  streams = refl;
+  rooms = c.requires.rooms;
+}
 
-pub look_both-requires-clause-early : goal.look_both-requires-clause-early
-look_both-requires-clause-early c = subst AreEarly (sym c.loop-i.invariant.streams) c.requires.early
-
-pub look_both-requires-clause-few : goal.look_both-requires-clause-few
-look_both-requires-clause-few c =
-    let i = c.loop-i.i in
-    let x = c.index_mut.result.now in
-    let size : length c.circuits.result.now.circuits ≡ length c.args.ring.now.circuits.circuits =
-    ap (λ (p : Provisioning). length p.circuits) c.circuits.ensures in
-    let lt : i < length c.loop-i.items.items =
-    omega (arith, c.loop-i-test.true, c.len-i-end.ensures.len, size, c.loop-i.invariant.len, c.requires.many) in
-    let was : slice_get c.args.items.now.items i ≡ Some x =
-    sym (c.loop-i.invariant.rest i (omega arith)) ∙ slice_get_read c.loop-i.items.items _ i x refl lt c.index_mut.ensures.value in
-    let h = c.requires.few i x was in
-    (omega (arith, h.0), omega (arith, h.1))
+pub look_there-requires-clause-few : goal.look_there-requires-clause-few
+look_there-requires-clause-few c = λ i both here.
+    let r = c.args.ring.now in
+    let streams = c.args.streams.now.pairs.items in
+    let old = c.args.items.now.items in
+    let turn = c.loop-i.i in
+    let at = c.len-count.result - 1 - turn in
+    let inv = c.loop-i.invariant in
+    let size : c.len-count.result ≡ length r.ids = c.len-count.ensures.len ∙ ap length c.map.ensures in
+    let was = some_at old i (let h = slice_get_within c.loop-i.items.items i both here in omega (arith, h, inv.len)) in
+    let next : length r.ids - turn ≡ at + 1 = omega (arith, size, c.loop-i-test.true) in
+    few_at r at i streams was.0 both
+    (subst (λ low. LookedFrom r low streams i was.0 both) next (inv.each i was.0 both was.1 here)) (c.requires.few i was.0 was.1)
 
 pub loop-i-preserved : goal.loop-i-preserved
 loop-i-preserved c =
     let r = c.args.ring.now in
-    let old = c.args.items.now.items in
-    let ws = c.loop-i.items.items in
-    let i = c.loop-i.i in
+    let streams = c.args.streams.now.pairs.items in
+    let turn = c.loop-i.i in
+    let at = c.len-count.result - 1 - turn in
     let inv = c.loop-i.invariant in
-    let x = c.index_mut.result.now in
-    let y = c.look_both.new.both in
-    let size : length c.circuits.result.now.circuits ≡ length r.circuits.circuits =
-    ap (λ (p : Provisioning). length p.circuits) c.circuits.ensures in
-    let lt : i < length ws = omega (arith, c.loop-i-test.true, c.len-i-end.ensures.len, size, inv.len, c.requires.many) in
-    let was : slice_get old i ≡ Some x = sym (inv.rest i (omega arith)) ∙ slice_get_read ws _ i x refl lt c.index_mut.ensures.value in
+    let size : c.len-count.result ≡ length r.ids = c.len-count.ensures.len ∙ ap length c.map.ensures in
+    let now : length r.ids - turn ≡ at + 1 = omega (arith, size, c.loop-i-test.true) in
+    let next : at ≡ length r.ids - (turn + 1) = omega (arith, size, c.loop-i-test.true) in
     record {
-      len = simp length-set (omega arith);
-      each = set_upto (λ j after. (before : ListenerPair) → slice_get old j ≡ Some before → Looked r c.args.streams.now.pairs.items j before after) ws i y lt
-          (λ before there. subst (λ b. Looked r c.args.streams.now.pairs.items i b y) (same_Some _ _ (sym was ∙ there))
-          (subst (λ l. Looked r l i x y) inv.streams c.look_both.ensures.looked)) inv.each;
-      streams = c.look_both.ensures.streams ∙ inv.streams;
-      rest = λ j le. set_behind ws i y j (omega arith) ∙ inv.rest j (omega arith);
+      len = c.look_there.ensures.many ∙ inv.len;
+      each = λ j before after was here. (
+          let mid = some_at c.loop-i.items.items j
+          (let h = slice_get_within c.look_there.new.items.items j after here in omega (arith, h, c.look_there.ensures.many)) in
+          let were = subst (λ low. LookedFrom r low streams j before mid.0) now (inv.each j before mid.0 was mid.1) in
+          let looked = subst (λ l. LookedAt r at l j mid.0 after) inv.streams (c.look_there.ensures.each j mid.0 after mid.1 here) in
+          subst (λ low. LookedFrom r low streams j before after) next (looked_more r at streams j before mid.0 after were looked));
+      streams = c.look_there.ensures.streams ∙ inv.streams;
+      rooms = c.look_there.ensures.rooms;
     }
 
 pub returns-clause-each : goal.returns-clause-each
-returns-clause-each c =
-    let size : length c.circuits.result.now.circuits ≡ length c.args.ring.now.circuits.circuits =
-    ap (λ (p : Provisioning). length p.circuits) c.circuits.ensures in
-    λ i before after was at. c.loop-i.invariant.each i after
-    (let h = slice_get_within c.loop-i.items.items i after at in omega
-    (arith, h, size, c.loop-i-test.false, c.len-i-end.ensures.len, c.loop-i.invariant.len, c.requires.many)) at before was
+returns-clause-each c = λ i before after was here.
+    let r = c.args.ring.now in
+    let streams = c.args.streams.now.pairs.items in
+    let size : c.len-count.result ≡ length r.ids = c.len-count.ensures.len ∙ ap length c.map.ensures in
+    let low = length r.ids - c.loop-i.i in
+    looked_all r _ low streams i before after c.circuits_fit.ensures
+    (let h = slice_get_within c.args.items.now.items i before was in omega (arith, h, c.requires.many))
+    (omega (arith, size, c.loop-i-test.false)) (c.loop-i.invariant.each i before after was here)

@@ -1,14 +1,16 @@
-use Rattle.std.proofs.Common.{◌≡◌, ℕ, ◌<◌, ◌≤◌, Some, length}
+use Rattle.std.proofs.Common.{◌≡◌, ℕ, ◌-◌, Some, length}
 use Rattle.std.specs.Prelude.{slice_get}
 use Rattle.sdh_outage_cli.specs.declared.ports.ListenerPair.{ListenerPair}
-use Rattle.sdh_outage_cli.specs.Ports.{Looked}
+use Rattle.sdh_outage_cli.specs.Ports.{ports_in}
+use Rattle.sdh_outage_cli.specs.Rooms.{AreRooms}
+use Rattle.sdh_outage_cli.proofs.Nodes.{LookedFrom}
 use Rattle.sdh_outage_cli.proofs.ports.look_all.Given as goal
 
 abbrev pub invariant-loop-i : goal.invariant-loop-i
 invariant-loop-i l = record {
   len : length l.items.items ≡ length l.fn.items.items;
-  each : (j : ℕ) (after : ListenerPair) → j < l.i → slice_get l.items.items j ≡ Some after → (before : ListenerPair)
-      → slice_get l.fn.items.items j ≡ Some before → Looked l.ring l.fn.streams.pairs.items j before after;
+  each : (j : ℕ) (before after : ListenerPair) → slice_get l.fn.items.items j ≡ Some before → slice_get l.items.items j ≡ Some after
+      → LookedFrom l.ring (length l.ring.ids - l.i) l.fn.streams.pairs.items j before after;
   streams : l.streams.pairs.items ≡ l.fn.streams.pairs.items;
-  rest : (j : ℕ) → l.i ≤ j → slice_get l.items.items j ≡ slice_get l.fn.items.items j;
+  rooms : AreRooms (ports_in l.ring) l.rooms.counts.items l.rooms.rooms.items;
 }

@@ -1,4 +1,4 @@
-use Rattle.std.proofs.Common.{length, ap, sym, subst, ◌∙◌}
+use Rattle.std.proofs.Common.{◌≡◌, length, ap, sym, subst, ◌∙◌}
 use Rattle.sdh_circuits.specs.Provisioning.{Provisioning}
 use Rattle.sdh_request.specs.declared.settings.Settings.{Settings}
 use Rattle.sdh_world.specs.Held.{HeldRing, new_ring}
@@ -6,7 +6,11 @@ use Rattle.sdh_scripts.specs.Texts.{HasRoom}
 use Rattle.sdh_scripts.proofs.Plans.{may_begin}
 use Rattle.sdh_owed.proofs.Steps.{may_new}
 use Rattle.sdh_owed.proofs.Plans.{adm_new}
-use Rattle.sdh_outage_cli.specs.Ports.{AreAt, AreReady}
+use Rattle.sdh_basics.specs.Cells.{cells}
+use Rattle.sdh_plan.specs.Planned.{provisioning_of}
+use Rattle.sdh_outage_cli.specs.Ports.{AreAt, AreReady, ports_in}
+use Rattle.sdh_outage_cli.specs.Rooms.{AreRooms, ports_at}
+use Rattle.sdh_outage_cli.proofs.Counting.{ports_new}
 use Rattle.sdh_outage_cli.specs.Streams.{AreNear}
 use Rattle.sdh_outage_cli.specs.Running.{MayList, lines_room}
 use Rattle.sdh_outage_cli.specs.Plans.{outage_account}
@@ -43,8 +47,14 @@ returns-clause-may c =
       rounds_are = subst (λ n. AreAt n c.in_ok-items.items.items) (sym rounds) c.in_ok-items.ensures.rounds;
       near = near;
     } in
+    let cs = (provisioning_of c.args.plan).circuits in
+    let ports : cells (ports_at c.circuits-4.result.now.circuits) c.len-nodes.result ≡ ports_in c.in_ok-ring.ring =
+    ap (λ (p : Provisioning). cells (ports_at p.circuits) c.len-nodes.result) c.circuits-4.ensures ∙ ap (cells (ports_at cs)) size
+    ∙ sym (ports_new c.args.plan.settings c.args.plan.nodes cs (length c.args.plan.nodes)) ∙ ap ports_in (sym is.ring_is) in
+    let rooms = subst (λ l. AreRooms l c.in_ok-rooms.rooms.counts.items c.in_ok-rooms.rooms.rooms.items) ports c.in_ok-rooms.ensures in
     may_begin _ outage_account c.args.plan _ is _ _ form adm_new rate size (λ f. (
       listing,
       record { ring_may = may_new 65536 c.args.plan c.in_ok-ring.ring _ _ _ f form is.ring_is rate size is.steps_are; ready = ready },
+      rooms,
     ))
     (subst (λ k. HasRoom k 0 c.in_ok-text.text.room) each c.in_ok-text.ensures.room) c.in_ok-text.ensures.empty

@@ -1,5 +1,4 @@
 use Rattle.std.proofs.Common.{◌≤◌, length, Some, None, ap, sym, subst, ◌∙◌, arith}
-use Rattle.sdh_circuits.specs.Provisioning.{Provisioning}
 use Rattle.sdh_scripts.proofs.Lists.{some_at}
 use Rattle.sdh_outage_cli.specs.Streams.{AreNear, AreEarly}
 use Rattle.sdh_outage_cli.proofs.Holding.{holder_next, holder_end}
@@ -7,8 +6,7 @@ use Rattle.sdh_outage_cli.proofs.streams.chunk_holder.Goals as goal
 
 pub end_of_other-requires-clause-index : goal.end_of_other-requires-clause-index
 end_of_other-requires-clause-index c =
-    let size = ap (λ (p : Provisioning). length p.circuits) c.circuits.ensures in
-    omega (arith, c.loop-i-test.true, c.len-i-end.ensures.len, size, ap length c.loop-i.invariant.same, c.requires.many)
+    omega (arith, c.loop-i-test.true, c.len-i-end.ensures.len, ap length c.loop-i.invariant.same, c.requires.many)
 
 pub end_of_other-requires-clause-early : goal.end_of_other-requires-clause-early
 end_of_other-requires-clause-early c = subst AreEarly (sym c.loop-i.invariant.same) c.requires.early
@@ -19,8 +17,7 @@ returns-in-Some-clause-holder c = λ circuits round near.
     let own = c.args.own in
     let chunk = c.args.chunk.now in
     let inv = c.loop-i.invariant in
-    let size = ap (λ (p : Provisioning). length p.circuits) c.circuits.ensures in
-    let x = some_at circuits i (omega (arith, c.loop-i-test.true, c.len-i-end.ensures.len, size, c.requires.many, near.many)) in
+    let x = some_at circuits i (omega (arith, c.loop-i-test.true, c.len-i-end.ensures.len, c.requires.many, near.many)) in
     let held = c.end_of_other.ensures.held circuits x.0 round (subst (AreNear circuits round) (sym inv.same) near) x.1 in
     sym (inv.passed circuits round near ∙ holder_next own i circuits x.0 round chunk (Some c.in-Some.end) x.1 (sym held ∙ c.in-Some.is))
 
@@ -32,15 +29,13 @@ loop-i-preserved c = record {
       let own = c.args.own in
       let chunk = c.args.chunk.now in
       let inv = c.loop-i.invariant in
-      let size = ap (λ (p : Provisioning). length p.circuits) c.circuits.ensures in
-      let x = some_at circuits i (omega (arith, c.loop-i-test.true, c.len-i-end.ensures.len, size, c.requires.many, near.many)) in
+      let x = some_at circuits i (omega (arith, c.loop-i-test.true, c.len-i-end.ensures.len, c.requires.many, near.many)) in
       let held = c.end_of_other.ensures.held circuits x.0 round (subst (AreNear circuits round) (sym inv.same) near) x.1 in
       inv.passed circuits round near ∙ holder_next own i circuits x.0 round chunk None x.1 (sym held ∙ c.in_default.is));
 }
 
 pub returns-clause-holder : goal.returns-clause-holder
 returns-clause-holder c = λ circuits round near.
-    let size = ap (λ (p : Provisioning). length p.circuits) c.circuits.ensures in
     let past : length circuits ≤ c.loop-i.i =
-    omega (arith, c.loop-i-test.false, c.len-i-end.ensures.len, size, c.requires.many, near.many) in
+    omega (arith, c.loop-i-test.false, c.len-i-end.ensures.len, c.requires.many, near.many) in
     sym (c.loop-i.invariant.passed circuits round near ∙ holder_end c.args.own c.loop-i.i circuits round c.args.chunk.now past)

@@ -10,20 +10,24 @@ use Rattle.sdh_outage_cli.specs.Outages.{outaged_in}
 use Rattle.sdh_outage_cli.specs.Scripts.{outage_walk}
 use Rattle.sdh_outage_cli.specs.Running.{MayList, lines_room}
 use Rattle.sdh_outage_cli.proofs.Listening.{listening_none}
-use Rattle.sdh_outage_cli.proofs.Steps.{few_before, many_then, listed_is, heard_next}
+use Rattle.sdh_outage_cli.specs.Ports.{ports_in}
+use Rattle.sdh_outage_cli.specs.Rooms.{AreRooms}
+use Rattle.sdh_outage_cli.proofs.Steps.{listens_only, rooms_left, few_before, many_then, listed_is, heard_next}
 use Rattle.sdh_outage_cli.proofs.script.OutageRunRunner.settle.Goals as goal
 
 pub begin_all-requires : goal.begin_all-requires
 begin_all-requires g c = c.requires.may.1.1.ready.many
 
 pub settle_with-requires-clause-ready : goal.settle_with-requires-clause-ready
-settle_with-requires-clause-ready g c = λ at is.
-    listening_none c.args.self.now.ring c.args.self.now.listeners.items.items c.begin_all.new.items.items
-    c.args.self.now.listeners.streams.pairs.items
-    (few_before c.args.number _ _ _ c.requires.may.1.1.ring_may) c.requires.may.1.1.ready c.begin_all.ensures.many c.begin_all.ensures.each at (ap (λ (v : World). v.ring) (sym is))
+settle_with-requires-clause-ready g c = λ at is. (
+  listening_none c.args.self.now.ring c.args.self.now.listeners.items.items c.begin_all.new.items.items
+      c.args.self.now.listeners.streams.pairs.items
+      (few_before c.args.number _ _ _ c.requires.may.1.1.ring_may) c.requires.may.1.1.ready c.begin_all.ensures.many c.begin_all.ensures.each at (ap (λ (v : World). v.ring) (sym is)),
+  subst (λ (v : World). AreRooms (ports_in v.ring) c.args.self.now.listeners.rooms.counts.items c.args.self.now.listeners.rooms.rooms.items) (sym is) c.requires.may.1.2,
+)
 
 pub put_step-requires-clause-many : goal.put_step-requires-clause-many
-put_step-requires-clause-many g c = many_then _ _ c.args.limit c.settle_with.new.observer.items.items c.settle_with.new.observer.streams.pairs.items c.in_ok-settle_with.ensures.heard
+put_step-requires-clause-many g c = many_then _ _ c.args.limit c.settle_with.new.listeners.items.items c.settle_with.new.listeners.streams.pairs.items (listens_only c.in_ok-settle_with.ensures.heard)
 
 pub put_step-requires-clause-listing : goal.put_step-requires-clause-listing
 put_step-requires-clause-listing g c =
@@ -41,29 +45,30 @@ pub returns-clause-ok : goal.returns-clause-ok
 returns-clause-ok g c =
     let means = g.P.Plant.fibres in
     let w = world c.args.self.now.ring (means c.args.plant.now) in
-    let left = world c.settle_with.new.self (means c.settle_with.new.plant) in
-    let x = c.in_ok-settle_with.ensures.heard in
+    let left = world c.settle_with.new.ring (means c.settle_with.new.plant) in
+    let x = (listens_only c.in_ok-settle_with.ensures.heard) in
     let told = outaged_in (c.args.number + 1) (course_with x.settles.rounds w) (length x.settles.rounds) in
     record {
       told = told;
       ended = ended_with outage_walk refl c.args.limit (c.args.number + 1) w left x.settles;
       text =
           c.put_step.ensures.bytes ∙ ap (λ l. c.args.text.now.bytes ++ l)
-          (listed_is w left c.args.limit c.settle_with.new.observer.items.items c.settle_with.new.observer.streams.pairs.items x c.args.self.now.listing (c.args.number + 1));
+          (listed_is w left c.args.limit c.settle_with.new.listeners.items.items c.settle_with.new.listeners.streams.pairs.items x c.args.self.now.listing (c.args.number + 1));
     }
 
 pub returns-clause-next : goal.returns-clause-next
 returns-clause-next g c later may =
     let means = g.P.Plant.fibres in
     let w = world c.args.self.now.ring (means c.args.plant.now) in
-    let left = world c.settle_with.new.self (means c.settle_with.new.plant) in
+    let left = world c.settle_with.new.ring (means c.settle_with.new.plant) in
     let s = c.in_ok-settle_with.ensures.step.outcome in
     let long = long_step w.ring left.ring c.args.limit may.1.ring_may.begins c.in_ok-settle_with.ensures.step.numbers in
     let none = λ (port : PortId). c.in_ok-settle_with.ensures.laws.slips port (omega (arith, long.1)) in (
       subst (λ (r : HeldRing). MayList (length r.circuits.circuits) c.args.self.now.listing)
           (sym (settled_held w left c.args.limit s)) may.0,
-      heard_next w left c.args.limit c.settle_with.new.observer.items.items c.settle_with.new.observer.streams.pairs.items c.in_ok-settle_with.ensures.heard c.args.number c.args.self.now.listeners.items.items c.args.self.now.listeners.streams.pairs.items c.requires.few long.0 none
+      heard_next w left c.args.limit c.settle_with.new.listeners.items.items c.settle_with.new.listeners.streams.pairs.items (listens_only c.in_ok-settle_with.ensures.heard) c.args.number c.args.self.now.listeners.items.items c.args.self.now.listeners.streams.pairs.items c.requires.few long.0 none
           (c.in_ok-settle_with.ensures.step.prepared (settled_whole w left c.args.limit s may.1.ring_may.whole)) later may.1,
+      rooms_left w left c.args.limit _ _ _ _ c.in_ok-settle_with.ensures.heard,
     )
 
 pub returns-clause-room : goal.returns-clause-room
