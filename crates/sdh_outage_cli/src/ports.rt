@@ -179,7 +179,7 @@ fn look_here(listener: &mut Listener, node: &NodePorts<'_>, streams: &mut Stream
     ensures streams { streams.new.pairs.items ≡ streams.old.pairs.items }
 {
     let place = node.ring.place_of(port);
-    let there = &node.ring.nodes()[place];
+    let there = node.ring.nodes()[place].node();
     let now = there.outlet(port, node.outlets).delivered();
     let circuits = node.ring.stations().circuits();
     look(listener, circuits, streams, port, now);

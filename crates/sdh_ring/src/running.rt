@@ -104,6 +104,13 @@ impl Running {
     {
         self.ring.node(at).node()
     }
+
+    /// Returns the nodes, by position.
+    pub fn nodes(&self) -> &[Waiting]
+        ensures { result.now ≡ self.now.nodes }
+    {
+        self.ring.nodes.as_slice()
+    }
 }
 
 impl RunsRounds for Running {
