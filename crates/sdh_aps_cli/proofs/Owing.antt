@@ -14,8 +14,8 @@ use Rattle.sdh_world.specs.Held.{HeldRing}
 use Rattle.sdh_world.specs.Rounds.{World}
 use Rattle.sdh_world.specs.Runs.{run, run_with, ArriveIn, course_with}
 use Rattle.sdh_world.specs.Quiet.{Settles}
-use Rattle.sdh_world.specs.Changes.{all_changed, after_stretch, after_stretches, new_world}
-use Rattle.sdh_world.specs.Laws.{AreChangesOf, MayHappen}
+use Rattle.sdh_world.specs.Changes.{all_changed, after_stretches, new_world}
+use Rattle.sdh_world.specs.Laws.{MayHappen}
 use Rattle.sdh_world.specs.Sides.{world_in}
 use Rattle.sdh_plan.specs.declared.step.Step.{Step}
 use Rattle.sdh_plan.specs.declared.step.Step.TheVariants as step
@@ -34,7 +34,7 @@ use Rattle.sdh_scripts.specs.Scripts as scripts
 use Rattle.sdh_scripts.specs.Tellers.{SoFar}
 use Rattle.sdh_scripts.proofs.Outcomes.{refused_ends}
 use Rattle.sdh_owed.specs.Laws.{ring_by}
-use Rattle.sdh_owed.proofs.Standing.{Stands, whole, changed_then, Ended, settled_then, stands_new}
+use Rattle.sdh_owed.proofs.Standing.{Stands, whole, changed_then, Ended, settled_then, stands_new, happens_last}
 use Rattle.sdh_owed.proofs.Steps.{settled_held}
 use Rattle.sdh_aps_cli.specs.Signalled as signalled
 use Rattle.sdh_aps_cli.specs.Signalled.{Signalled, signalled_in, changes_in}
@@ -53,11 +53,6 @@ none_shown ring ids limit earlier before (changes ∷ later) end h = inr h
 no_rounds : (xs : List (List Arrival)) → length xs ≤ 0 → xs ≡ []
 no_rounds [] h = refl
 no_rounds (x ∷ xs) h = absurd (omega arith)
-
-happens_last : (ss : List Stretch) (s : Stretch) (w : World) → MayHappen w ss → AreChangesOf (after_stretches ss w) s.changes
-    → MayHappen w (ss ++ s ∷ [])
-happens_last [] s w may last = (last, tt)
-happens_last (r ∷ ss) s w may last = (may.0, happens_last ss s (after_stretch r w) may.1 last)
 
 -- what a settle step that ended shows is that of its rounds
 shown_by_rounds : (limit number : ℕ) (w : World) (one : Signalled) (left : World) → scripts.Ended signalling_walk limit number w one left

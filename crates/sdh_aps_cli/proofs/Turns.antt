@@ -21,6 +21,7 @@ use Rattle.sdh_laws.proofs.hearing.Staying.{world_low, world_high}
 use Rattle.sdh_owed.proofs.Known.{length-placed}
 use Rattle.sdh_aps_cli.proofs.Alike.{no_run}
 use Rattle.sdh_aps_cli.specs.ByScript.{turns_after, turns_after_all, turns_in}
+use Rattle.sdh_owed.proofs.Counting.{size_all}
 
 -- how many turns the controller at a position is to miss
 abbrev pub turns_at : World → ℕ → ℕ
@@ -77,10 +78,6 @@ turns_changed (Hold q turns) w p low = held_placed turns q w.ring.nodes p low
 turns_changed (Slip port turn count) w p low =
     left_placed (slips_at port turn count) (λ n. refl) (place_of_port w.ring port) w.ring.nodes p
 turns_changed (Now t) w p low = refl
-
-size_all : (cs : List Change) (w : World) → length (all_changed cs w).ring.nodes ≡ length w.ring.nodes
-size_all [] w = refl
-size_all (c ∷ cs) w = size_all cs (changed c w) ∙ size_changed c w
 
 turns_all : (cs : List Change) (w : World) (p : ℕ) → p < length w.ring.nodes
     → turns_at (all_changed cs w) p ≡ turns_after_all p cs (turns_at w p)

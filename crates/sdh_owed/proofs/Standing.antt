@@ -44,6 +44,7 @@ use Rattle.sdh_plan.specs.Scripts as plan
 use Rattle.sdh_promise.specs.Owed.{IsLast}
 use Rattle.sdh_world.specs.Steps.{after_step}
 use Rattle.sdh_node.specs.Stations.{adm}
+use Rattle.sdh_promise.proofs.Rounds.{rounds_last}
 
 -- ---- lists of changes and of stretches
 
@@ -54,10 +55,6 @@ changed_more (c ∷ cs) ds w = changed_more cs ds (changed c w)
 changes_more : (cs ds : List Change) (w : World) → AreChangesOf w cs → AreChangesOf (all_changed cs w) ds → AreChangesOf w (cs ++ ds)
 changes_more [] ds w may more = more
 changes_more (c ∷ cs) ds w may more = (may.0, changes_more cs ds (changed c w) may.1 more)
-
-rounds_last : (ss : List Stretch) (s : Stretch) → rounds_in (ss ++ s ∷ []) ≡ rounds_in ss + s.rounds
-rounds_last [] s = omega arith
-rounds_last (t ∷ ss) s = let r = rounds_last ss s in omega arith
 
 pub happens_last : (ss : List Stretch) (s : Stretch) (w : World) → MayHappen w ss → AreChangesOf (after_stretches ss w) s.changes
     → MayHappen w (ss ++ s ∷ [])

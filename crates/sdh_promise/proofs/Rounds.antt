@@ -5,7 +5,7 @@ use Rattle.sdh_promise.specs.Happened.{happened}
 use Rattle.sdh_promise.specs.Owed.{Ring, PortReport, requests_by, IsLast, IsOwed}
 use Rattle.sdh_promise.specs.Laws.{GoOn, ReportsGoOn, ReportsRemember}
 
-rounds_last : (ss : List Stretch) (s : Stretch) → rounds_in (ss ++ s ∷ []) ≡ rounds_in ss + s.rounds
+pub rounds_last : (ss : List Stretch) (s : Stretch) → rounds_in (ss ++ s ∷ []) ≡ rounds_in ss + s.rounds
 rounds_last [] s = omega arith
 rounds_last (t ∷ ss) s = let r = rounds_last ss s in omega arith
 

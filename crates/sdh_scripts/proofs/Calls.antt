@@ -1,5 +1,5 @@
 -- A call that writes its reports as they come.
-use Rattle.std.proofs.Common.{◌≡◌, ◌≢◌, ℕ, true, None, Some, List, [], ◌++◌, refl, ap, sym, ◌∙◌, subst, inl, inr, arith}
+use Rattle.std.proofs.Common.{◌≡◌, ◌≢◌, ℕ, Bool, true, None, Some, List, [], ◌++◌, refl, ap, sym, ◌∙◌, subst, inl, inr, arith}
 use Rattle.std.specs.Prelude.{◌⊎◌, Option, IfSome, Result, Ok, Err, IsOk}
 use Rattle.std.specs.Io.KnownBytes.{IsAtEnd}
 use Rattle.std.proofs.lemmas.Bool.{false≢true}
@@ -403,6 +403,10 @@ module _ {E : Type 0} (own its : Endings E) (same : own ≡ its) where
 
   pub fault_back : (end : E) → end ≡ its.of status.WriteFault → end ≡ own.of status.WriteFault
   fault_back end e = e ∙ ap (λ (x : Endings E). x.of status.WriteFault) (sym same)
+
+  pub counted_own : (end : E) (exact : Bool) (before after : ℕ) → IsCounted exact (end ≡ its.of status.WriteFault) before after
+      → IsCounted exact (end ≡ own.of status.WriteFault) before after
+  counted_own end exact before after counted = counted_as exact before after (fault_as end) (fault_back end) counted
 
   pub wrote_as : (said how : E) (bytes text : List ℕ) (end : E) (old new : Option (List ℕ)) → said ≡ how → bytes ≡ text
       → WroteEnding its said bytes end old new → WroteEnding own how text end old new

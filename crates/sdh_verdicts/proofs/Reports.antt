@@ -8,12 +8,9 @@ use Rattle.sdh_promise.specs.Owed.{Ring, PortReport, requests_by, IsLast, IsOwed
 use Rattle.sdh_verdicts.specs.Resting.{requests_after}
 use Rattle.sdh_verdicts.specs.Foretold.{AreLong, changes_in, stretches_by, RequestsRest, IsForetold, AreForetold, ReportsAreForetold}
 use Rattle.sdh_verdicts.specs.Foretold.{LastReportsAreForetold}
+use Rattle.sdh_promise.proofs.Rounds.{rounds_last}
 
 -- ---- one stretch more
-
-rounds_last : (ss : List Stretch) (s : Stretch) → rounds_in (ss ++ s ∷ []) ≡ rounds_in ss + s.rounds
-rounds_last [] s = omega arith
-rounds_last (t ∷ ss) s = let r = rounds_last ss s in omega arith
 
 changes_last : (ss : List Stretch) (s : Stretch) → changes_in (ss ++ s ∷ []) ≡ changes_in ss ++ s.changes ∷ []
 changes_last [] s = refl

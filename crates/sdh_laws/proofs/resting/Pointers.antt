@@ -16,9 +16,10 @@ use Rattle.sdh_pointer.specs.Sending.{word_sent, next_sending}
 use Rattle.sdh_pointer.proofs.Bounds.{answer_tells_mode}
 use Rattle.sdh_pointer.proofs.Forms.{normal_word, normal_value}
 use Rattle.sdh_pointer.proofs.Rows.{norm_ndf, norm_up, norm_down, norm_new, norm_ais, norm_same_action}
-use Rattle.sdh_pointer.proofs.Sent.{ais_sent, normal_sent, next_by_action}
+use Rattle.sdh_pointer.proofs.Sent.{normal_sent, next_by_action}
 use Rattle.sdh_pointer.proofs.Settling.{by_event, action_by_event}
 use Rattle.sdh_pointer.proofs.Unmoved.{kept_is_unmoved, unmoved_is_normal, unmoved_is_ais}
+use Rattle.sdh_spans.proofs.Sends.{ais_word}
 
 -- ---- what goes in
 
@@ -35,13 +36,9 @@ state_word (Some v) = word_of form.Normal v
 abbrev pub IsEvenWord : ℕ → Type 0
 IsEvenWord w = (w ≡ 65535) ⊎ ((v : ℕ) × (v ≤ 782) × (w ≡ word_of form.Normal v))
 
-pub ones_sent : (s : Option ℕ) (v : ℕ) → word_sent s action.Ais v ≡ 65535
-unfolding word_of
-ones_sent s v = (ais_sent s v).word
-
 -- a generator that AIS leaves in its state sends the word of its state
 sends_ais : (s : Option ℕ) (v : ℕ) → next_sending s action.Ais v ≡ s → word_sent s action.Ais v ≡ state_word s
-sends_ais s v still = ones_sent s v ∙ ap state_word (sym (next_by_action s action.Ais v) ∙ still)
+sends_ais s v still = ais_word s v ∙ ap state_word (sym (next_by_action s action.Ais v) ∙ still)
 
 sends_normal : (s : Option ℕ) (v : ℕ) → next_sending s action.Normal v ≡ s → word_sent s action.Normal v ≡ state_word s
 sends_normal s v still =
@@ -53,7 +50,7 @@ sends_state s a v (inl e) still = ap (λ x. word_sent s x v) e ∙ sends_ais s v
 sends_state s a v (inr e) still = ap (λ x. word_sent s x v) e.0 ∙ sends_normal s v (ap (λ x. next_sending s x v) (sym e.0) ∙ still)
 
 pub sends_even : (s : Option ℕ) (a : Action) (v : ℕ) → IsEven a v → next_sending s a v ≡ s → IsEvenWord (word_sent s a v)
-sends_even s a v (inl e) still = inl (ap (λ x. word_sent s x v) e ∙ ones_sent s v)
+sends_even s a v (inl e) still = inl (ap (λ x. word_sent s x v) e ∙ ais_word s v)
 sends_even s a v (inr e) still =
     let state : s ≡ Some v = sym still ∙ ap (λ x. next_sending s x v) e.0 ∙ next_by_action s action.Normal v in
     inr (v, e.1, ap₂ (λ y x. word_sent y x v) state e.0 ∙ (normal_sent v v refl).word)

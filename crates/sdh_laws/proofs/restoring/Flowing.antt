@@ -45,7 +45,7 @@ use Rattle.sdh_laws.proofs.converging.Spans.{sending_in, reading_in, word_in, Ta
 use Rattle.sdh_laws.specs.Restoring.Flowing.{Flows, FlowsBehind, IsSilent}
 use Rattle.sdh_laws.proofs.restoring.Landing.{IsAt, ByNew, keeps, answers_there, answered, lands, outside, enabled_taken, enabled_left}
 use Rattle.sdh_rounds.specs.Runs as any_run
-use Rattle.sdh_laws.proofs.resting.Pointers.{ones_sent}
+use Rattle.sdh_spans.proofs.Sends.{ais_word}
 
 -- ---- a generator
 
@@ -301,7 +301,7 @@ module _ (w : World) (whole : IsWhole w) (p : ℕ) (d : Side) (i : ℕ) (inside 
     silent_takes m h =
         subst (Takes w p d i m)
         (ap (word_behind cut) (ap (λ a. word_sent (sending_in w q e i (m - 1)) a (sent (m - 1)).value) (s (m - 1) (omega arith))
-        ∙ ones_sent (sending_in w q e i (m - 1)) (sent (m - 1)).value) ∙ ones_behind cut)
+        ∙ ais_word (sending_in w q e i (m - 1)) (sent (m - 1)).value) ∙ ones_behind cut)
         (taking m (omega arith))
 
     out_of_norm : (j : ℕ) → t + 4 ≤ j → is_norm (reading j).mode ≡ false

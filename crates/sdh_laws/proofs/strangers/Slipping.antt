@@ -24,6 +24,7 @@ use Rattle.sdh_pointer.proofs.Spreading.{values_spread, sending_start, reading_s
 use Rattle.sdh_terminal.specs.Tributaries.{action_of}
 use Rattle.sdh_terminal.specs.Outlets.{chunk_form}
 use Rattle.sdh_laws.proofs.carrying.Clocks.{lasts}
+use Rattle.sdh_spans.proofs.Sends.{ais_word}
 
 -- the clocks of a port before each round: they go on by rounds, and between them only slips may come
 pub record IsSource (clock : ℕ → Clock) : Type 0 where
@@ -46,10 +47,6 @@ never_ais : (f : ChunkForm) → action_of f ≢ action.Ais
 never_ais Plain e = cc
 never_ais Short e = cc
 never_ais Long e = cc
-
-ais_word : (s : Option ℕ) (v : ℕ) → word_sent s action.Ais v ≡ 65535
-unfolding word_of
-ais_word s v = (ais_sent s v).word
 
 -- what a clock does next goes on from its value
 goes_on_by : (c : Clock) (f : ChunkForm) (r : Reading) → next_form c ≡ f → 3 ≤ r.since + c.rest

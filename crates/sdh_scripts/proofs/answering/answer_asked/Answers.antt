@@ -5,7 +5,7 @@ use Rattle.sdh_report.specs.declared.status.Status.TheVariants as status
 use Rattle.sdh_shell.proofs.Failing.{not_err, counted_as}
 use Rattle.sdh_scripts.specs.Calls.{Seen}
 use Rattle.sdh_scripts.proofs.Calls.{own_answer, read_answer, refused_answer, why_refuses, why_none, why_is, is_why, why_never}
-use Rattle.sdh_scripts.proofs.Calls.{refusal_whole, shown_as, fault_as, fault_back, wrote_line}
+use Rattle.sdh_scripts.proofs.Calls.{refusal_whole, shown_as, fault_as, counted_own, wrote_line}
 use Rattle.sdh_scripts.proofs.answering.answer_asked.Goals as goal
 
 pub returns-in-Some-clause-answer : goal.returns-in-Some-clause-answer
@@ -93,8 +93,4 @@ returns-clause-fault g c e =
 
 pub returns-clause-writes : goal.returns-clause-writes
 returns-clause-writes g c =
-    let own = g.M.StreamsPlans.program.endings in
-    let same = c.endings_agree.ensures in
-    let end = c.write_ended.result in
-    counted_as g.W.Sink.exact (g.W.Sink.faults c.args.sink.now) (g.W.Sink.faults c.write_ended.new.sink) (fault_as own _ same end)
-    (fault_back own _ same end) c.write_ended.ensures.writes
+    counted_own g.M.StreamsPlans.program.endings _ c.endings_agree.ensures c.write_ended.result _ _ _ c.write_ended.ensures.writes

@@ -1,8 +1,7 @@
 use Rattle.std.proofs.Common.{◌≡◌, refl, rules}
 use Rattle.sdh_report.specs.Lines.{own_line}
 use Rattle.sdh_report.specs.declared.status.Status.TheVariants as status
-use Rattle.sdh_shell.proofs.Failing.{counted_as}
-use Rattle.sdh_scripts.proofs.Calls.{shown_as, fault_as, fault_back, wrote_as}
+use Rattle.sdh_scripts.proofs.Calls.{shown_as, fault_as, counted_own, wrote_as}
 use Rattle.sdh_scripts.proofs.answering.answer_usage.Goals as goal
 
 pub write_ended-requires : goal.write_ended-requires
@@ -24,8 +23,4 @@ returns-clause-fault g c e =
 
 pub returns-clause-writes : goal.returns-clause-writes
 returns-clause-writes g c =
-    let own = g.M.StreamsPlans.program.endings in
-    let same = c.endings_agree.ensures in
-    let end = c.write_ended.result in
-    counted_as g.W.Sink.exact (g.W.Sink.faults c.args.sink.now) (g.W.Sink.faults c.write_ended.new.sink) (fault_as own _ same end)
-    (fault_back own _ same end) c.write_ended.ensures.writes
+    counted_own g.M.StreamsPlans.program.endings _ c.endings_agree.ensures c.write_ended.result _ _ _ c.write_ended.ensures.writes
