@@ -100,7 +100,7 @@ new_cross s ids circuits at = record {
 abbrev pub at_receiving : Side → (Receiving → Receiving) → Node → Node
 at_receiving side f n = record n { west = if_west side f n.west; east = if_east side f n.east }
 
--- a node whose controller is held for `turns` rounds, in place of those left
+-- a node whose controller is held for `turns` rounds; they replace the rounds that are left of an earlier hold
 abbrev pub held_for : ℕ → Node → Node
 held_for turns n = record n { held = turns }
 

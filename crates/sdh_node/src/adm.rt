@@ -128,7 +128,8 @@ impl Adm {
         self.node.waiting(port)
     }
 
-    /// Keeps what arrived on a side for the next `send`. A second call before it replaces the first.
+    /// Keeps what arrived on a side for the next `send`. If it is called again before that `send`, only what arrived last
+    /// is kept.
     pub fn receive(&mut self, side: Side, arrived: Arrived, frame: &FrameBuf)
         requires { frame.now.rate ≡ self.old.settings.rate }
         ensures node { self.new ≡ at_receiving side (arrived_on (as_arrival arrived frame.now.bytes)) self.old }

@@ -1,4 +1,5 @@
-//! A multiplexer with room for what its ports deliver. Until that is asked for, it stays in the received frames.
+//! A multiplexer with room for what its ports deliver. What they deliver stays in the received frames until it is asked
+//! for.
 ghost use Rattle.std.specs.Prelude.{◌≡◌, ◌/◌, ◌<◌, IfOk, length};
 ghost use Rattle.sdh_ringmap.specs.Rates.{n_of};
 ghost use Rattle.sdh_circuits.specs.Kept.{KeepsRing};

@@ -1,5 +1,5 @@
 -- What a run gives, as its lines show it. The bytes given in all turns, one after the other, are the front of the bytes
--- taken in.
+-- read.
 use Rattle.std.specs.Prelude.{◌≡◌, ◌⊎◌, ℕ, suc, List, [], ◌∷◌, ◌++◌, length, Option}
 use Rattle.std.specs.Io.KnownBytes.{Appends}
 use Rattle.sdh_pointer.specs.declared.reading.Action.{Action}
@@ -44,6 +44,6 @@ pub record TellsFront (bytes text : List ℕ) : Type 0 where
   pub rest : List ℕ
   pub front : all_shown turns ++ rest ≡ bytes
 
--- a text that shows a front of the bytes taken in was appended
+-- a text that shows a front of the bytes read was appended
 abbrev pub WritesFront : List ℕ → Option (List ℕ) → Option (List ℕ) → Type 0
 WritesFront bytes old new = (text : List ℕ) × TellsFront bytes text × Appends old new text

@@ -33,6 +33,6 @@ pub record KeepsPromises (w : World) (limit : ℕ) (result : Result (Unit {0}) S
   -- each port's clock has gone on by the rounds that ran
   pub clocks : result ≢ Err PlantFault → (port : PortId) → HasPortIn w.ring port
       → clock_at left.ring port ≡ clocks_from w port left.ring.rounds
-  -- after a fault, the ports' clocks have gone on by the whole rounds, and by the broken-off one where their nodes had
-  -- it
+  -- after a fault, each port's clock has gone on by the rounds that ended, and by one more if the port's node had run
+  -- the round that was broken off
   pub broken_clocks : result ≡ Err PlantFault → BreaksStep w limit left

@@ -203,8 +203,8 @@ impl Ring {
         // or ones, or what its circuit's other port sent in some earlier round.
         ensures strangers { OnOk result (KeepsStrangersOut (world self.old (P.fibres plant.old)) (world self.new (P.fibres plant.new))) }
 
-        // A fault breaks the ring. Some frames of the round may have been sent before it. The clocks of ports have gone
-        // on at the nodes that had this round before the fault.
+        // A fault breaks the ring. Some frames of the round may have been sent before the fault. The clocks of ports
+        // have gone on by this round at the nodes that ran it before the fault, and at no others.
         ensures err { OnErr result (IsBrokenOff (world self.old (P.fibres plant.old)) (P.fibres plant.new)) }
         ensures broken { OnErr result (self.new.broken ≡ true) }
         ensures breaks { OnErr result (BreaksOne adm (world self.old (P.fibres plant.old)) (world self.new (P.fibres plant.new))) }
@@ -240,7 +240,7 @@ impl Ring {
         ensures step { IsStep adm P.exact (world self.old (P.fibres plant.old)) limit result (world self.new (P.fibres plant.new))
             (P.faults plant.old) (P.faults plant.new) }
 
-        // Traffic is restored, no port meets a stranger, and a step whose limit is large enough ends with a window.
+        // What every settle step keeps: when it restores traffic, keeps strangers out, and has to end with a window.
         ensures laws { KeepsPromises (world self.old (P.fibres plant.old)) limit result (world self.new (P.fibres plant.new)) }
     {
         self.resting().circuits_fit();

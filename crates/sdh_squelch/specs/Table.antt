@@ -22,7 +22,7 @@ circuit_from n s m i [] = None
 circuit_from n s m i (c ∷ cs) =
     if is_on n s m c then Some (record { circuit = i; from = c.from; to = c.to }) else circuit_from n s m (i + 1) cs
 
--- the circuit, of those of a ring of n, whose arc holds span s in slot m; there is at most one
+-- in a ring of n, the one of these circuits whose arc holds span s in slot m; there is at most one
 abbrev pub circuit_on : ℕ → List Provisioned → ℕ → ℕ → Option OnSpan
 circuit_on n circuits s m = circuit_from n s m 0 circuits
 
