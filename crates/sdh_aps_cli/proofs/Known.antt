@@ -1,5 +1,5 @@
 -- What is shown of a settle step depends only on its rounds.
-use Rattle.std.proofs.Common.{◌≡◌, ℕ, ◌+◌, ◌-◌, ◌≤◌, refl, arith}
+use Rattle.std.proofs.Common.{◌≡◌, ℕ, ◌+◌, ◌≤◌, refl, arith}
 use Rattle.sdh_world.specs.Rounds.{World}
 use Rattle.sdh_scripts.specs.Laws.{KeepsRounds}
 use Rattle.sdh_owed.proofs.Known.{no_round}

@@ -1,5 +1,5 @@
 -- What a run of steps writes, step by step.
-use Rattle.std.proofs.Common.{◌≡◌, ◌<◌, ℕ, zero, suc, ◌+◌, ◌-◌, ◌*◌, ◌≤◌, List, [], ◌∷◌, ◌++◌, length, take, drop, get_or, Option, refl, ap}
+use Rattle.std.proofs.Common.{◌≡◌, ◌≢◌, ◌<◌, ℕ, zero, suc, ◌+◌, ◌-◌, ◌*◌, ◌≤◌, List, [], ◌∷◌, ◌++◌, length, take, drop, get_or, Option, refl, ap}
 use Rattle.std.proofs.Common.{sym, ◌∙◌, subst, inl, inr, arith, append-nil, append_assoc, drop-cons, add-one, take-append-drop, take_all}
 use Rattle.std.proofs.lemmas.List.{length-append}
 use Rattle.std.specs.List.{flat_map}
@@ -19,7 +19,8 @@ use Rattle.sdh_scripts.specs.Scripts.{Breaks, Runs}
 use Rattle.sdh_scripts.specs.Texts.{room_for, HasRoom, Went, WritesLast, StopsAt, FailsAt, Lists, WriteFailed}
 use Rattle.sdh_scripts.specs.Streams.{IsTail}
 use Rattle.sdh_scripts.specs.Runners.{WroteStep}
-use Rattle.sdh_scripts.specs.Tellers.{WasToWrite, WroteBegun}
+use Rattle.sdh_scripts.specs.Tellers.{StopsBy, WasToWrite, WroteBegun, ended_by}
+use Rattle.sdh_scripts.specs.declared.teller.StepError.{StepError}
 use Rattle.sdh_scripts.specs.declared.teller.StepError.TheVariants as why
 
 -- the step at a place, and those after it
@@ -115,7 +116,7 @@ module _ {N T : Type 0} (walk : Walk N T) (limit : ℕ) (text_of begun_of : T �
   -- ---- a step ends the script
 
   -- a settle step that was unsettled
-  pub unsettled_stops : (before : ℕ) (w left : World N) (old new : Option (List ℕ)) → Unsettles walk.station w limit left
+  unsettled_stops : (before : ℕ) (w left : World N) (old new : Option (List ℕ)) → Unsettles walk.station w limit left
       → WroteBegun walk limit (before + 1) text_of begun_of w why.Unsettled left old new
       → StopsAt walk limit begun_of before step.Settle w old new (status.Unsettled (before + 1)) left
   unsettled_stops before w left old new u x = record {
@@ -126,7 +127,7 @@ module _ {N T : Type 0} (walk : Walk N T) (limit : ℕ) (text_of begun_of : T �
   }
 
   -- a settle step that a fault broke off
-  pub broken_stops : (before : ℕ) (w left : World N) (old new : Option (List ℕ)) → Breaks walk limit w left.fibres
+  broken_stops : (before : ℕ) (w left : World N) (old new : Option (List ℕ)) → Breaks walk limit w left.fibres
       → WroteBegun walk limit (before + 1) text_of begun_of w why.PlantFault left old new
       → StopsAt walk limit begun_of before step.Settle w old new status.PlantFault left
   broken_stops before w left old new b x = record {
@@ -135,6 +136,14 @@ module _ {N T : Type 0} (walk : Walk N T) (limit : ℕ) (text_of begun_of : T �
     writes = (inr (inr (b, (refl, refl))), x.1, λ other. absurd (other refl));
     text = x.2;
   }
+
+  -- a settle step that didn't end, and no write failed
+  pub error_stops : (e : StepError) (before : ℕ) (w left : World N) (old new : Option (List ℕ)) → StopsBy walk limit w e left
+      → WroteBegun walk limit (before + 1) text_of begun_of w e left old new → ended_by e (before + 1) ≢ status.WriteFault
+      → StopsAt walk limit begun_of before step.Settle w old new (ended_by e (before + 1)) left
+  error_stops why.Unsettled before w left old new u x other = unsettled_stops before w left old new u x
+  error_stops why.PlantFault before w left old new b x other = broken_stops before w left old new b x
+  error_stops why.WriteFault before w left old new b x other = absurd (other refl)
 
   -- ---- a script
 

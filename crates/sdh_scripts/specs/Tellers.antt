@@ -6,6 +6,8 @@ use Rattle.sdh_plant.specs.Fibres.{Arrival}
 use Rattle.sdh_rounds.specs.Held.{World}
 use Rattle.sdh_rounds.specs.Runs.{run_with, ArriveIn, course_with, IsBrokenOff}
 use Rattle.sdh_rounds.specs.Quiet.{EndsWindow, Settles, Unsettles}
+use Rattle.sdh_report.specs.declared.status.Status.{Status}
+use Rattle.sdh_report.specs.declared.status.Status.TheVariants as status
 use Rattle.sdh_scripts.specs.Walks.{Walk}
 use Rattle.sdh_scripts.specs.Scripts.{Ended, Breaks}
 use Rattle.sdh_scripts.specs.declared.teller.StepError.{StepError}
@@ -51,6 +53,12 @@ abbrev pub StopsBy : {N T : Type 0} → Walk N T → ℕ → World N → StepErr
 StopsBy walk limit w Unsettled left = Unsettles walk.station w limit left
 StopsBy walk limit w PlantFault left = Breaks walk limit w left.fibres
 StopsBy walk limit w WriteFault left = Unit {0}
+
+-- how a script ends with settle step `number`, by why the step didn't end
+abbrev pub ended_by : StepError → ℕ → Status
+ended_by Unsettled number = status.Unsettled number
+ended_by PlantFault number = status.PlantFault
+ended_by WriteFault number = status.WriteFault
 
 -- what was to be written where a write failed: the text of the rounds that ran so far, or that of the step, which ended
 abbrev pub WasToWrite : {N T : Type 0} → Walk N T → ℕ → ℕ → (T → List ℕ) → (T → List ℕ) → World N → List ℕ → World N → Type 0

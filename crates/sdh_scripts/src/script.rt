@@ -4,6 +4,7 @@ ghost use Rattle.sdh_basics.specs.Causes.{Rose, IsCounted};
 ghost use Rattle.sdh_rounds.specs.Held.{world};
 ghost use Rattle.sdh_plan.specs.declared.step.Step.{Step};
 ghost use Rattle.sdh_report.specs.declared.status.Status.{Status};
+ghost use Rattle.sdh_scripts.specs.Tellers.{ended_by};
 ghost use Rattle.sdh_scripts.specs.Texts.{room_for, Went, StopsAt, FailsAt, Lists, WriteFailed};
 
 use crate::teller::{StepError, Teller};
@@ -11,6 +12,17 @@ use sdh_plan::Step;
 use sdh_plant::Plant;
 use sdh_report::Status;
 use sdh_shell::Output;
+
+// Returns how a script ends with settle step `number`, by why the step did not end.
+fn ended_by(why: StepError, number: u32) -> Status
+    ensures { result ≡ ended_by why number }
+{
+    match why {
+        StepError::Unsettled => Status::Unsettled(number),
+        StepError::PlantFault => Status::PlantFault,
+        StepError::WriteFault => Status::WriteFault,
+    }
+}
 
 // Runs one step, before which `number` settle steps have ended. Returns the number that have ended after it, or how
 // the script ended.
@@ -51,9 +63,7 @@ fn run_step<O: Output, R: Teller<O>, P: Plant>(
     match step {
         Step::Settle => match runner.settle(plant, limit, number, output) {
             Ok(()) => Ok(number + 1),
-            Err(StepError::Unsettled) => Err(Status::Unsettled(number + 1)),
-            Err(StepError::PlantFault) => Err(Status::PlantFault),
-            Err(StepError::WriteFault) => Err(Status::WriteFault),
+            Err(why) => Err(ended_by(why, number + 1)),
         },
         _ => match runner.change(plant, step) {
             Ok(()) => Ok(number),

@@ -83,5 +83,5 @@ pub record Ended {T E : Type 0} (ask : Option Ask) (texts : List (List ℕ)) (se
   pub usage : how ≡ status.Usage ↔ (ask ≡ None)
   pub own : (how ≢ status.WriteFault) × (how ≢ status.Memory)
   pub read : how ≡ status.Ok → IsAtEnd seen.left_after
-  -- everything was written, where something is asked for, the plan's ring has the user's own failures and no read failed
+  -- where something is asked for, the plan's ring has the user's own failures and no read failed, it ended with `Ok`
   pub complete : ask ≢ None → HasPlanFor texts seen.left → ¬ (Rose seen.reads seen.reads_after) → how ≡ status.Ok

@@ -1,11 +1,10 @@
-use Rattle.std.proofs.Common.{ℕ, sym, subst, arith, [], ◌∷◌, ◌+◌}
+use Rattle.std.proofs.Common.{ℕ, sym, subst, ◌∙◌, arith, [], ◌∷◌, ◌+◌}
 use Rattle.sdh_rounds.specs.Held.{world}
 use Rattle.sdh_plan.specs.declared.step.Step.{Step}
-use Rattle.sdh_report.specs.declared.status.Status.TheVariants as status
+use Rattle.sdh_plan.specs.declared.step.Step.TheVariants as step
+use Rattle.sdh_report.specs.declared.status.Status.{Status}
 use Rattle.sdh_scripts.specs.Texts.{room_for, Went, StopsAt}
-use Rattle.sdh_scripts.specs.Tellers.{StopsBy, WroteBegun}
-use Rattle.sdh_scripts.specs.declared.teller.StepError.{StepError}
-use Rattle.sdh_scripts.proofs.Texts.{room_now, room_next, room_line, settled_went, changed_went, unsettled_stops, broken_stops}
+use Rattle.sdh_scripts.proofs.Texts.{room_now, room_next, room_line, settled_went, changed_went, error_stops}
 use Rattle.sdh_scripts.proofs.script.run_step.Goals as goal
 
 pub settle-requires-clause-room : goal.settle-requires-clause-room
@@ -45,43 +44,21 @@ returns-in-Ok-clause-room g c =
     c.settle.ensures.room (room_for each (c.args.number + 1))
     (subst (λ (k : ℕ). g.O.Output.Takes k c.args.output.now) (sym (room_next each c.args.number few)) c.requires.room)
 
-pub returns-in-Err-Unsettled-clause-stops : goal.returns-in-Err-Unsettled-clause-stops
-returns-in-Err-Unsettled-clause-stops g c other =
+pub returns-in-Err-clause-stops : goal.returns-in-Err-clause-stops
+returns-in-Err-clause-stops g c other =
     let means = g.P.Plant.fibres in
     let t = g.R.Teller in
     let w = world (t.ring c.args.runner.now) (means c.args.plant.now) in
     let left = world (t.ring c.settle.new.self) (means c.settle.new.plant) in
     let old = g.O.Output.written c.args.output.now in
     let new = g.O.Output.written c.settle.new.output in
-    let text_of = t.text_of c.args.runner.now in
     let begun_of = t.begun_of c.args.runner.now in
     let limit = c.args.limit in
     let number = c.args.number in
-    let is = c.in-Err-Unsettled.field-0-is in
-    subst (λ (s : Step). StopsAt t.walk limit begun_of number s w old new (status.Unsettled (number + 1)) left) (sym c.in-Settle.is)
-    (unsettled_stops t.walk limit text_of begun_of number w left old new
-    (subst (λ (why : StepError). StopsBy t.walk limit w why left) is c.in-Err-Unsettled.ensures.err)
-    (subst (λ (why : StepError). WroteBegun t.walk limit (number + 1) text_of begun_of w why left old new) is
-    c.in-Err-Unsettled.ensures.begun))
-
-pub returns-in-Err-PlantFault-clause-stops : goal.returns-in-Err-PlantFault-clause-stops
-returns-in-Err-PlantFault-clause-stops g c other =
-    let means = g.P.Plant.fibres in
-    let t = g.R.Teller in
-    let w = world (t.ring c.args.runner.now) (means c.args.plant.now) in
-    let left = world (t.ring c.settle.new.self) (means c.settle.new.plant) in
-    let old = g.O.Output.written c.args.output.now in
-    let new = g.O.Output.written c.settle.new.output in
-    let text_of = t.text_of c.args.runner.now in
-    let begun_of = t.begun_of c.args.runner.now in
-    let limit = c.args.limit in
-    let number = c.args.number in
-    let is = c.in-Err-PlantFault.field-0-is in
-    subst (λ (s : Step). StopsAt t.walk limit begun_of number s w old new status.PlantFault left) (sym c.in-Settle.is)
-    (broken_stops t.walk limit text_of begun_of number w left old new
-    (subst (λ (why : StepError). StopsBy t.walk limit w why left) is c.in-Err-PlantFault.ensures.err)
-    (subst (λ (why : StepError). WroteBegun t.walk limit (number + 1) text_of begun_of w why left old new) is
-    c.in-Err-PlantFault.ensures.begun))
+    subst (λ (s : Step). StopsAt t.walk limit begun_of number s w old new c.ended_by.result left) (sym c.in-Settle.is)
+    (subst (λ (end : Status). StopsAt t.walk limit begun_of number step.Settle w old new end left) (sym c.ended_by.ensures)
+    (error_stops t.walk limit (t.text_of c.args.runner.now) begun_of c.in-Err.why number w left old new c.in-Err.ensures.err
+    c.in-Err.ensures.begun (λ e. other (c.ended_by.ensures ∙ e))))
 
 pub returns-in-Ok-change-clause-ok : goal.returns-in-Ok-change-clause-ok
 returns-in-Ok-change-clause-ok g c =
