@@ -1,4 +1,4 @@
--- What each report of a script owes, in customers' bytes and by the script alone.
+-- What each report of a script owes, in customers' bytes, by the script and the round of the report alone.
 use Rattle.std.specs.Prelude.{ℕ, ◌≡◌, ◌⊎◌, ◌+◌, ◌-◌, ◌*◌, ◌%◌, ◌≤◌, Bool, List, [], ◌∷◌, ◌++◌}
 use Rattle.sdh_circuits.specs.declared.End.{End}
 use Rattle.sdh_circuits.specs.declared.End.TheVariants.{A, B}

@@ -103,8 +103,8 @@ impl Resting {
         Ok(Resting { ring, spare })
     }
 
-    /// Returns the same nodes, made ready for the rounds of a settle step in which nobody reads the ports. The function
-    /// takes no memory.
+    /// Returns the same nodes, made ready for the rounds of a settle step in which what ports deliver isn't taken out
+    /// after each round. The function takes no memory.
     pub fn wait(self) -> Running
         ensures { result ≡ self }
     {

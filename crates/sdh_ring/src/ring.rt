@@ -44,7 +44,7 @@ use std::marker::Model;
 /// The nodes of a ring, which run in rounds, and what their ports delivered in the last one.
 #[derive(Debug, Drop)]
 pub struct Ring {
-    // `Some`, except while a settle step runs without an observer: for that time the nodes are taken out.
+    // `Some`, except while `settle` or `settle_recording` runs: for that time the nodes are taken out.
     resting: Option<Resting>,
 }
 
@@ -79,10 +79,10 @@ impl Ring {
 
         // A new ring is vouched for (`IsVouched`), whatever the clocks of its ports will be. In such a ring each AU-4
         // under way holds ones, or what one port sent. In a working slot that is a port of the circuit in that slot. In
-        // a protection slot it is a port of a circuit that some node loops round: the node that is the source of the
-        // long K word in the frame. Where the frame goes eastwards, that circuit is in the working slot of the same
-        // number on the source's west span. Where it goes westwards, it is the one on the source's east span. Where the
-        // frame's word isn't a long one with a request, its protection slots hold ones.
+        // protection slot m it is a port of a circuit that some node loops round: the node that is the source of the
+        // long K word in the frame. That circuit is in working slot m on a span of the source: on its west span where
+        // the frame goes eastwards, and on its east span where the frame goes westwards. Where the frame's word isn't a
+        // long one with a request, its protection slots hold ones.
         ensures vouched { IfOk result (λ ring. (f : Fibres) (clocks : PortId → ℕ → Clock) → IsHonest f
             → IsVouched clocks (world ring (prepared settings.rate (length map) f))) }
     {
@@ -114,8 +114,9 @@ impl Ring {
     }
 
     /// Holds the controller of a node for the next `turns` rounds. Rounds that are left of an earlier call no longer
-    /// count. Where the node is idle or isolated, the ring stays vouched for (`IsVouched`). Where the node is switched
-    /// or passes traffic through, the ring isn't vouched for while the node is held.
+    /// count. A ring is vouched for (`IsVouched`) only while each held node is idle or isolated. So the ring stays vouched
+    /// for where this node is one of these. Where the node is switched or passes traffic through, the ring isn't vouched
+    /// for while the node is held.
     pub fn hold(&mut self, at: Pos, turns: u32)
         requires at { at.0 < length self.old.ids }
         requires some { 1 ≤ turns }
@@ -200,7 +201,7 @@ impl Ring {
             → StaysAtRest clocks (world self.new (P.fibres plant.new))) }
 
         // Where the ring is vouched for it stays so, and no port meets a stranger in the round: each port delivers AIS,
-        // or ones, or what its circuit's other port sent in some earlier round.
+        // or ones, or bytes that its circuit's other port sent in some earlier round, of which three may be zeros.
         ensures strangers { OnOk result (KeepsStrangersOut (world self.old (P.fibres plant.old)) (world self.new (P.fibres plant.new))) }
 
         // A fault breaks the ring. Some frames of the round may have been sent before the fault. The clocks of ports
@@ -240,7 +241,7 @@ impl Ring {
         ensures step { IsStep adm P.exact (world self.old (P.fibres plant.old)) limit result (world self.new (P.fibres plant.new))
             (P.faults plant.old) (P.faults plant.new) }
 
-        // What every settle step keeps: when it restores traffic, keeps strangers out, and has to end with a window.
+        // It says when a step restores traffic, when it keeps strangers out, and when it has to end with a window.
         ensures laws { KeepsPromises (world self.old (P.fibres plant.old)) limit result (world self.new (P.fibres plant.new)) }
     {
         self.resting().circuits_fit();
