@@ -97,8 +97,8 @@ impl Adm {
         self.node.command(side, command);
     }
 
-    /// Holds the controller for the next `turns` rounds, 1 to 100. Rounds left of an earlier call no longer count. In a
-    /// held round the node keeps its state and the words that it sends, and does everything else.
+    /// Holds the controller for the next `turns` rounds, 1 to 100. Rounds that remain from an earlier call no longer
+    /// count. In a held round the node keeps its state and the words that it sends, and does everything else.
     pub fn hold(&mut self, turns: u32)
         requires some { 1 ≤ turns }
         requires few { turns ≤ 100 }

@@ -73,10 +73,10 @@ pub record IsLast (n limit ran t : ℕ) : Type 0 where
   pub multiple : t % 128 ≡ 0
 
 -- Each report shows what is owed in its round. The requests and the ports' histories up to that round decide what that
--- is. Before these reports the stretches `earlier` had run and `before` settle steps had ended. The list of lists has
--- the changes before each settle step to come. The number of a report is one more than that of the report before it,
--- and its round shows how many rounds its step ran. At the first settle step without a report the script ended,
--- unsettled or by a fault.
+-- is. The stretches `earlier` had run before these reports, and the settle steps that had ended by then are `before` in
+-- number. The list of lists has the changes before each settle step to come. The number of a report is one more than
+-- that of the report before it, and its round shows how many rounds its step ran. At the first settle step without a
+-- report the script ended, unsettled or by a fault.
 abbrev pub AreOwed : Ring → ℕ → List Stretch → ℕ → List (List Change) → List PortReport → Status → Type 0
 AreOwed ring limit earlier before [] reports end = (reports ≡ []) × ((end ≡ status.Ok) ⊎ (end ≡ status.PlantFault))
 AreOwed ring limit earlier before (changes ∷ later) [] end = (end ≡ status.Unsettled (before + 1)) ⊎ (end ≡ status.PlantFault)

@@ -2,7 +2,7 @@
 ghost use Rattle.std.specs.Prelude.{◌≡◌};
 ghost use Rattle.sdh_retime_cli.specs.Outcome.{number_of};
 
-/// How the program ends. With each status but `WriteFault` and `Memory` goes a text.
+/// How the program ends. Each status but `WriteFault` and `Memory` comes with a text.
 #[derive(Clone, Copy, Debug, PartialEq, Eq)]
 pub enum Status {
     /// All whole chunks were taken in.

@@ -123,8 +123,9 @@ pub fn retime<R: Source, W: Sink>(
     source: &mut R,
     sink: &mut W,
 ) -> u8
-    // The number and the text that is written, where the bytes of the source are known, and where the sink shows what
-    // was written. Where the words aren't digits, the same holds over every source, which is left alone.
+    // `outcome` says which number is returned and which text is written, if the bytes of the source are known, and if
+    // the sink shows what was written. If the words aren't digits, `usage_text` says the same over every source, and the
+    // source is left alone.
     ensures outcome { let reads : Counts = record { before = R.faults source.old; after = R.faults source.new } in
         IfSome (R.left source.old)
         (λ bytes. Answers (words_of words.now) bytes reads result (W.written sink.old) (W.written sink.new)) }

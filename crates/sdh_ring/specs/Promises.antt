@@ -15,7 +15,7 @@ use Rattle.sdh_ring.specs.Faults.{BreaksStep}
 
 pub record KeepsPromises (w : World) (limit : ℕ) (result : Result (Unit {0}) SettleError) (left : World) : Type 0 where
   pub whole : result ≢ Err PlantFault → IsWhole w → IsWhole left
-  -- a step of at least 68 rounds uses up all slips
+  -- a step of at least 68 rounds that ended with a quiet window used up all slips
   pub slips : OnOk result ((port : PortId) → w.ring.rounds + 68 ≤ left.ring.rounds → waiting_at left.ring port ≡ 0)
   -- after a step that ended with a quiet window, where the fibres carry what was sent: each node is in its settled
   -- state, and each port has delivered what it is owed

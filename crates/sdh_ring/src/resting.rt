@@ -142,7 +142,7 @@ impl Resting {
         command_at(&mut self.ring, at.0 as usize, side, command);
     }
 
-    /// Holds the controller of a node for the next `turns` rounds. Rounds that are left of an earlier call no longer
+    /// Holds the controller of a node for the next `turns` rounds. Rounds that remain from an earlier call no longer
     /// count.
     pub fn hold(&mut self, at: Pos, turns: u32)
         requires at { at.0 < length self.old.ids }

@@ -78,11 +78,11 @@ impl Ring {
         ensures whole { IfOk result (λ ring. (f : Fibres) → IsHonest f → IsWhole (world ring (prepared settings.rate (length map) f))) }
 
         // A new ring is vouched for (`IsVouched`), whatever the clocks of its ports will be. In such a ring each AU-4
-        // under way holds ones, or what one port sent. In a working slot that is a port of the circuit in that slot. In
-        // protection slot m it is a port of a circuit that some node loops round: the node that is the source of the
-        // long K word in the frame. That circuit is in working slot m on a span of the source: on its west span where
-        // the frame goes eastwards, and on its east span where the frame goes westwards. Where the frame's word isn't a
-        // long one with a request, its protection slots hold ones.
+        // under way holds ones, or what one port sent. If the AU-4 is in a working slot, this is a port of the circuit
+        // in that slot. If it is in protection slot m, this is a port of a circuit that some node loops round: the node
+        // that is the source of the long K word in the frame. That circuit is in working slot m on a span of the source:
+        // on its west span where the frame goes eastwards, and on its east span where the frame goes westwards. Where
+        // the frame's word isn't a long one with a request, its protection slots hold ones.
         ensures vouched { IfOk result (λ ring. (f : Fibres) (clocks : PortId → ℕ → Clock) → IsHonest f
             → IsVouched clocks (world ring (prepared settings.rate (length map) f))) }
     {
@@ -113,10 +113,10 @@ impl Ring {
         resting.command(at, side, command);
     }
 
-    /// Holds the controller of a node for the next `turns` rounds. Rounds that are left of an earlier call no longer
-    /// count. A ring is vouched for (`IsVouched`) only while each held node is idle or isolated. So the ring stays vouched
-    /// for where this node is one of these. Where the node is switched or passes traffic through, the ring isn't vouched
-    /// for while the node is held.
+    /// Holds the controller of a node for the next `turns` rounds. Rounds that remain from an earlier call no longer
+    /// count. A ring is vouched for (`IsVouched`) only while each held node is idle or isolated. So if this node is idle
+    /// or isolated, a ring that is vouched for stays so. If it is switched or passes traffic through, the ring isn't
+    /// vouched for as long as the node is held.
     pub fn hold(&mut self, at: Pos, turns: u32)
         requires at { at.0 < length self.old.ids }
         requires some { 1 ≤ turns }
@@ -200,7 +200,7 @@ impl Ring {
         ensures rest { OnOk result ((clocks : PortId → ℕ → Clock) → IsAtRest clocks (world self.old (P.fibres plant.old))
             → StaysAtRest clocks (world self.new (P.fibres plant.new))) }
 
-        // Where the ring is vouched for it stays so, and no port meets a stranger in the round: each port delivers AIS,
+        // If the ring is vouched for, it stays so, and no port meets a stranger in the round: each port delivers AIS,
         // or ones, or bytes that its circuit's other port sent in some earlier round, of which three may be zeros.
         ensures strangers { OnOk result (KeepsStrangersOut (world self.old (P.fibres plant.old)) (world self.new (P.fibres plant.new))) }
 
@@ -241,7 +241,8 @@ impl Ring {
         ensures step { IsStep adm P.exact (world self.old (P.fibres plant.old)) limit result (world self.new (P.fibres plant.new))
             (P.faults plant.old) (P.faults plant.new) }
 
-        // It says when a step restores traffic, when it keeps strangers out, and when it has to end with a window.
+        // `KeepsPromises` says when a step restores traffic, when the step keeps strangers out, and when it has to end
+        // with a window.
         ensures laws { KeepsPromises (world self.old (P.fibres plant.old)) limit result (world self.new (P.fibres plant.new)) }
     {
         self.resting().circuits_fit();
@@ -315,9 +316,9 @@ impl Ring {
             (world self.new (P.fibres plant.new)) (P.faults plant.old) (P.faults plant.new)) }
         ensures laws { IfOk result (λ ended. KeepsPromises (world self.old (P.fibres plant.old)) limit ended (world self.new (P.fibres plant.new))) }
 
-        // What is recorded is what should be recorded of the rounds of the step, and of no others. These are all its
-        // rounds where it ended with a quiet window, its whole rounds where it ended with an error, and those up to the
-        // stop where it was stopped.
+        // What is recorded is what should be recorded of these rounds of the step, and of no others: all of them, if it
+        // ended with a quiet window; all but a round that a fault broke off, if it ended with an error; and all up to
+        // the stop, if it was stopped.
         ensures heard { IfOk result (λ ended. OnOk ended (Hears (λ at k. O.Records recorder.old log.old at k recorder.new log.new)
             (world self.old (P.fibres plant.old)) limit (world self.new (P.fibres plant.new)))) }
         ensures begun { IfOk result (λ ended. OnErr ended (HearsSome (λ at k. O.Records recorder.old log.old at k recorder.new log.new)
