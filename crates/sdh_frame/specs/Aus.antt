@@ -22,7 +22,7 @@ is_payload n au i = ((i % n + 1) == au) && nat_le (9 * n) (i % (270 * n))
 abbrev pub is_pointer : ℕ → ℕ → ℕ → Bool
 is_pointer n au i = ((i % n + 1) == au) && (i / (270 * n) == 3) && nat_lt (i % (270 * n)) (9 * n)
 
--- byte i of a frame with this payload in the AU-4, where it was x before
+-- byte i of a frame once this payload is in the AU-4; before that, byte i was x
 unfoldable pub payload_byte : ℕ → ℕ → List ℕ → ℕ → ℕ → ℕ
 payload_byte n au payload i x = if is_payload n au i then slice_index payload (261 * (i / (270 * n)) + (i % (270 * n) - 9 * n) / n) else x
 
@@ -30,7 +30,7 @@ payload_byte n au payload i x = if is_payload n au i then slice_index payload (2
 unfoldable pub with_payload : ℕ → ℕ → List ℕ → List ℕ → List ℕ
 with_payload n au payload bytes = map_from (payload_byte n au payload) 0 bytes
 
--- byte i of a frame with these pointer bytes in the AU-4, where it was x before
+-- byte i of a frame once these pointer bytes are in the AU-4; before that, byte i was x
 unfoldable pub pointer_byte : ℕ → ℕ → List ℕ → ℕ → ℕ → ℕ
 pointer_byte n au pointers i x = if is_pointer n au i then slice_index pointers (i % (270 * n) / n) else x
 

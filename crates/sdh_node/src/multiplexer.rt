@@ -153,8 +153,8 @@ impl Multiplexer {
         self.ports.outlets(alloc)
     }
 
-    /// Takes what each port of the node delivered in the last round out of the frames in which it waits. Before the
-    /// first round that is AIS. The function takes no memory.
+    /// Takes out of the received frames what each port of the node delivered in the last round. Before the first round
+    /// that is AIS. The function takes no memory.
     pub fn deliver(&self, taken: &mut TakenPair, outlets: &mut Outlets)
         requires { length outlets.old ≡ length self.now.ports }
         ensures { outlets.new ≡ outlets_of self.now.ports }

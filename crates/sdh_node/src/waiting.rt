@@ -15,7 +15,7 @@ use std::alloc::{AllocError, Global};
 use std::marker::Model;
 
 /// A multiplexer, and room for what its ports deliver. What they delivered in the last round stays in the frames that
-/// came in that round. An `Adm` takes this form for rounds after which nobody takes the deliveries out.
+/// came in that round. An `Adm` is made into a `Waiting` for rounds whose deliveries nobody asks for.
 #[derive(Debug, Drop)]
 pub struct Waiting {
     pub(crate) node: Multiplexer,

@@ -53,7 +53,8 @@ PortsAreTold =
     (port other : PortId) (turn : Turn) (count : ℕ) (history : List Happening) → same_port port other ≡ false
     → told_by port (Slip other turn count) history ≡ history
 
--- where no span is applied, a port is owed what the customer at its circuit's other end sends, by what happened there
+-- where no span is applied, a port is owed what is due by what the customer at its circuit's other end sends, and so by
+-- what happened there
 abbrev pub OwedByTheOther : Type 0
 OwedByTheOther = (n t index : ℕ) (before : PortId → ℕ → List Happening) (c : Provisioned) (e : End)
     → (owed_port n (λ s. false) before t index c e).outlet ≡ due n (λ s. false) c

@@ -1,4 +1,4 @@
--- What each report of a script owes, in customers' bytes, by the script and the round of the report alone.
+-- What each report of a script owes, in customers' bytes, by the plan and the rounds of the reports.
 use Rattle.std.specs.Prelude.{ℕ, ◌≡◌, ◌⊎◌, ◌+◌, ◌-◌, ◌*◌, ◌%◌, ◌≤◌, Bool, List, [], ◌∷◌, ◌++◌}
 use Rattle.sdh_circuits.specs.declared.End.{End}
 use Rattle.sdh_circuits.specs.declared.End.TheVariants.{A, B}
@@ -73,8 +73,8 @@ pub record IsLast (n limit ran t : ℕ) : Type 0 where
   pub multiple : t % 128 ≡ 0
 
 -- Each report shows what is owed in its round. The requests and the ports' histories up to that round decide what that
--- is. The stretches `earlier` had run before these reports, and the settle steps that had ended by then are `before` in
--- number. The list of lists has the changes before each settle step to come. The number of a report is one more than
+-- is. The stretches `earlier` had run before these reports, and `before` counts the settle steps that had ended by
+-- then. The list of lists has the changes before each settle step to come. The number of a report is one more than
 -- that of the report before it, and its round shows how many rounds its step ran. At the first settle step without a
 -- report the script ended, unsettled or by a fault.
 abbrev pub AreOwed : Ring → ℕ → List Stretch → ℕ → List (List Change) → List PortReport → Status → Type 0

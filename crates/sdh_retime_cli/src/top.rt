@@ -114,9 +114,9 @@ fn answer<R: Source, W: Sink>(
 
 /// Does all that the program does, and returns the number with which it ends. With one word of 1 to 64 digits from 0 to
 /// 6 it reads all bytes of the source and takes them into a store chunk by chunk. Digit g means a chunk of 2346 + g
-/// bytes, and the digits repeat. It writes the lines of every turn up to the end or to a drift, and then how many bytes
-/// were left, or which turn is the drift: the store refuses a chunk after which it would hold too few or too many bytes,
-/// and the run ends there. The text is written once, at the end.
+/// bytes, and the digits repeat. The store refuses a chunk after which it would hold too few or too many bytes: the turn
+/// of that chunk is a drift, and the run ends there. The program writes the lines of every turn up to the end or to the
+/// drift, and then how many bytes were left, or which turn is the drift. The text is written once, at the end.
 pub fn retime<R: Source, W: Sink>(
     alloc: Global,
     words: &[String],

@@ -45,7 +45,7 @@ impl Model for Resting {
     } };
 }
 
-// Moves the nodes from `nodes` to `waiting`, where what they deliver later stays in the received frames.
+// Moves the nodes from `nodes` to `waiting`. From then on what they deliver stays in the received frames.
 fn wait_all(nodes: &mut Vec<Adm>, waiting: &mut Vec<Waiting>)
     requires empty { waiting.old.items ≡ [] }
     requires room { length nodes.old.items ≤ vec_capacity waiting.old }
@@ -103,8 +103,8 @@ impl Resting {
         Ok(Resting { ring, spare })
     }
 
-    /// Returns the same nodes, made ready for the rounds of a settle step in which what ports deliver isn't taken out
-    /// after each round. The function takes no memory.
+    /// Returns the same nodes, made ready for a settle step of one kind: what ports deliver isn't taken out after each
+    /// of its rounds. The function takes no memory.
     pub fn wait(self) -> Running
         ensures { result ≡ self }
     {

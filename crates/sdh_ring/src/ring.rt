@@ -77,12 +77,12 @@ impl Ring {
         // places, and the fibres carry what was sent.
         ensures whole { IfOk result (λ ring. (f : Fibres) → IsHonest f → IsWhole (world ring (prepared settings.rate (length map) f))) }
 
-        // A new ring is vouched for (`IsVouched`), whatever the clocks of its ports will be. In such a ring each AU-4
-        // under way holds ones, or what one port sent. If the AU-4 is in a working slot, this is a port of the circuit
-        // in that slot. If it is in protection slot m, this is a port of a circuit that some node loops round: the node
-        // that is the source of the long K word in the frame. That circuit is in working slot m on a span of the source:
-        // on its west span where the frame goes eastwards, and on its east span where the frame goes westwards. Where
-        // the frame's word isn't a long one with a request, its protection slots hold ones.
+        // A new ring over such fibres is vouched for (`IsVouched`), whatever the clocks of its ports will be. In such a
+        // ring each AU-4 under way holds ones, or what one port sent. If the AU-4 is in a working slot, this is a port
+        // of the circuit in that slot. If it is in protection slot m, the K word in the frame decides. Where that word
+        // is a long one with a request, this is a port of the circuit that is in working slot m on a span of the word's
+        // source: on its west span where the frame goes eastwards, and on its east span where the frame goes westwards.
+        // With any other K word the frame's protection slots hold ones.
         ensures vouched { IfOk result (λ ring. (f : Fibres) (clocks : PortId → ℕ → Clock) → IsHonest f
             → IsVouched clocks (world ring (prepared settings.rate (length map) f))) }
     {
@@ -115,8 +115,8 @@ impl Ring {
 
     /// Holds the controller of a node for the next `turns` rounds. Rounds that remain from an earlier call no longer
     /// count. A ring is vouched for (`IsVouched`) only while each held node is idle or isolated. So if this node is idle
-    /// or isolated, a ring that is vouched for stays so. If it is switched or passes traffic through, the ring isn't
-    /// vouched for as long as the node is held.
+    /// or isolated, a ring that is vouched for stays so. If it is switched or passes traffic through, then while it is
+    /// held the ring isn't vouched for.
     pub fn hold(&mut self, at: Pos, turns: u32)
         requires at { at.0 < length self.old.ids }
         requires some { 1 ≤ turns }

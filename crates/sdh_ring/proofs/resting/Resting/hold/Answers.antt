@@ -15,11 +15,11 @@ hold_at-requires-clause-at c =
 pub invariant_of-self : goal.invariant_of-self
 invariant_of-self c = record {
   ring =
-        let r = c.self.inside.ring in
-        let inv = c.self.invariant.ring in
-        subst IsRing (sym c.hold_at.ensures)
-        (ring_with r _ r.moment r.rounds r.broken inv (all_held c.args.at.0 c.args.turns r.nodes) inv.moment
-        (λ whole. all_on_held c.args.at.0 c.args.turns r.rounds r.moment r.nodes (inv.going whole)));
+      let r = c.self.inside.ring in
+      let inv = c.self.invariant.ring in
+      subst IsRing (sym c.hold_at.ensures)
+      (ring_with r _ r.moment r.rounds r.broken inv (all_held c.args.at.0 c.args.turns r.nodes) inv.moment
+      (λ whole. all_on_held c.args.at.0 c.args.turns r.rounds r.moment r.nodes (inv.going whole)));
   spare = c.self.invariant.spare;
   room = subst (λ (r : HeldRing). length r.ids ≤ vec_capacity c.self.inside.spare) (sym c.hold_at.ensures) c.self.invariant.room;
 }

@@ -22,12 +22,12 @@ is c = let r = c.self.inside.ring in
 pub invariant_of-self : goal.invariant_of-self
 invariant_of-self c = record {
   ring =
-        let r = c.self.inside.ring in
-        let inv = c.self.invariant.ring in
-        subst IsRing (sym (is c))
-        (ring_with r _ r.moment r.rounds r.broken inv
-        (all_slipped (place_of_port r c.args.port) c.args.port c.args.turn c.args.count r.nodes) inv.moment
-        (λ whole. all_on_slipped r c.args.port c.args.turn c.args.count r.rounds r.moment (few c) (inv.going whole)));
+      let r = c.self.inside.ring in
+      let inv = c.self.invariant.ring in
+      subst IsRing (sym (is c))
+      (ring_with r _ r.moment r.rounds r.broken inv
+      (all_slipped (place_of_port r c.args.port) c.args.port c.args.turn c.args.count r.nodes) inv.moment
+      (λ whole. all_on_slipped r c.args.port c.args.turn c.args.count r.rounds r.moment (few c) (inv.going whole)));
   spare = c.self.invariant.spare;
   room = subst (λ (r : HeldRing). length r.ids ≤ vec_capacity c.self.inside.spare) (sym c.slip_at.ensures) c.self.invariant.room;
 }

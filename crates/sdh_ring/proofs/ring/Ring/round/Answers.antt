@@ -15,7 +15,7 @@ returns g c =
     let left = world c.round.new.self (g.P.Plant.fibres c.round.new.plant) in
     let is = there c.self.inside.resting c.in-Some.resting c.args.self.now c.in-Some.is c.self.view_is in
     let one = subst (λ (r : HeldRing). IsOneRound adm g.P.Plant.exact (world r f) c.round.result left
-        (g.P.Plant.faults c.args.plant.now) (g.P.Plant.faults c.round.new.plant)) is c.round.ensures in
+    (g.P.Plant.faults c.args.plant.now) (g.P.Plant.faults c.round.new.plant)) is c.round.ensures in
     let fit = subst (λ (r : HeldRing). HasCircuits (layout_in r)) is c.circuits_fit.ensures in
     record {
       ok = one.ok;

@@ -19,7 +19,7 @@ returns-clause-laws g c =
     (sym c.take.ensures.value ∙ c.in-Some.is) c.self.view_is in
     let fit = subst (λ (r : HeldRing). HasCircuits (layout_in r)) (c.resting.ensures ∙ sym begun) c.circuits_fit.ensures in
     let rested = subst (λ (r : HeldRing). (port : PortId) → HasPortIn r port → IsRested (clock_at r port))
-        (c.resting-2.ensures ∙ sym begun) c.few_slips_wait.ensures in
+    (c.resting-2.ensures ∙ sym begun) c.few_slips_wait.ensures in
     let step = c.settle-result.ensures.step in
     let kept = promises_kept (record {
       whole = c.steps_stay_whole.ensures;
@@ -29,7 +29,7 @@ returns-clause-laws g c =
       answers = c.steps_answer.ensures;
       strangers = c.steps_keep_strangers_out.ensures;
     }) (world c.wait-running.result f) (world c.settle-result.new.ring end) c.args.limit c.settle-result.result fit rested step.outcome
-        step.breaks in
+    step.breaks in
     subst (λ (r : HeldRing). KeepsPromises (world c.args.self.now f) c.args.limit c.settle-result.result (world r end))
     (sym c.deliver.ensures)
     (subst (λ (r : HeldRing). KeepsPromises (world r f) c.args.limit c.settle-result.result (world c.settle-result.new.ring end)) begun kept)

@@ -26,18 +26,18 @@ returns-clause-laws g c =
     let from = begun g c in
     let fit = subst (λ (r : HeldRing). HasCircuits (layout_in r)) (c.resting.ensures ∙ sym from) c.circuits_fit.ensures in
     let rested = subst (λ (r : HeldRing). (port : PortId) → HasPortIn r port → IsRested (clock_at r port))
-        (c.resting-2.ensures ∙ sym from) c.few_slips_wait.ensures in
+    (c.resting-2.ensures ∙ sym from) c.few_slips_wait.ensures in
     let kept = on_ok c.settle_recording-ended.result _ _
-        (λ ended step. promises_kept (record {
-          whole = c.steps_stay_whole.ensures;
-          restored = c.settled_rings_are_restored.ensures;
-          rests = c.steps_leave_at_rest.ensures;
-          soon = c.unsettled_rings_are_restored.ensures;
-          answers = c.steps_answer.ensures;
-          strangers = c.steps_keep_strangers_out.ensures;
-        }) (world c.wait-running.result f) (world c.settle_recording-ended.new.ring end) c.args.limit ended fit rested
-            step.outcome step.breaks)
-        c.settle_recording-ended.ensures.step in
+    (λ ended step. promises_kept (record {
+      whole = c.steps_stay_whole.ensures;
+      restored = c.settled_rings_are_restored.ensures;
+      rests = c.steps_leave_at_rest.ensures;
+      soon = c.unsettled_rings_are_restored.ensures;
+      answers = c.steps_answer.ensures;
+      strangers = c.steps_keep_strangers_out.ensures;
+    }) (world c.wait-running.result f) (world c.settle_recording-ended.new.ring end) c.args.limit ended fit rested
+    step.outcome step.breaks)
+    c.settle_recording-ended.ensures.step in
     subst (λ (r : HeldRing). IfOk c.settle_recording-ended.result (λ ended. KeepsPromises (world c.args.self.now f) c.args.limit ended (world r end)))
     (sym c.deliver.ensures)
     (subst (λ (r : HeldRing). IfOk c.settle_recording-ended.result
