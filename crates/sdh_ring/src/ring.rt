@@ -78,11 +78,11 @@ impl Ring {
         ensures whole { IfOk result (λ ring. (f : Fibres) → IsHonest f → IsWhole (world ring (prepared settings.rate (length map) f))) }
 
         // A new ring over such fibres is vouched for (`IsVouched`), whatever the clocks of its ports will be. In such a
-        // ring each AU-4 under way holds ones, or what one port sent. If the AU-4 is in a working slot, this is a port
-        // of the circuit in that slot. If it is in protection slot m, the K word in the frame decides. Where that word
-        // is a long one with a request, this is a port of the circuit that is in working slot m on a span of the word's
-        // source: on its west span where the frame goes eastwards, and on its east span where the frame goes westwards.
-        // With any other K word the frame's protection slots hold ones.
+        // ring each AU-4 under way holds ones, or what one port sent. Which port that may be follows from the AU-4's
+        // slot. In a working slot it is a port of the circuit in that slot. In protection slot m the K word in the
+        // frame decides. If that word is a long one with a request, it is a port of the circuit in working slot m on a
+        // span of the node that the word names as its source: the node's west span where the frame goes eastwards, and
+        // its east span where the frame goes westwards. With any other K word the frame's protection slots hold ones.
         ensures vouched { IfOk result (λ ring. (f : Fibres) (clocks : PortId → ℕ → Clock) → IsHonest f
             → IsVouched clocks (world ring (prepared settings.rate (length map) f))) }
     {
@@ -391,7 +391,7 @@ impl Ring {
         self.resting().node_of(port).value(port)
     }
 
-    /// Returns how many rounds have run. They are numbered from 0, so the last one has a number one below that.
+    /// Returns how many rounds have run. They are numbered from 0, so the number of the last one is less by one.
     pub fn rounds(&self) -> u64
         ensures { result ≡ self.now.rounds }
     {
