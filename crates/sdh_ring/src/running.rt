@@ -1,4 +1,4 @@
-//! The nodes of a ring during a settle step in which what its ports deliver isn't taken out after each round.
+//! The nodes of a ring during a settle step that doesn't take out after each round what its ports deliver.
 ghost use Rattle.std.specs.Prelude.{◌≡◌, ◌≤◌, ◌<◌, [], Some, length, slice_get, vec_capacity};
 ghost use Rattle.sdh_terminal.specs.Tributaries.{HasPort, outlet_of};
 ghost use Rattle.sdh_world.specs.Held.{node_at, place_of_port, outlet_at};
