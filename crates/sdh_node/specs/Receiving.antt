@@ -81,8 +81,8 @@ commanded_by c r = record r { local = after_happening (commanded c) r.local }
 abbrev pub arrived_on : Arrival → Receiving → Receiving
 arrived_on a r = record r { arrived = Some a }
 
--- A change f of the side that is given first. `if_west` is what it does to the west side, and `if_east` what it does to
--- the east side: nothing, where that isn't the given side.
+-- The first argument names a side, and f is a change of that side. `if_west` is what the change does to the west side,
+-- and `if_east` what it does to the east side: nothing, where that isn't the side named.
 abbrev pub if_west : Side → (Receiving → Receiving) → Receiving → Receiving
 if_west West f r = f r
 if_west East f r = r

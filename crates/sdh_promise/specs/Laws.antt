@@ -30,8 +30,8 @@ ReportsGoOn =
     (ring : Ring) (limit : ℕ) (earlier : List Stretch) (before : ℕ) (later : List (List Change)) (reports : List PortReport) (end : Status)
     → 2 ≤ ring.nodes → AreOwed ring limit earlier before later reports end → GoOn limit (rounds_in earlier) reports
 
--- The first two reports of a script show what is owed. For the first report that follows from the changes `one` and the
--- k rounds after them. For the second it follows from these together with the changes `two` and m more rounds.
+-- The first two reports of a script show what is owed. What the first one owes follows from the changes `one` and the k
+-- rounds after them. What the second one owes follows from these together with the changes `two` and m more rounds.
 abbrev pub ReportsRemember : Type 0
 ReportsRemember =
     (ring : Ring) (limit : ℕ) (one two : List Change) (later : List (List Change)) (r s : PortReport) (reports : List PortReport) (end : Status)
@@ -53,8 +53,8 @@ PortsAreTold =
     (port other : PortId) (turn : Turn) (count : ℕ) (history : List Happening) → same_port port other ≡ false
     → told_by port (Slip other turn count) history ≡ history
 
--- where no span is applied, a port is owed what is due by what the customer at its circuit's other end sends, and so by
--- what happened there
+-- where no span is applied, what a port is owed follows, by `due`, from what the customer at its circuit's other end
+-- sends, and so from what happened there
 abbrev pub OwedByTheOther : Type 0
 OwedByTheOther = (n t index : ℕ) (before : PortId → ℕ → List Happening) (c : Provisioned) (e : End)
     → (owed_port n (λ s. false) before t index c e).outlet ≡ due n (λ s. false) c

@@ -12,7 +12,7 @@ pub fn reports_go_on()
     ensures { ReportsGoOn }
 {}
 
-/// The first two reports of a script show what is owed. All that happened before a report decides what that is.
+/// The first two reports of a script show what is owed: what follows from all that happened before each of them.
 pub fn reports_remember()
     ensures { ReportsRemember }
 {}

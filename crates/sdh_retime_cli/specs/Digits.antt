@@ -29,7 +29,7 @@ offset_at digits (suc k) = offset_at digits k + size_at digits k
 abbrev pub chunk_at : List ℕ → List ℕ → ℕ → List ℕ
 chunk_at digits bytes k = take (size_at digits k) (drop (offset_at digits k) bytes)
 
--- the first k chunks, the last one first
+-- chunks 0 to k - 1 in a list that begins with chunk k - 1
 unfoldable pub chunks : List ℕ → List ℕ → ℕ → List (List ℕ)
 chunks digits bytes zero = []
 chunks digits bytes (suc k) = chunk_at digits bytes k ∷ chunks digits bytes k

@@ -118,18 +118,18 @@ pub record TellsUnsteady (digits : List ℕ) (turn : ℕ) (text : List ℕ) : Ty
   pub lines : List ℕ
   pub text_is : text ≡ lines ++ drift_line turn
 
--- there is one word, and the last line of the text names a turn: some four chunks in a row, the last of them in that
+-- there is one word, the last line of the text names a turn, and some four chunks in a row, the last of them in that
 -- turn or before it, are unsteady
 abbrev pub AreUnsteady : List (List ℕ) → ℕ → List ℕ → Type 0
 AreUnsteady words turn text = (digits : List ℕ) × (words ≡ digits ∷ []) × TellsUnsteady digits turn text
 
--- a text was appended whose last line names a turn: some four chunks in a row, the last of them in that turn or before
--- it, are unsteady
+-- a text was appended whose last line names a turn, and some four chunks in a row, the last of them in that turn or
+-- before it, are unsteady
 abbrev pub WritesUnsteady : List (List ℕ) → ℕ → Option (List ℕ) → Option (List ℕ) → Type 0
 WritesUnsteady words turn old new = (text : List ℕ) × AreUnsteady words turn text × Appends old new text
 
--- a run of digits ends with a drift only where some four chunks in a row are unsteady, the last of them in the turn
--- that is the drift or before it
+-- the program's run by some digits ends with a drift only where some four chunks in a row are unsteady, the last of
+-- them in the turn that is the drift or before it
 abbrev pub DriftsAreUnsteady : Type 0
 DriftsAreUnsteady =
     (digits bytes : List ℕ) (k turn : ℕ) (text : List ℕ) → IsDigits digits → IsDrift digits bytes k turn text → UnsteadyBy digits turn

@@ -1,4 +1,4 @@
-//! Laws of runs of digits. The function does nothing, and its contract is the law.
+//! A law of the program's runs. The function does nothing, and its contract is the law.
 ghost use Rattle.sdh_retime_cli.specs.Outcome.{DriftsAreUnsteady};
 
 /// A drift is a turn whose chunk the store refuses, since it would then hold too few or too many bytes. A drift comes

@@ -103,8 +103,8 @@ impl Resting {
         Ok(Resting { ring, spare })
     }
 
-    /// Returns the same nodes, made ready for a settle step of one kind: what ports deliver isn't taken out after each
-    /// of its rounds. The function takes no memory.
+    /// Returns the same nodes, made ready for a settle step that doesn't take out after each round what ports deliver.
+    /// The function takes no memory.
     pub fn wait(self) -> Running
         ensures { result ≡ self }
     {
@@ -196,7 +196,7 @@ impl Resting {
         self.ring.node_of(port)
     }
 
-    /// Returns how many rounds have run. They are numbered from 0, so the last one has a number one below that.
+    /// Returns how many rounds have run. They are numbered from 0, so the number of the last one is less by one.
     pub fn rounds(&self) -> u64
         ensures { result ≡ self.now.rounds }
     {

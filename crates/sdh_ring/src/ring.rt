@@ -78,11 +78,11 @@ impl Ring {
         ensures whole { IfOk result (λ ring. (f : Fibres) → IsHonest f → IsWhole (world ring (prepared settings.rate (length map) f))) }
 
         // A new ring over such fibres is vouched for (`IsVouched`), whatever the clocks of its ports will be. In such a
-        // ring each AU-4 under way holds ones, or what one port sent. If the AU-4 is in a working slot, this is a port
-        // of the circuit in that slot. If it is in protection slot m, the K word in the frame decides. Where that word
-        // is a long one with a request, this is a port of the circuit that is in working slot m on a span of the word's
-        // source: on its west span where the frame goes eastwards, and on its east span where the frame goes westwards.
-        // With any other K word the frame's protection slots hold ones.
+        // ring each AU-4 under way holds ones, or what one port sent. Which port that may be follows from the AU-4's
+        // slot. In a working slot it is a port of the circuit in that slot. In protection slot m the K word in the
+        // frame decides. A long word with a request names a node as its source. With such a word the port is one of a
+        // circuit in working slot m: of the one on that node's west span where the frame goes eastwards, and of the one
+        // on its east span where the frame goes westwards. With any other K word the frame's protection slots hold ones.
         ensures vouched { IfOk result (λ ring. (f : Fibres) (clocks : PortId → ℕ → Clock) → IsHonest f
             → IsVouched clocks (world ring (prepared settings.rate (length map) f))) }
     {
@@ -204,8 +204,8 @@ impl Ring {
         // or ones, or bytes that its circuit's other port sent in some earlier round, of which three may be zeros.
         ensures strangers { OnOk result (KeepsStrangersOut (world self.old (P.fibres plant.old)) (world self.new (P.fibres plant.new))) }
 
-        // A fault breaks the ring. Some frames of the round may have been sent before the fault. The clocks of ports
-        // have gone on by this round at the nodes that ran it before the fault, and at no others.
+        // A fault breaks the ring. Some frames of the round may have been sent before the fault. At the nodes that ran
+        // this round before the fault, the clocks of ports have gone on by one round, and at no others.
         ensures err { OnErr result (IsBrokenOff (world self.old (P.fibres plant.old)) (P.fibres plant.new)) }
         ensures broken { OnErr result (self.new.broken ≡ true) }
         ensures breaks { OnErr result (BreaksOne adm (world self.old (P.fibres plant.old)) (world self.new (P.fibres plant.new))) }
@@ -316,9 +316,9 @@ impl Ring {
             (world self.new (P.fibres plant.new)) (P.faults plant.old) (P.faults plant.new)) }
         ensures laws { IfOk result (λ ended. KeepsPromises (world self.old (P.fibres plant.old)) limit ended (world self.new (P.fibres plant.new))) }
 
-        // What is recorded is what should be recorded of these rounds of the step, and of no others: all of them, if it
-        // ended with a quiet window; all but a round that a fault broke off, if it ended with an error; and all up to
-        // the stop, if it was stopped.
+        // What is recorded is what should be recorded of some rounds of the step, and of no others. If the step ended
+        // with a quiet window, they are all its rounds. If it ended with an error, they are all but a round that a fault
+        // broke off. If it was stopped, they are all up to the stop.
         ensures heard { IfOk result (λ ended. OnOk ended (Hears (λ at k. O.Records recorder.old log.old at k recorder.new log.new)
             (world self.old (P.fibres plant.old)) limit (world self.new (P.fibres plant.new)))) }
         ensures begun { IfOk result (λ ended. OnErr ended (HearsSome (λ at k. O.Records recorder.old log.old at k recorder.new log.new)
@@ -391,7 +391,7 @@ impl Ring {
         self.resting().node_of(port).value(port)
     }
 
-    /// Returns how many rounds have run. They are numbered from 0, so the last one has a number one below that.
+    /// Returns how many rounds have run. They are numbered from 0, so the number of the last one is less by one.
     pub fn rounds(&self) -> u64
         ensures { result ≡ self.now.rounds }
     {

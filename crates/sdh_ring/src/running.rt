@@ -1,4 +1,4 @@
-//! The nodes of a ring during a settle step of one kind: what its ports deliver isn't taken out after each round.
+//! The nodes of a ring during a settle step that doesn't take out after each round what its ports deliver.
 ghost use Rattle.std.specs.Prelude.{◌≡◌, ◌≤◌, ◌<◌, [], Some, length, slice_get, vec_capacity};
 ghost use Rattle.sdh_terminal.specs.Tributaries.{HasPort, outlet_of};
 ghost use Rattle.sdh_world.specs.Held.{node_at, place_of_port, outlet_at};
@@ -83,7 +83,7 @@ impl Running {
         self.ring.place_of(port)
     }
 
-    /// Returns how many rounds have run. They are numbered from 0, so the last one has a number one below that.
+    /// Returns how many rounds have run. They are numbered from 0, so the number of the last one is less by one.
     pub fn rounds(&self) -> u64
         ensures { result ≡ self.now.rounds }
     {

@@ -248,7 +248,7 @@ impl PathRing {
         self.outlet(port).value()
     }
 
-    /// Returns how many rounds have run. They are numbered from 0, so the last one has a number one below that.
+    /// Returns how many rounds have run. They are numbered from 0, so the number of the last one is less by one.
     pub fn rounds(&self) -> u64
         ensures { result ≡ self.now.rounds }
     {
