@@ -69,7 +69,7 @@ is_failed defect.None = false
 is_failed defect.Sd = false
 is_failed defect.Sf = true
 
--- what the node needs and hears
+-- the local request of each side, whether the side fails (`needs_of`), and the word heard on it (`heard_words`)
 abbrev pub needs_of : Cross → Needs
 needs_of x = record {
   west = x.west.request;

@@ -271,8 +271,10 @@ impl Multiplexer {
     }
 }
 
-// What decides whether a round is calm. `counts` says whether it may be calm at all. Each other field is the result of
-// one call: whether what that call compares is as before.
+// What decides whether a round is calm. `counts` says whether it may be calm at all. Each other field says that
+// something is as it was after the round before: the local requests, the words heard and the pointer interpreters
+// (`taken`), the state (`decided`), the word of a side (`west_said`, `east_said`), the pointer generators of a side
+// (`west_made`, `east_made`).
 #[derive(Drop)]
 struct Signs {
     counts: bool,

@@ -11,18 +11,22 @@ use Rattle.sdh_world.specs.Rounds.{World}
 abbrev pub RanOne : (ℕ → World) → ℕ → HeldRing → Type 0
 RanOne = observed.RanOne adm
 
--- a settle step that ended with a quiet window, and what is kept of its rounds
+-- `Hears kept w limit left`: a settle step led from w to left and ended with a quiet window. `kept` holds of the course
+-- of its rounds and of their number.
 abbrev pub Hears : ((ℕ → World) → ℕ → Type 0) → World → ℕ → World → Type 0
 Hears = observed.Hears adm
 
--- the rounds of a settle step that have run so far, and what is kept of them
+-- `RanSome kept w limit mid`: rounds of a settle step led from w to mid, and none before the last of them ended a quiet
+-- window. `kept` holds of their course and their number.
 abbrev pub RanSome : ((ℕ → World) → ℕ → Type 0) → World → ℕ → World → Type 0
 RanSome = observed.RanSome adm
 
--- a settle step that didn't end with a quiet window, and what is kept of its whole rounds
+-- `HearsSome kept w limit left`, for a step that ended with an error: `RanSome` holds up to some world. After it no other
+-- round ran, or a fault broke the next one off.
 abbrev pub HearsSome : ((ℕ → World) → ℕ → Type 0) → World → ℕ → World → Type 0
 HearsSome = observed.HearsSome adm
 
--- a settle step that was stopped after a round, and what is kept of its rounds
+-- `IsStopped exact kept w limit left before after`: a recorder stopped the step at left, and `RanSome` holds up to there.
+-- `before` and `after` are the plant's counts of faults. If these counts are exact, they are equal.
 abbrev pub IsStopped : Bool → ((ℕ → World) → ℕ → Type 0) → World → ℕ → World → ℕ → ℕ → Type 0
 IsStopped = observed.IsStopped adm

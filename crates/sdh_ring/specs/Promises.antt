@@ -27,8 +27,8 @@ pub record KeepsPromises (w : World) (limit : ℕ) (result : Result (Unit {0}) S
   -- a ring that is vouched for (`IsVouched` in `sdh_laws/specs/Strangers/Vouched`) stays so, and no port meets a
   -- stranger in any round of the step
   pub strangers : result ≢ Err PlantFault → KeepsStrangersOutInAll w left
-  -- where the fibres carry what was sent, a step with a limit that is always enough is never unsettled, whatever
-  -- happened before it
+  -- where the fibres carry what was sent, a step whose limit is at least 64n + 512 rounds (`enough_for`) is not
+  -- unsettled, whatever happened before it
   pub answers : IsWhole w → enough_for (length w.ring.ids) ≤ limit → result ≢ Err Unsettled
   -- each port's clock has gone on by the rounds that ran
   pub clocks : result ≢ Err PlantFault → (port : PortId) → HasPortIn w.ring port

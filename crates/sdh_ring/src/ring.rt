@@ -78,11 +78,12 @@ impl Ring {
         ensures whole { IfOk result (λ ring. (f : Fibres) → IsHonest f → IsWhole (world ring (prepared settings.rate (length map) f))) }
 
         // A new ring over such fibres is vouched for (`IsVouched`), whatever the clocks of its ports will be. In such a
-        // ring each AU-4 under way holds ones, or what one port sent. Which port that may be follows from the AU-4's
-        // slot. In a working slot it is a port of the circuit in that slot. In protection slot m the K word in the
-        // frame decides. A long word with a request names a node as its source. With such a word the port is one of a
-        // circuit in working slot m: of the one on that node's west span where the frame goes eastwards, and of the one
-        // on its east span where the frame goes westwards. With any other K word the frame's protection slots hold ones.
+        // ring each AU-4 under way holds ones, or what one particular port sent. In working slot m this is a port of the
+        // circuit in that slot of the span: port A if the frame goes eastwards, and port B if it goes westwards. In
+        // protection slot m it depends on the K word in the frame. A long word with a request names a node as its source.
+        // If the frame goes eastwards, the port is port B of the circuit in working slot m on that node's west span. If it
+        // goes westwards, it is port A of the circuit in working slot m on that node's east span. Where there is no such
+        // circuit, or the K word is any other, the AU-4 holds ones.
         ensures vouched { IfOk result (λ ring. (f : Fibres) (clocks : PortId → ℕ → Clock) → IsHonest f
             → IsVouched clocks (world ring (prepared settings.rate (length map) f))) }
     {
@@ -279,8 +280,8 @@ impl Ring {
             (P.faults plant.old) (P.faults plant.new) }
         ensures laws { KeepsPromises (world self.old (P.fibres plant.old)) limit result (world self.new (P.fibres plant.new)) }
 
-        // What the observer keeps after a step that ended with a quiet window is what it should keep of all rounds of
-        // that step, and of no others.
+        // After a step that ended with a quiet window, the observer keeps what `Heard` says of all rounds of that step,
+        // and of no other round.
         ensures heard { OnOk result
             (Hears (λ at k. O.Heard at k observer.new) (world self.old (P.fibres plant.old)) limit (world self.new (P.fibres plant.new))) }
     {
@@ -316,9 +317,9 @@ impl Ring {
             (world self.new (P.fibres plant.new)) (P.faults plant.old) (P.faults plant.new)) }
         ensures laws { IfOk result (λ ended. KeepsPromises (world self.old (P.fibres plant.old)) limit ended (world self.new (P.fibres plant.new))) }
 
-        // What is recorded is what should be recorded of some rounds of the step, and of no others. If the step ended
-        // with a quiet window, they are all its rounds. If it ended with an error, they are all but a round that a fault
-        // broke off. If it was stopped, they are all up to the stop.
+        // Recorder and log are what `Records` says of the following rounds of the step and of no others. If the step
+        // ended with a quiet window, they are all its rounds. If it ended with an error, they are all but a round that a
+        // fault broke off. If it was stopped, recorder and log are what `Stops` says of all rounds up to the stop.
         ensures heard { IfOk result (λ ended. OnOk ended (Hears (λ at k. O.Records recorder.old log.old at k recorder.new log.new)
             (world self.old (P.fibres plant.old)) limit (world self.new (P.fibres plant.new)))) }
         ensures begun { IfOk result (λ ended. OnErr ended (HearsSome (λ at k. O.Records recorder.old log.old at k recorder.new log.new)
