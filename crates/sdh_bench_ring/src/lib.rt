@@ -206,7 +206,8 @@ fn chunks_in(ring: &Ring) -> u32
 
 /// Makes a ring of these nodes at the rate n, 4 or 16, with `circuits` circuits and `cuts` cut spans, and runs `steps`
 /// settle steps of 128 rounds. Each circuit takes four letters of `names` as its name. Returns the number of ports that
-/// delivered a chunk in the last round, or 1,000 where there is no such ring, memory runs out, or a call of the plant fails.
+/// delivered a chunk in the last round, or 1,000 where there is no such ring, memory runs out, or a call of the plant
+/// fails.
 #[unsafe(no_mangle)]
 pub extern "C" fn sdh_bench_ring(
     alloc: Global,

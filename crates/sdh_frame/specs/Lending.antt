@@ -1,5 +1,5 @@
--- What a frame is once its bytes were borrowed for writing. `the_row` is the contract's name for the type `FrameBuf`, and
--- has nothing to do with the rows of a frame.
+-- What a frame is once its bytes were borrowed for writing. `the_row` is the contract's name for the type `FrameBuf`,
+-- and has nothing to do with the rows of a frame.
 use Rattle.std.specs.Prelude.{ℕ, List, ◌++◌, ◌+◌, ◌*◌, ◌-◌, take, drop, length}
 use Rattle.std.specs.Borrow.{Lends, MutBor, Fml, u8, Array}
 use Rattle.sdh_frame.specs.Sizes.{Frame}

@@ -65,8 +65,8 @@ impl Adm {
         Ok(waiting.deliver())
     }
 
-    /// Returns the same node as a `Waiting`: in its rounds what the ports deliver stays in the received frames until it is
-    /// asked for.
+    /// Returns the same node as a `Waiting`: in its rounds what the ports deliver stays in the received frames until it
+    /// is asked for.
     pub fn wait(self) -> Waiting
         ensures { result ≡ self }
     {
@@ -128,8 +128,8 @@ impl Adm {
         self.node.waiting(port)
     }
 
-    /// Keeps what arrived on a side for the next `send`. If it is called again before that `send`, only what arrived last
-    /// is kept.
+    /// Keeps what arrived on a side for the next `send`. If it is called again before that `send`, only what arrived
+    /// last is kept.
     pub fn receive(&mut self, side: Side, arrived: Arrived, frame: &FrameBuf)
         requires { frame.now.rate ≡ self.old.settings.rate }
         ensures node { self.new ≡ at_receiving side (arrived_on (as_arrival arrived frame.now.bytes)) self.old }

@@ -122,8 +122,8 @@ impl Multiplexer {
         self.ports.waiting(port)
     }
 
-    /// Keeps what arrived on a side for the next `send`. If it is called again before that `send`, only what arrived last
-    /// is kept.
+    /// Keeps what arrived on a side for the next `send`. If it is called again before that `send`, only what arrived
+    /// last is kept.
     pub fn receive(&mut self, side: Side, arrived: Arrived, frame: &FrameBuf)
         requires { frame.now.rate ≡ self.old.settings.rate }
         ensures node { self.new ≡ at_receiving side (arrived_on (as_arrival arrived frame.now.bytes)) self.old }
@@ -162,8 +162,8 @@ impl Multiplexer {
         deliver_ports(&self.cross, &self.ports, taken, outlets);
     }
 
-    /// Returns what one port of the node delivered in the last round. `outlets` has what each port of the node delivered
-    /// in that round.
+    /// Returns what one port of the node delivered in the last round. `outlets` has what each port of the node
+    /// delivered in that round.
     pub fn outlet<'a>(&self, port: PortId, outlets: &'a Outlets) -> &'a Outlet
         requires there { HasPort self.now.ports port }
         requires outlets { outlets.now ≡ outlets_of self.now.ports }

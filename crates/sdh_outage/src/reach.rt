@@ -227,8 +227,8 @@ impl Reach {
         }
     }
 
-    // Drops all chunks that are kept. Then goes on after the next ones before chunk `end`, until one equals `chunk`, and
-    // returns whether one did.
+    // Drops all chunks that are kept. Then goes on after the next ones before chunk `end`, until one equals `chunk`,
+    // and returns whether one did.
     fn find(&mut self, end: u32, chunk: &[u8]) -> bool
         requires order { self.old.made ≤ end }
         ensures found { result ≡ true → (self.old.made < self.new.made) × (self.new.made ≤ end) × (chunk.now ≡ chunk_of self.old.port (self.new.made - 1)) }

@@ -23,8 +23,8 @@ GoOn limit ran [] = Unit {0}
 GoOn limit ran (r ∷ reports) =
     (ran ≤ r.round) × (1 ≤ r.round) × (r.round + 1 ≤ ran + limit) × (r.round % 128 ≡ 0) × GoOn limit (r.round + 1) reports
 
--- in a ring of two nodes or more, where reports show what they owe after these earlier stretches, their rounds come after
--- the rounds of those stretches, as `GoOn` says
+-- in a ring of two nodes or more, where reports show what they owe after these earlier stretches, their rounds come
+-- after the rounds of those stretches, as `GoOn` says
 abbrev pub ReportsGoOn : Type 0
 ReportsGoOn =
     (ring : Ring) (limit : ℕ) (earlier : List Stretch) (before : ℕ) (later : List (List Change)) (reports : List PortReport) (end : Status)

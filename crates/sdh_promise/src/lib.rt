@@ -6,8 +6,8 @@
 
 ghost use Rattle.sdh_promise.specs.Laws.{ReportsGoOn, ReportsRemember, SidesAreTold, PortsAreTold, OwedByTheOther};
 
-/// In a list of reports that show what they owe, the round of each comes after the round of the report before it, within
-/// the limit of a settle step, and the number of this round is a multiple of 128.
+/// In a list of reports that show what they owe, the round of each comes after the round of the report before it,
+/// within the limit of a settle step, and the number of this round is a multiple of 128.
 pub fn reports_go_on()
     ensures { ReportsGoOn }
 {}

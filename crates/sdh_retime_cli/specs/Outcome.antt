@@ -89,10 +89,10 @@ pub record Answers (words : List (List ℕ)) (bytes : List ℕ) (reads : Counts)
   pub numbered : number ≡ number_of status
   pub writes : Writes words bytes reads status old new
 
--- How many reads failed, and how many bytes were taken, by the time that the program came to the status `how`. It returns
--- this status, or a write fault if writing the text fails. Where the source's count of faults is exact, one read failed
--- if `how` is a read fault, and none otherwise. If `how` is `TooLong`, 1,048,577 bytes were taken, one more than the
--- program accepts.
+-- How many reads failed, and how many bytes were taken, by the time that the program came to the status `how`. It
+-- returns this status, or a write fault if writing the text fails. Where the source's count of faults is exact, one
+-- read failed if `how` is a read fault, and none otherwise. If `how` is `TooLong`, 1,048,577 bytes were taken, one more
+-- than the program accepts.
 abbrev pub CameTo : Bool → ℕ → ℕ → Option (List ℕ) → Option (List ℕ) → Status → Type 0
 CameTo exact before after left now how =
     CameOfSource exact (record { before = before; after = after }) left now (how ≡ status.ReadFault) (how ≡ status.TooLong)

@@ -114,9 +114,9 @@ fn answer<R: Source, W: Sink>(
 
 /// Does all that the program does, and returns the number with which it ends. With one word of 1 to 64 digits from 0 to
 /// 6 it reads all bytes of the source and takes them into a store chunk by chunk. Digit g means a chunk of 2346 + g
-/// bytes, and the digits repeat. The store refuses a chunk after which it would hold too few or too many bytes: the turn
-/// of that chunk is a drift, and the run ends there. The program writes the lines of every turn up to the end or to the
-/// drift, and then how many bytes were left, or which turn is the drift. The text is written once, at the end.
+/// bytes, and the digits repeat. The store refuses a chunk after which it would hold too few or too many bytes: the
+/// turn of that chunk is a drift, and the run ends there. The program writes the lines of every turn up to the end or
+/// to the drift, and then how many bytes were left, or which turn is the drift. The text is written once, at the end.
 pub fn retime<R: Source, W: Sink>(
     alloc: Global,
     words: &[String],
@@ -124,8 +124,8 @@ pub fn retime<R: Source, W: Sink>(
     sink: &mut W,
 ) -> u8
     // `outcome` says which number is returned and which text is written, if the bytes of the source are known, and if
-    // the sink shows what was written. If the words aren't digits, `usage_text` says the same over every source, and the
-    // source is left alone.
+    // the sink shows what was written. If the words aren't digits, `usage_text` says the same over every source, and
+    // the source is left alone.
     ensures outcome { let reads : Counts = record { before = R.faults source.old; after = R.faults source.new } in
         IfSome (R.left source.old)
         (λ bytes. Answers (words_of words.now) bytes reads result (W.written sink.old) (W.written sink.new)) }
@@ -134,9 +134,9 @@ pub fn retime<R: Source, W: Sink>(
         → Answers (words_of words.now) [] reads result (W.written sink.old) (W.written sink.new) }
     ensures alone { (¬ AreDigits (words_of words.now)) → source.new ≡ source.old }
 
-    // All bytes given, turn after turn, are the front of those that were read. A drift comes only where some four chunks
-    // in a row have together fewer than 9393 or more than 9399 bytes. The last of these four is the chunk of the turn
-    // that the last line names, or of an earlier turn.
+    // All bytes given, turn after turn, are the front of those that were read. A drift comes only where some four
+    // chunks in a row have together fewer than 9393 or more than 9399 bytes. The last of these four is the chunk of the
+    // turn that the last line names, or of an earlier turn.
     ensures front { (result ≡ 0) ⊎ (result ≡ 12)
         → IfSome (R.left source.old) (λ bytes. WritesFront bytes (W.written sink.old) (W.written sink.new)) }
     ensures unsteady { result ≡ 12
@@ -149,8 +149,8 @@ pub fn retime<R: Source, W: Sink>(
     ensures write_fault { result ≡ 4 → Rose (W.faults sink.old) (W.faults sink.new) }
     ensures memory { result ≡ 70 → sink.new ≡ sink.old }
 
-    // Where the count of faults of the source or the sink is exact, a read that failed is reported as a read fault and a
-    // write that failed as a write fault, and no call that failed is tried again. A write fault may stand in place of
+    // Where the count of faults of the source or the sink is exact, a read that failed is reported as a read fault and
+    // a write that failed as a write fault, and no call that failed is tried again. A write fault may stand in place of
     // what was to be reported. Where `TooLong` was to be reported, 1,048,577 bytes were taken from the source: one more
     // than the program accepts.
     ensures came { (how : Status) × ((result ≡ number_of how) ⊎ (result ≡ 4))

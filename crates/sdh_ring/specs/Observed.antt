@@ -21,12 +21,12 @@ Hears = observed.Hears adm
 abbrev pub RanSome : ((ℕ → World) → ℕ → Type 0) → World → ℕ → World → Type 0
 RanSome = observed.RanSome adm
 
--- `HearsSome kept w limit left`, for a step that ended with an error: `RanSome` holds up to some world. After it no other
--- round ran, or a fault broke the next one off.
+-- `HearsSome kept w limit left`, for a step that ended with an error: `RanSome` holds up to some world. After it no
+-- other round ran, or a fault broke the next one off.
 abbrev pub HearsSome : ((ℕ → World) → ℕ → Type 0) → World → ℕ → World → Type 0
 HearsSome = observed.HearsSome adm
 
--- `IsStopped exact kept w limit left before after`: a recorder stopped the step at left, and `RanSome` holds up to there.
--- `before` and `after` are the plant's counts of faults. If these counts are exact, they are equal.
+-- `IsStopped exact kept w limit left before after`: a recorder stopped the step at left, and `RanSome` holds up to
+-- there. `before` and `after` are the plant's counts of faults. If these counts are exact, they are equal.
 abbrev pub IsStopped : Bool → ((ℕ → World) → ℕ → Type 0) → World → ℕ → World → ℕ → ℕ → Type 0
 IsStopped = observed.IsStopped adm

@@ -103,8 +103,8 @@ impl Resting {
         Ok(Resting { ring, spare })
     }
 
-    /// Returns the same nodes, ready for a settle step that leaves what the ports deliver in the received frames, instead
-    /// of taking it out after each round. The function takes no memory.
+    /// Returns the same nodes, ready for a settle step that leaves what the ports deliver in the received frames,
+    /// instead of taking it out after each round. The function takes no memory.
     pub fn wait(self) -> Running
         ensures { result ≡ self }
     {

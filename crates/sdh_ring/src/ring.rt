@@ -78,12 +78,12 @@ impl Ring {
         ensures whole { IfOk result (λ ring. (f : Fibres) → IsHonest f → IsWhole (world ring (prepared settings.rate (length map) f))) }
 
         // A new ring over such fibres is vouched for (`IsVouched`), whatever the clocks of its ports will be. In such a
-        // ring each AU-4 under way holds ones, or what one particular port sent. In working slot m this is a port of the
-        // circuit in that slot of the span: port A if the frame goes eastwards, and port B if it goes westwards. In
-        // protection slot m it depends on the K word in the frame. A long word with a request names a node as its source.
-        // If the frame goes eastwards, the port is port B of the circuit in working slot m on that node's west span. If it
-        // goes westwards, it is port A of the circuit in working slot m on that node's east span. Where there is no such
-        // circuit, or the K word is any other, the AU-4 holds ones.
+        // ring each AU-4 under way holds ones, or what one particular port sent. In working slot m this is a port of
+        // the circuit in that slot of the span: port A if the frame goes eastwards, and port B if it goes westwards. In
+        // protection slot m it depends on the K word in the frame. A long word with a request names a node as its
+        // source. If the frame goes eastwards, the port is port B of the circuit in working slot m on that node's west
+        // span. If it goes westwards, it is port A of the circuit in working slot m on that node's east span. Where
+        // there is no such circuit, or the K word is any other, the AU-4 holds ones.
         ensures vouched { IfOk result (λ ring. (f : Fibres) (clocks : PortId → ℕ → Clock) → IsHonest f
             → IsVouched clocks (world ring (prepared settings.rate (length map) f))) }
     {
@@ -115,9 +115,9 @@ impl Ring {
     }
 
     /// Holds the controller of a node for the next `turns` rounds. Rounds that remain from an earlier call no longer
-    /// count. A ring is vouched for (`IsVouched`) only while each held node is idle or isolated. So if this node is idle
-    /// or isolated, a ring that is vouched for stays so. If it is switched or passes traffic through, then while it is
-    /// held the ring isn't vouched for.
+    /// count. A ring is vouched for (`IsVouched`) only while each held node is idle or isolated. So if this node is
+    /// idle or isolated, a ring that is vouched for stays so. If it is switched or passes traffic through, then while
+    /// it is held the ring isn't vouched for.
     pub fn hold(&mut self, at: Pos, turns: u32)
         requires at { at.0 < length self.old.ids }
         requires some { 1 ≤ turns }
@@ -318,8 +318,8 @@ impl Ring {
         ensures laws { IfOk result (λ ended. KeepsPromises (world self.old (P.fibres plant.old)) limit ended (world self.new (P.fibres plant.new))) }
 
         // Recorder and log are what `Records` says of the following rounds of the step and of no others. If the step
-        // ended with a quiet window, they are all its rounds. If it ended with an error, they are all but a round that a
-        // fault broke off. If it was stopped, recorder and log are what `Stops` says of all rounds up to the stop.
+        // ended with a quiet window, they are all its rounds. If it ended with an error, they are all but a round that
+        // a fault broke off. If it was stopped, recorder and log are what `Stops` says of all rounds up to the stop.
         ensures heard { IfOk result (λ ended. OnOk ended (Hears (λ at k. O.Records recorder.old log.old at k recorder.new log.new)
             (world self.old (P.fibres plant.old)) limit (world self.new (P.fibres plant.new)))) }
         ensures begun { IfOk result (λ ended. OnErr ended (HearsSome (λ at k. O.Records recorder.old log.old at k recorder.new log.new)

@@ -1,5 +1,5 @@
-//! The nodes of a ring during a settle step that leaves what the ports deliver in the received frames, instead of taking
-//! it out after each round.
+//! The nodes of a ring during a settle step that leaves what the ports deliver in the received frames, instead of
+//! taking it out after each round.
 ghost use Rattle.std.specs.Prelude.{◌≡◌, ◌≤◌, ◌<◌, [], Some, length, slice_get, vec_capacity};
 ghost use Rattle.sdh_terminal.specs.Tributaries.{HasPort, outlet_of};
 ghost use Rattle.sdh_world.specs.Held.{node_at, place_of_port, outlet_at};

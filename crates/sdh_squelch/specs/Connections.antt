@@ -25,8 +25,8 @@ sent_of p (Some r) through =
 
 -- A node at position p of a ring of n. `on` gives the circuit on the span of each side in the slot.
 module _ (n : ℕ) (p : Pos) (on : Side → Option OnSpan) where
-  -- The chain of a node that switches a side, where its switch has the given far end: all positions from the node, going
-  -- away from the switched side, up to the far end, both included. There is none where there is no far end.
+  -- The chain of a node that switches a side, where its switch has the given far end: all positions from the node,
+  -- going away from the switched side, up to the far end, both included. There is none where there is no far end.
   abbrev pub chain_on : Side → Option Pos → Option Chain
   chain_on West far = west_chain n p far
   chain_on East far = east_chain n p far

@@ -43,8 +43,8 @@ fn may_carry(chain: Option<Chain>, map: &RingMap, table: &Table, side: Side, slo
 
 /// Returns the origin of what a node takes from a side in a working slot. It is what arrives there in that slot, as
 /// long as the side isn't switched. Where the side is switched, it is what arrives in the protection slot on the other
-/// side if the circuit may be carried round, and else AIS. In an isolated node it is AIS. Where the circuit on that side
-/// and in that slot ends at the node, this is also the origin of what its port there delivers.
+/// side if the circuit may be carried round, and else AIS. In an isolated node it is AIS. Where the circuit on that
+/// side and in that slot ends at the node, this is also the origin of what its port there delivers.
 #[tactic(auto, unfolding(crate::specs::Connections::stands_for, crate::specs::Connections::may_carry))]
 pub fn drop_origin(
     state: &NodeState,

@@ -16,7 +16,8 @@ pub trait Delivers {
     fn outlets(&self, alloc: Global) -> Result<Outlets, AllocError>
         ensures { IfOk result (λ outlets. length outlets ≡ length (delivered self.now)) };
 
-    /// Takes what each of its ports delivered in the last round out of the frames in which it waits. It takes no memory.
+    /// Takes what each of its ports delivered in the last round out of the frames in which it waits. It takes no
+    /// memory.
     fn deliver(&self, taken: &mut TakenPair, outlets: &mut Outlets)
         requires { length outlets.old ≡ length (delivered self.now) }
         ensures { outlets.new ≡ delivered self.now };

@@ -1,5 +1,5 @@
-//! What is outside fails in mid-stream: the failure is reported, in place of an answer to what came before it. And fibres
-//! out of which nothing comes, and calls that run no round.
+//! What is outside fails in mid-stream: the failure is reported, in place of an answer to what came before it. And
+//! fibres out of which nothing comes, and calls that run no round.
 
 use crate::calls::{
     CHECK, DROP, DROP_OTHER, Fibres, Given, NO_WORDS, ONCE, Program, Row, SOUND, TWICE,
@@ -144,8 +144,8 @@ const BROKEN: &str = "plant fault\n";
 
 const CUT: &str = "\"cut 2 east\", \"settle\"";
 
-// A settle step of these plans has 129 rounds. In each a ring of three sends 6 frames, and one of four 8; it receives as
-// many in each round but the first. The last rows are calls that are never made.
+// A settle step of these plans has 129 rounds. In each a ring of three sends 6 frames, and one of four 8; it receives
+// as many in each round but the first. The last rows are calls that are never made.
 const RINGS_FAIL: &[Row] = &[
     (RING, Recording(0), TWICE, 8, BROKEN),
     (RING, Recording(4), TWICE, 8, BROKEN),
@@ -309,9 +309,9 @@ const DARK_PATHS: &str = "settle 1 round 128\nport c1 a ais\nport c1 b ais\ndone
 
 const DARK_WATCHES: &str = "settle 1 round 128\nwatch c1 a ais\nwatch c1 b ais\ndone\n";
 
-// A sink takes no more; a port isn't listed whose plan can't be read; a write that fails hides a read that fails; tables
-// run no round, since these fibres have no room for a frame, and the limit of one plan is too small for a settle step;
-// nothing comes out of fibres.
+// A sink takes no more; a port isn't listed whose plan can't be read; a write that fails hides a read that fails;
+// tables run no round, since these fibres have no room for a frame, and the limit of one plan is too small for a settle
+// step; nothing comes out of fibres.
 const OTHERS: &[Row] = &[
     (FULL_SINK, Honest, ONCE, 4, "settle 1 r"),
     (FAILING_SINK, Honest, ONCE, 4, "settle 1 r"),

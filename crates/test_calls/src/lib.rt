@@ -1,5 +1,5 @@
-//! Calls of the programs over objects in memory, as tests: what is outside failing in mid-stream, too little memory, and
-//! fibres of other kinds; and the large plan. No other crate stands on this one.
+//! Calls of the programs over objects in memory, as tests: what is outside failing in mid-stream, too little memory,
+//! and fibres of other kinds; and the large plan. No other crate stands on this one.
 #![tactic(auto)]
 
 #[cfg(test)]

@@ -96,8 +96,8 @@ watch c1 b vcs 127 b3 0 label 0 trace ok
 plant fault
 ";
 
-/// What is written of how its ring signals, piece by piece: in the first round each node says to both neighbours that it
-/// asks for nothing, and in the fourth each hears it, as three frames in a row have come.
+/// What is written of how its ring signals, piece by piece: in the first round each node says to both neighbours that
+/// it asks for nothing, and in the fourth each hears it, as three frames in a row have come.
 pub const SIGNAL_PIECES: &[&str] = &[
     "round 0 node 1 idle far - west 03 10 east 02 10 heard - - - - asks nr nr
 round 0 node 2 idle far - west 01 20 east 03 20 heard - - - - asks nr nr

@@ -1,5 +1,6 @@
-//! The parts of nodes, as tests of what no text of a program tells: frames that are read, pointers, payloads and watches on
-//! them, degraded fibres, K words and steps of nodes; and std's readers and writers. No other crate stands on this one.
+//! The parts of nodes, as tests of what no text of a program tells: frames that are read, pointers, payloads and
+//! watches on them, degraded fibres, K words and steps of nodes; and std's readers and writers. No other crate stands
+//! on this one.
 #![tactic(auto)]
 
 #[cfg(test)]
