@@ -1,5 +1,5 @@
--- The cross-connect of a node in a round: both sides that receive and what they take in, the state, and where the state
--- connects what comes in (bridge and switch of shared protection rings: ITU-T G.841).
+-- The cross-connect of a node in a round: both sides that receive and what they take in, the state, and the connections
+-- that the state makes (bridge and switch of shared protection rings: ITU-T G.841).
 use Rattle.std.specs.Prelude.{◌≡◌, ℕ, ◌+◌, ◌-◌, ◌/◌, ◌<◌, Bool, true, false, nat_le, if◌then◌else◌, Option, List, length}
 use Rattle.sdh_ringmap.specs.Rates.{n_of}
 use Rattle.sdh_ringmap.specs.declared.Pos.{Pos}
@@ -69,7 +69,8 @@ is_failed defect.None = false
 is_failed defect.Sd = false
 is_failed defect.Sf = true
 
--- the local request of each side, whether the side fails (`needs_of`), and the word heard on it (`heard_words`)
+-- `needs_of` has the local request of each side and whether the side fails. `heard_words` has the word heard on each
+-- side.
 abbrev pub needs_of : Cross → Needs
 needs_of x = record {
   west = x.west.request;
@@ -93,7 +94,7 @@ after_decision held x = record x { state = if held then x.state else state_after
 unfoldable pub next_word : Bool → Cross → Side → K → K
 next_word held x side k = if held then k else word (scene_of x) side
 
--- ---- where the state connects what comes in
+-- ---- the connections that the state makes
 
 -- the slot of an AU-4
 abbrev pub slot_of : Cross → ℕ → ℕ

@@ -227,8 +227,8 @@ pub record IsNode (n : Node) : Type 0 where
 abbrev pub sent_of : Node → Sent
 sent_of n = record { west = n.west_out.word; east = n.east_out.word }
 
--- the local request of each side in the node's last round, whether the side failed (`needed`), and the word heard on it
--- (`heard_by`)
+-- `needed` has the local request of each side in the node's last round and whether the side failed. `heard_by` has the
+-- word heard on each side.
 abbrev pub needed : Node → Needs
 needed n = record {
   west = n.west.request;

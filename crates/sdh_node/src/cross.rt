@@ -1,5 +1,5 @@
-//! The cross-connect: both sides that receive and what they take in, the node's state, and where that state connects
-//! what comes in.
+//! The cross-connect: both sides that receive and what they take in, the node's state, and the connections that this
+//! state makes: what feeds each AU-4 that leaves, and what is dropped to each port.
 ghost use Rattle.std.specs.Prelude.{◌≡◌, ◌&&◌, ◌+◌, ◌-◌, ◌<◌, ◌≤◌, ◌≢◌, None, true, false, All, IfOk, length, get_or, option_map};
 ghost use Rattle.sdh_ringmap.specs.Rates.{n_of};
 ghost use Rattle.sdh_ringmap.specs.declared.Pos.{Pos};

@@ -12,7 +12,8 @@ pub fn reports_go_on()
     ensures { ReportsGoOn }
 {}
 
-/// The first two reports of a script show what is owed: what follows from all that happened before each of them.
+/// Take a script whose reports show what they owe. What its first report owes follows from the changes and rounds up to
+/// that report. What its second report owes follows from those together with the changes and rounds since.
 pub fn reports_remember()
     ensures { ReportsRemember }
 {}

@@ -17,8 +17,8 @@ pub record KeepsPromises (w : World) (limit : ℕ) (result : Result (Unit {0}) S
   pub whole : result ≢ Err PlantFault → IsWhole w → IsWhole left
   -- a step of at least 68 rounds that ended with a quiet window used up all slips
   pub slips : OnOk result ((port : PortId) → w.ring.rounds + 68 ≤ left.ring.rounds → waiting_at left.ring port ≡ 0)
-  -- after a step that ended with a quiet window, where the fibres carry what was sent: each node is in its settled
-  -- state, and each port has delivered what it is owed
+  -- after a step that ended with a quiet window, if the ring was whole before it: each node is in its settled state,
+  -- and each port has delivered what it is owed
   pub restored : OnOk result (Restores w left)
   -- the same holds after an unsettled step, if its limit is at least 12n + 102
   pub soon : result ≡ Err Unsettled → RestoresBy w limit left
@@ -27,7 +27,7 @@ pub record KeepsPromises (w : World) (limit : ℕ) (result : Result (Unit {0}) S
   -- a ring that is vouched for (`IsVouched` in `sdh_laws/specs/Strangers/Vouched`) stays so, and no port meets a
   -- stranger in any round of the step
   pub strangers : result ≢ Err PlantFault → KeepsStrangersOutInAll w left
-  -- where the fibres carry what was sent, a step whose limit is at least 64n + 512 rounds (`enough_for`) is not
+  -- if the ring was whole before the step, a step whose limit is at least 64n + 512 rounds (`enough_for`) is not
   -- unsettled, whatever happened before it
   pub answers : IsWhole w → enough_for (length w.ring.ids) ≤ limit → result ≢ Err Unsettled
   -- each port's clock has gone on by the rounds that ran

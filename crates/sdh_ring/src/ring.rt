@@ -77,13 +77,13 @@ impl Ring {
         // places, and the fibres carry what was sent.
         ensures whole { IfOk result (λ ring. (f : Fibres) → IsHonest f → IsWhole (world ring (prepared settings.rate (length map) f))) }
 
-        // A new ring over such fibres is vouched for (`IsVouched`), whatever the clocks of its ports will be. In such a
-        // ring each AU-4 under way holds ones, or what one particular port sent. In working slot m this is a port of
-        // the circuit in that slot of the span: port A if the frame goes eastwards, and port B if it goes westwards. In
-        // protection slot m it depends on the K word in the frame. A long word with a request names a node as its
-        // source. If the frame goes eastwards, the port is port B of the circuit in working slot m on that node's west
-        // span. If it goes westwards, it is port A of the circuit in working slot m on that node's east span. Where
-        // there is no such circuit, or the K word is any other, the AU-4 holds ones.
+        // A new ring over such fibres is vouched for (`IsVouched`), whatever the clocks of its ports will be. In any
+        // ring that is vouched for, each AU-4 under way holds either ones or what one particular port sent. In working
+        // slot m this is a port of the circuit in that slot of the span: port A if the frame goes eastwards, and port B
+        // if it goes westwards. In protection slot m it depends on the K word in the frame. A long word with a request
+        // names a node as its source. If the frame goes eastwards, the port is port B of the circuit in working slot m
+        // on that node's west span. If it goes westwards, it is port A of the circuit in working slot m on that node's
+        // east span. Where there is no such circuit, or the K word is any other, the AU-4 holds ones.
         ensures vouched { IfOk result (λ ring. (f : Fibres) (clocks : PortId → ℕ → Clock) → IsHonest f
             → IsVouched clocks (world ring (prepared settings.rate (length map) f))) }
     {
@@ -190,10 +190,10 @@ impl Ring {
         ensures ok { OnOk result (IsRound (world self.old (P.fibres plant.old)) (world self.new (P.fibres plant.new))) }
         ensures prepared { OnOk result (IsPrepared self.old.settings.rate (length self.old.ids) (P.fibres plant.new)) }
 
-        // Where the fibres carry what was sent, the round agrees with a round of the ring of signals (`sdh_signal`),
-        // whose nodes have states and K words but no frames. The nodes' states, the words that they send, and what the
-        // last three rounds brought them are those of that ring after a round with the same local requests, failing
-        // sides and held nodes.
+        // If the ring is whole (`IsWhole`), the round agrees with a round of the ring of signals (`sdh_signal`), whose
+        // nodes have states and K words but no frames. The nodes' states, the words that they send, and what the last
+        // three rounds brought them are those of that ring after a round with the same local requests, failing sides
+        // and held nodes.
         ensures signals { OnOk result (IsWhole (world self.old (P.fibres plant.old))
             → GoesAsSignals (world self.old (P.fibres plant.old)) (world self.new (P.fibres plant.new))) }
 
@@ -280,8 +280,8 @@ impl Ring {
             (P.faults plant.old) (P.faults plant.new) }
         ensures laws { KeepsPromises (world self.old (P.fibres plant.old)) limit result (world self.new (P.fibres plant.new)) }
 
-        // After a step that ended with a quiet window, the observer keeps what `Heard` says of all rounds of that step,
-        // and of no other round.
+        // After a step that ended with a quiet window, `Heard` holds of the observer for exactly the rounds of that
+        // step.
         ensures heard { OnOk result
             (Hears (λ at k. O.Heard at k observer.new) (world self.old (P.fibres plant.old)) limit (world self.new (P.fibres plant.new))) }
     {
@@ -317,9 +317,9 @@ impl Ring {
             (world self.new (P.fibres plant.new)) (P.faults plant.old) (P.faults plant.new)) }
         ensures laws { IfOk result (λ ended. KeepsPromises (world self.old (P.fibres plant.old)) limit ended (world self.new (P.fibres plant.new))) }
 
-        // Recorder and log are what `Records` says of the following rounds of the step and of no others. If the step
-        // ended with a quiet window, they are all its rounds. If it ended with an error, they are all but a round that
-        // a fault broke off. If it was stopped, recorder and log are what `Stops` says of all rounds up to the stop.
+        // `Records` holds of recorder and log for exactly these rounds: all rounds of the step, if it ended with a
+        // quiet window or was unsettled; all rounds before the one that was broken off, if a fault ended it. If the
+        // recorder stopped the step, `Stops` holds of them for all rounds up to the stop.
         ensures heard { IfOk result (λ ended. OnOk ended (Hears (λ at k. O.Records recorder.old log.old at k recorder.new log.new)
             (world self.old (P.fibres plant.old)) limit (world self.new (P.fibres plant.new)))) }
         ensures begun { IfOk result (λ ended. OnErr ended (HearsSome (λ at k. O.Records recorder.old log.old at k recorder.new log.new)
