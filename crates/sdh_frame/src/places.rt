@@ -75,7 +75,7 @@ pub(crate) fn index_in(rate: Rate, place: Place) -> usize
     (place.row as usize - 1) * width + (place.column as usize - 1)
 }
 
-// Returns where in a frame payload byte number `index`, 0 to 2348, of an AU-4 lies: its index among the frame's bytes.
+// Returns the index, among the bytes of a frame, of payload byte `index` (0 to 2348) of an AU-4.
 pub(crate) fn payload_index(rate: Rate, au: u16, index: u16) -> usize
     requires first { 1 ≤ au }
     requires last { au ≤ n_of rate }
@@ -87,7 +87,7 @@ pub(crate) fn payload_index(rate: Rate, au: u16, index: u16) -> usize
     index_in(rate, place)
 }
 
-// Returns where in a frame pointer byte number `index`, 0 to 8, of an AU-4 lies: its index among the frame's bytes.
+// Returns the index, among the bytes of a frame, of pointer byte `index` (0 to 8) of an AU-4.
 pub(crate) fn pointer_index(rate: Rate, au: u16, index: u16) -> usize
     requires first { 1 ≤ au }
     requires last { au ≤ n_of rate }

@@ -57,7 +57,8 @@ impl Receiver {
         })
     }
 
-    /// Keeps what arrived for the next round. It replaces what had arrived since the last one.
+    /// Keeps what arrived until the next round reads it. If something else had already arrived since the last round,
+    /// this replaces it.
     pub fn receive(&mut self, arrived: Arrived, frame: &FrameBuf)
         requires { frame.now.rate ≡ self.old.section.rate }
         ensures side { self.new ≡ arrived_on (as_arrival arrived frame.now.bytes) self.old }

@@ -1,5 +1,5 @@
-//! A multiplexer with room for what its ports deliver. What they deliver stays in the received frames until it is asked
-//! for.
+//! A multiplexer for rounds whose deliveries nobody asks for. What its ports deliver stays in the received frames until
+//! `deliver` writes it into memory that was taken when the node was made.
 ghost use Rattle.std.specs.Prelude.{◌≡◌, ◌/◌, ◌<◌, IfOk, length};
 ghost use Rattle.sdh_ringmap.specs.Rates.{n_of};
 ghost use Rattle.sdh_circuits.specs.Kept.{KeepsRing};
@@ -14,8 +14,9 @@ use sdh_terminal::{Outlets, TakenPair};
 use std::alloc::{AllocError, Global};
 use std::marker::Model;
 
-/// A multiplexer, and room for what its ports deliver. What they delivered in the last round stays in the frames that
-/// came in that round. An `Adm` is made into a `Waiting` for rounds whose deliveries nobody asks for.
+/// A multiplexer, and memory that was taken when the node was made, into which `deliver` writes what its ports
+/// delivered. Until then that stays in the frames that came in the last round. An `Adm` is made into a `Waiting` for
+/// rounds whose deliveries nobody asks for.
 #[derive(Debug, Drop)]
 pub struct Waiting {
     pub(crate) node: Multiplexer,

@@ -6,8 +6,8 @@ use Rattle.sdh_rounds.specs.Observed as observed
 use Rattle.sdh_world.specs.Held.{HeldRing}
 use Rattle.sdh_world.specs.Rounds.{World}
 
--- A course gives the world after each number of rounds. In the given course one more round ran after the first k
--- rounds, and the given ring is the one that this round left.
+-- `RanOne at k ring`: `at` is a course, in which `at k` is the world after k rounds. After the first k rounds one more
+-- ran, and it left `ring`.
 abbrev pub RanOne : (ℕ → World) → ℕ → HeldRing → Type 0
 RanOne = observed.RanOne adm
 

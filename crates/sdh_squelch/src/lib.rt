@@ -153,7 +153,8 @@ impl Table {
     }
 
     /// Returns whether a circuit is on a side in a slot of 1 to 8, and both its ends are in the chain. The chain of a
-    /// node that switches has the positions from the node to its far end, both included.
+    /// node that switches one side has the positions from the node to its far end, both included, counted away from the
+    /// switched side: eastwards in `SwitchWest`, westwards in `SwitchEast`.
     pub fn may_carry(&self, map: &RingMap, side: Side, slot: Slot, chain: Chain) -> bool
         requires map { self.now.ring ≡ map.now }
         requires slot { (1 ≤ slot.0) × (slot.0 ≤ 8) }
