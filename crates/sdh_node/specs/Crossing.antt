@@ -1,5 +1,5 @@
--- The cross-connect of a node in a round: both sides that receive and what they take in, the state, and the connections
--- that the state makes (bridge and switch of shared protection rings: ITU-T G.841).
+-- The cross-connect of a node in a round: the receiving half of each side and what they take in, the state, and the
+-- connections that the state makes (bridge and switch of shared protection rings: ITU-T G.841).
 use Rattle.std.specs.Prelude.{◌≡◌, ℕ, ◌+◌, ◌-◌, ◌/◌, ◌<◌, Bool, true, false, nat_le, if◌then◌else◌, Option, List, length}
 use Rattle.sdh_ringmap.specs.Rates.{n_of}
 use Rattle.sdh_ringmap.specs.declared.Pos.{Pos}
@@ -110,8 +110,8 @@ leaving x side au =
     if nat_le au (half_of x) then leaves_working (length x.ids) x.at (circuit_in x (slot_of x au)) x.state side
     else leaves_protection (length x.ids) x.at (circuit_in x (slot_of x au)) x.state side
 
--- The feeder of an AU-4 whose bytes come from an origin in slot m. Working slot m is AU-4 number m, and protection slot
--- m is AU-4 number N / 2 + m.
+-- An origin in slot m, as a `Feeder`: a feeder names a received AU-4 by its side and number. Working slot m is AU-4
+-- number m, and protection slot m is AU-4 number N / 2 + m.
 abbrev pub feeder_of : Cross → ℕ → Origin → Feeder
 feeder_of x m (origin.Add port) = feeder.Port port
 feeder_of x m (origin.Working side) = feeder.Received side m

@@ -36,13 +36,13 @@ pub record Node : Type 0 where
   pub circuits : List Provisioned
   -- the number of rounds it has run
   pub rounds : ℕ
-  -- both sides that receive
+  -- the receiving half of each side
   pub west : Receiving
   pub east : Receiving
   pub state : NodeState
   -- the ports of circuits that are at the node
   pub ports : List Tributary
-  -- both sides that send
+  -- the sending half of each side
   pub west_out : Sending
   pub east_out : Sending
   -- how many of the next rounds its controller misses
@@ -96,7 +96,7 @@ new_cross s ids circuits at = record {
 
 -- ---- between rounds
 
--- a node with a change on one side that receives
+-- a node with a change on the receiving half of one side
 abbrev pub at_receiving : Side → (Receiving → Receiving) → Node → Node
 at_receiving side f n = record n { west = if_west side f n.west; east = if_east side f n.east }
 
@@ -132,7 +132,7 @@ crossing now n = after_decision (is_held n) (record {
 unfoldable pub ports_after : Cross → List Tributary → List Tributary
 ports_after x ports = all_fed (all_delivered x ports)
 
--- a side that sends, with the word of the round
+-- the sending half of a side, with the word of the round
 abbrev pub with_next_word : Bool → Cross → Side → Sending → Sending
 with_next_word held x side s = with_word (next_word held x side s.word) s
 

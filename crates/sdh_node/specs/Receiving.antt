@@ -1,5 +1,5 @@
--- One side of a node that receives: what the section overhead of a frame says, the defect, the word heard, the local
--- request, and what the pointer interpreters make of the AU-4s.
+-- The receiving half of one side of a node: what the section overhead of a frame says, the defect, the word heard, the
+-- local request, and what the pointer interpreters make of the AU-4s.
 use Rattle.std.specs.Prelude.{◌≡◌, ◌≢◌, ℕ, ◌≤◌, Option, Some, None, IfSome, List, length}
 use Rattle.std.specs.Option.{is_some}
 use Rattle.sdh_ringmap.specs.Rates.{n_of}
@@ -91,7 +91,7 @@ abbrev pub if_east : Side → (Receiving → Receiving) → Receiving → Receiv
 if_east West f r = r
 if_east East f r = f r
 
--- ---- what is true of every side that receives
+-- ---- what is true of the receiving half of every side
 
 pub record IsReceiving (r : Receiving) : Type 0 where
   pub readings : length r.readings ≡ n_of r.section.rate

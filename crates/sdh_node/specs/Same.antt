@@ -10,14 +10,14 @@ use Rattle.sdh_terminal.specs.Same.{same_readings, same_generators}
 
 -- ---- what is compared
 
--- what is compared of a side that receives: the local request, the word heard, and what the interpreters keep, AU-4 by
--- AU-4
+-- what is compared of the receiving half of a side: the local request, the word heard, and what the interpreters keep,
+-- AU-4 by AU-4
 pub record ComparedIn : Type 0 where
   pub request : Code
   pub heard : Option K
   pub readings : List Reading
 
--- what is compared of a side that sends: the word, and the states of the generators, AU-4 by AU-4
+-- what is compared of the sending half of a side: the word, and the states of the generators, AU-4 by AU-4
 pub record ComparedOut : Type 0 where
   pub word : K
   pub generators : List (Option ℕ)

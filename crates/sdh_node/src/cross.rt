@@ -1,5 +1,5 @@
-//! The cross-connect: both sides that receive and what they take in, the node's state, and the connections that this
-//! state makes: what feeds each AU-4 that leaves, and what is dropped to each port.
+//! The cross-connect: the receiving half of each side and what they take in, the node's state, and the connections that
+//! this state makes: what feeds each AU-4 that leaves, and what is dropped to each port.
 ghost use Rattle.std.specs.Prelude.{◌≡◌, ◌&&◌, ◌+◌, ◌-◌, ◌<◌, ◌≤◌, ◌≢◌, None, true, false, All, IfOk, length, get_or, option_map};
 ghost use Rattle.sdh_ringmap.specs.Rates.{n_of};
 ghost use Rattle.sdh_ringmap.specs.declared.Pos.{Pos};
@@ -32,7 +32,7 @@ use sdh_terminal::{Feeder, Intake, Matrix, Outlets, TakenPair, Tributaries};
 use std::alloc::{AllocError, Global};
 use std::marker::Model;
 
-/// Both sides that receive, the state, and the squelch table by which the state connects the AU-4s that arrive.
+/// The receiving half of each side, the state, and the squelch table by which the state connects the AU-4s that arrive.
 #[derive(Debug, Drop)]
 pub struct CrossConnect {
     map: RingMap,
@@ -242,7 +242,7 @@ impl CrossConnect {
         }
     }
 
-    /// Returns what receives on a side.
+    /// Returns the receiving half of a side.
     pub fn receiver(&self, side: Side) -> &Receiver
         ensures side { result.now ≡ on_side self.now side }
         ensures rate { result.now.section.rate ≡ self.now.west.section.rate }
@@ -253,7 +253,7 @@ impl CrossConnect {
         }
     }
 
-    // Returns the feeder of an AU-4 whose bytes come from an origin in a slot, 1 to N / 2.
+    // Returns an origin in a slot, 1 to N / 2, as a `Feeder`: a feeder names a received AU-4 by its side and number.
     fn feeder_of(&self, slot: u16, origin: Origin) -> Feeder
         requires first { 1 ≤ slot }
         requires last { slot ≤ half_of self.now }

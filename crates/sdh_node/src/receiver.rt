@@ -1,4 +1,4 @@
-//! One side that receives.
+//! The receiving half of one side.
 ghost use Rattle.std.specs.Prelude.{◌≡◌, ◌≢◌, ◌&&◌, ◌-◌, ◌<◌, ◌≤◌, None, IfSome, IfOk, slice_index_or};
 ghost use Rattle.sdh_ringmap.specs.Rates.{n_of};
 ghost use Rattle.sdh_kbytes.specs.KBytes.{IsSpellable};
@@ -24,8 +24,8 @@ use sdh_terminal::{Inlet, Intake};
 use std::alloc::{AllocError, Global};
 use std::marker::Model;
 
-/// One side that receives: what arrived, the pointer interpreters, the local request, and the filter of the words that
-/// came.
+/// The receiving half of one side: what arrived, the pointer interpreters, the local request, and the filter of the
+/// words that came.
 #[derive(Debug, Drop)]
 pub struct Receiver {
     inlet: Inlet,

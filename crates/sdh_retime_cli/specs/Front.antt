@@ -44,6 +44,6 @@ pub record TellsFront (bytes text : List ℕ) : Type 0 where
   pub rest : List ℕ
   pub front : all_shown turns ++ rest ≡ bytes
 
--- a text that shows a front of the bytes read was appended
+-- a text was appended, and the bytes that it shows are a front of the bytes that were read
 abbrev pub WritesFront : List ℕ → Option (List ℕ) → Option (List ℕ) → Type 0
 WritesFront bytes old new = (text : List ℕ) × TellsFront bytes text × Appends old new text

@@ -1,5 +1,6 @@
--- The lines of a run: for each turn what an interpreter reads of it and how many bytes are held after it, and the bytes
--- given. The texts are this project's own.
+-- The lines of a run: for each turn the action that a pointer interpreter takes on the store's pointer word, the number
+-- of bytes that the store holds afterwards, and, unless the action is AIS, the bytes that the store gave. The texts are
+-- this project's own.
 use Rattle.std.specs.Prelude.{ℕ, List, [], ◌∷◌, ◌++◌, codes, decimal, length}
 use Rattle.sdh_basics.specs.Hexadecimal.{hex_of}
 use Rattle.sdh_pointer.specs.declared.reading.Action.{Action}

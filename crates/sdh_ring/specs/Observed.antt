@@ -27,6 +27,7 @@ abbrev pub HearsSome : ((ℕ → World) → ℕ → Type 0) → World → ℕ �
 HearsSome = observed.HearsSome adm
 
 -- `IsStopped exact kept w limit left before after`: a recorder stopped the step at left, and `RanSome` holds up to
--- there. `before` and `after` are the plant's counts of faults. If these counts are exact, they are equal.
+-- there. `before` and `after` are the plant's count of failed calls before and after the step. If that count is exact,
+-- rising by one with each failed call and staying as it is with any other, then it didn't rise.
 abbrev pub IsStopped : Bool → ((ℕ → World) → ℕ → Type 0) → World → ℕ → World → ℕ → ℕ → Type 0
 IsStopped = observed.IsStopped adm

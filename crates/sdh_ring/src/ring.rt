@@ -73,8 +73,9 @@ impl Ring {
         requires kept { KeepsRing circuits map }
         ensures ring { IfOk result (λ ring. ring ≡ new_ring settings map circuits) }
 
-        // Over honest fibres that were just prepared for it, a new ring is whole (`IsWhole`): its nodes are in their
-        // places, and the fibres carry what was sent.
+        // Over honest fibres that were just prepared for it, a new ring is whole (`IsWhole`). Among other things, in a
+        // whole ring each node is the one that was made for its position, and each fibre carries a frame with the K
+        // word that its node sent last there, or nothing before the first round.
         ensures whole { IfOk result (λ ring. (f : Fibres) → IsHonest f → IsWhole (world ring (prepared settings.rate (length map) f))) }
 
         // A new ring over such fibres is vouched for (`IsVouched`), whatever the clocks of its ports will be. In any

@@ -25,7 +25,7 @@ use Rattle.sdh_sncp.specs.declared.slots.Use.{Use}
 use Rattle.sdh_sncp.specs.declared.slots.Use.TheVariants.{Unused, Passed, Ended}
 use Rattle.sdh_sncp.specs.Slots.{uses_at}
 
--- both sides that receive, what they take in, and what is done with each slot
+-- the receiving half of each side, what they take in, and what is done with each slot
 pub record PathCross : Type 0 where
   pub uses : List Use
   pub west : Inlet
@@ -39,12 +39,12 @@ pub record PathNode : Type 0 where
   pub uses : List Use
   -- the number of rounds that the node has run
   pub rounds : ℕ
-  -- both sides that receive
+  -- the receiving half of each side
   pub west : Inlet
   pub east : Inlet
   -- the ports of circuits that are at the node
   pub ports : List Tributary
-  -- both sides that send
+  -- the sending half of each side
   pub west_out : Sending
   pub east_out : Sending
   -- the last round was calm

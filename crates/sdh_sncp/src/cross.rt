@@ -1,4 +1,4 @@
-//! Both sides that receive, and where the AU-4s that come in on them lead.
+//! The receiving half of each side, and where the AU-4s that come in on them lead.
 ghost use Rattle.std.specs.Prelude.{◌≡◌, ◌≢◌, ◌&&◌, ◌≤◌, None, IfOk, length};
 ghost use Rattle.sdh_ringmap.specs.Rates.{n_of};
 ghost use Rattle.sdh_plant.specs.Arrivals.{arrived_in};
@@ -18,7 +18,7 @@ use sdh_terminal::{Feeder, Inlet, Intake, Matrix};
 use std::alloc::{AllocError, Global};
 use std::marker::Model;
 
-/// Both sides that receive, what they take in, and what is done with each slot.
+/// The receiving half of each side, what they take in, and what is done with each slot.
 #[derive(Debug, Drop)]
 pub struct PathCross {
     uses: Vec<Use>,
@@ -50,7 +50,7 @@ fn fed_for(used: Use, side: Side, au: u16) -> Feeder
     }
 }
 
-// Returns what receives on one side, which has received nothing, and what that side takes in.
+// Returns the receiving half of one side, which has received nothing, and what that side takes in.
 fn new_side(alloc: Global, rate: Rate) -> Result<(Inlet, Intake), AllocError>
     ensures inlet { IfOk result (λ side. side.0 ≡ new_inlet rate) }
     ensures intake { IfOk result (λ side. side.1 ≡ new_intake rate) }

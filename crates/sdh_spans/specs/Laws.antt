@@ -37,7 +37,7 @@ pub record FramesComeThrough : Type 0 where
 
 -- ---- sides
 
--- every side that sends does so as `SendsSo` says
+-- the sending half of every side does so as `SendsSo` says
 abbrev pub SidesSendSo : Type 0
 SidesSendSo = (at : Rate) (input : ℕ → Input) (x : Sending) → IsSenderAt at x → SendsSo at input x
 

@@ -25,12 +25,13 @@ use Rattle.sdh_spans.specs.Frames.{Says, shown_by}
 
 -- ---- sides at a rate
 
--- a side that receives at this rate: it has an interpreter for each AU-4
+-- the receiving half of a side at this rate: it has an interpreter for each AU-4
 pub record IsInletAt (at : Rate) (i : Inlet) : Type 0 where
   pub rate : i.section.rate ≡ at
   pub readings : length i.readings ≡ n_of at
 
--- a side that sends at this rate: it has a generator for each AU-4, and the parities of a frame of this rate, or none
+-- the sending half of a side at this rate: it has a generator for each AU-4, and the parities of a frame of this rate,
+-- or none
 pub record IsSenderAt (at : Rate) (x : Sending) : Type 0 where
   pub rate : x.section.rate ≡ at
   pub generators : length x.generators ≡ n_of at

@@ -1,4 +1,5 @@
--- One span: a side that sends, the fibre, and the side after it; in one round, and in many.
+-- One span: the sending half of a side, the fibre, and the receiving half of the side at its end; in one round, and in
+-- many.
 use Rattle.std.specs.Prelude.{ℕ, suc, ◌≡◌, ◌≢◌, ◌≤◌, Bool, if◌then◌else◌, Option, Some}
 use Rattle.sdh_ringmap.specs.declared.terms.Rate.{Rate}
 use Rattle.sdh_ringmap.specs.Rates.{n_of}

@@ -136,7 +136,7 @@ after_taking threshold i = record {
   readings = readings_by (is_some i.arrived) (n_of i.section.rate) (found threshold i).bytes i.readings;
 }
 
--- ---- what is true of every side that receives
+-- ---- what is true of the receiving half of every side
 
 abbrev pub IsInlet : Inlet → Type 0
 IsInlet i = length i.readings ≡ n_of i.section.rate

@@ -50,7 +50,7 @@ after_sending input s = record s {
   generators = after_inputs input s.generators;
 }
 
--- what is true of every side that sends
+-- what is true of the sending half of every side
 pub record IsSending (s : Sending) : Type 0 where
   pub generators : length s.generators ≡ n_of s.section.rate
   pub spellable : IsSpellable s.word

@@ -1,4 +1,4 @@
-//! One side that receives frames.
+//! The receiving half of one side.
 ghost use Rattle.std.specs.Prelude.{◌≡◌, ◌≢◌, ◌-◌, ◌≤◌, None, Some, IfSome, IfOk, length, slice_index_or};
 ghost use Rattle.std.specs.Option.{is_some};
 ghost use Rattle.sdh_ringmap.specs.Rates.{n_of};
@@ -21,8 +21,8 @@ use sdh_ringmap::Rate;
 use std::alloc::{AllocError, Global};
 use std::marker::Model;
 
-/// One side that receives: what arrived, the section and the interpreters. The frame in the inbox counts only where a
-/// frame arrived since the last round.
+/// The receiving half of one side: what arrived, the section and the interpreters. The frame in the inbox counts only
+/// where a frame arrived since the last round.
 #[derive(Debug, Drop)]
 pub struct Inlet {
     arrived: Option<Arrived>,

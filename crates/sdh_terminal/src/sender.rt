@@ -1,4 +1,4 @@
-//! One side that sends.
+//! The sending half of one side.
 ghost use Rattle.std.specs.Prelude.{◌≡◌, None, Some, IfOk, length};
 ghost use Rattle.sdh_ringmap.specs.Rates.{n_of};
 ghost use Rattle.sdh_overhead.specs.Sections.{holding, clear_frame, line_frame, parities_of};
@@ -26,7 +26,7 @@ use sdh_ringmap::{Rate, Side};
 use std::alloc::{AllocError, Global};
 use std::marker::Model;
 
-/// One side that sends: the section, the pointer generators and the word of its K bytes.
+/// The sending half of one side: the section, the pointer generators and the word of its K bytes.
 #[derive(Debug, Drop)]
 pub struct Sender {
     section: Section,
