@@ -1,5 +1,5 @@
--- Columns of a frame in which some bytes are written. A column is N bytes wide here, and columns are counted from 0
--- through all rows.
+-- Columns of a frame in which some bytes are written. A column here is N consecutive bytes of one row, and the numbers
+-- go on from row to row: 0 to 269 in the first row, 270 to 539 in the second, up to 2429.
 use Rattle.std.specs.Prelude.{ℕ, ◌≡◌, ◌/◌, ◌<◌, ◌≤◌, Bool, if◌then◌else◌, List, slice_index}
 
 -- In the columns from `from` on and before `to`, each byte i for which `is_meant` holds has the value `value i`. All

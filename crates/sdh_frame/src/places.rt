@@ -99,8 +99,9 @@ pub(crate) fn pointer_index(rate: Rate, au: u16, index: u16) -> usize
     index_in(rate, place)
 }
 
-// Returns the index of the first byte of a column. Unlike those of a `Place`, columns are N bytes wide here, and are
-// counted from 0 through all rows.
+// Returns the index of the first byte of a column. A column here is N consecutive bytes of one row, and the numbers go
+// on from row to row: 0 to 269 in the first row, 270 to 539 in the second, up to 2429. The columns of a `Place` are one
+// byte wide and are counted from 1 in each row.
 #[inline(always)]
 pub(crate) fn byte_of<const N: usize>(column: usize) -> usize
     requires rate { (N ≡ 4) ⊎ (N ≡ 16) }

@@ -1,5 +1,6 @@
-//! A multiplexer for rounds whose deliveries nobody asks for. What its ports deliver stays in the received frames until
-//! `deliver` writes it into memory that was taken when the node was made.
+//! A multiplexer that doesn't take out in every round what its ports deliver. `deliver` takes what they delivered in
+//! the last round out of the received frames, into memory that was taken when the node was made. What they delivered in
+//! earlier rounds is gone by then.
 ghost use Rattle.std.specs.Prelude.{◌≡◌, ◌/◌, ◌<◌, IfOk, length};
 ghost use Rattle.sdh_ringmap.specs.Rates.{n_of};
 ghost use Rattle.sdh_circuits.specs.Kept.{KeepsRing};
@@ -14,9 +15,9 @@ use sdh_terminal::{Outlets, TakenPair};
 use std::alloc::{AllocError, Global};
 use std::marker::Model;
 
-/// A multiplexer, and memory that was taken when the node was made, into which `deliver` writes what its ports
-/// delivered. Until then that stays in the frames that came in the last round. An `Adm` is made into a `Waiting` for
-/// rounds whose deliveries nobody asks for.
+/// A multiplexer, and memory that was taken when the node was made, into which `deliver` takes what its ports delivered
+/// in the last round. Until the next round that stays in the frames that came in the last one. An `Adm` is made into a
+/// `Waiting` for rounds whose deliveries nobody asks for.
 #[derive(Debug, Drop)]
 pub struct Waiting {
     pub(crate) node: Multiplexer,

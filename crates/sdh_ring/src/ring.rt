@@ -74,8 +74,8 @@ impl Ring {
         ensures ring { IfOk result (λ ring. ring ≡ new_ring settings map circuits) }
 
         // Over honest fibres that were just prepared for it, a new ring is whole (`IsWhole`). Among other things, in a
-        // whole ring each node is the one that was made for its position, and each fibre carries a frame with the K
-        // word that its node sent last there, or nothing before the first round.
+        // whole ring each node still has the position, the settings, the circuits and the ports with which it was made.
+        // Each fibre carries a frame with the K word that its node sent last there, or nothing before the first round.
         ensures whole { IfOk result (λ ring. (f : Fibres) → IsHonest f → IsWhole (world ring (prepared settings.rate (length map) f))) }
 
         // A new ring over such fibres is vouched for (`IsVouched`), whatever the clocks of its ports will be. In any
@@ -116,9 +116,10 @@ impl Ring {
     }
 
     /// Holds the controller of a node for the next `turns` rounds. Rounds that remain from an earlier call no longer
-    /// count. A ring is vouched for (`IsVouched`) only while each held node is idle or isolated. So if this node is
-    /// idle or isolated, a ring that is vouched for stays so. If it is switched or passes traffic through, then while
-    /// it is held the ring isn't vouched for.
+    /// count. A ring that is vouched for (`IsVouched`) stays so if this node is idle or isolated. If it is switched or
+    /// passes traffic through, the ring isn't vouched for while the node is held. That asks for more than is needed to
+    /// keep strangers out: right after a quiet window any node may be held except those that pass traffic through, and
+    /// still no port meets a stranger (`NodesThatDoNotPassMayBeHeld` in `sdh_laws/specs/Strangers/Laws.antt`).
     pub fn hold(&mut self, at: Pos, turns: u32)
         requires at { at.0 < length self.old.ids }
         requires some { 1 ≤ turns }
