@@ -1,6 +1,5 @@
-//! A multiplexer that doesn't take out in every round what its ports deliver. `deliver` takes what they delivered in
-//! the last round out of the received frames, into memory that was taken when the node was made. What they delivered in
-//! earlier rounds is gone by then.
+//! A multiplexer whose ports' deliveries stay in the received frames, instead of being copied out of them in every
+//! round. `deliver` copies out those of the last round, into memory that was taken when the node was made.
 ghost use Rattle.std.specs.Prelude.{◌≡◌, ◌/◌, ◌<◌, IfOk, length};
 ghost use Rattle.sdh_ringmap.specs.Rates.{n_of};
 ghost use Rattle.sdh_circuits.specs.Kept.{KeepsRing};
@@ -15,8 +14,8 @@ use sdh_terminal::{Outlets, TakenPair};
 use std::alloc::{AllocError, Global};
 use std::marker::Model;
 
-/// A multiplexer, and memory that was taken when the node was made, into which `deliver` takes what its ports delivered
-/// in the last round. Until the next round that stays in the frames that came in the last one. An `Adm` is made into a
+/// A multiplexer, and memory for what its ports deliver. What they delivered in the last round stays in the frames
+/// received in that round until the next round runs; `deliver` copies it into the memory. An `Adm` is made into a
 /// `Waiting` for rounds whose deliveries nobody asks for.
 #[derive(Debug, Drop)]
 pub struct Waiting {

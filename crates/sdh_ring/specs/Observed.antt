@@ -27,7 +27,8 @@ abbrev pub HearsSome : ((ℕ → World) → ℕ → Type 0) → World → ℕ �
 HearsSome = observed.HearsSome adm
 
 -- `IsStopped exact kept w limit left before after`: a recorder stopped the step at left, and `RanSome` holds up to
--- there. `before` and `after` are the plant's count of failed calls before and after the step. If that count is exact,
--- rising by one with each failed call and staying as it is with any other, then it didn't rise.
+-- there. `before` and `after` are the plant's count of failed calls before and after the step. An exact count rises by
+-- one with each failed call and stays as it is with any other. If this count is exact, it is the same after the step as
+-- before.
 abbrev pub IsStopped : Bool → ((ℕ → World) → ℕ → Type 0) → World → ℕ → World → ℕ → ℕ → Type 0
 IsStopped = observed.IsStopped adm

@@ -81,10 +81,11 @@ impl Ring {
         // A new ring over such fibres is vouched for (`IsVouched`), whatever the clocks of its ports will be. In any
         // ring that is vouched for, each AU-4 under way holds either ones or what one particular port sent. In working
         // slot m this is a port of the circuit in that slot of the span: port A if the frame goes eastwards, and port B
-        // if it goes westwards. In protection slot m it depends on the K word in the frame. A long word with a request
-        // names a node as its source. If the frame goes eastwards, the port is port B of the circuit in working slot m
-        // on that node's west span. If it goes westwards, it is port A of the circuit in working slot m on that node's
-        // east span. Where there is no such circuit, or the K word is any other, the AU-4 holds ones.
+        // if it goes westwards. In protection slot m it depends on the K word in the frame. If that is a long word with
+        // a request, take the node that it names as its source. In a frame that goes eastwards, the port is port B of
+        // the circuit in working slot m on that node's west span. In one that goes westwards, it is port A of the
+        // circuit in working slot m on that node's east span. If the K word is not a long word with a request, or there
+        // is no such circuit, the AU-4 holds ones.
         ensures vouched { IfOk result (λ ring. (f : Fibres) (clocks : PortId → ℕ → Clock) → IsHonest f
             → IsVouched clocks (world ring (prepared settings.rate (length map) f))) }
     {
@@ -117,9 +118,10 @@ impl Ring {
 
     /// Holds the controller of a node for the next `turns` rounds. Rounds that remain from an earlier call no longer
     /// count. A ring that is vouched for (`IsVouched`) stays so if this node is idle or isolated. If it is switched or
-    /// passes traffic through, the ring isn't vouched for while the node is held. That asks for more than is needed to
-    /// keep strangers out: right after a quiet window any node may be held except those that pass traffic through, and
-    /// still no port meets a stranger (`NodesThatDoNotPassMayBeHeld` in `sdh_laws/specs/Strangers/Laws.antt`).
+    /// passes traffic through, the ring isn't vouched for while the node is held. Being vouched for is enough to keep
+    /// strangers out, but isn't necessary: right after a quiet window any node may be held except those that pass
+    /// traffic through, and still no port meets a stranger (`NodesThatDoNotPassMayBeHeld` in
+    /// `sdh_laws/specs/Strangers/Laws.antt`).
     pub fn hold(&mut self, at: Pos, turns: u32)
         requires at { at.0 < length self.old.ids }
         requires some { 1 ≤ turns }
@@ -216,8 +218,9 @@ impl Ring {
         ensures later { P.faults plant.old ≤ P.faults plant.new }
         ensures failed { OnErr result (Rose (P.faults plant.old) (P.faults plant.new)) }
 
-        // Where the plant's count of faults is exact, one call failed if the round ends with a fault, and none if it
-        // ends with Ok.
+        // The plant's count of faults is exact (`P.exact`) if it rises by one with each failed call, up to the largest
+        // `u64`, and with no other call. An exact count rises by one if the round ends with a fault, and stays as it
+        // was if it ends with Ok.
         ensures counted { IsCounted P.exact (IsErr result) (P.faults plant.old) (P.faults plant.new) }
     {
         sdh_laws::hearing::whole_rounds_go_as_signals();
@@ -282,8 +285,8 @@ impl Ring {
             (P.faults plant.old) (P.faults plant.new) }
         ensures laws { KeepsPromises (world self.old (P.fibres plant.old)) limit result (world self.new (P.fibres plant.new)) }
 
-        // After a step that ended with a quiet window, `Heard` holds of the observer for exactly the rounds of that
-        // step.
+        // The observer's predicate `Heard` says what it keeps of the rounds that it was shown. After a step that ended
+        // with a quiet window it holds for exactly the rounds of that step.
         ensures heard { OnOk result
             (Hears (λ at k. O.Heard at k observer.new) (world self.old (P.fibres plant.old)) limit (world self.new (P.fibres plant.new))) }
     {
