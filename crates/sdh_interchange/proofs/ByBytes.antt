@@ -20,6 +20,7 @@ use Rattle.sdh_frame.proofs.PlaceProofs.{IsIn, IsPointerByte}
 use Rattle.sdh_frame.proofs.AuProofs.{au_byte, payload_byte-here, payload_byte-other, payload_byte-before, pointer_byte-here}
 use Rattle.sdh_frame.proofs.AuProofs.{pointer_byte-other, pointer_byte-payload, pointer_byte-row}
 use Rattle.sdh_frame.proofs.AllAus.{aus_byte, at_aus}
+use Rattle.sdh_frame.proofs.ByColumns.{by_rate}
 
 -- ---- payloads of a node's own ports
 
@@ -31,11 +32,6 @@ own_byte-at n own i a q h lane column = let behind : leb (9 * n) (i % (270 * n))
 own_byte-none : (n : ℕ) (own : List (List ℕ)) (i : ℕ) → i % (270 * n) < 9 * n → own_byte n own i ≡ 0
 unfolding own_byte
 own_byte-none n own i h = let before : leb (9 * n) (i % (270 * n)) ≡ false = lt-leb _ _ h in rw before refl
-
--- what holds at both rates
-pub by_rate : (P : ℕ → Type 0) (n : ℕ) → (n ≡ 4) ⊎ (n ≡ 16) → P 4 → P 16 → P n
-by_rate P n (inl e) four sixteen = subst P (sym e) four
-by_rate P n (inr e) four sixteen = subst P (sym e) sixteen
 
 pub either : (n : ℕ) (rate : Rate) → n_of rate ≡ n → (n ≡ 4) ⊎ (n ≡ 16)
 either n Four e = inl (sym e)
