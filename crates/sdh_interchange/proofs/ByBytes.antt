@@ -19,7 +19,7 @@ use Rattle.sdh_interchange.specs.Lanes.{IsPlain}
 use Rattle.sdh_frame.proofs.PlaceProofs.{IsIn, IsPointerByte}
 use Rattle.sdh_frame.proofs.AuProofs.{au_byte, payload_byte-here, payload_byte-other, payload_byte-before, pointer_byte-here}
 use Rattle.sdh_frame.proofs.AuProofs.{pointer_byte-other, pointer_byte-payload, pointer_byte-row}
-use Rattle.sdh_frame.proofs.AllAus.{aus_byte, at_aus}
+use Rattle.sdh_frame.proofs.AllAus.{aus_byte, at_aus, in_rate}
 use Rattle.sdh_frame.proofs.ByColumns.{by_rate}
 
 -- ---- payloads of a node's own ports
@@ -97,10 +97,6 @@ unfolding aus_byte
 aus_byte-overhead n k [] i x h r = refl
 aus_byte-overhead n k (au ∷ aus) i x h r = aus_byte-overhead n (k + 1) aus i (au_byte n k au i x) h r ∙ au_byte-overhead n k au i x h r
 
-pub rate_lane : (rate : Rate) (i : ℕ) → i % n_of rate < n_of rate
-rate_lane Four i = omega arith
-rate_lane Sixteen i = omega arith
-
 -- ---- where a byte of an AU-4 stands in its source
 
 payload_from : (rate : Rate) (i au : ℕ) → 1 ≤ au → i < size_of rate → 9 * n_of rate ≤ i % (270 * n_of rate)
@@ -164,7 +160,7 @@ module _ (rate : Rate) (i x : ℕ) (inside : i < size_of rate) where
       ∙ sym (own_byte-none n own (i - i % n + (k - 1)) (own_pointers rate i k low high h.1))
 
   lane_in : i % n < n
-  lane_in = rate_lane rate i
+  lane_in = in_rate rate i
 
   of_source : (s : Source) (first second : List ℕ) (own : List (List ℕ)) → IsSource n (i % n + 1) s
       → (9 * n ≤ i % (270 * n)) ⊎ ((i / (270 * n) ≡ 3) × (i % (270 * n) < 9 * n))

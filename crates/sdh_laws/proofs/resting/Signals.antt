@@ -131,7 +131,7 @@ module _ (law : StillRingsAreSettled) (w : World) (whole : IsWhole w) (calm : (j
       ap (λ (b : Brought). b.third) (earlier_in w whole (suc (suc (suc k))) p d h) ∙ second_stays k p d low h
       ∙ sym (ap (λ (b : Brought). b.third) (earlier_in w whole (suc (suc k)) p d h))
 
-  -- what was kept w after round 5 is kept w after rounds 6 and 7
+  -- what was kept after round 5 is kept after rounds 6 and 7
   kept_stays : (k p : ℕ) (d : Side) → k < 4 → p < length w.ring.nodes → kept w (suc (suc (suc (suc k)))) p d ≡ kept w (suc (suc (suc k))) p d
   kept_stays k p d low h =
       same_brought _ _ (last_stays (suc (suc k)) p d (omega arith) h) (second_stays (suc k) p d (omega arith) h)
