@@ -2,28 +2,13 @@
 use Rattle.std.proofs.Common.{◌≡◌, ℕ, ◌+◌, ◌^◌, ◌<◌, ◌≤◌, ◌++◌, length, codes, decimal, refl, arith}
 use Rattle.std.specs.Prelude.{Option, Some, None}
 use Rattle.std.proofs.lemmas.List.{length-append}
-use Rattle.std.proofs.lemmas.Fmt.{length-decimal-le}
 use Rattle.sdh_ringmap.specs.declared.terms.Code.{Code}
 use Rattle.sdh_ringmap.specs.declared.terms.Code.TheVariants.{Nr, Rr, Wtr, Ms, Sd, Sf, Fs}
-use Rattle.sdh_report.specs.declared.node_line.StateWord.{StateWord}
-use Rattle.sdh_report.specs.declared.node_line.StateWord.TheVariants as word
 use Rattle.sdh_report.specs.declared.node_line.WordBytes.{WordBytes}
 use Rattle.sdh_report.specs.Lines.{state_text, word_text}
+use Rattle.sdh_report.proofs.Short.{digits_8, digits_64, short-state_text}
 use Rattle.sdh_aps.specs.declared.shown.Shown.{Shown}
 use Rattle.sdh_aps.specs.Lines.{code_text, far_text, heard_text, sent_text, heard_and_asked_text, signal_line}
-
-digits_8 : (n : ℕ) → n < 2 ^ 8 → length (decimal n) ≤ 3
-digits_8 n h = length-decimal-le 3 n (omega arith) (omega arith) (omega arith)
-
-digits_64 : (n : ℕ) → n < 2 ^ 64 → length (decimal n) ≤ 20
-digits_64 n h = length-decimal-le 20 n (omega arith) (omega arith) h
-
-short-state : (s : StateWord) → length (state_text s) ≤ 11
-short-state word.Idle = omega arith
-short-state word.Pass = omega arith
-short-state word.SwitchWest = omega arith
-short-state word.SwitchEast = omega arith
-short-state word.Isolated = omega arith
 
 short-code : (c : Code) → length (code_text c) ≤ 3
 short-code Nr = omega arith
@@ -58,7 +43,7 @@ short-sent s small =
       length-append c (codes " west "),
       length-append b (far_text s.far),
       length-append a (codes " far "),
-      short-state s.state,
+      short-state_text s.state,
       short-far s.far small,
     )
 

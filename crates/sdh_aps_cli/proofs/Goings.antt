@@ -1,9 +1,7 @@
 -- What a call comes to with a plan.
 use Rattle.std.proofs.Common.{◌≡◌, ◌≢◌, true, false, ℕ, ◌<◌, None, Some, List, ◌++◌, length, refl, ap, sym, subst, ◌∙◌, inl, inr, arith}
 use Rattle.std.specs.Prelude.{◌==◌, Bool, Option, option_map, position, if◌then◌else◌}
-use Rattle.std.specs.Option.{option_map_or}
 use Rattle.std.proofs.KnownBytes.{Appends-trans}
-use Rattle.std.proofs.lemmas.List.Quantifiers.{position-Some}
 use Rattle.sdh_ringmap.specs.declared.Pos.{Pos}
 use Rattle.sdh_ringmap.specs.Places.{found_at}
 use Rattle.sdh_plant.specs.Fibres.{Fibres}
@@ -32,18 +30,9 @@ use Rattle.sdh_aps_cli.specs.declared.listing.SignalAsk.TheVariants as asked
 use Rattle.sdh_aps_cli.specs.declared.listing.PlanListing.{PlanListing}
 use Rattle.sdh_aps_cli.specs.declared.listing.PlanListing.TheVariants as listed
 use Rattle.sdh_aps_cli.proofs.Plans.{run_ends, run_done}
+use Rattle.sdh_laws.proofs.strangers.Rules.{found_inside}
 
 -- ---- the node that is asked for
-
-found_inside : (ids : List ℕ) (id : ℕ) (p : Pos) (o : Option ℕ) → position (λ x. x == id) ids ≡ o
-    → option_map (λ k. record { 0 = k }) o ≡ Some p → p.0 < length ids
-found_inside ids id p None e h = cc
-found_inside ids id p (Some k) e h =
-    let is = position-Some (λ x. x == id) ids k 0 e in
-    let same : k ≡ p.0 =
-    (let z : ◌≡◌ {A = Option Pos} (Some (record { 0 = k })) (Some p) = h in ap
-    (λ (o : Option Pos). option_map_or (λ (q : Pos). q.0) o 0) z) in
-    subst (λ x. x < length ids) same is.0
 
 frames_placed : (n : ℕ) (o : Option Pos) (a : FrameAsk) (l : PlanListing) → ((p : Pos) → o ≡ Some p → p.0 < n)
     → option_map (λ p. listed.Frames (window_at a p)) o ≡ Some l → IsPlaced n l

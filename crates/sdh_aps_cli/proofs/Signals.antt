@@ -1,19 +1,17 @@
 -- A ring over honest fibres shows what the ring of signals does, by the script alone.
-use Rattle.std.proofs.Common.{◌≡◌, ◌≢◌, ℕ, zero, suc, ◌+◌, ◌-◌, ◌*◌, ◌<◌, ◌≤◌, Bool, true, false, List, [], ◌∷◌, ◌++◌, length, get_or, map}
+use Rattle.std.proofs.Common.{◌≡◌, ℕ, zero, suc, ◌+◌, ◌-◌, ◌<◌, ◌≤◌, Bool, false, List, [], ◌∷◌, ◌++◌, length, get_or, map}
 use Rattle.std.proofs.Common.{refl, ap, ap₂, sym, subst, ◌∙◌, arith, inl, inr}
 use Rattle.std.specs.Prelude.{◌==◌, ◌||◌, not, nat_le, if◌then◌else◌}
 use Rattle.std.specs.List.{flat_map}
 use Rattle.std.proofs.lemmas.Bool.{cases_lt, cases_Bool, eq-eqb, ne_eqb}
-use Rattle.std.proofs.lemmas.List.{length-replicate, get_or-map}
+use Rattle.std.proofs.lemmas.List.{get_or-map}
 use Rattle.sdh_basics.specs.Cells.{cells}
 use Rattle.sdh_basics.proofs.CellsLaws.{cells-zero, get_or-cells}
 use Rattle.sdh_ringmap.specs.declared.Side.{Side}
 use Rattle.sdh_ringmap.specs.declared.Side.TheVariants.{West, East}
 use Rattle.sdh_ringmap.specs.Places.{position_of}
-use Rattle.sdh_ringmap.specs.declared.terms.Condition.TheVariants.{Clear}
 use Rattle.sdh_ringmap.specs.Fibres.{fibre_to, is_cut}
 use Rattle.sdh_circuits.specs.Provisioning.{Provisioning}
-use Rattle.sdh_request.specs.declared.Defect.{Defect}
 use Rattle.sdh_request.specs.declared.Defect.TheVariants as defect
 use Rattle.sdh_request.specs.declared.settings.Settings.{Settings}
 use Rattle.sdh_plant.specs.Fibres.{Fibres}
@@ -29,7 +27,7 @@ use Rattle.sdh_world.specs.Held.{nowhere, node_at}
 use Rattle.sdh_world.specs.Rounds.{World, round}
 use Rattle.sdh_world.specs.Changes.{all_changed, after_stretch, new_world}
 use Rattle.sdh_world.specs.Laws.{MayHappen}
-use Rattle.sdh_world.specs.Sides.{holding_of, world_in, Fits, condition_to}
+use Rattle.sdh_world.specs.Sides.{holding_of, world_in, condition_to}
 use Rattle.sdh_world.proofs.Keeping.{length-new}
 use Rattle.sdh_world.proofs.Histories.{holding_is, new_holds}
 use Rattle.sdh_promise.specs.Changes.{Stretch, rounds_in}
@@ -40,6 +38,8 @@ use Rattle.sdh_laws.specs.Hearing.Laws.{IsWhole, SidesBring, RoundsAreSignalRoun
 use Rattle.sdh_laws.proofs.hearing.Changes.{each_new, new_worlds_are_whole, whole_all, whole_run}
 use Rattle.sdh_laws.proofs.hearing.Nodes.{count, length-after, is_at}
 use Rattle.sdh_laws.proofs.hearing.Staying.{world_low, world_high, left_in}
+use Rattle.sdh_laws.proofs.hearing.Signalling.{no_sf, is_sf}
+use Rattle.sdh_laws.proofs.hearing.Stretches.{ran_at, fits_new}
 use Rattle.sdh_owed.specs.Laws.{ring_by}
 use Rattle.sdh_aps.specs.Shown.{same_shown}
 use Rattle.sdh_aps.specs.Showing.{shown_by, shown_of}
@@ -57,16 +57,6 @@ pub record Laws : Type 0 where
   pub requests : RequestsAreTheHistorys
 
 -- ---- nodes
-
-failed : (d : Defect) → d ≡ defect.Sf → is_failed d ≡ true
-failed defect.None e = cc
-failed defect.Sd e = cc
-failed defect.Sf e = refl
-
-works : (d : Defect) → d ≢ defect.Sf → is_failed d ≡ false
-works defect.None e = refl
-works defect.Sd e = refl
-works defect.Sf e = absurd (e refl)
 
 -- a new node's part of a ring of signals
 first_state : (s : Settings) (ids : List ℕ) (circuits : Provisioning) (p : ℕ)
@@ -144,16 +134,10 @@ module _ (laws : Laws) (s : Settings) (ids : List ℕ) (circuits : Provisioning)
   ids_at : (t : ℕ) → t ≤ rounds_in ss → (at t).ring.ids ≡ ids
   ids_at t h = (left_in ss from t h).ids
 
-  ran_at : (t : ℕ) → t ≤ rounds_in ss → (at t).ring.rounds ≡ t
-  ran_at t h = (left_in ss from t h).rounds ∙ (let e : 0 + t ≡ t = omega arith in e)
-
   size_at : (t : ℕ) → t ≤ rounds_in ss → length (at t).ring.nodes ≡ n
   size_at t h = count (at t) (whole_at t).placed ∙ ap length (ids_at t h)
 
   -- ---- what nodes need
-
-  fits : Fits n from
-  fits = record { conditions = length-replicate (2 * n) Clear; nodes = length-new s ids circuits.circuits n }
 
   cut_is : (t : ℕ) → t ≤ rounds_in ss → (p : ℕ) (d : Side) → p < n
       → is_cut (condition_to (at t) p d) ≡ (side_history n p d ss).is_cut t
@@ -161,25 +145,25 @@ module _ (laws : Laws) (s : Settings) (ids : List ℕ) (circuits : Provisioning)
   cut_is t h p d low =
       ap (λ (l : List ℕ). is_cut (condition_of (at t).fibres (fibre_to (length l) p d))) (ids_at t h)
       ∙ ap (λ (x : Holding). is_cut x.condition)
-      (holding_is n p d ss from t fits low ∙ ap (λ (x : Holding). holding_in n p d ss x t) (new_holds s ids circuits s.rate f p d low))
+      (holding_is n p d ss from t (fits_new s ids circuits f) low ∙ ap (λ (x : Holding). holding_in n p d ss x t) (new_holds s ids circuits s.rate f p d low))
 
   fails_are : (t : ℕ) → t < rounds_in ss → (p : ℕ) (d : Side) → p < n
       → is_failed (receiving_on d (node_at (round (at t)).ring.nodes p)).local.defect ≡ fails_in n ss t p d
   fails_are zero h p d low =
       let size = size_at zero (omega arith) in
       let b = laws.sides (at zero) p d (whole_at zero) (omega (arith, size)) in
-      ap is_failed (b.no_defect (ran_at zero (omega arith)))
+      ap is_failed (b.no_defect (ran_at s ids circuits f ss zero (omega arith)))
   fails_are (suc t) h p d low =
       let v = at (suc t) in
       let size = size_at (suc t) (omega arith) in
-      let ran = ran_at (suc t) (omega arith) in
+      let ran = ran_at s ids circuits f ss (suc t) (omega arith) in
       let b = laws.sides v p d (whole_at (suc t)) (omega (arith, size)) in
       let some : 0 < v.ring.rounds = omega (arith, ran) in
       let now = (receiving_on d (node_at (round v).ring.nodes p)).local.defect in
       let cut = cut_is (suc t) (omega arith) p d low in
       elim (cases_Bool (is_cut (condition_to v p d))) [
-        | inl is ↦ failed now (b.fails some is) ∙ sym (sym cut ∙ is)
-        | inr none ↦ works now (b.works some none) ∙ sym (sym cut ∙ none)
+        | inl is ↦ is_sf now (b.fails some is) ∙ sym (sym cut ∙ is)
+        | inr none ↦ no_sf now (b.works some none) ∙ sym (sym cut ∙ none)
       ]
 
   asks_are : (t : ℕ) → t < rounds_in ss → (p : ℕ) (d : Side) → p < n
@@ -266,10 +250,10 @@ module _ (laws : Laws) (s : Settings) (ids : List ℕ) (circuits : Provisioning)
   unfolding is_told
   told_is zero h p low =
       ap (λ (b : Bool). b || not (same_shown (shown_at (at zero).ring p) (shown_at (at (suc zero)).ring p)))
-      (eq-eqb (at (suc zero)).ring.rounds 1 (ran_at (suc zero) (omega arith)))
+      (eq-eqb (at (suc zero)).ring.rounds 1 (ran_at s ids circuits f ss (suc zero) (omega arith)))
   told_is (suc t) h p low =
       let r = (at (suc (suc t))).ring in
-      let ran = ran_at (suc (suc t)) (omega arith) in
+      let ran = ran_at s ids circuits f ss (suc (suc t)) (omega arith) in
       let first : (r.rounds == 1) ≡ (suc t == 0) =
       ne_eqb r.rounds 1 (λ e. omega (arith, ran)) ∙ sym (ne_eqb (suc t) 0 (λ e. omega arith)) in
       let back : t ≡ suc t - 1 = omega arith in
@@ -280,7 +264,7 @@ module _ (laws : Laws) (s : Settings) (ids : List ℕ) (circuits : Provisioning)
   change_is : (t : ℕ) → t < rounds_in ss → (p : ℕ) → p < n → change_of (at (suc t)).ring p ≡ change_by ring ids ss t p
   change_is t h p low =
       let later : suc t ≤ rounds_in ss = omega arith in
-      let ran = ran_at (suc t) later in
+      let ran = ran_at s ids circuits f ss (suc t) later in
       let number : (at (suc t)).ring.rounds - 1 ≡ t = omega (arith, ran) in
       let names = ids_at (suc t) later in
       let shows = shown_is t h p low in

@@ -18,10 +18,9 @@ use Rattle.sdh_laws.proofs.hearing.Changes.{whole_all, whole_run}
 use Rattle.sdh_laws.proofs.hearing.Nodes.{informed, nodes_after, length-after}
 use Rattle.sdh_laws.proofs.hearing.Signalling.{one_run}
 use Rattle.sdh_laws.proofs.hearing.Staying.{world_low, world_high}
-use Rattle.sdh_owed.proofs.Known.{length-placed}
 use Rattle.sdh_aps_cli.proofs.Alike.{no_run}
 use Rattle.sdh_aps_cli.specs.ByScript.{turns_after, turns_after_all, turns_in}
-use Rattle.sdh_owed.proofs.Counting.{size_all}
+use Rattle.sdh_owed.proofs.Counting.{size_all, size_changed}
 
 -- how many turns the controller at a position is to miss
 abbrev pub turns_at : World → ℕ → ℕ
@@ -61,14 +60,6 @@ held_placed turns q ns p low =
       | inl same ↦ held_there turns q ns p low same ∙ sym (ap Now (eq-eqb q p same))
       | inr apart ↦ held_apart turns q ns p apart ∙ sym (ap Now (ne_eqb q p apart))
     ]
-
-size_changed : (c : Change) (w : World) → length (changed c w).ring.nodes ≡ length w.ring.nodes
-unfolding changed
-size_changed (Fibre q d condition) w = refl
-size_changed (Order q d c) w = length-placed (at_receiving d (commanded_by c)) q w.ring.nodes
-size_changed (Hold q turns) w = length-placed (held_for turns) q w.ring.nodes
-size_changed (Slip port turn count) w = length-placed (slips_at port turn count) (place_of_port w.ring port) w.ring.nodes
-size_changed (Now t) w = refl
 
 turns_changed : (c : Change) (w : World) (p : ℕ) → p < length w.ring.nodes → turns_at (changed c w) p ≡ turns_after p c (turns_at w p)
 unfolding changed

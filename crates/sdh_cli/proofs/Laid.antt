@@ -1,5 +1,5 @@
 -- A circuit that is laid after others is added: no check refuses it.
-use Rattle.std.proofs.Common.{◌≡◌, ℕ, ◌+◌, ◌-◌, ◌%◌, ◌<◌, ◌≤◌, List, ◌++◌, length, get_or, drop, Bool, true, false, not, cond, ◌&&◌, ◌==◌}
+use Rattle.std.proofs.Common.{◌≡◌, ℕ, ◌+◌, ◌-◌, ◌%◌, ◌<◌, ◌≤◌, List, ◌++◌, get_or, drop, Bool, true, false, not, cond, ◌&&◌, ◌==◌}
 use Rattle.std.proofs.Common.{nat_le, nat_lt, All, Option, Some, None, codes, refl, unwrap_or, sym, ap, ◌∙◌, subst, arith}
 use Rattle.std.specs.Prelude.{pos, Result, Err, Ok, IfNone, IfErr, OnOk}
 use Rattle.std.specs.List.{list_all, list_any, range_with_len}
@@ -7,9 +7,8 @@ use Rattle.std.specs.Option.{option_map_or, is_some}
 use Rattle.std.specs.Ordering.{int_eq}
 use Rattle.std.specs.Fmt.{digits}
 use Rattle.std.specs.Str.{bytes_eq}
-use Rattle.std.proofs.lemmas.Bool.{le-leb, ltb-true, and_parts, eqb-true}
-use Rattle.std.proofs.lemmas.List.FromFn.{length-range_with_len, get_or-range_with_len}
-use Rattle.std.proofs.lemmas.List.Folds.{list_all_at, list_any_none}
+use Rattle.std.proofs.lemmas.Bool.{le-leb, ltb-true, and_parts, eqb-true, and_from}
+use Rattle.std.proofs.lemmas.List.Folds.{list_any_none}
 use Rattle.std.proofs.lemmas.Slice.Eq.{bytes_eq-Decides}
 use Rattle.std.proofs.lemmas.Bool.Decides.{Decides-int_eq}
 use Rattle.std.proofs.Math.Nat.{mod-lt}
@@ -27,18 +26,7 @@ use Rattle.sdh_payload.specs.Customer.{is_text}
 use Rattle.sdh_plan.specs.Words.{decimal_from}
 use Rattle.sdh_cli.specs.Big.{Laying, drawn, next, spans_of, laying_end, name_in, laid_circuit, next_circuit, big_nodes}
 use Rattle.sdh_cli.specs.Laid.{IsLaying, IsLaid, wish_with, wish_laid}
-
-no_longer : (b c : Bool) → (b ≡ false → c ≡ false) → c ≡ true → b ≡ true
-no_longer true c f e = refl
-no_longer false c f e = let g : false ≡ true = sym (f refl) ∙ e in cc
-
--- what passes at all numbers of a range passes at each
-ranged : (p : ℕ → Bool) (a n i : ℕ) → list_all p (range_with_len a n) ≡ true → a ≤ i → i < a + n → p i ≡ true
-ranged p a n i all low high =
-    let place : a + (i - a) ≡ i = omega arith in
-    let here : get_or (range_with_len a n) (i - a) 0 ≡ i = get_or-range_with_len a n (i - a) 0 (omega arith) ∙ place in
-    let inside : i - a < length (range_with_len a n) = omega (arith, length-range_with_len a n) in
-    no_longer (p i) (list_all p (range_with_len a n)) (λ no. list_all_at p (range_with_len a n) (i - a) 0 inside (ap p here ∙ no)) all
+use Rattle.sdh_rounds.proofs.FirstWindows.{one_passes}
 
 -- a test of each name that there can be
 abbrev names_pass : (ℕ → ℕ → Bool) → Bool
@@ -47,7 +35,7 @@ names_pass p = list_all (λ slot. list_all (p slot) (range_with_len 1 16)) (rang
 name_passes : (p : ℕ → ℕ → Bool) (slot number : ℕ) → names_pass p ≡ true → 1 ≤ slot → slot ≤ 2 → 1 ≤ number → number ≤ 16
     → p slot number ≡ true
 name_passes p slot number all a b c d =
-    ranged (p slot) 1 16 number (ranged (λ k. list_all (p k) (range_with_len 1 16)) 1 2 slot all a (omega arith)) c (omega arith)
+    one_passes (p slot) 1 16 number (one_passes (λ k. list_all (p k) (range_with_len 1 16)) 1 2 slot all a (omega arith)) c (omega arith)
 
 -- each name has the form of a name, and the name and the texts made of it have the form of a text
 abbrev is_formed : ℕ → ℕ → Bool
@@ -104,7 +92,7 @@ there None k e = cc
 there (Some p) k e = ap (λ j. Some (position_of j)) (eqb-true p.0 k e)
 
 found : (k : ℕ) → k < 16 → found_at big_nodes k ≡ Some (position_of k)
-found k h = there (found_at big_nodes k) k (ranged is_there 0 16 k all_there (omega arith) (omega arith))
+found k h = there (found_at big_nodes k) k (one_passes is_there 0 16 k all_there (omega arith) (omega arith))
 
 found_node : (k : ℕ) → k < 16 → node_of big_nodes (pos k) ≡ Some (position_of k)
 found_node k h = let small : nat_le k 15 ≡ true =
@@ -181,14 +169,9 @@ passes : (b : Bool) (o : Option AddError) (why : AddError) → b ≡ true → o 
 passes true o why e none = none
 passes false o why e none = cc
 
-both : (b c : Bool) → b ≡ true → c ≡ true → (b && c) ≡ true
-both true true e f = refl
-both false c e f = cc
-both true false e f = cc
-
 offset_within : (x : ℕ) → is_within 0 782 (pos (x % 783)) ≡ true
 offset_within x = let small : x % 783 < 783 =
-    mod-lt x (omega arith) in both (nat_le 0 (x % 783)) (nat_le (x % 783) 782) (le-leb 0 (x % 783) (omega arith))
+    mod-lt x (omega arith) in and_from (nat_le 0 (x % 783)) (nat_le (x % 783) 782) (le-leb 0 (x % 783) (omega arith))
     (le-leb (x % 783) 782 (omega arith))
 
 two_ends : (l : Laying) → IsLaying l → 0 < l.left → not (int_eq (pos l.at) (pos (laying_end l))) ≡ true
@@ -217,14 +200,14 @@ not_refused slot l p two low high is some were =
     let room =
     list_any_none (do_share 16 (next_circuit slot l)) p.circuits
     (λ k d h. unshared slot l (get_or p.circuits k d) is some (were k d h)) in
-    passes _ _ _ (both (nat_le 1 slot) (nat_le slot p.slots) (le-leb 1 slot low) (le-leb slot p.slots (omega (arith, two))))
-    (passes _ _ _ (both _ _ (ap is_some (found_node l.at is.at_inside))
+    passes _ _ _ (and_from (nat_le 1 slot) (nat_le slot p.slots) (le-leb 1 slot low) (le-leb slot p.slots (omega (arith, two))))
+    (passes _ _ _ (and_from _ _ (ap is_some (found_node l.at is.at_inside))
     (ap is_some (found_node (laying_end l) (mod-lt (l.at + spans_of l) (omega arith)))))
     (passes _ _ _ (two_ends l is some)
-    (passes _ _ _ (both _ _ (offset_within (drawn (next l.state))) (offset_within (drawn (next (next l.state)))))
-    (passes _ _ _ (both _ _ c.0 c.1)
-    (passes _ _ _ (both _ _ b.0 b.0)
-    (passes _ _ _ (both _ _ a.0 (ap not free))
+    (passes _ _ _ (and_from _ _ (offset_within (drawn (next l.state))) (offset_within (drawn (next (next l.state)))))
+    (passes _ _ _ (and_from _ _ c.0 c.1)
+    (passes _ _ _ (and_from _ _ b.0 b.0)
+    (passes _ _ _ (and_from _ _ a.0 (ap not free))
     (passes _ _ _ (ap (λ d. not (list_any (do_share 16 d) p.circuits)) given ∙ ap not room) refl)))))))
 
 -- where no check refuses, out of memory is the only error

@@ -17,7 +17,7 @@ use Rattle.sdh_ringmap.specs.declared.Side.{Side}
 use Rattle.sdh_report.specs.Lines.{table_line}
 use Rattle.sdh_squelch.specs.declared.Row.{Row}
 use Rattle.sdh_squelch.specs.Table.{SquelchTable, circuit_from, circuit_on, circuits_at, table_of}
-use Rattle.sdh_squelch.proofs.LookUps.{row-ends}
+use Rattle.sdh_squelch.proofs.LookUps.{row-ends, entry}
 use Rattle.sdh_plan.specs.Planned.{Planned, provisioning_of}
 use Rattle.sdh_plan.proofs.Following.{circuits_keep_the_ring}
 use Rattle.sdh_cli.specs.Tables.{squelch_line, slot_line}
@@ -33,9 +33,6 @@ record Names (n s m i : ℕ) (cs : List Provisioned) (r : Row) : Type 0 where
   to : r.to ≡ circuit.to
 
 module _ (n s m : ℕ) where
-  abbrev entry : ℕ → Provisioned → Row
-  entry i c = record { circuit = i; from = c.from; to = c.to }
-
   module _ (i : ℕ) (x : Provisioned) (cs : List Provisioned) where
     abbrev later : Option Row
     later = circuit_from n s m (i + 1) cs

@@ -1,6 +1,6 @@
 -- The lines of one node more, and counts of ports.
-use Rattle.std.proofs.Common.{◌≡◌, ℕ, suc, zero, ◌+◌, ◌*◌, ◌<◌, List, [], ◌∷◌, ◌++◌, length, take, Some, refl, ap, ◌∙◌, arith, append-nil}
-use Rattle.std.specs.Prelude.{slice_get, slice_index_or}
+use Rattle.std.proofs.Common.{◌≡◌, ℕ, suc, zero, ◌+◌, ◌*◌, ◌<◌, List, [], ◌∷◌, ◌++◌, length, take, refl, ap, ◌∙◌, arith, append-nil}
+use Rattle.std.specs.Prelude.{slice_index_or}
 use Rattle.std.specs.List.{flat_map}
 use Rattle.std.proofs.lemmas.Grind.{flat_map-append}
 use Rattle.sdh_basics.specs.Cells.{cells}
@@ -16,6 +16,7 @@ use Rattle.sdh_world.specs.Held.{HeldRing, outlet_at}
 use Rattle.sdh_report.specs.Lines.{node_line}
 use Rattle.sdh_report.specs.Reports.{PortLine, delivered_in, chunks_of, silences_of, chunks_in, silences_in}
 use Rattle.sdh_scripts.proofs.Ports.{length-ports, ports_next}
+use Rattle.sdh_scripts.proofs.Lists.{some_at}
 use Rattle.sdh_owed.specs.Reports.{told_at, port_told, ports_from, ports_told}
 
 pub nodes_none : (r : HeldRing) → flat_map node_line (cells (told_at r) 0) ≡ []
@@ -34,18 +35,12 @@ chunks-append : (xs ys : List PortLine) → chunks_in (xs ++ ys) ≡ chunks_in x
 chunks-append [] ys = omega arith
 chunks-append (x ∷ xs) ys = let h = chunks-append xs ys in omega arith
 
--- there is a circuit in each place below their number
-there_is : (cs : List Provisioned) (i : ℕ) → i < length cs → (c : Provisioned) × (slice_get cs i ≡ Some c)
-there_is [] i lt = absurd (omega arith)
-there_is (c ∷ cs) zero lt = (c, refl)
-there_is (c ∷ cs) (suc i) lt = there_is cs i (omega arith)
-
 pub chunks_more : (r : HeldRing) (cs : List Provisioned) (i : ℕ) → i < length cs
     → chunks_in (ports_from r 0 (take (i + 1) cs)) ≡ chunks_in (ports_from r 0 (take i cs)) +
     (chunks_of (outlet_at r (record { circuit = i; end = A })).delivered + chunks_of
     (outlet_at r (record { circuit = i; end = B })).delivered)
 chunks_more r cs i lt =
-    let here = there_is cs i lt in
+    let here = some_at cs i lt in
     let c = here.0 in
     ap chunks_in (ports_next (port_told r) cs i c lt here.1)
     ∙ chunks-append (ports_from r 0 (take i cs)) (port_told r i c A ∷ port_told r i c B ∷ []) ∙ omega arith

@@ -2,7 +2,7 @@
 use Rattle.std.proofs.Common.{◌≡◌, ℕ, ◌+◌, ◌-◌, ◌≤◌, Bool, true, false, List, [], ◌∷◌, ◌++◌, length, take, drop, refl, ap, sym, ◌∙◌, inl}
 use Rattle.std.proofs.Common.{inr, arith}
 use Rattle.std.specs.Prelude.{◌&&◌, sum}
-use Rattle.std.proofs.lemmas.Bool.{cases_Bool}
+use Rattle.std.proofs.lemmas.Bool.{cases_Bool, and_parts, and_from, and_right}
 use Rattle.std.proofs.lemmas.List.{length-append, length-drop, drop-append-le, drop-drop}
 use Rattle.std.proofs.lemmas.List.Sums.{sum_by-cons}
 use Rattle.sdh_pointer.specs.declared.reading.Action.{Action}
@@ -77,16 +77,12 @@ length-taken_in (x ∷ past) =
     length-append (taken_in past) x ∙ ap (λ (n : ℕ). n + length x) (length-taken_in past) ∙ swapped (sum (lengths past)) (length x)
     ∙ sym (sum_by-cons (λ (n : ℕ). n) (length x) (lengths past))
 
-pub both : (x y : Bool) → (x && y) ≡ true → (x ≡ true) × (y ≡ true)
-both true y h = (refl, h)
-both false y h = absurd (cc)
-
 -- no more was given than was taken in
 pub enough : (past : List (List ℕ)) → lasts (lengths past) ≡ true → count_given past ≤ length (taken_in past)
 unfolding actions
 enough [] h = omega arith
 enough (x ∷ past) h =
-    let bound = held_bounds (fill (lengths (x ∷ past))) (both (lasts (lengths past)) (is_held (fill (lengths (x ∷ past)))) h).1 in
+    let bound = held_bounds (fill (lengths (x ∷ past))) (and_parts (lasts (lengths past)) (is_held (fill (lengths (x ∷ past)))) h).1 in
     omega (arith, bound.0, length-taken_in (x ∷ past))
 
 pub length-held : (past : List (List ℕ)) → length (held past) ≡ fill (lengths past)
@@ -161,15 +157,12 @@ same_given first x past h =
     ap (λ (b : Action). take (given b) (held past ++ x)) (action_of_turn first x past)
     ∙ ap (take (given (last_action (x ∷ past)))) (held_and x past h)
 
-pub and_true : (b c : Bool) → b ≡ true → c ≡ true → (b && c) ≡ true
-and_true b c p q = rw (p, q) refl
-
 goes_on_from : (first : ℕ) (x : List ℕ) (past : List (List ℕ)) → lasts (lengths past) ≡ true
     → is_held (fill_after (store_of first past) (length x)) ≡ true
     → GoesOn first past x (given_at (store_of first past) x) (action_at (store_of first past)) (after_turn (store_of first past) x)
 goes_on_from first x past h fits = record {
   store = record {
-    lasts = and_true (lasts (lengths past)) (is_held (fill (lengths (x ∷ past)))) h (sym (ap is_held (same_fill first x past h)) ∙ fits);
+    lasts = and_from (lasts (lengths past)) (is_held (fill (lengths (x ∷ past)))) h (sym (ap is_held (same_fill first x past h)) ∙ fits);
     kept = store_after first x past h;
   };
   bytes = same_given first x past h;
@@ -185,7 +178,7 @@ pub steady_now : (s : Store) (n first : ℕ) (past : List (List ℕ)) → CameBy
     → (s.steady ≡ true) × (keeps_steady n s.lengths ≡ true)
 unfolding store_of
 steady_now s n first past came h =
-    let parts = both (is_steady (lengths past)) (is_last_steady (n ∷ lengths past)) h in (
+    let parts = and_parts (is_steady (lengths past)) (is_last_steady (n ∷ lengths past)) h in (
       ap (λ (t : Store). t.steady) came.kept ∙ parts.0,
       ap (λ (t : Store). keeps_steady n t.lengths) came.kept ∙ same_steady n (lengths past)
           ∙ parts.1,
@@ -211,14 +204,10 @@ pub steady_of_history : (s : Store) (first : ℕ) (past : List (List ℕ)) → C
 unfolding store_of
 steady_of_history s first past came = ap (λ (t : Store). t.steady) came.kept
 
-not_both : (b c : Bool) → c ≡ false → (b && c) ≡ false
-not_both true c h = h
-not_both false c h = refl
-
 -- a drift of a store is one of its history
 pub drift_of_history : (s : Store) (x : List ℕ) (first : ℕ) (past : List (List ℕ)) → CameBy first past s
     → is_held (fill_after s (length x)) ≡ false → lasts (lengths (x ∷ past)) ≡ false
 drift_of_history s x first past came h =
     let same = same_fill first x past came.lasts in
     let here : is_held (fill_after (store_of first past) (length x)) ≡ false = rw came.kept at h in
-    not_both (lasts (lengths past)) (is_held (fill (lengths (x ∷ past)))) (sym (ap is_held same) ∙ here)
+    and_right (lasts (lengths past)) (is_held (fill (lengths (x ∷ past)))) (sym (ap is_held same) ∙ here)

@@ -1,7 +1,6 @@
 -- The fill of a steady run stays near a frame's bytes, so a steady run has no drift.
-use Rattle.std.proofs.Common.{◌≡◌, ℕ, ◌+◌, ◌-◌, ◌<◌, ◌≤◌, Bool, true, false, ◌⊎◌, inl, inr, refl, List, ◌++◌, length, drop, arith}
-use Rattle.std.specs.Prelude.{◌&&◌}
-use Rattle.std.proofs.lemmas.Bool.{cases_lt}
+use Rattle.std.proofs.Common.{◌≡◌, ℕ, ◌+◌, ◌-◌, ◌<◌, ◌≤◌, true, false, ◌⊎◌, inl, inr, List, ◌++◌, length, drop, arith}
+use Rattle.std.proofs.lemmas.Bool.{cases_lt, and_parts}
 use Rattle.std.proofs.lemmas.List.{length-drop, length-append}
 use Rattle.std.proofs.lemmas.Grind.{common_steps}
 use Rattle.sdh_pointer.specs.declared.reading.Action.{Action}
@@ -108,10 +107,6 @@ chunks_after (Three a b c) n chunks chunk = (chunk, chunks.0, chunks.1)
 
 -- ---- a turn
 
-pub both_true : (x y : Bool) → (x && y) ≡ true → (x ≡ true) × (y ≡ true)
-both_true true y h = (refl, h)
-both_true false y h = absurd (cc)
-
 pub small_value : (a : Action) (v : ℕ) → v ≤ 782 → value_after a v ≤ 782
 unfolding value_after
 small_value action.Up v h = omega arith
@@ -135,7 +130,7 @@ bounded_after s input b chunk held =
       chunks = chunks_after s.lengths (length input) b.chunks chunk;
       value = small_value (action_at s) s.value b.value;
       near = λ steady.
-          let both = both_true s.steady (keeps_steady (length input) s.lengths) steady in
+          let both = and_parts s.steady (keeps_steady (length input) s.lengths) steady in
           rw len (near_after s.stage s.lengths (length s.held) (length input) b.at (b.near both.0) b.chunks chunk both.1);
     }
 

@@ -2,6 +2,7 @@
 use Rattle.std.proofs.Common.{◌≡◌, ℕ, suc, ◌+◌, ◌≤◌, true, List, [], ◌∷◌, ◌++◌, length, take, drop, refl, ap, sym, ◌∙◌, subst, arith}
 use Rattle.std.specs.List.{All}
 use Rattle.std.proofs.lemmas.List.{take-append-drop, drop-drop, append_assoc}
+use Rattle.std.proofs.lemmas.Bool.{and_parts, and_from}
 use Rattle.sdh_pointer.specs.declared.reading.Action.{Action}
 use Rattle.sdh_pointer.specs.Reading.{action_on, after_word}
 use Rattle.sdh_elastic.specs.Turns.{given, next_action, is_held, value_after, word_for, IsChunk}
@@ -10,8 +11,8 @@ use Rattle.sdh_elastic.specs.History.{actions, fill, lasts, lengths, taken_in, c
 use Rattle.sdh_elastic.specs.History.{value_of, last_word, heard}
 use Rattle.sdh_elastic.specs.Store.{Store, empty, stage_of, stage_after, fill_after, store_of, reading_in, IsBounded}
 use Rattle.sdh_elastic.proofs.Near.{bounded_after, no_drift, is_held_by, small_value}
-use Rattle.sdh_elastic.proofs.Course.{both, count_after, held_and, store_after, same_fill, same_action, next_stage, steady_now, new_store}
-use Rattle.sdh_elastic.proofs.Course.{swapped, and_true}
+use Rattle.sdh_elastic.proofs.Course.{count_after, held_and, store_after, same_fill, same_action, next_stage, steady_now, new_store}
+use Rattle.sdh_elastic.proofs.Course.{swapped}
 use Rattle.sdh_elastic.proofs.Heard.{turn_is_heard}
 
 -- ---- bytes
@@ -25,7 +26,7 @@ pub given_is_a_front : (past : List (List ℕ)) → lasts (lengths past) ≡ tru
 unfolding actions
 given_is_a_front [] h = refl
 given_is_a_front (x ∷ past) h =
-    let before = (both (lasts (lengths past)) (is_held (fill (lengths (x ∷ past)))) h).0 in
+    let before = (and_parts (lasts (lengths past)) (is_held (fill (lengths (x ∷ past)))) h).0 in
     let g = given (last_action (x ∷ past)) in
     let G = count_given past in
     let bytes = taken_in past ++ x in
@@ -48,7 +49,7 @@ good : (past : List (List ℕ)) → All (λ (chunk : List ℕ). IsChunk (length 
 good [] all h = record { lasts = refl; bounded = rw (sym (new_store 0).kept) (empty_is_bounded 0 (omega arith)) }
 good (x ∷ past) all h =
     let before =
-    good past (λ k d less. all (suc k) d (omega arith)) (both (is_steady (lengths past)) (is_last_steady (lengths (x ∷ past))) h).0 in
+    good past (λ k d less. all (suc k) d (omega arith)) (and_parts (is_steady (lengths past)) (is_last_steady (lengths (x ∷ past))) h).0 in
     let s : Store = store_of 0 past in
     let chunk : IsChunk (length x) = all 0 x (omega arith) in
     let now = steady_now s (length x) 0 past (record { lasts = before.lasts; kept = refl }) h in
@@ -56,7 +57,7 @@ good (x ∷ past) all h =
     let fits = is_held_by (fill_after s (length x)) bounds.0 bounds.1 in
     record {
       lasts =
-          and_true (lasts (lengths past)) (is_held (fill (lengths (x ∷ past)))) before.lasts
+          and_from (lasts (lengths past)) (is_held (fill (lengths (x ∷ past)))) before.lasts
           (sym (ap is_held (same_fill 0 x past before.lasts)) ∙ fits);
       bounded = subst IsBounded (store_after 0 x past before.lasts) (bounded_after s x before.bounded chunk fits);
     }

@@ -120,7 +120,7 @@ au_part rate place within is =
         (λ e. absurd (cc)) (λ e. absurd (cc)) (λ e. absurd (cc)) (λ e. absurd (cc)) (λ e. absurd (cc)) (λ e. absurd (cc)) (λ e. absurd (cc))
         (λ e. absurd (cc)) (λ e. absurd (cc)) p.1.1
 
-in_rate : (rate : Rate) (i : ℕ) → i % n_of rate < n_of rate
+pub in_rate : (rate : Rate) (i : ℕ) → i % n_of rate < n_of rate
 in_rate Four i = omega arith
 in_rate Sixteen i = omega arith
 

@@ -19,7 +19,8 @@ use Rattle.sdh_interchange.specs.Lanes.{IsPlain}
 use Rattle.sdh_frame.proofs.PlaceProofs.{IsIn, IsPointerByte}
 use Rattle.sdh_frame.proofs.AuProofs.{au_byte, payload_byte-here, payload_byte-other, payload_byte-before, pointer_byte-here}
 use Rattle.sdh_frame.proofs.AuProofs.{pointer_byte-other, pointer_byte-payload, pointer_byte-row}
-use Rattle.sdh_frame.proofs.AllAus.{aus_byte, at_aus}
+use Rattle.sdh_frame.proofs.AllAus.{aus_byte, at_aus, in_rate}
+use Rattle.sdh_frame.proofs.ByColumns.{by_rate}
 
 -- ---- payloads of a node's own ports
 
@@ -31,11 +32,6 @@ own_byte-at n own i a q h lane column = let behind : leb (9 * n) (i % (270 * n))
 own_byte-none : (n : ℕ) (own : List (List ℕ)) (i : ℕ) → i % (270 * n) < 9 * n → own_byte n own i ≡ 0
 unfolding own_byte
 own_byte-none n own i h = let before : leb (9 * n) (i % (270 * n)) ≡ false = lt-leb _ _ h in rw before refl
-
--- what holds at both rates
-pub by_rate : (P : ℕ → Type 0) (n : ℕ) → (n ≡ 4) ⊎ (n ≡ 16) → P 4 → P 16 → P n
-by_rate P n (inl e) four sixteen = subst P (sym e) four
-by_rate P n (inr e) four sixteen = subst P (sym e) sixteen
 
 pub either : (n : ℕ) (rate : Rate) → n_of rate ≡ n → (n ≡ 4) ⊎ (n ≡ 16)
 either n Four e = inl (sym e)
@@ -101,10 +97,6 @@ unfolding aus_byte
 aus_byte-overhead n k [] i x h r = refl
 aus_byte-overhead n k (au ∷ aus) i x h r = aus_byte-overhead n (k + 1) aus i (au_byte n k au i x) h r ∙ au_byte-overhead n k au i x h r
 
-pub rate_lane : (rate : Rate) (i : ℕ) → i % n_of rate < n_of rate
-rate_lane Four i = omega arith
-rate_lane Sixteen i = omega arith
-
 -- ---- where a byte of an AU-4 stands in its source
 
 payload_from : (rate : Rate) (i au : ℕ) → 1 ≤ au → i < size_of rate → 9 * n_of rate ≤ i % (270 * n_of rate)
@@ -168,7 +160,7 @@ module _ (rate : Rate) (i x : ℕ) (inside : i < size_of rate) where
       ∙ sym (own_byte-none n own (i - i % n + (k - 1)) (own_pointers rate i k low high h.1))
 
   lane_in : i % n < n
-  lane_in = rate_lane rate i
+  lane_in = in_rate rate i
 
   of_source : (s : Source) (first second : List ℕ) (own : List (List ℕ)) → IsSource n (i % n + 1) s
       → (9 * n ≤ i % (270 * n)) ⊎ ((i / (270 * n) ≡ 3) × (i % (270 * n) < 9 * n))

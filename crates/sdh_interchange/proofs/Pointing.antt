@@ -10,12 +10,12 @@ use Rattle.sdh_frame.specs.Sizes.{size_of}
 use Rattle.sdh_ringmap.specs.Rates.{n_of}
 use Rattle.sdh_frame.specs.Aus.{payload_byte, pointer_byte, is_pointer, with_pointers, Au, with_aus, ones}
 use Rattle.sdh_frame.proofs.AuProofs.{au_byte, at_pointer, pointer_byte-other}
-use Rattle.sdh_frame.proofs.AllAus.{at_aus}
+use Rattle.sdh_frame.proofs.AllAus.{at_aus, in_rate}
 use Rattle.sdh_interchange.specs.declared.choose.Source.{Source}
 use Rattle.sdh_interchange.specs.declared.choose.Source.TheVariants.{First, Second, Own, Ones}
 use Rattle.sdh_interchange.specs.Choosing.{au_from, chosen}
 use Rattle.sdh_interchange.specs.Assembled.{payload_from, assembled}
-use Rattle.sdh_interchange.proofs.ByBytes.{aus_byte-at, rate_lane}
+use Rattle.sdh_interchange.proofs.ByBytes.{aus_byte-at}
 
 -- ---- one AU-4 after the other
 
@@ -28,7 +28,7 @@ pointed-none n ps i x = let f : ltb (i % n) 0 ≡ false = le-ltb _ _ (omega arit
 
 pub pointed-all : (rate : Rate) (ps : List (List ℕ)) (k i x : ℕ) → n_of rate ≤ k
     → pointed (n_of rate) ps k i x ≡ pointer_byte (n_of rate) (i % n_of rate + 1) (get_or ps (i % n_of rate) []) i x
-pointed-all rate ps k i x h = let t : ltb (i % n_of rate) k ≡ true = lt-ltb _ _ (omega (arith, rate_lane rate i)) in rw t refl
+pointed-all rate ps k i x h = let t : ltb (i % n_of rate) k ≡ true = lt-ltb _ _ (omega (arith, in_rate rate i)) in rw t refl
 
 pub pointed-more : (rate : Rate) (ps : List (List ℕ)) (k : ℕ) (bytes : List ℕ) (i x : ℕ) → length bytes ≡ size_of rate → i < size_of rate
     → get_or bytes i 0 ≡ pointed (n_of rate) ps k i x
@@ -87,7 +87,7 @@ assembled-byte rate sources first second own ps old i whole inside many =
     let f = au_from n first second own in
     let g : ℕ → Source → Au = λ k s. record { pointers = get_or ps k []; payload = payload_from n first second own s } in
     let x = get_or old i 0 in
-    let few : j < length sources = omega (arith, rate_lane rate i, many) in
+    let few : j < length sources = omega (arith, in_rate rate i, many) in
     let turn : j + 1 ≡ 1 + j = omega arith in
     let left : get_or (with_aus n 1 (assembled n first second own sources ps) old) i 0 ≡ au_byte n (1 + j) (g j (get_or sources j Ones)) i x
     =

@@ -9,7 +9,8 @@ use Rattle.sdh_interchange.specs.declared.pass.Pass.{Pass}
 use Rattle.sdh_interchange.specs.Choosing.{is_au_byte, picked_at}
 use Rattle.sdh_interchange.specs.Passes.{byte_by_source, HasPassed, AreColumns}
 use Rattle.sdh_interchange.specs.Tables.{cell, IsTable}
-use Rattle.sdh_interchange.proofs.ByBytes.{by_rate, own_byte-at}
+use Rattle.sdh_interchange.proofs.ByBytes.{own_byte-at}
+use Rattle.sdh_frame.proofs.ByColumns.{by_rate}
 
 -- ---- places
 

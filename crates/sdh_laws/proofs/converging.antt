@@ -1,4 +1,5 @@
 pub mod Runs
+pub mod Came
 pub mod Spans
 pub mod Ports
 pub mod Spreading

@@ -4,8 +4,8 @@ use Rattle.std.specs.Prelude.{Option, Some, None, ◌==◌, if◌then◌else◌}
 use Rattle.std.proofs.lemmas.List.{length-append}
 use Rattle.std.proofs.lemmas.Fmt.{length-decimal-le}
 use Rattle.sdh_circuits.specs.declared.End.{End}
-use Rattle.sdh_circuits.specs.declared.End.TheVariants.{A, B}
 use Rattle.sdh_report.specs.Lines.{end_letter, port_named}
+use Rattle.sdh_report.proofs.Short.{digits_32, length-end_letter, length-port_named}
 use Rattle.sdh_outage.specs.declared.kind.Kind.{Kind}
 use Rattle.sdh_outage.specs.declared.kind.Kind.TheVariants as kind
 use Rattle.sdh_outage.specs.declared.change.Change.{Change}
@@ -16,9 +16,6 @@ use Rattle.sdh_outage.specs.declared.summary.Summary.{Summary}
 use Rattle.sdh_outage.specs.Outages.{out}
 use Rattle.sdh_outage.specs.Lines.{three_digits, ms_text, rounds_text, stretch_text, runs_text, counts_text, outage_front, of_port}
 use Rattle.sdh_outage.specs.Lines.{kind_word, change_line, more_line, foreign_line, summary_line}
-
-digits_32 : (n : ℕ) → n < 2 ^ 32 → length (decimal n) ≤ 10
-digits_32 n h = length-decimal-le 10 n (omega arith) (omega arith) (omega arith)
 
 one_digit : (n : ℕ) → n < 10 → length (decimal n) ≤ 1
 one_digit n h = length-decimal-le 1 n (omega arith) (omega arith) (omega arith)
@@ -120,21 +117,6 @@ short-runs r count longest =
       short-rounds_32 r.longest longest,
     )
 
-length-letter : (end : End) → length (end_letter end) ≡ 1
-length-letter A = omega arith
-length-letter B = omega arith
-
-length-named : (name : List ℕ) (end : End) → length (port_named name end) ≡ 7 + length name
-length-named name end =
-    let a = codes "port " in
-    omega (
-      arith,
-      length-append (a ++ name ++ codes " ") (end_letter end),
-      length-append (a ++ name) (codes " "),
-      length-append a name,
-      length-letter end,
-    )
-
 pub short-front : (name : List ℕ) (end : End) (o : Outage) → length name ≤ 16 → IsSmall o → length (outage_front name end o) ≤ 223
 short-front name end o h small =
     let long : out o < 4 * 2 ^ 32 = omega (arith, small.ais, small.ones, small.strange, small.foreign) in
@@ -149,7 +131,7 @@ short-front name end o h small =
       length-append b (runs_text o.runs),
       length-append a (decimal (out o)),
       length-append (port_named name end) (codes " out "),
-      length-named name end,
+      length-port_named name end,
       length-decimal-le 11 (out o) (omega arith) (omega arith) (omega arith),
       short-runs o.runs small.count small.longest,
       short-stretch o.stretch small.stretch,
@@ -167,7 +149,7 @@ length-of_port name end =
       length-append b (end_letter end),
       length-append a (codes " "),
       length-append (codes " of ") name,
-      length-letter end,
+      length-end_letter end,
     )
 
 short-word : (k : Kind) → length (kind_word k) ≤ 8

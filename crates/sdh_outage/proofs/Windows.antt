@@ -2,14 +2,13 @@
 use Rattle.std.proofs.Common.{◌≡◌, ℕ, ◌+◌, ◌-◌, ◌*◌, ◌<◌, ◌≤◌, true, false, List, [], ◌++◌, length, take, drop, refl, sym, ap, ap₂, subst, ◌∙◌, arith}
 use Rattle.std.specs.Prelude.{Result, Ok, is_ok, if◌then◌else◌}
 use Rattle.std.proofs.Math.Seq.{take-append_seam, drop-append_seam}
-use Rattle.sdh_basics.proofs.CellsLaws.{cells-zero}
 use Rattle.sdh_payload.specs.declared.delivered.Delivered.{Delivered}
 use Rattle.sdh_payload.specs.declared.delivered.Delivered.TheVariants.{Ais, Chunk}
 use Rattle.sdh_payload.specs.Customer.{Customer}
 use Rattle.sdh_payload.specs.Clock.{waiting}
 use Rattle.sdh_payload.specs.Feed.{Fed, new_feed, next_feed}
 use Rattle.sdh_payload.specs.Stream.{stream_from, chunk_of}
-use Rattle.sdh_payload.proofs.Chunks.{length-stream_from, stream_from-append}
+use Rattle.sdh_payload.proofs.Chunks.{length-stream_from, stream_from-append, stream_from-zero}
 use Rattle.sdh_payload.proofs.Clocking.{plain_tick, rounds_more}
 use Rattle.sdh_outage.specs.Near.{near, near_from, is_part}
 use Rattle.sdh_outage.specs.Kinds.{jumps}
@@ -17,10 +16,6 @@ use Rattle.sdh_outage.specs.Kept.{IsReach, Stands}
 use Rattle.sdh_outage.proofs.Standing.{occurs_whole, follows, stands_around}
 
 -- ---- parts of a stream
-
-stream_from-zero : (port : Customer) (p : ℕ) → stream_from port p 0 ≡ []
-unfolding stream_from
-stream_from-zero port p = cells-zero _
 
 -- without its first bytes
 pub drop-stream : (port : Customer) (p k n : ℕ) → drop k (stream_from port p (k + n)) ≡ stream_from port (p + k) n

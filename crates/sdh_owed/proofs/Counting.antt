@@ -13,6 +13,7 @@ use Rattle.sdh_world.specs.Rounds.{World, round}
 use Rattle.sdh_world.specs.Runs.{run}
 use Rattle.sdh_world.specs.Changes.{changed, all_changed, after_stretch, after_stretches, new_world}
 use Rattle.sdh_world.proofs.Keeping.{length-new}
+use Rattle.sdh_world.proofs.Histories.{length-placed}
 use Rattle.sdh_laws.proofs.converging.Runs.{length_run}
 use Rattle.sdh_promise.specs.Changes as change
 use Rattle.sdh_promise.specs.Changes.{Change, Stretch, rounds_in}
@@ -21,7 +22,6 @@ use Rattle.sdh_report.specs.Reports.{Report}
 use Rattle.sdh_owed.specs.Course.{WentThrough, HasSent}
 use Rattle.sdh_owed.specs.Counting.{ran_by, CoursesCountFrames}
 use Rattle.sdh_owed.proofs.Course.{alike_all}
-use Rattle.sdh_owed.proofs.Known.{length-placed}
 
 -- `k` frames were sent in all, and the plant reports them
 Told : ℕ → World → Type 0
@@ -55,7 +55,7 @@ told_run (suc j) m k w size told =
 
 -- ---- changes
 
-size_changed : (c : Change) (w : World) → length (changed c w).ring.nodes ≡ length w.ring.nodes
+pub size_changed : (c : Change) (w : World) → length (changed c w).ring.nodes ≡ length w.ring.nodes
 unfolding changed
 size_changed (change.Fibre p d condition) w = refl
 size_changed (change.Order p d command) w = length-placed _ p w.ring.nodes

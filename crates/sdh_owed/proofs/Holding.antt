@@ -1,5 +1,5 @@
 -- Controllers that are held: for how many turns, and at which nodes.
-use Rattle.std.proofs.Common.{◌≡◌, ℕ, zero, suc, ◌+◌, ◌-◌, ◌≤◌, List, [], ◌∷◌, ◌++◌, length, ap, sym, ◌∙◌, subst, arith, inl, inr}
+use Rattle.std.proofs.Common.{◌≡◌, ℕ, ◌+◌, ◌-◌, ◌≤◌, List, [], ◌∷◌, ◌++◌, length, ap, sym, ◌∙◌, subst, arith, inl, inr}
 use Rattle.std.proofs.Math.Nat.{le-max_left, le-max_right}
 use Rattle.std.proofs.lemmas.Bool.{cases_lt}
 use Rattle.sdh_circuits.specs.Provisioning.{Provisioning}
@@ -16,36 +16,26 @@ use Rattle.sdh_world.specs.Runs.{run, course}
 use Rattle.sdh_world.specs.Quiet.{EndsWindow}
 use Rattle.sdh_world.specs.Changes.{changed, all_changed, after_stretches, new_world}
 use Rattle.sdh_world.specs.Laws.{MayHappen}
-use Rattle.sdh_rounds.specs.Runs as any_run
 use Rattle.sdh_promise.specs.Changes.{Change, Stretch, rounds_in}
 use Rattle.sdh_promise.specs.Changes as change
 use Rattle.sdh_promise.specs.Owed.{asked_in}
-use Rattle.sdh_laws.specs.Hearing.Laws.{IsWhole, MayStart}
-use Rattle.sdh_laws.specs.Restoring.Laws.{NoneHeld}
+use Rattle.sdh_laws.specs.Hearing.Laws.{MayStart}
 use Rattle.sdh_laws.specs.Strangers.Laws.{EachMay, IsNoPass, HoldsNoPass, last_requests, HoldsNonePassing, HoldNonePassing}
 use Rattle.sdh_laws.proofs.hearing.Changes.{each_at_place, whole_run}
 use Rattle.sdh_laws.proofs.hearing.Nodes.{count}
 use Rattle.sdh_laws.proofs.hearing.Requests.{whole_last, stretches_settle}
 use Rattle.sdh_laws.proofs.hearing.Staying.{left_all, left_run, left_stretches}
-use Rattle.sdh_laws.proofs.hearing.Steady.{held_none}
+use Rattle.sdh_laws.proofs.hearing.Steady.{AllHeldFor}
 use Rattle.sdh_laws.proofs.carrying.Settles.{each_settled}
 use Rattle.sdh_laws.proofs.strangers.Keeping.{rounds_together}
 use Rattle.sdh_laws.proofs.strangers.Quiet.{node_beyond}
-use Rattle.sdh_laws.proofs.strangers.Vouched.{held_after}
 use Rattle.sdh_owed.specs.Strangers.{longest_hold}
-use Rattle.sdh_laws.proofs.strangers.Scripts.{no_pass_aside}
+use Rattle.sdh_laws.proofs.strangers.Scripts.{no_pass_aside, not_none}
 
 -- ---- for how many turns
 
--- no controller is to miss more turns than these
-abbrev pub AreHeldFor : ℕ → World → Type 0
-AreHeldFor most w = AtEach (λ p n. n.held ≤ most) w.ring.nodes
-
-pub held_for_none : (most : ℕ) (w : World) → NoneHeld w → AreHeldFor most w
-held_for_none most w free p h = (let none = held_none (node_at w.ring.nodes p).held (free p h) in omega (arith, none))
-
-held_by_one : (most : ℕ) (c : Change) (later : List Change) (w : World) → longest_hold (c ∷ later) ≤ most → AreHeldFor most w
-    → AreHeldFor most (changed c w)
+held_by_one : (most : ℕ) (c : Change) (later : List Change) (w : World) → longest_hold (c ∷ later) ≤ most → AllHeldFor most w
+    → AllHeldFor most (changed c w)
 unfolding changed
 held_by_one most (change.Fibre p d condition) later w long few = few
 held_by_one most (change.Order p d command) later w long few =
@@ -65,18 +55,10 @@ longest_later most (change.Slip port turn count) later long = long
 longest_later most (change.Now t) later long = long
 
 -- changes hold no controller for longer than the longest hold among them
-pub held_by_all : (most : ℕ) (cs : List Change) (w : World) → longest_hold cs ≤ most → AreHeldFor most w → AreHeldFor most (all_changed cs w)
+pub held_by_all : (most : ℕ) (cs : List Change) (w : World) → longest_hold cs ≤ most → AllHeldFor most w → AllHeldFor most (all_changed cs w)
 held_by_all most [] w long few = few
 held_by_all most (c ∷ cs) w long few =
     held_by_all most cs (changed c w) (longest_later most c cs long) (held_by_one most c cs w long few)
-
--- each round takes one held turn away
-pub held_run : (most : ℕ) (w : World) → IsWhole w → AreHeldFor most w → (k : ℕ) → AreHeldFor (most - k) (run k w)
-unfolding any_run.run
-held_run most w whole few zero = subst (λ j. AreHeldFor j w) (let e : most ≡ most - zero = omega arith in e) few
-held_run most w whole few (suc k) =
-    subst (λ j. AreHeldFor j (run (suc k) w)) (let e : most - k - 1 ≡ most - suc k = omega arith in e)
-    (held_after (run k w) (whole_run w k whole) (most - k) (held_run most w whole few k))
 
 -- ---- at which nodes
 
@@ -118,10 +100,6 @@ module _ (threshold wait n : ℕ) (earlier : List Stretch) (ran : earlier ≡ []
   each_no_pass : (cs : List Change) (w : World) → Follow rs w → HoldNonePassing threshold wait n earlier cs → EachMay HoldsNoPass w cs
   each_no_pass [] w all may = tt
   each_no_pass (c ∷ cs) w all may = (one_no_pass c w all may.0, each_no_pass cs (changed c w) (follow_on rs c w all) may.1)
-
-not_none : (before : List Stretch) (prev : Stretch) → before ++ prev ∷ [] ≡ [] → ⊥
-not_none [] prev z = cc
-not_none (s ∷ before) prev z = cc
 
 -- after a stretch that ended with a quiet window
 module _ (law : StillRingsAreSettled) (s : Settings) (ids : List ℕ) (circuits : Provisioning) (f : Fibres) (may : MayStart s ids f)

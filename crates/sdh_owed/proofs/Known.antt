@@ -1,9 +1,8 @@
 -- A step that runs no round leaves the rounds as they were.
-use Rattle.std.proofs.Common.{◌≡◌, ℕ, zero, suc, List, [], ◌∷◌, length, refl, ap}
+use Rattle.std.proofs.Common.{◌≡◌, length, refl}
 use Rattle.sdh_plant.specs.Arrivals.{Knows}
-use Rattle.sdh_node.specs.Node.{Node}
 use Rattle.sdh_node.specs.Stations.{adm}
-use Rattle.sdh_world.specs.Held.{at_place, place_of_port}
+use Rattle.sdh_world.specs.Held.{place_of_port}
 use Rattle.sdh_world.specs.Rounds.{World}
 use Rattle.sdh_world.specs.Changes.{changed}
 use Rattle.sdh_plan.specs.declared.step.Step.{Step}
@@ -11,13 +10,9 @@ use Rattle.sdh_plan.specs.declared.step.Step.TheVariants as step
 use Rattle.sdh_scripts.specs.Laws.{DoesNoRound, KeepsRounds}
 use Rattle.sdh_scripts.proofs.Reporting.{keeps_by}
 use Rattle.sdh_world.specs.Steps.{after_step}
+use Rattle.sdh_world.proofs.Histories.{length-placed}
 use Rattle.sdh_owed.specs.Reports.{report_of}
 use Rattle.sdh_owed.specs.Scripts.{adm_walk}
-
-pub length-placed : (change : Node → Node) (p : ℕ) (ns : List Node) → length (at_place p change ns) ≡ length ns
-length-placed change p [] = refl
-length-placed change zero (n ∷ ns) = refl
-length-placed change (suc p) (n ∷ ns) = ap suc (length-placed change p ns)
 
 ids_step : (s : Step) (w : World) → (after_step s w).ring.ids ≡ w.ring.ids
 unfolding changed

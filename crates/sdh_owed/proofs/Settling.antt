@@ -38,7 +38,7 @@ module _ (converge : StretchesConverge) (s : Settings) (ids : List ℕ) (circuit
   Now past earlier changes w = Stands s ids circuits f may past earlier changes w
 
   -- a step with a large limit is never unsettled
-  never : (past : Past) (earlier : List Stretch) (changes : List Change) (w left : World) (limit : ℕ) → Now past earlier changes w
+  pub never : (past : Past) (earlier : List Stretch) (changes : List Change) (w left : World) (limit : ℕ) → Now past earlier changes w
       → enough_for (length ids) ≤ limit → Unsettles w limit left → ⊥
   unfolding any_run.run
   never past earlier changes w left limit h large x =

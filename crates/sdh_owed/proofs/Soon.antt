@@ -10,6 +10,7 @@ use Rattle.sdh_plant.specs.Fibres.{Fibres}
 use Rattle.sdh_request.specs.declared.settings.Settings.{Settings}
 use Rattle.sdh_restoration.specs.Applied.{span_requests}
 use Rattle.sdh_terminal.specs.Tributaries.{Tributary}
+use Rattle.sdh_terminal.proofs.Slips.{waiting_more}
 use Rattle.sdh_node.specs.Receiving.{commanded_by}
 use Rattle.sdh_node.specs.Node.{new_node, is_held, at_receiving, held_for, slips_at}
 use Rattle.sdh_world.specs.Held.{new_ring, place_of_port}
@@ -42,7 +43,7 @@ use Rattle.sdh_owed.specs.Reports.{report_of}
 use Rattle.sdh_owed.specs.Laws.{ring_by}
 use Rattle.sdh_owed.specs.Course.{stretch, SlipsNone, SlipNone, IsLate, ShowsWhatIsOwed}
 use Rattle.sdh_owed.proofs.Ports.{owed_now}
-use Rattle.sdh_owed.proofs.Standing.{Begins, waiting_waits}
+use Rattle.sdh_owed.specs.Running.{BeginsAtAMultiple}
 
 -- the laws from which it follows that each port soon has what it is owed
 pub record RestoredSoon : Type 0 where
@@ -88,7 +89,7 @@ free_all (c ∷ cs) w none free = free_all cs (changed c w) none.1 (free_changed
 
 -- no slip waits after changes that give none
 none_more : (turn : Turn) (count : ℕ) (c : Clock) → count ≡ 0 → waiting c ≡ 0 → waiting (with_waiting turn count c) ≡ 0
-none_more turn count c none rests = omega (arith, waiting_waits turn count c, none, rests)
+none_more turn count c none rests = omega (arith, waiting_more turn count c, none, rests)
 
 unslipped_changed : (c : Change) (w : World) → SlipsNone c → IsUnslipped w → IsUnslipped (changed c w)
 unfolding changed
@@ -119,7 +120,7 @@ long_between : (a b : ℕ) → (a ≡ 0) ⊎ ((a - 1) % 128 ≡ 0) → 6 ≤ b �
 long_between a b (inl none) some ends = omega (arith, none, some, ends)
 long_between a b (inr begins) some ends = omega (arith, begins, some, ends)
 
-module _ (s : Stretch) (w : World) (two : 2 ≤ length w.ring.ids) (begins : Begins w.ring)
+module _ (s : Stretch) (w : World) (two : 2 ≤ length w.ring.ids) (begins : BeginsAtAMultiple w.ring)
     (ends : EndsWindow (course (all_changed s.changes w)) s.rounds) where
   size : length (after_stretch s w).ring.ids ≡ length w.ring.ids
   size = ap (λ (l : List ℕ). length l) (left_stretch s w).ids
@@ -129,7 +130,7 @@ module _ (s : Stretch) (w : World) (two : 2 ≤ length w.ring.ids) (begins : Beg
       long_between w.ring.rounds s.rounds begins (omega (arith, ends.long, size, two))
       (ap (λ k. (k - 1) % 128) (sym (left_stretch s w).rounds) ∙ ends.place)
 
-long_front : (earlier : List Stretch) (last : Stretch) (more : List Stretch) (w : World) → 2 ≤ length w.ring.ids → Begins w.ring
+long_front : (earlier : List Stretch) (last : Stretch) (more : List Stretch) (w : World) → 2 ≤ length w.ring.ids → BeginsAtAMultiple w.ring
     → EndQuietly w (earlier ++ last ∷ more) → AllLong earlier
 long_front [] last more w two begins quiet = tt
 long_front (s ∷ []) last more w two begins quiet = (long_one s w two begins quiet.0, tt)

@@ -9,7 +9,6 @@ use Rattle.sdh_circuits.specs.declared.PortId.{PortId}
 use Rattle.sdh_circuits.specs.Provisioned.{same_port}
 use Rattle.sdh_circuits.specs.Provisioning.{Provisioning}
 use Rattle.sdh_payload.specs.declared.clock.Turn.{Turn}
-use Rattle.sdh_payload.specs.declared.clock.Turn.TheVariants.{Up, Down}
 use Rattle.sdh_payload.specs.Clock.{Clock, new_clock, waiting, with_waiting}
 use Rattle.sdh_plant.specs.Fibres.{Fibres}
 use Rattle.sdh_ringmap.specs.Fibres.{IsConditionAt}
@@ -27,6 +26,7 @@ use Rattle.sdh_world.specs.Clocks.{clock_after, clock_at, waiting_at}
 use Rattle.sdh_world.specs.Laws.{AreChangesOf, MayHappen}
 use Rattle.sdh_rounds.specs.Laws.{EndsAtAMultiple}
 use Rattle.sdh_terminal.proofs.Found.{found_has}
+use Rattle.sdh_terminal.proofs.Slips.{waiting_more}
 use Rattle.sdh_world.proofs.Waiting.{waits_changed, waits_new}
 use Rattle.sdh_rounds.proofs.Laws.{settled_numbers}
 use Rattle.sdh_rounds.proofs.Runs.{known_settles}
@@ -45,6 +45,7 @@ use Rattle.sdh_promise.specs.Owed.{IsLast}
 use Rattle.sdh_world.specs.Steps.{after_step}
 use Rattle.sdh_node.specs.Stations.{adm}
 use Rattle.sdh_promise.proofs.Rounds.{rounds_last}
+use Rattle.sdh_owed.specs.Running.{BeginsAtAMultiple}
 
 -- ---- lists of changes and of stretches
 
@@ -83,10 +84,6 @@ none_at r none port =
     by_port ts all None is = refl
     by_port ts all (Some t) is = (found_has (λ (u : Tributary). waiting u.feed.clock ≡ 0) port ts t all is).0
 
-pub waiting_waits : (turn : Turn) (count : ℕ) (c : Clock) → waiting (with_waiting turn count c) ≡ waiting c + count
-waiting_waits Up count c = omega arith
-waiting_waits Down count c = omega arith
-
 true_false : true ≡ false → ⊥
 true_false e = cc
 
@@ -100,7 +97,7 @@ slips_grow : (port other : PortId) (turn : Turn) (count : ℕ) (slips : PortId �
 slips_grow port other turn count slips c few = by (same_port port other)
   where
     by : (b : Bool) → waiting (if b then with_waiting turn count c else c) ≤ (if b then slips port + count else slips port)
-    by true = omega (arith, waiting_waits turn count c, few)
+    by true = omega (arith, waiting_more turn count c, few)
     by false = few
 
 -- the bounds stay the same over a change that adds no slips
@@ -121,12 +118,8 @@ few_after step.Settle past w other few = absurd (true_false other)
 
 -- ---- settle steps
 
--- no round has run, or the number of the last one is a multiple of 128
-abbrev pub Begins : HeldRing → Type 0
-Begins r = (r.rounds ≡ 0) ⊎ ((r.rounds - 1) % 128 ≡ 0)
-
 -- from there a step that ends has at least 128 rounds
-pub long_step : (r left : HeldRing) (limit : ℕ) → Begins r → EndsAtAMultiple r left limit → Begins left × (r.rounds + 128 ≤ left.rounds)
+pub long_step : (r left : HeldRing) (limit : ℕ) → BeginsAtAMultiple r → EndsAtAMultiple r left limit → BeginsAtAMultiple left × (r.rounds + 128 ≤ left.rounds)
 long_step r left limit (inl none) ends = (inr ends.multiple, omega (arith, none, ends.later))
 long_step r left limit (inr before) ends = (inr ends.multiple, long ends.ran ends.multiple)
   where
@@ -147,7 +140,7 @@ module _ (s : Settings) (ids : List ℕ) (circuits : Provisioning) (f : Fibres) 
     pub is : w ≡ all_changed changes (after_stretches earlier from)
     pub happened : MayHappen from earlier
     pub since : AreChangesOf (after_stretches earlier from) changes
-    pub begins : Begins w.ring
+    pub begins : BeginsAtAMultiple w.ring
     -- at each port at most as many slips wait as it was given since the last settle step
     pub few : WaitAtMost w past.slips
 

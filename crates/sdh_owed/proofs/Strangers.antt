@@ -19,11 +19,10 @@ use Rattle.sdh_world.specs.Held.{HeldRing, new_ring, outlet_at}
 use Rattle.sdh_world.specs.Rounds.{World, round}
 use Rattle.sdh_world.specs.Runs.{run, course}
 use Rattle.sdh_world.specs.Quiet.{is_calm, EndsWindow}
-use Rattle.sdh_world.specs.Changes.{all_changed, after_stretch, after_stretches, new_world}
+use Rattle.sdh_world.specs.Changes.{all_changed, after_stretches, new_world}
 use Rattle.sdh_world.specs.Clocks.{clocks_by}
 use Rattle.sdh_world.specs.Laws.{MayHappen}
 use Rattle.sdh_world.specs.Sides.{world_in}
-use Rattle.sdh_rounds.specs.Rounds as any_round
 use Rattle.sdh_promise.specs.Changes.{Stretch, rounds_in}
 use Rattle.sdh_laws.specs.Hearing.Laws.{IsWhole, MayStart}
 use Rattle.sdh_laws.specs.Carrying.Windows.{layout_in, layout_of, HasCircuits}
@@ -47,8 +46,10 @@ use Rattle.sdh_laws.proofs.strangers.Windows.{window_vouched, window_shields}
 use Rattle.sdh_owed.specs.Strangers.{HoldsSince, MeetsNoStrangerSince, NoneMeetsAStrangerSince, longest_hold}
 use Rattle.sdh_owed.specs.Strangers as since
 use Rattle.sdh_owed.proofs.Soon.{IsReady}
-use Rattle.sdh_owed.proofs.Holding.{AreHeldFor, held_for_none, held_by_all, held_run, held_beside_passing}
-use Rattle.sdh_laws.proofs.strangers.Scripts.{snoc}
+use Rattle.sdh_owed.proofs.Holding.{held_by_all, held_beside_passing}
+use Rattle.sdh_laws.proofs.strangers.Scripts.{snoc, ends_behind}
+use Rattle.sdh_laws.proofs.hearing.Nodes.{one_more}
+use Rattle.sdh_laws.proofs.hearing.Steady.{AllHeldFor, held_for_none, held_after}
 
 -- ---- clocks that aren't known before a round
 
@@ -139,18 +140,7 @@ from_first clocks r none i c get e = meets (port_id i e) (outlet_at r (port_id i
 
 -- ---- stretches
 
--- the last but one ended with a window
-ends_behind : (before : List Stretch) (last next : Stretch) (w : World) → EndQuietly w (before ++ last ∷ next ∷ [])
-    → EndsWindow (course (all_changed last.changes (after_stretches before w))) last.rounds
-ends_behind [] last next w ended = ended.0
-ends_behind (x ∷ []) last next w ended = ended.1.0
-ends_behind (x ∷ y ∷ before) last next w ended = ends_behind (y ∷ before) last next (after_stretch x w) ended.1
-
 -- ---- a round
-
-rounds_next : (w : World) → (round w).ring.rounds ≡ w.ring.rounds + 1
-unfolding any_round.round any_round.round_with
-rounds_next w = refl
 
 module _ (s : Settings) (ids : List ℕ) (circuits : Provisioning) (f : Fibres) (may : MayStart s ids f)
     (form : HasCircuits (layout_in (new_ring s ids circuits))) where
@@ -231,7 +221,7 @@ module _ (s : Settings) (ids : List ℕ) (circuits : Provisioning) (f : Fibres) 
     abbrev longest : ℕ
     longest = longest_hold last.changes
 
-    held_now : AreHeldFor longest begun_now
+    held_now : AllHeldFor longest begun_now
     held_now =
         held_by_all longest last.changes (after_stretches earlier from) (le_refl longest)
         (held_for_none longest (after_stretches earlier from) ready.free)
@@ -239,8 +229,8 @@ module _ (s : Settings) (ids : List ℕ) (circuits : Provisioning) (f : Fibres) 
     whole_now : IsWhole begun_now
     whole_now = whole_begun earlier last [] all_now refl happens
 
-    free_then : AreHeldFor 0 past
-    free_then p h = (let few = held_run longest begun_now whole_now held_now (t - many) p h in omega (arith, few, long))
+    free_then : AllHeldFor 0 past
+    free_then p h = (let few = held_after begun_now whole_now longest held_now (t - many) p h in omega (arith, few, long))
 
     run_on : (j : ℕ) → run j past ≡ run (j + (t - many)) begun_now
     run_on j = run_more begun_now (t - many) j
@@ -272,7 +262,7 @@ module _ (s : Settings) (ids : List ℕ) (circuits : Provisioning) (f : Fibres) 
         let some : 1 * 1 ≤ n * (n + 1) =
         mul-le 1 1 n (n + 1) (omega (arith, may.ids_ok.enough)) (omega arith) in
         let after : (oldest ≡ 0) ⊎ (oldest < (round (run t begun_now)).ring.rounds - 1) =
-        inr (omega (arith, rounds_next (run t begun_now), rounds_at earlier last [] all_now refl happens t, some, long)) in
+        inr (omega (arith, one_more (run t begun_now), rounds_at earlier last [] all_now refl happens t, some, long)) in
         subst (λ (v : World). NoneMeetsAStrangerSince oldest (clocks_by circuits.circuits all_now) (round v).ring)
         (sym (world_at earlier last [] all_now refl happens t low))
         (none_since oldest (clocks_by circuits.circuits all_now) (round (run t begun_now)).ring after
@@ -402,7 +392,7 @@ module _ (s : Settings) (ids : List ℕ) (circuits : Provisioning) (f : Fibres) 
         let two = may.ids_ok.enough in
         let begins : opening ≡ rounds_in later - 3 * n = omega (arith, rounds_together before (prev ∷ []), long_prev) in
         let after : (opening ≡ 0) ⊎ (opening < (round now).ring.rounds - 1) =
-        inr (omega (arith, rounds_next now, number, rounds_together before (prev ∷ []), long_prev, two)) in
+        inr (omega (arith, one_more now, number, rounds_together before (prev ∷ []), long_prev, two)) in
         subst (λ (v : World). NoneMeetsAStrangerSince (rounds_in later - 3 * n) (clocks_by circuits.circuits all_next) (round v).ring) (sym there)
         (subst (λ i. NoneMeetsAStrangerSince i (clocks_by circuits.circuits all_next) (round now).ring) begins
         (none_since opening (clocks_by circuits.circuits all_next) (round now).ring after

@@ -22,7 +22,7 @@ pub get_or-stream_from : (port : Customer) (p n k d : ℕ) → k < n → get_or 
 unfolding stream_from
 get_or-stream_from port p n k d h = get_or-cells (λ i. stream_byte port (p + i)) n k d h
 
-stream_from-zero : (port : Customer) (p : ℕ) → stream_from port p 0 ≡ []
+pub stream_from-zero : (port : Customer) (p : ℕ) → stream_from port p 0 ≡ []
 unfolding stream_from
 stream_from-zero port p = cells-zero _
 

@@ -76,7 +76,7 @@ through-none n Clear = refl
 through-none n Cut = refl
 through-none n (Degraded k) = refl
 
-none_at : (m i : ℕ) → get_or {A = Arrival} (replicate m None) i None ≡ None
+pub none_at : (m i : ℕ) → get_or {A = Arrival} (replicate m None) i None ≡ None
 none_at m i = elim (cases_lt i m) [
   | inl lt ↦ get_or-replicate m i None None lt
   | inr far ↦ get_or_past _ i None (omega (arith, length-replicate {A = Arrival} m None))

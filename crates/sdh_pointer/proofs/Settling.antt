@@ -45,10 +45,20 @@ from_then n k w r s h there kept =
     let at : k ≡ n + (k - n) = omega arith in
     ap (λ m. after_rounds m w r) at ∙ in_parts n (k - n) w r ∙ ap (after_rounds (k - n) w) there ∙ stays_for (k - n) w s kept
 
+-- one more of the counted candidate
+pub news_more : (v : ℕ) (r : Reading) → r.candidate ≡ v → 0 < r.news → news_with r v ≡ r.news + 1
+news_more v r is some =
+    let counted : eqb 0 r.news ≡ false = ne_eqb _ _ (λ e. omega arith) in
+    let e : eqb r.candidate v ≡ true = eq-eqb _ _ is in
+    rw (counted, e) refl
+
+pub some_news : (v : ℕ) (r : Reading) → 0 < news_with r v
+some_news v r = elim (cases_Bool (eqb 0 r.news || not (eqb r.candidate v))) [ inl t ↦ rw t (omega arith) | inr f ↦ rw f (omega arith) ]
+
 -- ---- one normal word for ever
 
 module _ (w v : ℕ) (normal : is_normal w ≡ true) (carries : value_in w ≡ v) where
-  reads : (m : Mode) (r : Reading) (e : Event) → r.mode ≡ m → normal_event r v ≡ e → after_word r w ≡ after_in m e r
+  pub reads : (m : Mode) (r : Reading) (e : Event) → r.mode ≡ m → normal_event r v ≡ e → after_word r w ≡ after_in m e r
   reads m r e norm is = by_event r w m e norm (of_normal_word r w normal ∙ ap (normal_event r) carries ∙ is)
 
   -- a value that is v
@@ -86,16 +96,6 @@ module _ (w v : ℕ) (normal : is_normal w ≡ true) (carries : value_in w ≡ v
         (step 1 one two (same one refl refl)
         (step 0 two (settled mode.Norm v 3) (same two refl refl ∙ ap (settled mode.Norm v) full) refl))
 
-    -- one more of the counted candidate
-    news_more : (r : Reading) → r.candidate ≡ v → 0 < r.news → news_with r v ≡ r.news + 1
-    news_more r is some =
-        let counted : eqb 0 r.news ≡ false = ne_eqb _ _ (λ e. omega arith) in
-        let e : eqb r.candidate v ≡ true = eq-eqb _ _ is in
-        rw (counted, e) refl
-
-    some_news : (r : Reading) → 0 < news_with r v
-    some_news r = elim (cases_Bool (eqb 0 r.news || not (eqb r.candidate v))) [ inl t ↦ rw t (omega arith) | inr f ↦ rw f (omega arith) ]
-
     -- a new value outside mode Norm
     out_third : (m : Mode) (r : Reading) → r.mode ≡ m → is_norm m ≡ false → 3 ≤ news_with r v → after_word r w ≡ settled mode.Norm v 0
     out_third mode.Norm r is out third = absurd (cc)
@@ -104,7 +104,7 @@ module _ (w v : ℕ) (normal : is_normal w ≡ true) (carries : value_in w ≡ v
     out_third mode.Lop r is out third =
         reads mode.Lop r (event.New v) is (new_outside r v (ap is_norm is) small) ∙ lop_new r v ∙ (let e = le-leb _ _ third in rw e refl)
 
-    out_counted : (m : Mode) (r : Reading) → r.mode ≡ m → is_norm m ≡ false → news_with r v < 3 → after_word r w ≡ with_new r v 0
+    pub out_counted : (m : Mode) (r : Reading) → r.mode ≡ m → is_norm m ≡ false → news_with r v < 3 → after_word r w ≡ with_new r v 0
     out_counted mode.Norm r is out less = absurd (cc)
     out_counted mode.Ais r is out less =
         reads mode.Ais r (event.New v) is (new_outside r v (ap is_norm is) small) ∙ ais_new r v ∙ (let e = lt-leb _ _ less in rw e refl)
@@ -113,12 +113,12 @@ module _ (w v : ℕ) (normal : is_normal w ≡ true) (carries : value_in w ≡ v
 
     out_two : (m : Mode) (r : Reading) → r.mode ≡ m → is_norm m ≡ false → r.candidate ≡ v → 2 ≤ r.news → Within 4 r
     out_two m r is out at two =
-        step 3 r (settled mode.Norm v 0) (out_third m r is out (let more = news_more r at (omega arith) in omega arith))
+        step 3 r (settled mode.Norm v 0) (out_third m r is out (let more = news_more v r at (omega arith) in omega arith))
         (at_value (settled mode.Norm v 0) refl refl)
 
     out_one : (m : Mode) (r : Reading) → r.mode ≡ m → is_norm m ≡ false → r.candidate ≡ v → r.news ≡ 1 → Within 5 r
     out_one m r is out at one =
-        let more = news_more r at (omega arith) in
+        let more = news_more v r at (omega arith) in
         step 4 r (with_new r v 0) (out_counted m r is out (omega arith)) (out_two m (with_new r v 0) is out refl (omega arith))
 
     outside : (m : Mode) (r : Reading) → r.mode ≡ m → is_norm m ≡ false → Within 6 r
@@ -130,7 +130,7 @@ module _ (w v : ℕ) (normal : is_normal w ≡ true) (carries : value_in w ≡ v
               elim (cases_lt (news_with r v) 2) [
                 | inr two ↦ longer 5 6 r (omega arith) (step 4 r (with_new r v 0) next (out_two m (with_new r v 0) is out refl two))
                 | inl other ↦ step 5 r (with_new r v 0) next
-                    (out_one m (with_new r v 0) is out refl (let some = some_news r in omega arith))
+                    (out_one m (with_new r v 0) is out refl (let some = some_news v r in omega arith))
               ])
         ]
 
@@ -139,7 +139,7 @@ module _ (w v : ℕ) (normal : is_normal w ≡ true) (carries : value_in w ≡ v
         → after_word r w ≡ settled mode.Norm v (later r.since)
     in_third r is new third = reads mode.Norm r (event.New v) is new ∙ norm_new r v ∙ (let e = le-leb _ _ third in rw e refl)
 
-    in_counted : (r : Reading) → r.mode ≡ mode.Norm → normal_event r v ≡ event.New v → news_with r v < 3
+    pub in_counted : (r : Reading) → r.mode ≡ mode.Norm → normal_event r v ≡ event.New v → news_with r v < 3
         → after_word r w ≡ with_new r v (later r.since)
     in_counted r is new less = reads mode.Norm r (event.New v) is new ∙ norm_new r v ∙ (let e = lt-leb _ _ less in rw e refl)
 
@@ -153,10 +153,10 @@ module _ (w v : ℕ) (normal : is_normal w ≡ true) (carries : value_in w ≡ v
           step 2 (settled mode.Norm u 0) (counted 1 1) (in_counted (settled mode.Norm u 0) refl
           (new_early (settled mode.Norm u 0) v refl other (omega arith) small) (omega arith))
           (step 1 (counted 1 1) (counted 2 2) (in_counted (counted 1 1) refl (new_early (counted 1 1) v refl other (omega arith) small)
-          (omega (arith, news_more (counted 1 1) refl (omega arith)))
-          ∙ ap (λ n. counted n 2) (news_more (counted 1 1) refl (omega arith)))
+          (omega (arith, news_more v (counted 1 1) refl (omega arith)))
+          ∙ ap (λ n. counted n 2) (news_more v (counted 1 1) refl (omega arith)))
           (step 0 (counted 2 2) (settled mode.Norm v 3) (in_third (counted 2 2) refl
-          (new_early (counted 2 2) v refl other (omega arith) small) (omega (arith, news_more (counted 2 2) refl (omega arith)))) refl))
+          (new_early (counted 2 2) v refl other (omega arith) small) (omega (arith, news_more v (counted 2 2) refl (omega arith)))) refl))
 
     -- any value that was just taken
     taken : (u : ℕ) → Within 3 (settled mode.Norm u 0)
@@ -171,13 +171,13 @@ module _ (w v : ℕ) (normal : is_normal w ≡ true) (carries : value_in w ≡ v
         → r.candidate ≡ v → 2 ≤ r.news → Within 1 r
     late_two r norm other full up down at two =
         let end : later r.since ≡ 3 = omega arith in
-        in_third r norm (late_new r norm other up down) (let more = news_more r at (omega arith) in omega arith)
+        in_third r norm (late_new r norm other up down) (let more = news_more v r at (omega arith) in omega arith)
         ∙ ap (settled mode.Norm v) end
 
     late_one : (r : Reading) → r.mode ≡ mode.Norm → r.value ≢ v → 3 ≤ r.since → goes_up v r.value ≡ false → goes_down v r.value ≡ false
         → r.candidate ≡ v → r.news ≡ 1 → Within 2 r
     late_one r norm other full up down at one =
-        let more = news_more r at (omega arith) in
+        let more = news_more v r at (omega arith) in
         step 1 r (with_new r v (later r.since)) (in_counted r norm (late_new r norm other up down) (omega arith))
         (late_two (with_new r v (later r.since)) norm other (omega arith) up down refl (omega arith))
 
@@ -193,7 +193,7 @@ module _ (w v : ℕ) (normal : is_normal w ≡ true) (carries : value_in w ≡ v
                 | inr two ↦ longer 2 3 r (omega arith) (step 1 r (with_new r v (later r.since)) next
                     (late_two (with_new r v (later r.since)) norm other end_le up down refl two))
                 | inl two ↦ step 2 r (with_new r v (later r.since)) next
-                    (late_one (with_new r v (later r.since)) norm other end_le up down refl (let some = some_news r in omega arith))
+                    (late_one (with_new r v (later r.since)) norm other end_le up down refl (let some = some_news v r in omega arith))
               ])
         ]
 

@@ -24,16 +24,16 @@ use Rattle.sdh_report.proofs.Parts.{length-chunk_line}
 use Rattle.sdh_report.proofs.Rows.{rows_more, rows_none}
 
 -- a byte has at most 3 digits, 16 bits have at most 5, 32 bits 10, and 64 bits 20
-digits_8 : (n : ℕ) → n < 2 ^ 8 → length (decimal n) ≤ 3
+pub digits_8 : (n : ℕ) → n < 2 ^ 8 → length (decimal n) ≤ 3
 digits_8 n h = length-decimal-le 3 n (omega arith) (omega arith) (omega arith)
 
 digits_16 : (n : ℕ) → n < 2 ^ 16 → length (decimal n) ≤ 5
 digits_16 n h = length-decimal-le 5 n (omega arith) (omega arith) (omega arith)
 
-digits_32 : (n : ℕ) → n < 2 ^ 32 → length (decimal n) ≤ 10
+pub digits_32 : (n : ℕ) → n < 2 ^ 32 → length (decimal n) ≤ 10
 digits_32 n h = length-decimal-le 10 n (omega arith) (omega arith) (omega arith)
 
-digits_64 : (n : ℕ) → n < 2 ^ 64 → length (decimal n) ≤ 20
+pub digits_64 : (n : ℕ) → n < 2 ^ 64 → length (decimal n) ≤ 20
 digits_64 n h = length-decimal-le 20 n (omega arith) (omega arith) h
 
 short-step_ended : (number round : ℕ) → number < 2 ^ 32 → round < 2 ^ 64 → length (step_ended number round) ≤ 44
@@ -53,7 +53,7 @@ pub short-settle_line : (number round : ℕ) → number < 2 ^ 32 → round < 2 ^
 short-settle_line number round hn hr =
     omega (arith, length-append (step_ended number round) (codes "\n"), short-step_ended number round hn hr)
 
-short-state_text : (s : StateWord) → length (state_text s) ≤ 11
+pub short-state_text : (s : StateWord) → length (state_text s) ≤ 11
 short-state_text word.Idle = omega arith
 short-state_text word.Pass = omega arith
 short-state_text word.SwitchWest = omega arith
@@ -83,11 +83,11 @@ short-node_line l h =
       short-state_text l.state,
     )
 
-length-end_letter : (end : End) → length (end_letter end) ≡ 1
+pub length-end_letter : (end : End) → length (end_letter end) ≡ 1
 length-end_letter A = omega arith
 length-end_letter B = omega arith
 
-length-port_named : (name : List ℕ) (end : End) → length (port_named name end) ≡ 7 + length name
+pub length-port_named : (name : List ℕ) (end : End) → length (port_named name end) ≡ 7 + length name
 length-port_named name end =
     let a = codes "port " in
     omega (

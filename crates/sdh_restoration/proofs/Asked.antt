@@ -11,7 +11,7 @@ use Rattle.sdh_ringmap.specs.declared.Side.TheVariants.{West, East}
 use Rattle.sdh_ringmap.proofs.Sides.{neighbour_back, neighbour_below}
 use Rattle.sdh_restoration.specs.Applied.{span_requests, highest, applies, is_applied}
 
-highest_from : (rs : List ℕ) (s : ℕ) → s < length rs → get_or rs s 0 ≤ highest rs
+pub highest_from : (rs : List ℕ) (s : ℕ) → s < length rs → get_or rs s 0 ≤ highest rs
 highest_from [] s h = absurd (omega arith)
 highest_from (r ∷ rs) zero h = omega arith
 highest_from (r ∷ rs) (suc s) h = let rest = highest_from rs s (omega arith) in omega arith

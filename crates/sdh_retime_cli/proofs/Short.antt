@@ -1,16 +1,12 @@
 -- How long lines are at most.
 use Rattle.std.proofs.Common.{◌≡◌, ℕ, ◌+◌, ◌*◌, ◌^◌, ◌<◌, ◌≤◌, List, ◌++◌, length, codes, decimal, refl, ap, ◌∙◌, arith}
 use Rattle.std.proofs.lemmas.List.{length-append}
-use Rattle.std.proofs.lemmas.Fmt.{length-decimal-le}
 use Rattle.sdh_basics.specs.Hexadecimal.{hex_of}
 use Rattle.sdh_basics.proofs.HexadecimalLaws.{length-hex_of}
 use Rattle.sdh_pointer.specs.declared.reading.Action.{Action}
 use Rattle.sdh_pointer.specs.declared.reading.Action.TheVariants.{Normal, New, Up, Down, Ais}
 use Rattle.sdh_retime_cli.specs.Lines.{action_word, turn_line, given_line, left_line, drift_line}
-
--- a number of 64 bits has at most 20 digits
-short : (n : ℕ) → n < 2 ^ 64 → length (decimal n) ≤ 20
-short n h = length-decimal-le 20 n (omega arith) (omega arith) h
+use Rattle.sdh_report.proofs.Short.{digits_64}
 
 length-action_word : (a : Action) → length (action_word a) ≤ 5
 length-action_word Ais = omega arith
@@ -32,8 +28,8 @@ turn_line_short number a fill hn hf =
       length-append (n ++ space ++ w) space,
       length-append (n ++ space) w,
       length-append n space,
-      short number hn,
-      short fill hf,
+      digits_64 number hn,
+      digits_64 fill hf,
       length-action_word a,
     )
 
@@ -49,11 +45,11 @@ given_line_short Down bytes h = given_short bytes h
 
 pub left_line_short : (n : ℕ) → n < 2 ^ 64 → length (left_line n) ≤ 96
 left_line_short n h =
-    omega (arith, length-append (codes "left " ++ decimal n) (codes "\n"), length-append (codes "left ") (decimal n), short n h)
+    omega (arith, length-append (codes "left " ++ decimal n) (codes "\n"), length-append (codes "left ") (decimal n), digits_64 n h)
 
 pub drift_line_short : (n : ℕ) → n < 2 ^ 64 → length (drift_line n) ≤ 96
 drift_line_short n h =
-    omega (arith, length-append (codes "drift " ++ decimal n) (codes "\n"), length-append (codes "drift ") (decimal n), short n h)
+    omega (arith, length-append (codes "drift " ++ decimal n) (codes "\n"), length-append (codes "drift ") (decimal n), digits_64 n h)
 
 -- every turn but the first gives bytes
 pub given_line_other : (a : Action) (bytes : List ℕ) → (a ≡ Ais → ⊥) → given_line a bytes ≡ hex_of bytes ++ codes "\n"

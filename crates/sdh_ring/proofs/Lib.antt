@@ -6,4 +6,3 @@ pub mod Settling
 pub mod Turns
 mod Whole
 mod There
-mod Stopping

@@ -111,7 +111,3 @@ pub ids_after : (exact : Bool) (w left : World) (before after : ℕ) (result : R
 unfolding any_round.round_with
 ids_after exact w left before after (Ok u) one = ap (λ (x : World). x.ring.ids) one.ok.after_is
 ids_after exact w left before after (Err e) one = ap (λ (r : HeldRing). r.ids) one.breaks.ring
-
--- a ring has a node for each of its identifiers
-pub has_its_nodes : (r : HeldRing) → IsRing r → held.HasItsNodes r
-has_its_nodes r h = record { ids = h.ids; circuits = h.circuits; slots = h.slots; kept = h.kept; size = count_of r h }

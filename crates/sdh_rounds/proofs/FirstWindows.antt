@@ -3,17 +3,12 @@ use Rattle.std.proofs.Common.{◌≡◌, ℕ, zero, suc, ◌+◌, ◌*◌, ◌-�
 use Rattle.std.proofs.Common.{subst, arith, inl, inr}
 use Rattle.std.specs.Prelude.{nat_le, ◌==◌, ◌&&◌, cond, find}
 use Rattle.std.specs.List.{list_all, range_with_len}
-use Rattle.std.proofs.lemmas.Bool.{cases_lt, cases_eq}
+use Rattle.std.proofs.lemmas.Bool.{cases_lt, cases_eq, and_from}
 use Rattle.std.proofs.lemmas.Bool.Decides.{nat_tests}
 use Rattle.sdh_rounds.specs.Stations.{Station}
 use Rattle.sdh_rounds.specs.Held.{World}
 use Rattle.sdh_rounds.specs.Runs.{course}
 use Rattle.sdh_rounds.specs.Quiet.{is_calm, IsCalm, EndsWindow, SettlesAt, NeverSettles, ends_window, settles_in}
-
-both_true : (a b : Bool) → a ≡ true → b ≡ true → (a && b) ≡ true
-both_true true true x y = refl
-both_true true false x y = y
-both_true false b x y = x
 
 pub left_true : (a b : Bool) → (a && b) ≡ true → a ≡ true
 left_true true b e = refl
@@ -30,10 +25,11 @@ right_true false b e = absurd (none e)
 all_pass : (p : ℕ → Bool) (a m : ℕ) → ((i : ℕ) → a ≤ i → i < a + m → p i ≡ true) → list_all p (range_with_len a m) ≡ true
 all_pass p a zero h = refl
 all_pass p a (suc m) h =
-    both_true (p a) (list_all p (range_with_len (a + 1) m)) (h a (omega arith) (omega arith))
+    and_from (p a) (list_all p (range_with_len (a + 1) m)) (h a (omega arith) (omega arith))
     (all_pass p (a + 1) m (λ i low high. h i (omega arith) (omega arith)))
 
-one_passes : (p : ℕ → Bool) (a m i : ℕ) → list_all p (range_with_len a m) ≡ true → a ≤ i → i < a + m → p i ≡ true
+-- what passes at all numbers of a range passes at each
+pub one_passes : (p : ℕ → Bool) (a m i : ℕ) → list_all p (range_with_len a m) ≡ true → a ≤ i → i < a + m → p i ≡ true
 one_passes p a zero i e low high = absurd (omega arith)
 one_passes p a (suc m) i e low high = elim (cases_eq i a) [
   | inl same ↦ subst (λ (x : ℕ). p x ≡ true) (sym same) (left_true (p a) (list_all p (range_with_len (a + 1) m)) e)
@@ -48,8 +44,8 @@ module _ {N : Type 0} (st : Station N) where
       let long = e.long in
       let place = e.place in
       let calm = λ (i : ℕ). is_calm st (at (k - i)).ring.nodes in
-      both_true (nat_le n k) (list_all calm (range_with_len 0 n) && (((at k).ring.rounds - 1) % 128 == 0)) (grind (arith, nat_tests))
-      (both_true (list_all calm (range_with_len 0 n)) (((at k).ring.rounds - 1) % 128 == 0)
+      and_from (nat_le n k) (list_all calm (range_with_len 0 n) && (((at k).ring.rounds - 1) % 128 == 0)) (grind (arith, nat_tests))
+      (and_from (list_all calm (range_with_len 0 n)) (((at k).ring.rounds - 1) % 128 == 0)
       (all_pass calm 0 n (λ i low high. e.calm (k - i) (omega arith) (omega arith))) (grind (arith, nat_tests)))
 
   pub window_from_computed : (at : ℕ → World N) (k : ℕ) → ends_window st at k ≡ true → EndsWindow st at k

@@ -1,5 +1,5 @@
 -- What no round changes of the nodes of a ring, and so how many ports deliver at each.
-use Rattle.std.proofs.Common.{◌≡◌, ℕ, Bool, List, [], ◌∷◌, length, map, refl, ap, sym, ◌∙◌}
+use Rattle.std.proofs.Common.{◌≡◌, ℕ, Bool, List, length, map, ap, sym, ◌∙◌}
 use Rattle.std.specs.Prelude.{Result, Ok, Err}
 use Rattle.std.proofs.lemmas.Simd.{map-map}
 use Rattle.sdh_ringmap.specs.declared.Side.{Side}
@@ -8,13 +8,11 @@ use Rattle.sdh_plant.specs.Fibres.{Arrival}
 use Rattle.sdh_rounds.specs.Stations.{Station}
 use Rattle.sdh_rounds.specs.Held.{World}
 use Rattle.sdh_rounds.specs.Rounds.{nodes_with, round_with}
-use Rattle.sdh_rounds.specs.Runs.{IsRound, run_with}
+use Rattle.sdh_rounds.specs.Runs.{IsRound}
 use Rattle.sdh_rounds.specs.Calls.{told_some}
 use Rattle.sdh_rounds.specs.Faults.{BreaksRound, had_round}
-use Rattle.sdh_rounds.specs.Outcome.{IsOneRound, IsStep}
+use Rattle.sdh_rounds.specs.Outcome.{IsOneRound}
 use Rattle.sdh_rounds.specs.declared.faults.PlantFault.{PlantFault as Fault}
-use Rattle.sdh_rounds.specs.declared.faults.SettleError.{SettleError}
-use Rattle.sdh_rounds.specs.declared.faults.SettleError.TheVariants.{Unsettled, PlantFault}
 use Rattle.sdh_rounds.proofs.Rings.{heard_keep, some_keep, all_keep, first_keep}
 
 -- what a node keeps through each arrival and each round of its own
@@ -43,19 +41,6 @@ module _ {N Y : Type 0} (st : Station N) (f : N → Y)
       → IsOneRound st exact w result left before after → Keeps w left
   keeps_one exact w left (Ok u) before after one = keeps_round w left one.ok
   keeps_one exact w left (Err e) before after one = keeps_broken w left one.breaks
-
-  keeps_run : (rounds : List (List Arrival)) (w : World N) → Keeps w (run_with st rounds w)
-  keeps_run [] w = refl
-  keeps_run (arrivals ∷ later) w = keeps_run later (round_with st arrivals w) ∙ keeps_with arrivals w
-
-  pub keeps_step : (exact : Bool) (w left : World N) (limit : ℕ) (result : Result (Unit {0}) SettleError) (before after : ℕ)
-      → IsStep st exact w limit result left before after → Keeps w left
-  keeps_step exact w left limit (Ok u) before after step =
-      ap (λ (x : World N). map f x.ring.nodes) step.outcome.left_is ∙ keeps_run step.outcome.rounds w
-  keeps_step exact w left limit (Err Unsettled) before after step =
-      ap (λ (x : World N). map f x.ring.nodes) step.outcome.left_is ∙ keeps_run step.outcome.rounds w
-  keeps_step exact w left limit (Err PlantFault) before after step =
-      let b = step.breaks refl in keeps_broken (run_with st b.rounds w) left b.last ∙ keeps_run b.rounds w
 
 -- There is room for what other nodes deliver, or the same nodes later, where what they keep tells how many ports they
 -- have.

@@ -27,11 +27,11 @@ off_sent : (frames : List (List ℕ)) (k : ℕ) (f : Fibres) → Appends f frame
 unfolding sent_some after_given
 off_sent frames k f = refl
 
-appended_none : (o : Option (List (List ℕ))) → o ≡ option_map (λ sent. sent ++ []) o
+pub appended_none : (o : Option (List (List ℕ))) → o ≡ option_map (λ sent. sent ++ []) o
 appended_none None = refl
 appended_none (Some sent) = ap Some (sym (append-nil sent))
 
-appended_twice : (o : Option (List (List ℕ))) (xs ys : List (List ℕ))
+pub appended_twice : (o : Option (List (List ℕ))) (xs ys : List (List ℕ))
     → option_map (λ sent. sent ++ ys) (option_map (λ sent. sent ++ xs) o) ≡ option_map (λ sent. sent ++ (xs ++ ys)) o
 appended_twice None xs ys = refl
 appended_twice (Some sent) xs ys = ap Some (append_assoc sent xs ys)

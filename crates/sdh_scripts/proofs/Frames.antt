@@ -1,7 +1,7 @@
 -- Frames of rounds, one after the other, where arrivals are known.
-use Rattle.std.proofs.Common.{◌≡◌, ℕ, zero, suc, ◌+◌, ◌-◌, ◌*◌, ◌<◌, ◌≤◌, None, Some, List, [], ◌∷◌, ◌++◌, length, take, refl, ap, sym, ◌∙◌}
-use Rattle.std.proofs.Common.{subst, arith, append_assoc, append-nil}
-use Rattle.std.specs.Prelude.{Option, option_map}
+use Rattle.std.proofs.Common.{◌≡◌, ℕ, zero, suc, ◌+◌, ◌-◌, ◌*◌, ◌<◌, ◌≤◌, List, [], ◌∷◌, ◌++◌, length, take, refl, ap, sym, ◌∙◌}
+use Rattle.std.proofs.Common.{subst, arith, append_assoc}
+use Rattle.std.specs.Prelude.{option_map}
 use Rattle.std.proofs.lemmas.List.{take-append-le, length-append}
 use Rattle.sdh_plant.specs.Fibres.{Arrival, Fibres}
 use Rattle.sdh_plant.specs.Arrivals.{Knows}
@@ -11,7 +11,7 @@ use Rattle.sdh_rounds.specs.Rounds.{arrivals_of, frames_with, nodes_with, round_
 use Rattle.sdh_rounds.specs.Runs.{run, arrivals_in, run_with, ArriveIn, IsBrokenOff}
 use Rattle.sdh_rounds.specs.Laws.{frames_in, Appends}
 use Rattle.sdh_rounds.proofs.Runs.{run_first, held_round, knows_run, length-heard, length-frames, count_round}
-use Rattle.sdh_rounds.proofs.Laws.{runs_keep, faults_keep}
+use Rattle.sdh_rounds.proofs.Laws.{runs_keep, faults_keep, appended_twice}
 
 -- ---- products
 
@@ -28,15 +28,6 @@ take_past [] ys k = let e : 0 + k ≡ k = omega arith in ap (λ j. take j ys) e
 take_past (x ∷ xs) ys k =
     let e : length (x ∷ xs) + k ≡ suc (length xs + k) = omega arith in
     ap (λ j. take j (x ∷ (xs ++ ys))) e ∙ ap (λ l. x ∷ l) (take_past xs ys k)
-
-pub appended : (o : Option (List (List ℕ))) (xs ys : List (List ℕ))
-    → option_map (λ sent. sent ++ ys) (option_map (λ sent. sent ++ xs) o) ≡ option_map (λ sent. sent ++ (xs ++ ys)) o
-appended None xs ys = refl
-appended (Some sent) xs ys = ap Some (append_assoc sent xs ys)
-
-pub none_appended : (o : Option (List (List ℕ))) → o ≡ option_map (λ sent. sent ++ []) o
-none_appended None = refl
-none_appended (Some sent) = ap Some (sym (append-nil sent))
 
 -- ---- runs
 
@@ -160,7 +151,7 @@ module _ {N : Type 0} (st : Station N) where
       record {
         sends = sent ∙ ap (λ xs. option_map (λ sent. sent ++ take off.out (frames_with st xs (run st j w))) (run st j w).fibres.sent) come
             ∙ ap (option_map (λ sent. sent ++ take off.out (frames_with st (arrivals_of (run st j w)) (run st j w)))) (frames_sent j w)
-            ∙ appended w.fibres.sent (frames_in st (arrivals_in st j w) w)
+            ∙ appended_twice w.fibres.sent (frames_in st (arrivals_in st j w) w)
             (take off.out (frames_with st (arrivals_of (run st j w)) (run st j w)));
         few = omega (arith, off.not_all, ap (λ (l : List ℕ). length l) (left_run j w).ids);
       }

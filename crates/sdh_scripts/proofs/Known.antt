@@ -16,7 +16,7 @@ use Rattle.sdh_rounds.specs.Quiet.{SettlesAt, NeverSettles, BreaksOff, settles_i
 use Rattle.sdh_rounds.specs.Laws.{frames_in}
 use Rattle.sdh_rounds.proofs.Runs.{held_run, known_course, course_whole, known_settles, known_unsettles}
 use Rattle.sdh_rounds.proofs.Windows.{never_same}
-use Rattle.sdh_rounds.proofs.Laws.{steps_are_computed}
+use Rattle.sdh_rounds.proofs.Laws.{steps_are_computed, appended_twice, appended_none}
 use Rattle.sdh_plan.specs.declared.step.Step.{Step}
 use Rattle.sdh_plan.specs.declared.step.Step.TheVariants as step
 use Rattle.sdh_report.specs.declared.status.Status.{Status}
@@ -25,7 +25,7 @@ use Rattle.sdh_scripts.specs.Walks.{Walk}
 use Rattle.sdh_scripts.specs.Scripts.{Ended, Breaks, Refuses, Runs, Ran, ran_unsettled, ran_settled, script, IsRan, reports_within}
 use Rattle.sdh_scripts.specs.Scripts.{IsCutShort, ComesTo}
 use Rattle.sdh_scripts.specs.Laws.{KeepsRounds, KnownScripts}
-use Rattle.sdh_scripts.proofs.Frames.{more_of, grows, take_past, appended, none_appended, left_run, frames_sent, knows_after, length-all}
+use Rattle.sdh_scripts.proofs.Frames.{more_of, grows, take_past, left_run, frames_sent, knows_after, length-all}
 use Rattle.sdh_scripts.proofs.Frames.{front, run_on, arrive_on, IsSentTo, small_of, sent_to}
 
 -- a script from world w came to all of `a`, or a fault broke it off; `before` frames had been sent in the rounds
@@ -266,7 +266,7 @@ module _ {N T : Type 0} (walk : Walk N T) (law : KeepsRounds walk) where
           count = length first + c;
           frames =
               x.1.frames ∙ ap (option_map (λ sent. sent ++ take c later.frames)) (frames_sent st m w)
-              ∙ appended w.fibres.sent first (take c later.frames)
+              ∙ appended_twice w.fibres.sent first (take c later.frames)
               ∙ ap (λ l. option_map (λ sent. sent ++ l) w.fibres.sent) (sym (take_past first later.frames c));
           reports_are = is
               ∙ ap (λ l. r ∷ l) (x.1.reports_are ∙ ap (λ j. reports_within walk j
@@ -334,7 +334,7 @@ module _ {N T : Type 0} (walk : Walk N T) (law : KeepsRounds walk) where
         x.1.1,
         record {
           count = 0;
-          frames = ap (λ (f : Fibres). f.sent) x.0 ∙ none_appended w.fibres.sent;
+          frames = ap (λ (f : Fibres). f.sent) x.0 ∙ appended_none w.fibres.sent;
           reports_are =
               x.1.0 ∙ sym (none_after n (2 * n * w.ring.rounds + 0) (step.Fibre e) w _ some (omega (arith, all, some))
               (none_sent limit before n (2 * n * w.ring.rounds + 0) later (walk.does (step.Fibre e) w)));

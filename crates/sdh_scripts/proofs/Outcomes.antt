@@ -4,6 +4,7 @@ use Rattle.std.specs.Prelude.{option_map}
 use Rattle.sdh_plant.specs.Fibres.{Fibres}
 use Rattle.sdh_plant.specs.Arrivals.{Knows}
 use Rattle.sdh_rounds.specs.Held.{World}
+use Rattle.sdh_rounds.proofs.Laws.{appended_none}
 use Rattle.sdh_plan.specs.declared.step.Step.{Step}
 use Rattle.sdh_plan.specs.declared.step.Step.TheVariants as step
 use Rattle.sdh_report.specs.declared.status.Status.{Status}
@@ -13,7 +14,6 @@ use Rattle.sdh_scripts.specs.Scripts.{Stops, Refuses, Runs, Ran, script, reports
 use Rattle.sdh_scripts.specs.Outcomes.{ComesOfSteps, ComesOfKnownRun, IsSettled}
 use Rattle.sdh_scripts.specs.Laws.{KeepsRounds}
 use Rattle.sdh_scripts.proofs.Known.{none_sent, known_scripts}
-use Rattle.sdh_scripts.proofs.Frames.{none_appended}
 
 -- a step that was refused ended the script by a fault
 pub refused_ends : {N T : Type 0} (s : Step) (w : World N) (reports : List T) (end : Status) (left : World N) → Refuses s w reports end left
@@ -102,6 +102,6 @@ module _ {N T : Type 0} (walk : Walk N T) where
         let n = length w.ring.ids in
         let none : reports_within walk n 0 (script walk limit 0 steps w).reports ≡ [] =
         none_sent walk law limit 0 n 0 steps w some (omega (arith, some, ap (λ t. 2 * n * (t + 1)) new)) in
-        inr (x.0, record { count = 0; frames = ap (λ (g : Fibres). g.sent) x.2 ∙ none_appended f.sent; reports_are = x.1 ∙ sym none })
+        inr (x.0, record { count = 0; frames = ap (λ (g : Fibres). g.sent) x.2 ∙ appended_none f.sent; reports_are = x.1 ∙ sym none })
     known_comes left reports end (inr x) knows =
         came left reports end x.0 x.1 (known_scripts walk law limit 0 steps w reports end x.0 knows some size x.2)

@@ -1,5 +1,6 @@
 -- The outcome, stage by stage: a plan, the bytes of a source, the words.
 use Rattle.std.proofs.Common.{◌≡◌, ℕ, None, Some, List, [], refl, ap, sym, ◌∙◌, subst, inl, inr}
+use Rattle.std.proofs.lemmas.Option.{same_Some}
 use Rattle.std.specs.Prelude.{Option, IfSome, is_some}
 use Rattle.std.specs.Io.KnownBytes.{IsAtEnd, Appends}
 use Rattle.sdh_plant.specs.Fibres.{Fibres}
@@ -10,7 +11,7 @@ use Rattle.sdh_shell.specs.Endings.{refuses_plan}
 use Rattle.sdh_shell.specs.Reading.{HasNoPlan, HasPlan, TellsPlan, told_if}
 use Rattle.sdh_shell.specs.Failing.{Counts, EndsWithCause}
 use Rattle.sdh_shell.specs.Writing.{Says, WritesWith, IsShown}
-use Rattle.sdh_shell.proofs.Plans.{some_same, one_plan}
+use Rattle.sdh_shell.proofs.Plans.{one_plan}
 use Rattle.sdh_shell.proofs.Told.{told_all}
 use Rattle.sdh_shell.proofs.Endings.{EndsPlan}
 use Rattle.sdh_shell.proofs.Writing.{told_whole}
@@ -104,7 +105,7 @@ module _ {A L T E : Type 0} (program : Program A L T E) (ask : A) where
     pub asked_done : (b : A) (source : Option (List ℕ)) (f : Fibres) → a ≡ Some b → MayBeDone program b (told program (Some b) source) f
         → MayBeDone program ask (told program (Some ask) source) f
     asked_done b source f other x =
-        subst (λ c. MayBeDone program c (told program (Some c) source) f) (some_same b ask (sym other ∙ is)) x
+        subst (λ c. MayBeDone program c (told program (Some c) source) f) (same_Some b ask (sym other ∙ is)) x
 
 -- ---- what is written
 

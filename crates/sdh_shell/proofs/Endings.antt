@@ -1,5 +1,6 @@
 -- How a call that read a plan may end.
 use Rattle.std.proofs.Common.{◌≡◌, ◌≢◌, ℕ, None, Some, refl, ap, sym, ◌∙◌, subst, inl, inr}
+use Rattle.std.proofs.lemmas.Option.{same_Some}
 use Rattle.std.specs.Prelude.{◌⊎◌, Option}
 use Rattle.sdh_report.specs.declared.status.Status.{Status}
 use Rattle.sdh_report.specs.declared.status.Status.TheVariants as status
@@ -7,7 +8,6 @@ use Rattle.sdh_shell.specs.Calls.{HasRun}
 use Rattle.sdh_shell.specs.Endings.{Endings, refuses_plan, RefusesPlan}
 use Rattle.sdh_shell.specs.Failing.{Counts, HaveFailed, HasCause, cause_of, EndsWithCause}
 use Rattle.sdh_shell.specs.Writing.{Whole, telling_of, telling_if, IsShown}
-use Rattle.sdh_shell.proofs.Plans.{some_same}
 
 -- a script ends with one of these
 pub has_run : (how : Status) → (how ≡ status.Ok) ⊎ (((k : ℕ) × (how ≡ status.Unsettled k)) ⊎ (how ≡ status.PlantFault)) → HasRun how
@@ -52,7 +52,7 @@ EndsPlan endings how = ((s : Status) × (how ≡ endings.of s) × HasRun s) ⊎ 
 module _ {E : Type 0} (endings : Endings E) where
   -- a shared status is one ending
   pub one_status : (s t : Status) → endings.of s ≡ endings.of t → s ≡ t
-  one_status s t e = some_same s t (sym (endings.shared_of s) ∙ ap endings.shared e ∙ endings.shared_of t)
+  one_status s t e = same_Some s t (sym (endings.shared_of s) ∙ ap endings.shared e ∙ endings.shared_of t)
 
   shared_is : (how : E) (s : Status) → how ≡ endings.of s → endings.shared how ≡ Some s
   shared_is how s is = ap endings.shared is ∙ endings.shared_of s

@@ -3,8 +3,8 @@
 use Rattle.std.specs.Prelude.{◌≡◌, ℕ, Bool, true, false, if◌then◌else◌, List, [], ◌∷◌, codes, map, Option, Some, None, String, string_bytes}
 use Rattle.std.specs.Str.{bytes_eq}
 use Rattle.std.specs.declared.alloc.Global.{Global}
-use Rattle.sdh_circuits.specs.declared.End.{End}
-use Rattle.sdh_circuits.specs.declared.End.TheVariants.{A, B}
+-- the end of a circuit that a letter names
+pub use Rattle.sdh_plan.specs.Steps.{end_at as end_lettered}
 use Rattle.sdh_report.specs.declared.status.Status.{Status}
 use Rattle.sdh_report.specs.declared.status.Status.TheVariants as status
 
@@ -24,10 +24,6 @@ AreRun words = is_run words ≡ true
 -- what is asked of a program that does one thing alone, by the word `run`
 abbrev pub asked_to_run : List (List ℕ) → Option (Unit {0})
 asked_to_run words = if is_run words then Some tt else None
-
--- the end of a circuit that a letter names
-abbrev pub end_lettered : List ℕ → Option End
-end_lettered letter = if bytes_eq letter (codes "a") then Some A else if bytes_eq letter (codes "b") then Some B else None
 
 -- ---- endings
 

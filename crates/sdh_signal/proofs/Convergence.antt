@@ -25,7 +25,7 @@ use Rattle.sdh_signal.proofs.Firsts.{first_any}
 use Rattle.sdh_signal.proofs.Runs.{at, some_nodes, next, next_below, request, request_back, weight_le, at_least_waiting}
 use Rattle.sdh_signal.proofs.Spans.{size, spans}
 use Rattle.sdh_restoration.proofs.Highest.{top_of}
-use Rattle.sdh_signal.proofs.Requests.{highest_ge}
+use Rattle.sdh_restoration.proofs.Asked.{highest_from}
 use Rattle.sdh_signal.proofs.Backward.{relays_le}
 use Rattle.sdh_signal.proofs.Levels.{IsLevel, plain, answer_code}
 use Rattle.sdh_signal.proofs.Agreement.{short_said}
@@ -189,7 +189,7 @@ module _ (run : Run) (R : IsRun run) where
       let inside : first.place < n = let x = first.inside in omega arith in
       record {
         above =
-            λ p d h. (let x = spans run R p d h in let b = span_below n p d h in let y = highest_ge rs (span_at n p d)
+            λ p d h. (let x = spans run R p d h in let b = span_below n p d h in let y = highest_from rs (span_at n p d)
             (omega arith) in omega arith);
         at_node = first.place;
         on_side = East;

@@ -1,13 +1,8 @@
 -- The requests of the spans: none is above the highest, and when a request is applied.
-use Rattle.std.proofs.Common.{◌≡◌, ℕ, ◌<◌, ◌≤◌, suc, zero, List, [], ◌∷◌, length, get_or, ap, arith}
+use Rattle.std.proofs.Common.{◌≡◌, ℕ, ◌<◌, ◌≤◌, List, ap}
 use Rattle.std.specs.Prelude.{◌==◌, ◌&&◌, nat_le, nat_lt, if◌then◌else◌}
 use Rattle.std.proofs.lemmas.Bool.{le-leb, lt-leb}
 use Rattle.sdh_restoration.specs.Applied.{highest, has_one_leader, applies}
-
-pub highest_ge : (rs : List ℕ) (i : ℕ) → i < length rs → get_or rs i 0 ≤ highest rs
-highest_ge [] i h = absurd (omega arith)
-highest_ge (r ∷ rs) zero h = omega arith
-highest_ge (r ∷ rs) (suc i) h = let x = highest_ge rs i (omega arith) in omega arith
 
 pub applies_top : (rs : List ℕ) (r : ℕ) → 11 ≤ highest rs → applies rs r ≡ nat_le 11 r
 unfolding applies

@@ -21,6 +21,7 @@ use Rattle.sdh_restoration.specs.Applied.{highest, has_one_leader, applies, is_a
 use Rattle.sdh_signal.specs.Settled.{settled}
 use Rattle.sdh_signal.proofs.FarEnds.{first_position}
 use Rattle.sdh_restoration.proofs.Highest.{top_of}
+use Rattle.sdh_restoration.proofs.Asked.{highest_from}
 use Rattle.sdh_signal.specs.Runs.{Run, IsRun}
 use Rattle.sdh_ringmap.specs.Steps.{going}
 use Rattle.sdh_ringmap.proofs.Going.{going-inside, going-last, met, IsMet}
@@ -34,7 +35,7 @@ use Rattle.sdh_signal.proofs.Levels.{IsLevel, sends_short}
 use Rattle.sdh_signal.proofs.Agreement.{short_said}
 use Rattle.sdh_signal.proofs.Firsts.{first_any, first_within}
 use Rattle.sdh_signal.proofs.Ends.{HearsFirst, hears, heavy, light, pass, blocked, switch_west, switch_east, state_isolated, state_idle}
-use Rattle.sdh_signal.proofs.Requests.{highest_ge, applies_top, applies_low}
+use Rattle.sdh_signal.proofs.Requests.{applies_top, applies_low}
 use Rattle.sdh_signal.proofs.Counting.{count_one, count_more, Another}
 
 both_below : (s : Scene) (d : Side) → is_below s d d ≡ true → is_below s d (opposite d) ≡ true
@@ -159,7 +160,7 @@ module _ (run : Run) (R : IsRun run) (rs : List ℕ) (size : length rs ≡ lengt
 
   module _ (low : highest rs < 11) where
     v : (p : ℕ) (d : Side) → p < n → asked p d ≤ highest rs
-    v p d g = let s = spans p d g in let b = span_below n p d g in let x = highest_ge rs (span_at n p d) (omega arith) in omega arith
+    v p d g = let s = spans p d g in let b = span_below n p d g in let x = highest_from rs (span_at n p d) (omega arith) in omega arith
 
     weights : (p : ℕ) (d : Side) → p < n → w p d ≤ highest rs
     weights p d g = let x = weight_le run R t p d (omega arith) g in let y = v p d g in omega arith

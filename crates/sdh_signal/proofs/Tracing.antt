@@ -71,6 +71,12 @@ relays_foreign s d e =
     let w = word_relay s (opposite d) r.0 e r.1 in
     record { heard = h.0 ∙ ap (λ x. Some x) (sym w); foreign = λ i. h.1 (ap (λ (x : K). x.from) (sym w) ∙ i) }
 
+pub relay_of : (c : Choice) → is_relay c ≡ true → c ≡ relay
+relay_of own_short e = cc
+relay_of own_long e = cc
+relay_of relay e = refl
+relay_of rest e = cc
+
 module _ (run : Run) (R : IsRun run) (t : ℕ) (still : IsStillAfter run t) where
   abbrev n : ℕ
   n = length run.ids
@@ -175,12 +181,6 @@ module _ (run : Run) (R : IsRun run) (t : ℕ) (still : IsStillAfter run t) wher
   passes_by false false true d v w e = refl
   passes_by false false false true v w e = cc
   passes_by false false false false v w e = cc
-
-  relay_of : (c : Choice) → is_relay c ≡ true → c ≡ relay
-  relay_of own_short e = cc
-  relay_of own_long e = cc
-  relay_of relay e = refl
-  relay_of rest e = cc
 
   passes_west : (p : ℕ) → state_after (at_round run (suc t) p) ≡ state.PassThrough tt → Relays run (suc t) p East
   unfolding state_after

@@ -11,7 +11,7 @@ use Rattle.sdh_ringmap.specs.declared.Side.{Side}
 use Rattle.sdh_ringmap.specs.Places.{neighbour, opposite}
 use Rattle.sdh_ringmap.specs.Steps.{going}
 use Rattle.sdh_ringmap.proofs.Going.{IsReached, going-none, going-first, reached}
-use Rattle.sdh_ringmap.proofs.Sides.{neighbour_below}
+use Rattle.sdh_ringmap.proofs.Sides.{neighbour_below, opposite_twice}
 use Rattle.sdh_circuits.specs.declared.End.{End}
 use Rattle.sdh_circuits.specs.declared.End.TheVariants.{A, B}
 use Rattle.sdh_circuits.specs.Provisioned.{Provisioned, customer_at, end_of}
@@ -41,7 +41,6 @@ use Rattle.sdh_sncp.proofs.Rounds.{neighbour_inside, whole_run, left_run}
 use Rattle.sdh_sncp.proofs.Calm.{AreSame, calm_where_same}
 use Rattle.sdh_sncp.proofs.Spans.{sent_at, came_at, generator_step, interpreter_step}
 use Rattle.sdh_sncp.proofs.Uses.{use_is, use_none, use_passed, use_ended, sends_passed, sends_ended, sends_none, port_sends}
-use Rattle.sdh_sncp.proofs.Ways.{other_side}
 use Rattle.sdh_terminal.specs.Tributaries.{added_by}
 use Rattle.sdh_sncp.specs.Due.{sends_in}
 use Rattle.sdh_sncp.proofs.Owed.{offset_small, quiet_delivers}
@@ -251,7 +250,7 @@ module _ (w : World) (whole : IsWhole w) (form : HasCircuits w.ring) where
           let is = get_or_from_slice_get cs s.index c c s.get in
           let ring : IsInRing (size w whole) c = subst (IsInRing (size w whole)) is (form.are.in_ring s.index c within) in
           subst (λ k. IsConstant (went w q d k) (9 * size w whole)) s.slot
-          (subst (λ e. IsConstant (went w q e c.slot.0) (9 * size w whole)) (other_side d)
+          (subst (λ e. IsConstant (went w q e c.slot.0) (9 * size w whole)) (opposite_twice d)
           (circuit_constant s.index c s.get ring (let e = s.slot in omega arith) (let e = s.slot in omega arith)
           (λ e. offset_small cs form.are.offsets s.index c s.get e) q (opposite d) h))
 

@@ -1,11 +1,9 @@
 -- A new path ring over prepared fibres, and what happens to whole rings.
-use Rattle.std.proofs.Common.{◌≡◌, ℕ, ◌*◌, ◌<◌, List, length, get_or, replicate, Option, Some, None, refl, ap, sym, ◌∙◌, subst, arith, inl}
-use Rattle.std.proofs.Common.{inr}
+use Rattle.std.proofs.Common.{◌≡◌, ℕ, ◌*◌, ◌<◌, List, length, get_or, Option, Some, None, refl, ap, sym, ◌∙◌, subst, arith}
 use Rattle.std.specs.Prelude.{All, slice_get}
 use Rattle.std.specs.Option.{option_map_or}
 use Rattle.std.proofs.lemmas.Option.{get_or_from_slice_get, slice_get_within}
-use Rattle.std.proofs.lemmas.Bool.{cases_lt}
-use Rattle.std.proofs.lemmas.List.{length-replicate, get_or-replicate, get_or_past}
+use Rattle.std.proofs.lemmas.List.{length-replicate}
 use Rattle.sdh_basics.proofs.CellsLaws.{length-cells, get_or-cells}
 use Rattle.sdh_ringmap.specs.declared.Side.{Side}
 use Rattle.sdh_ringmap.specs.declared.Side.TheVariants.{West, East}
@@ -16,9 +14,8 @@ use Rattle.sdh_circuits.specs.Provisioned.{Provisioned, end_of}
 use Rattle.sdh_payload.specs.Outlet.{silent}
 use Rattle.sdh_circuits.specs.Provisioning.{Provisioning}
 use Rattle.sdh_nodestate.specs.Words.{first_word}
-use Rattle.sdh_plant.specs.Fibres.{Arrival}
 use Rattle.sdh_ringmap.specs.Fibres.{fibre}
-use Rattle.sdh_plant.proofs.Calling.{stay_prepared, stay_honest}
+use Rattle.sdh_plant.proofs.Calling.{stay_prepared, stay_honest, none_at}
 use Rattle.sdh_request.specs.declared.settings.Settings.{Settings}
 use Rattle.sdh_terminal.specs.Tributaries.{Tributary, tributaries_from, tributaries_at, port_of, outlet_of}
 use Rattle.sdh_spans.specs.Sides.{IsInletAt, IsSenderAt}
@@ -66,12 +63,6 @@ module _ (s : Settings) (ids : List ℕ) (circuits : Provisioning) (p : ℕ) whe
       fresh : (d : Side) → (inlet_on d one).arrived ≡ None
       fresh West = refl
       fresh East = refl
-
-none_at : (m i : ℕ) → get_or {A = Arrival} (replicate m None) i None ≡ None
-none_at m i = elim (cases_lt i m) [
-  | inl lt ↦ get_or-replicate m i None None lt
-  | inr far ↦ get_or_past _ i None (omega (arith, length-replicate {A = Arrival} m None))
-]
 
 pub length-new : (s : Settings) (ids : List ℕ) (cs : List Provisioned) (k : ℕ) → length (new_nodes s ids cs k) ≡ k
 unfolding new_nodes

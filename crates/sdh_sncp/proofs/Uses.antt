@@ -7,9 +7,9 @@ use Rattle.std.proofs.lemmas.Bool.{eq-eqb, ne_eqb}
 use Rattle.sdh_basics.proofs.CellsLaws.{get_or-cells}
 use Rattle.sdh_ringmap.specs.Rates.{n_of}
 use Rattle.sdh_ringmap.specs.declared.Side.{Side}
-use Rattle.sdh_ringmap.specs.declared.Side.TheVariants.{West, East}
 use Rattle.sdh_payload.specs.Outlet.{delivering}
 use Rattle.sdh_ringmap.specs.Places.{opposite}
+use Rattle.sdh_ringmap.proofs.Sides.{opposite_twice}
 use Rattle.sdh_circuits.specs.declared.End.{End}
 use Rattle.sdh_circuits.specs.declared.End.TheVariants.{A, B}
 use Rattle.sdh_circuits.specs.declared.PortId.{PortId}
@@ -97,17 +97,13 @@ module _ (w : World) (whole : IsWhole w) (q m : ℕ) (h : q < length w.ring.node
   unfolding leads crossing
   lead_is d = ap (λ u. fed_for u d m) use_there
 
-  twice : (d : Side) → opposite (opposite d) ≡ d
-  twice West = refl
-  twice East = refl
-
   pub sends_by : (u : Use) (d : Side) → use_of w.ring.circuits.circuits q m ≡ u
       → sent_at w q d m ≡ fed_by (lines_of (crossing_at w q)) (added_by (node_at w.ring.nodes q).ports) (fed_for u d m)
   sends_by u d is =
       ap (fed_by (lines_of (crossing_at w q)) (added_by (node_at w.ring.nodes q).ports)) (lead_is d ∙ ap (λ u. fed_for u d m) is)
 
   pub sends_passed : (d : Side) → use_of w.ring.circuits.circuits q m ≡ Passed → sent_at w q (opposite d) m ≡ came_at w q d m
-  sends_passed d is = sends_by Passed (opposite d) is ∙ ap (λ e. came_at w q e m) (twice d)
+  sends_passed d is = sends_by Passed (opposite d) is ∙ ap (λ e. came_at w q e m) (opposite_twice d)
 
   pub sends_ended : (d : Side) (id : PortId) → use_of w.ring.circuits.circuits q m ≡ Ended id
       → sent_at w q d m ≡ added_by (node_at w.ring.nodes q).ports id

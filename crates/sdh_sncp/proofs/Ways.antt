@@ -33,10 +33,6 @@ use Rattle.sdh_sncp.proofs.Uses.{use_is, use_passed, use_ended, sends_passed, se
 
 -- ---- the two ways of a circuit's port
 
-pub other_side : (d : Side) → opposite (opposite d) ≡ d
-other_side West = refl
-other_side East = refl
-
 pub both_arcs : (n from to : ℕ) → from < n → to < n → from ≢ to
     → (eastwards n from to + eastwards n to from ≡ n) × (1 ≤ eastwards n from to) × (1 ≤ eastwards n to from)
 both_arcs n from to hf ht apart = elim (cases_lt from to) [

@@ -90,7 +90,7 @@ ends_equal B B e = refl
 ends_equal A B e = cc
 ends_equal B A e = cc
 
-names_equal : (p q : PortId) → same_port p q ≡ true → p ≡ q
+pub names_equal : (p q : PortId) → same_port p q ≡ true → p ≡ q
 names_equal p q e = go (p.circuit == q.circuit) (same_end p.end q.end) refl refl e
   where
     go : (a b : Bool) → (p.circuit == q.circuit) ≡ a → same_end p.end q.end ≡ b → (a && b) ≡ true → p ≡ q

@@ -9,11 +9,12 @@ use Rattle.std.proofs.lemmas.Bool.{cases_eq}
 use Rattle.std.proofs.lemmas.List.{get_or-set_same, get_or-set_other}
 use mir.Val.{bool_byte}
 use Rattle.sdh_circuits.specs.Provisioned.{Provisioned, arc_of}
-use Rattle.sdh_ringmap.specs.Arcs.{Arc, arc_span, opposite_arc, none_of, is_clear, is_joined}
+use Rattle.sdh_ringmap.specs.Arcs.{Arc, opposite_arc, none_of, is_clear, is_joined}
 use Rattle.sdh_ringmap.proofs.Clear.{is_clear-opposite}
 use Rattle.sdh_verdicts.specs.declared.judging.Verdict.{Verdict}
 use Rattle.sdh_verdicts.specs.declared.judging.Verdict.TheVariants.{Kept, Over, Lost}
 use Rattle.sdh_verdicts.specs.Verdicts.{counted, verdict_under}
+use Rattle.sdh_restoration.specs.Routes.{applied_at_place}
 
 abbrev one : Bool → ℕ
 one b = if b then 1 else 0
@@ -70,7 +71,7 @@ module _ (n : ℕ) (applied : ℕ → Bool) (arc : Arc) where
   round_it j = applied (j % n)
 
   abbrev along : ℕ → Bool
-  along i = applied (arc_span n arc i)
+  along = applied_at_place n applied arc
 
   inside_is : counted along arc.spans ≡ counted round_it (arc.start + arc.spans) - counted round_it arc.start
   inside_is = omega (arith, counted_on round_it arc.start arc.spans)

@@ -8,7 +8,6 @@ pub mod Asked
 pub mod Asking
 pub mod Agreeing
 pub mod Longer
-pub mod Same
 pub mod Hops
 pub mod Sets
 pub mod Occurring

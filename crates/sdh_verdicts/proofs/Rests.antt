@@ -1,10 +1,10 @@
 -- A side after some steps, step by step.
-use Rattle.std.proofs.Common.{◌≡◌, ℕ, ◌+◌, ◌<◌, List, [], ◌∷◌, ◌++◌, length, take, get_or, Option, Some, None, inl, inr, refl, sym, ap, ◌∙◌}
+use Rattle.std.proofs.Common.{◌≡◌, ℕ, ◌+◌, ◌<◌, List, [], ◌∷◌, ◌++◌, length, take, get_or, Some, None, inl, inr, refl, sym, ap, ◌∙◌}
 use Rattle.std.proofs.Common.{arith, append_assoc}
 use Rattle.std.specs.Prelude.{slice_get}
 use Rattle.std.proofs.lemmas.Bool.{cases_lt}
 use Rattle.std.proofs.lemmas.List.{take_more, take_all}
-use Rattle.std.proofs.lemmas.Option.{slice_get_past, slice_get-get_or}
+use Rattle.std.proofs.lemmas.Option.{slice_get_past, slice_get-get_or, same_Some}
 use Rattle.sdh_ringmap.specs.declared.Side.{Side}
 use Rattle.sdh_plan.specs.declared.step.Step.{Step}
 use Rattle.sdh_plan.specs.declared.step.Step.TheVariants as step
@@ -15,9 +15,6 @@ use Rattle.sdh_verdicts.specs.Resting.{Resting, rest_in}
 use Rattle.sdh_verdicts.specs.Sides.{rest_after, rests}
 use Rattle.sdh_verdicts.specs.declared.failure.Failure.{Failure}
 use Rattle.sdh_verdicts.specs.Failures.{steps_of, case_steps}
-
-some_same : (s t : Step) → ◌≡◌ {A = Option Step} (Some s) (Some t) → s ≡ t
-some_same s t e = grind arith
 
 module _ (threshold n p : ℕ) (d : Side) where
   pub rests_more : (xs ys : List Step) (r : Resting) → rests threshold n p d (xs ++ ys) r
@@ -37,7 +34,7 @@ module _ (threshold n p : ℕ) (d : Side) where
       → rests threshold n p d (take (i + 1) steps) r ≡ rest_after threshold n p d s (rests threshold n p d (take i steps) r)
   rests_some steps i s r e = elim (cases_lt i (length steps)) [
     | inl low ↦ rests_next steps i s r low ∙ ap (λ t. rest_after threshold n p d t (rests threshold n p d (take i steps) r))
-        (some_same (get_or steps i s) s (sym (slice_get-get_or steps i s low) ∙ e))
+        (same_Some (get_or steps i s) s (sym (slice_get-get_or steps i s low) ∙ e))
     | inr past ↦ (let none = slice_get_past steps i past in absurd (grind (arith, none, e)))
   ]
 

@@ -6,6 +6,7 @@ use Rattle.sdh_request.specs.declared.Command.{Command}
 use Rattle.sdh_request.specs.declared.Defect.{Defect}
 use Rattle.sdh_request.specs.declared.Defect.TheVariants as defect
 use Rattle.sdh_request.specs.Requests.{is_defect_free, waits, highest_code}
+use Rattle.sdh_request.specs.History.{ends}
 use Rattle.sdh_ringmap.specs.declared.terms.Condition.{Condition}
 use Rattle.sdh_ringmap.specs.declared.terms.Condition.TheVariants.{Clear, Cut, Degraded}
 use Rattle.sdh_ringmap.specs.Fibres.{is_cut, degraded_by}
@@ -55,10 +56,6 @@ module _ (threshold : ℕ) (least : 1 ≤ threshold) (g : SideHistory) where
   shown_twice Clear = let no : nat_le threshold 0 ≡ false = grind (arith, nat_tests) in ap (λ b. if b then defect.Sd else defect.None) no
   shown_twice Cut = refl
   shown_twice (Degraded k) = refl
-
-  -- whether a defect ends, by those of two rounds
-  abbrev ends : Defect → Defect → Bool
-  ends a b = not (is_defect_free a) && is_defect_free b
 
   last_next : (t : ℕ) (a b : Defect) → defect_at threshold g t ≡ a → defect_at threshold g (suc t) ≡ b
       → last_end threshold g (suc t) ≡ (if ends a b then Some (suc t) else last_end threshold g t)

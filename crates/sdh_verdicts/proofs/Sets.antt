@@ -1,11 +1,16 @@
 -- Sets of spans, by marks.
 use Rattle.std.proofs.Common.{◌≡◌, ℕ, zero, suc, ◌+◌, ◌%◌, ◌<◌, ◌≤◌, Bool, true, false, List, [], ◌∷◌, ◌++◌, length, get_or, take, refl, ap, ◌∙◌}
-use Rattle.std.proofs.Common.{arith, subst, inl, inr, length-append}
-use Rattle.std.specs.Prelude.{if◌then◌else◌}
+use Rattle.std.proofs.Common.{arith, subst, sym, map, Some, inl, inr, length-append}
+use Rattle.std.specs.Prelude.{if◌then◌else◌, slice_get}
 use Rattle.std.proofs.Math.Nat.{mod-lt}
 use Rattle.std.proofs.Math.Seq.{get_or-append_seam}
 use Rattle.std.proofs.lemmas.Bool.{cases_lt}
 use Rattle.std.proofs.lemmas.List.{append-nil, get_or-take, get_or_append_left, length-take-le}
+use Rattle.std.proofs.lemmas.Option.{same_Some}
+use Rattle.sdh_ringmap.specs.declared.terms.Code.{Code}
+use Rattle.sdh_ringmap.specs.Requests.{code_number}
+use Rattle.sdh_circuits.specs.Provisioned.{Provisioned}
+use Rattle.sdh_circuits.specs.Provisioning.{Provisioning}
 use Rattle.sdh_verdicts.specs.declared.judging.SpanSet.{SpanSet}
 use Rattle.sdh_verdicts.specs.Verdicts.{AreSpans, places_below}
 use Rattle.sdh_verdicts.proofs.Counts.{counted_same}
@@ -36,6 +41,24 @@ of_marks n q marks a enough within same are =
     let p : ℕ → Bool = λ s. get_or (take n marks) s false in
     let here : AreSpans n p a = subst (λ m. AreSpans m p a) (length-take-le n marks within) are in
     spans_turned n p q a enough (λ s low. get_or-take n marks s false low ∙ same s low) here
+
+-- the same set under the requests of a plan's spans, where the list that was read has room for more
+pub spans_of_requests : (test : List ℕ → ℕ → Bool) (n m : ℕ) (codes : List Code) (rs : List ℕ) (a : SpanSet) → n ≡ m → n ≤ length codes
+    → map code_number (take m codes) ≡ rs → AreSpans (length (take n codes)) (test (map code_number (take n codes))) a
+    → AreSpans m (test rs) a
+spans_of_requests test n m codes rs a same few told are =
+    subst (λ l. AreSpans m (test l) a) (ap (λ k. map code_number (take k codes)) same ∙ told)
+    (subst (λ k. AreSpans k (test (map code_number (take n codes))) a) (length-take-le n codes few ∙ same) are)
+
+-- what was told of a circuit of a plan's ring is told of this one: both are read at one place
+pub told_by : {A : Type 0} (under : ℕ → (ℕ → Bool) → Provisioned → A) (p : ℕ → Bool) (a : SpanSet) (ring nodes : List ℕ)
+    (v w : Provisioning) (i : ℕ) (c d : Provisioned) (x : A) → ring ≡ nodes → v ≡ w → slice_get v.circuits i ≡ Some c
+    → slice_get w.circuits i ≡ Some d → AreSpans (length nodes) p a
+    → ((q : ℕ → Bool) → AreSpans (length ring) q a → x ≡ under (length ring) q c) → x ≡ under (length nodes) p d
+told_by under p a ring nodes v w i c d x same read got is are told =
+    let one : c ≡ d = same_Some c d (sym (ap (λ (u : Provisioning). slice_get u.circuits i) (sym read) ∙ got) ∙ is) in
+    told p (subst (λ l. AreSpans (length l) p a) (sym same) are) ∙ ap (λ l. under (length l) p c) same
+    ∙ ap (under (length nodes) p) one
 
 -- ---- one span more
 

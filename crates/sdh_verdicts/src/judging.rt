@@ -4,6 +4,7 @@ ghost use Rattle.sdh_plan.specs.Planned.{Planned};
 ghost use Rattle.sdh_verdicts.specs.Sides.{resting_of, rests};
 ghost use Rattle.sdh_verdicts.specs.Failures.{IsFailureIn, steps_of, case_steps, side_of};
 ghost use Rattle.sdh_ringmap.specs.Arcs.{is_among, is_clear};
+ghost use Rattle.sdh_ringmap.specs.Places.{eastwards};
 ghost use Rattle.sdh_circuits.specs.Provisioned.{arc_of};
 ghost use Rattle.sdh_ringmap.specs.Requests.{code_number};
 ghost use Rattle.sdh_restoration.specs.Applied.{is_applied};
@@ -307,6 +308,19 @@ impl SpanSet {
     }
 }
 
+// Returns the first span of a circuit's own arc, and the number of its spans.
+fn own_arc(map: &RingMap, circuit: &Circuit) -> (usize, usize)
+    requires from { circuit.now.from.0 < length map.now }
+    requires to { circuit.now.to.0 < length map.now }
+    ensures first { result.0 ≡ circuit.now.from.0 }
+    ensures spans { result.1 ≡ eastwards (length map.now) circuit.now.from.0 circuit.now.to.0 }
+    ensures within { (result.0 < length map.now) × (result.1 < length map.now) }
+{
+    let first = circuit.from();
+    let spans = map.distance(first, circuit.to());
+    (usize::from(first.0), usize::from(spans))
+}
+
 /// Returns what becomes of a circuit where these spans are applied.
 #[tactic(auto)]
 pub fn judge(map: &RingMap, applied: &SpanSet, circuit: &Circuit) -> Verdict
@@ -315,8 +329,7 @@ pub fn judge(map: &RingMap, applied: &SpanSet, circuit: &Circuit) -> Verdict
     requires to { circuit.now.to.0 < length map.now }
     ensures { (p : ℕ → Bool) → AreSpans (length map.now) p applied.now → result ≡ verdict_under (length map.now) p circuit.now }
 {
-    let first = usize::from(circuit.from().0);
-    let spans = usize::from(map.distance(circuit.from(), circuit.to()));
+    let (first, spans) = own_arc(map, circuit);
     let inside = applied.before[first + spans] - applied.before[first];
     if inside == 0 {
         Verdict::Kept
@@ -335,8 +348,7 @@ pub fn meets(map: &RingMap, spans: &SpanSet, circuit: &Circuit) -> bool
     ensures { (p : ℕ → Bool) → AreSpans (length map.now) p spans.now
         → result ≡ not (is_clear (length map.now) p (arc_of (length map.now) circuit.now)) }
 {
-    let first = usize::from(circuit.from().0);
-    let over = usize::from(map.distance(circuit.from(), circuit.to()));
+    let (first, over) = own_arc(map, circuit);
     spans.before[first + over] != spans.before[first]
 }
 

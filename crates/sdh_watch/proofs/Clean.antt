@@ -28,6 +28,7 @@ use Rattle.sdh_laws.specs.Carrying.Laws.{due_by_clocks, DeliversWhatIsDue}
 use Rattle.sdh_laws.proofs.carrying.Ways.{layout_round}
 use Rattle.sdh_laws.specs.Resting.Rest.{IsAtRest}
 use Rattle.sdh_laws.proofs.resting.Resting.{known_round, rest_goes_on}
+use Rattle.sdh_laws.proofs.hearing.Nodes.{one_more as rounds_more}
 use Rattle.sdh_path.specs.History.{Given, Chunk, Ais}
 use Rattle.sdh_path.specs.PathReports.{path_report_of}
 use Rattle.sdh_path.specs.Laws.{clean_report, chunks_from}
@@ -36,7 +37,6 @@ use Rattle.sdh_watch.specs.Shows.{shown, WatchLine}
 use Rattle.sdh_watch.specs.Watching.{given_as, Lead, port_watched}
 use Rattle.sdh_watch.specs.Owed.{clean_watch}
 use Rattle.sdh_watch.proofs.Plainly.{GoesPlainly}
-use Rattle.sdh_rounds.specs.Rounds as any_round
 
 -- the world to which k rounds of a ring at rest lead
 record At (clocks : PortId → ℕ → Clock) (w : World) (k : ℕ) (left : World) : Type 0 where
@@ -44,10 +44,6 @@ record At (clocks : PortId → ℕ → Clock) (w : World) (k : ℕ) (left : Worl
   rounds : left.ring.rounds ≡ w.ring.rounds + k
   layout : layout_of left ≡ layout_of w
   requests : requests_of left ≡ requests_of w
-
-rounds_more : (w : World) → (round w).ring.rounds ≡ w.ring.rounds + 1
-unfolding any_round.round any_round.round_with
-rounds_more w = refl
 
 one_more : (clocks : PortId → ℕ → Clock) (w mid left : World) (k : ℕ) → At clocks w k mid → IsRound mid left → At clocks w (suc k) left
 one_more clocks w mid left k at is =

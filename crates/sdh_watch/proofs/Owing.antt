@@ -25,9 +25,10 @@ use Rattle.sdh_world.specs.Quiet.{is_calm, IsCalm, EndsWindow, Settles}
 use Rattle.sdh_promise.specs.Changes.{Change, Stretch, rounds_in, changes_of, scenes}
 use Rattle.sdh_promise.specs.Happened.{happened}
 use Rattle.sdh_promise.specs.Owed.{Ring, requests_by, owed_port, owed_ports, IsLast}
-use Rattle.sdh_world.specs.Changes.{all_changed, after_stretch, after_stretches, new_world}
+use Rattle.sdh_promise.proofs.Rounds.{rounds_last}
+use Rattle.sdh_world.specs.Changes.{all_changed, after_stretches, new_world}
 use Rattle.sdh_world.specs.Clocks.{HasPortIn, clock_at, waiting_at, clock_in, first_clock, clocks_from, clocks_by}
-use Rattle.sdh_world.specs.Laws.{MayHappen, AreChangesOf}
+use Rattle.sdh_world.specs.Laws.{MayHappen}
 use Rattle.sdh_world.proofs.Clocks.{clocks_go_on, goes_run}
 use Rattle.sdh_laws.specs.Hearing.Laws.{IsWhole, MayStart}
 use Rattle.sdh_laws.proofs.hearing.Changes.{new_worlds_are_whole}
@@ -53,7 +54,7 @@ use Rattle.sdh_report.specs.declared.status.Status.TheVariants as status
 use Rattle.sdh_owed.specs.Laws.{ring_by}
 use Rattle.sdh_scripts.proofs.Outcomes.{refused_ends}
 use Rattle.sdh_owed.proofs.Ports.{due_told}
-use Rattle.sdh_owed.proofs.Standing.{Stands, layout_is, whole, changed_then, stretch_to, Ended, settled_then, stands_new, none_at}
+use Rattle.sdh_owed.proofs.Standing.{Stands, layout_is, whole, changed_then, stretch_to, Ended, settled_then, stands_new, none_at, happens_last}
 use Rattle.sdh_owed.proofs.Standing.{long_step}
 use Rattle.sdh_path.specs.History.{Given}
 use Rattle.sdh_watch.specs.Shows.{Watched}
@@ -88,15 +89,6 @@ watches_are r heard n applied before t index (c ∷ cs) h =
     (watches_are r heard n applied before t (index + 1) cs (λ k d get e. (
     let next : index + suc k ≡ index + 1 + k = omega arith in
     subst (Shows d e) next (h (suc k) d get e))))
-
-rounds_last : (ss : List Stretch) (x : Stretch) → rounds_in (ss ++ x ∷ []) ≡ rounds_in ss + x.rounds
-rounds_last [] x = omega arith
-rounds_last (y ∷ ss) x = let r = rounds_last ss x in omega arith
-
-happens_last : (ss : List Stretch) (x : Stretch) (w : World) → MayHappen w ss → AreChangesOf (after_stretches ss w) x.changes
-    → MayHappen w (ss ++ x ∷ [])
-happens_last [] x w may last = (last, tt)
-happens_last (r ∷ ss) x w may last = (may.0, happens_last ss x (after_stretch r w) may.1 last)
 
 -- rounds of a ring at rest are those of a run
 lead_run : (clocks : PortId → ℕ → Clock) (k : ℕ) (w left : World) (heard : PortId → List Given) → IsAtRest clocks w → Lead k w left heard

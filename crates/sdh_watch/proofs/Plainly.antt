@@ -5,9 +5,7 @@ use Rattle.sdh_circuits.specs.declared.PortId.{PortId}
 use Rattle.sdh_circuits.specs.Provisioned.{same_port}
 use Rattle.sdh_payload.specs.declared.clock.Turn.{Turn}
 use Rattle.sdh_payload.specs.declared.clock.Turn.TheVariants.{Up, Down}
-use Rattle.sdh_payload.specs.declared.chunk.ChunkForm.{ChunkForm}
-use Rattle.sdh_payload.specs.declared.chunk.ChunkForm.TheVariants.{Plain, Short, Long}
-use Rattle.sdh_payload.specs.Clock.{Clock, new_clock, waiting, with_waiting, next_form, after_form, ticked, ticks}
+use Rattle.sdh_payload.specs.Clock.{Clock, new_clock, waiting, with_waiting, ticked, ticks}
 use Rattle.sdh_payload.proofs.Clocking.{goes_on}
 use Rattle.sdh_promise.specs.Changes as change
 use Rattle.sdh_promise.specs.Changes.{Change, Stretch}
@@ -15,6 +13,7 @@ use Rattle.sdh_world.specs.Clocks.{clock_after, clock_changed, clock_in, clocks_
 use Rattle.sdh_world.specs.Rounds.{World}
 use Rattle.sdh_path.specs.Laws.{BeginsAt}
 use Rattle.sdh_path.proofs.Clean.{clocks_are_in_step}
+use Rattle.sdh_laws.proofs.strangers.Straight.{small_ticked}
 
 -- a clock of a port with this offset goes plainly from round t on: it keeps its pointer value and sends 2349 bytes a
 -- round
@@ -36,15 +35,6 @@ step_new offset small = record { small = small; step = clocks_are_in_step.first 
 step_waits : (offset : ℕ) (turn : Turn) (count : ℕ) (c : Clock) → IsInStep offset c → IsInStep offset (with_waiting turn count c)
 step_waits offset Up count c is = record { small = is.small; step = clocks_are_in_step.told offset Up count c is.step }
 step_waits offset Down count c is = record { small = is.small; step = clocks_are_in_step.told offset Down count c is.step }
-
-small_after : (f : ChunkForm) (c : Clock) → c.value ≤ 782 → (after_form f c).value ≤ 782
-small_after Plain c h = h
-small_after Short c h = omega arith
-small_after Long c h = omega arith
-
-small_ticked : (c : Clock) → c.value ≤ 782 → (ticked c).value ≤ 782
-unfolding ticked
-small_ticked c h = small_after (next_form c) c h
 
 step_ticks : (offset k : ℕ) (c : Clock) → IsInStep offset c → IsInStep offset (ticks k c)
 unfolding ticks

@@ -1,22 +1,17 @@
 -- With a large limit no settle step of a script with watches is unsettled.
-use Rattle.std.proofs.Common.{ℕ, ◌+◌, ◌≤◌, List, [], ◌∷◌, ◌++◌, length, ap, sym, ◌∙◌, ◌≡◌, refl, subst, arith, inl, inr}
+use Rattle.std.proofs.Common.{ℕ, ◌+◌, ◌≤◌, List, [], ◌∷◌, ◌++◌, length, refl, inl, inr}
 use Rattle.sdh_circuits.specs.Provisioning.{Provisioning}
 use Rattle.sdh_plant.specs.Fibres.{Fibres}
 use Rattle.sdh_request.specs.declared.settings.Settings.{Settings}
-use Rattle.sdh_node.specs.Stations.{adm}
 use Rattle.sdh_rounds.specs.Quiet.{enough_for}
-use Rattle.sdh_rounds.specs.Runs as any_run
-use Rattle.sdh_rounds.proofs.Runs.{known_unsettles}
 use Rattle.sdh_world.specs.Held.{new_ring}
 use Rattle.sdh_world.specs.Rounds.{World}
-use Rattle.sdh_world.specs.Quiet.{Unsettles}
 use Rattle.sdh_promise.specs.Changes.{Change, Stretch, changes_of}
-use Rattle.sdh_world.specs.Changes.{after_stretches, new_world}
+use Rattle.sdh_world.specs.Changes.{new_world}
 use Rattle.sdh_laws.specs.Hearing.Laws.{MayStart}
-use Rattle.sdh_laws.proofs.hearing.Requests.{after_last}
-use Rattle.sdh_laws.specs.Carrying.Windows.{layout_in, size_of, HasCircuits}
+use Rattle.sdh_laws.specs.Carrying.Windows.{layout_in, HasCircuits}
 use Rattle.sdh_laws.specs.Carrying.Laws.{SettledRingsRestore}
-use Rattle.sdh_laws.specs.Converging.Laws.{Converges, StretchesConverge}
+use Rattle.sdh_laws.specs.Converging.Laws.{StretchesConverge}
 use Rattle.sdh_laws.specs.Resting.Laws.{StepsLeaveAtRest}
 use Rattle.sdh_plan.specs.declared.step.Step.{Step}
 use Rattle.sdh_plan.specs.declared.step.Step.TheVariants as step
@@ -26,7 +21,8 @@ use Rattle.sdh_report.specs.declared.status.Status.{Status}
 use Rattle.sdh_report.specs.declared.status.Status.TheVariants as status
 use Rattle.sdh_scripts.specs.Outcomes.{IsSettled}
 use Rattle.sdh_scripts.proofs.Outcomes.{refused_ends, settled_by, ok_settles, fault_settles}
-use Rattle.sdh_owed.proofs.Standing.{Stands, whole, layout_is, changed_then, may_go, stands_new}
+use Rattle.sdh_owed.proofs.Standing.{Stands, changed_then, stands_new}
+use Rattle.sdh_owed.proofs.Settling.{never}
 use Rattle.sdh_watch.specs.Shows.{Watched}
 use Rattle.sdh_watch.specs.Scripts.{Watches}
 use Rattle.sdh_watch.specs.Laws.{ScriptsSettle}
@@ -37,21 +33,6 @@ module _ (converge : StretchesConverge) (law : SettledRingsRestore) (rest : Step
     (circuits : Provisioning) (f : Fibres) (may : MayStart s ids f) (form : HasCircuits (layout_in (new_ring s ids circuits))) where
   abbrev Now : Past → List Stretch → List Change → World → Type 0
   Now past earlier changes w = Stands s ids circuits f may past earlier changes w
-
-  -- a step with a large limit is never unsettled
-  never : (past : Past) (earlier : List Stretch) (changes : List Change) (w left : World) (limit : ℕ) → Now past earlier changes w
-      → enough_for (length ids) ≤ limit → Unsettles w limit left → ⊥
-  unfolding any_run.run
-  never past earlier changes w left limit h large x =
-      let from = new_world s ids circuits f in
-      let last : Stretch = record { changes = changes; rounds = 0 } in
-      let there : w ≡ after_stretches (earlier ++ last ∷ []) from = h.is ∙ sym (after_last earlier last from) in
-      let size : length w.ring.ids ≡ length ids = ap size_of (layout_is s ids circuits f may past earlier changes w h) in
-      let meets : Converges w =
-      subst Converges (sym there) (converge s ids circuits f (earlier ++ last ∷ []) may
-      (may_go s ids circuits f may past earlier changes w h) form) in
-      meets.never limit (omega (arith, size, large)) (known_unsettles adm w limit left
-      (inl (whole s ids circuits f may past earlier changes w h).paired.honest.honest) x).0
 
   walk : (limit before : ℕ) (past : Past) (earlier : List Stretch) (changes : List Change) (steps : List Step) (w : World)
       (reports : List Watched) (end : Status) (left : World)
@@ -64,7 +45,7 @@ module _ (converge : StretchesConverge) (law : SettledRingsRestore) (rest : Step
       walk limit (before + 1) (after past step.Settle) _ [] later next others end left
       (stands law rest s ids circuits f may form past earlier changes w h limit is.mid next is.heard is.settles is.rounds) each.1 large x
   walk limit before past earlier changes (step.Settle ∷ later) w reports end left h each large (inr (inl x)) =
-      absurd (never past earlier changes w left limit h large x.0)
+      absurd (never converge s ids circuits f may form past earlier changes w left limit h large x.0)
   walk limit before past earlier changes (step.Settle ∷ later) w reports end left h each large (inr (inr x)) =
       settled_by end status.PlantFault x.1.1 fault_settles
   walk limit before past earlier changes (this ∷ later) w reports end left h each large x =

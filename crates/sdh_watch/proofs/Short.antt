@@ -1,24 +1,16 @@
 -- Each line is short: 96 bytes are room enough.
 use Rattle.std.proofs.Common.{◌≡◌, ℕ, ◌+◌, ◌^◌, ◌<◌, ◌≤◌, List, ◌++◌, length, codes, decimal, arith}
 use Rattle.std.proofs.lemmas.List.{length-append}
-use Rattle.std.proofs.lemmas.Fmt.{length-decimal-le}
 use Rattle.sdh_circuits.specs.declared.End.{End}
-use Rattle.sdh_circuits.specs.declared.End.TheVariants.{A, B}
 use Rattle.sdh_payload.specs.declared.delivered.Delivered.{Delivered}
 use Rattle.sdh_payload.specs.declared.delivered.Delivered.TheVariants.{Ais, Chunk}
 use Rattle.sdh_watch.specs.Shows.{shown}
 use Rattle.sdh_report.specs.Lines.{end_letter}
+use Rattle.sdh_report.proofs.Short.{digits_32, length-end_letter}
 use Rattle.sdh_path.specs.declared.watch.PathReport.{PathReport}
 use Rattle.sdh_path.specs.declared.watch.TraceWord.{TraceWord}
 use Rattle.sdh_path.specs.declared.watch.TraceWord.TheVariants as word
 use Rattle.sdh_watch.specs.Lines.{trace_word_text, watch_named, path_counts_text, path_report_text, watch_line}
-
-digits_32 : (n : ℕ) → n < 2 ^ 32 → length (decimal n) ≤ 10
-digits_32 n h = length-decimal-le 10 n (omega arith) (omega arith) (omega arith)
-
-length-letter : (end : End) → length (end_letter end) ≡ 1
-length-letter A = omega arith
-length-letter B = omega arith
 
 short-word : (w : TraceWord) → length (trace_word_text w) ≤ 8
 short-word word.Ok = omega arith
@@ -33,7 +25,7 @@ length-named name end =
       length-append (a ++ name ++ codes " ") (end_letter end),
       length-append (a ++ name) (codes " "),
       length-append a name,
-      length-letter end,
+      length-end_letter end,
     )
 
 short-counts : (r : PathReport) → r.vcs < 2 ^ 32 → r.b3 < 2 ^ 32 → length (path_counts_text r) ≤ 29

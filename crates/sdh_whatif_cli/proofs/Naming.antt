@@ -10,7 +10,7 @@ use Rattle.std.proofs.lemmas.Bool.{cases_eq, ltb-true, false_from_ne_true}
 use Rattle.std.proofs.lemmas.List.{append-nil, take_rest}
 use Rattle.std.proofs.lemmas.List.Splits.{slice_split_first, slice_split_none}
 use Rattle.std.proofs.lemmas.List.Sums.{fails_before_first}
-use Rattle.std.proofs.lemmas.Option.{slice_get-get_or}
+use Rattle.std.proofs.lemmas.Option.{slice_get-get_or, cond_some}
 use Rattle.sdh_basics.proofs.CellsLaws.{length-cells, get_or-cells}
 use Rattle.sdh_plan.proofs.Slipping.{first_at, none_at}
 use Rattle.sdh_verdicts.specs.declared.failure.Failure.{Failure}
@@ -58,10 +58,6 @@ module _ (nodes name : List ℕ) where
 
 -- ---- a text cut at its first semicolon
 
-found : (b : Bool) (k i : ℕ) → cond b (Some k) None ≡ Some i → (b ≡ true) × (k ≡ i)
-found true k i e = (refl, cc)
-found false k i e = cc
-
 missing : (b : Bool) (k : ℕ) → cond b (Some k) None ≡ None → b ≡ false
 missing true k e = cc
 missing false k e = refl
@@ -69,7 +65,7 @@ missing false k e = refl
 pub cut_at : (text : List ℕ) (i : ℕ) → position is_semicolon text ≡ Some i
     → slice_split is_semicolon text ≡ take i text ∷ slice_split is_semicolon (take (length text - (i + 1)) (drop (i + 1) text))
 cut_at text i e =
-    let parts : (nat_lt (position_or_len is_semicolon text) (length text) ≡ true) × (position_or_len is_semicolon text ≡ i) = found _ _ _ e in
+    let parts : (nat_lt (position_or_len is_semicolon text) (length text) ≡ true) × (position_or_len is_semicolon text ≡ i) = cond_some _ _ _ e in
     let within : position_or_len is_semicolon text < length text = ltb-true _ _ parts.0 in
     slice_split_first is_semicolon text 0 within
     ∙ ap (λ k. take k text ∷ slice_split is_semicolon (drop (k + 1) text)) parts.1

@@ -159,74 +159,61 @@ module _ (plan : Planned) (fits : IsPlanned plan) where
     pub passes : Passes (words text)
     pub whole : lacks 34 text ≡ true
 
-  cut_passes : (at : Pos) (side : Side) → IsIn at → Passes (codes "cut" ∷ (word at ∷ (side_text side ∷ [])))
-  unfolding form_faults part_faults
-  cut_passes at West low = two_pass (is_empty (word at)) (is_none (node_identified plan.nodes (word at))) (id_read at low).some
-      (ap is_none (known at low))
-  cut_passes at East low = two_pass (is_empty (word at)) (is_none (node_identified plan.nodes (word at))) (id_read at low).some
-      (ap is_none (known at low))
+  -- no check refuses the word of a node
+  node_passes : (at : Pos) → IsIn at
+      → cond (is_empty (word at) || false) (Some reason.StepForm)
+      (cond (is_none (node_identified plan.nodes (word at)) || false) (Some reason.StepNode) None) ≡ None
+  node_passes at low =
+      two_pass (is_empty (word at)) (is_none (node_identified plan.nodes (word at))) (id_read at low).some (ap is_none (known at low))
 
-  cut_step : (at : Pos) (side : Side) → IsIn at
-      → form_step rate_n plan.nodes plan.circuits (codes "cut" ∷ (word at ∷ (side_text side ∷ []))) ≡ condition_step condition.Cut at side
-  unfolding form_step
-  cut_step at side low = fibre_is at side condition.Cut [] low
+  -- the words of a verb, a node and a side
+  abbrev placed : List ℕ → Pos → Side → List (List ℕ)
+  placed verb at side = verb ∷ (word at ∷ (side_text side ∷ []))
+
+  -- a step of a verb, a node and a side
+  reads_placed : (verb : List ℕ) (s : Step) (at : Pos) (side : Side) → IsIn at → lacks 32 verb ≡ true → lacks 34 (verb ++ codes " ") ≡ true
+      → step_text plan.nodes s ≡ place_text plan.nodes (verb ++ codes " ") at side
+      → form_step rate_n plan.nodes plan.circuits (placed verb at side) ≡ s → Passes (placed verb at side) → Reads s
+  reads_placed verb s at side low spaces quotes part read passes =
+      let ws : words (spaced (verb ++ codes " ") at side) ≡ placed verb at side =
+      ap words (append_assoc verb (codes " ") (word at ++ (codes " " ++ side_text side))) ∙ words_are verb at side low spaces in
+      record {
+        text = spaced (verb ++ codes " ") at side;
+        part = part ∙ spaced_is (verb ++ codes " ") at side;
+        reads = ap (form_step rate_n plan.nodes plan.circuits) ws ∙ read;
+        passes = ap (λ l. first_fault (form_faults rate_n plan.nodes plan.circuits l)) ws ∙ passes;
+        whole = no_quote (verb ++ codes " ") at side low quotes;
+      }
+
+  cut_passes : (at : Pos) (side : Side) → IsIn at → Passes (placed (codes "cut") at side)
+  unfolding form_faults part_faults
+  cut_passes at West low = node_passes at low
+  cut_passes at East low = node_passes at low
 
   reads_cut : (at : Pos) (side : Side) → IsIn at → Reads (condition_step condition.Cut at side)
-  reads_cut at side low =
-      let ws = words_are (codes "cut") at side low refl in
-      record {
-        text = spaced (codes "cut ") at side;
-        part = spaced_is (codes "cut ") at side;
-        reads = ap (form_step rate_n plan.nodes plan.circuits) ws ∙ cut_step at side low;
-        passes = ap (λ l. first_fault (form_faults rate_n plan.nodes plan.circuits l)) ws ∙ cut_passes at side low;
-        whole = no_quote (codes "cut ") at side low refl;
-      }
-
-  manual_passes : (at : Pos) (side : Side) → IsIn at → Passes (codes "manual" ∷ (word at ∷ (side_text side ∷ [])))
-  unfolding form_faults part_faults
-  manual_passes at West low = two_pass (is_empty (word at)) (is_none (node_identified plan.nodes (word at))) (id_read at low).some
-      (ap is_none (known at low))
-  manual_passes at East low = two_pass (is_empty (word at)) (is_none (node_identified plan.nodes (word at))) (id_read at low).some
-      (ap is_none (known at low))
-
-  manual_step : (at : Pos) (side : Side) → IsIn at
-      → form_step rate_n plan.nodes plan.circuits (codes "manual" ∷ (word at ∷ (side_text side ∷ []))) ≡ step.Order at side command.Manual
   unfolding form_step
-  manual_step at side low = order_is at side command.Manual [] low
+  reads_cut at side low =
+      reads_placed (codes "cut") (condition_step condition.Cut at side) at side low refl refl refl (fibre_is at side condition.Cut [] low) (cut_passes at side low)
+
+  manual_passes : (at : Pos) (side : Side) → IsIn at → Passes (placed (codes "manual") at side)
+  unfolding form_faults part_faults
+  manual_passes at West low = node_passes at low
+  manual_passes at East low = node_passes at low
 
   reads_manual : (at : Pos) (side : Side) → IsIn at → Reads (step.Order at side command.Manual)
-  reads_manual at side low =
-      let ws = words_are (codes "manual") at side low refl in
-      record {
-        text = spaced (codes "manual ") at side;
-        part = spaced_is (codes "manual ") at side;
-        reads = ap (form_step rate_n plan.nodes plan.circuits) ws ∙ manual_step at side low;
-        passes = ap (λ l. first_fault (form_faults rate_n plan.nodes plan.circuits l)) ws ∙ manual_passes at side low;
-        whole = no_quote (codes "manual ") at side low refl;
-      }
-
-  forced_passes : (at : Pos) (side : Side) → IsIn at → Passes (codes "forced" ∷ (word at ∷ (side_text side ∷ [])))
-  unfolding form_faults part_faults
-  forced_passes at West low = two_pass (is_empty (word at)) (is_none (node_identified plan.nodes (word at))) (id_read at low).some
-      (ap is_none (known at low))
-  forced_passes at East low = two_pass (is_empty (word at)) (is_none (node_identified plan.nodes (word at))) (id_read at low).some
-      (ap is_none (known at low))
-
-  forced_step : (at : Pos) (side : Side) → IsIn at
-      → form_step rate_n plan.nodes plan.circuits (codes "forced" ∷ (word at ∷ (side_text side ∷ []))) ≡ step.Order at side command.Forced
   unfolding form_step
-  forced_step at side low = order_is at side command.Forced [] low
+  reads_manual at side low =
+      reads_placed (codes "manual") (step.Order at side command.Manual) at side low refl refl refl (order_is at side command.Manual [] low) (manual_passes at side low)
+
+  forced_passes : (at : Pos) (side : Side) → IsIn at → Passes (placed (codes "forced") at side)
+  unfolding form_faults part_faults
+  forced_passes at West low = node_passes at low
+  forced_passes at East low = node_passes at low
 
   reads_forced : (at : Pos) (side : Side) → IsIn at → Reads (step.Order at side command.Forced)
+  unfolding form_step
   reads_forced at side low =
-      let ws = words_are (codes "forced") at side low refl in
-      record {
-        text = spaced (codes "forced ") at side;
-        part = spaced_is (codes "forced ") at side;
-        reads = ap (form_step rate_n plan.nodes plan.circuits) ws ∙ forced_step at side low;
-        passes = ap (λ l. first_fault (form_faults rate_n plan.nodes plan.circuits l)) ws ∙ forced_passes at side low;
-        whole = no_quote (codes "forced ") at side low refl;
-      }
+      reads_placed (codes "forced") (step.Order at side command.Forced) at side low refl refl refl (order_is at side command.Forced [] low) (forced_passes at side low)
 
   -- ---- a degradation at the threshold
 

@@ -3,7 +3,7 @@ use Rattle.std.proofs.Common.{◌≡◌, ℕ, ◌+◌, ◌<◌, ◌≤◌, Bool,
 use Rattle.std.proofs.Common.{decimal, Some, None, refl, sym, ap, ◌∙◌, arith, eq-eqb, le-leb}
 use Rattle.std.specs.Fmt.{digits}
 use Rattle.std.specs.List.{slice_split, onto_first, list_all, range_with_len}
-use Rattle.std.proofs.lemmas.Bool.{and_parts, eqb-true}
+use Rattle.std.proofs.lemmas.Bool.{and_parts, eqb-true, and_from, true_from_ne_false, true≢false}
 use Rattle.std.proofs.lemmas.List.FromFn.{length-range_with_len, get_or-range_with_len}
 use Rattle.std.proofs.lemmas.List.Folds.{list_all_at}
 use Rattle.std.proofs.lemmas.List.Splits.{slice_split-cons_yes, slice_split-cons_no}
@@ -12,9 +12,6 @@ use Rattle.sdh_plan.specs.Words.{is_number, is_empty, decimal_from, numeral_in}
 pub turned : (b : Bool) → not b ≡ true → b ≡ false
 turned true h = cc
 turned false h = refl
-
-both : (b c : Bool) → b ≡ true → c ≡ true → (b && c) ≡ true
-both b c x y = ap (λ d. d && c) x ∙ y
 
 -- ---- cutting
 
@@ -27,7 +24,7 @@ pub lacks_both : (b : ℕ) (xs ys : List ℕ) → lacks b xs ≡ true → lacks 
 lacks_both b [] ys h k = k
 lacks_both b (x ∷ xs) ys h k =
     let parts = and_parts (not (x == b)) (lacks b xs) h in
-    both (not (x == b)) (lacks b (xs ++ ys)) parts.0 (lacks_both b xs ys parts.1 k)
+    and_from (not (x == b)) (lacks b (xs ++ ys)) parts.0 (lacks_both b xs ys parts.1 k)
 
 pub split_at : (b : ℕ) (xs ys : List ℕ) → lacks b xs ≡ true
     → slice_split (λ byte. byte == b) (xs ++ b ∷ ys) ≡ xs ∷ slice_split (λ byte. byte == b) ys
@@ -44,17 +41,13 @@ split_none b (x ∷ xs) h =
 
 -- ---- small numbers
 
-no_longer : (b c : Bool) → (b ≡ false → c ≡ false) → c ≡ true → b ≡ true
-no_longer true c f e = refl
-no_longer false c f e = let g : false ≡ true = sym (f refl) ∙ e in cc
-
 -- a test that all numbers below n pass is passed by each of them
 ranged : (p : ℕ → Bool) (n i : ℕ) → list_all p (range_with_len 0 n) ≡ true → i < n → p i ≡ true
 ranged p n i all low =
     let place : 0 + i ≡ i = omega arith in
     let here : get_or (range_with_len 0 n) i 0 ≡ i = get_or-range_with_len 0 n i 0 low ∙ place in
     let inside : i < length (range_with_len 0 n) = omega (arith, length-range_with_len 0 n, low) in
-    no_longer (p i) (list_all p (range_with_len 0 n)) (λ no. list_all_at p (range_with_len 0 n) i 0 inside (ap p here ∙ no)) all
+    true_from_ne_false (p i) (λ no. true≢false (sym all ∙ list_all_at p (range_with_len 0 n) i 0 inside (ap p here ∙ no)))
 
 abbrev is_read : ℕ → Bool
 is_read k =

@@ -1,10 +1,9 @@
 -- The plan that bytes are, and whether the user's own failures are failures of its ring.
 use Rattle.std.proofs.Common.{◌≡◌, ℕ, List, Option, Some, None, sym, ap, ◌∙◌, subst}
 use Rattle.std.specs.Prelude.{IfSome}
-use Rattle.sdh_plan.specs.Answers.{IsPlanOf}
 use Rattle.sdh_plan.specs.Planned.{Planned}
-use Rattle.sdh_plan.specs.Plans.{plan_of}
 use Rattle.sdh_shell.specs.Reading.{TellsPlan}
+use Rattle.sdh_shell.proofs.Plans.{one_plan}
 use Rattle.sdh_whatif_cli.specs.declared.own.OwnError.{OwnError}
 use Rattle.sdh_whatif_cli.specs.declared.own.OwnError.TheVariants as error
 use Rattle.sdh_whatif_cli.specs.Own.{first_unknown, IsUnknown}
@@ -13,18 +12,11 @@ use Rattle.sdh_whatif_cli.specs.Outcome.{HasPlanFor}
 one_document : {X : Type 0} (x y : X) → ◌≡◌ {A = Option X} (Some x) (Some y) → x ≡ y
 one_document x y e = cc
 
--- bytes are those of one plan
-plan_same : (bytes : List ℕ) (p q : Planned) → TellsPlan bytes p → TellsPlan bytes q → p ≡ q
-plan_same bytes p q here there =
-    let one : IsPlanOf bytes p = here.1 in
-    let two : IsPlanOf bytes q = there.1 in
-    one.3 ∙ ap plan_of (one_document one.0 two.0 (sym one.1.1 ∙ two.1.1)) ∙ sym two.3
-
 pub known_of : (left : Option (List ℕ)) (texts : List (List ℕ)) (plan : Planned) → HasPlanFor texts left
     → IfSome left (λ bytes. TellsPlan bytes plan) → first_unknown plan.nodes texts ≡ None
 known_of None texts plan has tells = absurd has
 known_of (Some bytes) texts plan has tells =
-    subst (λ (p : Planned). first_unknown p.nodes texts ≡ None) (plan_same bytes has.0 plan has.1 tells) has.2
+    subst (λ (p : Planned). first_unknown p.nodes texts ≡ None) (one_plan bytes has.0 plan has.1 tells) has.2
 
 -- the place of the first unknown text is that of the error
 pub first_place : (nodes given : List ℕ) (texts : List (List ℕ)) (why : OwnError) (place : ℕ) → given ≡ nodes → why ≡ error.Unknown place

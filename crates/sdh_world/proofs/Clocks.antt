@@ -3,7 +3,7 @@ use Rattle.std.proofs.Common.{◌≡◌, ℕ, zero, suc, ◌+◌, ◌-◌, ◌<�
 use Rattle.std.proofs.Common.{refl, ap, sym, subst, ◌∙◌, arith, inl, inr}
 use Rattle.std.specs.Prelude.{◌==◌, nat_lt, if◌then◌else◌, IsSome, All, find, slice_get, option_and_then}
 use Rattle.std.specs.Option.{option_map_or}
-use Rattle.std.proofs.lemmas.Bool.{cases_lt, cond_both, eqb-true}
+use Rattle.std.proofs.lemmas.Bool.{cases_lt, cond_both}
 use Rattle.std.proofs.lemmas.Bool.Decides.{nat_tests}
 use Rattle.std.proofs.lemmas.Option.{slice_get_past, slice_get-get_or}
 use Rattle.std.proofs.lemmas.List.Elements.{All-nil, All-cons, All-append}
@@ -15,7 +15,7 @@ use Rattle.sdh_ringmap.specs.Places.{position_of}
 use Rattle.sdh_circuits.specs.declared.End.{End}
 use Rattle.sdh_circuits.specs.declared.End.TheVariants.{A, B}
 use Rattle.sdh_circuits.specs.declared.PortId.{PortId}
-use Rattle.sdh_circuits.specs.Provisioned.{Provisioned, end_of, customer_at, same_end, same_port}
+use Rattle.sdh_circuits.specs.Provisioned.{Provisioned, end_of, customer_at, same_port}
 use Rattle.sdh_circuits.specs.Provisioning.{Provisioning}
 use Rattle.sdh_payload.specs.declared.clock.Turn.{Turn}
 use Rattle.sdh_payload.specs.declared.clock.Turn.TheVariants.{Up, Down}
@@ -37,7 +37,6 @@ use Rattle.sdh_world.specs.Changes.{changed, all_changed, after_stretch, after_s
 use Rattle.sdh_world.specs.Sides.{world_in}
 use Rattle.sdh_world.specs.Clocks.{first_clock, clock_after, clock_changed, clock_in, HasPortIn, clock_at, waiting_at}
 use Rattle.sdh_world.specs.Laws.{ClocksGoOn}
-use Rattle.sdh_rounds.proofs.FirstWindows.{left_true, right_true}
 use Rattle.sdh_world.specs.Fixed.{IsRested, IsOn}
 use Rattle.sdh_world.proofs.Keeping.{length-new, new_at, all_at_place}
 use Rattle.sdh_world.proofs.Histories.{length-placed}
@@ -46,23 +45,9 @@ use Rattle.sdh_node.specs.Stations.{adm}
 use Rattle.sdh_rounds.specs.Rounds as any_round
 use Rattle.sdh_rounds.specs.Runs as any_run
 use Rattle.sdh_terminal.proofs.Found.{find_head, find_tail, found_has}
+use Rattle.sdh_terminal.proofs.Slips.{names_equal}
 
 -- ---- names
-
-same_ends : (e f : End) → same_end e f ≡ true → e ≡ f
-same_ends A A h = refl
-same_ends B B h = refl
-same_ends A B h = absurd (cc)
-same_ends B A h = absurd (cc)
-
--- two ports with the same name are one port
-pub one_port : (p q : PortId) → same_port p q ≡ true → p ≡ q
-one_port p q h =
-    let circuit = eqb-true p.circuit q.circuit (left_true (p.circuit == q.circuit) (same_end p.end q.end) h) in
-    let end = same_ends p.end q.end (right_true (p.circuit == q.circuit) (same_end p.end q.end) h) in
-    let there : ◌≡◌ {A = PortId} (record { circuit = p.circuit; end = p.end }) (record { circuit = q.circuit; end = p.end }) =
-    ap (λ k. record { circuit = k; end = p.end }) circuit in
-    there ∙ ap (λ e. record { circuit = q.circuit; end = e }) end
 
 -- ---- a clock that goes on
 
@@ -133,7 +118,7 @@ ports_apart id other turn count (t ∷ ts) apart = by (is_port id t) refl (is_po
   where
     both : is_port id t ≡ true → is_port other t ≡ true → ⊥
     both h k = let same : same_port id other ≡ true =
-        subst (λ p. same_port p other ≡ true) (one_port t.port id h) k in clash (sym apart ∙ same)
+        subst (λ p. same_port p other ≡ true) (names_equal t.port id h) k in clash (sym apart ∙ same)
       where
         clash : false ≡ true → ⊥
         clash e = cc
@@ -280,7 +265,7 @@ goes_slipped id other turn count w true e =
     let p = place_of_port w.ring id in
     goes_at id f w v (place_placed id (slips_at other turn count) (place_of_port w.ring other) w.ring)
     (subst (λ o. Follows f (port_at id w.ring.nodes p) (port_at id
-    (at_place (place_of_port w.ring o) (slips_at o turn count) w.ring.nodes) p)) (one_port id other e)
+    (at_place (place_of_port w.ring o) (slips_at o turn count) w.ring.nodes) p)) (names_equal id other e)
     (placed_there id f (slips_at id turn count) (λ n. ports_slipped id turn count n.ports) p w.ring.nodes))
 goes_slipped id other turn count w false e =
     let v = record w { ring = record w.ring { nodes = at_place (place_of_port w.ring other) (slips_at other turn count) w.ring.nodes } } in
@@ -404,7 +389,7 @@ first_of : (circuits : List Provisioned) (id : PortId) (ts : List Tributary) (o 
     → port_of id ts ≡ o → IsSome o → clock_of o ≡ first_clock circuits id
 first_of circuits id ts None all is there = absurd (cc)
 first_of circuits id ts (Some t) all is there = let has =
-    found_has (IsFirst circuits) id ts t all is in has.0 ∙ ap (first_clock circuits) (one_port t.port id has.1)
+    found_has (IsFirst circuits) id ts t all is in has.0 ∙ ap (first_clock circuits) (names_equal t.port id has.1)
 
 first_at : (s : Settings) (ids : List ℕ) (circuits : List Provisioned) (id : PortId) (p : ℕ) (o : Option Tributary)
     → port_of id (new_node s ids circuits (position_of p)).ports ≡ o → IsSome o → clock_of o ≡ first_clock circuits id

@@ -3,7 +3,7 @@ use Rattle.std.proofs.Common.{◌≡◌, ◌≢◌, ℕ, zero, suc, ◌+◌, ◌
 use Rattle.std.proofs.Common.{refl, ap, sym, ◌∙◌, arith, ◌⊎◌, inl, inr}
 use Rattle.std.specs.Prelude.{◌==◌, nat_lt, if◌then◌else◌, slice_index_or}
 use Rattle.std.proofs.lemmas.Bool.Decides.{nat_tests}
-use Rattle.std.proofs.lemmas.Bool.{cases_eq}
+use Rattle.std.proofs.lemmas.Bool.{cases_eq, cond-true, cond-false}
 use Rattle.std.proofs.lemmas.List.{get_or-set_same, get_or-set_other, length-set, get_or-replicate}
 use Rattle.std.proofs.Math.Nat.{mod-lt}
 use Rattle.sdh_ringmap.specs.declared.Side.{Side}
@@ -44,20 +44,6 @@ same_or_not i j = elim (cases_eq i j) [
   | inl s ↦ inl (s, grind (arith, nat_tests))
   | inr n ↦ inr (n, grind (arith, nat_tests))
 ]
-
-if_true : {X : Type 0} (b : Bool) (x y : X) → b ≡ true → (if b then x else y) ≡ x
-if_true true x y e = refl
-if_true false x y e = absurd (none e)
-  where
-    none : false ≡ true → ⊥
-    none e = cc
-
-if_false : {X : Type 0} (b : Bool) (x y : X) → b ≡ false → (if b then x else y) ≡ y
-if_false false x y e = refl
-if_false true x y e = absurd (none e)
-  where
-    none : true ≡ false → ⊥
-    none e = cc
 
 -- ---- a node
 
@@ -176,9 +162,9 @@ ordered_here : (q : ℕ) (d : Side) (c : Command) (ns : List Node) (p : ℕ) →
     → get_or (map (command_on d) (at_place q (at_receiving d (commanded_by c)) ns)) p command.Clear
     ≡ (if fibre q d == fibre p d then c else get_or (map (command_on d) ns) p command.Clear)
 ordered_here q d c ns p low = elim (same_or_not q p) [
-  | inl s ↦ ordered_same q d c ns p low s.0 ∙ sym (if_true (fibre q d == fibre p d) c (get_or (map (command_on d) ns) p command.Clear)
+  | inl s ↦ ordered_same q d c ns p low s.0 ∙ sym (cond-true (fibre q d == fibre p d) c (get_or (map (command_on d) ns) p command.Clear)
       (number_same (fibre q d) (fibre p d) (ap (λ k. fibre k d) s.0)))
-  | inr n ↦ ordered_apart q d d c ns p n.0 ∙ sym (if_false (fibre q d == fibre p d) c (get_or (map (command_on d) ns) p command.Clear)
+  | inr n ↦ ordered_apart q d d c ns p n.0 ∙ sym (cond-false (fibre q d == fibre p d) c (get_or (map (command_on d) ns) p command.Clear)
       (number (fibre q d) (fibre p d) (fibre_apart q p d n.0)))
 ]
 
@@ -187,7 +173,7 @@ ordered_there : (q : ℕ) (d : Side) (c : Command) (ns : List Node) (p : ℕ)
     ≡ (if fibre q (opposite d) == fibre p d then c else get_or (map (command_on d) ns) p command.Clear)
 ordered_there q d c ns p =
     ap (λ cs. get_or cs p command.Clear) (ordered_other q d c ns)
-    ∙ sym (if_false (fibre q (opposite d) == fibre p d) c (get_or (map (command_on d) ns) p command.Clear)
+    ∙ sym (cond-false (fibre q (opposite d) == fibre p d) c (get_or (map (command_on d) ns) p command.Clear)
     (number (fibre q (opposite d)) (fibre p d) (fibre_sides q p d)))
 
 ordered : (q : ℕ) (e d : Side) (c : Command) (ns : List Node) (p : ℕ) → p < length ns
@@ -202,8 +188,8 @@ applied : (i j : ℕ) (c : Condition) (cs : List Condition) → j < length cs
     → get_or (set cs i c) j Clear ≡ (if i == j then c else get_or cs j Clear)
 applied i j c cs low = elim (same_or_not i j) [
   | inl s ↦ (let e = s.0 in ap (λ k. get_or (set cs i c) k Clear) (sym e) ∙ get_or-set_same cs i c Clear (omega arith)
-      ∙ sym (if_true (i == j) c (get_or cs j Clear) s.1))
-  | inr n ↦ get_or-set_other cs i j c Clear (λ s. n.0 (sym s)) ∙ sym (if_false (i == j) c (get_or cs j Clear) n.1)
+      ∙ sym (cond-true (i == j) c (get_or cs j Clear) s.1))
+  | inr n ↦ get_or-set_other cs i j c Clear (λ s. n.0 (sym s)) ∙ sym (cond-false (i == j) c (get_or cs j Clear) n.1)
 ]
 
 ends_inside : (n p : ℕ) (d : Side) → 0 < n → fibre_to n p d < 2 * n

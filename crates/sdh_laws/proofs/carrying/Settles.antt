@@ -38,7 +38,6 @@ use Rattle.sdh_world.proofs.Clocks.{goes_run, goes_in, clocks_go_on}
 use Rattle.sdh_promise.specs.Owed.{asked_in}
 use Rattle.sdh_laws.specs.Hearing.Laws.{IsWhole, MayStart}
 use Rattle.sdh_laws.proofs.hearing.Staying.{left_all, left_run, left_stretches, world_low, world_high}
-use Rattle.sdh_laws.proofs.hearing.Nodes.{count}
 use Rattle.sdh_laws.proofs.hearing.Changes.{whole_run, new_worlds_are_whole}
 use Rattle.sdh_laws.proofs.hearing.Requests.{whole_last, requests_last, after_last}
 use Rattle.sdh_laws.proofs.hearing.Signalling.{requests_stay, windows_are_settled}
@@ -48,6 +47,7 @@ use Rattle.sdh_laws.specs.Carrying.Laws.{RingsHaveCircuits}
 use Rattle.sdh_laws.proofs.carrying.Applied.{failures_applied, length-requests_of}
 use Rattle.sdh_laws.proofs.carrying.Owed.{quiet_delivers, port_is_there}
 use Rattle.sdh_laws.proofs.carrying.Ways.{layout_run}
+use Rattle.sdh_laws.proofs.converging.Runs.{nodes_run}
 use Rattle.sdh_world.specs.Held.{nowhere}
 use Rattle.sdh_node.specs.Stations.{adm}
 use Rattle.sdh_rounds.specs.Runs as any_run
@@ -63,6 +63,13 @@ each_settled v n rs size spans same p lt =
     ∙ ap (λ (l : List NodeState). slice_index_or l p nowhere.state) same
     ∙ get_or-cells (settled rs) (length rs) p nowhere.state (omega arith)
 
+-- what fails in a run is applied
+pub failing_after : (w : World) → IsWhole w → (j : ℕ) → FailOnApplied (length w.ring.ids) (requests_of (run (suc j) w)) (run (suc j) w)
+unfolding any_run.run
+failing_after w whole j =
+    subst (λ (l : Layout). FailOnApplied (size_of l) (requests_of (round (run j w))) (round (run j w))) (layout_run w j)
+    (failures_applied (run j w) (whole_run w j whole))
+
 -- ---- the window that ends with round k
 
 module _ (law : StillRingsAreSettled) (w : World) (whole : IsWhole w) (k : ℕ) (ends : EndsWindow (course w) k) where
@@ -71,9 +78,6 @@ module _ (law : StillRingsAreSettled) (w : World) (whole : IsWhole w) (k : ℕ) 
 
   abbrev rs : List ℕ
   rs = requests_of (run k w)
-
-  nodes_after_all : (j : ℕ) → length (run j w).ring.nodes ≡ n
-  nodes_after_all j = count (run j w) (whole_run w j whole).placed ∙ ap size_of (layout_run w j)
 
   long : 3 * n ≤ k
   long = let e = ap size_of (layout_run w k) in let l = ends.long in omega arith
@@ -88,24 +92,18 @@ module _ (law : StillRingsAreSettled) (w : World) (whole : IsWhole w) (k : ℕ) 
 
   pub settled_at : (j : ℕ) → k < j + 3 * n → j ≤ k → AreSettled n rs (run j w)
   settled_at j low high =
-      each_settled (run j w) n rs (nodes_after_all j) (length-requests_of (run k w) n (nodes_after_all k))
+      each_settled (run j w) n rs (nodes_run w whole j) (length-requests_of (run k w) n (nodes_run w whole k))
       (windows_are_settled law w k j whole ends low high)
-
-  failing_after : (j : ℕ) → FailOnApplied n (requests_of (run (suc j) w)) (run (suc j) w)
-  unfolding any_run.run
-  failing_after j =
-      subst (λ (l : Layout). FailOnApplied (size_of l) (requests_of (round (run j w))) (round (run j w))) (layout_run w j)
-      (failures_applied (run j w) (whole_run w j whole))
 
   failing_at : (j : ℕ) → 1 ≤ j → k < j + 3 * n → j ≤ k → FailOnApplied n rs (run j w)
   failing_at j some low high =
       let one : suc (j - 1) ≡ j = omega arith in
       subst (λ qs. FailOnApplied n qs (run j w)) (requests_same j low high)
-      (subst (λ i. FailOnApplied n (requests_of (run i w)) (run i w)) one (failing_after (j - 1)))
+      (subst (λ i. FailOnApplied n (requests_of (run i w)) (run i w)) one (failing_after w whole (j - 1)))
 
   quiet : IsQuiet n rs w (k + 1 - 3 * n) k
   quiet = record {
-    spans = length-requests_of (run k w) n (nodes_after_all k);
+    spans = length-requests_of (run k w) n (nodes_run w whole k);
     calm = λ j early late. calm_at j (omega (arith, whole.placed.ids.enough)) late;
     settled_are = λ j early late. settled_at j (omega (arith, whole.placed.ids.enough)) late;
     failing = λ j early late. failing_at j (omega (arith, long)) (omega (arith, whole.placed.ids.enough)) late;

@@ -1,20 +1,14 @@
 -- From any ring that is paired with its fibres: all rounds are calm from some round on.
-use Rattle.std.proofs.Common.{◌≡◌, ℕ, zero, suc, ◌+◌, ◌-◌, ◌*◌, ◌<◌, ◌≤◌, Bool, List, length, get_or, Option, Some, None, ap, sym, ◌∙◌}
-use Rattle.std.proofs.Common.{subst, arith, inl, inr}
-use Rattle.std.specs.Prelude.{if◌then◌else◌}
-use Rattle.std.proofs.lemmas.Bool.{cases_Bool}
+use Rattle.std.proofs.Common.{◌≡◌, ℕ, zero, suc, ◌+◌, ◌-◌, ◌*◌, ◌<◌, ◌≤◌, List, length, get_or, ap, sym, ◌∙◌}
+use Rattle.std.proofs.Common.{subst, arith, inl}
 use Rattle.sdh_ringmap.specs.declared.Side.{Side}
-use Rattle.sdh_ringmap.specs.declared.Side.TheVariants.{West, East}
 use Rattle.sdh_ringmap.specs.Places.{neighbour, opposite}
-use Rattle.sdh_kbytes.specs.declared.K.{K}
 use Rattle.sdh_nodestate.specs.declared.Needs.{Needs}
-use Rattle.sdh_nodestate.specs.declared.Sent.{Sent}
 use Rattle.sdh_signal.specs.Settled.{settled_states}
 use Rattle.sdh_signal.specs.Signals.{requests_in, request_on, no_needs}
 use Rattle.sdh_signal.specs.Laws.{RingsSettle}
-use Rattle.sdh_ringmap.specs.declared.terms.Condition.{Condition}
-use Rattle.sdh_nodestate.specs.Filtering.{Brought, with_brought, hears, heard_of}
-use Rattle.sdh_node.specs.Node.{Node, receiving_on, sending_on, word_of, sent_of}
+use Rattle.sdh_nodestate.specs.Filtering.{Brought, hears, heard_of}
+use Rattle.sdh_node.specs.Node.{receiving_on, sending_on, word_of, sent_of}
 use Rattle.sdh_world.specs.Rounds.{World, round}
 use Rattle.sdh_world.specs.Runs.{run, course}
 use Rattle.sdh_world.specs.Quiet.{IsCalm}
@@ -23,7 +17,7 @@ use Rattle.sdh_laws.specs.Hearing.Signalling.{word_to, signals_of, needs_in}
 use Rattle.sdh_laws.specs.Hearing.Laws.{IsWhole, GetsStill}
 use Rattle.sdh_laws.proofs.hearing.Changes.{whole_run}
 use Rattle.sdh_laws.proofs.hearing.Nodes.{count}
-use Rattle.sdh_laws.proofs.hearing.Rounds.{brings, neighbour_inside}
+use Rattle.sdh_laws.proofs.hearing.Rounds.{neighbour_inside}
 use Rattle.sdh_laws.proofs.hearing.Signalling.{needs_at, one_run}
 use Rattle.sdh_laws.proofs.hearing.Staying.{left_run}
 use Rattle.sdh_laws.proofs.hearing.Steady.{runs_get_still}
@@ -34,41 +28,22 @@ use Rattle.sdh_laws.proofs.carrying.Ways.{layout_run}
 use Rattle.sdh_laws.specs.Converging.Steady.{StaysSettled, HasStillPointers}
 use Rattle.sdh_laws.specs.Converging.Laws.{RoundsGetCalm, WindowsComeSoon, RingsConverge, StepsAnswer}
 use Rattle.sdh_rounds.specs.Quiet.{enough_for}
-use Rattle.sdh_laws.proofs.converging.Runs.{length_run, condition_run, run_more}
+use Rattle.sdh_laws.proofs.converging.Runs.{length_run, condition_run, run_more, nodes_run, inside_run}
 use Rattle.sdh_laws.proofs.converging.Spreading.{pointers_rest}
 use Rattle.sdh_laws.proofs.converging.Windows.{calm_ends_windows, answers_by}
 use Rattle.sdh_laws.proofs.converging.Calming.{AreSame, calm_round}
-use Rattle.sdh_ringmap.specs.Fibres.{is_cut}
 use Rattle.sdh_world.specs.Held.{node_at}
 use Rattle.sdh_world.specs.Sides.{condition_to}
 use Rattle.sdh_node.specs.Stations.{adm}
 use Rattle.sdh_rounds.specs.Runs as any_run
 use Rattle.sdh_laws.proofs.resting.Signals.{same_at}
+use Rattle.sdh_laws.proofs.converging.Came.{come_behind, came_after, word_by, word_to_in, kept, earlier_in}
 
 -- ---- what comes
-
--- the word after a fibre, if it comes
-abbrev come_behind : Condition → K → Option K
-come_behind c k = if is_cut c then None else Some k
-
-came_after : (u : World) → IsWhole u → (p : ℕ) (d : Side) → p < length u.ring.nodes → 0 < u.ring.rounds
-    → (receiving_on d (node_at (round u).ring.nodes p)).brought.last ≡ come_behind (condition_to u p d) (word_to u p d)
-came_after u whole p d inside started =
-    let b = brings u whole p d inside in
-    elim (cases_Bool (is_cut (condition_to u p d))) [
-      | inl cut ↦ b.silent started cut ∙ sym (ap (λ (t : Bool). if t then None else Some (word_to u p d)) cut)
-      | inr clear ↦ b.comes started clear ∙ sym (ap (λ (t : Bool). if t then None else Some (word_to u p d)) clear)
-    ]
 
 module _ (w : World) (whole : IsWhole w) (form : HasCircuits (layout_of w)) (still : GetsStill w) where
   abbrev n : ℕ
   n = length w.ring.ids
-
-  inside_run : (k p : ℕ) → p < length w.ring.nodes → p < length (run k w).ring.nodes
-  inside_run k p h = omega (arith, length_run w k)
-
-  nodes_run : (k : ℕ) → length (run k w).ring.nodes ≡ n
-  nodes_run k = length_run w k ∙ count w whole.placed
 
   -- ---- requests and states
 
@@ -86,7 +61,7 @@ module _ (w : World) (whole : IsWhole w) (form : HasCircuits (layout_of w)) (sti
 
   settled_from : (k : ℕ) → 4 * n + 110 ≤ k → AreSettled n rs (run k w)
   settled_from k late =
-      each_settled (run k w) n rs (nodes_run k) (length-requests_of (run 103 w) n (nodes_run 103))
+      each_settled (run k w) n rs (nodes_run w whole k) (length-requests_of (run 103 w) n (nodes_run w whole 103))
       (still.states k late ∙ ap settled_states (requests_from k (omega arith)))
 
   -- ---- pointers
@@ -96,7 +71,7 @@ module _ (w : World) (whole : IsWhole w) (form : HasCircuits (layout_of w)) (sti
 
   at_rest : StaysSettled (run base w) rs
   at_rest = record {
-    spans = length-requests_of (run 103 w) n (nodes_run 103) ∙ ap length (sym (left_run base w).ids);
+    spans = length-requests_of (run 103 w) n (nodes_run w whole 103) ∙ ap length (sym (left_run base w).ids);
     unslipped = still.slips base (omega arith);
     settled_are =
         λ k some. subst (λ ids. AreSettled (length ids) rs (run k (run base w))) (sym (left_run base w).ids)
@@ -114,62 +89,47 @@ module _ (w : World) (whole : IsWhole w) (form : HasCircuits (layout_of w)) (sti
       let now : run i (run base w) ≡ run j w = run_more w base i ∙ ap (λ k. run k w) there in
       let next : run (suc i) (run base w) ≡ run (suc j) w = one_run (run base w) i ∙ ap round now ∙ sym (one_run w j) in
       record {
-        generators = λ p d h. (let low = inside_run base p h in
+        generators = λ p d h. (let low = inside_run w base p h in
             λ t. (sym (ap (λ v. (sending_on d (node_at v.ring.nodes p)).generators) next) ∙ s.generators p d low
             ∙ ap (λ v. (sending_on d (node_at v.ring.nodes p)).generators) now) t);
-        readings = λ p d h. (let low = inside_run base p h in
+        readings = λ p d h. (let low = inside_run w base p h in
             λ t. (sym (ap (λ v. (receiving_on d (node_at v.ring.nodes p)).readings) next) ∙ s.readings p d low
             ∙ ap (λ v. (receiving_on d (node_at v.ring.nodes p)).readings) now) t);
       }
 
   -- ---- words
 
-  word_by : (v : Node) (d : Side) (s : Node) → sent_of v ≡ sent_of s → word_of d v ≡ word_of d s
-  word_by v West s e = ap (λ (z : Sent). z.west) e
-  word_by v East s e = ap (λ (z : Sent). z.east) e
-
   word_stays : (k p : ℕ) (d : Side) → 5 * n + 110 ≤ k → p < length w.ring.nodes
       → word_of d (node_at (run (suc k) w).ring.nodes p) ≡ word_of d (node_at (run k w).ring.nodes p)
   unfolding signals_of
   word_stays k p d late h =
       word_by (node_at (run (suc k) w).ring.nodes p) d (node_at (run k w).ring.nodes p)
-      (same_at sent_of (run (suc k) w).ring.nodes (run k w).ring.nodes p (inside_run (suc k) p h) (inside_run k p h)
+      (same_at sent_of (run (suc k) w).ring.nodes (run k w).ring.nodes p (inside_run w (suc k) p h) (inside_run w k p h)
       (still.words k late))
 
   request_stays : (k p : ℕ) (d : Side) → 103 ≤ k → p < length w.ring.nodes
       → (receiving_on d (node_at (run (suc k) w).ring.nodes p)).request ≡ (receiving_on d (node_at (run k w).ring.nodes p)).request
   unfolding needs_in
   request_stays k p d late h =
-      sym (needs_at (run (suc k) w).ring.nodes p d (inside_run (suc k) p h))
+      sym (needs_at (run (suc k) w).ring.nodes p d (inside_run w (suc k) p h))
       ∙ ap (λ (l : List Needs). request_on (get_or l p no_needs) d) (still.needs k late)
-      ∙ needs_at (run k w).ring.nodes p d (inside_run k p h)
+      ∙ needs_at (run k w).ring.nodes p d (inside_run w k p h)
 
   -- ---- what is heard
 
-  word_to_in : (k p : ℕ) (d : Side) → word_to (run k w) p d ≡ word_of (opposite d) (node_at (run k w).ring.nodes (neighbour n p d))
-  word_to_in k p d = ap (λ ids. word_of (opposite d) (node_at (run k w).ring.nodes (neighbour (length ids) p d))) (left_run k w).ids
-
   word_to_stays : (k p : ℕ) (d : Side) → 5 * n + 110 ≤ k → word_to (run (suc k) w) p d ≡ word_to (run k w) p d
   word_to_stays k p d late =
-      word_to_in (suc k) p d ∙ word_stays k (neighbour n p d) (opposite d) late (neighbour_inside w whole p d) ∙ sym (word_to_in k p d)
-
-  -- what a side keeps after k rounds
-  abbrev kept : ℕ → ℕ → Side → Brought
-  kept k p d = (receiving_on d (node_at (run k w).ring.nodes p)).brought
+      word_to_in w (suc k) p d ∙ word_stays k (neighbour n p d) (opposite d) late (neighbour_inside w whole p d) ∙ sym (word_to_in w k p d)
 
   came_in : (k p : ℕ) (d : Side) → 1 ≤ k → p < length w.ring.nodes
-      → (kept (suc k) p d).last ≡ come_behind (condition_to w p d) (word_to (run k w) p d)
+      → (kept w (suc k) p d).last ≡ come_behind (condition_to w p d) (word_to (run k w) p d)
   unfolding any_run.run
   came_in k p d some h =
-      came_after (run k w) (whole_run w k whole) p d (inside_run k p h) (let r = (left_run k w).rounds in omega arith)
+      came_after (run k w) (whole_run w k whole) p d (inside_run w k p h) (let r = (left_run k w).rounds in omega arith)
       ∙ ap (λ c. come_behind c (word_to (run k w) p d)) (condition_run w k p d)
 
-  earlier_in : (k p : ℕ) (d : Side) → p < length w.ring.nodes → kept (suc k) p d ≡ with_brought (kept (suc k) p d).last (kept k p d)
-  unfolding any_run.run
-  earlier_in k p d h = (brings (run k w) (whole_run w k whole) p d (inside_run k p h)).earlier
-
   -- the word that came last is equal from round to round
-  last_stays : (k p : ℕ) (d : Side) → 5 * n + 111 ≤ k → p < length w.ring.nodes → (kept (suc k) p d).last ≡ (kept k p d).last
+  last_stays : (k p : ℕ) (d : Side) → 5 * n + 111 ≤ k → p < length w.ring.nodes → (kept w (suc k) p d).last ≡ (kept w k p d).last
   last_stays k p d late h =
       let i = k - 1 in
       let now : suc i ≡ k = omega arith in
@@ -177,27 +137,27 @@ module _ (w : World) (whole : IsWhole w) (form : HasCircuits (layout_of w)) (sti
       ∙ ap (λ j. come_behind (condition_to w p d) (word_to (run j w) p d)) (sym now)
       ∙ ap (come_behind (condition_to w p d)) (word_to_stays i p d (omega arith))
       ∙ sym (came_in i p d (omega arith) h)
-      ∙ ap (λ j. (kept j p d).last) now
+      ∙ ap (λ j. (kept w j p d).last) now
 
-  second_stays : (k p : ℕ) (d : Side) → 5 * n + 112 ≤ k → p < length w.ring.nodes → (kept (suc k) p d).second ≡ (kept k p d).second
+  second_stays : (k p : ℕ) (d : Side) → 5 * n + 112 ≤ k → p < length w.ring.nodes → (kept w (suc k) p d).second ≡ (kept w k p d).second
   second_stays k p d late h =
       let i = k - 1 in
       let now : suc i ≡ k = omega arith in
-      ap (λ (b : Brought). b.second) (earlier_in k p d h)
-      ∙ ap (λ j. (kept j p d).last) (sym now) ∙ last_stays i p d (omega arith) h
-      ∙ sym (ap (λ (b : Brought). b.second) (earlier_in i p d h))
-      ∙ ap (λ j. (kept j p d).second) now
+      ap (λ (b : Brought). b.second) (earlier_in w whole k p d h)
+      ∙ ap (λ j. (kept w j p d).last) (sym now) ∙ last_stays i p d (omega arith) h
+      ∙ sym (ap (λ (b : Brought). b.second) (earlier_in w whole i p d h))
+      ∙ ap (λ j. (kept w j p d).second) now
 
-  third_stays : (k p : ℕ) (d : Side) → 5 * n + 113 ≤ k → p < length w.ring.nodes → (kept (suc k) p d).third ≡ (kept k p d).third
+  third_stays : (k p : ℕ) (d : Side) → 5 * n + 113 ≤ k → p < length w.ring.nodes → (kept w (suc k) p d).third ≡ (kept w k p d).third
   third_stays k p d late h =
       let i = k - 1 in
       let now : suc i ≡ k = omega arith in
-      ap (λ (b : Brought). b.third) (earlier_in k p d h)
-      ∙ ap (λ j. (kept j p d).second) (sym now) ∙ second_stays i p d (omega arith) h
-      ∙ sym (ap (λ (b : Brought). b.third) (earlier_in i p d h))
-      ∙ ap (λ j. (kept j p d).third) now
+      ap (λ (b : Brought). b.third) (earlier_in w whole k p d h)
+      ∙ ap (λ j. (kept w j p d).second) (sym now) ∙ second_stays i p d (omega arith) h
+      ∙ sym (ap (λ (b : Brought). b.third) (earlier_in w whole i p d h))
+      ∙ ap (λ j. (kept w j p d).third) now
 
-  heard_stays : (k p : ℕ) (d : Side) → 5 * n + 113 ≤ k → p < length w.ring.nodes → hears (kept (suc k) p d) ≡ hears (kept k p d)
+  heard_stays : (k p : ℕ) (d : Side) → 5 * n + 113 ≤ k → p < length w.ring.nodes → hears (kept w (suc k) p d) ≡ hears (kept w k p d)
   heard_stays k p d late h =
       let last = last_stays k p d (omega arith) h in
       let second = second_stays k p d (omega arith) h in

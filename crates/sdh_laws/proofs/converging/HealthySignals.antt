@@ -1,5 +1,5 @@
 -- A healthy ring's requests, states and words.
-use Rattle.std.proofs.Common.{◌≡◌, ◌≢◌, ℕ, zero, suc, ◌-◌, ◌*◌, ◌<◌, ◌≤◌, Bool, true, false, List, [], ◌∷◌, length, get_or, replicate}
+use Rattle.std.proofs.Common.{◌≡◌, ℕ, zero, suc, ◌-◌, ◌*◌, ◌<◌, ◌≤◌, Bool, true, false, List, [], ◌∷◌, length, get_or, replicate}
 use Rattle.std.proofs.Common.{Option, Some, None, refl, ap, sym, ◌∙◌, subst, arith, inl, inr}
 use Rattle.std.specs.Prelude.{nat_lt, nat_le, if◌then◌else◌, slice_index}
 use Rattle.std.proofs.lemmas.Bool.{cases_lt}
@@ -12,7 +12,6 @@ use Rattle.sdh_ringmap.specs.declared.terms.Code.TheVariants.{Nr}
 use Rattle.sdh_kbytes.specs.declared.K.{K}
 use Rattle.sdh_kbytes.specs.declared.Path.TheVariants.{Short}
 use Rattle.sdh_kbytes.specs.declared.Mark.TheVariants as mark
-use Rattle.sdh_request.specs.declared.Defect.{Defect}
 use Rattle.sdh_request.specs.declared.Defect.TheVariants as defect
 use Rattle.sdh_circuits.specs.Provisioning.{Provisioning}
 use Rattle.sdh_nodestate.specs.declared.NodeState.TheVariants as state
@@ -43,13 +42,14 @@ use Rattle.sdh_laws.specs.Converging.Steady.{IsUnslipped}
 use Rattle.sdh_laws.proofs.hearing.Changes.{new_worlds_are_whole, whole_run}
 use Rattle.sdh_node.proofs.Decided.{scene_in, state_is, word_is, turns_left}
 use Rattle.sdh_laws.proofs.hearing.Nodes.{informed, nodes_after, is_at}
-use Rattle.sdh_laws.proofs.hearing.Rounds.{neighbour_inside, brings}
+use Rattle.sdh_laws.proofs.hearing.Rounds.{neighbour_inside, brings, word_on_is}
 use Rattle.sdh_laws.proofs.hearing.Staying.{left_run}
 use Rattle.sdh_laws.proofs.hearing.Stretches.{requests_are}
 use Rattle.sdh_laws.proofs.converging.Runs.{length_run, condition_run}
 use Rattle.sdh_laws.proofs.converging.Idle.{IsQuiet, idle, asks_nothing}
 use Rattle.sdh_laws.proofs.converging.Uneventful as side
 use Rattle.sdh_laws.proofs.converging.Uneventful.{IsUneventful}
+use Rattle.sdh_laws.proofs.hearing.Signalling.{no_sf}
 use Rattle.sdh_rounds.specs.Runs as any_run
 
 all_clear : (m i : ℕ) → get_or (replicate m Clear) i Clear ≡ Clear
@@ -74,11 +74,6 @@ uneventful n p d k =
       degraded = λ t. ap (λ h. degraded_by h.condition) (holds t);
       command = λ t. ap (λ h. h.command) (holds t);
     }
-
-failed_not : (y : Defect) → y ≢ defect.Sf → is_failed y ≡ false
-failed_not defect.None e = refl
-failed_not defect.Sd e = refl
-failed_not defect.Sf e = absurd (e refl)
 
 module _ (s : Settings) (ids : List ℕ) (circuits : Provisioning) (f : Fibres) (may : MayStart s ids f) where
   abbrev pub begin : World
@@ -141,11 +136,6 @@ module _ (s : Settings) (ids : List ℕ) (circuits : Provisioning) (f : Fibres) 
       word_new West = refl
       word_new East = refl
 
-  word_on_is : (n : Node) (d : Side) → word_on (scene_in n) d ≡ hears (receiving_on d n).brought
-  unfolding scene_in
-  word_on_is n West = refl
-  word_on_is n East = refl
-
   needs_is : (n : Node) → (scene_in n).needs ≡ needed n
   unfolding scene_in
   needs_is n = refl
@@ -196,7 +186,7 @@ module _ (s : Settings) (ids : List ℕ) (circuits : Provisioning) (f : Fibres) 
         let b = brings u uwhole p d there in
         elim (cases_lt 0 u.ring.rounds) [
           | inr none ↦ ap is_failed (b.no_defect (let z : u.ring.rounds ≡ 0 = omega arith in z))
-          | inl some ↦ failed_not _ (b.works some (not_cut d))
+          | inl some ↦ no_sf _ (b.works some (not_cut d))
         ]
 
     needs_none : needed new ≡ no_needs

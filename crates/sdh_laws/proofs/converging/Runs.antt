@@ -1,11 +1,12 @@
 -- What rounds keep of a world, and rounds after rounds.
-use Rattle.std.proofs.Common.{◌≡◌, ℕ, zero, suc, ◌+◌, length, refl, ap, ◌∙◌, arith}
+use Rattle.std.proofs.Common.{◌≡◌, ℕ, zero, suc, ◌+◌, ◌<◌, length, refl, ap, ◌∙◌, arith}
 use Rattle.sdh_ringmap.specs.Rates.{n_of}
 use Rattle.sdh_ringmap.specs.declared.Side.{Side}
 use Rattle.sdh_world.specs.Rounds.{World, round, arrivals_of}
 use Rattle.sdh_world.specs.Runs.{run}
+use Rattle.sdh_laws.specs.Hearing.Laws.{IsWhole}
 use Rattle.sdh_laws.proofs.hearing.Follows.{condition_after}
-use Rattle.sdh_laws.proofs.hearing.Nodes.{length-after}
+use Rattle.sdh_laws.proofs.hearing.Nodes.{count, length-after}
 use Rattle.sdh_laws.proofs.hearing.Staying.{left_run}
 use Rattle.sdh_world.specs.Sides.{condition_to}
 use Rattle.sdh_rounds.specs.Rounds as any_round
@@ -15,6 +16,13 @@ pub length_run : (w : World) (k : ℕ) → length (run k w).ring.nodes ≡ lengt
 unfolding any_run.run
 length_run w zero = refl
 length_run w (suc k) = length-after (run k w) ∙ length_run w k
+
+-- a node stays for each identifier
+pub nodes_run : (w : World) → IsWhole w → (k : ℕ) → length (run k w).ring.nodes ≡ length w.ring.ids
+nodes_run w whole k = length_run w k ∙ count w whole.placed
+
+pub inside_run : (w : World) (k p : ℕ) → p < length w.ring.nodes → p < length (run k w).ring.nodes
+inside_run w k p h = omega (arith, length_run w k)
 
 pub rate_run : (w : World) (k : ℕ) → n_of (run k w).ring.settings.rate ≡ n_of w.ring.settings.rate
 rate_run w k = ap (λ s. n_of s.rate) (left_run k w).settings

@@ -1,9 +1,8 @@
 -- A new ring over prepared fibres, and what happens between two rounds.
-use Rattle.std.proofs.Common.{◌≡◌, ◌≢◌, ℕ, zero, suc, ◌*◌, ◌<◌, ◌≤◌, List, [], ◌∷◌, length, get_or, replicate, map, Some, None, refl, ap}
-use Rattle.std.proofs.Common.{sym, subst, ◌∙◌, arith, inl, inr}
+use Rattle.std.proofs.Common.{◌≡◌, ◌≢◌, ℕ, zero, suc, ◌*◌, ◌<◌, ◌≤◌, List, [], ◌∷◌, length, map, Some, None, refl, ap}
+use Rattle.std.proofs.Common.{sym, subst, ◌∙◌, arith}
 use Rattle.std.specs.Prelude.{slice_get}
-use Rattle.std.proofs.lemmas.Bool.{cases_lt}
-use Rattle.std.proofs.lemmas.List.{length-replicate, get_or-replicate, get_or_past}
+use Rattle.std.proofs.lemmas.List.{length-replicate}
 use Rattle.sdh_ringmap.specs.declared.Side.{Side}
 use Rattle.sdh_ringmap.specs.declared.Side.TheVariants.{West, East}
 use Rattle.sdh_ringmap.specs.Ids.{AreIds}
@@ -16,11 +15,11 @@ use Rattle.sdh_circuits.specs.Provisioned.{Provisioned}
 use Rattle.sdh_circuits.specs.Provisioning.{Provisioning}
 use Rattle.sdh_kbytes.specs.declared.K.{K}
 use Rattle.sdh_kbytes.specs.declared.Mark.TheVariants as mark
-use Rattle.sdh_plant.specs.Fibres.{Arrival, Fibres}
+use Rattle.sdh_plant.specs.Fibres.{Fibres}
 use Rattle.sdh_ringmap.specs.Fibres.{fibre}
 use Rattle.sdh_plant.specs.Arrivals.{carried_on}
 use Rattle.sdh_plant.specs.Calls.{prepared}
-use Rattle.sdh_plant.proofs.Calling.{stay_prepared}
+use Rattle.sdh_plant.proofs.Calling.{stay_prepared, none_at}
 use Rattle.sdh_plant.proofs.Calling as plant
 use Rattle.sdh_world.specs.Laws.{IsChangeOf, AreChangesOf}
 use Rattle.sdh_world.proofs.Honest.{changes_keep_honest, changes_keep_prepared}
@@ -107,12 +106,6 @@ module _ (s : Settings) (ids : List ℕ) (circuits : List Provisioned) (p : ℕ)
   unfolding new_node
   new_never_ais West e = cc
   new_never_ais East e = cc
-
-none_at : (m i : ℕ) → get_or {A = Arrival} (replicate m None) i None ≡ None
-none_at m i = elim (cases_lt i m) [
-  | inl lt ↦ get_or-replicate m i None None lt
-  | inr far ↦ get_or_past _ i None (omega (arith, length-replicate {A = Arrival} m None))
-]
 
 -- what holds of each new node holds at each position
 pub each_new : (P : ℕ → Node → Type 0) (s : Settings) (ids : List ℕ) (cs : List Provisioned)

@@ -19,7 +19,7 @@ use Rattle.std.proofs.Common.{◌≡◌, ◌≢◌, ℕ, zero, suc, ◌+◌, ◌
 use Rattle.std.proofs.Common.{replicate, Some, None, refl, ap, sym, subst, ◌∙◌, arith, inl, inr}
 use Rattle.std.proofs.lemmas.List.{get_or_past}
 use Rattle.std.specs.Prelude.{nat_le, if◌then◌else◌}
-use Rattle.std.proofs.lemmas.Bool.{cases_lt, cases_Bool}
+use Rattle.std.proofs.lemmas.Bool.{cases_lt, cases_Bool, cond-true, cond-false}
 use Rattle.sdh_nodestate.specs.Rules.{Scene, word_on, word, own_word}
 use Rattle.sdh_nodestate.specs.Filtering.{Brought, with_brought, hears}
 use Rattle.sdh_nodestate.proofs.Filtering.{heard_last}
@@ -63,6 +63,11 @@ use Rattle.sdh_rounds.specs.Rounds as any_round
 
 pub same_line : (a b : List ℕ) (o : Arrival) → o ≡ Some a → o ≡ Some b → a ≡ b
 same_line a b o e f = let g : Some a ≡ Some b = sym e ∙ f in cc
+
+pub word_on_is : (n : Node) (d : Side) → word_on (scene_in n) d ≡ hears (receiving_on d n).brought
+unfolding scene_in
+word_on_is n West = refl
+word_on_is n East = refl
 
 module _ (w : World) (whole : IsWhole w) where
   abbrev size : ℕ
@@ -195,14 +200,6 @@ module _ (w : World) (whole : IsWhole w) where
 
   -- ---- what a side brings
 
-  if_cut : {X : Type 0} (b : Bool) (x y : X) → b ≡ true → (if b then x else y) ≡ x
-  if_cut true x y e = refl
-  if_cut false x y e = cc
-
-  if_clear : {X : Type 0} (b : Bool) (x y : X) → b ≡ false → (if b then x else y) ≡ y
-  if_clear true x y e = cc
-  if_clear false x y e = refl
-
   not_sf : (b : Bool) → (if b then defect.Sd else defect.None) ≢ defect.Sf
   not_sf true f = cc
   not_sf false f = cc
@@ -210,12 +207,12 @@ module _ (w : World) (whole : IsWhole w) where
   -- the defect, by the fibre's condition
   pub defect_cut : (p : ℕ) (d : Side) (some : 0 < t) → p < length w.ring.nodes → is_cut (condition_to w p d) ≡ true
       → (made p d).defect ≡ defect.Sf
-  defect_cut p d some h cut = (side_finds p d some h).defect ∙ if_cut (is_cut (condition_to w p d)) _ _ cut
+  defect_cut p d some h cut = (side_finds p d some h).defect ∙ cond-true (is_cut (condition_to w p d)) _ _ cut
 
   pub defect_clear : (p : ℕ) (d : Side) (some : 0 < t) → p < length w.ring.nodes → is_cut (condition_to w p d) ≡ false
       → (made p d).defect ≡ (if nat_le s.threshold (b2_violations (n_of rate) (old_on p d).section.last
       (scrambled (9 * n_of rate) (sent_to p d some).line)) then defect.Sd else defect.None)
-  defect_clear p d some h clear = (side_finds p d some h).defect ∙ if_clear (is_cut (condition_to w p d)) _ _ clear
+  defect_clear p d some h clear = (side_finds p d some h).defect ∙ cond-false (is_cut (condition_to w p d)) _ _ clear
 
   pub brings : (p : ℕ) (d : Side) → p < length w.ring.nodes → Brings w p d (old_on p d) (new_on p d)
   brings p d h =
@@ -226,10 +223,10 @@ module _ (w : World) (whole : IsWhole w) where
         no_defect = λ e. def ∙ (nothing_found p d e).defect;
         nothing = λ e. came ∙ (nothing_found p d e).word;
         fails = λ some cut. def ∙ defect_cut p d some h cut;
-        silent = λ some cut. came ∙ (side_finds p d some h).word ∙ if_cut (is_cut (condition_to w p d)) _ _ cut;
+        silent = λ some cut. came ∙ (side_finds p d some h).word ∙ cond-true (is_cut (condition_to w p d)) _ _ cut;
         works = λ some clear e. not_sf _ (sym (def ∙ defect_clear p d some h clear) ∙ e);
         comes =
-            λ some clear. came ∙ (side_finds p d some h).word ∙ if_clear (is_cut (condition_to w p d)) _ _ clear
+            λ some clear. came ∙ (side_finds p d some h).word ∙ cond-false (is_cut (condition_to w p d)) _ _ clear
             ∙ spelled (word_to w p d) (word_spells p d);
         earlier = took.brought ∙ ap (λ k. with_brought k (old_on p d).brought) (sym came);
       }
@@ -276,11 +273,6 @@ module _ (w : World) (whole : IsWhole w) where
 
       same : Some (word_to w p d) ≡ Some k → word_to w p d ≡ k
       same z = cc
-
-  pub word_on_is : (n : Node) (d : Side) → word_on (scene_in n) d ≡ hears (receiving_on d n).brought
-  unfolding scene_in
-  word_on_is n West = refl
-  word_on_is n East = refl
 
   pub scene_ids : (p : ℕ) → p < length w.ring.nodes → (scene_in (next_node p)).ids ≡ w.ring.ids
   unfolding scene_in

@@ -107,12 +107,12 @@ fails_on_is : (n : Node) (d : Side) → fails_on (needed n) d ≡ is_failed (rec
 fails_on_is n West = refl
 fails_on_is n East = refl
 
-is_sf : (y : Defect) → y ≡ defect.Sf → is_failed y ≡ true
+pub is_sf : (y : Defect) → y ≡ defect.Sf → is_failed y ≡ true
 is_sf defect.None e = cc
 is_sf defect.Sd e = cc
 is_sf defect.Sf e = refl
 
-no_sf : (y : Defect) → y ≢ defect.Sf → is_failed y ≡ false
+pub no_sf : (y : Defect) → y ≢ defect.Sf → is_failed y ≡ false
 no_sf defect.None e = refl
 no_sf defect.Sd e = refl
 no_sf defect.Sf e = absurd (e refl)

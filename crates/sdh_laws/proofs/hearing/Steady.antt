@@ -39,6 +39,7 @@ use Rattle.sdh_laws.proofs.hearing.Clocks.{AllTicked, ticked_first, ticked_round
 use Rattle.sdh_laws.proofs.hearing.Changes.{whole_run}
 use Rattle.sdh_laws.proofs.hearing.Follows.{Keeps, keeps_one, condition_after}
 use Rattle.sdh_laws.proofs.hearing.Signalling.{mapped_same, goes_free, may_go, one_run}
+use Rattle.sdh_laws.specs.Restoring.Laws.{NoneHeld}
 use Rattle.sdh_node.proofs.Decided.{turns_left}
 use Rattle.sdh_world.specs.Held.{node_at, AtEach}
 use Rattle.sdh_world.specs.Sides.{condition_to}
@@ -61,15 +62,12 @@ condition_kept w p d = condition_after (arrivals_of w) w p d
 
 -- ---- held turns run out
 
--- no node is held in the next round
-abbrev pub AllFree : World → Type 0
-AllFree w = AtEach (λ p n. is_held n ≡ false) w.ring.nodes
-
 -- at most `turns` held turns are left
-abbrev AllHeldFor : ℕ → World → Type 0
+abbrev pub AllHeldFor : ℕ → World → Type 0
 AllHeldFor turns w = AtEach (λ p n. n.held ≤ turns) w.ring.nodes
 
-one_less : (w : World) → IsWhole w → (turns : ℕ) → AllHeldFor turns w → AllHeldFor (turns - 1) (round w)
+-- a round takes each node one of the turns that it misses
+pub one_less : (w : World) → IsWhole w → (turns : ℕ) → AllHeldFor turns w → AllHeldFor (turns - 1) (round w)
 one_less w whole turns all p h =
     let low : p < length w.ring.nodes = omega (arith, length-after w) in
     let was = all p low in
@@ -77,7 +75,7 @@ one_less w whole turns all p h =
     ap (λ (n : Node). n.held) (nodes_after w whole.placed p low) ∙ turns_left w.ring.moment (informed w p) in
     omega arith
 
-held_after : (w : World) → IsWhole w → (turns : ℕ) → AllHeldFor turns w → (k : ℕ) → AllHeldFor (turns - k) (run k w)
+pub held_after : (w : World) → IsWhole w → (turns : ℕ) → AllHeldFor turns w → (k : ℕ) → AllHeldFor (turns - k) (run k w)
 unfolding any_run.run
 held_after w whole turns all zero = subst (λ j. AllHeldFor j w) (let e : turns ≡ turns - zero = omega arith in e) all
 held_after w whole turns all (suc k) =
@@ -90,21 +88,21 @@ is_free n none = ap (nat_le 1) (let e : n.held ≡ 0 = omega arith in e)
 pub held_none : (h : ℕ) → nat_le 1 h ≡ false → h ≡ 0
 held_none h e = grind (arith, nat_tests)
 
-pub free_at : (w : World) → IsWhole w → (k : ℕ) → 100 ≤ k → AllFree (run k w)
+pub free_at : (w : World) → IsWhole w → (k : ℕ) → 100 ≤ k → NoneHeld (run k w)
 free_at w whole k late p h = let left =
     held_after w whole 100 whole.paired.held k p h in is_free (node_at (run k w).ring.nodes p) (omega arith)
 
 -- no node that isn't held now is held later
-none_held : (w : World) → AllFree w → AllHeldFor 0 w
-none_held w free q inside = let none = held_none (node_at w.ring.nodes q).held (free q inside) in omega arith
+pub held_for_none : (turns : ℕ) (w : World) → NoneHeld w → AllHeldFor turns w
+held_for_none turns w free p h = (let none = held_none (node_at w.ring.nodes p).held (free p h) in omega (arith, none))
 
-pub free_stays : (w : World) → IsWhole w → AllFree w → (k : ℕ) → AllFree (run k w)
+pub free_stays : (w : World) → IsWhole w → NoneHeld w → (k : ℕ) → NoneHeld (run k w)
 free_stays w whole free k p h = let left =
-    held_after w whole 0 (none_held w free) k p h in is_free (node_at (run k w).ring.nodes p) (omega arith)
+    held_after w whole 0 (held_for_none 0 w free) k p h in is_free (node_at (run k w).ring.nodes p) (omega arith)
 
 -- where no node is held now, none is held in the next round
-pub free_next : (w : World) → IsWhole w → AllFree w → AllFree (round w)
-free_next w whole free p h = is_free (node_at (round w).ring.nodes p) (one_less w whole 0 (none_held w free) p h)
+pub free_next : (w : World) → IsWhole w → NoneHeld w → NoneHeld (round w)
+free_next w whole free p h = is_free (node_at (round w).ring.nodes p) (one_less w whole 0 (held_for_none 0 w free) p h)
 
 -- ---- slips run out
 
@@ -244,7 +242,7 @@ needs_stay w is = mapped_same needed (round (round w)).ring.nodes (round w).ring
 -- ---- runs
 
 -- a run in which no controller misses a turn from round f on
-module _ (w : World) (whole : IsWhole w) (f : ℕ) (free : (k : ℕ) → f ≤ k → AllFree (run k w)) where
+module _ (w : World) (whole : IsWhole w) (f : ℕ) (free : (k : ℕ) → f ≤ k → NoneHeld (run k w)) where
   abbrev after : ℕ → World
   after k = run k w
 

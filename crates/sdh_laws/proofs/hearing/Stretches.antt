@@ -175,6 +175,18 @@ module _ (s : Settings) (ids : List ℕ) (hist : ℕ → Side → SideHistory) w
 
 -- ---- the law
 
+pub fits_new : (s : Settings) (ids : List ℕ) (circuits : Provisioning) (f : Fibres) → Fits (length ids) (new_world s ids circuits f)
+fits_new s ids circuits f = record {
+  conditions = length-replicate (2 * length ids) Clear;
+  nodes = length-new s ids circuits.circuits (length ids);
+}
+
+-- round t of a new ring
+pub ran_at : (s : Settings) (ids : List ℕ) (circuits : Provisioning) (f : Fibres) (ss : List Stretch) (t : ℕ) → t ≤ rounds_in ss
+    → (world_in ss (new_world s ids circuits f) t).ring.rounds ≡ t
+ran_at s ids circuits f ss t h =
+    (left_in ss (new_world s ids circuits f) t h).rounds ∙ (let e : 0 + t ≡ t = omega arith in e)
+
 module _ (s : Settings) (ids : List ℕ) (circuits : Provisioning) (f : Fibres) (ss : List Stretch) (may : MayStart s ids f)
     (happen : MayHappen (new_world s ids circuits f) ss) where
   abbrev n : ℕ
@@ -186,24 +198,18 @@ module _ (s : Settings) (ids : List ℕ) (circuits : Provisioning) (f : Fibres) 
   abbrev hist : ℕ → Side → SideHistory
   hist p d = side_history n p d ss
 
-  fits : Fits n w
-  fits = record { conditions = length-replicate (2 * n) Clear; nodes = length-new s ids circuits.circuits n }
-
   by_holding : (p : ℕ) (d : Side) (t : ℕ) → Matches (hist p d) t (holding_in n p d ss new_holding t)
   by_holding p d t = record { cut = refl; degraded = refl; command = refl; moment = refl }
 
   matches : (p : ℕ) (d : Side) (t : ℕ) → p < n → Matches (hist p d) t (holding_of n p d (world_in ss w t))
   matches p d t low =
-      subst (Matches (hist p d) t) (sym (holding_is n p d ss w t fits low
+      subst (Matches (hist p d) t) (sym (holding_is n p d ss w t (fits_new s ids circuits f) low
       ∙ ap (λ h. holding_in n p d ss h t) (new_holds s ids circuits s.rate f p d low))) (by_holding p d t)
-
-  ran_at : (t : ℕ) → t ≤ rounds_in ss → (world_in ss w t).ring.rounds ≡ t
-  ran_at t h = (left_in ss w t h).rounds ∙ (let e : 0 + t ≡ t = omega arith in e)
 
   tells : (t : ℕ) → t < rounds_in ss → Tells hist (world_in ss w t)
   tells t h p d low =
       let same = (left_in ss w t (omega arith)).ids in
-      let ran : t ≡ (world_in ss w t).ring.rounds = sym (ran_at t (omega arith)) in
+      let ran : t ≡ (world_in ss w t).ring.rounds = sym (ran_at s ids circuits f ss t (omega arith)) in
       subst (λ m. Matches (hist p d) m (holding_of (length (world_in ss w t).ring.ids) p d (world_in ss w t))) ran
       (subst (λ (is : List ℕ). Matches (hist p d) t (holding_of (length is) p d (world_in ss w t))) (sym same)
       (matches p d t (subst (λ (is : List ℕ). p < length is) same low)))
@@ -224,11 +230,11 @@ module _ (s : Settings) (ids : List ℕ) (circuits : Provisioning) (f : Fibres) 
     each =
         λ p d t low h. request_at (round (world_in ss w t)) p d t
         (one_round s ids hist may.least (world_in ss w t) (follows_at t (omega arith)) (tells t h)) low
-        (one_more (world_in ss w t) ∙ ap (λ k. k + 1) (ran_at t (omega arith)));
+        (one_more (world_in ss w t) ∙ ap (λ k. k + 1) (ran_at s ids circuits f ss t (omega arith)));
     last =
         λ p d t low ran. request_at (after_stretches ss w) p d t
         (subst (Follows s ids hist) (world_after ss w) (follows_at (rounds_in ss) (omega arith))) low
-        (ap (λ (v : World). v.ring.rounds) (sym (world_after ss w)) ∙ ran_at (rounds_in ss) (omega arith) ∙ ran);
+        (ap (λ (v : World). v.ring.rounds) (sym (world_after ss w)) ∙ ran_at s ids circuits f ss (rounds_in ss) (omega arith) ∙ ran);
   }
 
 pub requests_are_the_historys : RequestsAreTheHistorys

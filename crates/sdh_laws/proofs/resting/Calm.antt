@@ -45,14 +45,14 @@ use Rattle.sdh_spans.specs.Spans.{word_behind}
 use Rattle.sdh_laws.proofs.carrying.Ways.{layout_run}
 use Rattle.sdh_laws.specs.Converging.Steady.{went, came, brought}
 use Rattle.sdh_laws.proofs.converging.Calming.{AreSame, calm_round}
-use Rattle.sdh_laws.proofs.converging.Runs.{length_run, rate_run, run_more}
+use Rattle.sdh_laws.proofs.converging.Runs.{length_run, rate_run, run_more, inside_run}
 use Rattle.sdh_laws.proofs.converging.Spans.{sending_in, reading_in, word_in, Takes, generator_goes, interpreter_goes}
 use Rattle.sdh_laws.proofs.converging.Spreading.{two_halves, working_goes, protection_goes, protection_comes, inside_of, beside}
 use Rattle.sdh_laws.proofs.converging.Spreading.{generators_many, readings_many}
 use Rattle.sdh_laws.proofs.resting.Pointers.{IsEven, IsEvenWord, state_word, sends_state, sends_even, IsGood, good_answers, good_behind}
 use Rattle.sdh_laws.proofs.converging.Ports.{clock_there, clock_next}
 use Rattle.sdh_laws.proofs.resting.Clocks.{goes_five, form_by, added_so, none_added, clock_bounds}
-use Rattle.sdh_laws.proofs.resting.Signals.{calm_at, still_at, inside_run, started, free_at, request_stays, heard_stays, word_last}
+use Rattle.sdh_laws.proofs.resting.Signals.{calm_at, still_at, started, free_at, request_stays, heard_stays, word_last}
 use Rattle.sdh_laws.proofs.resting.Signals.{settled_at, spans_are}
 use Rattle.sdh_rounds.specs.Runs as any_run
 
@@ -96,13 +96,13 @@ module _ (law : StillRingsAreSettled) (w : World) (whole : IsWhole w) (form : Ha
   unfolding any_run.run
   sending_kept p d i j h low =
       ap (λ l. get_or l i None) (generators_on d (node_at (round (run j w)).ring.nodes p) (node_at (run j w).ring.nodes p)
-      ((still_at law w whole calm j low).same p (inside_run law w whole calm j p h)))
+      ((still_at law w whole calm j low).same p (inside_run w j p h)))
 
   reading_kept : (p : ℕ) (d : Side) (i j : ℕ) → p < length w.ring.nodes → j < 6 → reading_in w p d i (suc j) ≡ reading_in w p d i j
   unfolding any_run.run
   reading_kept p d i j h low =
       ap (λ l. get_or l i start) (readings_on d (node_at (round (run j w)).ring.nodes p) (node_at (run j w).ring.nodes p)
-      ((still_at law w whole calm j low).same p (inside_run law w whole calm j p h)))
+      ((still_at law w whole calm j low).same p (inside_run w j p h)))
 
   reading_first : (p : ℕ) (d : Side) (i j : ℕ) → p < length w.ring.nodes → j ≤ 6 → reading_in w p d i j ≡ reading_in w p d i 0
   reading_first p d i zero h low = refl
@@ -127,7 +127,7 @@ module _ (law : StillRingsAreSettled) (w : World) (whole : IsWhole w) (form : Ha
   plain_at : (q m : ℕ) (id : PortId) → q < n → Fills q m id → (j : ℕ) → j ≤ 4 → form_there (run (suc j) w) q id ≡ Plain
   unfolding any_run.run
   plain_at q m id h f j low =
-      port_goes_plain (run j w) (whole_run w j whole) q f.side f.au m id (inside_run law w whole calm j q (inside_of w whole q h)) f.low
+      port_goes_plain (run j w) (whole_run w j whole) q f.side f.au m id (inside_run w j q (inside_of w whole q h)) f.low
       (let r = rate_run w j in let t = f.high in omega arith)
       (f.goes j (omega arith)) (f.goes (suc j) (omega arith)) (calm_at law w whole calm (suc j) (omega arith))
 
@@ -136,14 +136,14 @@ module _ (law : StillRingsAreSettled) (w : World) (whole : IsWhole w) (form : Ha
   unfolding any_run.run ticks
   clock_at_round q id c h e zero = e
   clock_at_round q id c h e (suc j) =
-      clock_next (run (suc j) w) (whole_run w (suc j) whole) q id (inside_run law w whole calm (suc j) q (inside_of w whole q h))
+      clock_next (run (suc j) w) (whole_run w (suc j) whole) q id (inside_run w (suc j) q (inside_of w whole q h))
       ∙ ap (option_map ticked) (clock_at_round q id c h e j)
 
   no_clock : (q : ℕ) (id : PortId) → q < n → clock_there (run 1 w) q id ≡ None → (j : ℕ) → clock_there (run (suc j) w) q id ≡ None
   unfolding any_run.run
   no_clock q id h e zero = e
   no_clock q id h e (suc j) =
-      clock_next (run (suc j) w) (whole_run w (suc j) whole) q id (inside_run law w whole calm (suc j) q (inside_of w whole q h))
+      clock_next (run (suc j) w) (whole_run w (suc j) whole) q id (inside_run w (suc j) q (inside_of w whole q h))
       ∙ ap (option_map ticked) (no_clock q id h e j)
 
   module _ (q m : ℕ) (id : PortId) (h : q < n) (f : Fills q m id) where
@@ -157,7 +157,7 @@ module _ (law : StillRingsAreSettled) (w : World) (whole : IsWhole w) (form : Ha
     bounds c e j =
         clock_bounds (run (suc j) w) (whole_run w (suc j) whole)
         (subst (λ (l : Layout). All HasOffsets l.circuits) (sym (layout_run w (suc j))) form.offsets) q id (ticks j c)
-        (inside_run law w whole calm (suc j) q (inside_of w whole q h)) (clock_at_round q id c h e j)
+        (inside_run w (suc j) q (inside_of w whole q h)) (clock_at_round q id c h e j)
 
     even_by : (o : Option Clock) → first ≡ o → (j : ℕ) → j ≤ 4
         → IsEven (brought w q m (Add id) (suc j)).action (brought w q m (Add id) (suc j)).value

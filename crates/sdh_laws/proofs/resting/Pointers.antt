@@ -61,7 +61,7 @@ sends_even s a v (inr e) still =
 abbrev pub IsGood : Reading → Type 0
 IsGood r = ((v : ℕ) × (v ≤ 782) × (r ≡ settled mode.Norm v 3)) ⊎ (is_norm r.mode ≡ false)
 
-ais_from : (a : Action) → is_ais_action a ≡ true → a ≡ action.Ais
+pub ais_from : (a : Action) → is_ais_action a ≡ true → a ≡ action.Ais
 ais_from action.Ais e = refl
 ais_from action.Normal e = cc
 ais_from action.New e = cc

@@ -16,16 +16,15 @@ use Rattle.sdh_rounds.proofs.Runs.{known_settles}
 use Rattle.sdh_laws.specs.Hearing.Signalling.{signals_of}
 use Rattle.sdh_laws.specs.Hearing.Laws.{IsWhole, IsStill}
 use Rattle.sdh_laws.proofs.hearing.Changes.{whole_run}
-use Rattle.sdh_laws.proofs.hearing.Nodes.{count}
 use Rattle.sdh_laws.proofs.hearing.Rounds.{whole_round}
 use Rattle.sdh_laws.proofs.hearing.Signalling.{calm_rounds_are_still, three_calm_rounds_are_settled, requests_stay}
-use Rattle.sdh_laws.specs.Carrying.Windows.{Layout, layout_of, size_of, HasCircuits, requests_of, FailOnApplied, IsQuiet}
+use Rattle.sdh_laws.specs.Carrying.Windows.{layout_of, size_of, HasCircuits, requests_of, FailOnApplied, IsQuiet}
 use Rattle.sdh_laws.specs.Carrying.Laws.{DeliversWhatIsDue}
-use Rattle.sdh_laws.proofs.carrying.Applied.{failures_applied, length-requests_of}
+use Rattle.sdh_laws.proofs.carrying.Applied.{length-requests_of}
 use Rattle.sdh_laws.proofs.carrying.Owed.{quiet_delivers}
-use Rattle.sdh_laws.proofs.carrying.Settles.{each_settled}
+use Rattle.sdh_laws.proofs.carrying.Settles.{each_settled, failing_after}
 use Rattle.sdh_laws.proofs.carrying.Ways.{layout_run}
-use Rattle.sdh_laws.proofs.converging.Runs.{length_run, run_more}
+use Rattle.sdh_laws.proofs.converging.Runs.{run_more, nodes_run}
 use Rattle.sdh_laws.specs.Resting.Rest.{IsAtRest, StaysAtRest}
 use Rattle.sdh_laws.specs.Resting.Laws.{CalmGoesOn, StepsLeaveAtRest, RestGoesOn}
 use Rattle.sdh_laws.proofs.hearing.Steady.{held_none, free_next}
@@ -49,9 +48,6 @@ module _ (law : StillRingsAreSettled) (w : World) (whole : IsWhole w) (form : Ha
 
   still_at : (j : ℕ) → a ≤ j → IsStill (run j w)
   still_at j late = calm_rounds_are_still (run j w) (whole_run w j whole) (calm_round_at j late)
-
-  nodes_run : (j : ℕ) → length (run j w).ring.nodes ≡ n
-  nodes_run j = length_run w j ∙ count w whole.placed
 
   -- the states are the settled ones, under the requests of the round and of all others
   states_third : (i : ℕ) → (signals_of (run (3 + (i + a)) w)).states ≡ settled_states (requests_of (run (3 + (i + a)) w))
@@ -88,24 +84,18 @@ module _ (law : StillRingsAreSettled) (w : World) (whole : IsWhole w) (form : Ha
       ∙ ap (λ i. (signals_of (run i w)).states) (sym y) ∙ states_third 0
       ∙ ap settled_states (requests_at (3 + (0 + a)) k (omega arith) hk)
 
-  failing_after : (j : ℕ) → FailOnApplied n (requests_of (run (suc j) w)) (run (suc j) w)
-  unfolding any_run.run
-  failing_after j =
-      subst (λ (l : Layout). FailOnApplied (size_of l) (requests_of (round (run j w))) (round (run j w))) (layout_run w j)
-      (failures_applied (run j w) (whole_run w j whole))
-
   failing_at : (j k : ℕ) → 1 ≤ j → a ≤ j → a ≤ k → FailOnApplied n (requests_of (run k w)) (run j w)
   failing_at j k some hj hk =
       let one : suc (j - 1) ≡ j = omega arith in
       subst (λ qs. FailOnApplied n qs (run j w)) (requests_at j k hj hk)
-      (subst (λ i. FailOnApplied n (requests_of (run i w)) (run i w)) one (failing_after (j - 1)))
+      (subst (λ i. FailOnApplied n (requests_of (run i w)) (run i w)) one (failing_after w whole (j - 1)))
 
   quiet : (first last : ℕ) → 1 ≤ first → a < first → first ≤ last → IsQuiet n (requests_of (run last w)) w first last
   quiet first last some early long = record {
-    spans = length-requests_of (run last w) n (nodes_run last);
+    spans = length-requests_of (run last w) n (nodes_run w whole last);
     calm = λ j low high. calm j (omega arith);
     settled_are =
-        λ j low high. each_settled (run j w) n (requests_of (run last w)) (nodes_run j) (length-requests_of (run last w) n (nodes_run last))
+        λ j low high. each_settled (run j w) n (requests_of (run last w)) (nodes_run w whole j) (length-requests_of (run last w) n (nodes_run w whole last))
         (states_at j last (omega arith) (omega arith));
     failing = λ j low high. failing_at j last (omega arith) (omega arith) (omega arith);
   }

@@ -1,21 +1,16 @@
 -- The signalling of a ring after six calm rounds: the seventh leaves needs, filters, states and words as they are.
-use Rattle.std.proofs.Common.{◌≡◌, ℕ, zero, suc, ◌+◌, ◌<◌, ◌≤◌, Bool, true, List, length, map, get_or, Option, Some, None, refl}
+use Rattle.std.proofs.Common.{◌≡◌, ℕ, zero, suc, ◌+◌, ◌<◌, ◌≤◌, true, List, length, map, get_or, refl}
 use Rattle.std.proofs.Common.{ap, ap₂, sym, ◌∙◌, subst, arith, inl, inr}
-use Rattle.std.specs.Prelude.{if◌then◌else◌}
-use Rattle.std.proofs.lemmas.Bool.{cases_Bool, cases_lt, le-leb}
+use Rattle.std.proofs.lemmas.Bool.{cases_lt, le-leb}
 use Rattle.std.proofs.lemmas.List.{get_or-map}
 use Rattle.sdh_ringmap.specs.declared.Side.{Side}
 use Rattle.sdh_ringmap.specs.declared.Side.TheVariants.{West, East}
 use Rattle.sdh_ringmap.specs.Places.{neighbour, opposite}
-use Rattle.sdh_kbytes.specs.declared.K.{K}
 use Rattle.sdh_nodestate.specs.declared.Needs.{Needs}
-use Rattle.sdh_nodestate.specs.declared.Sent.{Sent}
-use Rattle.sdh_nodestate.specs.Filtering.{Brought, with_brought, hears}
+use Rattle.sdh_nodestate.specs.Filtering.{Brought, hears}
 use Rattle.sdh_signal.specs.Settled.{settled_states}
 use Rattle.sdh_signal.specs.Signals.{Signals, free_round, request_on, no_needs}
 use Rattle.sdh_signal.specs.Laws.{StillRingsAreSettled}
-use Rattle.sdh_ringmap.specs.declared.terms.Condition.{Condition}
-use Rattle.sdh_ringmap.specs.Fibres.{is_cut}
 use Rattle.sdh_node.specs.Same.{Compared}
 use Rattle.sdh_node.specs.Node.{Node, receiving_on, compared, sent_of, word_of}
 use Rattle.sdh_world.specs.Held.{nowhere, node_at}
@@ -26,15 +21,16 @@ use Rattle.sdh_world.specs.Sides.{condition_to}
 use Rattle.sdh_laws.specs.Hearing.Signalling.{word_to, filters_of, signals_of, needs_in}
 use Rattle.sdh_laws.specs.Hearing.Laws.{IsWhole, IsStill}
 use Rattle.sdh_laws.proofs.hearing.Changes.{whole_run}
-use Rattle.sdh_laws.proofs.hearing.Nodes.{count}
 use Rattle.sdh_laws.proofs.hearing.Rounds.{brings, neighbour_inside}
 use Rattle.sdh_laws.proofs.hearing.Signalling.{mapped_same, needs_at, goes_free, calm_rounds_are_still, three_calm_rounds_are_settled, same_signals}
 use Rattle.sdh_laws.proofs.hearing.Staying.{left_run}
 use Rattle.sdh_laws.specs.Carrying.Windows.{AreSettled, requests_of}
 use Rattle.sdh_laws.proofs.carrying.Applied.{length-requests_of}
 use Rattle.sdh_laws.proofs.carrying.Settles.{each_settled}
-use Rattle.sdh_laws.proofs.converging.Runs.{length_run, condition_run}
-use Rattle.sdh_laws.proofs.hearing.Steady.{AllFree, free_next, IsSteady, steady_two, steady_more, needs_stay}
+use Rattle.sdh_laws.proofs.converging.Runs.{length_run, condition_run, nodes_run, inside_run}
+use Rattle.sdh_laws.proofs.hearing.Steady.{free_next, IsSteady, steady_two, steady_more, needs_stay}
+use Rattle.sdh_laws.proofs.converging.Came.{come_behind, came_after, word_by, word_to_in, kept, earlier_in}
+use Rattle.sdh_laws.specs.Restoring.Laws.{NoneHeld}
 use Rattle.sdh_rounds.specs.Runs as any_run
 
 -- ---- single nodes
@@ -47,23 +43,6 @@ pub same_at : {Y : Type 0} (f : Node → Y) (xs ys : List Node) (p : ℕ) → p 
     → f (node_at xs p) ≡ f (node_at ys p)
 same_at f xs ys p hx hy e =
     sym (get_or-map f xs p nowhere (f nowhere) hx) ∙ ap (λ l. get_or l p (f nowhere)) e ∙ get_or-map f ys p nowhere (f nowhere) hy
-
--- the word after a fibre, if it comes
-abbrev come_behind : Condition → K → Option K
-come_behind c k = if is_cut c then None else Some k
-
-came_after : (u : World) → IsWhole u → (p : ℕ) (d : Side) → p < length u.ring.nodes → 0 < u.ring.rounds
-    → (receiving_on d (node_at (round u).ring.nodes p)).brought.last ≡ come_behind (condition_to u p d) (word_to u p d)
-came_after u whole p d inside started =
-    let b = brings u whole p d inside in
-    elim (cases_Bool (is_cut (condition_to u p d))) [
-      | inl lost ↦ b.silent started lost ∙ sym (ap (λ (t : Bool). if t then None else Some (word_to u p d)) lost)
-      | inr kept ↦ b.comes started kept ∙ sym (ap (λ (t : Bool). if t then None else Some (word_to u p d)) kept)
-    ]
-
-word_by : (v : Node) (d : Side) (s : Node) → sent_of v ≡ sent_of s → word_of d v ≡ word_of d s
-word_by v West s e = ap (λ (z : Sent). z.west) e
-word_by v East s e = ap (λ (z : Sent). z.east) e
 
 same_brought : (a b : Brought) → a.last ≡ b.last → a.second ≡ b.second → a.third ≡ b.third → a ≡ b
 same_brought a b last second third = λ i. record { last = last i; second = second i; third = third i }
@@ -81,23 +60,17 @@ module _ (law : StillRingsAreSettled) (w : World) (whole : IsWhole w) (calm : (j
   pub still_at : (j : ℕ) → j < 6 → IsStill (run j w)
   still_at j h = calm_rounds_are_still (run j w) (whole_run w j whole) (calm_at j h)
 
-  pub inside_run : (j p : ℕ) → p < length w.ring.nodes → p < length (run j w).ring.nodes
-  inside_run j p h = omega (arith, length_run w j)
-
-  nodes_run : (j : ℕ) → length (run j w).ring.nodes ≡ n
-  nodes_run j = length_run w j ∙ count w whole.placed
-
   pub started : (j : ℕ) → 0 < (run j w).ring.rounds
   started j = let r = (left_run j w).rounds in let s = (still_at 0 (omega arith)).later in let z = (left_run 0 w).rounds in omega arith
 
-  free_last : AllFree (run 6 w)
+  free_last : NoneHeld (run 6 w)
   unfolding any_run.run
   free_last = free_next (run 5 w) (whole_run w 5 whole) (still_at 5 (omega arith)).free
 
-  pub free_at : (j : ℕ) → j ≤ 6 → AllFree (run j w)
+  pub free_at : (j : ℕ) → j ≤ 6 → NoneHeld (run j w)
   free_at j h = elim (cases_lt j 6) [
     | inl low ↦ (still_at j low).free
-    | inr high ↦ subst (λ i. AllFree (run i w)) (let e : 6 ≡ j = omega arith in e) free_last
+    | inr high ↦ subst (λ i. NoneHeld (run i w)) (let e : 6 ≡ j = omega arith in e) free_last
   ]
 
   -- ---- needs
@@ -120,8 +93,8 @@ module _ (law : StillRingsAreSettled) (w : World) (whole : IsWhole w) (calm : (j
       → (receiving_on d (node_at (run 7 w).ring.nodes p)).request ≡ (receiving_on d (node_at (run 6 w).ring.nodes p)).request
   unfolding needs_in
   request_stays p d h =
-      sym (needs_at (run 7 w).ring.nodes p d (inside_run 7 p h)) ∙ ap (λ (l : List Needs). request_on (get_or l p no_needs) d) needs_last
-      ∙ needs_at (run 6 w).ring.nodes p d (inside_run 6 p h)
+      sym (needs_at (run 7 w).ring.nodes p d (inside_run w 7 p h)) ∙ ap (λ (l : List Needs). request_on (get_or l p no_needs) d) needs_last
+      ∙ needs_at (run 6 w).ring.nodes p d (inside_run w 6 p h)
 
   -- ---- words, and what comes of them
 
@@ -129,52 +102,42 @@ module _ (law : StillRingsAreSettled) (w : World) (whole : IsWhole w) (calm : (j
       → word_of d (node_at (run (suc k) w).ring.nodes p) ≡ word_of d (node_at (run k w).ring.nodes p)
   unfolding any_run.run
   word_stays k p d low h =
-      words_on d (node_at (round (run k w)).ring.nodes p) (node_at (run k w).ring.nodes p) ((still_at k low).same p (inside_run k p h))
-
-  word_to_in : (k p : ℕ) (d : Side) → word_to (run k w) p d ≡ word_of (opposite d) (node_at (run k w).ring.nodes (neighbour n p d))
-  word_to_in k p d = ap (λ ids. word_of (opposite d) (node_at (run k w).ring.nodes (neighbour (length ids) p d))) (left_run k w).ids
+      words_on d (node_at (round (run k w)).ring.nodes p) (node_at (run k w).ring.nodes p) ((still_at k low).same p (inside_run w k p h))
 
   word_to_stays : (k p : ℕ) (d : Side) → k < 6 → word_to (run (suc k) w) p d ≡ word_to (run k w) p d
   word_to_stays k p d low =
-      word_to_in (suc k) p d ∙ word_stays k (neighbour n p d) (opposite d) low (neighbour_inside w whole p d) ∙ sym (word_to_in k p d)
+      word_to_in w (suc k) p d ∙ word_stays k (neighbour n p d) (opposite d) low (neighbour_inside w whole p d) ∙ sym (word_to_in w k p d)
 
-  abbrev kept : ℕ → ℕ → Side → Brought
-  kept k p d = (receiving_on d (node_at (run k w).ring.nodes p)).brought
-
-  came_in : (k p : ℕ) (d : Side) → p < length w.ring.nodes → (kept (suc k) p d).last
+  came_in : (k p : ℕ) (d : Side) → p < length w.ring.nodes → (kept w (suc k) p d).last
       ≡ come_behind (condition_to w p d) (word_to (run k w) p d)
   unfolding any_run.run
   came_in k p d h =
-      came_after (run k w) (whole_run w k whole) p d (inside_run k p h) (started k)
+      came_after (run k w) (whole_run w k whole) p d (inside_run w k p h) (started k)
       ∙ ap (λ c. come_behind c (word_to (run k w) p d)) (condition_run w k p d)
 
-  earlier_in : (k p : ℕ) (d : Side) → p < length w.ring.nodes → kept (suc k) p d ≡ with_brought (kept (suc k) p d).last (kept k p d)
-  unfolding any_run.run
-  earlier_in k p d h = (brings (run k w) (whole_run w k whole) p d (inside_run k p h)).earlier
-
   -- round k + 2 brings what round k + 1 did
-  last_stays : (k p : ℕ) (d : Side) → k < 6 → p < length w.ring.nodes → (kept (suc (suc k)) p d).last ≡ (kept (suc k) p d).last
+  last_stays : (k p : ℕ) (d : Side) → k < 6 → p < length w.ring.nodes → (kept w (suc (suc k)) p d).last ≡ (kept w (suc k) p d).last
   last_stays k p d low h = came_in (suc k) p d h ∙ ap (come_behind (condition_to w p d)) (word_to_stays k p d low) ∙ sym (came_in k p d h)
 
   second_stays : (k p : ℕ) (d : Side) → k < 6 → p < length w.ring.nodes
-      → (kept (suc (suc (suc k))) p d).second ≡ (kept (suc (suc k)) p d).second
+      → (kept w (suc (suc (suc k))) p d).second ≡ (kept w (suc (suc k)) p d).second
   second_stays k p d low h =
-      ap (λ (b : Brought). b.second) (earlier_in (suc (suc k)) p d h) ∙ last_stays k p d low h
-      ∙ sym (ap (λ (b : Brought). b.second) (earlier_in (suc k) p d h))
+      ap (λ (b : Brought). b.second) (earlier_in w whole (suc (suc k)) p d h) ∙ last_stays k p d low h
+      ∙ sym (ap (λ (b : Brought). b.second) (earlier_in w whole (suc k) p d h))
 
   third_stays : (k p : ℕ) (d : Side) → k < 6 → p < length w.ring.nodes
-      → (kept (suc (suc (suc (suc k)))) p d).third ≡ (kept (suc (suc (suc k))) p d).third
+      → (kept w (suc (suc (suc (suc k)))) p d).third ≡ (kept w (suc (suc (suc k))) p d).third
   third_stays k p d low h =
-      ap (λ (b : Brought). b.third) (earlier_in (suc (suc (suc k))) p d h) ∙ second_stays k p d low h
-      ∙ sym (ap (λ (b : Brought). b.third) (earlier_in (suc (suc k)) p d h))
+      ap (λ (b : Brought). b.third) (earlier_in w whole (suc (suc (suc k))) p d h) ∙ second_stays k p d low h
+      ∙ sym (ap (λ (b : Brought). b.third) (earlier_in w whole (suc (suc k)) p d h))
 
   -- what was kept after round 5 is kept after rounds 6 and 7
-  kept_stays : (k p : ℕ) (d : Side) → k < 4 → p < length w.ring.nodes → kept (suc (suc (suc (suc k)))) p d ≡ kept (suc (suc (suc k))) p d
+  kept_stays : (k p : ℕ) (d : Side) → k < 4 → p < length w.ring.nodes → kept w (suc (suc (suc (suc k)))) p d ≡ kept w (suc (suc (suc k))) p d
   kept_stays k p d low h =
       same_brought _ _ (last_stays (suc (suc k)) p d (omega arith) h) (second_stays (suc k) p d (omega arith) h)
       (third_stays k p d (omega arith) h)
 
-  pub heard_stays : (p : ℕ) (d : Side) → p < length w.ring.nodes → hears (kept 7 p d) ≡ hears (kept 6 p d)
+  pub heard_stays : (p : ℕ) (d : Side) → p < length w.ring.nodes → hears (kept w 7 p d) ≡ hears (kept w 6 p d)
   heard_stays p d h = ap hears (kept_stays 3 p d (omega arith) h)
 
   -- ---- the ring of signals stands still
@@ -200,7 +163,7 @@ module _ (law : StillRingsAreSettled) (w : World) (whole : IsWhole w) (calm : (j
   all_filters_same : (signals_of (run 6 w)).filters ≡ (signals_of (run 5 w)).filters
   unfolding signals_of
   all_filters_same =
-      mapped_same filters_of (run 6 w).ring.nodes (run 5 w).ring.nodes (nodes_run 6 ∙ sym (nodes_run 5))
+      mapped_same filters_of (run 6 w).ring.nodes (run 5 w).ring.nodes (nodes_run w whole 6 ∙ sym (nodes_run w whole 5))
       (λ p h. filters_same p (omega (arith, length_run w 6)))
 
   running_same : (signals_of (run 6 w)).running ≡ (signals_of (run 5 w)).running
@@ -222,7 +185,7 @@ module _ (law : StillRingsAreSettled) (w : World) (whole : IsWhole w) (calm : (j
   unfolding signals_of
   word_last p d h =
       word_by (node_at (run 7 w).ring.nodes p) d (node_at (run 6 w).ring.nodes p)
-      (same_at sent_of (run 7 w).ring.nodes (run 6 w).ring.nodes p (inside_run 7 p h) (inside_run 6 p h)
+      (same_at sent_of (run 7 w).ring.nodes (run 6 w).ring.nodes p (inside_run w 7 p h) (inside_run w 6 p h)
       (ap (λ (s : Signals). s.words) signals_last))
 
   -- ---- states
@@ -246,7 +209,7 @@ module _ (law : StillRingsAreSettled) (w : World) (whole : IsWhole w) (calm : (j
 
   pub settled_at : (j : ℕ) → j ≤ 7 → AreSettled n (requests_of (run 3 w)) (run j w)
   settled_at j h =
-      each_settled (run j w) n (requests_of (run 3 w)) (nodes_run j) (length-requests_of (run 3 w) n (nodes_run 3)) (states_at j h)
+      each_settled (run j w) n (requests_of (run 3 w)) (nodes_run w whole j) (length-requests_of (run 3 w) n (nodes_run w whole 3)) (states_at j h)
 
   pub spans_are : length (requests_of (run 3 w)) ≡ n
-  spans_are = length-requests_of (run 3 w) n (nodes_run 3)
+  spans_are = length-requests_of (run 3 w) n (nodes_run w whole 3)

@@ -44,6 +44,7 @@ use Rattle.sdh_laws.proofs.converging.Runs.{length_run, rate_run, condition_run}
 use Rattle.sdh_laws.proofs.converging.Spans.{sending_in, reading_in, word_in, Takes, generator_goes, interpreter_goes}
 use Rattle.sdh_laws.specs.Restoring.Flowing.{Flows, FlowsBehind, IsSilent}
 use Rattle.sdh_laws.proofs.restoring.Landing.{IsAt, ByNew, keeps, answers_there, answered, lands, outside, enabled_taken, enabled_left}
+use Rattle.sdh_laws.proofs.resting.Pointers.{ais_from}
 use Rattle.sdh_rounds.specs.Runs as any_run
 use Rattle.sdh_spans.proofs.Sends.{ais_word}
 
@@ -66,13 +67,6 @@ passed action.Down f word x e = refl
 payload_sent : (s : Option ℕ) (i : Input) → is_ais_action i.action ≡ false → (au_sent s i).payload ≡ i.au.payload
 unfolding au_sent
 payload_sent s i e = passed i.action (form_sent s i.action i.value) (word_sent s i.action i.value) i.au e
-
-is_ais : (a : Action) → is_ais_action a ≡ true → a ≡ action.Ais
-is_ais action.Ais e = refl
-is_ais action.Normal e = absurd (cc)
-is_ais action.New e = absurd (cc)
-is_ais action.Up e = absurd (cc)
-is_ais action.Down e = absurd (cc)
 
 ones_behind : (b : Bool) → word_behind b 65535 ≡ 65535
 ones_behind true = refl
@@ -313,6 +307,6 @@ module _ (w : World) (whole : IsWhole w) (p : ℕ) (d : Side) (i : ℕ) (inside 
     pub silent_on : IsSilent comes (t + 3)
     silent_on j h =
         (silent_takes j (omega arith)).action
-        ∙ is_ais (action_on (reading j) 65535)
+        ∙ ais_from (action_on (reading j) 65535)
         (answer_tells_mode (reading j) 65535 ∙ ap (λ (r : Reading). not (is_norm r.mode)) (sym (silent_takes j (omega arith)).reading)
         ∙ ap not (out_of_norm (suc j) (omega arith)))

@@ -1,8 +1,8 @@
 -- How an interpreter comes to Norm at the value of a normal word that it reads again and again, whatever it kept: it is
 -- there within three rounds, or a round with the action New leads there within six.
-use Rattle.std.proofs.Common.{◌≡◌, ◌≢◌, ℕ, zero, suc, ◌+◌, ◌-◌, ◌<◌, ◌≤◌, true, false, eqb, refl, ap, sym, ◌∙◌, subst, arith, inl, inr, ◌⊎◌}
-use Rattle.std.specs.Prelude.{◌||◌, not, nat_le, if◌then◌else◌}
-use Rattle.std.proofs.lemmas.Bool.{ne_eqb, eq-eqb, le-leb, lt-leb, cases_Bool, cases_eq, cases_lt}
+use Rattle.std.proofs.Common.{◌≡◌, ◌≢◌, ℕ, zero, suc, ◌+◌, ◌-◌, ◌<◌, ◌≤◌, true, false, refl, ap, sym, ◌∙◌, subst, arith, inl, inr, ◌⊎◌}
+use Rattle.std.specs.Prelude.{not, nat_le, if◌then◌else◌}
+use Rattle.std.proofs.lemmas.Bool.{le-leb, cases_Bool, cases_eq, cases_lt}
 use Rattle.sdh_pointer.specs.declared.reading.Reading.{Reading}
 use Rattle.sdh_pointer.specs.declared.reading.Mode.{Mode}
 use Rattle.sdh_pointer.specs.declared.reading.Mode.TheVariants as mode
@@ -10,7 +10,7 @@ use Rattle.sdh_pointer.specs.declared.reading.Event.{Event}
 use Rattle.sdh_pointer.specs.declared.reading.Event.TheVariants as event
 use Rattle.sdh_pointer.specs.declared.reading.Action.TheVariants as action
 use Rattle.sdh_pointer.specs.Words.{is_normal, is_enabled, value_in, one_up, one_down}
-use Rattle.sdh_pointer.specs.Reading.{normal_event, is_norm, goes_up, goes_down, after_in, action_in, after_word, action_on, settled}
+use Rattle.sdh_pointer.specs.Reading.{normal_event, is_norm, goes_up, goes_down, action_in, after_word, action_on, settled}
 use Rattle.sdh_pointer.specs.Reading.{with_new, news_with, later, reading_row_of, reading_table}
 use Rattle.sdh_pointer.specs.Repeated.{after_rounds}
 use Rattle.sdh_pointer.specs.Laws.{is_ais_action}
@@ -18,7 +18,7 @@ use Rattle.sdh_pointer.proofs.Bounds.{answer_tells_mode}
 use Rattle.sdh_pointer.proofs.Forms.{of_normal_word, of_enabled_word, new_outside, new_early, new_neither, up_event, down_event}
 use Rattle.sdh_pointer.proofs.Rows.{norm_up, norm_down, norm_new, norm_ndf, ais_new, ais_ndf, lop_new, lop_ndf, norm_ndf_action}
 use Rattle.sdh_pointer.proofs.Rows.{ais_ndf_action}
-use Rattle.sdh_pointer.proofs.Settling.{by_event, action_by_event, in_parts, same, same_action}
+use Rattle.sdh_pointer.proofs.Settling.{by_event, action_by_event, in_parts, same, same_action, reads, news_more, some_news, out_counted, in_counted}
 
 -- ---- the actions of new values
 
@@ -84,9 +84,6 @@ module _ (w v : ℕ) (normal : is_normal w ≡ true) (carries : value_in w ≡ v
   pub answered : (r : Reading) → IsAt (after_word r w) → is_ais_action (action_on r w) ≡ false
   answered r at = answer_tells_mode r w ∙ ap (λ m. not (is_norm m)) at.0
 
-  reads : (m : Mode) (r : Reading) (e : Event) → r.mode ≡ m → normal_event r v ≡ e → after_word r w ≡ after_in m e r
-  reads m r e norm is = by_event r w m e norm (of_normal_word r w normal ∙ ap (normal_event r) carries ∙ is)
-
   acts : (m : Mode) (r : Reading) (e : Event) → r.mode ≡ m → normal_event r v ≡ e → action_on r w ≡ action_in m e r
   acts m r e norm is = action_by_event r w m e norm (of_normal_word r w normal ∙ ap (normal_event r) carries ∙ is)
 
@@ -132,63 +129,43 @@ module _ (w v : ℕ) (normal : is_normal w ≡ true) (carries : value_in w ≡ v
   }
 
   module _ (small : v ≤ 782) where
-    news_more : (r : Reading) → r.candidate ≡ v → 0 < r.news → news_with r v ≡ r.news + 1
-    news_more r is some =
-        let counted : eqb 0 r.news ≡ false = ne_eqb _ _ (λ e. omega arith) in
-        let e : eqb r.candidate v ≡ true = eq-eqb _ _ is in
-        rw (counted, e) refl
-
-    some_news : (r : Reading) → 0 < news_with r v
-    some_news r = elim (cases_Bool (eqb 0 r.news || not (eqb r.candidate v))) [ inl t ↦ rw t (omega arith) | inr f ↦ rw f (omega arith) ]
-
     -- out of Norm
     out_third : (m : Mode) (r : Reading) → r.mode ≡ m → is_norm m ≡ false → 3 ≤ news_with r v → ByNew 1 r
     out_third mode.Norm r is out third = absurd (cc)
     out_third mode.Ais r is out third =
         let new = new_outside r v (ap is_norm is) small in
-        now_new r 0 (reads mode.Ais r (event.New v) is new ∙ ais_new r v ∙ (let e = le-leb _ _ third in rw e refl))
+        now_new r 0 (reads w v normal carries mode.Ais r (event.New v) is new ∙ ais_new r v ∙ (let e = le-leb _ _ third in rw e refl))
         (acts mode.Ais r (event.New v) is new ∙ ais_new_action r v ∙ (let e = le-leb _ _ third in rw e refl))
     out_third mode.Lop r is out third =
         let new = new_outside r v (ap is_norm is) small in
-        now_new r 0 (reads mode.Lop r (event.New v) is new ∙ lop_new r v ∙ (let e = le-leb _ _ third in rw e refl))
+        now_new r 0 (reads w v normal carries mode.Lop r (event.New v) is new ∙ lop_new r v ∙ (let e = le-leb _ _ third in rw e refl))
         (acts mode.Lop r (event.New v) is new ∙ lop_new_action r v ∙ (let e = le-leb _ _ third in rw e refl))
 
-    out_counted : (m : Mode) (r : Reading) → r.mode ≡ m → is_norm m ≡ false → news_with r v < 3 → after_word r w ≡ with_new r v 0
-    out_counted mode.Norm r is out less = absurd (cc)
-    out_counted mode.Ais r is out less =
-        reads mode.Ais r (event.New v) is (new_outside r v (ap is_norm is) small) ∙ ais_new r v ∙ (let e = lt-leb _ _ less in rw e refl)
-    out_counted mode.Lop r is out less =
-        reads mode.Lop r (event.New v) is (new_outside r v (ap is_norm is) small) ∙ lop_new r v ∙ (let e = lt-leb _ _ less in rw e refl)
-
     out_two : (m : Mode) (r : Reading) → r.mode ≡ m → is_norm m ≡ false → r.candidate ≡ v → 2 ≤ r.news → ByNew 1 r
-    out_two m r is out at two = out_third m r is out (let more = news_more r at (omega arith) in omega arith)
+    out_two m r is out at two = out_third m r is out (let more = news_more v r at (omega arith) in omega arith)
 
     out_one : (m : Mode) (r : Reading) → r.mode ≡ m → is_norm m ≡ false → r.candidate ≡ v → r.news ≡ 1 → ByNew 2 r
     out_one m r is out at one =
-        let more = news_more r at (omega arith) in
-        step_new 1 r (with_new r v 0) (out_counted m r is out (omega arith)) (out_two m (with_new r v 0) is out refl (omega arith))
+        let more = news_more v r at (omega arith) in
+        step_new 1 r (with_new r v 0) (out_counted w v normal carries small m r is out (omega arith)) (out_two m (with_new r v 0) is out refl (omega arith))
 
     pub outside : (m : Mode) (r : Reading) → r.mode ≡ m → is_norm m ≡ false → ByNew 3 r
     outside m r is out =
         elim (cases_lt (news_with r v) 3) [
           | inr third ↦ wider 1 3 r (omega arith) (out_third m r is out third)
-          | inl less ↦ (let next = out_counted m r is out less in
+          | inl less ↦ (let next = out_counted w v normal carries small m r is out less in
               elim (cases_lt (news_with r v) 2) [
                 | inr two ↦ wider 2 3 r (omega arith) (step_new 1 r (with_new r v 0) next (out_two m (with_new r v 0) is out refl two))
                 | inl other ↦ step_new 2 r (with_new r v 0) next
-                    (out_one m (with_new r v 0) is out refl (let some = some_news r in omega arith))
+                    (out_one m (with_new r v 0) is out refl (let some = some_news v r in omega arith))
               ])
         ]
 
     -- in Norm: a new value
     in_third : (r : Reading) → r.mode ≡ mode.Norm → normal_event r v ≡ event.New v → 3 ≤ news_with r v → ByNew 1 r
     in_third r is new third =
-        now_new r (later r.since) (reads mode.Norm r (event.New v) is new ∙ norm_new r v ∙ (let e = le-leb _ _ third in rw e refl))
+        now_new r (later r.since) (reads w v normal carries mode.Norm r (event.New v) is new ∙ norm_new r v ∙ (let e = le-leb _ _ third in rw e refl))
         (acts mode.Norm r (event.New v) is new ∙ norm_new_action r v ∙ (let e = le-leb _ _ third in rw e refl))
-
-    in_counted : (r : Reading) → r.mode ≡ mode.Norm → normal_event r v ≡ event.New v → news_with r v < 3
-        → after_word r w ≡ with_new r v (later r.since)
-    in_counted r is new less = reads mode.Norm r (event.New v) is new ∙ norm_new r v ∙ (let e = lt-leb _ _ less in rw e refl)
 
     -- a round that counts a new value; nothing else is known of it
     before_new : (b : ℕ) (r : Reading) → r.mode ≡ mode.Norm → r.value ≢ v → r.since < 3
@@ -198,7 +175,7 @@ module _ (w v : ℕ) (normal : is_normal w ≡ true) (carries : value_in w ≡ v
         let new = new_early r v norm other early small in
         elim (cases_lt (news_with r v) 3) [
           | inr third ↦ wider 1 (suc b) r (omega arith) (in_third r norm new third)
-          | inl less ↦ step_new b r (with_new r v (later r.since)) (in_counted r norm new less)
+          | inl less ↦ step_new b r (with_new r v (later r.since)) (in_counted w v normal carries small r norm new less)
               (next (with_new r v (later r.since)) norm other refl refl refl)
         ]
 
@@ -208,64 +185,59 @@ module _ (w v : ℕ) (normal : is_normal w ≡ true) (carries : value_in w ≡ v
         let new = new_early r v norm other early small in
         elim (cases_lt (news_with r v) 3) [
           | inr third ↦ inr (wider 1 (suc b) r (omega arith) (in_third r norm new third))
-          | inl less ↦ step a b r (with_new r v (later r.since)) (in_counted r norm new less)
+          | inl less ↦ step a b r (with_new r v (later r.since)) (in_counted w v normal carries small r norm new less)
               (next (with_new r v (later r.since)) norm other refl)
         ]
 
     none_then : (r : Reading) → r.mode ≡ mode.Norm → r.value ≢ v → r.since < 3 → r.candidate ≡ v → 2 ≤ r.news → ByNew 1 r
     none_then r norm other early at two =
-        let more = news_more r at (omega arith) in
+        let more = news_more v r at (omega arith) in
         in_third r norm (new_early r v norm other early small) (omega arith)
 
     -- three rounds are enough for an interpreter whose `since` is 0
     since_none : (r : Reading) → r.mode ≡ mode.Norm → r.value ≢ v → r.since ≡ 0 → ByNew 3 r
     since_none r norm other is =
-        before_new 2 r norm other (omega arith) (λ s a b c d e. let some = some_news r in
-        before_new 1 s a b (omega (arith, c)) (λ t f g h i j. let more = news_more s d (omega (arith, e)) in
+        before_new 2 r norm other (omega arith) (λ s a b c d e. let some = some_news v r in
+        before_new 1 s a b (omega (arith, c)) (λ t f g h i j. let more = news_more v s d (omega (arith, e)) in
         none_then t f g (omega (arith, h, c)) i (omega (arith, j, e))))
 
     -- three rounds are enough for an interpreter that has just taken any value
     taken : (u : ℕ) → Lands 0 3 (settled mode.Norm u 0)
     taken u = elim (cases_eq u v) [ inl e ↦ inl (refl, e) | inr other ↦ inr (since_none (settled mode.Norm u 0) refl other refl) ]
 
-    -- a word with another value that justifies nothing is a new value
-    late_new : (r : Reading) → r.mode ≡ mode.Norm → r.value ≢ v → goes_up v r.value ≡ false → goes_down v r.value ≡ false
-        → normal_event r v ≡ event.New v
-    late_new r norm other up down = new_neither r v norm other up down small
-
     late_two : (r : Reading) → r.mode ≡ mode.Norm → r.value ≢ v → goes_up v r.value ≡ false → goes_down v r.value ≡ false → r.candidate ≡ v
         → 2 ≤ r.news → ByNew 1 r
     late_two r norm other up down at two =
-        in_third r norm (late_new r norm other up down) (let more = news_more r at (omega arith) in omega arith)
+        in_third r norm (new_neither r v norm other up down small) (let more = news_more v r at (omega arith) in omega arith)
 
     late_one : (r : Reading) → r.mode ≡ mode.Norm → r.value ≢ v → goes_up v r.value ≡ false → goes_down v r.value ≡ false → r.candidate ≡ v
         → r.news ≡ 1 → ByNew 2 r
     late_one r norm other up down at one =
-        let more = news_more r at (omega arith) in
-        step_new 1 r (with_new r v (later r.since)) (in_counted r norm (late_new r norm other up down) (omega arith))
+        let more = news_more v r at (omega arith) in
+        step_new 1 r (with_new r v (later r.since)) (in_counted w v normal carries small r norm (new_neither r v norm other up down small) (omega arith))
         (late_two (with_new r v (later r.since)) norm other up down refl (omega arith))
 
     late : (r : Reading) → r.mode ≡ mode.Norm → r.value ≢ v → goes_up v r.value ≡ false → goes_down v r.value ≡ false → ByNew 3 r
     late r norm other up down =
-        let new = late_new r norm other up down in
+        let new = new_neither r v norm other up down small in
         elim (cases_lt (news_with r v) 3) [
           | inr third ↦ wider 1 3 r (omega arith) (in_third r norm new third)
-          | inl less ↦ (let next = in_counted r norm new less in
+          | inl less ↦ (let next = in_counted w v normal carries small r norm new less in
               elim (cases_lt (news_with r v) 2) [
                 | inr two ↦ wider 2 3 r (omega arith) (step_new 1 r (with_new r v (later r.since)) next
                     (late_two (with_new r v (later r.since)) norm other up down refl two))
                 | inl two ↦ step_new 2 r (with_new r v (later r.since)) next
-                    (late_one (with_new r v (later r.since)) norm other up down refl (let some = some_news r in omega arith))
+                    (late_one (with_new r v (later r.since)) norm other up down refl (let some = some_news v r in omega arith))
               ])
         ]
 
     after_up : (r : Reading) → r.mode ≡ mode.Norm → normal_event r v ≡ event.Up → Lands 1 4 r
     after_up r norm is =
-        step 0 3 r (settled mode.Norm (one_up r.value) 0) (reads mode.Norm r event.Up norm is ∙ norm_up r) (taken (one_up r.value))
+        step 0 3 r (settled mode.Norm (one_up r.value) 0) (reads w v normal carries mode.Norm r event.Up norm is ∙ norm_up r) (taken (one_up r.value))
 
     after_down : (r : Reading) → r.mode ≡ mode.Norm → normal_event r v ≡ event.Down → Lands 1 4 r
     after_down r norm is =
-        step 0 3 r (settled mode.Norm (one_down r.value) 0) (reads mode.Norm r event.Down norm is ∙ norm_down r) (taken (one_down r.value))
+        step 0 3 r (settled mode.Norm (one_down r.value) 0) (reads w v normal carries mode.Norm r event.Down norm is ∙ norm_down r) (taken (one_down r.value))
 
     since_three : (r : Reading) → r.mode ≡ mode.Norm → r.value ≢ v → 3 ≤ r.since → Lands 1 4 r
     since_three r norm other full =

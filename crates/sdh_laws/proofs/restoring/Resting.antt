@@ -8,7 +8,6 @@ use Rattle.sdh_ringmap.specs.Rates.{n_of}
 use Rattle.sdh_ringmap.specs.Arcs.{is_joined, is_clear}
 use Rattle.sdh_ringmap.specs.Places.{neighbour, opposite, span_at}
 use Rattle.sdh_ringmap.specs.declared.Side.{Side}
-use Rattle.sdh_ringmap.proofs.Sides.{neighbour_below}
 use Rattle.sdh_circuits.specs.Provisioned.{Provisioned, arc_of, customer_at}
 use Rattle.sdh_circuits.specs.Provisioning.{AreCircuits, IsInSlots}
 use Rattle.sdh_circuits.specs.declared.End.{End}
@@ -50,7 +49,7 @@ use Rattle.sdh_laws.proofs.carrying.Ways.{layout_run}
 use Rattle.sdh_laws.specs.Converging.Steady.{went, came, brought}
 use Rattle.sdh_laws.specs.Converging.Steady.{StaysSettled}
 use Rattle.sdh_laws.proofs.converging.Runs.{length_run}
-use Rattle.sdh_laws.proofs.converging.Spreading.{two_halves, working_goes, protection_goes, protection_comes}
+use Rattle.sdh_laws.proofs.converging.Spreading.{two_halves, working_goes, protection_goes, protection_comes, inside_of, beside}
 use Rattle.sdh_laws.specs.Restoring.Flowing.{FlowsBehind, IsSilent}
 use Rattle.sdh_laws.proofs.restoring.Flowing.{flows_behind, silent_on}
 use Rattle.sdh_laws.proofs.restoring.Walking.{joined_walk, parted_walk}
@@ -94,12 +93,6 @@ module _ (w : World) (whole : IsWhole w) (form : HasCircuits (layout_of w)) (rs 
   abbrev applied : ℕ → Bool
   applied = is_applied rs
 
-  inside_of : (p : ℕ) → p < n → p < length w.ring.nodes
-  inside_of p h = omega (arith, count w whole.placed)
-
-  beside : (p : ℕ) (d : Side) → neighbour n p d < n
-  beside p d = neighbour_below n p d (let e = whole.placed.ids.enough in omega arith)
-
   -- ---- one span
 
   span_flows : (p : ℕ) (d : Side) (au s v : ℕ) (bytes : ℕ → List ℕ) → p < n → 1 ≤ au → au ≤ n_of w.ring.settings.rate → v ≤ 782
@@ -109,7 +102,7 @@ module _ (w : World) (whole : IsWhole w) (form : HasCircuits (layout_of w)) (rs 
       let i = au - 1 in
       let back : i + 1 ≡ au = omega arith in
       subst (λ a. FlowsBehind (came w p d a) (s + 1) v (λ j. bytes (j - 1))) back
-      (flows_behind w whole p d i (inside_of p h) (omega arith) s v bytes small (uncut p d h free)
+      (flows_behind w whole p d i (inside_of w whole p h) (omega arith) s v bytes small (uncut p d h free)
       (subst (λ a. FlowsBehind (went w (neighbour n p d) (opposite d) a) s v bytes) (sym back) f))
 
   span_silent : (p : ℕ) (d : Side) (au t : ℕ) → p < n → 1 ≤ au → au ≤ n_of w.ring.settings.rate
@@ -118,7 +111,7 @@ module _ (w : World) (whole : IsWhole w) (form : HasCircuits (layout_of w)) (rs 
       let i = au - 1 in
       let back : i + 1 ≡ au = omega arith in
       subst (λ a. IsSilent (came w p d a) (t + 3)) back
-      (silent_on w whole p d i (inside_of p h) (omega arith) t
+      (silent_on w whole p d i (inside_of w whole p h) (omega arith) t
       (subst (λ a. IsSilent (went w (neighbour n p d) (opposite d) a) t) (sym back) s))
 
   module _ (m : ℕ) (low : 1 ≤ m) (high : m ≤ half) where
@@ -136,13 +129,13 @@ module _ (w : World) (whole : IsWhole w) (form : HasCircuits (layout_of w)) (rs 
     over_free s v bytes small p (Working d) h arrives f c =
         let q = neighbour n p d in
         span_flows p d m s v bytes h low (omega (arith, two_halves w.ring.settings.rate)) small f
-        (flows_as _ (went w q (opposite d) m) s v bytes bytes (λ j. went_working q j (opposite d) (beside p d)) (λ j. refl) c)
+        (flows_as _ (went w q (opposite d) m) s v bytes bytes (λ j. went_working q j (opposite d) (beside w whole p d)) (λ j. refl) c)
     over_free s v bytes small p (Protection d) h arrives f c =
         let q = neighbour n p d in
         flows_as (came w p d (half + m)) (brought w p m (Protection d)) (s + 1) v (λ j. bytes (j - 1)) (λ j. bytes (j - 1))
         (λ j. protection_comes w whole p m j d h) (λ j. refl)
         (span_flows p d (half + m) s v bytes h (omega arith) (omega (arith, two_halves w.ring.settings.rate)) small f
-        (flows_as _ (went w q (opposite d) (half + m)) s v bytes bytes (λ j. went_protection q j (opposite d) (beside p d)) (λ j. refl) c))
+        (flows_as _ (went w q (opposite d) (half + m)) s v bytes bytes (λ j. went_protection q j (opposite d) (beside w whole p d)) (λ j. refl) c))
 
     over_silent : (t p : ℕ) (o : Origin) → p < n → IsArrival o
         → (let b = back_from n (settled rs) cs m p o in IsSilent (brought w b.at m b.origin) t → IsSilent (brought w p m o) (t + 3))
@@ -151,12 +144,12 @@ module _ (w : World) (whole : IsWhole w) (form : HasCircuits (layout_of w)) (rs 
     over_silent t p (Working d) h arrives c =
         let q = neighbour n p d in
         span_silent p d m t h low (omega (arith, two_halves w.ring.settings.rate))
-        (silent_as _ (went w q (opposite d) m) t (λ j. went_working q j (opposite d) (beside p d)) c)
+        (silent_as _ (went w q (opposite d) m) t (λ j. went_working q j (opposite d) (beside w whole p d)) c)
     over_silent t p (Protection d) h arrives c =
         let q = neighbour n p d in
         silent_as (came w p d (half + m)) (brought w p m (Protection d)) (t + 3) (λ j. protection_comes w whole p m j d h)
         (span_silent p d (half + m) t h (omega arith) (omega (arith, two_halves w.ring.settings.rate))
-        (silent_as _ (went w q (opposite d) (half + m)) t (λ j. went_protection q j (opposite d) (beside p d)) c))
+        (silent_as _ (went w q (opposite d) (half + m)) t (λ j. went_protection q j (opposite d) (beside w whole p d)) c))
 
     -- ---- walks, counted by spans
 

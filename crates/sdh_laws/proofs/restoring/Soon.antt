@@ -40,7 +40,7 @@ use Rattle.sdh_laws.proofs.carrying.Settles.{each_settled}
 use Rattle.sdh_laws.proofs.hearing.Rounds.{clear_where_it_works}
 use Rattle.sdh_laws.proofs.carrying.Ways.{layout_run}
 use Rattle.sdh_laws.specs.Converging.Steady.{StaysSettled}
-use Rattle.sdh_laws.proofs.converging.Runs.{length_run, run_more}
+use Rattle.sdh_laws.proofs.converging.Runs.{run_more, nodes_run}
 use Rattle.sdh_laws.specs.Restoring.Laws.{ArePortsOwedFrom, PortsAreOwedSoon, UnslippedPortsAreOwedSoon, RingsAreRestoredSoon}
 use Rattle.sdh_laws.specs.Restoring.Laws.{FreeRingsAreRestoredSoon, UnslippedRingsAreRestoredSoon, UnsettledRingsAreRestored}
 use Rattle.sdh_laws.proofs.restoring.Resting.{AreUncut, port_delivers, joined_delivers, parted_delivers}
@@ -59,11 +59,8 @@ module _ (law : RingsSettle) (w : World) (whole : IsWhole w) (form : HasCircuits
   still : StillFrom w f
   still = still_from w whole f free law
 
-  nodes_run : (k : ℕ) → length (run k w).ring.nodes ≡ n
-  nodes_run k = length_run w k ∙ count w whole.placed
-
   spans_are : length rs ≡ n
-  spans_are = length-requests_of (run (f + 3) w) n (nodes_run (f + 3))
+  spans_are = length-requests_of (run (f + 3) w) n (nodes_run w whole (f + 3))
 
   requests_at : (k : ℕ) → requests_of (run (f + 3 + k) w) ≡ rs
   requests_at zero = let e : f + 3 + zero ≡ f + 3 = omega arith in ap (λ j. requests_of (run j w)) e
@@ -89,7 +86,7 @@ module _ (law : RingsSettle) (w : World) (whole : IsWhole w) (form : HasCircuits
 
   settled_u : (k : ℕ) → 1 ≤ k → AreSettled n rs (run k u)
   settled_u k some =
-      subst (AreSettled n rs) (sym (run_more w base k)) (each_settled (run (k + base) w) n rs (nodes_run (k + base)) spans_are
+      subst (AreSettled n rs) (sym (run_more w base k)) (each_settled (run (k + base) w) n rs (nodes_run w whole (k + base)) spans_are
       (states_from (k + base) (omega (arith, late))))
 
   at_rest : StaysSettled u rs

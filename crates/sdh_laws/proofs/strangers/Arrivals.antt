@@ -101,7 +101,7 @@ module _ (w : World) (whole : IsWhole w) (p : ℕ) (h : p < length w.ring.nodes)
   heard_came d k e =
       let next = next_node w whole p in
       let last : (receiving_on d next).brought.last ≡ Some k =
-      heard_last (receiving_on d next).brought k (sym (word_on_is w whole next d) ∙ e) in
+      heard_last (receiving_on d next).brought k (sym (word_on_is next d) ∙ e) in
       let came : (receiving_on d (node_at (round w).ring.nodes p)).brought.last ≡ Some k =
       ap (λ y. (receiving_on d y).brought.last) (nodes_after w whole.placed p h) ∙ last in
       let b = brings w whole p d h in

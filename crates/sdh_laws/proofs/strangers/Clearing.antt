@@ -32,9 +32,10 @@ use Rattle.sdh_laws.specs.Strangers.Vouched.{HoldsAtMost, IsVouched}
 use Rattle.sdh_laws.specs.Strangers.Laws.{HoldsNone, NoneHolds}
 use Rattle.sdh_laws.proofs.strangers.Lags.{steps_few, start_of, place_on, working_lag, protection_lag, AreLags}
 use Rattle.sdh_laws.proofs.strangers.Worlds.{Vouches, vouched_round}
-use Rattle.sdh_laws.proofs.strangers.Vouched.{carried_holds, holds_more, vouches_changed, held_changed, vouched_by, none_held, held_after}
+use Rattle.sdh_laws.proofs.strangers.Vouched.{carried_holds, holds_more, vouches_changed, held_changed, vouched_by, none_held}
 use Rattle.sdh_laws.proofs.strangers.Vouched.{adds_own}
 use Rattle.sdh_laws.proofs.strangers.Keeping.{kept_in, none_in}
+use Rattle.sdh_laws.proofs.hearing.Steady.{one_less}
 
 -- ---- every lag is over after n (n + 1) rounds
 
@@ -154,7 +155,7 @@ module _ (clocks : PortId → ℕ → Clock) where
         → IsClearing (j + 1) (round w)
     clearing_then j w form k tells = record {
       whole = whole_round w k.whole;
-      held = λ p h. (let few = held_after w k.whole (most - j) k.held p h in omega arith);
+      held = λ p h. (let few = one_less w k.whole (most - j) k.held p h in omega arith);
       clears = clears_then j w form k tells;
     }
 

@@ -8,7 +8,6 @@ use Rattle.sdh_ringmap.specs.declared.Side.TheVariants.{West, East}
 use Rattle.sdh_circuits.specs.declared.PortId.{PortId}
 use Rattle.sdh_nodestate.specs.declared.NodeState.{NodeState}
 use Rattle.sdh_nodestate.specs.declared.NodeState.TheVariants as state
-use Rattle.sdh_request.specs.declared.Command.{Command}
 use Rattle.sdh_signal.specs.Laws.{StillRingsAreSettled}
 use Rattle.sdh_payload.specs.Clock.{Clock}
 use Rattle.sdh_node.specs.Receiving.{commanded_by}
@@ -22,9 +21,10 @@ use Rattle.sdh_promise.specs.Changes.{Change, Stretch, rounds_in}
 use Rattle.sdh_promise.specs.Changes.{Fibre, Order, Hold, Slip, Now}
 use Rattle.sdh_world.specs.Changes.{changed, all_changed, after_stretch}
 use Rattle.sdh_world.specs.Laws.{IsChangeOf, AreChangesOf, MayHappen}
+use Rattle.sdh_world.proofs.Histories.{length-placed}
 use Rattle.sdh_rounds.specs.Runs as any_run
 use Rattle.sdh_laws.proofs.hearing.Staying.{world_low, world_high, world_later}
-use Rattle.sdh_laws.proofs.hearing.Changes.{each_at_place, sending_commanded, LeavesSides, held_leaves, slips_leave, with_node, whole_changed}
+use Rattle.sdh_laws.proofs.hearing.Changes.{each_at_place, held_leaves, slips_leave, with_node, whole_changed}
 use Rattle.sdh_laws.specs.Carrying.Windows.{layout_of, HasCircuits}
 use Rattle.sdh_laws.proofs.carrying.Ways.{layout_run}
 use Rattle.sdh_laws.proofs.carrying.Settles.{layout_all}
@@ -32,17 +32,12 @@ use Rattle.sdh_laws.specs.Strangers.Owners.{AreClocksOf}
 use Rattle.sdh_laws.specs.Strangers.Vouched.{IsAside}
 use Rattle.sdh_laws.specs.Strangers.Laws.{HoldsAside, EachMay, IsNoPass, HoldsNoPass, HeldBesidePassing}
 use Rattle.sdh_laws.proofs.strangers.Lags.{source_in}
-use Rattle.sdh_laws.proofs.strangers.Vouched.{Anyhow, each_there, vouches_changed}
+use Rattle.sdh_laws.proofs.strangers.Vouched.{Anyhow, each_there, vouches_changed, word_commanded, word_left as word_stays}
 use Rattle.sdh_laws.proofs.strangers.Shields.{Shields, AllShielded}
 use Rattle.sdh_laws.proofs.strangers.Windows.{window_shields}
 use Rattle.sdh_laws.proofs.strangers.Safe.{MayMiss, stands, switched, Misses, IsSafe, safe_after}
 
 -- ---- changes leave shields
-
-size_at : (f : Node → Node) (p : ℕ) (ns : List Node) → length (at_place p f ns) ≡ length ns
-size_at f p [] = refl
-size_at f zero (n ∷ ns) = refl
-size_at f (suc p) (n ∷ ns) = (let e = size_at f p ns in omega arith)
 
 -- where no node is one stands aside
 pub node_beyond : (xs : List Node) (p : ℕ) → length xs ≤ p → IsAside (node_at xs p).state
@@ -66,19 +61,13 @@ module _ (clocks : PortId → ℕ → Clock) where
 
     shield_node : (a b x : ℕ) (e : Side) → x < length ns → Shields clocks a b w x e → Shields clocks a b (with_node p f w) x e
     shield_node a b x e hx s =
-        let size = size_at f p ns in record {
+        let size = length-placed f p ns in record {
           says = λ z. ap (source_in w.ring.ids) (words_left e x (omega arith)) ∙ s.says z;
           words =
               λ q g h less from. s.words q g (omega arith) less (ap (source_in w.ring.ids) (sym (words_left e q h)) ∙ from);
           ends = λ q g h less is. s.ends q g (omega arith) less (sym (states_left q h) ∙ is);
           content = λ q m line h less there low high. s.content q m line (omega arith) less there low high;
         }
-
-  word_commanded : (d e : Side) (c : Command) (n : Node) → word_of e (at_receiving d (commanded_by c) n) ≡ word_of e n
-  word_commanded d e c n = ap (λ x. x.word) (sending_commanded d e c n)
-
-  word_stays : (f : Node → Node) → LeavesSides f → (e : Side) (n : Node) → word_of e (f n) ≡ word_of e n
-  word_stays f leaves e n = ap (λ x. x.word) (leaves.sending e n)
 
   shield_changed : (c : Change) (w : World) (a b x : ℕ) (e : Side) → x < length w.ring.nodes → Shields clocks a b w x e
       → Shields clocks a b (changed c w) x e
@@ -103,21 +92,21 @@ module _ (clocks : PortId → ℕ → Clock) where
   left_changed (Fibre p d condition) w = record { ids = refl; size = refl; states = λ q h. refl }
   left_changed (Order p d c) w =
       let f = at_receiving d (commanded_by c) in
-      let size = size_at f p w.ring.nodes in record {
+      let size = length-placed f p w.ring.nodes in record {
         ids = refl;
         size = size;
         states = λ q h. states_left f (λ n. refl) (λ g n. word_commanded d g c n) p w q (omega arith);
       }
   left_changed (Hold p turns) w =
       let f = held_for turns in
-      let size = size_at f p w.ring.nodes in record {
+      let size = length-placed f p w.ring.nodes in record {
         ids = refl;
         size = size;
         states = λ q h. states_left f (λ n. refl) (word_stays f (held_leaves turns)) p w q (omega arith);
       }
   left_changed (Slip id turn many) w =
       let f = slips_at id turn many in
-      let size = size_at f (place_of_port w.ring id) w.ring.nodes in record {
+      let size = length-placed f (place_of_port w.ring id) w.ring.nodes in record {
         ids = refl;
         size = size;
         states = λ q h. states_left f (λ n. refl) (word_stays f (slips_leave id turn many)) (place_of_port w.ring id) w q (omega arith);

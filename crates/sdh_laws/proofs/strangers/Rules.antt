@@ -15,12 +15,13 @@ use Rattle.sdh_ringmap.specs.declared.Side.{Side}
 use Rattle.sdh_ringmap.specs.declared.Side.TheVariants.{West, East}
 use Rattle.sdh_ringmap.proofs.Sides.{opposite_twice}
 use Rattle.sdh_nodestate.specs.declared.NodeState.TheVariants as state
-use Rattle.sdh_nodestate.specs.Rules.{Scene, own_id, weight, weight_of, long, long_word, relayed, far, chosen, Choice, own_short, own_long}
+use Rattle.sdh_nodestate.specs.Rules.{Scene, own_id, weight, weight_of, long, long_word, relayed, far, chosen, own_long}
 use Rattle.sdh_nodestate.specs.Rules.{relay, rest, is_relay, word, switches, is_below, is_about, state_by, state_after}
 use Rattle.sdh_nodestate.specs.Urgency.{weight_on}
 use Rattle.sdh_nodestate.proofs.Urgency.{first_words_are_sent}
 use Rattle.sdh_signal.proofs.OneNode.{switch_top, relayed_from, long_from, word_relay, choose_long_top, choose_long}
 use Rattle.sdh_signal.proofs.Views.{Switch}
+use Rattle.sdh_signal.proofs.Tracing.{relay_of}
 
 -- ---- the state by what is switched
 
@@ -68,19 +69,13 @@ switched_one s East f h =
     east_by (switches s West) (switches s East) (is_relay (chosen s West)) (is_relay (chosen s East)) (far s West) (far s East) f h in
     record { this = is.1; other = is.0; end = is.2 }
 
-relay_by : (c : Choice) → is_relay c ≡ true → c ≡ relay
-relay_by relay h = refl
-relay_by own_short h = cc
-relay_by own_long h = cc
-relay_by rest h = cc
-
 pub passes_relays : (s : Scene) (d : Side) → state_after s ≡ state.PassThrough tt → chosen s d ≡ relay
 unfolding state_after
 passes_relays s West h =
-    relay_by (chosen s West) (pass_by (switches s West) (switches s East) (is_relay (chosen s West)) (is_relay (chosen s East)) (far s West)
+    relay_of (chosen s West) (pass_by (switches s West) (switches s East) (is_relay (chosen s West)) (is_relay (chosen s East)) (far s West)
     (far s East) h).0
 passes_relays s East h =
-    relay_by (chosen s East) (pass_by (switches s West) (switches s East) (is_relay (chosen s West)) (is_relay (chosen s East)) (far s West)
+    relay_of (chosen s East) (pass_by (switches s West) (switches s East) (is_relay (chosen s West)) (is_relay (chosen s East)) (far s West)
     (far s East) h).1
 
 -- ---- a relayed word is the long word heard on the other side
@@ -204,7 +199,7 @@ pub record IsFar (s : Scene) (d : Side) (f : Pos) : Type 0 where
   pub found : found_at s.ids k.from ≡ Some f
   pub inside : f.0 < length s.ids
 
-found_inside : (ids : List ℕ) (id : ℕ) (f : Pos) (o : Option ℕ) → position (λ x. x == id) ids ≡ o
+pub found_inside : (ids : List ℕ) (id : ℕ) (f : Pos) (o : Option ℕ) → position (λ x. x == id) ids ≡ o
     → option_map (λ p. record { 0 = p }) o ≡ Some f → f.0 < length ids
 found_inside ids id f None e h = cc
 found_inside ids id f (Some i) e h =

@@ -42,6 +42,7 @@ use Rattle.sdh_laws.proofs.strangers.Windows.{window_vouched}
 use Rattle.sdh_laws.proofs.strangers.Quiet.{safe_in}
 use Rattle.sdh_laws.proofs.strangers.Keeping.{none_aside, layout_in, kept_run, kept_in}
 use Rattle.sdh_laws.proofs.strangers.Clearing.{clearing_in, cleared}
+use Rattle.sdh_laws.proofs.hearing.Stretches.{ran_at}
 
 pub vouched_rings_stay : VouchedRingsStay
 vouched_rings_stay = record {
@@ -153,9 +154,6 @@ module _ (s : Settings) (ids : List ℕ) (circuits : Provisioning) (f : Fibres) 
   begins : IsVouched clocks w
   begins = vouched_new clocks s ids circuits f are honest
 
-  ran_at : (t : ℕ) → t ≤ rounds_in ss → (world_in ss w t).ring.rounds ≡ t
-  ran_at t h = (left_in ss w t h).rounds ∙ (let e : 0 + t ≡ t = omega arith in e)
-
   pub tells : (t : ℕ) → t < rounds_in ss → AreClocksOf clocks (world_in ss w t).ring
   tells t h i c there e =
       let q = port_id i e in
@@ -163,7 +161,7 @@ module _ (s : Settings) (ids : List ℕ) (circuits : Provisioning) (f : Fibres) 
       let has : HasPortIn w.ring q = port_is_there w begins.whole i c e get (end_inside (length ids) (n_of s.rate / 2) cs ring i c get e) in
       clocks_go_on.history ss w q t has h
       ∙ ap (λ k. clock_in q ss k t) (clocks_go_on.new s ids circuits q has)
-      ∙ ap (clocks q) (sym (ran_at t (omega arith)))
+      ∙ ap (clocks q) (sym (ran_at s ids circuits f ss t (omega arith)))
 
   none_met : (t : ℕ) → t < rounds_in ss → IsVouched clocks (world_in ss w t) → NoneMeetsAStranger clocks (round (world_in ss w t)).ring
   none_met t h k =

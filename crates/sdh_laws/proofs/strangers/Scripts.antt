@@ -137,9 +137,16 @@ pub snoc : (x : Stretch) (xs : List Stretch) → (before : List Stretch) × (las
 snoc x [] = ([], x, refl)
 snoc x (y ∷ xs) = (let parted = snoc y xs in (x ∷ parted.0, parted.1, ap (λ ss. x ∷ ss) parted.2))
 
-not_none : (earlier : List Stretch) (last : Stretch) → earlier ++ last ∷ [] ≡ [] → ⊥
+pub not_none : (earlier : List Stretch) (last : Stretch) → earlier ++ last ∷ [] ≡ [] → ⊥
 not_none [] last z = cc
 not_none (s ∷ earlier) last z = cc
+
+-- the last stretch but one ended with a window
+pub ends_behind : (before : List Stretch) (last next : Stretch) (w : World) → EndQuietly w (before ++ last ∷ next ∷ [])
+    → EndsWindow (course (all_changed last.changes (after_stretches before w))) last.rounds
+ends_behind [] last next w ended = ended.0
+ends_behind (x ∷ []) last next w ended = ended.1.0
+ends_behind (x ∷ y ∷ before) last next w ended = ends_behind (y ∷ before) last next (after_stretch x w) ended.1
 
 module _ (law : StillRingsAreSettled) (s : Settings) (ids : List ℕ) (circuits : Provisioning) (f : Fibres) (may : MayStart s ids f) where
   abbrev from : World
@@ -176,12 +183,6 @@ module _ (law : StillRingsAreSettled) (s : Settings) (ids : List ℕ) (circuits 
         )
 
   -- ---- a step after a quiet window
-
-  ends_behind : (before : List Stretch) (last next : Stretch) (w : World) → EndQuietly w (before ++ last ∷ next ∷ [])
-      → EndsWindow (course (all_changed last.changes (after_stretches before w))) last.rounds
-  ends_behind [] last next w ended = ended.0
-  ends_behind (x ∷ []) last next w ended = ended.1.0
-  ends_behind (x ∷ y ∷ before) last next w ended = ends_behind (y ∷ before) last next (after_stretch x w) ended.1
 
   module _ (ring : AreCircuits n (n_of s.rate / 2) circuits.circuits) (before : List Stretch) (last next : Stretch) (ss : List Stretch)
       (is : ss ≡ before ++ last ∷ next ∷ []) (happen : MayHappen from ss) (ended : EndQuietly from ss)

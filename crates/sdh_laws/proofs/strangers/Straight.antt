@@ -63,7 +63,7 @@ use Rattle.sdh_laws.proofs.hearing.Rounds.{whole_round}
 use Rattle.sdh_laws.proofs.hearing.Changes.{each_new, each_at_place, new_worlds_are_whole, sending_commanded, held_leaves, slips_leave}
 use Rattle.sdh_laws.proofs.hearing.Changes.{with_node, whole_changed}
 use Rattle.sdh_laws.proofs.hearing.Staying.{left_in, world_low, world_high, world_later}
-use Rattle.sdh_laws.proofs.hearing.Stretches.{requests_are_the_historys}
+use Rattle.sdh_laws.proofs.hearing.Stretches.{requests_are_the_historys, ran_at}
 use Rattle.sdh_laws.specs.Carrying.Windows.{value_at}
 use Rattle.sdh_terminal.proofs.Found.{port-found}
 use Rattle.sdh_laws.proofs.carrying.Connections.{node_of, state_in_turn}
@@ -81,6 +81,15 @@ use Rattle.sdh_laws.proofs.strangers.Arc.{sent, HasCome, IsTuned, IsUndisturbed,
 use Rattle.sdh_laws.proofs.converging.HealthyPointers.{same_all}
 
 -- ---- a clock by its history
+
+pub small_by : (f : ChunkForm) (c : Clock) → c.value ≤ 782 → (after_form f c).value ≤ 782
+small_by Plain c h = h
+small_by Short c h = omega arith
+small_by Long c h = omega arith
+
+pub small_ticked : (c : Clock) → c.value ≤ 782 → (ticked c).value ≤ 782
+unfolding ticked
+small_ticked c h = small_by (next_form c) c h
 
 module _ (q : PortId) where
   -- two clocks have the same pointer value, and may justify after the same number of rounds
@@ -165,15 +174,6 @@ module _ (q : PortId) where
             subst (λ x. IsAlike (ticked x) (clock_in q (s ∷ ss) c (t + 1))) (sym (clock_high s ss c t high))
             (subst (IsAlike (ticked (clock_in q ss b (t - s.rounds)))) (sym later) (goes_alike ss b (t - s.rounds))))
       ]
-
-  small_by : (f : ChunkForm) (c : Clock) → c.value ≤ 782 → (after_form f c).value ≤ 782
-  small_by Plain c h = h
-  small_by Short c h = omega arith
-  small_by Long c h = omega arith
-
-  small_ticked : (c : Clock) → c.value ≤ 782 → (ticked c).value ≤ 782
-  unfolding ticked
-  small_ticked c h = small_by (next_form c) c h
 
   module _ (ss : List Stretch) (c : Clock) (first : c.rest ≡ 4) (small : c.value ≤ 782) where
     small_in : (r : ℕ) → (clock_in q ss c r).value ≤ 782
@@ -561,9 +561,6 @@ module _ (s : Settings) (ids : List ℕ) (circuits : Provisioning) (f : Fibres) 
     frames = λ k r line few ran there. absurd (omega arith);
   }
 
-  ran_at : (t : ℕ) → t ≤ rounds_in ss → (world_in ss w t).ring.rounds ≡ t
-  ran_at t h = (left_in ss w t h).rounds ∙ (let e : 0 + t ≡ t = omega arith in e)
-
   clock_then : (t : ℕ) → t < rounds_in ss → clock_at (world_in ss w t).ring id ≡ clock t
   clock_then t h =
       let has : HasPortIn w.ring id = port_is_there w whole i c (near_end d) get (low_end (near_end d)) in
@@ -579,7 +576,7 @@ module _ (s : Settings) (ids : List ℕ) (circuits : Provisioning) (f : Fibres) 
             subst (λ (l : List ℕ). (p : ℕ) (e : Side) → p < length l → holds (length l) c (span_at (length l) p e) ≡ true
             → (receiving_on e (node_at (round x).ring.nodes p)).request ≡ Nr) (sym same)
             (λ p e low held. (requests_are_the_historys s ids circuits f ss start_is happen).each p e t low h ∙ asks t p e h low held);
-        times = is ∙ ap clock (sym (ran_at t (omega arith)));
+        times = is ∙ ap clock (sym (ran_at s ids circuits f ss t (omega arith)));
       }
 
   good_at : (t : ℕ) → t ≤ rounds_in ss → Good (world_in ss w t)
@@ -594,7 +591,7 @@ module _ (s : Settings) (ids : List ℕ) (circuits : Provisioning) (f : Fibres) 
   far_delivers t h =
       let x = world_in ss w t in
       let same = (left_in ss w t (omega arith)).ids in
-      let ran = ran_at t (omega arith) in
+      let ran = ran_at s ids circuits f ss t (omega arith) in
       delivers i c d clock source x (good_at t (omega arith)) (tells t h)
       ∙ ap₂ (λ r l. if nat_lt r (arc_length (length l) c) then silent else owed_then (r - arc_length (length l) c)) ran same
 

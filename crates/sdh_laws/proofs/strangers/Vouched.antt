@@ -97,6 +97,12 @@ module _ (cs : List Provisioned) (clocks : PortId → ℕ → Clock) where
 
 -- ---- changes
 
+pub word_commanded : (d e : Side) (c : Command) (n : Node) → word_of e (at_receiving d (commanded_by c) n) ≡ word_of e n
+word_commanded d e c n = ap (λ x. x.word) (sending_commanded d e c n)
+
+pub word_left : (f : Node → Node) → LeavesSides f → (e : Side) (n : Node) → word_of e (f n) ≡ word_of e n
+word_left f leaves e n = ap (λ x. x.word) (leaves.sending e n)
+
 module _ (Own : ℕ → Option PortId → Au → Type 0) where
   -- a change of one node that leaves its words
   vouches_node : (f : Node → Node) → ((d : Side) (n : Node) → word_of d (f n) ≡ word_of d n) → (p : ℕ) (w : World) → Vouches Own w
@@ -108,12 +114,6 @@ module _ (Own : ℕ → Option PortId → Au → Type 0) where
         (spoken_of w.ring.ids w.ring.circuits.circuits m (opposite d) j) (opposite d) (au_in w (slots_of (layout_of w) + m) line))
         (sym (leaves d n)) (x m d line there low high)) p w.ring.nodes k.protection;
   }
-
-  word_commanded : (d e : Side) (c : Command) (n : Node) → word_of e (at_receiving d (commanded_by c) n) ≡ word_of e n
-  word_commanded d e c n = ap (λ x. x.word) (sending_commanded d e c n)
-
-  word_left : (f : Node → Node) → LeavesSides f → (e : Side) (n : Node) → word_of e (f n) ≡ word_of e n
-  word_left f leaves e n = ap (λ x. x.word) (leaves.sending e n)
 
   -- no change touches a frame or a word
   pub vouches_changed : (c : Change) (w : World) → Vouches Own w → Vouches Own (changed c w)
@@ -242,17 +242,6 @@ pub state_kept : (w : World) → IsWhole w → (p : ℕ) → p < length w.ring.n
 state_kept w whole p low held =
     ap (λ (y : Node). y.state) (nodes_after w whole.placed p low) ∙ state_is w.ring.moment (informed w p)
     ∙ ap (λ (b : Bool). if b then (informed w p).state else state_after (scene_in (node_round w.ring.moment (informed w p)).0)) held
-
--- a round takes each node one of the turns that it misses
-pub held_after : (w : World) → IsWhole w → (most : ℕ) → AtEach (λ p n. n.held ≤ most) w.ring.nodes
-    → AtEach (λ p n. n.held ≤ most - 1) (round w).ring.nodes
-unfolding any_round.round any_round.round_with
-held_after w whole most k p h =
-    let low : p < length w.ring.nodes = omega (arith, length-after w) in
-    let left : (node_at (round w).ring.nodes p).held ≡ (node_at w.ring.nodes p).held - 1 =
-    ap (λ (n : Node). n.held) (nodes_after w whole.placed p low) ∙ turns_left w.ring.moment (informed w p) in
-    let few = k p low in
-    omega arith
 
 -- after a round only nodes that stand aside miss turns, where that was so before it
 aside_after : (w : World) → IsWhole w → AtEach (λ p n. MissesAside n) w.ring.nodes → AtEach (λ p n. MissesAside n) (round w).ring.nodes

@@ -35,11 +35,13 @@ use Rattle.sdh_laws.specs.Strangers.Owners.{AreClocksOf}
 use Rattle.sdh_laws.specs.Strangers.Vouched.{streams_to, spoken_of, HoldsAtMost, au_in, IsVouched}
 use Rattle.sdh_laws.proofs.strangers.Lags.{steps, steps_few}
 use Rattle.sdh_laws.proofs.strangers.Worlds.{sent_bears}
-use Rattle.sdh_laws.proofs.strangers.Vouched.{carried_holds, held_after}
+use Rattle.sdh_laws.proofs.strangers.Vouched.{carried_holds}
 use Rattle.sdh_laws.proofs.strangers.Shields.{Shields, AllShielded}
 use Rattle.sdh_laws.proofs.strangers.Shielded.{grown}
 use Rattle.sdh_laws.proofs.strangers.Steady.{IsSteady, Came, came_none, came_next, working_sent, protection_sent, working_walk, protection_walk}
 use Rattle.sdh_laws.proofs.strangers.Steady.{EndsBefore, TheirsSent, theirs_none, theirs_next}
+use Rattle.sdh_laws.proofs.converging.Runs.{nodes_run}
+use Rattle.sdh_laws.proofs.hearing.Steady.{one_less}
 
 module _ (clocks : PortId → ℕ → Clock) (law : StillRingsAreSettled) (v : World) (form : HasCircuits (layout_of v)) (whole : IsWhole v) (last : ℕ)
     (ends : EndsWindow (course v) last) (tells : (i : ℕ) → i < last → AreClocksOf clocks (run i v).ring) where
@@ -51,9 +53,6 @@ module _ (clocks : PortId → ℕ → Clock) (law : StillRingsAreSettled) (v : W
 
   ids_are : (j : ℕ) → (run j v).ring.ids ≡ v.ring.ids
   ids_are j = (left_run j v).ids
-
-  many_nodes : (j : ℕ) → length (run j v).ring.nodes ≡ n
-  many_nodes j = count (run j v) (whole_run v j whole).placed ∙ ap length (ids_are j)
 
   long : 3 * n ≤ last
   long = let e = ap length (ids_are last) in let l = ends.long in omega arith
@@ -119,7 +118,7 @@ module _ (clocks : PortId → ℕ → Clock) (law : StillRingsAreSettled) (v : W
   size_u = ap length (ids_are j)
 
   spans : length rs ≡ length u.ring.ids
-  spans = length-requests_of (run last v) n (many_nodes last) ∙ sym size_u
+  spans = length-requests_of (run last v) n (nodes_run v whole last) ∙ sym size_u
 
   inhabited : 0 < length u.ring.ids
   inhabited = omega (arith, size_u, enough)
@@ -132,7 +131,7 @@ module _ (clocks : PortId → ℕ → Clock) (law : StillRingsAreSettled) (v : W
 
   none_left : (p : ℕ) → p < length (round u).ring.nodes → (node_at (round u).ring.nodes p).held ≡ 0
   none_left p h =
-      let left = held_after u s.whole 0 (λ q low. not_held (node_at u.ring.nodes q) (s.free q low)) p h in omega arith
+      let left = one_less u s.whole 0 (λ q low. not_held (node_at u.ring.nodes q) (s.free q low)) p h in omega arith
     where
       not_held : (n : Node) → is_held n ≡ false → n.held ≤ 0
       not_held n free = elim (cases_lt 0 n.held) [
@@ -170,7 +169,7 @@ module _ (clocks : PortId → ℕ → Clock) (law : StillRingsAreSettled) (v : W
     stays = sym (settled_at law v whole last ends last (omega (arith, enough)) (omega arith) x hx) ∙ is
 
     inside : (j : ℕ) → x < length (run j v).ring.nodes
-    inside j = omega (arith, many_nodes j)
+    inside j = omega (arith, nodes_run v whole j)
 
     switched_in : (j : ℕ) → last < suc j + 3 * n → j < last → (node_at (round (run j v)).ring.nodes x).state ≡ Switch (opposite e) f
     switched_in j low high = states_in j low high x (omega (arith, ap length (ids_are j))) ∙ stays
@@ -201,7 +200,7 @@ module _ (clocks : PortId → ℕ → Clock) (law : StillRingsAreSettled) (v : W
 
     end_at : EndsBefore clocks rs x e f stays n
     end_at q g h z =
-        let low : q < length (run last v).ring.nodes = omega (arith, many_nodes last) in
+        let low : q < length (run last v).ring.nodes = omega (arith, nodes_run v whole last) in
         let same = ap length (ids_are last) in
         let few = steps_few n (omega (arith, enough)) e x q in
         subst (λ a. (g.0 < a) × (steps a e x g.0 < steps a e x q)) same
@@ -250,6 +249,6 @@ module _ (clocks : PortId → ℕ → Clock) (law : StillRingsAreSettled) (v : W
 
   pub window_shields : AllShielded clocks (run last v)
   window_shields x e f h is =
-      let size = many_nodes last in
+      let size = nodes_run v whole last in
       subst (λ (ids : List ℕ). Shields clocks (length ids) (length ids) (run last v) x e) (sym (ids_are last))
       (shield_last x e f (omega arith) is)

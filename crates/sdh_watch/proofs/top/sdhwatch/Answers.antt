@@ -12,11 +12,10 @@ use Rattle.sdh_shell.proofs.Asked.{is_asked, not_asked, no_run, asked_is}
 use Rattle.sdh_shell.proofs.Told.{told_all}
 use Rattle.sdh_owed.specs.Plans.{world_of}
 use Rattle.sdh_scripts.specs.Outcome.{Answers, HasRead, MayEnd, told}
-use Rattle.sdh_scripts.specs.Headline.{Shows, AlwaysSettles}
 use Rattle.sdh_scripts.proofs.Stages.{reads_all}
 use Rattle.sdh_scripts.proofs.Promises.{promised, shows, settles, ends_as}
 use Rattle.sdh_watch.specs.Plans.{ran_of, ShowsClean}
-use Rattle.sdh_watch.specs.Headline.{asked, watching, IsNumberOf, EndsAsItRuns}
+use Rattle.sdh_watch.specs.Headline.{asked, watching}
 use Rattle.sdh_watch.proofs.Deeds.{run_alone, never_writes}
 use Rattle.sdh_watch.proofs.Numbers.{is_done, is_usage}
 use Rattle.sdh_watch.proofs.top.sdhwatch.Goals as goal
@@ -42,55 +41,35 @@ returns-clause-outcome g c =
 
 pub returns-clause-owed : goal.returns-clause-owed
 returns-clause-owed g c = λ run honest. (
-    let means = g.P.Plant.fibres in
-    let f = means c.args.plant.now in
-    let left = means c.call.new.plant in
-    let reads : Counts = record { before = g.R.Source.faults c.args.source.now; after = g.R.Source.faults c.call.new.source } in
-    let calls : Counts = record { before = g.P.Plant.faults c.args.plant.now; after = g.P.Plant.faults c.call.new.plant } in
-    let old = g.W.Sink.written c.args.sink.now in
-    let new = g.W.Sink.written c.call.new.sink in
-    promised watching tt f left (asked (words_of c.args.words.now)) reads calls (g.R.Source.left c.args.source.now) c.call.result old new
-    (λ bytes. IsNumberOf c.number.result (λ how. Shows watching tt ShowsClean bytes how old new)) (is_asked (words_of c.args.words.now) run)
+    promised watching tt _ _ (asked (words_of c.args.words.now)) _ _ (g.R.Source.left c.args.source.now) c.call.result _ _
+    _ (is_asked (words_of c.args.words.now) run)
     (λ bytes x. (
       c.call.result,
       c.number.ensures,
-      shows watching tt f left reads calls bytes c.call.result old new x refl ShowsClean run_alone
+      shows watching tt _ _ _ _ bytes c.call.result _ _ x refl ShowsClean run_alone
           (λ plan told end came. came.owed honest),
     )) c.call.ensures.outcome)
 
 pub returns-clause-settles : goal.returns-clause-settles
 returns-clause-settles g c = λ run honest. (
-    let means = g.P.Plant.fibres in
-    let f = means c.args.plant.now in
-    let left = means c.call.new.plant in
-    let reads : Counts = record { before = g.R.Source.faults c.args.source.now; after = g.R.Source.faults c.call.new.source } in
-    let calls : Counts = record { before = g.P.Plant.faults c.args.plant.now; after = g.P.Plant.faults c.call.new.plant } in
-    let old = g.W.Sink.written c.args.sink.now in
-    let new = g.W.Sink.written c.call.new.sink in
-    promised watching tt f left (asked (words_of c.args.words.now)) reads calls (g.R.Source.left c.args.source.now) c.call.result old new
-    (λ bytes. IsNumberOf c.number.result (λ how. AlwaysSettles bytes how)) (is_asked (words_of c.args.words.now) run)
+    promised watching tt _ _ (asked (words_of c.args.words.now)) _ _ (g.R.Source.left c.args.source.now) c.call.result _ _
+    _ (is_asked (words_of c.args.words.now) run)
     (λ bytes x. (
       c.call.result,
       c.number.ensures,
-      settles watching tt f left reads calls bytes c.call.result old new x refl run_alone never_writes
+      settles watching tt _ _ _ _ bytes c.call.result _ _ x refl run_alone never_writes
           (λ plan told end came. came.settles honest),
     )) c.call.ensures.outcome)
 
 pub returns-clause-unsettled : goal.returns-clause-unsettled
 returns-clause-unsettled g c = λ run. (
-    let means = g.P.Plant.fibres in
-    let f = means c.args.plant.now in
-    let left = means c.call.new.plant in
-    let reads : Counts = record { before = g.R.Source.faults c.args.source.now; after = g.R.Source.faults c.call.new.source } in
-    let calls : Counts = record { before = g.P.Plant.faults c.args.plant.now; after = g.P.Plant.faults c.call.new.plant } in
-    let old = g.W.Sink.written c.args.sink.now in
-    let new = g.W.Sink.written c.call.new.sink in
-    promised watching tt f left (asked (words_of c.args.words.now)) reads calls (g.R.Source.left c.args.source.now) c.call.result old new
-    (λ bytes. IsNumberOf c.number.result (λ how. EndsAsItRuns bytes f how)) (is_asked (words_of c.args.words.now) run)
+    let f = g.P.Plant.fibres c.args.plant.now in
+    promised watching tt f _ (asked (words_of c.args.words.now)) _ _ (g.R.Source.left c.args.source.now) c.call.result _ _
+    _ (is_asked (words_of c.args.words.now) run)
     (λ bytes x. (
       c.call.result,
       c.number.ensures,
-      λ plan tells h known. ends_as watching tt f left reads calls bytes c.call.result old new x refl run_alone never_writes
+      λ plan tells h known. ends_as watching tt f _ _ _ bytes c.call.result _ _ x refl run_alone never_writes
           (λ plan. Knows (world_of plan f).fibres) (λ plan. (ran_of plan f).ending)
           (λ plan told end came knows. elim (came.known knows) [ inl done ↦ inl done.end_is | inr cut ↦ inr cut.0 ])
           plan c.call.result tells refl h known,

@@ -1,9 +1,9 @@
 use Rattle.std.proofs.Common.{◌≡◌, ◌∙◌, ◌++◌, Some, sym, ap, subst}
+use Rattle.std.proofs.lemmas.Option.{same_Some}
 use Rattle.std.specs.Prelude.{slice_get}
 use Rattle.sdh_circuits.specs.Provisioning.{Provisioning}
 use Rattle.sdh_circuits.specs.Provisioned.{Provisioned}
 use Rattle.sdh_verdicts.specs.Verdicts.{hops_of}
-use Rattle.sdh_verdicts.proofs.Same.{some_same}
 use Rattle.sdh_whatif_cli.specs.Counting.{fate_of}
 use Rattle.sdh_whatif_cli.specs.Lines.{before_fate, fate_cell}
 use Rattle.sdh_whatif_cli.proofs.Parts.{onto}
@@ -18,7 +18,7 @@ returns-clause-text c = λ case circuit are is. (
     let plan = c.args.plan.now in
     let got : slice_get plan.circuits c.args.number ≡ Some c.get.result.now =
     subst (λ (v : Provisioning). slice_get v.circuits c.args.number ≡ Some c.get.result.now) c.circuits.ensures c.get.ensures in
-    let one : c.get.result.now ≡ circuit = some_same c.get.result.now circuit (sym got ∙ is) in
+    let one : c.get.result.now ≡ circuit = same_Some c.get.result.now circuit (sym got ∙ is) in
     let fate = c.fate_of-fate.ensures case circuit are is in
     let hops = c.told_hops-hops.ensures case circuit are.applied is in
     onto c.args.line.now (before_fate f circuit.name) (fate_cell f (fate_of plan case circuit) (hops_of plan case circuit))

@@ -1,7 +1,8 @@
 use Rattle.std.proofs.Common.{◌≡◌, ℕ, ◌*◌, ◌/◌, ◌<◌, ◌⊎◌, refl, arith}
 use Rattle.sdh_interchange.specs.Passes.{byte_by_source}
-use Rattle.sdh_interchange.proofs.ByBytes.{by_rate, picked-next}
+use Rattle.sdh_interchange.proofs.ByBytes.{picked-next}
 use Rattle.sdh_interchange.proofs.pass.Pass.choose.Goals as goal
+use Rattle.sdh_frame.proofs.ByColumns.{by_rate}
 
 pub loop-r-init : goal.loop-r-init
 loop-r-init g c = record {
