@@ -1,10 +1,10 @@
 -- Room for what the ports of the nodes of a ring deliver, while calls and rounds go on.
-use Rattle.std.proofs.Common.{◌≡◌, ℕ, zero, suc, ◌+◌, ◌<◌, ◌≤◌, List, [], ◌∷◌, ◌++◌, length, drop, map, get_or, refl, ap, sym, subst, ◌∙◌, arith}
+use Rattle.std.proofs.Common.{◌≡◌, ℕ, zero, suc, ◌+◌, ◌<◌, ◌≤◌, List, [], ◌∷◌, ◌++◌, length, drop, map, get_or, refl, ap, sym, ◌∙◌, arith}
 use Rattle.std.specs.Prelude.{Some, slice_get}
 use Rattle.std.specs.List.{range_with_len}
 use Rattle.std.proofs.Math.ListN.{drop_of_length-le, length-set, set}
 use Rattle.std.proofs.Math.Seq.{map-set_same}
-use Rattle.std.proofs.lemmas.List.{length-append, length-map, get_or-map}
+use Rattle.std.proofs.lemmas.List.{length-append, length-map, get_or-map, get_or_default}
 use Rattle.std.proofs.lemmas.Option.{get_or_from_slice_get, slice_get_within}
 use Rattle.std.proofs.lemmas.Simd.{map-map}
 use Rattle.sdh_basics.specs.Cells.{cells}
@@ -29,7 +29,7 @@ use Rattle.sdh_world.specs.Fixed.{Fixed, fixed}
 use Rattle.sdh_world.proofs.Keeping.{fixed_with, fixed_next, all_commanded, all_held, all_slipped}
 use Rattle.sdh_ring.specs.Observed.{RanOne}
 use Rattle.sdh_outage_cli.specs.Ports.{ports_in}
-use Rattle.sdh_outage_cli.specs.Rooms.{AreRooms, ports_at}
+use Rattle.sdh_outage_cli.specs.Rooms.{ports_at}
 use Rattle.sdh_outage_cli.proofs.Holding.{rest_from}
 
 -- ---- ports are counted
@@ -87,31 +87,35 @@ pub room_at : (rooms : List (List Outlet)) (k : ℕ) (d : List Outlet) → map l
 room_at rooms k d sized low =
     sym (get_or-map length rooms k d 0 low) ∙ ap (λ l. get_or l k 0) sized ∙ get_or-cells (λ j. j) (length rooms) k 0 low
 
-pub count_at : (r : HeldRing) (counts : List ℕ) (at : ℕ) (n : Node) → counts ≡ ports_in r → slice_get r.nodes at ≡ Some n
+count_at : (r : HeldRing) (counts : List ℕ) (at : ℕ) (n : Node) → counts ≡ ports_in r → slice_get r.nodes at ≡ Some n
     → get_or counts at 0 ≡ length n.ports
 count_at r counts at n counted there =
     ap (λ l. get_or l at 0) counted ∙ get_or-map ports_of r.nodes at n 0 (slice_get_within r.nodes at n there)
     ∙ ap ports_of (get_or_from_slice_get r.nodes at n n there)
 
-pub count_within : (r : HeldRing) (counts : List ℕ) (at : ℕ) (n : Node) → counts ≡ ports_in r → slice_get r.nodes at ≡ Some n
+count_within : (r : HeldRing) (counts : List ℕ) (at : ℕ) (n : Node) → counts ≡ ports_in r → slice_get r.nodes at ≡ Some n
     → at < length counts
 count_within r counts at n counted there =
     let low = slice_get_within r.nodes at n there in
     let size : length counts ≡ length r.nodes = ap length counted ∙ length-map r.nodes ports_of in
     omega arith
 
+-- k is how many ports the node at this position has, and there is room for them
+pub room_for : (r : HeldRing) (counts : List ℕ) (rooms : List (List Outlet)) (at k : ℕ) (n : Node) → counts ≡ ports_in r
+    → slice_get r.nodes at ≡ Some n → ((i : ℕ) → i < length counts → get_or counts i 0 < length rooms) → k ≡ get_or counts at k
+    → (k ≡ length n.ports) × (k < length rooms)
+room_for r counts rooms at k n counted there fit is =
+    let inside = count_within r counts at n counted there in
+    let count : k ≡ get_or counts at 0 = is ∙ get_or_default counts at k 0 inside in
+    let low = fit at inside in
+    (count ∙ count_at r counts at n counted there, omega (arith, low, count))
+
 -- the rooms after one was given something else of the same length
-pub rooms_set : (ports counts : List ℕ) (rooms : List (List Outlet)) (k : ℕ) (new : List Outlet) → AreRooms ports counts rooms → k < length rooms
-    → length new ≡ k → AreRooms ports counts (set rooms k new)
-rooms_set ports counts rooms k new x low long =
-    let size : length (set rooms k new) ≡ length rooms = length-set rooms k new in
-    record {
-      counted = x.counted;
-      sized =
-          map-set_same length rooms k new [] (long ∙ sym (room_at rooms k [] x.sized low)) ∙ x.sized
-          ∙ ap (cells (λ j. j)) (sym size);
-      fit = λ i lt. (let h = x.fit i lt in omega (arith, h, size));
-    }
+pub rooms_set : (rooms : List (List Outlet)) (k : ℕ) (new : List Outlet) → map length rooms ≡ cells (λ j. j) (length rooms) → k < length rooms
+    → length new ≡ k → map length (set rooms k new) ≡ cells (λ j. j) (length (set rooms k new))
+rooms_set rooms k new sized low long =
+    map-set_same length rooms k new [] (long ∙ sym (room_at rooms k [] sized low)) ∙ sized
+    ∙ ap (cells (λ j. j)) (sym (length-set rooms k new))
 
 pub node_there : (r : HeldRing) (at : ℕ) (n : Node) → slice_get r.nodes at ≡ Some n → node_at r.nodes at ≡ n
 node_there r at n there = get_or_from_slice_get r.nodes at n nowhere there
@@ -140,21 +144,12 @@ ports_step (step.Hold p turns) w = same_ports w.ring.nodes _ (all_held p.0 turns
 ports_step (step.Slip port turn count) w = same_ports w.ring.nodes _ (all_slipped _ port turn count w.ring.nodes)
 ports_step step.Settle w = refl
 
-pub rooms_changed : (s : Step) (w left : World) (counts : List ℕ) (rooms : List (List Outlet)) → left ≡ after_step s w
-    → AreRooms (ports_in w.ring) counts rooms → AreRooms (ports_in left.ring) counts rooms
-rooms_changed s w left counts rooms is x =
-    subst (λ l. AreRooms l counts rooms) (sym (ap (λ (v : World). ports_in v.ring) is ∙ ports_step s w)) x
+pub ports_changed : (s : Step) (w left : World) → left ≡ after_step s w → ports_in w.ring ≡ ports_in left.ring
+ports_changed s w left is = sym (ap (λ (v : World). ports_in v.ring) is ∙ ports_step s w)
 
 -- after one round more
-pub rooms_ran : (at : ℕ → World) (k : ℕ) (r : HeldRing) (counts : List ℕ) (rooms : List (List Outlet)) → RanOne at k r
-    → AreRooms (ports_in (at k).ring) counts rooms → AreRooms (ports_in r) counts rooms
-rooms_ran at k r counts rooms ran x =
-    subst (λ l. AreRooms l counts rooms)
-    (sym (ap (λ (v : HeldRing). ports_in v) ran.ring_is ∙ ports_round (at k) (at (suc k)) ran.round)) x
-
-pub rooms_next : (at : ℕ → World) (k : ℕ) (r : HeldRing) (counts : List ℕ) (rooms : List (List Outlet)) → RanOne at k r
-    → AreRooms (ports_in r) counts rooms → AreRooms (ports_in (at (suc k)).ring) counts rooms
-rooms_next at k r counts rooms ran x = subst (λ (v : HeldRing). AreRooms (ports_in v) counts rooms) ran.ring_is x
+pub ports_ran : (at : ℕ → World) (k : ℕ) (r : HeldRing) → RanOne at k r → ports_in (at k).ring ≡ ports_in r
+ports_ran at k r ran = sym (ap (λ (v : HeldRing). ports_in v) ran.ring_is ∙ ports_round (at k) (at (suc k)) ran.round)
 
 -- ---- a new ring
 

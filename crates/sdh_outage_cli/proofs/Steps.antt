@@ -23,8 +23,6 @@ use Rattle.sdh_owed.proofs.Steps.{settled_held, next_by, changed_next, changed_c
 use Rattle.sdh_outage_cli.specs.Outages.{Outaged, trace_in, outaged_in}
 use Rattle.sdh_outage_cli.specs.Lines.{listed}
 use Rattle.sdh_outage_cli.specs.Ports.{AreReady, AreListening, ports_in, shown, port_text, shown_text}
-use Rattle.sdh_payload.specs.Outlet.{Outlet}
-use Rattle.sdh_outage_cli.specs.Rooms.{AreRooms}
 use Rattle.sdh_outage_cli.specs.Running.{MayRun}
 use Rattle.sdh_outage_cli.specs.declared.listing.OutageListing.{OutageListing}
 use Rattle.sdh_outage_cli.specs.declared.listing.OutageListing.TheVariants as listing
@@ -37,16 +35,15 @@ pub few_before : (before : ℕ) (steps : List Step) (r : HeldRing) (f : _) → r
 few_before before steps r f may = let few = may.few in let rounds = may.rounds in omega arith
 
 -- what the listeners keep of a settle step, without the room for what ports deliver
-pub listens_only : {w left : World} {limit : ℕ} {items : List ListenerPair} {streams : List StreamPair} {counts : List ℕ} {rooms : List (List Outlet)}
-    → Hears (λ at k. AreListening at k items streams × AreRooms (ports_in (at k).ring) counts rooms) w limit left
+pub listens_only : {w left : World} {limit : ℕ} {items : List ListenerPair} {streams : List StreamPair} {counts : List ℕ}
+    → Hears (λ at k. AreListening at k items streams × (counts ≡ ports_in (at k).ring)) w limit left
     → Hears (λ at k. AreListening at k items streams) w limit left
 listens_only x = record { settles = x.settles; kept = x.kept.0 }
 
-pub rooms_left : (w left : World) (limit : ℕ) (items : List ListenerPair) (streams : List StreamPair) (counts : List ℕ) (rooms : List (List Outlet))
-    → Hears (λ at k. AreListening at k items streams × AreRooms (ports_in (at k).ring) counts rooms) w limit left
-    → AreRooms (ports_in left.ring) counts rooms
-rooms_left w left limit items streams counts rooms x =
-    subst (λ (v : World). AreRooms (ports_in v.ring) counts rooms) (sym (x.settles.left_is ∙ course_whole adm x.settles.rounds w)) x.kept.1
+pub rooms_left : (w left : World) (limit : ℕ) (items : List ListenerPair) (streams : List StreamPair) (counts : List ℕ)
+    → Hears (λ at k. AreListening at k items streams × (counts ≡ ports_in (at k).ring)) w limit left → counts ≡ ports_in left.ring
+rooms_left w left limit items streams counts x =
+    x.kept.1 ∙ ap (λ (v : World). ports_in v.ring) (sym (x.settles.left_is ∙ course_whole adm x.settles.rounds w))
 
 module _ (w left : World) (limit : ℕ) (items : List ListenerPair) (streams : List StreamPair)
     (x : Hears (λ at k. AreListening at k items streams) w limit left) where

@@ -7,13 +7,11 @@ use Rattle.sdh_circuits.specs.declared.End.TheVariants.{A, B}
 use Rattle.sdh_circuits.specs.declared.PortId.{PortId}
 use Rattle.sdh_circuits.specs.Ends.{port_id}
 use Rattle.sdh_payload.specs.Customer.{Customer}
-use Rattle.sdh_payload.specs.Outlet.{Outlet}
 use Rattle.sdh_world.specs.Rounds.{World}
 use Rattle.sdh_outage.specs.Kept.{heard}
 use Rattle.sdh_outage_cli.specs.Outages.{delivered_at, whose_in}
 use Rattle.sdh_outage_cli.specs.Streams.{holder_of, AreNear}
 use Rattle.sdh_outage_cli.specs.Ports.{delivered_in, heard_in, AreListening, ports_in}
-use Rattle.sdh_outage_cli.specs.Rooms.{AreRooms}
 use Rattle.sdh_outage_cli.specs.declared.ports.ListenerPair.{ListenerPair}
 use Rattle.sdh_outage_cli.specs.declared.streams.StreamPair.{StreamPair}
 
@@ -47,6 +45,7 @@ listening_same at bt k items streams same x =
       near = subst (λ (v : World). AreNear v.ring.circuits.circuits (v.ring.rounds + k) streams) first x.near;
     }
 
-pub rooms_same : (at bt : ℕ → World) (k : ℕ) (counts : List ℕ) (rooms : List (List Outlet)) → ((j : ℕ) → j ≤ k → at j ≡ bt j)
-    → AreRooms (ports_in (at k).ring) counts rooms → AreRooms (ports_in (bt k).ring) counts rooms
-rooms_same at bt k counts rooms same x = subst (λ (v : World). AreRooms (ports_in v.ring) counts rooms) (same k (le_refl k)) x
+-- room for as many ports as there are in one course is room for as many as there are in an equal course
+pub rooms_same : (at bt : ℕ → World) (k : ℕ) (counts : List ℕ) → ((j : ℕ) → j ≤ k → at j ≡ bt j) → counts ≡ ports_in (at k).ring
+    → counts ≡ ports_in (bt k).ring
+rooms_same at bt k counts same x = x ∙ ap (λ (v : World). ports_in v.ring) (same k (le_refl k))

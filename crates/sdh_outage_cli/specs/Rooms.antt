@@ -1,6 +1,5 @@
 -- Room for what the ports of the nodes of a ring deliver.
-use Rattle.std.specs.Prelude.{◌≡◌, ℕ, ◌<◌, List, length, map, slice_index}
-use Rattle.sdh_basics.specs.Cells.{cells}
+use Rattle.std.specs.Prelude.{ℕ, List, length}
 use Rattle.sdh_ringmap.specs.Places.{position_of}
 use Rattle.sdh_circuits.specs.Provisioned.{Provisioned}
 use Rattle.sdh_payload.specs.Outlet.{Outlet}
@@ -10,8 +9,7 @@ use Rattle.sdh_terminal.specs.Tributaries.{tributaries_at}
 abbrev pub ports_at : List Provisioned → ℕ → ℕ
 ports_at circuits p = length (tributaries_at (position_of p) circuits)
 
--- there is room for no port, for one port and so on, up to as many as any node has; `ports` has how many each has
-pub record AreRooms (ports counts : List ℕ) (rooms : List (List Outlet)) : Type 0 where
-  pub counted : counts ≡ ports
-  pub sized : map length rooms ≡ cells (λ k. k) (length rooms)
-  pub fit : (i : ℕ) → i < length counts → slice_index counts i < length rooms
+-- for how many ports there is room, by the position of their node, and what the ports of one node delivered
+pub record Rooms : Type 0 where
+  pub counts : List ℕ
+  pub taken : List Outlet

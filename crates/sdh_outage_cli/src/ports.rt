@@ -10,11 +10,10 @@ ghost use Rattle.sdh_terminal.specs.Tributaries.{outlets_of};
 ghost use Rattle.sdh_world.specs.Held.{node_at, place_of_port};
 ghost use Rattle.sdh_outage_cli.specs.Ports.{AreAt, AreFew, HaveBegun, Listens, Looked, listener_at};
 ghost use Rattle.sdh_outage_cli.specs.Ports.{ListensTo, HeardAt, LookedAt, AreFewAt, ports_in};
-ghost use Rattle.sdh_outage_cli.specs.Rooms.{AreRooms};
 ghost use Rattle.sdh_outage_cli.specs.Streams.{holder_of, AreNear, AreEarly};
 ghost use Rattle.sdh_outage_cli.specs.declared.ports.ListenerPair.{ListenerPair};
 
-use crate::rooms::{DeliveryRooms, deliver_at};
+use crate::rooms::DeliveryRooms;
 use crate::streams::{Streams, holder};
 use sdh_circuits::{CircuitMap, End, PortId};
 use sdh_outage::{Kind, Listener, kind_of_others};
@@ -260,7 +259,7 @@ fn look_there(
     rooms: &mut DeliveryRooms,
 )
     requires at { at.0 < length ring.now.ids }
-    requires rooms { AreRooms (ports_in ring.now) rooms.old.counts.items rooms.old.rooms.items }
+    requires rooms { rooms.old.counts ≡ ports_in ring.now }
     requires many { length items.old.items ≡ length ring.now.circuits.circuits }
     requires streams { length streams.old.pairs.items ≡ length ring.now.circuits.circuits }
     requires early { AreEarly streams.old.pairs.items }
@@ -269,10 +268,10 @@ fn look_there(
     ensures each { (i : ℕ) (before after : ListenerPair) → slice_get items.old.items i ≡ Some before → slice_get items.new.items i ≡ Some after
         → LookedAt ring.now at.0 streams.old.pairs.items i before after }
     ensures streams { streams.new.pairs.items ≡ streams.old.pairs.items }
-    ensures rooms { AreRooms (ports_in ring.now) rooms.new.counts.items rooms.new.rooms.items }
+    ensures rooms { rooms.new.counts ≡ rooms.old.counts }
 {
-    deliver_at(ring, at, rooms);
-    let outlets = &rooms.rooms[rooms.counts[at.0 as usize]];
+    rooms.take(ring, at);
+    let outlets = rooms.taken();
     look_node(items, &NodePorts { ring, at, outlets }, streams);
 }
 
@@ -288,12 +287,12 @@ pub fn look_all(
     requires streams { length streams.old.pairs.items ≡ length ring.now.circuits.circuits }
     requires early { AreEarly streams.old.pairs.items }
     requires few { AreFew (2 ^ 31 + 65536) items.old.items }
-    requires rooms { AreRooms (ports_in ring.now) rooms.old.counts.items rooms.old.rooms.items }
+    requires rooms { rooms.old.counts ≡ ports_in ring.now }
     ensures many { length items.new.items ≡ length items.old.items }
     ensures each { (i : ℕ) (before after : ListenerPair) → slice_get items.old.items i ≡ Some before → slice_get items.new.items i ≡ Some after
         → Looked ring.now streams.old.pairs.items i before after }
     ensures streams { streams.new.pairs.items ≡ streams.old.pairs.items }
-    ensures rooms { AreRooms (ports_in ring.now) rooms.new.counts.items rooms.new.rooms.items }
+    ensures rooms { rooms.new.counts ≡ rooms.old.counts }
 {
     ring.circuits_fit();
     let count = ring.map().len();

@@ -1,10 +1,10 @@
 //! Room for what the ports of one node delivered. It serves all nodes of a ring, one after the other.
-ghost use Rattle.std.specs.Prelude.{◌≡◌, ℕ, ◌+◌, ◌<◌, ◌≤◌, [], IfOk, length, map, slice_index, slice_index_or};
+ghost use Rattle.std.specs.Prelude.{◌≡◌, ℕ, ◌+◌, ◌<◌, ◌≤◌, IfOk, length, map, slice_index};
 ghost use Rattle.sdh_basics.specs.Cells.{cells};
 ghost use Rattle.sdh_ringmap.specs.Places.{position_of};
 ghost use Rattle.sdh_terminal.specs.Tributaries.{outlets_of, tributaries_of};
 ghost use Rattle.sdh_world.specs.Held.{node_at};
-ghost use Rattle.sdh_outage_cli.specs.Rooms.{AreRooms, ports_at};
+ghost use Rattle.sdh_outage_cli.specs.Rooms.{ports_at};
 ghost use Rattle.sdh_outage_cli.specs.Ports.{ports_in};
 
 use sdh_circuits::{Circuit, CircuitMap};
@@ -12,16 +12,35 @@ use sdh_ring::Running;
 use sdh_ringmap::Pos;
 use sdh_terminal::{Outlets, TakenPair};
 use std::alloc::{AllocError, Global};
+use std::marker::Model;
 
-/// Room for what the ports of a node delivered: one for each number of ports, so that nodes with as many ports share
-/// their bytes. These then stay in the processor's cache. All memory is taken when this is made.
+/// Room for what the ports of a node delivered. Nodes with as many ports share their bytes, which then stay in the
+/// processor's cache. All memory is taken when this is made.
 #[derive(Drop)]
 pub struct DeliveryRooms {
-    pub taken: TakenPair,
-    /// The number of ports at each node.
-    pub counts: Vec<usize>,
-    /// Room for no port, for one port and so on.
-    pub rooms: Vec<Outlets>,
+    pair: TakenPair,
+    // The number of ports at each node.
+    counts: Vec<usize>,
+    // Room for no port, for one port and so on.
+    rooms: Vec<Outlets>,
+    // The number of ports of the node whose ports' deliveries were taken last.
+    last: usize,
+}
+
+impl Model for DeliveryRooms {
+    ghost use Rattle.std.specs.Prelude.{◌≡◌, ℕ, ◌<◌, [], length, map, slice_index, slice_index_or};
+    ghost use Rattle.sdh_basics.specs.Cells.{cells};
+    ghost use Rattle.sdh_outage_cli.specs.Rooms.{Rooms};
+
+    ghost Value = { Rooms };
+
+    ghost view = { λ r. record { counts = r.counts.items; taken = slice_index_or r.rooms.items r.last [] } };
+
+    ghost invariant = { λ r. record {
+      sized : map length r.rooms.items ≡ cells (λ k. k) (length r.rooms.items);
+      fit : (i : ℕ) → i < length r.counts.items → slice_index r.counts.items i < length r.rooms.items;
+      last : r.last < length r.rooms.items;
+    } };
 }
 
 // Returns how many ports of a circuit are at a position.
@@ -84,35 +103,44 @@ fn rooms_below(alloc: Global, end: usize) -> Result<Vec<Outlets>, AllocError>
     Ok(rooms)
 }
 
-/// Returns room for what the ports of a node delivered, in a ring of `nodes` nodes with these circuits.
-pub fn new_rooms(
-    alloc: Global,
-    circuits: &CircuitMap,
-    nodes: usize,
-) -> Result<DeliveryRooms, AllocError>
-    requires { nodes ≤ 16 }
-    ensures { IfOk result (λ rooms. AreRooms (cells (ports_at circuits.now.circuits) nodes) rooms.counts.items rooms.rooms.items) }
-{
-    let counts = new_counts(alloc, circuits, nodes)?;
-    let most = largest(&counts);
-    let rooms = rooms_below(alloc, most + 1)?;
-    Ok(DeliveryRooms {
-        taken: TakenPair::try_new(alloc)?,
-        counts,
-        rooms,
-    })
-}
+impl DeliveryRooms {
+    /// Returns room for what the ports of a node delivered, in a ring of `nodes` nodes with these circuits.
+    pub fn try_new(
+        alloc: Global,
+        circuits: &CircuitMap,
+        nodes: usize,
+    ) -> Result<DeliveryRooms, AllocError>
+        requires { nodes ≤ 16 }
+        ensures { IfOk result (λ rooms. rooms.counts ≡ cells (ports_at circuits.now.circuits) nodes) }
+    {
+        let counts = new_counts(alloc, circuits, nodes)?;
+        let most = largest(&counts);
+        let rooms = rooms_below(alloc, most + 1)?;
+        Ok(DeliveryRooms {
+            pair: TakenPair::try_new(alloc)?,
+            counts,
+            rooms,
+            last: 0,
+        })
+    }
 
-/// Takes what the ports of the node at a position delivered in the last round out of the frames in which it waits.
-pub fn deliver_at(ring: &Running, at: Pos, rooms: &mut DeliveryRooms)
-    requires at { at.0 < length ring.now.ids }
-    requires rooms { AreRooms (ports_in ring.now) rooms.old.counts.items rooms.old.rooms.items }
-    ensures inside { at.0 < length rooms.new.counts.items }
-    ensures rooms { AreRooms (ports_in ring.now) rooms.new.counts.items rooms.new.rooms.items }
-    ensures here { slice_index_or rooms.new.rooms.items (slice_index rooms.new.counts.items at.0) [] ≡ outlets_of (node_at ring.now.nodes at.0).ports }
-{
-    let node = ring.node(at);
-    let count = rooms.counts[at.0 as usize];
-    let room = &mut rooms.rooms[count];
-    node.deliver(&mut rooms.taken, room);
+    /// Takes what the ports of the node at a position delivered in the last round out of the frames in which it waits.
+    pub fn take(&mut self, ring: &Running, at: Pos)
+        requires at { at.0 < length ring.now.ids }
+        requires rooms { self.old.counts ≡ ports_in ring.now }
+        ensures { self.new ≡ record self.old { taken = outlets_of (node_at ring.now.nodes at.0).ports } }
+    {
+        let node = ring.node(at);
+        let count = self.counts[at.0 as usize];
+        let room = &mut self.rooms[count];
+        node.deliver(&mut self.pair, room);
+        self.last = count;
+    }
+
+    /// Returns what was taken last.
+    pub fn taken(&self) -> &Outlets
+        ensures { result.now ≡ self.now.taken }
+    {
+        &self.rooms[self.last]
+    }
 }

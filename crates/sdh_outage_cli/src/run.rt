@@ -9,7 +9,7 @@ ghost use Rattle.sdh_outage_cli.specs.Plans.{outage_account, MaySettle, Tells};
 use crate::listeners::Listeners;
 use crate::listing::OutageListing;
 use crate::ports::new_listeners;
-use crate::rooms::new_rooms;
+use crate::rooms::DeliveryRooms;
 use crate::script::OutageRun;
 use crate::streams::new_streams;
 use sdh_circuits::CircuitMap;
@@ -50,7 +50,7 @@ fn new_run(
     let items = new_listeners(alloc, plan.circuits())?;
     let streams = new_streams(alloc, plan.circuits())?;
     let nodes = plan.map().len();
-    let rooms = new_rooms(alloc, plan.circuits(), nodes)?;
+    let rooms = DeliveryRooms::try_new(alloc, plan.circuits(), nodes)?;
     let (map, circuits, steps) = plan.into_parts();
     let ring = Ring::try_new(alloc, settings, map, circuits)?;
     let listeners = Listeners {

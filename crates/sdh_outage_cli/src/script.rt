@@ -11,7 +11,6 @@ ghost use Rattle.sdh_outage_cli.specs.Outages.{Outaged};
 ghost use Rattle.sdh_outage_cli.specs.Scripts.{outage_walk};
 ghost use Rattle.sdh_outage_cli.specs.Lines.{listed};
 ghost use Rattle.sdh_outage_cli.specs.Ports.{AreListening, ports_in};
-ghost use Rattle.sdh_outage_cli.specs.Rooms.{AreRooms};
 ghost use Rattle.sdh_outage_cli.specs.Running.{MayList, lines_room, MayRun as MayListen};
 
 use crate::lines::put_step;
@@ -47,13 +46,13 @@ fn settle_with<P: Plant>(
     requires room { ring.old.rounds + limit ≤ 2 ^ 32 }
     requires ready { (at : ℕ → World) → at 0 ≡ world ring.old (P.fibres plant.old)
         → AreListening at 0 listeners.old.items.items listeners.old.streams.pairs.items
-        × AreRooms (ports_in (at 0).ring) listeners.old.rooms.counts.items listeners.old.rooms.rooms.items }
+        × (listeners.old.rooms.counts ≡ ports_in (at 0).ring) }
     ensures step { IsStep adm P.exact (world ring.old (P.fibres plant.old)) limit result (world ring.new (P.fibres plant.new))
         (P.faults plant.old) (P.faults plant.new) }
     ensures laws { KeepsPromises (world ring.old (P.fibres plant.old)) limit result (world ring.new (P.fibres plant.new)) }
     ensures heard { OnOk result
         (Hears (λ at k. AreListening at k listeners.new.items.items listeners.new.streams.pairs.items
-        × AreRooms (ports_in (at k).ring) listeners.new.rooms.counts.items listeners.new.rooms.rooms.items)
+        × (listeners.new.rooms.counts ≡ ports_in (at k).ring))
         (world ring.old (P.fibres plant.old)) limit (world ring.new (P.fibres plant.new))) }
 {
     match ring.settle_recording(plant, limit, listeners, &mut Nowhere) {
@@ -75,7 +74,7 @@ impl Runner for OutageRun {
 
     ghost room = { λ r. lines_room r.listing (length r.ring.circuits.circuits) };
 
-    ghost MayRun = { λ number steps r f. MayList (length r.ring.circuits.circuits) r.listing × MayListen number steps r.ring r.listeners.items.items r.listeners.streams.pairs.items f × AreRooms (ports_in r.ring) r.listeners.rooms.counts.items r.listeners.rooms.rooms.items };
+    ghost MayRun = { λ number steps r f. MayList (length r.ring.circuits.circuits) r.listing × MayListen number steps r.ring r.listeners.items.items r.listeners.streams.pairs.items f × (r.listeners.rooms.counts ≡ ports_in r.ring) };
 
     fn change<P: Plant>(&mut self, plant: &mut P, step: Step) -> Result<(), PlantFault> {
         change(&mut self.ring, plant, step)?;

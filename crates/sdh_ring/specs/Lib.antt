@@ -1,4 +1,3 @@
 pub mod Faults
 pub mod Observed
 pub mod Promises
-pub mod Held

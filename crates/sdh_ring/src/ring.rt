@@ -49,13 +49,15 @@ pub struct Ring {
 }
 
 impl Model for Ring {
-    ghost use Rattle.std.specs.Prelude.{IsSome};
+    ghost use Rattle.std.specs.Prelude.{[], None, IsSome, unwrap_or};
+    ghost use Rattle.sdh_ringmap.specs.declared.terms.Rate.TheVariants.{Four};
+    ghost use Rattle.sdh_rounds.specs.Held.{ring_of};
     ghost use Rattle.sdh_world.specs.Held.{HeldRing};
-    ghost use Rattle.sdh_ring.specs.Held.{ring_or_none};
 
     ghost Value = { HeldRing };
 
-    ghost view = { λ a. ring_or_none a.resting };
+    // By the invariant no caller sees the ring without nodes, which stands here as the default.
+    ghost view = { λ a. unwrap_or a.resting (ring_of (record { rate = Four; threshold = 0; wait = 0 }) [] (record { slots = 0; ring = None; circuits = [] }) []) };
 
     ghost invariant = { λ a. IsSome a.resting };
 }

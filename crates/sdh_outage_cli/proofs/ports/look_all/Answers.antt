@@ -13,7 +13,7 @@ loop-i-init c = record {
       λ j before after was here. looked_none c.args.ring.now (length c.args.ring.now.ids - 0) c.args.streams.now.pairs.items j before after
       (omega arith) (sym (same_Some before after (sym was ∙ here)));
   streams = refl;
-  rooms = c.requires.rooms;
+  rooms = refl;
 }
 
 pub look_there-requires-clause-few : goal.look_there-requires-clause-few
@@ -49,7 +49,7 @@ loop-i-preserved c =
           let looked = subst (λ l. LookedAt r at l j mid.0 after) inv.streams (c.look_there.ensures.each j mid.0 after mid.1 here) in
           subst (λ low. LookedFrom r low streams j before after) next (looked_more r at streams j before mid.0 after were looked));
       streams = c.look_there.ensures.streams ∙ inv.streams;
-      rooms = c.look_there.ensures.rooms;
+      rooms = c.look_there.ensures.rooms ∙ inv.rooms;
     }
 
 pub returns-clause-each : goal.returns-clause-each

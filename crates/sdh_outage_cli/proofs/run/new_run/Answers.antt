@@ -9,7 +9,7 @@ use Rattle.sdh_owed.proofs.Plans.{adm_new}
 use Rattle.sdh_basics.specs.Cells.{cells}
 use Rattle.sdh_plan.specs.Planned.{provisioning_of}
 use Rattle.sdh_outage_cli.specs.Ports.{AreAt, AreReady, ports_in}
-use Rattle.sdh_outage_cli.specs.Rooms.{AreRooms, ports_at}
+use Rattle.sdh_outage_cli.specs.Rooms.{ports_at}
 use Rattle.sdh_outage_cli.proofs.Counting.{ports_new}
 use Rattle.sdh_outage_cli.specs.Streams.{AreNear}
 use Rattle.sdh_outage_cli.specs.Running.{MayList, lines_room}
@@ -51,10 +51,9 @@ returns-clause-may c =
     let ports : cells (ports_at c.circuits-4.result.now.circuits) c.len-nodes.result ≡ ports_in c.in_ok-ring.ring =
     ap (λ (p : Provisioning). cells (ports_at p.circuits) c.len-nodes.result) c.circuits-4.ensures ∙ ap (cells (ports_at cs)) size
     ∙ sym (ports_new c.args.plan.settings c.args.plan.nodes cs (length c.args.plan.nodes)) ∙ ap ports_in (sym is.ring_is) in
-    let rooms = subst (λ l. AreRooms l c.in_ok-rooms.rooms.counts.items c.in_ok-rooms.rooms.rooms.items) ports c.in_ok-rooms.ensures in
     may_begin _ outage_account c.args.plan _ is _ _ form adm_new rate size (λ f. (
       listing,
       record { ring_may = may_new 65536 c.args.plan c.in_ok-ring.ring _ _ _ f form is.ring_is rate size is.steps_are; ready = ready },
-      rooms,
+      c.in_ok-rooms.ensures ∙ ports,
     ))
     (subst (λ k. HasRoom k 0 c.in_ok-text.text.room) each c.in_ok-text.ensures.room) c.in_ok-text.ensures.empty

@@ -1,7 +1,9 @@
 use Rattle.std.proofs.Common.{length, ap, sym, subst, ◌∙◌}
 use Rattle.std.specs.Prelude.{slice_get}
 use Rattle.sdh_outage_cli.specs.Streams.{AreEarly}
-use Rattle.sdh_outage_cli.proofs.Counting.{rooms_ran, rooms_next}
+use Rattle.sdh_world.specs.Held.{HeldRing}
+use Rattle.sdh_outage_cli.specs.Ports.{ports_in}
+use Rattle.sdh_outage_cli.proofs.Counting.{ports_ran}
 use Rattle.sdh_outage_cli.proofs.Listening.{many_more, near_many, few_heard, few_near, listening_more}
 use Rattle.sdh_outage_cli.proofs.listeners.ListenersObserverRunning.look.Goals as goal
 
@@ -33,9 +35,9 @@ returns c = λ at k ran heard. (
       listening_more at k c.args.ring.now c.args.self.now.items.items c.look_all.new.items.items c.args.self.now.streams.pairs.items
       c.step_all.new.streams.pairs.items heard.0 ran c.look_all.ensures.many c.look_all.ensures.each (c.step_all.ensures.many ∙ ap length same)
       (λ i before after was here. c.step_all.ensures.each i before after (ap (λ l. slice_get l i) same ∙ was) here),
-  rooms_next at k c.args.ring.now _ _ ran c.look_all.ensures.rooms,
+  c.look_all.ensures.rooms ∙ heard.1 ∙ ports_ran at k c.args.ring.now ran ∙ ap (λ (v : HeldRing). ports_in v) ran.ring_is,
 )
 
 pub look_all-requires-clause-rooms : goal.look_all-requires-clause-rooms
 look_all-requires-clause-rooms c =
-    let r = c.requires in rooms_ran r.0 r.1 c.args.ring.now _ _ r.2 r.3.1
+    let r = c.requires in r.3.1 ∙ ports_ran r.0 r.1 c.args.ring.now r.2

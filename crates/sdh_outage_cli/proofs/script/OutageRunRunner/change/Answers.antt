@@ -1,9 +1,9 @@
-use Rattle.std.proofs.Common.{length, ap, sym, subst}
+use Rattle.std.proofs.Common.{length, ap, sym, subst, ◌∙◌}
 use Rattle.sdh_circuits.specs.Provisioning.{Provisioning}
 use Rattle.sdh_world.specs.Rounds.{world}
 use Rattle.sdh_owed.proofs.Steps.{alone, changed_circuits}
 use Rattle.sdh_outage_cli.specs.Running.{MayList, lines_room}
-use Rattle.sdh_outage_cli.proofs.Counting.{rooms_changed}
+use Rattle.sdh_outage_cli.proofs.Counting.{ports_changed}
 use Rattle.sdh_outage_cli.proofs.Steps.{changed_ready}
 use Rattle.sdh_outage_cli.proofs.script.OutageRunRunner.change.Goals as goal
 
@@ -22,7 +22,7 @@ returns-clause-next g c number later may =
       subst (λ (p : Provisioning). MayList (length p.circuits) c.args.self.now.listing)
           (sym (changed_circuits c.args.step w left is)) may.0,
       changed_ready number c.args.step w left c.args.self.now.listeners.items.items c.args.self.now.listeners.streams.pairs.items c.requires.other is later may.1,
-      rooms_changed c.args.step w left c.args.self.now.listeners.rooms.counts.items c.args.self.now.listeners.rooms.rooms.items is may.2,
+      may.2 ∙ ports_changed c.args.step w left is,
     )
 
 pub returns-clause-same_room : goal.returns-clause-same_room

@@ -11,7 +11,6 @@ use Rattle.sdh_outage_cli.specs.Scripts.{outage_walk}
 use Rattle.sdh_outage_cli.specs.Running.{MayList, lines_room}
 use Rattle.sdh_outage_cli.proofs.Listening.{listening_none}
 use Rattle.sdh_outage_cli.specs.Ports.{ports_in}
-use Rattle.sdh_outage_cli.specs.Rooms.{AreRooms}
 use Rattle.sdh_outage_cli.proofs.Steps.{listens_only, rooms_left, few_before, many_then, listed_is, heard_next}
 use Rattle.sdh_outage_cli.proofs.script.OutageRunRunner.settle.Goals as goal
 
@@ -23,7 +22,7 @@ settle_with-requires-clause-ready g c = λ at is. (
   listening_none c.args.self.now.ring c.args.self.now.listeners.items.items c.begin_all.new.items.items
       c.args.self.now.listeners.streams.pairs.items
       (few_before c.args.number _ _ _ c.requires.may.1.1.ring_may) c.requires.may.1.1.ready c.begin_all.ensures.many c.begin_all.ensures.each at (ap (λ (v : World). v.ring) (sym is)),
-  subst (λ (v : World). AreRooms (ports_in v.ring) c.args.self.now.listeners.rooms.counts.items c.args.self.now.listeners.rooms.rooms.items) (sym is) c.requires.may.1.2,
+  c.requires.may.1.2 ∙ ap (λ (v : World). ports_in v.ring) (sym is),
 )
 
 pub put_step-requires-clause-many : goal.put_step-requires-clause-many
@@ -68,7 +67,7 @@ returns-clause-next g c later may =
           (sym (settled_held w left c.args.limit s)) may.0,
       heard_next w left c.args.limit c.settle_with.new.listeners.items.items c.settle_with.new.listeners.streams.pairs.items (listens_only c.in_ok-settle_with.ensures.heard) c.args.number c.args.self.now.listeners.items.items c.args.self.now.listeners.streams.pairs.items c.requires.few long.0 none
           (c.in_ok-settle_with.ensures.step.prepared (settled_whole w left c.args.limit s may.1.ring_may.whole)) later may.1,
-      rooms_left w left c.args.limit _ _ _ _ c.in_ok-settle_with.ensures.heard,
+      rooms_left w left c.args.limit _ _ _ c.in_ok-settle_with.ensures.heard,
     )
 
 pub returns-clause-room : goal.returns-clause-room

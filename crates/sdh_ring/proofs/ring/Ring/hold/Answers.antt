@@ -10,7 +10,7 @@ use Rattle.sdh_ring.proofs.ring.Ring.hold.Goals as goal
 use Rattle.sdh_ring.proofs.ring.Ring.hold.Goals.{After-hold}
 
 held : (c : After-hold) → c.in-Some.resting ≡ c.args.self.now
-held c = there c.self.inside.resting c.in-Some.resting c.args.self.now c.in-Some.is c.self.view_is
+held c = there _ c.self.inside.resting c.in-Some.resting c.args.self.now c.in-Some.is c.self.view_is
 
 pub returns-clause-whole : goal.returns-clause-whole
 returns-clause-whole c = λ f whole.

@@ -9,7 +9,7 @@ use Rattle.sdh_ring.proofs.ring.Ring.moment.Goals as goal
 use Rattle.sdh_ring.proofs.ring.Ring.moment.Goals.{After-moment}
 
 held : (c : After-moment) → c.in-Some.resting ≡ c.args.self.now
-held c = there c.self.inside.resting c.in-Some.resting c.args.self.now c.in-Some.is c.self.view_is
+held c = there _ c.self.inside.resting c.in-Some.resting c.args.self.now c.in-Some.is c.self.view_is
 
 pub returns-clause-whole : goal.returns-clause-whole
 returns-clause-whole c = λ f whole.

@@ -15,7 +15,7 @@ returns-clause-laws g c =
     let f = g.P.Plant.fibres c.args.plant.now in
     let end = g.P.Plant.fibres c.settle-result.new.plant in
     let begun : c.wait-running.result ≡ c.args.self.now =
-    c.wait-running.ensures ∙ there c.self.inside.resting c.in-Some.resting c.args.self.now
+    c.wait-running.ensures ∙ there _ c.self.inside.resting c.in-Some.resting c.args.self.now
     (sym c.take.ensures.value ∙ c.in-Some.is) c.self.view_is in
     let fit = subst (λ (r : HeldRing). HasCircuits (layout_in r)) (c.resting.ensures ∙ sym begun) c.circuits_fit.ensures in
     let rested = subst (λ (r : HeldRing). (port : PortId) → HasPortIn r port → IsRested (clock_at r port))

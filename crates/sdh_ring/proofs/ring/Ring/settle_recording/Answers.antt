@@ -16,7 +16,7 @@ use Rattle.sdh_ring.proofs.ring.Ring.settle_recording.Goals as goal
 use Rattle.sdh_ring.proofs.ring.Ring.settle_recording.Goals.{Joined-self}
 
 begun : (g : Over) (c : Joined-self g) → c.wait-running.result ≡ c.args.self.now
-begun g c = c.wait-running.ensures ∙ there c.self.inside.resting c.in-Some.resting c.args.self.now
+begun g c = c.wait-running.ensures ∙ there _ c.self.inside.resting c.in-Some.resting c.args.self.now
     (sym c.take.ensures.value ∙ c.in-Some.is) c.self.view_is
 
 pub returns-clause-laws : goal.returns-clause-laws

@@ -11,7 +11,7 @@ use Rattle.sdh_ring.proofs.ring.Ring.slip.Goals as goal
 use Rattle.sdh_ring.proofs.ring.Ring.slip.Goals.{After-slip}
 
 held : (c : After-slip) → c.in-Some.resting ≡ c.args.self.now
-held c = there c.self.inside.resting c.in-Some.resting c.args.self.now c.in-Some.is c.self.view_is
+held c = there _ c.self.inside.resting c.in-Some.resting c.args.self.now c.in-Some.is c.self.view_is
 
 few : (c : After-slip) → waiting_at c.in-Some.resting c.args.port + c.args.count ≤ 16
 few c = subst (λ (r : HeldRing). waiting_at r c.args.port + c.args.count ≤ 16) (sym (held c)) c.requires.few
