@@ -1,4 +1,4 @@
-mod Shares
+pub mod Shares
 pub mod Few
 mod Kept
 mod Refusing

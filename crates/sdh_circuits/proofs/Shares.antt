@@ -14,7 +14,7 @@ use Rattle.sdh_circuits.specs.Checks.{do_share}
 both_hold : ℕ → Provisioned → Provisioned → ℕ → Bool
 both_hold n c d s = holds_span n (arc_of n c) s && holds_span n (arc_of n d) s
 
-not_both : (a b : Bool) → (a ≡ true → b ≡ true → ⊥) → (a && b) ≡ false
+pub not_both : (a b : Bool) → (a ≡ true → b ≡ true → ⊥) → (a && b) ≡ false
 not_both false b h = refl
 not_both true false h = refl
 not_both true true h = absurd (h refl refl)

@@ -22,6 +22,7 @@ use Rattle.sdh_circuits.specs.Naming.{is_name}
 use Rattle.sdh_circuits.specs.Checks.{Wish, circuit_of, do_share, is_within, node_of, position_of_node, checks, refusal, with_circuit}
 use Rattle.sdh_circuits.specs.declared.AddError.{AddError}
 use Rattle.sdh_circuits.specs.declared.AddError.TheVariants as refused
+use Rattle.sdh_circuits.proofs.Shares.{not_both}
 use Rattle.sdh_payload.specs.Customer.{is_text}
 use Rattle.sdh_plan.specs.Words.{decimal_from}
 use Rattle.sdh_cli.specs.Big.{Laying, drawn, next, spans_of, laying_end, name_in, laid_circuit, next_circuit, big_nodes}
@@ -112,11 +113,6 @@ asked_gives slot number at spans x h =
 -- spans that the next circuit has
 pub spans_some : (l : Laying) → 0 < l.left → (1 ≤ spans_of l) × (spans_of l ≤ l.left) × (spans_of l ≤ 5)
 spans_some l h = let small : drawn l.state % 5 < 5 = mod-lt (drawn l.state) (omega arith) in (omega arith, omega arith, omega arith)
-
-not_both : (b c : Bool) → (b ≡ true → c ≡ true → ⊥) → (b && c) ≡ false
-not_both false c f = refl
-not_both true false f = refl
-not_both true true f = absurd (f refl refl)
 
 -- a span that an arc holds
 pub held : (at to span : ℕ) → holds_span 16 (record { start = at; spans = eastwards 16 at to }) span ≡ true

@@ -66,7 +66,7 @@ sending_after v h t late = let e = lt-ltb h t late in rw e refl
 reading_before : (v h t : ℕ) → t ≤ h → reading_over (Some v) h t ≡ start
 reading_before v h t le = let e = le-ltb h t le in rw e refl
 
-reading_after : (v h t : ℕ) → h < t → reading_over (Some v) h t ≡ settled mode.Norm v (min 3 (t - (h + 1)))
+pub reading_after : (v h t : ℕ) → h < t → reading_over (Some v) h t ≡ settled mode.Norm v (min 3 (t - (h + 1)))
 reading_after v h t late = let e = lt-ltb h t late in rw e refl
 
 -- ---- the generator

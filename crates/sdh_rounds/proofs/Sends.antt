@@ -12,6 +12,7 @@ use Rattle.sdh_rounds.specs.Stations.{Station}
 use Rattle.sdh_rounds.specs.Rounds.{both_frames, frames_of, sent_all, sent_some}
 use Rattle.sdh_rounds.specs.Calls.{sent_west, sent_now, first_after, SendsSome}
 use Rattle.sdh_rounds.proofs.Runs.{length-frames}
+use Rattle.sdh_rounds.proofs.Laws.{appended_none}
 
 pub step_map : {N : Type 0} (f : N → N) (xs ns : List N) (i : ℕ) (x y : N) → i < length xs → i < length ns → drop i xs ≡ drop i ns
     → x ≡ get_or xs i x → y ≡ f x → take i xs ≡ map f (take i ns) → take (i + 1) (set xs i y) ≡ map f (take (i + 1) ns)
@@ -21,13 +22,9 @@ step_map f xs ns i x y hx hn rest read is done =
     take_more_set xs i y hx ∙ ap (λ z. take i xs ++ z ∷ []) is ∙ ap (λ zs. zs ++ f x ∷ []) done
     ∙ sym (ap (map f) split ∙ map-append f (take i ns) (x ∷ []))
 
-sent_none : (o : Option (List (List ℕ))) → o ≡ option_map (λ fs. fs ++ []) o
-sent_none None = refl
-sent_none (Some fs) = ap Some (sym (append-nil fs))
-
 pub some_none : (f : Fibres) → f ≡ sent_some [] f
 unfolding sent_some
-some_none f = ap (λ sent. record f { sent = sent }) (sent_none f.sent)
+some_none f = ap (λ sent. record f { sent = sent }) (appended_none f.sent)
 
 sent_one : (o : Option (List (List ℕ))) (frames : List (List ℕ)) (w : List ℕ)
     → option_map (λ fs. fs ++ w ∷ []) (option_map (λ fs. fs ++ frames) o) ≡ option_map (λ fs. fs ++ (frames ++ w ∷ [])) o

@@ -193,7 +193,8 @@ module _ (plan : Planned) (fits : IsPlanned plan) where
   reads_cut : (at : Pos) (side : Side) → IsIn at → Reads (condition_step condition.Cut at side)
   unfolding form_step
   reads_cut at side low =
-      reads_placed (codes "cut") (condition_step condition.Cut at side) at side low refl refl refl (fibre_is at side condition.Cut [] low) (cut_passes at side low)
+      let read = fibre_is at side condition.Cut [] low in
+      reads_placed (codes "cut") (condition_step condition.Cut at side) at side low refl refl refl read (cut_passes at side low)
 
   manual_passes : (at : Pos) (side : Side) → IsIn at → Passes (placed (codes "manual") at side)
   unfolding form_faults part_faults
@@ -203,7 +204,8 @@ module _ (plan : Planned) (fits : IsPlanned plan) where
   reads_manual : (at : Pos) (side : Side) → IsIn at → Reads (step.Order at side command.Manual)
   unfolding form_step
   reads_manual at side low =
-      reads_placed (codes "manual") (step.Order at side command.Manual) at side low refl refl refl (order_is at side command.Manual [] low) (manual_passes at side low)
+      let read = order_is at side command.Manual [] low in
+      reads_placed (codes "manual") (step.Order at side command.Manual) at side low refl refl refl read (manual_passes at side low)
 
   forced_passes : (at : Pos) (side : Side) → IsIn at → Passes (placed (codes "forced") at side)
   unfolding form_faults part_faults
@@ -213,7 +215,8 @@ module _ (plan : Planned) (fits : IsPlanned plan) where
   reads_forced : (at : Pos) (side : Side) → IsIn at → Reads (step.Order at side command.Forced)
   unfolding form_step
   reads_forced at side low =
-      reads_placed (codes "forced") (step.Order at side command.Forced) at side low refl refl refl (order_is at side command.Forced [] low) (forced_passes at side low)
+      let read = order_is at side command.Forced [] low in
+      reads_placed (codes "forced") (step.Order at side command.Forced) at side low refl refl refl read (forced_passes at side low)
 
   -- ---- a degradation at the threshold
 

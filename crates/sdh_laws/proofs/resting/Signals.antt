@@ -21,7 +21,7 @@ use Rattle.sdh_world.specs.Sides.{condition_to}
 use Rattle.sdh_laws.specs.Hearing.Signalling.{word_to, filters_of, signals_of, needs_in}
 use Rattle.sdh_laws.specs.Hearing.Laws.{IsWhole, IsStill}
 use Rattle.sdh_laws.proofs.hearing.Changes.{whole_run}
-use Rattle.sdh_laws.proofs.hearing.Rounds.{brings, neighbour_inside}
+use Rattle.sdh_laws.proofs.hearing.Rounds.{neighbour_inside}
 use Rattle.sdh_laws.proofs.hearing.Signalling.{mapped_same, needs_at, goes_free, calm_rounds_are_still, three_calm_rounds_are_settled, same_signals}
 use Rattle.sdh_laws.proofs.hearing.Staying.{left_run}
 use Rattle.sdh_laws.specs.Carrying.Windows.{AreSettled, requests_of}

@@ -20,7 +20,7 @@ use Rattle.sdh_pointer.proofs.Sent.{ais_sent, normal_sent, down_sent, next_by_ac
 use Rattle.sdh_pointer.proofs.Forms.{normal_word, normal_value}
 use Rattle.sdh_pointer.proofs.Coupling.{reads_what_is_sent}
 use Rattle.sdh_pointer.proofs.Unmoved.{steady_is_normal}
-use Rattle.sdh_pointer.proofs.Spreading.{values_spread, sending_start, reading_start}
+use Rattle.sdh_pointer.proofs.Spreading.{values_spread, sending_start, reading_start, reading_after}
 use Rattle.sdh_terminal.specs.Tributaries.{action_of}
 use Rattle.sdh_terminal.specs.Outlets.{chunk_form}
 use Rattle.sdh_laws.proofs.carrying.Clocks.{lasts}
@@ -124,9 +124,6 @@ module _ (clock : ℕ → Clock) (source : IsSource clock) where
 
   state_after : (k t : ℕ) → k < t → state k t ≡ Some (V (t - 1 - k))
   state_after k t h = cond-true (nat_lt k t) _ _ (lt-ltb k t h)
-
-  reading_after : (v h t : ℕ) → h < t → reading_over (Some v) h t ≡ settled mode.Norm v (min 3 (t - (h + 1)))
-  reading_after v h t late = cond-true (nat_lt h t) _ _ (lt-ltb h t late)
 
   -- ---- one round, one span
 

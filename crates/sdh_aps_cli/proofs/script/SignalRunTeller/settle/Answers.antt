@@ -1,4 +1,4 @@
-use Rattle.std.proofs.Common.{◌≡◌, ◌+◌, ◌-◌, Err, length, refl, ap, sym, subst, ◌∙◌, arith, le_refl}
+use Rattle.std.proofs.Common.{◌≡◌, ◌+◌, Err, length, refl, ap, sym, subst, ◌∙◌, arith, le_refl}
 use Rattle.std.specs.Io.KnownBytes.{Appends}
 use Rattle.sdh_outside.specs.Writing.{AppendsFewer}
 use Rattle.sdh_circuits.specs.declared.PortId.{PortId}
@@ -7,10 +7,9 @@ use Rattle.sdh_world.specs.Held.{HeldRing}
 use Rattle.sdh_world.specs.Rounds.{World, world}
 use Rattle.sdh_owed.proofs.Standing.{long_step}
 use Rattle.sdh_owed.proofs.Steps.{settled_held, settled_whole, next_by}
-use Rattle.sdh_report.specs.Lines.{settle_line}
-use Rattle.sdh_aps_cli.specs.Recording.{IsCut, AreShown}
+use Rattle.sdh_aps_cli.specs.Recording.{IsCut}
 use Rattle.sdh_aps_cli.proofs.Rounds.{recorded_none}
-use Rattle.sdh_aps_cli.specs.Signalled.{changes_in, shown_at}
+use Rattle.sdh_aps_cli.specs.Signalled.{changes_in}
 use Rattle.sdh_aps_cli.specs.Listing.{changes_text, begun_text, ended_text}
 use Rattle.sdh_aps_cli.proofs.Steps.{on_err_is, on_ok_is, ids_at, begun_some, unsettled_some, cut_some, wrote_step, cut_line, ready_as}
 use Rattle.sdh_aps_cli.proofs.script.SignalRunTeller.settle.Goals as goal
