@@ -1,4 +1,4 @@
--- What writing an AU-4 into a frame leaves.
+-- Laws of writing AU-4s into a frame: what reads back, and what stays as it was.
 use Rattle.std.specs.Prelude.{ℕ, ◌≡◌, ◌≢◌, ◌+◌, ◌<◌, ◌≤◌, List, length, slice_index, slice_index_or, ◌⊎◌}
 use Rattle.sdh_ringmap.specs.declared.terms.Rate.{Rate}
 use Rattle.sdh_frame.specs.declared.Field.TheVariants.{Pointer, Payload}

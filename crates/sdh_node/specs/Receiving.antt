@@ -53,9 +53,9 @@ intake_of threshold r = record {
   actions = actions_by (is_some r.arrived) (n_of r.section.rate) (reception threshold r).bytes r.readings;
 }
 
--- the side once it has read the section overhead at the moment `now`, before its interpreters read: nothing waits to be
--- read any more, and the parities, the moment and defect, the local request and what the last three rounds brought are
--- up to date
+-- the side once it has read the section overhead at the moment `now`, and before its interpreters read the AU-4s:
+-- `arrived` is emptied, and the parities, the moment and defect, the local request and what the last three rounds
+-- brought are up to date
 unfoldable pub after_overhead : ℕ → ℕ → Receiving → Receiving
 after_overhead threshold now r = record r {
   arrived = None;

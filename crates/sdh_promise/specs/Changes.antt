@@ -9,7 +9,7 @@ use Rattle.sdh_plan.specs.declared.step.Step.{Step}
 use Rattle.sdh_plan.specs.declared.step.Step.TheVariants as step
 
 -- A change of a ring: the fibre that leaves a position on a side gets a condition; a side of a node gets a command; the
--- controller of a node is held for a number of rounds; slips are ordered at a port; the moment is set.
+-- controller of a node is held for a number of rounds; a port gets pending slips; the moment is set.
 pub data Change : Type 0 where
   Fibre : ℕ → Side → Condition → Change
   Order : ℕ → Side → Command → Change

@@ -134,9 +134,9 @@ pub fn retime<R: Source, W: Sink>(
         → Answers (words_of words.now) [] reads result (W.written sink.old) (W.written sink.new) }
     ensures alone { (¬ AreDigits (words_of words.now)) → source.new ≡ source.old }
 
-    // All bytes given, turn after turn, are the front of those that were read. A drift comes only where some four
-    // chunks in a row have together fewer than 9393 or more than 9399 bytes. The last of these four is the chunk of the
-    // turn that the last line names, or of an earlier turn.
+    // All bytes given, turn after turn, are the front of those that were read. A drift comes only where four
+    // consecutive chunks have together fewer than 9393 or more than 9399 bytes. The last of these four is the chunk of
+    // the turn that the last line names, or of an earlier turn.
     ensures front { (result ≡ 0) ⊎ (result ≡ 12)
         → IfSome (R.left source.old) (λ bytes. WritesFront bytes (W.written sink.old) (W.written sink.new)) }
     ensures unsteady { result ≡ 12

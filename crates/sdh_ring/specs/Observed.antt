@@ -11,13 +11,13 @@ use Rattle.sdh_world.specs.Rounds.{World}
 abbrev pub RanOne : (ℕ → World) → ℕ → HeldRing → Type 0
 RanOne = observed.RanOne adm
 
--- `Hears kept w limit left`: a settle step led from w to left and ended with a quiet window. `kept` holds of the course
--- of its rounds and of their number.
+-- `Hears kept w limit left`: a settle step led from the world `w` to the world `left`, and ended with a quiet window.
+-- `kept` holds of the course of its rounds and of their number.
 abbrev pub Hears : ((ℕ → World) → ℕ → Type 0) → World → ℕ → World → Type 0
 Hears = observed.Hears adm
 
--- `RanSome kept w limit mid`: rounds of a settle step led from w to mid, and none before the last of them ended a quiet
--- window. `kept` holds of their course and their number.
+-- `RanSome kept w limit mid`: rounds of a settle step led from the world `w` to the world `mid`, and none before the
+-- last of them ended a quiet window. `kept` holds of their course and their number.
 abbrev pub RanSome : ((ℕ → World) → ℕ → Type 0) → World → ℕ → World → Type 0
 RanSome = observed.RanSome adm
 
@@ -26,9 +26,9 @@ RanSome = observed.RanSome adm
 abbrev pub HearsSome : ((ℕ → World) → ℕ → Type 0) → World → ℕ → World → Type 0
 HearsSome = observed.HearsSome adm
 
--- `IsStopped exact kept w limit left before after`: a recorder stopped the step at left, and `RanSome` holds up to
--- there. `before` and `after` are the plant's count of failed calls before and after the step. An exact count rises by
--- one with each failed call and stays as it is with any other. If this count is exact, it is the same after the step as
--- before.
+-- `IsStopped exact kept w limit left before after`: a recorder stopped the step in the world `left`, and `RanSome`
+-- holds up to there. `before` and `after` are the plant's count of failed calls before and after the step. An exact
+-- count rises by one with each failed call and stays as it is with any other. If this count is exact, it is the same
+-- after the step as before.
 abbrev pub IsStopped : Bool → ((ℕ → World) → ℕ → Type 0) → World → ℕ → World → ℕ → ℕ → Type 0
 IsStopped = observed.IsStopped adm

@@ -80,14 +80,10 @@ impl Ring {
         // Each fibre carries a frame with the K word that its node sent last there, or nothing before the first round.
         ensures whole { IfOk result (λ ring. (f : Fibres) → IsHonest f → IsWhole (world ring (prepared settings.rate (length map) f))) }
 
-        // A new ring over such fibres is vouched for (`IsVouched`), whatever the clocks of its ports will be. In any
-        // ring that is vouched for, each AU-4 under way holds either ones or what one particular port sent. In working
-        // slot m this is a port of the circuit in that slot of the span: port A if the frame goes eastwards, and port B
-        // if it goes westwards. In protection slot m it depends on the K word in the frame. If that is a long word with
-        // a request, take the node that it names as its source. In a frame that goes eastwards, the port is port B of
-        // the circuit in working slot m on that node's west span. In one that goes westwards, it is port A of the
-        // circuit in working slot m on that node's east span. If the K word is not a long word with a request, or there
-        // is no such circuit, the AU-4 holds ones.
+        // A new ring over such fibres is vouched for (`IsVouched` in `sdh_laws/specs/Strangers/Vouched`): each AU-4
+        // under way holds ones, or what the one port sent whose bytes may be there. Which port that is follows from the
+        // AU-4's slot, from its direction and, in a protection slot, from the K word in the frame. `clocks` gives each
+        // port's clock before each round, and so what the port sends in it.
         ensures vouched { IfOk result (λ ring. (f : Fibres) (clocks : PortId → ℕ → Clock) → IsHonest f
             → IsVouched clocks (world ring (prepared settings.rate (length map) f))) }
     {
@@ -119,11 +115,7 @@ impl Ring {
     }
 
     /// Holds the controller of a node for the next `turns` rounds. Rounds that remain from an earlier call no longer
-    /// count. A ring that is vouched for (`IsVouched`) stays so if this node is idle or isolated. If it is switched or
-    /// passes traffic through, the ring isn't vouched for while the node is held. Being vouched for is enough to keep
-    /// strangers out, but isn't necessary: right after a quiet window any node may be held except those that pass
-    /// traffic through, and still no port meets a stranger (`NodesThatDoNotPassMayBeHeld` in
-    /// `sdh_laws/specs/Strangers/Laws.antt`).
+    /// count. A ring that is vouched for (`IsVouched`) stays so if this node is idle or isolated.
     pub fn hold(&mut self, at: Pos, turns: u32)
         requires at { at.0 < length self.old.ids }
         requires some { 1 ≤ turns }
@@ -305,7 +297,8 @@ impl Ring {
 
     /// Runs rounds as `settle` does, with a recorder that looks at the nodes after each round and may stop the step
     /// then. What the ports deliver stays in the frames that the nodes received, and is taken out of them when the step
-    /// has ended. Returns how the step ended, and an error only where the recorder stopped it.
+    /// has ended. Returns `Err` if the recorder stopped the step, and otherwise `Ok` with how the step ended, as
+    /// `settle` returns it.
     pub fn settle_recording<P: Plant, L, O: Recorder<Running, L>>(
         &mut self,
         plant: &mut P,
