@@ -81,9 +81,10 @@ impl Ring {
         ensures whole { IfOk result (λ ring. (f : Fibres) → IsHonest f → IsWhole (world ring (prepared settings.rate (length map) f))) }
 
         // A new ring over such fibres is vouched for (`IsVouched` in `sdh_laws/specs/Strangers/Vouched`): each AU-4
-        // under way holds ones, or what the one port sent whose bytes may be there. Which port that is follows from the
-        // AU-4's slot, from its direction and, in a protection slot, from the K word in the frame. `clocks` gives each
-        // port's clock before each round, and so what the port sends in it.
+        // under way holds ones, or what one particular port put into its AU-4 in some earlier round. In a working slot
+        // that port follows from the span, the slot and the direction. In a protection slot it follows from the slot,
+        // the direction and the K word in the same frame. Where no port follows, the AU-4 holds ones. `clocks` gives
+        // each port's clock before each round, and so what the port sends in it.
         ensures vouched { IfOk result (λ ring. (f : Fibres) (clocks : PortId → ℕ → Clock) → IsHonest f
             → IsVouched clocks (world ring (prepared settings.rate (length map) f))) }
     {
