@@ -1,8 +1,9 @@
 -- Deliveries that wait at a node until they are asked for, by what its cross-connect keeps of the last round.
-use Rattle.std.proofs.Common.{◌≡◌, ℕ, ◌+◌, ◌≤◌, Bool, List, length, refl, subst}
+use Rattle.std.proofs.Common.{◌≡◌, ℕ, ◌+◌, ◌*◌, ◌/◌, ◌≤◌, Bool, List, length, refl, subst, arith}
 use Rattle.std.specs.List.{position}
 use Rattle.sdh_basics.proofs.CellsLaws.{length-map_from}
 use Rattle.sdh_ringmap.specs.declared.Pos.{Pos}
+use Rattle.sdh_ringmap.specs.declared.terms.Rate.{Rate}
 use Rattle.sdh_ringmap.specs.Rates.{n_of}
 use Rattle.sdh_ringmap.specs.declared.Side.{Side}
 use Rattle.sdh_ringmap.specs.declared.Side.TheVariants.{West, East}
@@ -19,6 +20,10 @@ use Rattle.sdh_node.specs.Crossing.{Cross, at_side, lines_of, drops, dropped_to,
 use Rattle.sdh_node.specs.Node.{new_cross, at_receiving}
 use Rattle.sdh_terminal.specs.Sending.{Sending}
 use Rattle.sdh_node.proofs.Turning.{node_of}
+
+-- a slot of the first half is twice in all slots
+pub twice_below : (rate : Rate) (k : ℕ) → k ≤ n_of rate / 2 → 2 * k ≤ n_of rate
+twice_below rate k h = omega arith
 
 pub count_waits : (x : Cross) (ports : List Tributary) → length (all_delivered x ports) ≡ length ports
 unfolding all_delivered

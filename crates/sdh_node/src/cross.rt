@@ -17,13 +17,15 @@ ghost use Rattle.sdh_node.specs.Crossing.{on_side, at_side, half_of, after_intak
 ghost use Rattle.sdh_node.specs.Crossing.{lines_of, leads, drops, all_delivered};
 ghost use Rattle.sdh_terminal.specs.Lines.{IsFeeder};
 ghost use Rattle.sdh_terminal.specs.Receiving.{new_intake};
-ghost use Rattle.sdh_terminal.specs.Tributaries.{outlets_of};
+ghost use Rattle.sdh_payload.specs.Outlet.{front_of};
+ghost use Rattle.sdh_terminal.specs.Tributaries.{HasPort, outlet_of, outlets_of};
 
 use crate::receiver::Receiver;
-use sdh_circuits::{CircuitMap, Slot};
+use sdh_circuits::{CircuitMap, PortId, Slot};
 use sdh_frame::FrameBuf;
 use sdh_nodestate::{Heard, Needs, NodeState, Sent, same_shape, shape_of, start, step};
 use sdh_overhead::Landed;
+use sdh_payload::Front;
 use sdh_plant::Arrived;
 use sdh_request::{Command, Moment, Settings};
 use sdh_ringmap::{Pos, Rate, RingMap, Side};
@@ -337,4 +339,13 @@ pub fn deliver_ports(
     ensures { outlets.new ≡ outlets_of (all_delivered cross.now ports.now) }
 {
     ports.deliver(cross, taken, outlets);
+}
+
+/// Returns the front of what the node's state connects to a port.
+pub fn front_at(cross: &CrossConnect, ports: &Tributaries, port: PortId) -> Front
+    requires there { HasPort ports.now port }
+    requires ports { All (λ t. (1 ≤ t.slot.0) × (t.slot.0 ≤ half_of cross.now)) ports.now }
+    ensures { result ≡ front_of (outlet_of port (all_delivered cross.now ports.now)) }
+{
+    ports.front(cross, port)
 }

@@ -9,16 +9,17 @@ ghost use Rattle.sdh_nodestate.specs.Filtering.{hears};
 ghost use Rattle.sdh_nodestate.specs.Words.{SendsSpellable};
 ghost use Rattle.sdh_plant.specs.Arrivals.{as_arrival, arrived_in};
 ghost use Rattle.sdh_node.specs.Receiving.{commanded_by, arrived_on};
+ghost use Rattle.sdh_payload.specs.Outlet.{front_of};
 ghost use Rattle.sdh_terminal.specs.Tributaries.{HasPort, outlet_of, outlets_of, waiting_of};
 ghost use Rattle.sdh_node.specs.Node.{new_node, at_receiving, held_for, slips_at, node_round, GoesOn, receiving_on, sending_on, moment_of};
 
-use crate::cross::{CrossConnect, deliver_ports};
+use crate::cross::{CrossConnect, deliver_ports, front_at};
 use sdh_circuits::{CircuitMap, PortId};
 use sdh_frame::FrameBuf;
 use sdh_kbytes::K;
 use sdh_nodestate::{NodeState, Sent, first_word};
 use sdh_overhead::Landed;
-use sdh_payload::Turn;
+use sdh_payload::{Front, Turn};
 use sdh_plant::Arrived;
 use sdh_request::{Command, Moment, Settings};
 use sdh_ringmap::{Code, Pos, RingMap, Side};
@@ -171,6 +172,15 @@ impl Multiplexer {
     {
         let place = self.ports.place_of(port);
         outlets.at(place)
+    }
+
+    /// Returns the front of what one port of the node delivered in the last round. It is read out of the received frames,
+    /// and no payload is taken out of them.
+    pub fn front(&self, port: PortId) -> Front
+        requires { HasPort self.now.ports port }
+        ensures { result ≡ front_of (outlet_of port self.now.ports) }
+    {
+        front_at(&self.cross, &self.ports, port)
     }
 
     /// Returns the state.

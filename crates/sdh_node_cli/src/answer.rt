@@ -15,12 +15,13 @@ use crate::words::Mode;
 use sdh_aps::{shown_of, signal_line};
 use sdh_circuits::{Circuit, CircuitMap, PortId};
 use sdh_frame::FrameBuf;
-use sdh_node::Adm;
+use sdh_node::Multiplexer;
 use sdh_report::Text;
+use sdh_report::laws::front_line_is_short;
 use sdh_ringmap::Pos;
 
 // Appends the line of the port of a circuit, if it has one at the node.
-fn put_port(text: &mut Text, node: &Adm, circuit: &Circuit, port: Option<PortId>)
+fn put_port(text: &mut Text, node: &Multiplexer, circuit: &Circuit, port: Option<PortId>)
     requires there { IfSome port (HasPort node.now.ports) }
     requires room { 96 ≤ text.old.room }
     ensures bytes { text.new.bytes ≡ text.old.bytes ++ text_of node.now circuit.now.name port }
@@ -30,16 +31,14 @@ fn put_port(text: &mut Text, node: &Adm, circuit: &Circuit, port: Option<PortId>
     let Some(port) = port else {
         return;
     };
-    text.port_line(
-        circuit.name(),
-        port.end,
-        node.delivered(port),
-        node.value(port),
-    );
+    let name = circuit.name();
+    let front = node.front(port);
+    front_line_is_short(name, port.end, &front);
+    text.front_line(name, port.end, &front);
 }
 
 /// Appends the lines of the ports that are at the node, in the order of the circuits, each at most 96 bytes.
-pub fn put_ports(text: &mut Text, node: &Adm, at: Pos, circuits: &CircuitMap)
+pub fn put_ports(text: &mut Text, node: &Multiplexer, at: Pos, circuits: &CircuitMap)
     requires there { (port : PortId) → IsOwn circuits.now.circuits at port → HasPort node.now.ports port }
     requires room { 96 * length circuits.now.circuits ≤ text.old.room }
     ensures bytes { text.new.bytes ≡ text.old.bytes ++ ports_from node.now at 0 circuits.now.circuits }
@@ -54,13 +53,13 @@ pub fn put_ports(text: &mut Text, node: &Adm, at: Pos, circuits: &CircuitMap)
 }
 
 /// Appends the line of what the node shows after a round.
-pub fn put_shown(text: &mut Text, node: &Adm, round: u64, id: u8)
+pub fn put_shown(text: &mut Text, node: &Multiplexer, round: u64, id: u8)
     requires room { 128 ≤ text.old.room }
     ensures bytes { text.new.bytes ≡ text.old.bytes ++ signal_line round id (shown_of node.now) }
     ensures room { text.old.room ≤ text.new.room + 128 }
     ensures kept { room_in text.new ≡ room_in text.old }
 {
-    signal_line(text, round, id, &shown_of(node.node()));
+    signal_line(text, round, id, &shown_of(node));
 }
 
 // Appends the line that gives the number of bytes that follow.

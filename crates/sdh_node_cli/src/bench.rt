@@ -17,7 +17,7 @@ use crate::stop::Stop;
 use crate::words::{Ask, Mode};
 use sdh_circuits::CircuitMap;
 use sdh_frame::FrameBuf;
-use sdh_node::Adm;
+use sdh_node::Multiplexer;
 use sdh_outside::{Source, fill};
 use sdh_plan::{Plan, Reason};
 use sdh_plant::Arrived;
@@ -37,7 +37,7 @@ pub struct Bench {
     circuits: CircuitMap,
     moment: Moment,
     rounds: u64,
-    node: Adm,
+    node: Multiplexer,
     west: FrameBuf,
     east: FrameBuf,
 }
@@ -65,7 +65,7 @@ impl Bench {
         let (map, circuits, _) = plan.into_parts();
         prove!(circuits.len() <= 128);
         let (west, east) = room_for(alloc, settings.rate)?;
-        let node = Adm::try_new(alloc, settings, &map, &circuits, at)?;
+        let node = Multiplexer::try_new(alloc, settings, &map, &circuits, at)?;
         Ok(Bench {
             mode: ask.mode,
             id: ask.id,

@@ -1,8 +1,10 @@
 -- Bytes that are put in place of others, by turning the list.
 use Rattle.std.proofs.Common.{◌≡◌, ℕ, ◌+◌, ◌≤◌, List, [], ◌∷◌, ◌++◌, length, take, drop, zero, suc, refl, sym, ap, ◌∙◌, arith, append_assoc}
 use Rattle.std.proofs.Math.Seq.{take-append_seam, take-append-add, drop-append_seam}
-use Rattle.std.proofs.lemmas.List.{append-nil, take-take}
-use Rattle.sdh_payload.specs.Chunk.{around}
+use Rattle.std.proofs.lemmas.List.{append-nil, take-take, take-append-le, length-take-le}
+use Rattle.sdh_payload.specs.declared.chunk.ChunkForm.{ChunkForm}
+use Rattle.sdh_payload.specs.declared.chunk.ChunkForm.TheVariants.{Plain, Short, Long}
+use Rattle.sdh_payload.specs.Chunk.{around, taken}
 use Rattle.sdh_payload.specs.Room.{written}
 
 drop-past : {X : Type 0} (n : ℕ) (xs : List X) → length xs ≤ n → drop n xs ≡ []
@@ -35,3 +37,16 @@ turned front back behind xs mid ys h len is =
     let head : take behind ys ≡ b =
     ap (take behind) all ∙ ap (λ n. take n (b ++ (take front xs ++ mid))) len ∙ take-append_seam b (take front xs ++ mid) in
     ap (λ r. r ++ take behind ys) tail ∙ ap (λ r. (take front xs ++ mid) ++ r) head
+
+front_around : (middle payload : List ℕ) (back : ℕ) → 783 ≤ length payload → take 16 (around 783 middle back payload) ≡ take 16 payload
+unfolding around
+front_around middle payload back long =
+    ap (take 16) (append_assoc (take 783 payload) middle (drop back payload))
+    ∙ take-append-le 16 (take 783 payload) (middle ++ drop back payload) (omega (arith, length-take-le 783 payload long))
+    ∙ take-take 16 783 payload (omega arith)
+
+-- a chunk of any form begins as the payload does
+pub front_taken : (form : ChunkForm) (payload h3 : List ℕ) → 783 ≤ length payload → take 16 (taken form payload h3) ≡ take 16 payload
+front_taken Plain payload h3 long = refl
+front_taken Short payload h3 long = front_around [] payload 786 long
+front_taken Long payload h3 long = front_around h3 payload 783 long

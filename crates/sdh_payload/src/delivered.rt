@@ -7,3 +7,11 @@ pub enum Delivered {
     Ais,
     Chunk(Cells),
 }
+
+/// The front of what a port delivers: AIS, or the first 16 bytes that the port takes, and the pointer value with which
+/// they come.
+#[derive(Clone, Copy, Debug, PartialEq, Eq)]
+pub enum Front {
+    Ais,
+    Bytes([u8; 16], u16),
+}

@@ -16,7 +16,7 @@ mod walk;
 pub use cells::Cells;
 pub use chunk::{ChunkForm, lay_chunk_in_place, take_chunk, take_chunk_in_place};
 pub use clock::Turn;
-pub use delivered::Delivered;
+pub use delivered::{Delivered, Front};
 pub use feed::Feed;
 pub use port::{Port, PortError};
 pub use walk::trace_byte;

@@ -11,6 +11,8 @@ use Rattle.sdh_circuits.specs.declared.End.TheVariants.{A, B}
 use Rattle.sdh_circuits.specs.declared.Slot.{Slot}
 use Rattle.sdh_payload.specs.declared.delivered.Delivered.{Delivered}
 use Rattle.sdh_payload.specs.declared.delivered.Delivered.TheVariants.{Ais, Chunk}
+use Rattle.sdh_payload.specs.declared.delivered.Front.{Front}
+use Rattle.sdh_payload.specs.declared.delivered.Front.TheVariants as front
 use Rattle.sdh_report.specs.declared.node_line.StateWord.{StateWord}
 use Rattle.sdh_report.specs.declared.node_line.StateWord.TheVariants as word
 use Rattle.sdh_report.specs.declared.node_line.WordBytes.{WordBytes}
@@ -73,6 +75,11 @@ ais_line name end = port_named name end ++ codes " ais\n"
 abbrev pub port_line : List ℕ → End → Delivered → ℕ → List ℕ
 port_line name end Ais value = ais_line name end
 port_line name end (Chunk chunk) value = chunk_line name end value chunk
+
+-- the line of a port, by the front of what it delivers
+abbrev pub front_line : List ℕ → End → Front → List ℕ
+front_line name end front.Ais = ais_line name end
+front_line name end (front.Bytes bytes value) = chunk_line name end value bytes
 
 -- The bytes of a chunk in row i, counted from 0. A chunk of 2349 bytes has nine rows of 261 bytes, as a VC-4 has (ITU-T
 -- G.707). Of a longer chunk only the first nine rows are listed; a shorter one has nine rows or fewer.

@@ -3,14 +3,15 @@ ghost use Rattle.std.specs.Prelude.{◌≡◌, ◌+◌, ◌*◌, ◌≤◌, ◌<
 ghost use Rattle.sdh_basics.specs.Hexadecimal.{hex_of};
 ghost use Rattle.sdh_report.specs.Written.{with_part};
 ghost use Rattle.sdh_report.specs.Lines.{own_line, step_ended, settle_line, end_letter, side_text, word_text, node_line, port_named};
-ghost use Rattle.sdh_report.specs.Lines.{chunk_line, port_line, row, row_line, drop_lines, table_place, table_ends, table_line, count_line};
+ghost use Rattle.sdh_report.specs.Lines.{chunk_line, ais_line, port_line, front_line, row, row_line, drop_lines, table_place};
+ghost use Rattle.sdh_report.specs.Lines.{table_ends, table_line, count_line};
 ghost use Rattle.sdh_report.specs.Statuses.{last_line};
 
 use crate::node_line::{NodeLine, WordBytes};
 use crate::status::Status;
 use crate::text::Text;
 use sdh_circuits::{End, Name, Slot};
-use sdh_payload::Delivered;
+use sdh_payload::{Delivered, Front};
 use sdh_ringmap::Side;
 
 // Returns the first 16 bytes, or all where there are fewer.
@@ -122,6 +123,15 @@ impl Text {
         self.put_end(end);
     }
 
+    // Appends the line of a port that delivers AIS.
+    fn ais_line(&mut self, name: &Name, end: End)
+        requires { length (ais_line name.now end) ≤ self.old.room }
+        ensures { self.new ≡ with_part self.old (ais_line name.now end) }
+    {
+        self.put_port(name, end);
+        self.put(b" ais\n");
+    }
+
     // Appends the line of a port that delivers a chunk.
     fn chunk_line(&mut self, name: &Name, end: End, value: u16, chunk: &[u8])
         requires { length (chunk_line name.now end value chunk.now) ≤ self.old.room }
@@ -142,11 +152,20 @@ impl Text {
         ensures { self.new ≡ with_part self.old (port_line name.now end delivered.now offset) }
     {
         match delivered {
-            Delivered::Ais => {
-                self.put_port(name, end);
-                self.put(b" ais\n");
-            }
+            Delivered::Ais => self.ais_line(name, end),
             Delivered::Chunk(chunk) => self.chunk_line(name, end, offset, chunk.as_slice()),
+        }
+    }
+
+    /// Appends the line of a port, by the front of what it delivers. It is the line that `port_line` appends for all that
+    /// the port delivers.
+    pub fn front_line(&mut self, name: &Name, end: End, front: &Front)
+        requires { length (front_line name.now end front.now) ≤ self.old.room }
+        ensures { self.new ≡ with_part self.old (front_line name.now end front.now) }
+    {
+        match front {
+            Front::Ais => self.ais_line(name, end),
+            Front::Bytes(bytes, value) => self.chunk_line(name, end, *value, bytes),
         }
     }
 }

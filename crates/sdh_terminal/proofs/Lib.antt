@@ -9,3 +9,4 @@ pub mod Waiting
 pub mod Slips
 pub mod Found
 pub mod Same
+pub mod Fronts

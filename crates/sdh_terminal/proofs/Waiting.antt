@@ -79,6 +79,19 @@ port-waiting : (d : Tributary → Input) (id : PortId) (ts : List Tributary)
 unfolding port_of
 port-waiting d id ts = found-waiting d (is_port id) (λ t. refl) 0 ts
 
+-- ---- one port
+
+outlet-waiting : (d : Tributary → Input) (found : Option Tributary) (t : Tributary) → found ≡ Some t
+    → option_map_or (λ (u : Tributary). u.outlet) (option_map (delivered_with d) found) silent ≡ delivered_from (d t)
+outlet-waiting d found t is = rw is refl
+
+-- what the port with a name delivers
+pub delivered_here : (d : Tributary → Input) (id : PortId) (ts : List Tributary) (t : Tributary) → port_of id ts ≡ Some t
+    → outlet_of id (all_delivered_with d ts) ≡ delivered_from (d t)
+delivered_here d id ts t is =
+    ap (λ found. option_map_or (λ (u : Tributary). u.outlet) found silent) (port-waiting d id ts)
+    ∙ outlet-waiting d (port_of id ts) t is
+
 some-under : (d : Tributary → Input) (found : Option Tributary) → IsSome (option_map (delivered_with d) found) → IsSome found
 some-under d None h = h
 some-under d (Some t) h = refl

@@ -1,9 +1,9 @@
 //! What a port delivers. It is taken out of the frames that both sides received.
-ghost use Rattle.std.specs.Prelude.{◌≡◌, ◌<◌, ◌≤◌, IfOk, length, slice_index_or};
+ghost use Rattle.std.specs.Prelude.{◌≡◌, ◌<◌, ◌≤◌, IfOk, IfSome, IfNone, length, take, slice_index_or};
 ghost use Rattle.sdh_ringmap.specs.Rates.{n_of};
-ghost use Rattle.sdh_frame.specs.Aus.{au_of};
+ghost use Rattle.sdh_frame.specs.Aus.{au_of, payload_of};
 ghost use Rattle.sdh_payload.specs.Chunk.{taken};
-ghost use Rattle.sdh_payload.specs.Outlet.{silent, delivering};
+ghost use Rattle.sdh_payload.specs.Outlet.{silent, delivering, front_of};
 ghost use Rattle.sdh_interchange.specs.Taking.{IsOf};
 ghost use Rattle.sdh_terminal.specs.Passing.{h3_of};
 ghost use Rattle.sdh_terminal.specs.Lines.{line_on, received, dropped_by, IsFeeder, AreOf};
@@ -13,7 +13,7 @@ use crate::intake::h3_at;
 use crate::matrix::{Feeder, Matrix};
 use sdh_frame::FrameBuf;
 use sdh_interchange::Taken;
-use sdh_payload::{Cells, ChunkForm, Delivered, take_chunk_in_place};
+use sdh_payload::{Cells, ChunkForm, Delivered, Front, take_chunk_in_place};
 use sdh_pointer::Action;
 use sdh_ringmap::Side;
 use std::alloc::{AllocError, Global};
@@ -205,6 +205,24 @@ fn chunk_form(action: Action) -> ChunkForm
     }
 }
 
+// Returns the AU-4 that is dropped from a feeder, by its side and its number, or `None` where that is AIS.
+#[tactic(auto, unfolding(crate::specs::Outlets::delivered_from))]
+fn dropped_au<X: Matrix>(cross: &X, feeder: Feeder) -> Option<(Side, u16)>
+    requires inside { IsFeeder (n_of (X.lines cross.now).rate) feeder }
+    ensures inside { IfSome result (λ of. (1 ≤ of.1) × (of.1 ≤ n_of (X.lines cross.now).rate)) }
+    ensures chunk { IfSome result (λ of. delivered_from (dropped_by (X.lines cross.now) feeder)
+        ≡ chunk_from (received (X.lines cross.now) of.0 of.1)) }
+    ensures ais { IfNone result (delivered_from (dropped_by (X.lines cross.now) feeder) ≡ silent) }
+{
+    match feeder {
+        Feeder::Received(side, au) => match cross.intake(side).action(au) {
+            Action::Ais => None,
+            _ => Some((side, au)),
+        },
+        Feeder::Port(_) | Feeder::Ais => None,
+    }
+}
+
 // Delivers an AU-4 that a side received and that isn't AIS.
 fn deliver_chunk<X: Matrix>(
     cross: &X,
@@ -224,30 +242,8 @@ fn deliver_chunk<X: Matrix>(
     outlet.deliver_au(intake.frame(), payloads, au, form, cross.value(side, au));
 }
 
-// Delivers an AU-4 that a side received.
-#[tactic(auto, unfolding(crate::specs::Outlets::delivered_from))]
-fn deliver_received<X: Matrix>(
-    cross: &X,
-    side: Side,
-    au: u16,
-    payloads: &mut Taken,
-    outlet: &mut Outlet,
-)
-    requires first { 1 ≤ au }
-    requires last { au ≤ n_of (X.lines cross.now).rate }
-    requires payloads { IsOf (line_on (X.lines cross.now) side).intake.frame payloads.old }
-    ensures payloads { IsOf (line_on (X.lines cross.now) side).intake.frame payloads.new }
-    ensures outlet { outlet.new ≡ delivered_from (received (X.lines cross.now) side au) }
-{
-    match cross.intake(side).action(au) {
-        Action::Ais => outlet.silence(),
-        _ => deliver_chunk(cross, side, au, payloads, outlet),
-    }
-}
-
 /// Delivers what is dropped from this feeder: the AU-4 that a side received, or AIS. `taken` has the payloads that were
 /// already taken out of the frames of both sides.
-#[tactic(auto, unfolding(crate::specs::Outlets::delivered_from))]
 pub fn deliver_dropped<X: Matrix>(
     cross: &X,
     feeder: Feeder,
@@ -260,9 +256,37 @@ pub fn deliver_dropped<X: Matrix>(
     ensures outlet { outlet.new ≡ delivered_from (dropped_by (X.lines cross.now) feeder) }
 {
     let TakenPair { west, east } = taken;
-    match feeder {
-        Feeder::Received(Side::West, au) => deliver_received(cross, Side::West, au, west, outlet),
-        Feeder::Received(Side::East, au) => deliver_received(cross, Side::East, au, east, outlet),
-        Feeder::Port(_) | Feeder::Ais => outlet.silence(),
+    match dropped_au(cross, feeder) {
+        Some((Side::West, au)) => deliver_chunk(cross, Side::West, au, west, outlet),
+        Some((Side::East, au)) => deliver_chunk(cross, Side::East, au, east, outlet),
+        None => outlet.silence(),
+    }
+}
+
+// Returns the first 16 payload bytes of AU-4 number `au`, 1 to N, of a frame.
+fn first_bytes(frame: &FrameBuf, au: u16) -> [u8; 16]
+    requires first { 1 ≤ au }
+    requires last { au ≤ n_of frame.now.rate }
+    ensures { result ≡ take 16 (payload_of (n_of frame.now.rate) au frame.now.bytes) }
+{
+    let view = frame.au(au);
+    let mut bytes = [0u8; 16];
+    for k in 0..16 {
+        bytes[k] = view.payload(k as u16);
+    }
+    bytes
+}
+
+/// Returns the front of what is dropped from this feeder. It takes no payload out of a frame.
+pub fn front_dropped<X: Matrix>(cross: &X, feeder: Feeder) -> Front
+    requires { IsFeeder (n_of (X.lines cross.now).rate) feeder }
+    ensures { result ≡ front_of (delivered_from (dropped_by (X.lines cross.now) feeder)) }
+{
+    match dropped_au(cross, feeder) {
+        Some((side, au)) => {
+            let bytes = first_bytes(cross.intake(side).frame(), au);
+            Front::Bytes(bytes, cross.value(side, au))
+        }
+        None => Front::Ais,
     }
 }

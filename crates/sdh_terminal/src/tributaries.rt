@@ -3,17 +3,18 @@ ghost use Rattle.std.specs.Prelude.{◌≡◌, ◌+◌, ◌*◌, ◌/◌, ◌^�
 ghost use Rattle.std.specs.Prelude.{position};
 ghost use Rattle.sdh_basics.specs.Cells.{cells};
 ghost use Rattle.sdh_terminal.specs.Tributaries.{tributaries_at, is_port, port_of, HasPort, waiting_of, with_slips, all_fed};
-ghost use Rattle.sdh_terminal.specs.Tributaries.{all_delivered_with, outlets_of, IsTributary};
+ghost use Rattle.sdh_terminal.specs.Tributaries.{all_delivered_with, outlet_of, outlets_of, IsTributary};
 ghost use Rattle.sdh_circuits.specs.Ends.{port_number};
 ghost use Rattle.sdh_terminal.specs.Places.{port_numbered};
 ghost use Rattle.sdh_ringmap.specs.Rates.{n_of};
+ghost use Rattle.sdh_payload.specs.Outlet.{front_of};
 ghost use Rattle.sdh_terminal.specs.Lines.{dropped_by};
 
 use crate::matrix::Matrix;
 use crate::outlet::{Outlets, TakenPair};
 use crate::tributary::{Tributary, deliver_all, feed_all, place_of, tributaries_at};
 use sdh_circuits::{CircuitMap, End, PortId};
-use sdh_payload::Turn;
+use sdh_payload::{Front, Turn};
 use sdh_ringmap::Pos;
 use std::alloc::{AllocError, Global};
 use std::marker::Model;
@@ -181,5 +182,18 @@ impl Tributaries {
     {
         taken.begin(cross);
         deliver_all(cross, &self.items, taken, &mut outlets.items);
+    }
+
+    /// Returns the front of what is dropped to a port.
+    pub fn front<X: Matrix>(&self, cross: &X, id: PortId) -> Front
+        requires there { HasPort self.now id }
+        requires ports { All (λ t. (1 ≤ t.slot.0) × (2 * t.slot.0 ≤ n_of (X.lines cross.now).rate)) self.now }
+        ensures { result ≡ front_of (outlet_of id
+            (all_delivered_with (λ t. dropped_by (X.lines cross.now) (X.drops cross.now t.side t.slot.0)) self.now)) }
+    {
+        let Some(port) = self.find(id) else {
+            unreachable!()
+        };
+        port.front(cross)
     }
 }

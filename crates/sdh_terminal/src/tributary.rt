@@ -3,6 +3,7 @@ ghost use Rattle.std.specs.Prelude.{◌≡◌, ◌+◌, ◌-◌, ◌*◌, ◌^�
 ghost use Rattle.std.specs.Prelude.{position};
 ghost use Rattle.sdh_circuits.specs.Provisioned.{customer_at};
 ghost use Rattle.sdh_payload.specs.Stream.{stream_from};
+ghost use Rattle.sdh_payload.specs.Outlet.{front_of};
 ghost use Rattle.sdh_payload.specs.Clock.{waiting};
 ghost use Rattle.sdh_terminal.specs.Tributaries.{new_tributary, tributaries_of, tributaries_at, is_port, sent_by, action_of, slipped, fed};
 ghost use Rattle.sdh_terminal.specs.Tributaries.{all_fed, all_delivered_with, outlets_of, IsTributary};
@@ -11,9 +12,9 @@ ghost use Rattle.sdh_terminal.specs.Lines.{dropped_by, AreOf};
 ghost use Rattle.sdh_terminal.specs.Outlets.{delivered_from};
 
 use crate::matrix::Matrix;
-use crate::outlet::{Outlet, TakenPair, deliver_dropped};
+use crate::outlet::{Outlet, TakenPair, deliver_dropped, front_dropped};
 use sdh_circuits::{Circuit, CircuitMap, End, PortId, Slot, same_end};
-use sdh_payload::{Cells, ChunkForm, Feed, Port, Turn, lay_chunk_in_place};
+use sdh_payload::{Cells, ChunkForm, Feed, Front, Port, Turn, lay_chunk_in_place};
 use sdh_pointer::Action;
 use sdh_ringmap::{Pos, Side};
 use std::alloc::{AllocError, Global};
@@ -153,6 +154,17 @@ impl Tributary {
     {
         let feeder = cross.dropped(self.side, self.slot);
         deliver_dropped(cross, feeder, taken, outlet);
+    }
+
+    /// Returns the front of what is dropped to the port.
+    pub fn front<X: Matrix>(&self, cross: &X) -> Front
+        requires first { 1 ≤ self.now.slot.0 }
+        requires last { 2 * self.now.slot.0 ≤ n_of (X.lines cross.now).rate }
+        ensures { result ≡ front_of (delivered_from
+            (dropped_by (X.lines cross.now) (X.drops cross.now self.now.side self.now.slot.0))) }
+    {
+        let feeder = cross.dropped(self.side, self.slot);
+        front_dropped(cross, feeder)
     }
 }
 

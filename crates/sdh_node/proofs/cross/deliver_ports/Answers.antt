@@ -1,11 +1,6 @@
-use Rattle.std.proofs.Common.{ℕ, ◌*◌, ◌/◌, ◌≤◌, arith}
-use Rattle.sdh_ringmap.specs.declared.terms.Rate.{Rate}
-use Rattle.sdh_ringmap.specs.Rates.{n_of}
 use Rattle.sdh_node.specs.Crossing.{all_delivered}
+use Rattle.sdh_node.proofs.Later.{twice_below}
 use Rattle.sdh_node.proofs.cross.deliver_ports.Goals as goal
-
-twice_below : (rate : Rate) (k : ℕ) → k ≤ n_of rate / 2 → 2 * k ≤ n_of rate
-twice_below rate k h = omega arith
 
 pub deliver-requires-clause-ports : goal.deliver-requires-clause-ports
 deliver-requires-clause-ports c = λ k d lt. (let is = c.requires.ports k d lt in (is.0, twice_below c.args.cross.now.west.section.rate _ is.1))
