@@ -9,7 +9,7 @@ use sdh_overhead::Landed;
 use sdh_plant::Arrived;
 use sdh_request::{Moment, Settings};
 use sdh_ringmap::{Pos, RingMap, Side};
-use sdh_rounds::Station;
+use sdh_rounds::{IntoForm, Station};
 use sdh_terminal::{Delivers, Outlets, TakenPair};
 use std::alloc::{AllocError, Global};
 
@@ -85,6 +85,22 @@ impl Station for Waiting {
     ghost told_rate = { rate_stays };
 
     ghost told_may = { may_still };
+}
+
+impl IntoForm<Waiting> for Adm {
+    ghost form = { λ n. n };
+
+    fn into_form(self) -> Waiting {
+        self.wait()
+    }
+}
+
+impl IntoForm<Adm> for Waiting {
+    ghost form = { λ n. n };
+
+    fn into_form(self) -> Adm {
+        self.deliver()
+    }
 }
 
 impl Delivers for Multiplexer {

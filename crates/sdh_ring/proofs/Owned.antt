@@ -42,7 +42,7 @@ pub record IsOwned (r : HeldRing) (id : PortId) (p : ℕ) : Type 0 where
   pub there : slice_get r.nodes p ≡ Some (node_at r.nodes p)
   pub has : HasPort (node_at r.nodes p).ports id
 
-owned_at : (r : HeldRing) → IsRing r → (id : PortId) (p : ℕ) → IsPlaceOf r id p → IsOwned r id p
+pub owned_at : (r : HeldRing) → IsRing r → (id : PortId) (p : ℕ) → IsPlaceOf r id p → IsOwned r id p
 owned_at r h id p there =
     let cs = r.circuits.circuits in
     let c = there.circuit in

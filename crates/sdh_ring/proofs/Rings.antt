@@ -1,6 +1,7 @@
 -- What is true of a ring, call by call.
 use Rattle.std.proofs.Common.{◌≡◌, ℕ, ◌+◌, ◌/◌, ◌<◌, ◌≤◌, Bool, true, false, List, length, map, refl, ap, sym, subst, ◌∙◌, arith}
 use Rattle.std.specs.Prelude.{All, ◌^◌, Result, Ok, Err}
+use Rattle.std.proofs.lemmas.List.{map-id}
 use Rattle.sdh_ringmap.specs.Rates.{n_of}
 use Rattle.sdh_ringmap.specs.Ids.{AreIds}
 use Rattle.sdh_circuits.specs.Provisioning.{Provisioning, IsProvisioning}
@@ -111,3 +112,7 @@ pub ids_after : (exact : Bool) (w left : World) (before after : ℕ) (result : R
 unfolding any_round.round_with
 ids_after exact w left before after (Ok u) one = ap (λ (x : World). x.ring.ids) one.ok.after_is
 ids_after exact w left before after (Err e) one = ap (λ (r : HeldRing). r.ids) one.breaks.ring
+
+-- a ring whose nodes take another form and stay the same
+pub same_form : (r : HeldRing) → held.with_each (λ (n : Node). n) r ≡ r
+same_form r = (λ i. record r { nodes = map-id r.nodes i })

@@ -1,5 +1,5 @@
 //! The nodes of a ring, with what their ports delivered.
-ghost use Rattle.std.specs.Prelude.{◌≡◌, ◌+◌, ◌/◌, ◌<◌, ◌≤◌, [], false, Some, IfOk, length, slice_get, vec_capacity};
+ghost use Rattle.std.specs.Prelude.{◌≡◌, ◌+◌, ◌/◌, ◌<◌, ◌≤◌, [], false, IfOk, length, vec_capacity};
 ghost use Rattle.sdh_ringmap.specs.Rates.{n_of};
 ghost use Rattle.sdh_circuits.specs.Kept.{KeepsRing};
 ghost use Rattle.sdh_circuits.specs.declared.PortId.{PortId};
@@ -43,19 +43,6 @@ impl Model for Resting {
       spare : a.spare.items ≡ [];
       room : length a.ring.ids ≤ vec_capacity a.spare;
     } };
-}
-
-// Moves the nodes from `nodes` to `waiting`. From then on what they deliver stays in the received frames.
-fn wait_all(nodes: &mut Vec<Adm>, waiting: &mut Vec<Waiting>)
-    requires empty { waiting.old.items ≡ [] }
-    requires room { length nodes.old.items ≤ vec_capacity waiting.old }
-    ensures nodes { waiting.new.items ≡ nodes.old.items }
-    ensures empty { nodes.new.items ≡ [] }
-    ensures room { length nodes.old.items ≤ vec_capacity nodes.new }
-{
-    for node in nodes.drain(..) {
-        waiting.push_reserved(node.wait());
-    }
 }
 
 fn command_at(ring: &mut StationRing<Adm>, at: usize, side: Side, command: Command)
@@ -108,13 +95,8 @@ impl Resting {
     pub fn wait(self) -> Running
         ensures { result ≡ self }
     {
-        let Resting { ring, mut spare } = self;
-        let (rest, mut nodes) = ring.empty();
-        wait_all(&mut nodes, &mut spare);
-        Running {
-            ring: StationRing::filled(rest, spare),
-            spare: nodes,
-        }
+        let (ring, spare) = self.ring.into_form(self.spare);
+        Running { ring, spare }
     }
 
     /// The circuits fit the ring's size and rate: the function does nothing, and its contract is the law.
@@ -153,18 +135,6 @@ impl Resting {
         hold_at(&mut self.ring, at.0 as usize, turns);
     }
 
-    /// Returns the position of the node where a port of a circuit is.
-    pub fn place_of(&self, port: PortId) -> usize
-        requires { port.circuit < length self.now.circuits.circuits }
-        ensures place { result ≡ place_of_port self.now port }
-        ensures inside { result < length self.now.nodes }
-        ensures port { HasPort (node_at self.now.nodes result).ports port }
-        ensures outlet { outlet_at self.now port ≡ outlet_of port (node_at self.now.nodes result).ports }
-        ensures waiting { waiting_of port (node_at self.now.nodes result).ports ≡ waiting_at self.now port }
-    {
-        self.ring.place_of(port)
-    }
-
     /// Adds `count` pending slips to the clock of the customer who sends at a port.
     pub fn slip(&mut self, port: PortId, turn: Turn, count: u8)
         requires port { port.circuit < length self.old.circuits.circuits }
@@ -173,7 +143,7 @@ impl Resting {
           nodes = at_place (place_of_port self.old port) (slips_at port turn count) self.old.nodes;
         } }
     {
-        let at = self.place_of(port);
+        let at = self.ring.place_of(port);
         slip_at(&mut self.ring, at, port, turn, count);
     }
 
@@ -194,35 +164,6 @@ impl Resting {
         ensures waiting { waiting_at self.now port ≡ waiting_of port result.now.ports }
     {
         self.ring.node_of(port)
-    }
-
-    /// Returns how many rounds have run. They are numbered from 0, so the number of the last one is less by one.
-    pub fn rounds(&self) -> u64
-        ensures { result ≡ self.now.rounds }
-    {
-        self.ring.rounds()
-    }
-
-    /// Returns the nodes' identifiers.
-    pub fn map(&self) -> &RingMap
-        ensures { result.now ≡ self.now.ids }
-    {
-        self.ring.map()
-    }
-
-    /// Returns the node at a position.
-    pub fn node(&self, at: Pos) -> &Adm
-        requires { at.0 < length self.now.ids }
-        ensures { slice_get self.now.nodes at.0 ≡ Some result.now }
-    {
-        self.ring.node(at)
-    }
-
-    /// Returns the nodes, by position.
-    pub fn nodes(&self) -> &[Adm]
-        ensures { result.now ≡ self.now.nodes }
-    {
-        self.ring.nodes.as_slice()
     }
 }
 

@@ -397,14 +397,14 @@ impl Ring {
     pub fn rounds(&self) -> u64
         ensures { result ≡ self.now.rounds }
     {
-        self.resting().rounds()
+        self.resting().stations().rounds()
     }
 
     /// Returns the nodes' identifiers.
     pub fn map(&self) -> &RingMap
         ensures { result.now ≡ self.now.ids }
     {
-        self.resting().map()
+        self.resting().stations().map()
     }
 
     /// Returns the circuits.
@@ -419,7 +419,7 @@ impl Ring {
         requires { at.0 < length self.now.ids }
         ensures { slice_get self.now.nodes at.0 ≡ Some result.now }
     {
-        self.resting().node(at)
+        self.resting().stations().node(at)
     }
 
     /// Returns whether a fault of the plant broke a round off.

@@ -38,31 +38,13 @@ impl Model for Running {
     } };
 }
 
-// Moves the nodes from `nodes` to `delivered`, each with what its ports delivered in the last round.
-fn deliver_all(nodes: &mut Vec<Waiting>, delivered: &mut Vec<Adm>)
-    requires empty { delivered.old.items ≡ [] }
-    requires room { length nodes.old.items ≤ vec_capacity delivered.old }
-    ensures nodes { delivered.new.items ≡ nodes.old.items }
-    ensures empty { nodes.new.items ≡ [] }
-    ensures room { length nodes.old.items ≤ vec_capacity nodes.new }
-{
-    for node in nodes.drain(..) {
-        delivered.push_reserved(node.deliver());
-    }
-}
-
 impl Running {
     /// Returns the same nodes with what their ports delivered in the last round. The function takes no memory.
     pub(crate) fn deliver(self) -> Resting
         ensures { result ≡ self }
     {
-        let Running { ring, mut spare } = self;
-        let (rest, mut nodes) = ring.empty();
-        deliver_all(&mut nodes, &mut spare);
-        Resting {
-            ring: StationRing::filled(rest, spare),
-            spare: nodes,
-        }
+        let (ring, spare) = self.ring.into_form(self.spare);
+        Resting { ring, spare }
     }
 
     /// The circuits fit the ring's size and rate: the function does nothing, and its contract is the law.

@@ -1,5 +1,5 @@
 -- What a ring of nodes of any kind holds.
-use Rattle.std.specs.Prelude.{ℕ, zero, suc, ◌≡◌, ◌/◌, ◌<◌, Bool, false, Some, List, [], ◌∷◌, length, slice_get, slice_index_or}
+use Rattle.std.specs.Prelude.{ℕ, zero, suc, ◌≡◌, ◌/◌, ◌<◌, Bool, false, Some, List, [], ◌∷◌, length, map, slice_get, slice_index_or}
 use Rattle.std.specs.Option.{option_map_or}
 use Rattle.sdh_basics.specs.Cells.{cells}
 use Rattle.sdh_ringmap.specs.Rates.{n_of}
@@ -30,32 +30,13 @@ pub record HeldRing (N : Type 0) : Type 0 where
   -- a fault of the plant broke a round off
   pub broken : Bool
 
--- all of a ring but its nodes
-pub record Emptied : Type 0 where
-  pub settings : Settings
-  pub ids : List ℕ
-  pub circuits : Provisioning
-  pub moment : ℕ
-  pub rounds : ℕ
-  pub broken : Bool
-
-abbrev pub emptied : {N : Type 0} → HeldRing N → Emptied
-emptied r = record {
+-- the ring with each node changed, perhaps into one of another kind
+abbrev pub with_each : {N M : Type 0} → (N → M) → HeldRing N → HeldRing M
+with_each change r = record {
   settings = r.settings;
   ids = r.ids;
   circuits = r.circuits;
-  moment = r.moment;
-  rounds = r.rounds;
-  broken = r.broken;
-}
-
--- the ring with these nodes
-abbrev pub filled : {N : Type 0} → Emptied → List N → HeldRing N
-filled r nodes = record {
-  settings = r.settings;
-  ids = r.ids;
-  circuits = r.circuits;
-  nodes = nodes;
+  nodes = map change r.nodes;
   moment = r.moment;
   rounds = r.rounds;
   broken = r.broken;

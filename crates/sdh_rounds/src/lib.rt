@@ -6,7 +6,6 @@
 ghost use Rattle.sdh_rounds.specs.Laws.{KnownRounds, RoundsKeep, FaultsKeep, HonestRounds, RunsKeep, SettledNumbers, BrokenStepsSend};
 ghost use Rattle.sdh_rounds.specs.Laws.{KnownSteps, StepsAreComputed};
 
-mod emptied;
 mod faults;
 mod receiving;
 mod ring;
@@ -14,10 +13,9 @@ mod sending;
 mod station;
 mod steps;
 
-pub use emptied::Emptied;
 pub use faults::{PlantFault, SettleError, Stopped};
 pub use ring::StationRing;
-pub use station::Station;
+pub use station::{IntoForm, Station};
 pub use steps::{Nobody, Nowhere, Observer, Recorder, RunsRounds, settle, settle_recording};
 
 /// Where the arrivals are known they determine what a round leaves.

@@ -1,19 +1,18 @@
 //! A ring of nodes of any kind.
-ghost use Rattle.std.specs.Prelude.{◌≡◌, ◌↔◌, ◌+◌, ◌-◌, ◌*◌, ◌/◌, ◌%◌, ◌^◌, ◌<◌, ◌≤◌, ℕ, false, Some, IfOk, IsTrue, All, length, slice_get};
-ghost use Rattle.std.specs.Prelude.{if◌then◌else◌};
+ghost use Rattle.std.specs.Prelude.{◌≡◌, ◌↔◌, ◌+◌, ◌-◌, ◌*◌, ◌/◌, ◌%◌, ◌^◌, ◌<◌, ◌≤◌, ℕ, [], false, Some, IfOk, IsTrue, All, length, map, slice_get};
+ghost use Rattle.std.specs.Prelude.{if◌then◌else◌, vec_capacity};
 ghost use Rattle.sdh_ringmap.specs.Rates.{n_of};
 ghost use Rattle.sdh_circuits.specs.Kept.{KeepsRing};
 ghost use Rattle.sdh_circuits.specs.Provisioned.{end_of};
 ghost use Rattle.sdh_plant.specs.Fibres.{IsPrepared};
-ghost use Rattle.sdh_rounds.specs.Held.{world, new_nodes, new_ring, ring_of, emptied, filled, HasItsNodes, IsPlaceOf, IsNodeOf};
+ghost use Rattle.sdh_rounds.specs.Held.{world, new_nodes, new_ring, ring_of, with_each, HasItsNodes, IsPlaceOf, IsNodeOf};
 ghost use Rattle.sdh_rounds.specs.Quiet.{is_calm};
 ghost use Rattle.sdh_rounds.specs.Outcome.{IsOneRound};
 
-use crate::emptied::Emptied;
 use crate::faults::PlantFault;
 use crate::receiving::hear;
 use crate::sending::send_all;
-use crate::station::{Station, all_calm};
+use crate::station::{IntoForm, Station, all_calm};
 use sdh_circuits::{Circuit, CircuitMap, End, PortId};
 use sdh_frame::FrameBuf;
 use sdh_overhead::Landed;
@@ -73,6 +72,19 @@ fn new_nodes<N: Station>(
         nodes.push(N::try_new(alloc, settings, map, circuits, Pos(i as u8))?)?;
     }
     Ok(nodes)
+}
+
+// Moves the nodes from `nodes` to `formed`, each in its other form.
+fn form_all<N: IntoForm<M> + Drop, M: Drop>(nodes: &mut Vec<N>, formed: &mut Vec<M>)
+    requires empty { formed.old.items ≡ [] }
+    requires room { length nodes.old.items ≤ vec_capacity formed.old }
+    ensures nodes { formed.new.items ≡ map N.form nodes.old.items }
+    ensures empty { nodes.new.items ≡ [] }
+    ensures room { length nodes.old.items ≤ vec_capacity nodes.new }
+{
+    for node in nodes.drain(..) {
+        formed.push_reserved(node.into_form());
+    }
 }
 
 // Returns the position of a circuit's port.
@@ -139,15 +151,24 @@ impl<N: Station> StationRing<N> {
         }
     }
 
-    /// Takes the nodes out of the ring. They are in the order of their positions.
-    pub fn empty(self) -> (Emptied, Vec<N>)
-        ensures ring { result.0 ≡ emptied self }
-        ensures nodes { result.1.items ≡ self.nodes }
+    /// Returns the ring with each node in its other form, and the memory in which the nodes lay. In their other form they
+    /// lie in `spare`. The function takes no memory.
+    pub fn into_form<M: Station>(self, mut spare: Vec<M>) -> (StationRing<M>, Vec<N>)
+    where
+        N: IntoForm<M>,
+        requires empty { spare.items ≡ [] }
+        requires room { length self.ids ≤ vec_capacity spare }
+        ensures ring { result.0 ≡ with_each N.form self }
+        ensures empty { result.1.items ≡ [] }
+        ensures room { length self.ids ≤ vec_capacity result.1 }
     {
-        let rest = Emptied {
+        let mut nodes = self.nodes;
+        form_all(&mut nodes, &mut spare);
+        let ring = StationRing {
             settings: self.settings,
             map: self.map,
             circuits: self.circuits,
+            nodes: spare,
             arrived: self.arrived,
             west: self.west,
             east: self.east,
@@ -155,26 +176,7 @@ impl<N: Station> StationRing<N> {
             rounds: self.rounds,
             broken: self.broken,
         };
-        (rest, self.nodes)
-    }
-
-    /// Returns the ring with these nodes, one for each position.
-    pub fn filled(rest: Emptied, nodes: Vec<N>) -> StationRing<N>
-        requires { HasItsNodes (filled rest nodes.items) }
-        ensures { result ≡ filled rest nodes.items }
-    {
-        StationRing {
-            settings: rest.settings,
-            map: rest.map,
-            circuits: rest.circuits,
-            nodes,
-            arrived: rest.arrived,
-            west: rest.west,
-            east: rest.east,
-            present: rest.present,
-            rounds: rest.rounds,
-            broken: rest.broken,
-        }
+        (ring, nodes)
     }
 
     /// Sets the present moment, at which the next rounds run.

@@ -75,6 +75,16 @@ pub trait Station: Drop {
     ghost told_may: { (now : ℕ) (side : Side) (a : Arrival) (n : Self) → MayRun now n → MayRun now (kind.told side a n) };
 }
 
+/// A node that can take another form.
+pub trait IntoForm<M> {
+    /// The node in its other form.
+    ghost form: { Self → M };
+
+    /// Returns the node in its other form. The function takes no memory.
+    fn into_form(self) -> M
+        ensures { result ≡ form self };
+}
+
 /// Returns whether the last round was calm at each of these nodes.
 pub fn all_calm<S: Station>(nodes: &[S]) -> bool
     ensures { result ≡ is_calm S.kind nodes.now }

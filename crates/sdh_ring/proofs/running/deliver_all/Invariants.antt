@@ -1,9 +1,0 @@
-use Rattle.std.proofs.Common.{◌≡◌, ◌++◌, vec_capacity}
-use Rattle.std.specs.Vec.Iter.{drain_items}
-use Rattle.sdh_ring.proofs.running.deliver_all.Given as goal
-
-abbrev pub invariant-loop-node : goal.invariant-loop-node
-invariant-loop-node l = (goal.iterator-loop-node).can_next l.node-iterator
-    × (goal.iterator-loop-node).is_finite l.node-iterator
-    × (l.delivered.items ++ drain_items l.node-iterator ≡ drain_items l.initial.node-iterator)
-    × (vec_capacity l.delivered ≡ vec_capacity l.initial.delivered)
