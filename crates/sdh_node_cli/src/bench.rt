@@ -132,8 +132,8 @@ impl Bench {
         self.node.receive(side, Arrived::Dark, &self.west);
     }
 
-    /// Reads a frame of a side from a source, and keeps it for the next round. `first` is its first byte, where that was
-    /// read before. Returns `Cut` where the source ends within the frame, and `ReadFault` where a read fails.
+    /// Reads a frame of a side from a source, and keeps it for the next round. `first` is its first byte, where that
+    /// was read before. Returns `Cut` where the source ends within the frame, and `ReadFault` where a read fails.
     #[tactic(auto, unfolding(crate::specs::Bench::after_coming))]
     pub fn take_frame<R: Source>(
         &mut self,

@@ -158,8 +158,8 @@ fn read_line<R: Source>(source: &mut R, line: &mut Text) -> Result<LineEnd, Fail
 }
 
 /// Reads the line of the next record into an empty text, without its newline byte. Returns the first byte that was read
-/// after its newline byte, if one was. Where the line is that of a record, no other byte was read after it, and this one
-/// only where a frame from the west follows.
+/// after its newline byte, if one was. Where the line is that of a record, no other byte was read after it, and this
+/// one only where a frame from the west follows.
 pub fn next_line<R: Source>(source: &mut R, line: &mut Text) -> Result<Option<u8>, Stop>
     requires empty { line.old.bytes ≡ [] }
     requires room { room_in line.old ≡ 65 }
