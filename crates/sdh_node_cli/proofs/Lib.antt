@@ -8,6 +8,7 @@ pub mod EndLine
 pub mod Heads
 pub mod Long
 pub mod Newlines
+pub mod Ahead
 pub mod Turning
 pub mod Faults
 pub mod Told

@@ -16,18 +16,20 @@ use Rattle.sdh_plan.specs.Words.{words, is_empty}
 use Rattle.sdh_plan.specs.declared.reason.Reason.{Reason}
 use Rattle.sdh_plan.specs.declared.reason.Reason.TheVariants as reason
 use Rattle.sdh_node_cli.specs.declared.record.Came.{Came}
+use Rattle.sdh_node_cli.specs.declared.record.Came.TheVariants as came
 use Rattle.sdh_node_cli.specs.declared.record.Record.{Record}
+use Rattle.sdh_node_cli.specs.declared.record.Record.TheVariants as what
 use Rattle.sdh_node_cli.specs.Records.{came_at, round_by, round_in, command_in, moment_in, hold_in, slip_in, record_by, record_in, record_of}
-use Rattle.sdh_node_cli.specs.Streams.{fewest}
+use Rattle.sdh_node_cli.specs.Streams.{fewest, west_of, east_of, most_ahead}
 use Rattle.sdh_node_cli.specs.Laws.{RecordsAreLong}
 
 -- ---- the fewest bytes
 
-pub fewest_most : (front : List ℕ) → fewest front ≤ 17
+pub fewest_most : (front : List ℕ) → fewest front ≤ 18
 unfolding fewest
 fewest_most front = by (get_or front 0 0 == 114) (get_or front 6 0 == 102)
   where
-    by : (r f : Bool) → cond r (cond f 17 16) 7 ≤ 17
+    by : (r f : Bool) → cond r (cond f 18 16) 7 ≤ 18
     by true true = omega arith
     by true false = omega arith
     by false f = omega arith
@@ -47,7 +49,7 @@ fewest_more front rest =
     (λ e. ap (λ x. x == 114) (stays front rest 0 113 (eqb-true (get_or front 0 0) 114 e)))
     (λ e. ap (λ x. x == 102) (stays front rest 6 101 (eqb-true (get_or front 6 0) 102 e)))
   where
-    by : (r f s g : Bool) → (r ≡ true → s ≡ true) → (f ≡ true → g ≡ true) → cond r (cond f 17 16) 7 ≤ cond s (cond g 17 16) 7
+    by : (r f s g : Bool) → (r ≡ true → s ≡ true) → (f ≡ true → g ≡ true) → cond r (cond f 18 16) 7 ≤ cond s (cond g 18 16) 7
     by false f true true p q = omega arith
     by false f true false p q = omega arith
     by false f false g p q = omega arith
@@ -65,6 +67,9 @@ picked false x y r e = inr e
 
 no_form : (why : Reason) (r : Record) → Err why ≡ Ok r → ⊥
 no_form why r e = cc
+
+ok_same : (s r : Record) → ◌≡◌ {A = Result Record Reason} (Ok s) (Ok r) → r ≡ s
+ok_same s r e = cc
 
 -- the first word isn't `round`
 record IsOther (first : List ℕ) : Type 0 where
@@ -126,41 +131,52 @@ never_alone circuits at first r e =
 
 -- ---- the words of a round
 
--- a word that says what came on a side has at least four bytes
-record IsCame (word : List ℕ) : Type 0 where
+-- a word that says what came on a side has at least four bytes, and five and a frame where it begins with `f`
+record IsCame (c : Came) (word : List ℕ) : Type 0 where
   pub long : 4 ≤ length word
-  pub led : (get_or word 0 0 == 102) ≡ true → 5 ≤ length word
+  pub led : (get_or word 0 0 == 102) ≡ true → (5 ≤ length word) × (c ≡ came.Frame)
 
 no_side : (c : Came) → None ≡ Some c → ⊥
 no_side c e = cc
 
-said : (text word : List ℕ) (x y : Option Came) (c : Came) → IsCame text → (y ≡ Some c → IsCame word)
-    → cond (bytes_eq word text) x y ≡ Some c → IsCame word
+some_same : (a c : Came) → Some a ≡ Some c → c ≡ a
+some_same a c e = cc
+
+said : (text word : List ℕ) (x y : Option Came) (c : Came) → (x ≡ Some c → IsCame c text) → (y ≡ Some c → IsCame c word)
+    → cond (bytes_eq word text) x y ≡ Some c → IsCame c word
 said text word x y c is more e = by (bytes_eq word text) refl e
   where
-    by : (b : Bool) → bytes_eq word text ≡ b → cond b x y ≡ Some c → IsCame word
-    by true same h = subst IsCame (sym ((bytes_eq-Decides word text).0 same)) is
+    by : (b : Bool) → bytes_eq word text ≡ b → cond b x y ≡ Some c → IsCame c word
+    by true same h = subst (IsCame c) (sym ((bytes_eq-Decides word text).0 same)) (is h)
     by false same h = more h
 
-came_is : (word : List ℕ) (c : Came) → came_at word ≡ Some c → IsCame word
+came_is : (word : List ℕ) (c : Came) → came_at word ≡ Some c → IsCame c word
 came_is word c e =
-    said (codes "none") word _ _ c (record { long = omega arith; led = λ h. cc })
-    (said (codes "dark") word _ _ c (record { long = omega arith; led = λ h. cc })
-    (said (codes "frame") word _ _ c (record { long = omega arith; led = λ h. omega arith }) (λ (n : None ≡ Some c). absurd (no_side c n)))) e
+    said (codes "none") word _ _ c (λ h. record { long = omega arith; led = λ f. cc })
+    (said (codes "dark") word _ _ c (λ h. record { long = omega arith; led = λ f. cc })
+    (said (codes "frame") word _ _ c (λ h. record { long = omega arith; led = λ f. (omega arith, some_same came.Frame c h) })
+    (λ (n : None ≡ Some c). absurd (no_side c n)))) e
 
-both : (x y : Option Came) (r : Record) → round_by x y ≡ Ok r → ((a : Came) × (x ≡ Some a)) × ((b : Came) × (y ≡ Some b))
-both (Some a) (Some b) r e = ((a, refl), (b, refl))
+-- a record is a round of what came from the west and from the east
+record Both (x y : Option Came) (r : Record) : Type 0 where
+  pub west : x ≡ Some (west_of r)
+  pub east : y ≡ Some (east_of r)
+
+both : (x y : Option Came) (r : Record) → round_by x y ≡ Ok r → Both x y r
+both (Some a) (Some b) r e =
+    let is : r ≡ what.Round a b = ok_same (what.Round a b) r e in
+    record { west = ap (λ s. Some (west_of s)) (sym is); east = ap (λ s. Some (east_of s)) (sym is) }
 both (Some a) None r e = cc
 both None y r e = cc
 
-record IsRound (others : List (List ℕ)) : Type 0 where
+record IsRound (r : Record) (others : List (List ℕ)) : Type 0 where
   pub west : List ℕ
   pub east : List ℕ
   pub others_are : others ≡ west ∷ east ∷ []
-  pub west_is : IsCame west
-  pub east_is : IsCame east
+  pub west_is : IsCame (west_of r) west
+  pub east_is : IsCame (east_of r) east
 
-round_is : (others : List (List ℕ)) (r : Record) → round_in others ≡ Ok r → IsRound others
+round_is : (others : List (List ℕ)) (r : Record) → round_in others ≡ Ok r → IsRound r others
 round_is [] r e = absurd (no_form _ r e)
 round_is (west ∷ []) r e = absurd (no_form _ r e)
 round_is (west ∷ east ∷ []) r e =
@@ -169,8 +185,8 @@ round_is (west ∷ east ∷ []) r e =
       west = west;
       east = east;
       others_are = refl;
-      west_is = came_is west h.0.0 h.0.1;
-      east_is = came_is east h.1.0 h.1.1;
+      west_is = came_is west (west_of r) h.west;
+      east_is = came_is east (east_of r) h.east;
     }
 round_is (west ∷ east ∷ more ∷ others) r e = absurd (no_form _ r e)
 
@@ -178,13 +194,13 @@ round_is (west ∷ east ∷ more ∷ others) r e = absurd (no_form _ r e)
 
 other_fewest : (line : List ℕ) → (get_or line 0 0 == 114) ≡ false → fewest line ≡ 7
 unfolding fewest
-other_fewest line e = ap (λ b. cond b (cond (get_or line 6 0 == 102) 17 16) 7) e
+other_fewest line e = ap (λ b. cond b (cond (get_or line 6 0 == 102) 18 16) 7) e
 
-round_fewest : (line : List ℕ) (f : Bool) → (get_or line 6 0 == 102) ≡ f → fewest line ≤ cond f 17 16
+round_fewest : (line : List ℕ) (f : Bool) → (get_or line 6 0 == 102) ≡ f → fewest line ≤ cond f 18 16
 unfolding fewest
-round_fewest line f e = subst (λ g. cond (get_or line 0 0 == 114) (cond g 17 16) 7 ≤ cond f 17 16) (sym e) (by (get_or line 0 0 == 114) f)
+round_fewest line f e = subst (λ g. cond (get_or line 0 0 == 114) (cond g 18 16) 7 ≤ cond f 18 16) (sym e) (by (get_or line 0 0 == 114) f)
   where
-    by : (r g : Bool) → cond r (cond g 17 16) 7 ≤ cond g 17 16
+    by : (r g : Bool) → cond r (cond g 18 16) 7 ≤ cond g 18 16
     by true true = omega arith
     by true false = omega arith
     by false true = omega arith
@@ -203,9 +219,9 @@ other_long line first tail is other some =
       length-append line (10 ∷ []),
     )
 
-round_long : (line west east : List ℕ) → line ≡ codes "round" ++ 32 ∷ (west ++ 32 ∷ east) → IsCame west → IsCame east
-    → fewest line ≤ length (whole_line line)
-round_long line west east is w e = by (get_or line 6 0 == 102) refl
+round_long : (line west east : List ℕ) (c d : Came) → line ≡ codes "round" ++ 32 ∷ (west ++ 32 ∷ east) → IsCame c west → IsCame d east
+    → fewest line ≤ length (whole_line line) + most_ahead c
+round_long line west east c d is w e = by (get_or line 6 0 == 102) refl
   where
     seventh : get_or line 6 0 ≡ get_or west 0 0
     seventh = ap (λ l. get_or l 6 0) is ∙ get_or_append_left west (32 ∷ east) 0 0 (omega (arith, w.long))
@@ -219,8 +235,10 @@ round_long line west east is w e = by (get_or line 6 0 == 102) refl
       length-append line (10 ∷ []),
     )
 
-    by : (f : Bool) → (get_or line 6 0 == 102) ≡ f → fewest line ≤ length (whole_line line)
-    by true h = omega (arith, round_fewest line true h, size, w.led (sym (ap (λ x. x == 102) seventh) ∙ h), e.long)
+    by : (f : Bool) → (get_or line 6 0 == 102) ≡ f → fewest line ≤ length (whole_line line) + most_ahead c
+    by true h =
+        let led = w.led (sym (ap (λ x. x == 102) seventh) ∙ h) in
+        omega (arith, round_fewest line true h, size, led.0, ap most_ahead led.1, e.long)
     by false h = omega (arith, round_fewest line false h, size, w.long, e.long)
 
 -- the first word, and what comes after the first space
@@ -238,7 +256,7 @@ none_empty [] false c e = cc
 none_empty (x ∷ word) b c e = omega arith
 
 words_long : (circuits : List Provisioned) (at : Pos) (line : List ℕ) (ws : List (List ℕ)) (r : Record) → words line ≡ ws → list_any is_empty ws ≡ false
-    → record_in circuits at ws ≡ Ok r → fewest line ≤ length (whole_line line)
+    → record_in circuits at ws ≡ Ok r → fewest line ≤ length (whole_line line) + most_ahead (west_of r)
 unfolding record_in
 words_long circuits at line [] r is full e = absurd (no_form _ r e)
 words_long circuits at line (first ∷ []) r is full e = absurd (never_alone circuits at first r e)
@@ -247,26 +265,30 @@ words_long circuits at line (first ∷ second ∷ more) r is full e = by (first_
     parts : line ≡ first ++ 32 ∷ join_with_byte 32 (second ∷ more)
     parts = line_of line first second more is
 
-    rounds : first ≡ codes "round" → IsRound (second ∷ more) → fewest line ≤ length (whole_line line)
+    rounds : first ≡ codes "round" → IsRound r (second ∷ more) → fewest line ≤ length (whole_line line) + most_ahead (west_of r)
     rounds same round =
-        round_long line round.west round.east
+        round_long line round.west round.east (west_of r) (east_of r)
         (parts ∙ ap (λ w. w ++ 32 ∷ join_with_byte 32 (second ∷ more)) same ∙ ap (λ ws. codes "round" ++ 32 ∷ join_with_byte 32 ws) round.others_are)
         round.west_is round.east_is
 
-    by : ((first ≡ codes "round") × (round_in (second ∷ more) ≡ Ok r)) ⊎ IsOther first → fewest line ≤ length (whole_line line)
+    by : ((first ≡ codes "round") × (round_in (second ∷ more) ≡ Ok r)) ⊎ IsOther first
+        → fewest line ≤ length (whole_line line) + most_ahead (west_of r)
     by (inl h) = rounds h.0 (round_is (second ∷ more) r h.1)
     by (inr other) =
-        other_long line first (join_with_byte 32 (second ∷ more)) parts other
-        (omega (arith, joined_long second more, none_empty second (is_empty first) (list_any is_empty more) full))
+        omega (
+          arith,
+          other_long line first (join_with_byte 32 (second ∷ more)) parts other
+              (omega (arith, joined_long second more, none_empty second (is_empty first) (list_any is_empty more) full)),
+        )
 
 -- a record has at least the fewest bytes of its line
 pub line_long : (circuits : List Provisioned) (at : Pos) (line : List ℕ) (r : Record) → record_of circuits at line ≡ Ok r
-    → fewest line ≤ length (whole_line line)
+    → fewest line ≤ length (whole_line line) + most_ahead (west_of r)
 unfolding record_of
 line_long circuits at line r e = by (list_any is_empty (words line)) refl e
   where
     by : (b : Bool) → list_any is_empty (words line) ≡ b → cond b (Err reason.StepForm) (record_in circuits at (words line)) ≡ Ok r
-        → fewest line ≤ length (whole_line line)
+        → fewest line ≤ length (whole_line line) + most_ahead (west_of r)
     by true full h = absurd (no_form reason.StepForm r h)
     by false full h = words_long circuits at line (words line) r refl full h
 

@@ -1,7 +1,8 @@
 -- Bytes cut at their first newline byte.
-use Rattle.std.proofs.Common.{◌≡◌, ◌≢◌, ℕ, suc, ◌+◌, ◌<◌, ◌≤◌, ◌⊎◌, inl, inr, List, [], ◌∷◌, ◌++◌, length, take, drop, get_or, ◌==◌, refl, ap, sym, ◌∙◌, arith}
-use Rattle.std.proofs.Common.{Bool, true, false, cond, not, nat_lt, position, append_assoc, take-append-drop}
-use Rattle.std.specs.Prelude.{Some, None}
+use Rattle.std.proofs.Common.{◌≡◌, ◌≢◌, ℕ, suc, ◌+◌, ◌<◌, ◌≤◌, ◌⊎◌, inl, inr, List, [], ◌∷◌, ◌++◌, length, take, drop, get_or, ◌==◌, refl, ap, sym, subst, ◌∙◌, arith, ◌-◌}
+use Rattle.std.proofs.Common.{Bool, true, false, cond, not, nat_lt, position, append_assoc, take-append-drop, take_all, length-drop}
+use Rattle.std.specs.Prelude.{Option, Some, None, slice_get}
+use Rattle.std.specs.Io.KnownBytes.{Consumes}
 use Rattle.std.specs.List.{position_or_len}
 use Rattle.std.proofs.lemmas.Bool.{eqb-true, eqb-false}
 use Rattle.std.proofs.lemmas.List.{length-append, length-take, get_or-take, take-append-le}
@@ -9,7 +10,9 @@ use Rattle.std.proofs.lemmas.List.Elements.{All-nil, All-cons, All-from_get_or}
 use Rattle.std.proofs.lemmas.List.Quantifiers.{position-Some}
 use Rattle.std.proofs.Math.Seq.{drop-cons}
 use Rattle.sdh_node_cli.specs.Lines.{IsOneLine, whole_line}
+use Rattle.sdh_node_cli.specs.declared.line.Got.TheVariants as got
 use Rattle.sdh_node_cli.specs.Streams.{fewest, IsBehind}
+use Rattle.sdh_node_cli.specs.Turns.{TakesMore}
 use Rattle.sdh_node_cli.proofs.Long.{fewest_more}
 
 abbrev is_newline : ℕ → Bool
@@ -44,12 +47,13 @@ front_line xs i e =
     let below : k < i = omega (arith, small, length-take i xs) in
     clash (get_or xs k 0 == 10) (h.2 k below) (ap (λ x. x == 10) (sym (get_or-take i xs k 0 below) ∙ is)))
 
-pub front_cut : (xs : List ℕ) (i : ℕ) → position (λ byte. byte == 10) xs ≡ Some i → xs ≡ whole_line (take i xs) ++ drop (suc i) xs
+pub front_cut : (xs : List ℕ) (i : ℕ) → position (λ byte. byte == 10) xs ≡ Some i → xs ≡ whole_line (take i xs) ++ drop (i + 1) xs
 front_cut xs i e =
     let h = position-Some is_newline xs i 0 e in
-    let behind : drop i xs ≡ 10 ∷ drop (suc i) xs =
-    drop-cons xs i 0 h.0 ∙ ap (λ x. x ∷ drop (suc i) xs) (eqb-true (get_or xs i 0) 10 h.1) in
-    sym (take-append-drop i xs) ∙ ap (λ l. take i xs ++ l) behind ∙ sym (append_assoc (take i xs) (10 ∷ []) (drop (suc i) xs))
+    let next : suc i ≡ i + 1 = omega arith in
+    let behind : drop i xs ≡ 10 ∷ drop (i + 1) xs =
+    drop-cons xs i 0 h.0 ∙ ap (λ n. get_or xs i 0 ∷ drop n xs) next ∙ ap (λ x. x ∷ drop (i + 1) xs) (eqb-true (get_or xs i 0) 10 h.1) in
+    sym (take-append-drop i xs) ∙ ap (λ l. take i xs ++ l) behind ∙ sym (append_assoc (take i xs) (10 ∷ []) (drop (i + 1) xs))
 
 -- ---- what was read after a line that came in parts
 
@@ -77,3 +81,31 @@ of_read count buf more within is = sym (take-append-le count buf more within) �
 
 pub at_most : (n m : ℕ) (room : List ℕ) → m ≡ length (take n room) → m ≤ n
 at_most n m room is = omega (arith, length-take n room)
+
+-- ---- the rest of a line
+
+first_behind : (xs : List ℕ) (n : ℕ) (first : Option ℕ) → first ≡ slice_get (take (length xs - n) (drop n xs)) 0
+    → first ≡ slice_get (drop n xs) 0
+first_behind xs n first e = e ∙ ap (λ l. slice_get l 0) (take_all _ _ (omega (arith, length-drop {A = ℕ})))
+
+-- one read gave `count` bytes of a buffer, and there is a newline byte among them
+pub rest_taken : (count at asked : ℕ) (buf room before new : List ℕ) (first : Option ℕ) (left now : Option (List ℕ))
+    → take count (buf ++ room) ≡ whole_line (take at (take count (buf ++ room))) ++ drop (at + 1) (take count (buf ++ room))
+    → IsOneLine (take at (take count (buf ++ room))) → new ≡ before ++ take at (take count (buf ++ room)) → Consumes left now (take count buf)
+    → count ≤ length buf → count ≤ asked → (asked + length before ≤ fewest before) ⊎ (asked ≡ 1)
+    → first ≡ slice_get (take (length (take count (buf ++ room)) - (at + 1)) (drop (at + 1) (take count (buf ++ room)))) 0
+    → TakesMore left now before new (got.Rest first)
+rest_taken count at asked buf room before new first left now cut one is read within few lacking first_is =
+    let xs = take count (buf ++ room) in
+    let part = take at xs in
+    let more = drop (at + 1) xs in
+    let whole : take count buf ≡ whole_line part ++ more = of_read count buf room within cut in
+    let all : length (whole_line part ++ more) ≤ asked = omega (arith, few, length-take count buf, ap length whole) in (
+      part,
+      more,
+      one,
+      subst (Consumes left now) whole read,
+      is,
+      subst (λ l. IsBehind l more) (sym is) (few_behind before part more asked all lacking),
+      first_behind xs (at + 1) first first_is,
+    )

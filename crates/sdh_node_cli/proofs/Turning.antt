@@ -1,8 +1,8 @@
 -- One record, by its parts.
-use Rattle.std.proofs.Common.{◌≡◌, ℕ, ◌+◌, ◌≤◌, List, [], ◌∷◌, ◌++◌, length, refl, ap, sym, subst, ◌∙◌, arith, inl, inr, append-nil}
-use Rattle.std.specs.Prelude.{Option, Some, None, Result, Ok, Err}
+use Rattle.std.proofs.Common.{◌≡◌, ℕ, ◌+◌, ◌≤◌, ◌⊎◌, List, [], ◌∷◌, ◌++◌, length, refl, ap, sym, subst, ◌∙◌, arith, inl, inr, append_assoc, append-nil}
+use Rattle.std.specs.Prelude.{Option, Some, None, Result, Ok, Err, slice_get}
 use Rattle.std.specs.Io.KnownBytes.{Appends, Consumes}
-use Rattle.std.proofs.KnownBytes.{Appends-nil, Consumes-trans, Keeps-refl}
+use Rattle.std.proofs.KnownBytes.{Appends-nil, Consumes-nil, Consumes-trans, Keeps-refl}
 use Rattle.std.proofs.lemmas.List.{length-append}
 use Rattle.sdh_outside.specs.Writing.{AppendsFewer}
 use Rattle.sdh_node_cli.specs.Lines.{whole_line}
@@ -24,8 +24,8 @@ use Rattle.sdh_node_cli.specs.declared.stop.Stop.TheVariants as stop
 use Rattle.sdh_node_cli.specs.Records.{record_of}
 use Rattle.sdh_node_cli.proofs.Long.{line_long}
 use Rattle.sdh_node_cli.specs.Bench.{Bench, refusal_of, after_told, size_after, after_coming, with_arrivals, after_round, answer_to, answer_room}
-use Rattle.sdh_node_cli.specs.Streams.{Given, after_record, after, IsLine, IsBehind, IsRefusedFor, IsRefused}
-use Rattle.sdh_node_cli.specs.Turns.{room_for, ReadsLine, HasLine, Takes, TakesPart, TakesBoth, both_sizes, Ran, RanCut, StopsRound, Goes, Halts, StopsBy}
+use Rattle.sdh_node_cli.specs.Streams.{Given, after_record, after, west_of, IsLine, IsBehind, IsRefusedFor, IsRefused, most_ahead}
+use Rattle.sdh_node_cli.specs.Turns.{room_for, with_ahead, IsAhead, ReadsLine, HasLine, Takes, TakesPart, TakesBoth, both_sizes, Ran, RanCut, StopsRound, Goes, Halts, StopsBy}
 
 -- ---- what stays
 
@@ -110,6 +110,38 @@ both_came : (b c d : Bench) (west east : Came) (w e : List ℕ) → c ≡ record
     → d ≡ record c { node = after_coming East east e c.node } → d ≡ with_arrivals west w east e b
 both_came b c d west east w e first second =
     second ∙ ap (λ (x : Bench). record x { node = after_coming East east e x.node }) first
+
+-- ---- what came on a side that has no frame
+
+pub none_ahead : (c : Came) → IsAhead c None
+none_ahead came.Nothing = refl
+none_ahead came.Dark = refl
+none_ahead came.Frame = tt
+
+none_first : (c : Came) (first : Option ℕ) → (c ≡ came.Nothing) ⊎ (c ≡ came.Dark) → IsAhead c first → first ≡ None
+none_first c first (inl is) ahead = subst (λ (x : Came). IsAhead x first) is ahead
+none_first c first (inr is) ahead = subst (λ (x : Came). IsAhead x first) is ahead
+
+pub takes_none : (b : Bench) (c : Came) (first : Option ℕ) (left : Option (List ℕ)) → (c ≡ came.Nothing) ⊎ (c ≡ came.Dark) → IsAhead c first
+    → Takes b c (with_ahead first left) left []
+takes_none b c first left is ahead = record {
+  whole = no_size is;
+  read = subst (λ (f : Option ℕ). Consumes (with_ahead f left) left []) (sym (none_first c first is ahead)) (Consumes-nil left);
+}
+  where
+    no_size : (c ≡ came.Nothing) ⊎ (c ≡ came.Dark) → 0 ≡ size_after b.node.settings.rate c
+    no_size (inl e) = sym (ap (λ x. size_after b.node.settings.rate x) e)
+    no_size (inr e) = sym (ap (λ x. size_after b.node.settings.rate x) e)
+
+pub nothing_came : (side : Side) (c : Came) (b : Bench) → c ≡ came.Nothing → b ≡ record b { node = after_coming side c [] b.node }
+unfolding after_coming
+nothing_came side c b is = subst (λ (x : Came). b ≡ record b { node = after_coming side x [] b.node }) (sym is) refl
+
+pub dark_came : (side : Side) (c : Came) (b d : Bench) → c ≡ came.Dark → d ≡ record b { node = after_coming side came.Dark [] b.node }
+    → d ≡ record b { node = after_coming side c [] b.node }
+dark_came side c b d is made = subst (λ (x : Came). d ≡ record b { node = after_coming side x [] b.node }) (sym is) made
+
+-- ---- both sides
 
 -- whole frames came on both sides
 pub takes_both : (b c d : Bench) (west east : Came) (left mid now : Option (List ℕ)) (w e : List ℕ)
@@ -203,26 +235,32 @@ both_stay b d west east left now both =
 
 -- ---- a record
 
-pub goes_round : (b new : Bench) (line : List ℕ) (west east : Came) (left mid now old_text new_text : Option (List ℕ))
-    → HasLine b line (what.Round west east) left mid → Ran b new west east mid now old_text new_text → Goes b new left now old_text new_text
-goes_round b new line west east left mid now old_text new_text l ran = record {
+pub goes_round : (b new : Bench) (line : List ℕ) (west east : Came) (first : Option ℕ) (left mid now old_text new_text : Option (List ℕ))
+    → HasLine b line (what.Round west east) first left mid → Ran b new west east (with_ahead first mid) now old_text new_text
+    → Goes b new left now old_text new_text
+goes_round b new line west east first left mid now old_text new_text l ran = record {
   given = record { line = line; record_is = what.Round west east; west = ran.from_west; east = ran.from_east };
   is = record {
     said = record { line_is = l.line_is; reads = l.reads; may = refl };
     west_whole = ran.west_whole;
     east_whole = ran.east_whole;
   };
-  read = Consumes-trans left mid now (whole_line line) (ran.from_west ++ ran.from_east) l.read ran.read;
+  read = Consumes-trans left (with_ahead first mid) now (whole_line line) (ran.from_west ++ ran.from_east) l.read ran.read;
   wrote = ran.wrote;
   bench = ran.bench;
 }
 
-pub goes_told : (b new : Bench) (line : List ℕ) (t : Told) (left now text : Option (List ℕ)) → HasLine b line (what.Told t) left now
-    → refusal_of b t ≡ None → new ≡ after_told t b → Goes b new left now text text
-goes_told b new line t left now text l may is = record {
+-- no byte was read with a line after which no frame comes from the west
+alone : (line : List ℕ) (first : Option ℕ) (left now : Option (List ℕ)) → first ≡ None → Consumes left (with_ahead first now) (whole_line line)
+    → Consumes left now (whole_line line)
+alone line first left now none read = subst (λ f. Consumes left (with_ahead f now) (whole_line line)) none read
+
+pub goes_told : (b new : Bench) (line : List ℕ) (t : Told) (first : Option ℕ) (left now text : Option (List ℕ))
+    → HasLine b line (what.Told t) first left now → refusal_of b t ≡ None → new ≡ after_told t b → Goes b new left now text text
+goes_told b new line t first left now text l may is = record {
   given = record { line = line; record_is = what.Told t; west = []; east = [] };
   is = record { said = record { line_is = l.line_is; reads = l.reads; may = may }; west_whole = refl; east_whole = refl };
-  read = subst (Consumes left now) (sym (append-nil (whole_line line))) l.read;
+  read = subst (Consumes left now) (sym (append-nil (whole_line line))) (alone line first left now l.ahead l.read);
   wrote = Appends-nil text;
   bench = is;
 }
@@ -234,25 +272,50 @@ refused_line : (b : Bench) (line more : List ℕ) (why : Reason) → IsLine line
     → {tail : List ℕ} → whole_line line ++ more ≡ tail → IsRefused b why tail
 refused_line b line more why is refused few e = record { line = line; more = more; tail_is = sym e; line_is = is; refused = refused; few = few }
 
--- where a line is that of a record, nothing was read after it
-pub has_line : (b : Bench) (line : List ℕ) (r : Record) (left now : Option (List ℕ)) → ReadsLine line left now
-    → record_of b.circuits b.at line ≡ Ok r → HasLine b line r left now
-has_line b line r left now l reads =
-    let none : l.more ≡ [] = no_bytes l.more (omega (arith, l.few, line_long b.circuits b.at line r reads)) in
+-- bytes that were read with a line and are no more than there may be of what came from the west
+ahead_of : (c : Came) (more : List ℕ) → length more ≤ most_ahead c → IsAhead c (slice_get more 0)
+ahead_of came.Nothing [] few = refl
+ahead_of came.Nothing (x ∷ more) few = absurd (omega (arith, few))
+ahead_of came.Dark [] few = refl
+ahead_of came.Dark (x ∷ more) few = absurd (omega (arith, few))
+ahead_of came.Frame more few = tt
+
+at_most_one : (c : Came) → most_ahead c ≤ 1
+at_most_one came.Nothing = omega arith
+at_most_one came.Dark = omega arith
+at_most_one came.Frame = omega arith
+
+-- a byte that was read after a line is still to be taken
+put_back : (line : List ℕ) (x : ℕ) (left now : Option (List ℕ)) → Consumes left now (line ++ x ∷ [])
+    → Consumes left (with_ahead (Some x) now) line
+put_back line x None now read = tt
+put_back line x (Some old) None read = absurd read
+put_back line x (Some old) (Some new) read = read ∙ append_assoc line (x ∷ []) new
+
+ahead_left : (line more : List ℕ) (left now : Option (List ℕ)) → length more ≤ 1 → Consumes left now (line ++ more)
+    → Consumes left (with_ahead (slice_get more 0) now) line
+ahead_left line [] left now few read = subst (Consumes left now) (append-nil line) read
+ahead_left line (x ∷ []) left now few read = put_back line x left now read
+ahead_left line (x ∷ y ∷ more) left now few read = absurd (omega (arith, few))
+
+-- where a line is that of a record, nothing was read after it but the first byte of the frame from the west
+pub has_line : (b : Bench) (line : List ℕ) (r : Record) (first : Option ℕ) (left now : Option (List ℕ)) → ReadsLine line first left now
+    → record_of b.circuits b.at line ≡ Ok r → HasLine b line r first left now
+has_line b line r first left now l reads =
+    let few : length l.more ≤ most_ahead (west_of r) = omega (arith, l.few, line_long b.circuits b.at line r reads) in
     record {
       line_is = l.line_is;
       reads = reads;
-      read = subst (Consumes left now) (ap (λ m. whole_line line ++ m) none ∙ append-nil (whole_line line)) l.read;
+      ahead = subst (IsAhead (west_of r)) (sym l.first_is) (ahead_of (west_of r) l.more few);
+      read =
+          subst (λ f. Consumes left (with_ahead f now) (whole_line line)) (sym l.first_is)
+          (ahead_left (whole_line line) l.more left now (omega (arith, few, at_most_one (west_of r))) l.read);
     }
-  where
-    no_bytes : (bytes : List ℕ) → length bytes ≡ 0 → bytes ≡ []
-    no_bytes [] e = refl
-    no_bytes (x ∷ bytes) e = absurd (omega arith)
 
 -- a line that is no record
-pub no_record : (b : Bench) (line : List ℕ) (why : Reason) (left now : Option (List ℕ)) → ReadsLine line left now
+pub no_record : (b : Bench) (line : List ℕ) (why : Reason) (first : Option ℕ) (left now : Option (List ℕ)) → ReadsLine line first left now
     → record_of b.circuits b.at line ≡ Err why → Halts b (stop.Bad (flaw.Said why)) left now
-no_record b line why left now l reads =
+no_record b line why first left now l reads =
     (whole_line line ++ l.more, (refused_line b line l.more why l.line_is (inl reads) l.few refl, tt), l.read)
 
 pub line_stops : (b : Bench) (why : Stop) (left now text : Option (List ℕ)) → Halts b why left now → StopsBy b why left now text text
@@ -261,27 +324,31 @@ line_stops b (stop.Bad f) left now text h = (h, Keeps-refl text)
 line_stops b stop.ReadFault left now text h = (h, Keeps-refl text)
 line_stops b stop.WriteFault left now text h = absurd h.1
 
-pub told_stops : (b : Bench) (line : List ℕ) (t : Told) (why : Reason) (left now text : Option (List ℕ)) → HasLine b line (what.Told t) left now
-    → refusal_of b t ≡ Some why → StopsBy b (stop.Bad (flaw.Said why)) left now text text
-told_stops b line t why left now text l refused = (
-  (whole_line line, (refused_line b line [] why l.line_is (inr (what.Told t, l.reads, refused)) (omega arith) (append-nil (whole_line line)), tt), l.read),
+pub told_stops : (b : Bench) (line : List ℕ) (t : Told) (why : Reason) (first : Option ℕ) (left now text : Option (List ℕ))
+    → HasLine b line (what.Told t) first left now → refusal_of b t ≡ Some why → StopsBy b (stop.Bad (flaw.Said why)) left now text text
+told_stops b line t why first left now text l refused = (
+  (
+    whole_line line,
+    (refused_line b line [] why l.line_is (inr (what.Told t, l.reads, refused)) (omega arith) (append-nil (whole_line line)), tt),
+    alone line first left now l.ahead l.read,
+  ),
   Keeps-refl text,
 )
 
-pub round_stops : (b : Bench) (line : List ℕ) (west east : Came) (why : Stop) (left mid now old_text new_text : Option (List ℕ))
-    → HasLine b line (what.Round west east) left mid → StopsRound b west east why mid now old_text new_text
+pub round_stops : (b : Bench) (line : List ℕ) (west east : Came) (why : Stop) (first : Option ℕ) (left mid now old_text new_text : Option (List ℕ))
+    → HasLine b line (what.Round west east) first left mid → StopsRound b west east why (with_ahead first mid) now old_text new_text
     → StopsBy b why left now old_text new_text
-round_stops b line west east stop.WriteFault left mid now old_text new_text l cut = record {
+round_stops b line west east stop.WriteFault first left mid now old_text new_text l cut = record {
   given = record { line = line; record_is = what.Round west east; west = cut.from_west; east = cut.from_east };
   is = record {
     said = record { line_is = l.line_is; reads = l.reads; may = refl };
     west_whole = cut.west_whole;
     east_whole = cut.east_whole;
   };
-  read = Consumes-trans left mid now (whole_line line) (cut.from_west ++ cut.from_east) l.read cut.read;
+  read = Consumes-trans left (with_ahead first mid) now (whole_line line) (cut.from_west ++ cut.from_east) l.read cut.read;
   front = cut.front;
 }
-round_stops b line west east (stop.Bad flaw.Cut) left mid now old_text new_text l s =
+round_stops b line west east (stop.Bad flaw.Cut) first left mid now old_text new_text l s =
     let p = s.0 in (
       (
         whole_line line ++ p.0,
@@ -297,11 +364,11 @@ round_stops b line west east (stop.Bad flaw.Cut) left mid now old_text new_text 
               }),
           p.3,
         ),
-        Consumes-trans left mid now (whole_line line) p.0 l.read p.2,
+        Consumes-trans left (with_ahead first mid) now (whole_line line) p.0 l.read p.2,
       ),
       s.1,
     )
-round_stops b line west east stop.ReadFault left mid now old_text new_text l s =
+round_stops b line west east stop.ReadFault first left mid now old_text new_text l s =
     let p = s.0 in (
       (
         whole_line line ++ p.0,
@@ -314,14 +381,14 @@ round_stops b line west east stop.ReadFault left mid now old_text new_text l s =
               tail_is = refl;
               short = p.1;
             }),
-        Consumes-trans left mid now (whole_line line) p.0 l.read p.2,
+        Consumes-trans left (with_ahead first mid) now (whole_line line) p.0 l.read p.2,
       ),
       s.1,
     )
-round_stops b line west east (stop.Bad (flaw.Said r)) left mid now old_text new_text l s = absurd s.0
-round_stops b line west east (stop.Bad flaw.Long) left mid now old_text new_text l s = absurd s.0
-round_stops b line west east (stop.Bad flaw.Many) left mid now old_text new_text l s = absurd s.0
-round_stops b line west east stop.Done left mid now old_text new_text l s = absurd s.0
+round_stops b line west east (stop.Bad (flaw.Said r)) first left mid now old_text new_text l s = absurd s.0
+round_stops b line west east (stop.Bad flaw.Long) first left mid now old_text new_text l s = absurd s.0
+round_stops b line west east (stop.Bad flaw.Many) first left mid now old_text new_text l s = absurd s.0
+round_stops b line west east stop.Done first left mid now old_text new_text l s = absurd s.0
 
 -- ---- the result of telling the node something
 

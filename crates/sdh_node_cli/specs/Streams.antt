@@ -124,11 +124,18 @@ records_max = 4294967295
 
 -- ---- how many bytes a record has at least
 
--- The smallest number of bytes of a record whose line begins with these bytes, its newline byte included. Every record
--- has at least 7, as `hold 1` has. A line that begins with `r` is that of a round, which has at least 16, as `round
--- none none`, or 17 where its seventh byte is `f`, as `round frame none`.
+-- The smallest number of bytes of a record whose line begins with these bytes: of the line with its newline byte, and
+-- of a frame from the west, where one follows, the first byte. Every record has at least 7, as `hold 1` has. A line
+-- that begins with `r` is that of a round, which has at least 16, as `round none none`. Where its seventh byte is `f`,
+-- the line has at least 17, as `round frame none`, and a frame from the west follows it, whose first byte is the 18th.
 unfoldable pub fewest : List ℕ → ℕ
-fewest front = if slice_index front 0 == 114 then if slice_index front 6 == 102 then 17 else 16 else 7
+fewest front = if slice_index front 0 == 114 then if slice_index front 6 == 102 then 18 else 16 else 7
+
+-- the most bytes of what came from the west that are read with the line: of a frame the first byte
+abbrev pub most_ahead : Came → ℕ
+most_ahead came.Nothing = 0
+most_ahead came.Dark = 0
+most_ahead came.Frame = 1
 
 -- `more` was read after the newline byte of a line. It is at most what the line lacks to the smallest number of bytes
 -- of a record that begins so.

@@ -1,6 +1,6 @@
 -- What is read and written for one record.
-use Rattle.std.specs.Prelude.{ℕ, ◌≡◌, ◌+◌, ◌<◌, List, [], ◌++◌, length, Option, Ok}
-use Rattle.std.specs.Io.KnownBytes.{Appends, Consumes, IsAtEnd, Keeps}
+use Rattle.std.specs.Prelude.{ℕ, ◌≡◌, ◌+◌, ◌<◌, List, [], ◌∷◌, ◌++◌, length, slice_get, Option, Some, None, Ok}
+use Rattle.std.specs.Io.KnownBytes.{Appends, Consumes, IsAtEnd, Keeps, prepend_known}
 use Rattle.sdh_outside.specs.Writing.{AppendsFewer}
 use Rattle.sdh_node_cli.specs.Lines.{IsOneLine, whole_line}
 use Rattle.sdh_node_cli.specs.declared.line.LineEnd.{LineEnd}
@@ -9,46 +9,66 @@ use Rattle.sdh_node_cli.specs.declared.ending.Flaw.TheVariants as flaw
 use Rattle.sdh_node_cli.specs.declared.line.Got.{Got}
 use Rattle.sdh_node_cli.specs.declared.line.Got.TheVariants as got
 use Rattle.sdh_node_cli.specs.declared.record.Came.{Came}
+use Rattle.sdh_node_cli.specs.declared.record.Came.TheVariants as came
 use Rattle.sdh_node_cli.specs.declared.record.Record.{Record}
 use Rattle.sdh_node_cli.specs.declared.stop.Stop.{Stop}
 use Rattle.sdh_node_cli.specs.declared.stop.Stop.TheVariants as stop
 use Rattle.sdh_node_cli.specs.Records.{record_of}
 use Rattle.sdh_node_cli.specs.Bench.{Bench, size_after, with_arrivals, after_round, answer_to, answer_room}
-use Rattle.sdh_node_cli.specs.Streams.{IsBehind, IsLine, Given, IsGiven, bytes_of, after, answer, IsPart, IsFlawed, EndsIf}
+use Rattle.sdh_node_cli.specs.Streams.{IsBehind, IsLine, Given, IsGiven, west_of, bytes_of, after, answer, IsPart, IsFlawed, EndsIf}
 
 -- room enough for an answer of a bench
 abbrev pub room_for : Bench → ℕ
 room_for b = answer_room b.node.settings.rate (length b.circuits)
 
+-- ---- the byte that comes with a line
+
+-- what is still to be taken: the byte that was read ahead, if one was, and then what the source has left
+abbrev pub with_ahead : Option ℕ → Option (List ℕ) → Option (List ℕ)
+with_ahead None left = left
+with_ahead (Some byte) left = prepend_known (byte ∷ []) left
+
+-- the byte that was read with a line, if one was, is the first of a frame from the west
+abbrev pub IsAhead : Came → Option ℕ → Type 0
+IsAhead came.Nothing first = first ≡ None
+IsAhead came.Dark first = first ≡ None
+IsAhead came.Frame first = Unit {0}
+
 -- ---- a line
 
 -- What one read of a line took. The line was read up to `old` before and is read up to `new` now. The read took a part
--- of the line, the rest of it with its newline byte, or nothing, since the source has ended.
+-- of the line; the rest of it with its newline byte and few bytes after it, the first of which is kept; or nothing,
+-- since the source has ended.
 abbrev pub TakesMore : Option (List ℕ) → Option (List ℕ) → List ℕ → List ℕ → Got → Type 0
 TakesMore left now old new got.Part = (bytes : List ℕ) × (0 < length bytes) × IsOneLine bytes × Consumes left now bytes × (new ≡ old ++ bytes)
-TakesMore left now old new got.Rest =
-    (bytes : List ℕ) × (more : List ℕ) × IsOneLine bytes × Consumes left now (whole_line bytes ++ more) × (new ≡ old ++ bytes) × IsBehind new more
+TakesMore left now old new (got.Rest first) =
+    (bytes : List ℕ) × (more : List ℕ) × IsOneLine bytes × Consumes left now (whole_line bytes ++ more) × (new ≡ old ++ bytes)
+    × IsBehind new more × (first ≡ slice_get more 0)
 TakesMore left now old new got.End = Consumes left now [] × IsAtEnd now × (new ≡ old)
 
 -- What was taken of the line of a record, and why no more. Either it is whole, and its newline byte was taken too, with
--- few bytes after it; or the source has ended; or there is no room for more of it.
+-- few bytes after it, the first of which is kept; or the source has ended; or there is no room for more of it.
 abbrev pub TakesRecord : Option (List ℕ) → Option (List ℕ) → List ℕ → LineEnd → Type 0
-TakesRecord left now line end.Whole = IsOneLine line × ((more : List ℕ) × Consumes left now (whole_line line ++ more) × IsBehind line more)
+TakesRecord left now line (end.Whole first) =
+    IsOneLine line × ((more : List ℕ) × Consumes left now (whole_line line ++ more) × IsBehind line more × (first ≡ slice_get more 0))
 TakesRecord left now line end.Ended = IsOneLine line × Consumes left now line × IsAtEnd now
 TakesRecord left now line end.Full = IsOneLine line × Consumes left now line
 
--- a line was read, and few bytes after its newline byte
-pub record ReadsLine (line : List ℕ) (left now : Option (List ℕ)) : Type 0 where
+-- a line was read, and few bytes after its newline byte; `first` is the first of these, if there are any
+pub record ReadsLine (line : List ℕ) (first : Option ℕ) (left now : Option (List ℕ)) : Type 0 where
   pub line_is : IsLine line
   pub more : List ℕ
   pub read : Consumes left now (whole_line line ++ more)
   pub few : IsBehind line more
+  pub first_is : first ≡ slice_get more 0
 
--- a line was read, and it is that of a record
-pub record HasLine (b : Bench) (line : List ℕ) (r : Record) (left now : Option (List ℕ)) : Type 0 where
+-- A line was read, and it is that of a record. Besides, only `first` was read: the first byte of a frame from the west,
+-- or nothing.
+pub record HasLine (b : Bench) (line : List ℕ) (r : Record) (first : Option ℕ) (left now : Option (List ℕ)) : Type 0 where
   pub line_is : IsLine line
   pub reads : record_of b.circuits b.at line ≡ Ok r
-  pub read : Consumes left now (whole_line line)
+  pub ahead : IsAhead (west_of r) first
+  pub read : Consumes left (with_ahead first now) (whole_line line)
 
 -- ---- what came on the sides
 

@@ -29,8 +29,9 @@ pub fn records_are_told()
     ensures { RecordsAreTold }
 {}
 
-/// Once a part of a line has come, the program asks for no more bytes than every record that begins so still has. So no
-/// byte after a record is asked for before the record is done. The function does nothing: its contract is the law.
+/// Once a part of a line has come, the program asks for no more bytes than every record that begins so still has. These
+/// are bytes of its line, its newline byte and the first byte of a frame from the west. So no byte after a record is
+/// asked for before the record is done. The function does nothing: its contract is the law.
 pub fn records_are_long()
     ensures { RecordsAreLong }
 {}

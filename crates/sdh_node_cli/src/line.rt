@@ -1,5 +1,5 @@
 //! Reading the line of a record in few calls of the source.
-ghost use Rattle.std.specs.Prelude.{◌≡◌, ◌+◌, ◌<◌, ◌≤◌, ◌⊎◌, ◌++◌, ℕ, List, [], true, false, Ok, Err, IfOk, IfErr, IfSome, OnOk, OnErr, length, slice_index, position, ◌==◌};
+ghost use Rattle.std.specs.Prelude.{◌≡◌, ◌+◌, ◌<◌, ◌≤◌, ◌⊎◌, ◌++◌, ℕ, [], Option, None, Ok, Err, IfOk, IfErr, IfSome, OnErr, length, slice_index, slice_get, take, drop, position, ◌==◌};
 ghost use Rattle.std.specs.Io.KnownBytes.{Consumes, Keeps};
 ghost use Rattle.sdh_basics.specs.Causes.{HasCause};
 ghost use Rattle.sdh_report.specs.Written.{with_part};
@@ -16,13 +16,13 @@ use sdh_outside::{Failed, Source};
 use sdh_report::Text;
 
 /// The most bytes that are asked for at once.
-const ASKED_MAX: usize = 17;
+const ASKED_MAX: usize = 18;
 
 /// Why no more of a line was read.
 #[derive(Clone, Copy)]
 enum LineEnd {
-    /// It is whole, and its newline byte was taken.
-    Whole,
+    /// It is whole, and its newline byte was taken, with this byte after it or none.
+    Whole(Option<u8>),
     /// The source has ended.
     Ended,
     /// There is no room for more.
@@ -34,8 +34,8 @@ enum LineEnd {
 enum Got {
     /// A part of it, without its newline byte.
     Part,
-    /// The rest of it, with its newline byte.
-    Rest,
+    /// The rest of it, with its newline byte. This is the first byte after that, if there is one.
+    Rest(Option<u8>),
     /// Nothing: the source has ended.
     End,
 }
@@ -47,13 +47,14 @@ fn byte_at(bytes: &[u8], at: usize) -> u8
     if at < bytes.len() { bytes[at] } else { 0 }
 }
 
-// Returns the smallest number of bytes of a record whose line begins with these bytes, its newline byte included.
+// Returns the smallest number of bytes of a record whose line begins with these bytes: of the line with its newline
+// byte, and of a frame from the west, where one follows, the first byte.
 #[tactic(auto, unfolding(crate::specs::Streams::fewest))]
 fn fewest(front: &[u8]) -> usize
     ensures { result ≡ fewest front.now }
 {
     if byte_at(front, 0) == b'r' {
-        if byte_at(front, 6) == b'f' { 17 } else { 16 }
+        if byte_at(front, 6) == b'f' { 18 } else { 16 }
     } else {
         7
     }
@@ -64,7 +65,7 @@ fn fewest(front: &[u8]) -> usize
 #[tactic(auto, using(crate::proofs::Long::fewest_most))]
 fn asked_for(front: &[u8]) -> usize
     ensures some { 1 ≤ result }
-    ensures few { result + length front.now ≤ 17 ⊎ (result ≡ 1) }
+    ensures few { result + length front.now ≤ 18 ⊎ (result ≡ 1) }
     ensures lacking { (result + length front.now ≤ fewest front.now) ⊎ (result ≡ 1) }
 {
     let fewest = fewest(front);
@@ -83,22 +84,30 @@ fn newline_in(bytes: &[u8]) -> Option<usize>
     bytes.iter().position(|byte| *byte == b'\n')
 }
 
-// Appends bytes to a line, up to the first newline byte among them or all of them. Returns whether there is a newline
-// byte.
-fn put_front(line: &mut Text, bytes: &[u8]) -> bool
+// Returns the first of these bytes, if there is one.
+fn first_of(bytes: &[u8]) -> Option<u8>
+    ensures { result ≡ slice_get bytes.now 0 }
+{
+    bytes.first().copied()
+}
+
+// Appends bytes to a line, up to the first newline byte among them or all of them. Returns the place of the newline
+// byte, if there is one.
+fn put_front(line: &mut Text, bytes: &[u8]) -> Option<usize>
     requires { length bytes.now ≤ line.old.room }
-    ensures rest { result ≡ true → (front : List ℕ) × (more : List ℕ) × (bytes.now ≡ whole_line front ++ more) × IsOneLine front
-        × (line.new ≡ with_part line.old front) }
-    ensures part { result ≡ false → IsOneLine bytes.now × (line.new ≡ with_part line.old bytes.now) }
+    ensures rest { IfSome result (λ at. (bytes.now ≡ whole_line (take at bytes.now) ++ drop (at + 1) bytes.now) × IsOneLine (take at bytes.now)
+        × (line.new ≡ with_part line.old (take at bytes.now))) }
+    ensures within { IfSome result (λ at. at < length bytes.now) }
+    ensures part { result ≡ None → IsOneLine bytes.now × (line.new ≡ with_part line.old bytes.now) }
 {
     match newline_in(bytes) {
         Some(at) => {
             line.put(&bytes[..at]);
-            true
+            Some(at)
         }
         None => {
             line.put(bytes);
-            false
+            None
         }
     }
 }
@@ -110,7 +119,7 @@ fn read_more<R: Source>(source: &mut R, line: &mut Text) -> Result<Got, Failed>
     ensures took { IfOk result (TakesMore (R.left source.old) (R.left source.new) line.old.bytes line.new.bytes) }
     ensures failed { OnErr result (Keeps (R.left source.old) (R.left source.new) × (line.new ≡ line.old)) }
     ensures room { room_in line.new ≡ 65 }
-    ensures rest { result ≡ Ok Got.Rest → 1 ≤ line.new.room }
+    ensures rest { IfOk result (λ got. (first : Option ℕ) → got ≡ Got.Rest first → 1 ≤ line.new.room) }
     ensures cause { HasCause R.exact (R.faults source.old) (R.faults source.new) result }
 {
     let mut bytes = [0u8; ASKED_MAX];
@@ -118,10 +127,10 @@ fn read_more<R: Source>(source: &mut R, line: &mut Text) -> Result<Got, Failed>
     if count == 0 {
         return Ok(Got::End);
     }
-    if put_front(line, &bytes[..count]) {
-        Ok(Got::Rest)
-    } else {
-        Ok(Got::Part)
+    let taken = &bytes[..count];
+    match put_front(line, taken) {
+        Some(at) => Ok(Got::Rest(first_of(&taken[at + 1..]))),
+        None => Ok(Got::Part),
     }
 }
 
@@ -133,7 +142,7 @@ fn read_line<R: Source>(source: &mut R, line: &mut Text) -> Result<LineEnd, Fail
     ensures part { OnErr result (IsOneLine line.new.bytes × Consumes (R.left source.old) (R.left source.new) line.new.bytes) }
     ensures room { room_in line.new ≡ 65 }
     ensures full { result ≡ Ok LineEnd.Full → line.new.room ≡ 0 }
-    ensures whole { result ≡ Ok LineEnd.Whole → 1 ≤ line.new.room }
+    ensures whole { IfOk result (λ end. (first : Option ℕ) → end ≡ LineEnd.Whole first → 1 ≤ line.new.room) }
     ensures ended { result ≡ Ok LineEnd.Ended → 1 ≤ line.new.room }
     ensures failed { OnErr result (1 ≤ line.new.room) }
     ensures cause { HasCause R.exact (R.faults source.old) (R.faults source.new) result }
@@ -141,25 +150,26 @@ fn read_line<R: Source>(source: &mut R, line: &mut Text) -> Result<LineEnd, Fail
     while line.room() > 0 {
         match read_more(source, line)? {
             Got::Part => {}
-            Got::Rest => return Ok(LineEnd::Whole),
+            Got::Rest(first) => return Ok(LineEnd::Whole(first)),
             Got::End => return Ok(LineEnd::Ended),
         }
     }
     Ok(LineEnd::Full)
 }
 
-/// Reads the line of the next record into an empty text, without its newline byte. Where the line is that of a record,
-/// no byte after its newline byte is read.
-pub fn next_line<R: Source>(source: &mut R, line: &mut Text) -> Result<(), Stop>
+/// Reads the line of the next record into an empty text, without its newline byte. Returns the first byte that was read
+/// after its newline byte, if one was. Where the line is that of a record, no other byte was read after it, and this
+/// one only where a frame from the west follows.
+pub fn next_line<R: Source>(source: &mut R, line: &mut Text) -> Result<Option<u8>, Stop>
     requires empty { line.old.bytes ≡ [] }
     requires room { room_in line.old ≡ 65 }
-    ensures line { OnOk result (ReadsLine line.new.bytes (R.left source.old) (R.left source.new)) }
+    ensures line { IfOk result (λ first. ReadsLine line.new.bytes first (R.left source.old) (R.left source.new)) }
     ensures stop { IfErr result (λ why. (b : Bench) → Halts b why (R.left source.old) (R.left source.new)) }
     ensures room { room_in line.new ≡ 65 }
     ensures reads { CountsFault R.exact (R.faults source.old) (R.faults source.new) (result ≡ Err Stop.ReadFault) }
 {
     match read_line(source, line) {
-        Ok(LineEnd::Whole) => Ok(()),
+        Ok(LineEnd::Whole(first)) => Ok(first),
         Ok(LineEnd::Full) => Err(Stop::Bad(Flaw::Long)),
         Ok(LineEnd::Ended) if line.bytes().is_empty() => Err(Stop::Done),
         Ok(LineEnd::Ended) => Err(Stop::Bad(Flaw::Cut)),

@@ -6,7 +6,7 @@ ghost use Rattle.sdh_shell.specs.Writing.{room_in};
 ghost use Rattle.sdh_node_cli.specs.Faults.{CountsFault};
 ghost use Rattle.sdh_node_cli.specs.Records.{IsRecord};
 ghost use Rattle.sdh_node_cli.specs.Bench.{after_coming, size_after, after_round, answer_to};
-ghost use Rattle.sdh_node_cli.specs.Turns.{room_for, HasLine, Takes, TakesPart, TakesBoth, both_sizes, Ran, StopsRound, Goes, Halts, StopsBy};
+ghost use Rattle.sdh_node_cli.specs.Turns.{room_for, with_ahead, IsAhead, HasLine, Takes, TakesPart, TakesBoth, both_sizes, Ran, StopsRound, Goes, Halts, StopsBy};
 
 use crate::bench::Bench;
 use crate::ending::Flaw;
@@ -41,31 +41,57 @@ impl Texts {
     }
 }
 
+/// A record, and what was read with its line.
+#[derive(Clone, Copy)]
+struct Found {
+    record: Record,
+    /// The first byte of the frame from the west, where it was read with the line.
+    first: Option<u8>,
+}
+
+/// What comes from both sides before a round.
+#[derive(Clone, Copy)]
+struct Coming {
+    west: Came,
+    east: Came,
+    /// The first byte of the frame from the west, where it was read before.
+    first: Option<u8>,
+}
+
 // Reads the line of the next record into an empty text, and returns the record.
-fn next_record<R: Source>(bench: &Bench, line: &mut Text, source: &mut R) -> Result<Record, Stop>
+fn next_record<R: Source>(bench: &Bench, line: &mut Text, source: &mut R) -> Result<Found, Stop>
     requires empty { line.old.bytes ≡ [] }
     requires room { room_in line.old ≡ 65 }
-    ensures line { IfOk result (λ r. HasLine bench.now line.new.bytes r (R.left source.old) (R.left source.new)) }
-    ensures form { IfOk result (IsRecord bench.now.circuits bench.now.at) }
+    ensures line { IfOk result (λ found. HasLine bench.now line.new.bytes found.record found.first (R.left source.old) (R.left source.new)) }
+    ensures form { IfOk result (λ found. IsRecord bench.now.circuits bench.now.at found.record) }
     ensures stop { IfErr result (λ why. Halts bench.now why (R.left source.old) (R.left source.new)) }
     ensures room { room_in line.new ≡ 65 }
     ensures reads { CountsFault R.exact (R.faults source.old) (R.faults source.new) (result ≡ Err Stop.ReadFault) }
 {
     match next_line(source, line) {
-        Ok(()) => match bench.record_of(line.bytes()) {
-            Ok(record) => Ok(record),
+        Ok(first) => match bench.record_of(line.bytes()) {
+            Ok(record) => Ok(Found { record, first }),
             Err(reason) => Err(Stop::Bad(Flaw::Said(reason))),
         },
         Err(stop) => Err(stop),
     }
 }
 
-// Keeps for the next round what came on a side. A frame is read from the source.
+// Keeps for the next round what came on a side. A frame is read from the source, after its first byte, where that was
+// read before.
 #[tactic(auto, unfolding(crate::specs::Bench::after_coming))]
-fn take_in<R: Source>(bench: &mut Bench, source: &mut R, side: Side, came: Came) -> Result<(), Stop>
-    ensures ok { OnOk result ((bytes : List ℕ) × Takes bench.old came (R.left source.old) (R.left source.new) bytes
+fn take_in<R: Source>(
+    bench: &mut Bench,
+    source: &mut R,
+    side: Side,
+    came: Came,
+    first: Option<u8>,
+) -> Result<(), Stop>
+    requires ahead { IsAhead came first }
+    ensures ok { OnOk result ((bytes : List ℕ) × Takes bench.old came (with_ahead first (R.left source.old)) (R.left source.new) bytes
         × (bench.new ≡ record bench.old { node = after_coming side came bytes bench.old.node })) }
-    ensures part { IfErr result (TakesPart (size_after bench.old.node.settings.rate came) (R.left source.old) (R.left source.new)) }
+    ensures part { IfErr result
+        (TakesPart (size_after bench.old.node.settings.rate came) (with_ahead first (R.left source.old)) (R.left source.new)) }
     ensures reads { CountsFault R.exact (R.faults source.old) (R.faults source.new) (result ≡ Err Stop.ReadFault) }
 {
     match came {
@@ -74,22 +100,24 @@ fn take_in<R: Source>(bench: &mut Bench, source: &mut R, side: Side, came: Came)
             bench.darken(side);
             Ok(())
         }
-        Came::Frame => bench.take_frame(source, side),
+        Came::Frame => bench.take_frame(source, side, first),
     }
 }
 
 // Keeps for the next round what came from the west and from the east. The frame from the west is read first.
-fn take_both<R: Source>(bench: &mut Bench, source: &mut R, came: (Came, Came)) -> Result<(), Stop>
-    ensures ok { OnOk result (TakesBoth bench.old bench.new came.0 came.1 (R.left source.old) (R.left source.new)) }
-    ensures part { IfErr result (TakesPart (both_sizes bench.old came.0 came.1) (R.left source.old) (R.left source.new)) }
+#[tactic(auto, using(crate::proofs::Turning::none_ahead))]
+fn take_both<R: Source>(bench: &mut Bench, source: &mut R, came: Coming) -> Result<(), Stop>
+    requires ahead { IsAhead came.west came.first }
+    ensures ok { OnOk result (TakesBoth bench.old bench.new came.west came.east (with_ahead came.first (R.left source.old)) (R.left source.new)) }
+    ensures part { IfErr result
+        (TakesPart (both_sizes bench.old came.west came.east) (with_ahead came.first (R.left source.old)) (R.left source.new)) }
     ensures reads { CountsFault R.exact (R.faults source.old) (R.faults source.new) (result ≡ Err Stop.ReadFault) }
 {
-    let (west, east) = came;
-    match take_in(bench, source, Side::West, west) {
+    match take_in(bench, source, Side::West, came.west, came.first) {
         Ok(()) => {}
         Err(stop) => return Err(stop),
     }
-    match take_in(bench, source, Side::East, east) {
+    match take_in(bench, source, Side::East, came.east, None) {
         Ok(()) => Ok(()),
         Err(stop) => Err(stop),
     }
@@ -118,16 +146,17 @@ fn answer_round<W: Sink>(bench: &mut Bench, answer: &mut Text, sink: &mut W) -> 
 fn run_round<R: Source, W: Sink>(
     bench: &mut Bench,
     answer: &mut Text,
-    came: (Came, Came),
+    came: Coming,
     source: &mut R,
     sink: &mut W,
 ) -> Result<(), Stop>
+    requires ahead { IsAhead came.west came.first }
     requires few { bench.old.node.rounds < 2 ^ 32 }
     requires room { room_for bench.old ≤ room_in answer.old }
-    ensures ran { OnOk result
-        (Ran bench.old bench.new came.0 came.1 (R.left source.old) (R.left source.new) (W.written sink.old) (W.written sink.new)) }
-    ensures stops { IfErr result (λ why.
-        StopsRound bench.old came.0 came.1 why (R.left source.old) (R.left source.new) (W.written sink.old) (W.written sink.new)) }
+    ensures ran { OnOk result (Ran bench.old bench.new came.west came.east (with_ahead came.first (R.left source.old)) (R.left source.new)
+        (W.written sink.old) (W.written sink.new)) }
+    ensures stops { IfErr result (λ why. StopsRound bench.old came.west came.east why (with_ahead came.first (R.left source.old)) (R.left source.new)
+        (W.written sink.old) (W.written sink.new)) }
     ensures kept { room_in answer.new ≡ room_in answer.old }
     ensures reads { CountsFault R.exact (R.faults source.old) (R.faults source.new) (result ≡ Err Stop.ReadFault) }
     ensures writes { CountsFault W.exact (W.faults sink.old) (W.faults sink.new) (result ≡ Err Stop.WriteFault) }
@@ -162,9 +191,11 @@ pub fn turn<R: Source, W: Sink>(
 {
     texts.line.clear();
     match next_record(bench, &mut texts.line, source) {
-        Ok(record) => match record {
+        Ok(found) => match found.record {
             Record::Round(west, east) => {
-                match run_round(bench, &mut texts.answer, (west, east), source, sink) {
+                let first = found.first;
+                let came = Coming { west, east, first };
+                match run_round(bench, &mut texts.answer, came, source, sink) {
                     Ok(()) => Ok(()),
                     Err(stop) => Err(stop),
                 }

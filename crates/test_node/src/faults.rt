@@ -5,6 +5,7 @@ use crate::called::{
 };
 use sdh_node_cli::Ending;
 use sdh_outside::read_all;
+use std::alloc::{AllocError, Global};
 use std::test::Fail;
 use test_texts::SMALLEST;
 
@@ -90,7 +91,7 @@ const BAD: &[(&str, &str, &str)] = &[
     ("cut 2 east\n", "22", "round dark none\n"),
     ("x\n", "22", " dark none\n"),
     ("round x\n", "23", "rk none\n"),
-    ("round f\n", "23", "k none\n"),
+    ("round f\n", "23", " none\n"),
     ("round up up\n", "25", "d dark none\n"),
     ("slip c2 up 4\n", "30", "round dark none\n"),
 ];
@@ -111,5 +112,36 @@ fn a_bad_record_is_told_with_its_number(rt: HostRuntime) -> Result<(), Fail> {
         let rest = read_all(rt.alloc(), &mut source)?;
         assert!(rt; rest.as_slice() == left.as_bytes(), "{bad}");
     }
+    Ok(())
+}
+
+// A frame comes from the west. With its line its first byte is read, where a read gives more than one.
+const FRAMED: &str = "round frame dark\n";
+
+// Returns the smallest plan, a round with a frame from the west that begins as frames do, and one without.
+fn framed(alloc: Global) -> Result<Vec<u8>, AllocError> {
+    let mut all = joined(alloc, &[SMALLEST, END, FRAMED])?;
+    for at in 0..9_720u32 {
+        all.push(if at < 12 {
+            0xf6
+        } else if at < 24 {
+            0x28
+        } else {
+            0
+        })?;
+    }
+    all.extend_from_slice(FIRST.as_bytes())?;
+    Ok(all)
+}
+
+// So the answers are the same as where no byte is read before it is needed.
+#[test]
+fn the_first_byte_of_a_frame_is_kept(rt: HostRuntime) -> Result<(), Fail> {
+    let given = framed(rt.alloc())?;
+    let single = Outside { piece: 1, ..SOUND };
+    let (ending, _, sink) = call(rt.alloc(), NODE_2, &given, SOUND)?;
+    let (wanted, _, other) = call(rt.alloc(), NODE_2, &given, single)?;
+    assert!(rt; ending.number() == 0 && wanted.number() == 0);
+    assert!(rt; sink.bytes() == other.bytes());
     Ok(())
 }

@@ -7,7 +7,7 @@ use Rattle.sdh_node_cli.proofs.turn.next_record.Goals as goal
 pub returns-in-Ok-record_of-clause-line : goal.returns-in-Ok-record_of-clause-line
 returns-in-Ok-record_of-clause-line g c =
     let b = c.args.bench.now in
-    has_line _ _ _ _ _ c.in-Ok.ensures.line (ap (record_of b.circuits b.at) (sym c.bytes.ensures) ∙ sym c.in-Ok-record_of.ensures.is)
+    has_line _ _ _ _ _ _ c.in-Ok.ensures.line (ap (record_of b.circuits b.at) (sym c.bytes.ensures) ∙ sym c.in-Ok-record_of.ensures.is)
 
 pub returns-in-Ok-record_of-clause-reads : goal.returns-in-Ok-record_of-clause-reads
 returns-in-Ok-record_of-clause-reads g c = well_alone _ _ _ _ _ c.in-Ok.ensures.reads _ _ refl (λ e. cc)
@@ -15,7 +15,7 @@ returns-in-Ok-record_of-clause-reads g c = well_alone _ _ _ _ _ c.in-Ok.ensures.
 pub returns-in-Err-record_of-clause-stop : goal.returns-in-Err-record_of-clause-stop
 returns-in-Err-record_of-clause-stop g c =
     let b = c.args.bench.now in
-    no_record _ _ _ _ _ c.in-Ok.ensures.line (ap (record_of b.circuits b.at) (sym c.bytes.ensures) ∙ sym c.in-Err-record_of.ensures.is)
+    no_record _ _ _ _ _ _ c.in-Ok.ensures.line (ap (record_of b.circuits b.at) (sym c.bytes.ensures) ∙ sym c.in-Err-record_of.ensures.is)
 
 pub returns-in-Err-record_of-clause-reads : goal.returns-in-Err-record_of-clause-reads
 returns-in-Err-record_of-clause-reads g c = well_alone _ _ _ _ _ c.in-Ok.ensures.reads _ _ refl (λ e. cc)

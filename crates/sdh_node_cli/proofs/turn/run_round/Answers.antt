@@ -9,7 +9,7 @@ answer_round-requires g c =
     record { few = omega (arith, c.requires.few, stay.0); room = omega (arith, c.requires.room, stay.1) }
 
 pub returns-in-Err-clause-stops : goal.returns-in-Err-clause-stops
-returns-in-Err-clause-stops g c = part_stops c.args.bench.now c.args.came.0 c.args.came.1 c.in-Err.stop _ _ _ c.in-Err.ensures.part
+returns-in-Err-clause-stops g c = part_stops c.args.bench.now c.args.came.west c.args.came.east c.in-Err.stop _ _ _ c.in-Err.ensures.part
 
 pub returns-in-Err-clause-reads : goal.returns-in-Err-clause-reads
 returns-in-Err-clause-reads g c = c.in-Err.ensures.reads

@@ -4,7 +4,7 @@ use Rattle.sdh_node_cli.proofs.Turning.{takes_both, west_part, east_part}
 use Rattle.sdh_node_cli.proofs.turn.take_both.Goals as goal
 
 pub returns-in-Err-clause-part : goal.returns-in-Err-clause-part
-returns-in-Err-clause-part g c = west_part c.args.bench.now c.args.came.0 c.args.came.1 c.in-Err.stop _ _ c.in-Err.ensures.part
+returns-in-Err-clause-part g c = west_part c.args.bench.now c.args.came.west c.args.came.east c.in-Err.stop _ _ c.in-Err.ensures.part
 
 pub returns-in-Err-clause-reads : goal.returns-in-Err-clause-reads
 returns-in-Err-clause-reads g c = c.in-Err.ensures.reads

@@ -1,16 +1,24 @@
-use Rattle.std.proofs.Common.{subst, refl}
+use Rattle.std.proofs.Common.{subst, refl, rules}
 use Rattle.sdh_node_cli.specs.declared.record.Record.{Record}
-use Rattle.sdh_node_cli.specs.Turns.{HasLine}
+use Rattle.sdh_node_cli.specs.Streams.{west_of}
+use Rattle.sdh_node_cli.specs.Turns.{HasLine, IsAhead}
 use Rattle.sdh_node_cli.proofs.Faults.{none_made, well, well_alone, ended, no_write_halt, err_same}
 use Rattle.sdh_node_cli.proofs.Turning.{goes_round, goes_told, line_stops, told_stops, round_stops, unless_ok, unless_err}
 use Rattle.sdh_node_cli.proofs.turn.turn.Goals as goal
+
+pub run_round-requires : goal.run_round-requires
+run_round-requires g c = record {
+  ahead = subst (λ (r : Record). IsAhead (west_of r) c.in-Ok.found.first) c.in-Round.is c.in-Ok.ensures.line.ahead;
+  few = search rules;
+  room = search rules;
+}
 
 pub returns-in-Ok-run_round-clause-goes : goal.returns-in-Ok-run_round-clause-goes
 returns-in-Ok-run_round-clause-goes g c =
     let left = g.R.Source.left in
     let b = c.args.bench.now in
     let line = c.next_record.new.line.bytes in
-    goes_round _ _ _ _ _ _ _ _ _ _ (subst (λ (r : Record). HasLine b line r (left c.args.source.now) (left c.next_record.new.source)) c.in-Round.is
+    goes_round _ _ _ _ _ _ _ _ _ _ _ (subst (λ (r : Record). HasLine b line r c.in-Ok.found.first (left c.args.source.now) (left c.next_record.new.source)) c.in-Round.is
     c.in-Ok.ensures.line) c.in-Ok-run_round.ensures.ran
 
 pub returns-in-Err-run_round-clause-stops : goal.returns-in-Err-run_round-clause-stops
@@ -18,7 +26,7 @@ returns-in-Err-run_round-clause-stops g c =
     let left = g.R.Source.left in
     let b = c.args.bench.now in
     let line = c.next_record.new.line.bytes in
-    round_stops _ _ _ _ c.in-Err-run_round.stop _ _ _ _ _ (subst (λ (r : Record). HasLine b line r (left c.args.source.now)
+    round_stops _ _ _ _ c.in-Err-run_round.stop _ _ _ _ _ _ (subst (λ (r : Record). HasLine b line r c.in-Ok.found.first (left c.args.source.now)
     (left c.next_record.new.source)) c.in-Round.is c.in-Ok.ensures.line) c.in-Err-run_round.ensures.stops
 
 pub returns-in-Ok-tell-clause-goes : goal.returns-in-Ok-tell-clause-goes
@@ -26,7 +34,7 @@ returns-in-Ok-tell-clause-goes g c =
     let left = g.R.Source.left in
     let b = c.args.bench.now in
     let line = c.next_record.new.line.bytes in
-    goes_told _ _ _ c.in-Told.told _ _ _ (subst (λ (r : Record). HasLine b line r (left c.args.source.now) (left c.next_record.new.source))
+    goes_told _ _ _ c.in-Told.told _ _ _ _ (subst (λ (r : Record). HasLine b line r c.in-Ok.found.first (left c.args.source.now) (left c.next_record.new.source))
     c.in-Told.is c.in-Ok.ensures.line) (unless_ok _ c.tell.result c.tell.ensures.refused c.in-Ok-tell.is) c.in-Ok-tell.ensures.ok
 
 pub returns-in-Err-tell-clause-stops : goal.returns-in-Err-tell-clause-stops
@@ -34,7 +42,7 @@ returns-in-Err-tell-clause-stops g c =
     let left = g.R.Source.left in
     let b = c.args.bench.now in
     let line = c.next_record.new.line.bytes in
-    told_stops _ _ c.in-Told.told c.in-Err-tell.reason _ _ _ (subst (λ (r : Record). HasLine b line r (left c.args.source.now)
+    told_stops _ _ c.in-Told.told c.in-Err-tell.reason _ _ _ _ (subst (λ (r : Record). HasLine b line r c.in-Ok.found.first (left c.args.source.now)
     (left c.next_record.new.source)) c.in-Told.is c.in-Ok.ensures.line)
     (unless_err _ c.tell.result _ c.tell.ensures.refused c.in-Err-tell.is)
 
