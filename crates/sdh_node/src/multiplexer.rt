@@ -174,8 +174,8 @@ impl Multiplexer {
         outlets.at(place)
     }
 
-    /// Returns the front of what one port of the node delivered in the last round. It is read out of the received frames,
-    /// and no payload is taken out of them.
+    /// Returns the front of what one port of the node delivered in the last round. It is read out of the received
+    /// frames, and no payload is taken out of them.
     pub fn front(&self, port: PortId) -> Front
         requires { HasPort self.now.ports port }
         ensures { result ≡ front_of (outlet_of port self.now.ports) }

@@ -73,6 +73,21 @@ impl Landed {
         self.here = false;
     }
 
+    /// Takes the bytes of a frame in place of the frame before. There are as many bytes as the rate's frames have.
+    pub fn land_bytes(&mut self, bytes: &[u8])
+        requires { length bytes.now ≡ size_of self.old.rate }
+        ensures landed { self.new.landed ≡ Some bytes.now }
+        ensures rate { self.new.rate ≡ self.old.rate }
+        ensures buffer { self.new.buffer ≡ scrambled (9 * n_of self.old.rate) bytes.now }
+    {
+        let n = self.frame.rate().n();
+        let parities = open_frame(n, bytes, self.frame.bytes_mut());
+        let clear = parities.clear;
+        self.line = parities.line;
+        self.clear = clear;
+        self.here = true;
+    }
+
     /// Forgets the frame that landed, if there is one. The buffer stays.
     pub fn forget(&mut self)
         ensures { self.new ≡ emptied self.old.rate self.old.buffer }
@@ -93,12 +108,7 @@ impl Landing for Landed {
 
         ensures buffer { self.new.buffer ≡ scrambled (9 * n_of self.old.rate) frame.now.bytes }
     {
-        let n = self.frame.rate().n();
-        let parities = open_frame(n, frame.bytes(), self.frame.bytes_mut());
-        let clear = parities.clear;
-        self.line = parities.line;
-        self.clear = clear;
-        self.here = true;
+        self.land_bytes(frame.bytes());
     }
 }
 

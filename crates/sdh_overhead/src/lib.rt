@@ -9,7 +9,7 @@ mod section;
 
 pub use landed::{Landed, read_landed};
 pub use laws::{fields_are_found, what_is_written_is_read};
-pub use section::{Section, read_row, read_section, write_row, write_section};
+pub use section::{Section, read_row, read_section, write_row, write_section, write_section_to};
 
 /// What the overhead of a received frame says.
 #[derive(Clone, Copy, Debug, PartialEq, Eq)]

@@ -14,7 +14,7 @@ use crate::Received;
 use crate::overhead::write_head;
 use crate::rows::{Rows, b1_after, b2_after, k_after, parity_of_rows};
 use sdh_frame::FrameBuf;
-use sdh_parity::{receive_frame, send_frame};
+use sdh_parity::{receive_frame, send_frame, send_frame_to};
 use sdh_ringmap::Rate;
 use std::marker::Model;
 
@@ -361,6 +361,40 @@ pub fn write_section(section: &mut Section, k1: u8, k2: u8, frame: &mut FrameBuf
 {
     section.parities_are_whole();
     write_bytes(section, k1, k2, frame.bytes_mut());
+}
+
+// Writes the overhead of a frame's bytes, and scrambles them into `line`.
+fn write_bytes_to(section: &mut Section, k1: u8, k2: u8, bytes: &mut [u8], line: &mut [u8])
+    requires bytes { length bytes.old ≡ size_of section.old.rate }
+    requires line { length line.old ≡ size_of section.old.rate }
+    ensures line { line.new ≡ line_frame (n_of section.old.rate) section.old.last k1 k2 bytes.old }
+    ensures bytes { bytes.new ≡ clear_frame (n_of section.old.rate) section.old.last k1 k2 bytes.old }
+    ensures section { section.new ≡ holding section.old.rate
+        (Some (parities_of (n_of section.old.rate) (clear_frame (n_of section.old.rate) section.old.last k1 k2 bytes.old) line.new)) }
+{
+    section.place_all(k1, k2, bytes);
+    let parities = send_frame_to(section.rate.n(), bytes, line);
+    section.keep(parities.line, parities.clear);
+}
+
+/// Sets all section overhead of a frame as `write_section` does, and then scrambles the frame into `line`, which has as
+/// many bytes. The frame itself stays unscrambled. The rows of a frame that is under way are forgotten.
+pub fn write_section_to(
+    section: &mut Section,
+    k1: u8,
+    k2: u8,
+    frame: &mut FrameBuf,
+    line: &mut [u8],
+)
+    requires frame { frame.old.rate ≡ section.old.rate }
+    requires line { length line.old ≡ size_of section.old.rate }
+    ensures line { line.new ≡ line_frame (n_of section.old.rate) section.old.last k1 k2 frame.old.bytes }
+    ensures frame { frame.new ≡ record frame.old { bytes = clear_frame (n_of section.old.rate) section.old.last k1 k2 frame.old.bytes } }
+    ensures section { section.new ≡ holding section.old.rate (Some (parities_of (n_of section.old.rate) frame.new.bytes line.new)) }
+    ensures whole { AreParities (n_of section.old.rate) section.old.last }
+{
+    section.parities_are_whole();
+    write_bytes_to(section, k1, k2, frame.bytes_mut(), line);
 }
 
 /// Reads the next row of a received frame, 1 to 9, whose 270N bytes are `bytes`, and descrambles it in place. The rows

@@ -15,4 +15,4 @@ pub use laws::scrambling_is_undone;
 pub use parity::{bip_section, bip8};
 pub use pieces::{Bip8, BipSection, Scrambler, pieces_make_the_whole, receive_piece, send_piece};
 pub use scrambler::{Rate9, scramble};
-pub use whole::{FrameParities, open_frame, receive_frame, send_frame};
+pub use whole::{FrameParities, open_frame, receive_frame, send_frame, send_frame_to};

@@ -52,6 +52,21 @@ pub fn send_frame(n: usize, bytes: &mut [u8]) -> FrameParities
     }
 }
 
+/// Scrambles a frame of 2430N bytes from one slice to another. Returns the BIP-8 of the scrambled bytes in `to`, which go
+/// on the line, and the BIP-24N of the bytes in `from`. `n` is N, 4 or 16.
+pub fn send_frame_to(n: usize, from: &[u8], to: &mut [u8]) -> FrameParities
+    requires rate { (n ≡ 4) ⊎ (n ≡ 16) }
+    requires from { length from.now ≡ 2430 * n }
+    requires to { length to.old ≡ 2430 * n }
+    ensures bytes { to.new ≡ scrambled (9 * n) from.now }
+    ensures line { result.line ≡ parity_of to.new }
+    ensures clear { take (3 * n) result.clear ≡ section_parity n from.now }
+    ensures long { length result.clear ≡ 48 }
+{
+    to.copy_from_slice(from);
+    send_frame(n, to)
+}
+
 /// Descrambles a frame of 2430N bytes in place. Returns the BIP-8 of the bytes as they came from the line, and the
 /// BIP-24N of the descrambled bytes. `n` is N, 4 or 16.
 pub fn receive_frame(n: usize, bytes: &mut [u8]) -> FrameParities

@@ -157,8 +157,8 @@ impl Text {
         }
     }
 
-    /// Appends the line of a port, by the front of what it delivers. It is the line that `port_line` appends for all that
-    /// the port delivers.
+    /// Appends the line of a port, by the front of what it delivers. It is the line that `port_line` appends for all
+    /// that the port delivers.
     pub fn front_line(&mut self, name: &Name, end: End, front: &Front)
         requires { length (front_line name.now end front.now) ≤ self.old.room }
         ensures { self.new ≡ with_part self.old (front_line name.now end front.now) }

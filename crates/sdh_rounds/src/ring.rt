@@ -151,8 +151,8 @@ impl<N: Station> StationRing<N> {
         }
     }
 
-    /// Returns the ring with each node in its other form, and the memory in which the nodes lay. In their other form they
-    /// lie in `spare`. The function takes no memory.
+    /// Returns the ring with each node in its other form, and the memory in which the nodes lay. In their other form
+    /// they lie in `spare`. The function takes no memory.
     pub fn into_form<M: Station>(self, mut spare: Vec<M>) -> (StationRing<M>, Vec<N>)
     where
         N: IntoForm<M>,
