@@ -1,6 +1,6 @@
 //! How the program ends.
 ghost use Rattle.std.specs.Prelude.{◌≡◌};
-ghost use Rattle.sdh_aps_cli.specs.Endings.{number_of, line_of, signalling_endings};
+ghost use Rattle.sdh_aps_cli.specs.Endings.{number_of, signalling_endings};
 
 use sdh_report::{Status, Text};
 use sdh_shell::Ends;

@@ -3,7 +3,7 @@ ghost use Rattle.std.specs.Prelude.{◌≡◌, ℕ, ◌-◌, ◌+◌, ◌*◌, �
 ghost use Rattle.sdh_report.specs.Lines.{settle_line};
 ghost use Rattle.sdh_shell.specs.Writing.{room_in};
 ghost use Rattle.sdh_aps.specs.declared.shown.Shown.{Shown};
-ghost use Rattle.sdh_aps_cli.specs.Signalled.{Change, shown_at, is_told, change_of, changes_to};
+ghost use Rattle.sdh_aps_cli.specs.Signalled.{shown_at, is_told, change_of, changes_to};
 ghost use Rattle.sdh_aps_cli.specs.Listing.{lists, change_text, changes_text};
 ghost use Rattle.sdh_aps_cli.specs.Recording.{AreShown};
 

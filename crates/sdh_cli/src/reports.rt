@@ -1,10 +1,10 @@
 //! What is listed of a report.
-ghost use Rattle.std.specs.Prelude.{◌≡◌, ◌+◌, ◌-◌, ◌*◌, ◌≤◌, ◌<◌, ◌^◌, ◌++◌, Some, false, length, slice_get};
+ghost use Rattle.std.specs.Prelude.{◌≡◌, ◌+◌, ◌-◌, ◌*◌, ◌≤◌, ◌<◌, ◌++◌, false, length};
 ghost use Rattle.std.specs.List.{flat_map};
 ghost use Rattle.sdh_circuits.specs.declared.End.TheVariants.{A, B};
 ghost use Rattle.sdh_report.specs.Lines.{node_line, drop_lines, count_line};
-ghost use Rattle.sdh_report.specs.Reports.{told_line, report_text, delivered_in, chunks_of, silences_of, chunks_in, silences_in, listed};
-ghost use Rattle.sdh_owed.specs.Reports.{nodes_told, told_at, port_told, ports_from, ports_told, report_of};
+ghost use Rattle.sdh_report.specs.Reports.{told_line, report_text, delivered_in, chunks_of, chunks_in, silences_in, listed};
+ghost use Rattle.sdh_owed.specs.Reports.{nodes_told, told_at, port_told, ports_told, report_of};
 ghost use Rattle.sdh_world.specs.Held.{outlet_at};
 ghost use Rattle.sdh_cli.specs.Room.{report_room, MayList};
 

@@ -1,5 +1,5 @@
 //! Laws of the counts and of the lines. The functions change nothing: their contracts are the laws.
-ghost use Rattle.std.specs.Prelude.{◌≡◌, ℕ, ◌+◌, ◌^◌, ◌<◌, ◌≤◌, List, Some, length};
+ghost use Rattle.std.specs.Prelude.{◌≡◌, ℕ, ◌^◌, ◌<◌, ◌≤◌, List, Some, length};
 ghost use Rattle.sdh_circuits.specs.declared.End.{End};
 ghost use Rattle.sdh_outage.specs.Lines.{outage_front, of_port, of_nobody, change_line, more_line, summary_line};
 ghost use Rattle.sdh_outage.specs.Longest.{LongestIsLongest};

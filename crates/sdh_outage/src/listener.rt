@@ -1,5 +1,5 @@
 //! A listener at a port.
-ghost use Rattle.std.specs.Prelude.{◌≡◌, ℕ, ◌+◌, ◌^◌, ◌≤◌, List, [], ◌∷◌, IfOk, length};
+ghost use Rattle.std.specs.Prelude.{◌≡◌, ℕ, ◌+◌, ◌^◌, ◌≤◌, List, [], ◌∷◌, IfOk};
 ghost use Rattle.sdh_payload.specs.declared.delivered.Delivered.{Delivered};
 ghost use Rattle.sdh_payload.specs.Customer.{Customer};
 ghost use Rattle.sdh_outage.specs.Near.{near};

@@ -1,5 +1,5 @@
 //! Room for the bytes of one customer that can be on their way.
-ghost use Rattle.std.specs.Prelude.{◌≡◌, ◌+◌, ◌-◌, ◌*◌, ◌^◌, ◌<◌, ◌≤◌, [], IfOk, true, take, drop, length, vec_len, vec_capacity};
+ghost use Rattle.std.specs.Prelude.{◌≡◌, ◌+◌, ◌-◌, ◌*◌, ◌^◌, ◌<◌, ◌≤◌, [], IfOk, take, drop, length, vec_len, vec_capacity};
 ghost use Rattle.sdh_payload.specs.declared.delivered.Delivered.{Delivered};
 ghost use Rattle.sdh_payload.specs.Stream.{stream_from, chunk_of};
 ghost use Rattle.sdh_outage.specs.Near.{near};

@@ -1,6 +1,5 @@
 //! The lines of the program's texts. Each method appends one, or a part of one.
-ghost use Rattle.std.specs.Prelude.{◌≡◌, ◌+◌, ◌*◌, ◌≤◌, ◌<◌, ◌++◌, codes, decimal, length, take, drop};
-ghost use Rattle.sdh_basics.specs.Hexadecimal.{hex_of};
+ghost use Rattle.std.specs.Prelude.{◌≡◌, ◌+◌, ◌*◌, ◌≤◌, ◌<◌, length, take, drop};
 ghost use Rattle.sdh_report.specs.Written.{with_part};
 ghost use Rattle.sdh_report.specs.Lines.{own_line, step_ended, settle_line, end_letter, side_text, word_text, node_line, port_named};
 ghost use Rattle.sdh_report.specs.Lines.{chunk_line, ais_line, port_line, front_line, row, row_line, drop_lines, table_place};

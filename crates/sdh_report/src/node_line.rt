@@ -1,5 +1,5 @@
 //! The line of a node.
-ghost use Rattle.std.specs.Prelude.{◌≡◌, codes};
+ghost use Rattle.std.specs.Prelude.{◌≡◌};
 ghost use Rattle.sdh_report.specs.Lines.{state_text};
 
 /// The name that a report gives to the state of a node.

@@ -1,5 +1,5 @@
 //! A text with reserved room.
-ghost use Rattle.std.specs.Prelude.{◌≡◌, ◌+◌, ◌-◌, ◌*◌, ◌<◌, ◌≤◌, [], ◌∷◌, ◌++◌, length, codes, decimal, false, IfOk};
+ghost use Rattle.std.specs.Prelude.{◌≡◌, ◌+◌, ◌-◌, ◌*◌, ◌<◌, ◌≤◌, [], length, decimal, false, IfOk};
 ghost use Rattle.std.specs.Fmt.{digit_glyph};
 ghost use Rattle.sdh_basics.specs.Hexadecimal.{hex_of};
 ghost use Rattle.sdh_report.specs.Written.{Written, with_part};

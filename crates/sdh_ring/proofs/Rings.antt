@@ -4,6 +4,7 @@ use Rattle.std.specs.Prelude.{All, ◌^◌, Result, Ok, Err}
 use Rattle.std.proofs.lemmas.List.{map-id}
 use Rattle.sdh_ringmap.specs.Rates.{n_of}
 use Rattle.sdh_ringmap.specs.Ids.{AreIds}
+use Rattle.sdh_plant.specs.Fibres.{Fibres}
 use Rattle.sdh_circuits.specs.Provisioning.{Provisioning, IsProvisioning}
 use Rattle.sdh_circuits.specs.Kept.{KeepsRing}
 use Rattle.sdh_request.specs.declared.settings.Settings.{Settings}
@@ -16,7 +17,7 @@ use Rattle.sdh_rounds.specs.Outcome.{IsOneRound}
 use Rattle.sdh_rounds.specs.declared.faults.PlantFault.{PlantFault as Fault}
 use Rattle.sdh_rounds.proofs.Keeping.{keeps_with, keeps_broken}
 use Rattle.sdh_world.specs.Held.{HeldRing, new_nodes, new_ring}
-use Rattle.sdh_world.specs.Rounds.{World, nodes_with, node_after}
+use Rattle.sdh_world.specs.Rounds.{World, world, nodes_with, node_after}
 use Rattle.sdh_world.specs.Runs.{IsRound}
 use Rattle.sdh_world.specs.Fixed.{fixed, IsOn, IsRing}
 use Rattle.sdh_world.proofs.Keeping.{fixed_with, fixed_next, all_settings, length-fixed, all_on_heard, all_on_next, all_new}
@@ -113,6 +114,33 @@ unfolding any_round.round_with
 ids_after exact w left before after (Ok u) one = ap (λ (x : World). x.ring.ids) one.ok.after_is
 ids_after exact w left before after (Err e) one = ap (λ (r : HeldRing). r.ids) one.breaks.ring
 
+-- A round of a ring that is held as `inside` and seen as `shown`.
+module _ (inside shown : HeldRing) (is : inside ≡ shown) (ring : IsRing inside) (whole : shown.broken ≡ false) where
+  whole_inside : inside.broken ≡ false
+  whole_inside = ap (λ (r : HeldRing). r.broken) is ∙ whole
+
+  pub may_go : shown.rounds < 2 ^ 32 → All (MayRun inside.moment) inside.nodes
+  may_go few = may_send inside ring whole_inside (subst (λ (r : HeldRing). r.rounds < 2 ^ 32) (sym is) few)
+
+  module _ (exact : Bool) (fibres fibres_left : Fibres) (left : HeldRing) (before after : ℕ) (result : Result (Unit {0}) Fault)
+      (one : IsOneRound adm exact (world inside fibres) result (world left fibres_left) before after) where
+    pub still_ring : IsRing left
+    still_ring = ring_after exact (world inside fibres) (world left fibres_left) before after result ring whole_inside one
+
+    pub still_room : (capacity : ℕ) → length inside.ids ≤ capacity → length left.ids ≤ capacity
+    still_room capacity =
+        subst (λ (ids : List ℕ). length ids ≤ capacity)
+        (sym (ids_after exact (world inside fibres) (world left fibres_left) before after result one))
+
+    pub seen_round : IsOneRound adm exact (world shown fibres) result (world left fibres_left) before after
+    seen_round = subst (λ (r : HeldRing). IsOneRound adm exact (world r fibres) result (world left fibres_left) before after) is one
+
 -- a ring whose nodes take another form and stay the same
 pub same_form : (r : HeldRing) → held.with_each (λ (n : Node). n) r ≡ r
 same_form r = (λ i. record r { nodes = map-id r.nodes i })
+
+pub other_form : (r new : HeldRing) → new ≡ held.with_each (λ (n : Node). n) r → IsRing r
+    → IsRing new × ((capacity : ℕ) → length r.ids ≤ capacity → length new.ids ≤ capacity)
+other_form r new form ring =
+    let is = form ∙ same_form r in
+    (subst IsRing (sym is) ring, λ capacity. subst (λ (x : HeldRing). length x.ids ≤ capacity) (sym is))

@@ -1,5 +1,5 @@
 //! All receives of a round.
-ghost use Rattle.std.specs.Prelude.{◌≡◌, ◌⊎◌, ◌<◌, ◌≤◌, OnOk, OnErr, All, length};
+ghost use Rattle.std.specs.Prelude.{◌≡◌, ◌⊎◌, ◌<◌, OnOk, OnErr, All, length};
 ghost use Rattle.sdh_basics.specs.Causes.{HasCause};
 ghost use Rattle.sdh_ringmap.specs.declared.Side.TheVariants.{West};
 ghost use Rattle.sdh_plant.specs.Fibres.{IsPrepared};

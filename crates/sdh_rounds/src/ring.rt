@@ -1,11 +1,11 @@
 //! A ring of nodes of any kind.
-ghost use Rattle.std.specs.Prelude.{◌≡◌, ◌↔◌, ◌+◌, ◌-◌, ◌*◌, ◌/◌, ◌%◌, ◌^◌, ◌<◌, ◌≤◌, ℕ, [], false, Some, IfOk, IsTrue, All, length, map, slice_get};
-ghost use Rattle.std.specs.Prelude.{if◌then◌else◌, vec_capacity};
+ghost use Rattle.std.specs.Prelude.{◌≡◌, ◌↔◌, ◌+◌, ◌-◌, ◌*◌, ◌/◌, ◌%◌, ◌^◌, ◌<◌, ◌≤◌, [], false, Some, IfOk, IsTrue, All, length, map, slice_get};
+ghost use Rattle.std.specs.Prelude.{vec_capacity};
 ghost use Rattle.sdh_ringmap.specs.Rates.{n_of};
 ghost use Rattle.sdh_circuits.specs.Kept.{KeepsRing};
 ghost use Rattle.sdh_circuits.specs.Provisioned.{end_of};
 ghost use Rattle.sdh_plant.specs.Fibres.{IsPrepared};
-ghost use Rattle.sdh_rounds.specs.Held.{world, new_nodes, new_ring, ring_of, with_each, HasItsNodes, IsPlaceOf, IsNodeOf};
+ghost use Rattle.sdh_rounds.specs.Held.{world, new_nodes, new_ring, with_each, HasItsNodes, IsPlaceOf, IsNodeOf};
 ghost use Rattle.sdh_rounds.specs.Quiet.{is_calm};
 ghost use Rattle.sdh_rounds.specs.Outcome.{IsOneRound};
 

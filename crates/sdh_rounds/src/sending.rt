@@ -1,5 +1,5 @@
 //! All sends of a round.
-ghost use Rattle.std.specs.Prelude.{◌≡◌, ◌⊎◌, ◌<◌, ◌≤◌, OnOk, OnErr, All, map, length};
+ghost use Rattle.std.specs.Prelude.{◌≡◌, ◌⊎◌, ◌<◌, OnOk, OnErr, All, map, length};
 ghost use Rattle.sdh_basics.specs.Causes.{HasCause};
 ghost use Rattle.sdh_plant.specs.Fibres.{IsPrepared};
 ghost use Rattle.sdh_rounds.specs.Rounds.{frames_of, sent_all};

@@ -1,5 +1,5 @@
 //! Programs that write at an end: a settle step's report once the step has ended, and all text once the run has ended.
-ghost use Rattle.std.specs.Prelude.{◌≡◌, [], refl};
+ghost use Rattle.std.specs.Prelude.{◌≡◌, []};
 
 use crate::program::RunsPlans;
 use crate::runner::Runner;

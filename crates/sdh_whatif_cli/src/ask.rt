@@ -1,8 +1,8 @@
 //! What the words of the command line ask for.
-ghost use Rattle.std.specs.Prelude.{◌≡◌, ◌≤◌, IfSome};
+ghost use Rattle.std.specs.Prelude.{◌≡◌, IfSome};
 ghost use Rattle.sdh_shell.specs.Calls.{words_of};
-ghost use Rattle.sdh_whatif_cli.specs.Words.{depth_named, kind_named, form_named, no_kinds, has_kind, with_kind, has_some, takes, all_of, begun};
-ghost use Rattle.sdh_whatif_cli.specs.Words.{ask_kind, is_plain, ask_form, ask_word, begin_part, read_any, with_part, read_part, read_parts};
+ghost use Rattle.sdh_whatif_cli.specs.Words.{depth_named, kind_named, form_named, has_kind, with_kind, has_some, takes, begun};
+ghost use Rattle.sdh_whatif_cli.specs.Words.{ask_kind, is_plain, ask_form, ask_word, begin_part, read_any, read_part, read_parts};
 ghost use Rattle.sdh_whatif_cli.specs.Words.{read_word, read_words, is_whole, may_be_parted, finished, asked, IsPart};
 ghost use Rattle.sdh_whatif_cli.specs.Words.{begin_own, with_own};
 

@@ -1,5 +1,5 @@
 //! The lines of cases.
-ghost use Rattle.std.specs.Prelude.{◌≡◌, ◌+◌, ◌<◌, ◌≤◌, ◌++◌, List, All, [], codes, decimal, length, slice_get, Some};
+ghost use Rattle.std.specs.Prelude.{◌≡◌, ◌+◌, ◌<◌, ◌≤◌, ◌++◌, List, All, [], codes, length, slice_get, Some};
 ghost use Rattle.sdh_circuits.specs.Provisioned.{Provisioned};
 ghost use Rattle.sdh_verdicts.specs.declared.failure.Failure.{Failure};
 ghost use Rattle.sdh_verdicts.specs.Failures.{IsFailureIn};

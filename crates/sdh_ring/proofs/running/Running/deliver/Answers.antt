@@ -1,16 +1,14 @@
-use Rattle.std.proofs.Common.{◌≤◌, length, vec_capacity, sym, subst, ◌∙◌}
-use Rattle.sdh_world.specs.Held.{HeldRing}
-use Rattle.sdh_world.specs.Fixed.{IsRing}
-use Rattle.sdh_ring.proofs.Rings.{same_form}
+use Rattle.std.proofs.Common.{◌∙◌, vec_capacity}
+use Rattle.sdh_ring.proofs.Rings.{same_form, other_form}
 use Rattle.sdh_ring.proofs.running.Running.deliver.Goals as goal
 
 pub invariant_of-result : goal.invariant_of-result
 invariant_of-result c =
-    let is = c.into_form-ring.ensures.ring ∙ same_form c.self.inside.ring in
+    let still = other_form c.self.inside.ring c.into_form-ring.result.0 c.into_form-ring.ensures.ring c.self.invariant.ring in
     record {
-      ring = subst IsRing (sym is) c.self.invariant.ring;
+      ring = still.0;
       spare = c.into_form-ring.ensures.empty;
-      room = subst (λ (r : HeldRing). length r.ids ≤ vec_capacity c.into_form-ring.result.1) (sym is) c.into_form-ring.ensures.room;
+      room = still.1 (vec_capacity c.into_form-ring.result.1) c.into_form-ring.ensures.room;
     }
 
 pub returns : goal.returns
