@@ -82,7 +82,7 @@ fn no_sums() -> Sums
     }
 }
 
-// Returns the XOR of the parities of two groups of rows.
+// Returns the parities of the columns of two groups of rows together: the XOR of those of either group.
 #[inline(always)]
 fn xor_sums(sums: Sums, more: Sums) -> Sums
     requires sums { (length sums.a ≡ 16) × (length sums.b ≡ 16) × (length sums.c ≡ 16) }
@@ -125,8 +125,8 @@ fn mix_row(bytes: &mut [u8], i: usize, k: usize, sums: Sums, clear_after: bool) 
 }
 
 // Copies the row of 48 bytes from place i on, and adds the sequence, from its byte k on, to the copy. Returns the
-// parities of the columns of this row alone, which are its clear bytes: those of the copy where `clear_after` holds, and
-// those of `from` otherwise.
+// parities of the columns of this row alone, which are its clear bytes: those of the copy where `clear_after` holds,
+// and those of `from` otherwise.
 #[inline(always)]
 fn mix_row_to(from: &[u8], to: &mut [u8], i: usize, k: usize, clear_after: bool) -> Sums
     requires room { i + 48 ≤ length from.now }

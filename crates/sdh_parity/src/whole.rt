@@ -81,8 +81,8 @@ fn pass_frame_to(n: usize, from: &[u8], to: &mut [u8], clear_after: bool) -> Fra
     }
 }
 
-/// Scrambles a frame of 2430N bytes from one slice to another. Returns the BIP-8 of the scrambled bytes in `to`, which go
-/// on the line, and the BIP-24N of the bytes in `from`. `n` is N, 4 or 16.
+/// Scrambles a frame of 2430N bytes from one slice to another. Returns the BIP-8 of the scrambled bytes in `to`, which
+/// go on the line, and the BIP-24N of the bytes in `from`. `n` is N, 4 or 16.
 pub fn send_frame_to(n: usize, from: &[u8], to: &mut [u8]) -> FrameParities
     requires rate { (n ≡ 4) ⊎ (n ≡ 16) }
     requires from { length from.now ≡ 2430 * n }
