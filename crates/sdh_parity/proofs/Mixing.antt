@@ -115,6 +115,12 @@ module _ (old b1 b2 b3 : List ℕ) (i k : ℕ)
   pub from3 : (j : ℕ) → j < 16 → get_or b3 (i + 32 + j) 0 ≡ bit_xor (get_or old (i + 32 + j) 0) (scrambling_byte (k + 32 + j))
   from3 j h = inside3 j h ∙ ap (λ z. bit_xor z (scrambling_byte (k + 32 + j))) (was3 j)
 
+-- a place of the clear bytes
+pub clear-at : (after : Bool) (to from to' from' : List ℕ) (m n : ℕ) → get_or to m 0 ≡ get_or to' n 0 → get_or from m 0 ≡ get_or from' n 0
+    → get_or (if after then to else from) m 0 ≡ get_or (if after then to' else from') n 0
+clear-at true to from to' from' m n e f = e
+clear-at false to from to' from' m n e f = f
+
 -- ---- row after row
 
 -- rows to which the sequence was added, and its place at the next one
@@ -177,29 +183,84 @@ summed-next clear clear' a b c a' b' c' r i is so below small longs fa fb fc =
       third = λ j h. more (32 + j) _ _ (omega arith) (so.third j h) (fc j h);
     }
 
--- rows that were passed in place
+-- rows that were copied
+pub record CopiedTo (after : Bool) (at : ℕ) (from to a b c : List ℕ) (r k : ℕ) : Type 0 where
+  pub keyed : KeyedTo at from to r k
+  pub summed : SummedTo (if after then to else from) a b c r
+
+pub none-copied : (after : Bool) (at k : ℕ) (from to a b c : List ℕ) → k ≡ at % 1016 → a ≡ replicate 16 0 → b ≡ replicate 16 0
+    → c ≡ replicate 16 0 → CopiedTo after at from to a b c 0 k
+none-copied after at k from to a b c is ea eb ec = record {
+  keyed = record { key = omega (arith, is); done = λ i h. absurd (omega arith) };
+  summed = none-summed (if after then to else from) a b c ea eb ec;
+}
+
+-- the place in the sequence may be another one that is the same modulo 1016
+pub copied-at : (after : Bool) (at : ℕ) (from to a b c : List ℕ) (r r' k k' : ℕ) → r ≡ r' → k % 1016 ≡ k' % 1016
+    → CopiedTo after at from to a b c r k → CopiedTo after at from to a b c r' k'
+copied-at after at from to a b c r r' k k' e same so =
+    subst (λ n. CopiedTo after at from to a b c n k') e (record {
+      keyed = record { key = sym same ∙ so.keyed.key; done = so.keyed.done };
+      summed = so.summed;
+    })
+
+module _ (after : Bool) (at : ℕ) (from to new a b c a' b' c' : List ℕ) (r k i : ℕ) (is : i ≡ 48 * r)
+    (so : CopiedTo after at from to a b c r k)
+    (below : (m : ℕ) → m < i → get_or new m 0 ≡ get_or to m 0)
+    (inside : (j : ℕ) → j < 48 → get_or new (i + j) 0 ≡ bit_xor (get_or from (i + j) 0) (scrambling_byte (k + j)))
+    (small : (m : ℕ) → get_or new m 0 < 2 ^ 8)
+    (longs : (length a' ≡ 16) × (length b' ≡ 16) × (length c' ≡ 16)) where
+  keyed' : KeyedTo at from new (r + 1) (k + 48)
+  keyed' = keyed-next at from to new r k i is so.keyed below inside
+
+  pub copied-next : ((j : ℕ) → j < 16 → get_or a' j 0 ≡ bit_xor (get_or a j 0) (get_or (if after then new else from) (i + j) 0))
+      → ((j : ℕ) → j < 16 → get_or b' j 0 ≡ bit_xor (get_or b j 0) (get_or (if after then new else from) (i + (16 + j)) 0))
+      → ((j : ℕ) → j < 16 → get_or c' j 0 ≡ bit_xor (get_or c j 0) (get_or (if after then new else from) (i + (32 + j)) 0))
+      → CopiedTo after at from new a' b' c' (r + 1) (k + 48)
+  copied-next fa fb fc = record {
+    keyed = keyed';
+    summed =
+        summed-next (if after then to else from) (if after then new else from) a b c a' b' c' r i is so.summed (stay after) (clear-small after)
+        longs fa fb fc;
+  }
+    where
+      stay : (t : Bool) (m : ℕ) → m < i → get_or (if t then new else from) m 0 ≡ get_or (if t then to else from) m 0
+      stay t m h = clear-at t new from to from m m (below m h) refl
+
+      clear-small : (t : Bool) (m : ℕ) → m < i + 48 → get_or (if t then new else from) m 0 < 2 ^ 8
+      clear-small true m h = small m
+      clear-small false m h = small-back (get_or from m 0) (get_or new m 0) (at + m) (keyed'.done m (omega arith)) (small m)
+
+  -- by the parities d, e and f of the columns of this row alone
+  pub copied-row : (d e f : List ℕ) → ((j : ℕ) → j < 16 → get_or a' j 0 ≡ bit_xor (get_or a j 0) (get_or d j 0))
+      → ((j : ℕ) → j < 16 → get_or b' j 0 ≡ bit_xor (get_or b j 0) (get_or e j 0))
+      → ((j : ℕ) → j < 16 → get_or c' j 0 ≡ bit_xor (get_or c j 0) (get_or f j 0))
+      → ((j : ℕ) → j < 16 → get_or d j 0 ≡ get_or (if after then new else from) (i + j) 0)
+      → ((j : ℕ) → j < 16 → get_or e j 0 ≡ get_or (if after then new else from) (i + (16 + j)) 0)
+      → ((j : ℕ) → j < 16 → get_or f j 0 ≡ get_or (if after then new else from) (i + (32 + j)) 0)
+      → CopiedTo after at from new a' b' c' (r + 1) (k + 48)
+  copied-row d e f fa fb fc ga gb gc =
+      copied-next (λ j h. fa j h ∙ ap (bit_xor (get_or a j 0)) (ga j h)) (λ j h. fb j h ∙ ap (bit_xor (get_or b j 0)) (gb j h))
+      (λ j h. fc j h ∙ ap (bit_xor (get_or c j 0)) (gc j h))
+
+-- rows that were passed in place: those that come stay as they were
 pub record MixedTo (after : Bool) (at : ℕ) (old now a b c : List ℕ) (r k : ℕ) : Type 0 where
-  pub keyed : KeyedTo at old now r k
+  pub copied : CopiedTo after at old now a b c r k
   pub rest : (i : ℕ) → 48 * r ≤ i → get_or now i 0 ≡ get_or old i 0
-  pub summed : SummedTo (if after then now else old) a b c r
 
 pub none-mixed : (after : Bool) (at k : ℕ) (old a b c : List ℕ) → k ≡ at % 1016 → a ≡ replicate 16 0 → b ≡ replicate 16 0
     → c ≡ replicate 16 0 → MixedTo after at old old a b c 0 k
 none-mixed after at k old a b c is ea eb ec = record {
-  keyed = record { key = omega (arith, is); done = λ i h. absurd (omega arith) };
+  copied = none-copied after at k old old a b c is ea eb ec;
   rest = λ i h. refl;
-  summed = none-summed (if after then old else old) a b c ea eb ec;
 }
 
--- the place in the sequence may be another one that is the same modulo 1016
 pub mixed-at : (after : Bool) (at : ℕ) (old now a b c : List ℕ) (r r' k k' : ℕ) → r ≡ r' → k % 1016 ≡ k' % 1016
     → MixedTo after at old now a b c r k → MixedTo after at old now a b c r' k'
-mixed-at after at old now a b c r r' k k' e same so =
-    subst (λ n. MixedTo after at old now a b c n k') e (record {
-      keyed = record { key = sym same ∙ so.keyed.key; done = so.keyed.done };
-      rest = so.rest;
-      summed = so.summed;
-    })
+mixed-at after at old now a b c r r' k k' e same so = record {
+  copied = copied-at after at old now a b c r r' k k' e same so.copied;
+  rest = subst (λ n. (i : ℕ) → 48 * n ≤ i → get_or now i 0 ≡ get_or old i 0) e so.rest;
+}
 
 module _ (after : Bool) (at : ℕ) (old now new a b c a' b' c' : List ℕ) (r k i : ℕ) (is : i ≡ 48 * r)
     (so : MixedTo after at old now a b c r k)
@@ -208,70 +269,24 @@ module _ (after : Bool) (at : ℕ) (old now new a b c a' b' c' : List ℕ) (r k 
     (above : (m : ℕ) → i + 48 ≤ m → get_or new m 0 ≡ get_or now m 0)
     (small : (m : ℕ) → get_or new m 0 < 2 ^ 8)
     (longs : (length a' ≡ 16) × (length b' ≡ 16) × (length c' ≡ 16)) where
-  keyed' : KeyedTo at old new (r + 1) (k + 48)
-  keyed' =
-      keyed-next at old now new r k i is so.keyed below
-      (λ j h. inside j h ∙ ap (λ z. bit_xor z (scrambling_byte (k + j))) (so.rest (i + j) (omega arith)))
+  was : (m : ℕ) → get_or now (i + m) 0 ≡ get_or old (i + m) 0
+  was m = so.rest (i + m) (omega arith)
+
+  clear-was : (m : ℕ) → get_or (if after then new else now) (i + m) 0 ≡ get_or (if after then new else old) (i + m) 0
+  clear-was m = clear-at after new now new old (i + m) (i + m) refl (was m)
 
   pub mixed-next : ((j : ℕ) → j < 16 → get_or a' j 0 ≡ bit_xor (get_or a j 0) (get_or (if after then new else now) (i + j) 0))
       → ((j : ℕ) → j < 16 → get_or b' j 0 ≡ bit_xor (get_or b j 0) (get_or (if after then new else now) (i + (16 + j)) 0))
       → ((j : ℕ) → j < 16 → get_or c' j 0 ≡ bit_xor (get_or c j 0) (get_or (if after then new else now) (i + (32 + j)) 0))
       → MixedTo after at old new a' b' c' (r + 1) (k + 48)
   mixed-next fa fb fc = record {
-    keyed = keyed';
+    copied =
+        copied-next after at old now new a b c a' b' c' r k i is so.copied below
+        (λ j h. inside j h ∙ ap (λ z. bit_xor z (scrambling_byte (k + j))) (was j)) small longs
+        (λ j h. fa j h ∙ ap (bit_xor (get_or a j 0)) (clear-was j)) (λ j h. fb j h ∙ ap (bit_xor (get_or b j 0)) (clear-was (16 + j)))
+        (λ j h. fc j h ∙ ap (bit_xor (get_or c j 0)) (clear-was (32 + j)));
     rest = λ m h. above m (omega arith) ∙ so.rest m (omega arith);
-    summed = sums after so.summed fa fb fc;
   }
-    where
-      old-small : (m : ℕ) → m < i + 48 → get_or old m 0 < 2 ^ 8
-      old-small m h = small-back (get_or old m 0) (get_or new m 0) (at + m) (keyed'.done m (omega arith)) (small m)
-
-      was : (m : ℕ) → get_or now (i + m) 0 ≡ get_or old (i + m) 0
-      was m = so.rest (i + m) (omega arith)
-
-      sums : (t : Bool) → SummedTo (if t then now else old) a b c r
-          → ((j : ℕ) → j < 16 → get_or a' j 0 ≡ bit_xor (get_or a j 0) (get_or (if t then new else now) (i + j) 0))
-          → ((j : ℕ) → j < 16 → get_or b' j 0 ≡ bit_xor (get_or b j 0) (get_or (if t then new else now) (i + (16 + j)) 0))
-          → ((j : ℕ) → j < 16 → get_or c' j 0 ≡ bit_xor (get_or c j 0) (get_or (if t then new else now) (i + (32 + j)) 0))
-          → SummedTo (if t then new else old) a' b' c' (r + 1)
-      sums true s ga gb gc = summed-next now new a b c a' b' c' r i is s below (λ m h. small m) longs ga gb gc
-      sums false s ga gb gc =
-          summed-next old old a b c a' b' c' r i is s (λ m h. refl) old-small longs
-          (λ j h. ga j h ∙ ap (bit_xor (get_or a j 0)) (was j)) (λ j h. gb j h ∙ ap (bit_xor (get_or b j 0)) (was (16 + j)))
-          (λ j h. gc j h ∙ ap (bit_xor (get_or c j 0)) (was (32 + j)))
-
--- rows that were copied
-pub record OpenedTo (at : ℕ) (from to a b c : List ℕ) (r k : ℕ) : Type 0 where
-  pub keyed : KeyedTo at from to r k
-  pub summed : SummedTo to a b c r
-
-pub none-opened : (at k : ℕ) (from to a b c : List ℕ) → k ≡ at % 1016 → a ≡ replicate 16 0 → b ≡ replicate 16 0 → c ≡ replicate 16 0
-    → OpenedTo at from to a b c 0 k
-none-opened at k from to a b c is ea eb ec = record {
-  keyed = record { key = omega (arith, is); done = λ i h. absurd (omega arith) };
-  summed = none-summed to a b c ea eb ec;
-}
-
-pub opened-at : (at : ℕ) (from to a b c : List ℕ) (r r' k k' : ℕ) → r ≡ r' → k % 1016 ≡ k' % 1016
-    → OpenedTo at from to a b c r k → OpenedTo at from to a b c r' k'
-opened-at at from to a b c r r' k k' e same so =
-    subst (λ n. OpenedTo at from to a b c n k') e (record {
-      keyed = record { key = sym same ∙ so.keyed.key; done = so.keyed.done };
-      summed = so.summed;
-    })
-
-pub opened-next : (at : ℕ) (from to new a b c a' b' c' : List ℕ) (r k i : ℕ) → i ≡ 48 * r → OpenedTo at from to a b c r k
-    → ((m : ℕ) → m < i → get_or new m 0 ≡ get_or to m 0)
-    → ((j : ℕ) → j < 48 → get_or new (i + j) 0 ≡ bit_xor (get_or from (i + j) 0) (scrambling_byte (k + j)))
-    → ((m : ℕ) → get_or new m 0 < 2 ^ 8) → (length a' ≡ 16) × (length b' ≡ 16) × (length c' ≡ 16)
-    → ((j : ℕ) → j < 16 → get_or a' j 0 ≡ bit_xor (get_or a j 0) (get_or new (i + j) 0))
-    → ((j : ℕ) → j < 16 → get_or b' j 0 ≡ bit_xor (get_or b j 0) (get_or new (i + (16 + j)) 0))
-    → ((j : ℕ) → j < 16 → get_or c' j 0 ≡ bit_xor (get_or c j 0) (get_or new (i + (32 + j)) 0))
-    → OpenedTo at from new a' b' c' (r + 1) (k + 48)
-opened-next at from to new a b c a' b' c' r k i is so below inside small longs fa fb fc = record {
-  keyed = keyed-next at from to new r k i is so.keyed below inside;
-  summed = summed-next to new a b c a' b' c' r i is so.summed below (λ m h. small m) longs fa fb fc;
-}
 
 -- bytes are below 256 where the bytes with the sequence added are
 pub all-small : (old new : List ℕ) (at : ℕ) → ((i : ℕ) → i < length old

@@ -43,22 +43,22 @@ fn step(bytes: &mut [u8], i: usize, k: usize, sum: u8x16, clear_after: bool) -> 
     sum ^ (if clear_after { new } else { old })
 }
 
-// Copies the sixteen bytes from place i on, and descrambles the copy: it adds the sequence, from its byte k on. Returns
-// the XOR of `sum` and the descrambled copy.
+// Copies the sixteen bytes from place i on, and adds the sequence, from its byte k on, to the copy. Returns the clear
+// form of these bytes: the copy where `clear_after` holds, and the bytes of `from` otherwise.
 #[inline(always)]
-fn open_step(from: &[u8], to: &mut [u8], i: usize, k: usize, sum: u8x16) -> u8x16
+fn step_to(from: &[u8], to: &mut [u8], i: usize, k: usize, clear_after: bool) -> u8x16
     requires room { i + 16 ≤ length from.now }
     requires same { length to.old ≡ length from.now }
     requires key { k + 16 ≤ 1160 }
-    requires sum { length sum ≡ 16 }
     ensures below { (m : ℕ) → m < i → slice_index to.new m ≡ slice_index to.old m }
     ensures inside { (j : ℕ) → j < 16 → slice_index to.new (i + j) ≡ bit_xor (slice_index from.now (i + j)) (scrambling_byte (k + j)) }
     ensures long { length result ≡ 16 }
-    ensures sum { (j : ℕ) → j < 16 → slice_index result j ≡ bit_xor (slice_index sum j) (slice_index to.new (i + j)) }
+    ensures clear { (j : ℕ) → j < 16 → slice_index result j ≡ slice_index (if clear_after then to.new else from.now) (i + j) }
 {
-    let new = keyed(u8x16::from_slice(&from[i..]), k);
+    let old = u8x16::from_slice(&from[i..]);
+    let new = keyed(old, k);
     new.copy_to_slice(&mut to[i..]);
-    sum ^ new
+    if clear_after { new } else { old }
 }
 
 // The parities of 48 columns: `a` those of the first sixteen, `b` of the next sixteen and `c` of the last sixteen.
@@ -79,6 +79,23 @@ fn no_sums() -> Sums
         a: none,
         b: none,
         c: none,
+    }
+}
+
+// Returns the parities of the columns of two groups of rows together: the XOR of those of either group.
+#[inline(always)]
+fn xor_sums(sums: Sums, more: Sums) -> Sums
+    requires sums { (length sums.a ≡ 16) × (length sums.b ≡ 16) × (length sums.c ≡ 16) }
+    requires more { (length more.a ≡ 16) × (length more.b ≡ 16) × (length more.c ≡ 16) }
+    ensures longs { (length result.a ≡ 16) × (length result.b ≡ 16) × (length result.c ≡ 16) }
+    ensures a { (j : ℕ) → j < 16 → slice_index result.a j ≡ bit_xor (slice_index sums.a j) (slice_index more.a j) }
+    ensures b { (j : ℕ) → j < 16 → slice_index result.b j ≡ bit_xor (slice_index sums.b j) (slice_index more.b j) }
+    ensures c { (j : ℕ) → j < 16 → slice_index result.c j ≡ bit_xor (slice_index sums.c j) (slice_index more.c j) }
+{
+    Sums {
+        a: sums.a ^ more.a,
+        b: sums.b ^ more.b,
+        c: sums.c ^ more.c,
     }
 }
 
@@ -107,25 +124,25 @@ fn mix_row(bytes: &mut [u8], i: usize, k: usize, sums: Sums, clear_after: bool) 
     Sums { a, b, c }
 }
 
-// Copies the row of 48 bytes from place i on, and descrambles the copy: it adds the sequence, from its byte k on.
-// Returns the XOR of the sums and the descrambled copy.
+// Copies the row of 48 bytes from place i on, and adds the sequence, from its byte k on, to the copy. Returns the
+// parities of the columns of this row alone, which are its clear bytes: those of the copy where `clear_after` holds,
+// and those of `from` otherwise.
 #[inline(always)]
-fn open_row(from: &[u8], to: &mut [u8], i: usize, k: usize, sums: Sums) -> Sums
+fn mix_row_to(from: &[u8], to: &mut [u8], i: usize, k: usize, clear_after: bool) -> Sums
     requires room { i + 48 ≤ length from.now }
     requires same { length to.old ≡ length from.now }
     requires key { k + 48 ≤ 1160 }
-    requires sums { (length sums.a ≡ 16) × (length sums.b ≡ 16) × (length sums.c ≡ 16) }
     ensures below { (m : ℕ) → m < i → slice_index to.new m ≡ slice_index to.old m }
     ensures inside { (j : ℕ) → j < 48 → slice_index to.new (i + j) ≡ bit_xor (slice_index from.now (i + j)) (scrambling_byte (k + j)) }
     ensures small { (m : ℕ) → slice_index to.new m < 2 ^ 8 }
     ensures longs { (length result.a ≡ 16) × (length result.b ≡ 16) × (length result.c ≡ 16) }
-    ensures a { (j : ℕ) → j < 16 → slice_index result.a j ≡ bit_xor (slice_index sums.a j) (slice_index to.new (i + j)) }
-    ensures b { (j : ℕ) → j < 16 → slice_index result.b j ≡ bit_xor (slice_index sums.b j) (slice_index to.new (i + (16 + j))) }
-    ensures c { (j : ℕ) → j < 16 → slice_index result.c j ≡ bit_xor (slice_index sums.c j) (slice_index to.new (i + (32 + j))) }
+    ensures a { (j : ℕ) → j < 16 → slice_index result.a j ≡ slice_index (if clear_after then to.new else from.now) (i + j) }
+    ensures b { (j : ℕ) → j < 16 → slice_index result.b j ≡ slice_index (if clear_after then to.new else from.now) (i + (16 + j)) }
+    ensures c { (j : ℕ) → j < 16 → slice_index result.c j ≡ slice_index (if clear_after then to.new else from.now) (i + (32 + j)) }
 {
-    let a = open_step(from, to, i, k, sums.a);
-    let b = open_step(from, to, i + 16, k + 16, sums.b);
-    let c = open_step(from, to, i + 32, k + 32, sums.c);
+    let a = step_to(from, to, i, k, clear_after);
+    let b = step_to(from, to, i + 16, k + 16, clear_after);
+    let c = step_to(from, to, i + 32, k + 32, clear_after);
     Sums { a, b, c }
 }
 
@@ -173,28 +190,28 @@ fn mix(bytes: &mut [u8], at: usize, rows: usize, clear_after: bool) -> Sums
 }
 
 // Copies whole rows of 48 bytes, and adds the sequence, from its byte `at` on, to the copies. Returns the parities of
-// the columns of the copies. The loop takes three rows at a time, as that of `mix` does.
+// the columns of clear bytes. The loop takes three rows at a time, as that of `mix` does.
 #[inline(always)]
-fn open_rows(from: &[u8], to: &mut [u8], at: usize, rows: usize) -> Sums
+fn mix_to(from: &[u8], to: &mut [u8], at: usize, rows: usize, clear_after: bool) -> Sums
     requires rows { length from.now ≡ 48 * rows }
     requires same { length to.old ≡ length from.now }
     ensures bytes { (i : ℕ) → i < 48 * rows → slice_index to.new i ≡ bit_xor (slice_index from.now i) (scrambling_byte (at + i)) }
-    ensures a { (j : ℕ) → j < 16 → slice_index result.a j ≡ parity_of (every j 48 rows to.new) }
-    ensures b { (j : ℕ) → j < 16 → slice_index result.b j ≡ parity_of (every (16 + j) 48 rows to.new) }
-    ensures c { (j : ℕ) → j < 16 → slice_index result.c j ≡ parity_of (every (32 + j) 48 rows to.new) }
+    ensures a { (j : ℕ) → j < 16 → slice_index result.a j ≡ parity_of (every j 48 rows (if clear_after then to.new else from.now)) }
+    ensures b { (j : ℕ) → j < 16 → slice_index result.b j ≡ parity_of (every (16 + j) 48 rows (if clear_after then to.new else from.now)) }
+    ensures c { (j : ℕ) → j < 16 → slice_index result.c j ≡ parity_of (every (32 + j) 48 rows (if clear_after then to.new else from.now)) }
     ensures longs { (length result.a ≡ 16) × (length result.b ≡ 16) × (length result.c ≡ 16) }
 {
     let mut sums = no_sums();
     let mut k = at % 1016;
     'thirds: for t in 0..rows / 3 {
         let i = 144 * t;
-        sums = open_row(from, to, i, k, sums);
-        sums = open_row(from, to, i + 48, k + 48, sums);
-        sums = open_row(from, to, i + 96, k + 96, sums);
+        sums = xor_sums(sums, mix_row_to(from, to, i, k, clear_after));
+        sums = xor_sums(sums, mix_row_to(from, to, i + 48, k + 48, clear_after));
+        sums = xor_sums(sums, mix_row_to(from, to, i + 96, k + 96, clear_after));
         k = after_three(k);
     }
     'last: for r in 3 * (rows / 3)..rows {
-        sums = open_row(from, to, 48 * r, k, sums);
+        sums = xor_sums(sums, mix_row_to(from, to, 48 * r, k, clear_after));
         k += 48;
     }
     sums
@@ -313,27 +330,28 @@ pub fn pass(bytes: &mut [u8], at: usize, clear_after: bool) -> Passed
     Passed { lanes, line }
 }
 
-/// Copies a piece, and descrambles the copy: it adds the sequence, from its byte `at` on. Returns the parities of the
-/// descrambled copy and of the bytes on the line.
+/// Copies a piece, and adds the sequence, from its byte `at` on, to the copy. Returns the parities of its bytes. The
+/// clear bytes are those of the copy where `clear_after` holds (descrambling), and those of `from` otherwise
+/// (scrambling).
 #[inline(always)]
-pub fn open(from: &[u8], to: &mut [u8], at: usize) -> Passed
+pub fn pass_to(from: &[u8], to: &mut [u8], at: usize, clear_after: bool) -> Passed
     requires few { at + length from.now ≤ 38880 }
     requires same { length to.old ≡ length from.now }
     ensures bytes { (i : ℕ) → i < length from.now → slice_index to.new i ≡ bit_xor (slice_index from.now i) (scrambling_byte (at + i)) }
-    ensures lanes { HasLanes 48 to.new result.lanes }
+    ensures lanes { HasLanes 48 (if clear_after then to.new else from.now) result.lanes }
     ensures long { length result.lanes ≡ 48 }
-    ensures line { result.line ≡ parity_of from.now }
+    ensures line { result.line ≡ parity_of (if clear_after then from.now else to.new) }
     ensures small { (i : ℕ) → slice_index to.new i < 2 ^ 8 }
 {
     let len = from.len();
     let rows = len / 48;
     let (front, back) = from.split_at(48 * rows);
     let (whole, rest) = to.split_at_mut(48 * rows);
-    let sums = open_rows(front, whole, at, rows);
+    let sums = mix_to(front, whole, at, rows, clear_after);
     rest.copy_from_slice(back);
     let mut lanes = [0; 48];
     join(sums.a, sums.b, sums.c, &mut lanes);
-    pass_rest(rest, (at + 48 * rows) % 1016, &mut lanes, true);
+    pass_rest(rest, (at + 48 * rows) % 1016, &mut lanes, clear_after);
     Passed {
         line: bip8(&lanes) ^ sequence_parity(at, len),
         lanes,

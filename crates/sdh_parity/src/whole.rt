@@ -1,7 +1,7 @@
 //! Whole frames: the scrambler and both parities in one pass. The head of a row is its first 9N bytes. B2 doesn't cover
 //! the heads of rows 2 and 3. They pass together with the bytes that B2 covers, and their parity is then added a second
 //! time, which removes it (XOR).
-ghost use Rattle.std.specs.Prelude.{◌≡◌, ◌*◌, ◌⊎◌, ◌++◌, length, take, slice_range};
+ghost use Rattle.std.specs.Prelude.{◌≡◌, ◌*◌, ◌⊎◌, ◌++◌, if◌then◌else◌, length, take, slice_range};
 ghost use Rattle.sdh_basics.specs.Parity.{bip8 as parity_of};
 ghost use Rattle.sdh_parity.specs.Parity.{section_parity};
 ghost use Rattle.sdh_parity.specs.Scrambling.{scrambled};
@@ -9,7 +9,7 @@ ghost use Rattle.sdh_parity.specs.Pieces.{HasLanes};
 
 use crate::adding::{add_lanes, add_rows};
 use crate::parity::bip8;
-use crate::through::{open, pass};
+use crate::through::{pass, pass_to};
 
 /// The parities of a frame: in `line` the BIP-8 of its bytes on the line, and in the first 3N bytes of `clear` the
 /// BIP-24N of its unscrambled bytes. BIP-24N leaves out the first 9N bytes of rows 1 to 3.
@@ -52,8 +52,37 @@ pub fn send_frame(n: usize, bytes: &mut [u8]) -> FrameParities
     }
 }
 
-/// Scrambles a frame of 2430N bytes from one slice to another. Returns the BIP-8 of the scrambled bytes in `to`, which go
-/// on the line, and the BIP-24N of the bytes in `from`. `n` is N, 4 or 16.
+// Scrambles or descrambles a frame of 2430N bytes from one slice to another. Returns the BIP-8 of the bytes on the line
+// and the BIP-24N of the clear bytes. The clear bytes are those in `to` where `clear_after` holds (descrambling), and
+// those in `from` otherwise (scrambling). `n` is N, 4 or 16.
+#[inline(always)]
+fn pass_frame_to(n: usize, from: &[u8], to: &mut [u8], clear_after: bool) -> FrameParities
+    requires rate { (n ≡ 4) ⊎ (n ≡ 16) }
+    requires from { length from.now ≡ 2430 * n }
+    requires to { length to.old ≡ 2430 * n }
+    ensures bytes { to.new ≡ scrambled (9 * n) from.now }
+    ensures line { result.line ≡ parity_of (if clear_after then from.now else to.new) }
+    ensures clear { take (3 * n) result.clear ≡ section_parity n (if clear_after then to.new else from.now) }
+    ensures long { length result.clear ≡ 48 }
+{
+    let (front, back) = from.split_at(9 * n);
+    let (head, rest) = to.split_at_mut(9 * n);
+    head.copy_from_slice(front);
+    let passed = pass_to(back, rest, 0, clear_after);
+    let mut clear = if clear_after {
+        heads_of(n, to)
+    } else {
+        heads_of(n, from)
+    };
+    add_lanes(n, &mut clear, &passed.lanes);
+    FrameParities {
+        line: bip8(front) ^ passed.line,
+        clear,
+    }
+}
+
+/// Scrambles a frame of 2430N bytes from one slice to another. Returns the BIP-8 of the scrambled bytes in `to`, which
+/// go on the line, and the BIP-24N of the bytes in `from`. `n` is N, 4 or 16.
 pub fn send_frame_to(n: usize, from: &[u8], to: &mut [u8]) -> FrameParities
     requires rate { (n ≡ 4) ⊎ (n ≡ 16) }
     requires from { length from.now ≡ 2430 * n }
@@ -63,8 +92,7 @@ pub fn send_frame_to(n: usize, from: &[u8], to: &mut [u8]) -> FrameParities
     ensures clear { take (3 * n) result.clear ≡ section_parity n from.now }
     ensures long { length result.clear ≡ 48 }
 {
-    to.copy_from_slice(from);
-    send_frame(n, to)
+    pass_frame_to(n, from, to, false)
 }
 
 /// Descrambles a frame of 2430N bytes in place. Returns the BIP-8 of the bytes as they came from the line, and the
@@ -98,14 +126,5 @@ pub fn open_frame(n: usize, from: &[u8], to: &mut [u8]) -> FrameParities
     ensures clear { take (3 * n) result.clear ≡ section_parity n to.new }
     ensures long { length result.clear ≡ 48 }
 {
-    let (front, back) = from.split_at(9 * n);
-    let (head, rest) = to.split_at_mut(9 * n);
-    head.copy_from_slice(front);
-    let passed = open(back, rest, 0);
-    let mut clear = heads_of(n, to);
-    add_lanes(n, &mut clear, &passed.lanes);
-    FrameParities {
-        line: bip8(&to[..9 * n]) ^ passed.line,
-        clear,
-    }
+    pass_frame_to(n, from, to, true)
 }

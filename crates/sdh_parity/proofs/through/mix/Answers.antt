@@ -6,10 +6,10 @@ use Rattle.sdh_parity.proofs.Mixing.{none-mixed, mixed-at, mixed-next}
 use Rattle.sdh_parity.proofs.through.mix.Goals as goal
 
 pub mix_row-sums-requires-clause-sums : goal.mix_row-sums-requires-clause-sums
-mix_row-sums-requires-clause-sums c = c.thirds.invariant.mixed.summed.longs
+mix_row-sums-requires-clause-sums c = c.thirds.invariant.mixed.copied.summed.longs
 
 pub mix_row-sums-requires-in-last-clause-sums : goal.mix_row-sums-requires-in-last-clause-sums
-mix_row-sums-requires-in-last-clause-sums c = c.last.invariant.mixed.summed.longs
+mix_row-sums-requires-in-last-clause-sums c = c.last.invariant.mixed.copied.summed.longs
 
 pub thirds-init : goal.thirds-init
 thirds-init c = record {
@@ -57,22 +57,22 @@ last-preserved c = record {
 }
 
 pub returns-clause-bytes : goal.returns-clause-bytes
-returns-clause-bytes c = λ i h. c.last.invariant.mixed.keyed.done i (omega arith)
+returns-clause-bytes c = λ i h. c.last.invariant.mixed.copied.keyed.done i (omega arith)
 
 pub returns-clause-a : goal.returns-clause-a
 returns-clause-a c = λ j h.
-    c.last.invariant.mixed.summed.first j h
+    c.last.invariant.mixed.copied.summed.first j h
     ∙ ap (λ n. bip8 (every j 48 n (if c.args.clear_after then c.last.bytes else c.args.bytes.now))) (omega arith)
 
 pub returns-clause-b : goal.returns-clause-b
 returns-clause-b c = λ j h.
-    c.last.invariant.mixed.summed.second j h
+    c.last.invariant.mixed.copied.summed.second j h
     ∙ ap (λ n. bip8 (every (16 + j) 48 n (if c.args.clear_after then c.last.bytes else c.args.bytes.now))) (omega arith)
 
 pub returns-clause-c : goal.returns-clause-c
 returns-clause-c c = λ j h.
-    c.last.invariant.mixed.summed.third j h
+    c.last.invariant.mixed.copied.summed.third j h
     ∙ ap (λ n. bip8 (every (32 + j) 48 n (if c.args.clear_after then c.last.bytes else c.args.bytes.now))) (omega arith)
 
 pub returns-clause-longs : goal.returns-clause-longs
-returns-clause-longs c = c.last.invariant.mixed.summed.longs
+returns-clause-longs c = c.last.invariant.mixed.copied.summed.longs

@@ -1,16 +1,6 @@
-use Rattle.std.proofs.Common.{◌≡◌, ℕ, Bool, true, false, List, get_or, ap, ◌∙◌, sym, arith, bit_xor, refl}
-use Rattle.std.specs.Prelude.{if◌then◌else◌}
-use Rattle.sdh_parity.proofs.Mixing.{row-inside, stays1, stays2, stays3, from2, from3, was2, was3}
+use Rattle.std.proofs.Common.{◌+◌, get_or, ap, ◌∙◌, sym, arith, bit_xor, refl}
+use Rattle.sdh_parity.proofs.Mixing.{row-inside, stays1, stays2, stays3, from2, from3, was2, was3, clear-at}
 use Rattle.sdh_parity.proofs.through.mix_row.Goals as goal
-
--- the clear bytes of each step are those of the row
-either : (t : Bool) (x y u v : ℕ) → x ≡ u → y ≡ v → (if t then x else y) ≡ (if t then u else v)
-either true x y u v e f = e
-either false x y u v e f = f
-
-at : (t : Bool) (xs ys : List ℕ) (m : ℕ) → get_or (if t then xs else ys) m 0 ≡ (if t then get_or xs m 0 else get_or ys m 0)
-at true xs ys m = refl
-at false xs ys m = refl
 
 pub returns-clause-inside : goal.returns-clause-inside
 returns-clause-inside c =
@@ -21,29 +11,26 @@ returns-clause-inside c =
 
 pub returns-clause-a : goal.returns-clause-a
 returns-clause-a c = λ j h.
-    c.step-a.ensures.sum j h ∙ ap (bit_xor (get_or c.args.sums.a j 0)) (at c.args.clear_after c.step-a.new.bytes c.args.bytes.now _
-    ∙ either c.args.clear_after _ _ _ _ (sym (stays1 c.args.bytes.now c.step-a.new.bytes c.step-b.new.bytes c.step-c.new.bytes c.args.i c.args.k
+    c.step-a.ensures.sum j h ∙ ap (bit_xor (get_or c.args.sums.a j 0))
+    (clear-at c.args.clear_after c.step-a.new.bytes c.args.bytes.now c.step-c.new.bytes c.args.bytes.now (c.args.i + j) (c.args.i + j) (sym (stays1 c.args.bytes.now c.step-a.new.bytes c.step-b.new.bytes c.step-c.new.bytes c.args.i c.args.k
     c.step-a.ensures.inside c.step-b.ensures.below
     (from2 c.args.bytes.now c.step-a.new.bytes c.step-b.new.bytes c.step-c.new.bytes c.args.i c.args.k c.step-a.ensures.above c.step-b.ensures.above c.step-b.ensures.inside c.step-c.ensures.inside)
-    c.step-c.ensures.below (from3 c.args.bytes.now c.step-a.new.bytes c.step-b.new.bytes c.step-c.new.bytes c.args.i c.args.k c.step-a.ensures.above c.step-b.ensures.above c.step-b.ensures.inside c.step-c.ensures.inside) j h)) refl
-    ∙ sym (at c.args.clear_after c.step-c.new.bytes c.args.bytes.now _))
+    c.step-c.ensures.below (from3 c.args.bytes.now c.step-a.new.bytes c.step-b.new.bytes c.step-c.new.bytes c.args.i c.args.k c.step-a.ensures.above c.step-b.ensures.above c.step-b.ensures.inside c.step-c.ensures.inside) j h)) refl)
 
 pub returns-clause-b : goal.returns-clause-b
 returns-clause-b c = λ j h.
-    c.step-b.ensures.sum j h ∙ ap (bit_xor (get_or c.args.sums.b j 0)) (at c.args.clear_after c.step-b.new.bytes c.step-a.new.bytes _
-    ∙ either c.args.clear_after _ _ _ _ (sym (stays2 c.args.bytes.now c.step-a.new.bytes c.step-b.new.bytes c.step-c.new.bytes c.args.i c.args.k
+    c.step-b.ensures.sum j h ∙ ap (bit_xor (get_or c.args.sums.b j 0))
+    (clear-at c.args.clear_after c.step-b.new.bytes c.step-a.new.bytes c.step-c.new.bytes c.args.bytes.now (c.args.i + 16 + j) (c.args.i + (16 + j)) (sym (stays2 c.args.bytes.now c.step-a.new.bytes c.step-b.new.bytes c.step-c.new.bytes c.args.i c.args.k
     c.step-a.ensures.inside c.step-b.ensures.below
     (from2 c.args.bytes.now c.step-a.new.bytes c.step-b.new.bytes c.step-c.new.bytes c.args.i c.args.k c.step-a.ensures.above c.step-b.ensures.above c.step-b.ensures.inside c.step-c.ensures.inside)
     c.step-c.ensures.below (from3 c.args.bytes.now c.step-a.new.bytes c.step-b.new.bytes c.step-c.new.bytes c.args.i c.args.k c.step-a.ensures.above c.step-b.ensures.above c.step-b.ensures.inside c.step-c.ensures.inside) j h))
-    (was2 c.args.bytes.now c.step-a.new.bytes c.step-b.new.bytes c.step-c.new.bytes c.args.i c.args.k c.step-a.ensures.above c.step-b.ensures.above c.step-b.ensures.inside c.step-c.ensures.inside j ∙ ap (λ m. get_or c.args.bytes.now m 0) (omega arith))
-    ∙ sym (at c.args.clear_after c.step-c.new.bytes c.args.bytes.now _))
+    (was2 c.args.bytes.now c.step-a.new.bytes c.step-b.new.bytes c.step-c.new.bytes c.args.i c.args.k c.step-a.ensures.above c.step-b.ensures.above c.step-b.ensures.inside c.step-c.ensures.inside j ∙ ap (λ m. get_or c.args.bytes.now m 0) (omega arith)))
 
 pub returns-clause-c : goal.returns-clause-c
 returns-clause-c c = λ j h.
-    c.step-c.ensures.sum j h ∙ ap (bit_xor (get_or c.args.sums.c j 0)) (at c.args.clear_after c.step-c.new.bytes c.step-b.new.bytes _
-    ∙ either c.args.clear_after _ _ _ _ (sym (stays3 c.args.bytes.now c.step-a.new.bytes c.step-b.new.bytes c.step-c.new.bytes c.args.i c.args.k
+    c.step-c.ensures.sum j h ∙ ap (bit_xor (get_or c.args.sums.c j 0))
+    (clear-at c.args.clear_after c.step-c.new.bytes c.step-b.new.bytes c.step-c.new.bytes c.args.bytes.now (c.args.i + 32 + j) (c.args.i + (32 + j)) (sym (stays3 c.args.bytes.now c.step-a.new.bytes c.step-b.new.bytes c.step-c.new.bytes c.args.i c.args.k
     c.step-a.ensures.inside c.step-b.ensures.below
     (from2 c.args.bytes.now c.step-a.new.bytes c.step-b.new.bytes c.step-c.new.bytes c.args.i c.args.k c.step-a.ensures.above c.step-b.ensures.above c.step-b.ensures.inside c.step-c.ensures.inside)
     c.step-c.ensures.below (from3 c.args.bytes.now c.step-a.new.bytes c.step-b.new.bytes c.step-c.new.bytes c.args.i c.args.k c.step-a.ensures.above c.step-b.ensures.above c.step-b.ensures.inside c.step-c.ensures.inside) j))
-    (was3 c.args.bytes.now c.step-a.new.bytes c.step-b.new.bytes c.step-c.new.bytes c.args.i c.args.k c.step-a.ensures.above c.step-b.ensures.above c.step-b.ensures.inside c.step-c.ensures.inside j ∙ ap (λ m. get_or c.args.bytes.now m 0) (omega arith))
-    ∙ sym (at c.args.clear_after c.step-c.new.bytes c.args.bytes.now _))
+    (was3 c.args.bytes.now c.step-a.new.bytes c.step-b.new.bytes c.step-c.new.bytes c.args.i c.args.k c.step-a.ensures.above c.step-b.ensures.above c.step-b.ensures.inside c.step-c.ensures.inside j ∙ ap (λ m. get_or c.args.bytes.now m 0) (omega arith)))

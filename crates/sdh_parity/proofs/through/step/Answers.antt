@@ -1,9 +1,9 @@
-use Rattle.std.proofs.Common.{◌≡◌, ℕ, ◌+◌, ◌<◌, ◌≤◌, Bool, true, false, List, length, get_or, ap, sym, ◌∙◌, arith, bit_xor}
+use Rattle.std.proofs.Common.{◌≡◌, ℕ, ◌+◌, ◌<◌, ◌≤◌, Bool, List, length, get_or, ap, sym, ◌∙◌, arith, bit_xor}
 use Rattle.std.specs.Prelude.{if◌then◌else◌}
 use Rattle.std.specs.Simd.Lanes.{chunk, put_chunk}
 use Rattle.std.proofs.lemmas.Simd.{get_or-chunk, get_or-put_chunk_below, get_or-put_chunk_at, get_or-put_chunk_above}
 use Rattle.sdh_parity.specs.Scrambling.{scrambling_byte}
-use Rattle.sdh_parity.proofs.Mixing.{added_long, added_at}
+use Rattle.sdh_parity.proofs.Mixing.{added_long, added_at, clear-at}
 use Rattle.sdh_parity.proofs.through.step.Goals as goal
 use Rattle.sdh_parity.proofs.through.step.Goals.{then-clear_after, else-clear_after}
 
@@ -18,8 +18,9 @@ module _ (bytes new : List ℕ) (i k : ℕ) (room : i + 16 ≤ length bytes) (lo
 
   clear_at : (after : Bool) (j : ℕ) → j < 16 → get_or (if after then new else chunk i 16 bytes) j 0
       ≡ get_or (if after then put_chunk i bytes new else bytes) (i + j) 0
-  clear_at true j h = sym (get_or-put_chunk_at i bytes new j 0 (omega arith) (omega arith))
-  clear_at false j h = old_at j h
+  clear_at after j h =
+      clear-at after new (chunk i 16 bytes) (put_chunk i bytes new) bytes j (i + j)
+      (sym (get_or-put_chunk_at i bytes new j 0 (omega arith) (omega arith))) (old_at j h)
 
 pub returns-clause-below : goal.returns-clause-below
 returns-clause-below c = λ m h. get_or-put_chunk_below c.args.i c.args.bytes.now _ m 0 h

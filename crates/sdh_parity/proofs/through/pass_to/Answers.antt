@@ -1,17 +1,18 @@
-use Rattle.std.proofs.Common.{◌≡◌, ℕ, ◌+◌, ◌*◌, ◌/◌, ◌^◌, ◌<◌, true, List, ◌++◌, length, get_or, drop, ap, sym, ◌∙◌, arith, bit_xor}
+use Rattle.std.proofs.Common.{◌≡◌, ℕ, ◌+◌, ◌*◌, ◌/◌, ◌^◌, ◌<◌, List, ◌++◌, length, get_or, drop, ap, sym, ◌∙◌, arith, bit_xor}
 use Rattle.std.proofs.lemmas.List.{length-append, take-append-drop}
+use Rattle.std.specs.Prelude.{if◌then◌else◌}
 use Rattle.sdh_parity.specs.Scrambling.{scrambling_byte}
 use Rattle.sdh_parity.specs.Pieces.{HasLanes}
 use Rattle.sdh_parity.proofs.Behind.{in-thirds, clear-lanes, key-behind}
 use Rattle.sdh_parity.proofs.Sums.{parity-of-line}
-use Rattle.sdh_parity.proofs.through.open.Goals as goal
+use Rattle.sdh_parity.proofs.through.pass_to.Goals as goal
 
 module _ (c : goal.After-sequence_parity) where
   abbrev from : List ℕ
   from = c.args.from.now
 
   abbrev to : List ℕ
-  to = c.open_rows-sums.new.to ++ c.pass_rest.new.bytes
+  to = c.mix_to-sums.new.to ++ c.pass_rest.new.bytes
 
   abbrev rows : ℕ
   rows = length from / 48
@@ -30,13 +31,13 @@ module _ (c : goal.After-sequence_parity) where
 
   each : (i : ℕ) → i < length from → get_or to i 0 ≡ bit_xor (get_or from i 0) (scrambling_byte (c.args.at + i))
   each i h =
-      key-behind from c.split_at.result.0.now copied c.open_rows-sums.new.to c.pass_rest.new.bytes c.args.at rows cut c.split_at.ensures.front_len
+      key-behind from c.split_at.result.0.now copied c.mix_to-sums.new.to c.pass_rest.new.bytes c.args.at rows cut c.split_at.ensures.front_len
       (omega (
         arith,
-        c.open_rows-sums.auto.to,
+        c.mix_to-sums.auto.to,
         c.split_at_mut-whole.ensures.front_len,
         c.split_at.ensures.front_len,
-      )) c.open_rows-sums.ensures.bytes c.pass_rest.ensures.bytes i
+      )) c.mix_to-sums.ensures.bytes c.pass_rest.ensures.bytes i
       (omega (arith, behind, c.split_at.ensures.front_len, c.split_at.ensures.back_len))
 
   small_to : (i : ℕ) → get_or to i 0 < 2 ^ 8
@@ -45,17 +46,18 @@ module _ (c : goal.After-sequence_parity) where
   small_from : (i : ℕ) → get_or from i 0 < 2 ^ 8
   small_from i = omega (arith, c.type_inv.from i)
 
-  lanes : HasLanes 48 to c.pass_rest.new.lanes
+  lanes : HasLanes 48 (if c.args.clear_after then to else from) c.pass_rest.new.lanes
   lanes =
-      clear-lanes true from c.split_at.result.0.now copied c.open_rows-sums.new.to c.pass_rest.new.bytes c.join.new.all c.pass_rest.new.lanes rows cut c.split_at.ensures.front_len
+      clear-lanes c.args.clear_after from c.split_at.result.0.now copied c.mix_to-sums.new.to c.pass_rest.new.bytes c.join.new.all c.pass_rest.new.lanes rows cut c.split_at.ensures.front_len
       (omega (arith, behind, c.split_at.ensures.back_len)) (omega (
         arith,
-        c.open_rows-sums.auto.to,
+        c.mix_to-sums.auto.to,
         c.split_at_mut-whole.ensures.front_len,
         c.split_at.ensures.front_len,
       )) c.pass_rest.auto.bytes small_from small_to
-      (in-thirds c.join.new.all c.open_rows-sums.result.a c.open_rows-sums.result.b c.open_rows-sums.result.c c.open_rows-sums.new.to rows
-      c.join.ensures.first c.join.ensures.second c.join.ensures.third c.open_rows-sums.ensures.a c.open_rows-sums.ensures.b c.open_rows-sums.ensures.c)
+      (in-thirds c.join.new.all c.mix_to-sums.result.a c.mix_to-sums.result.b c.mix_to-sums.result.c
+      (if c.args.clear_after then c.mix_to-sums.new.to else c.split_at.result.0.now) rows
+      c.join.ensures.first c.join.ensures.second c.join.ensures.third c.mix_to-sums.ensures.a c.mix_to-sums.ensures.b c.mix_to-sums.ensures.c)
       c.pass_rest.ensures.lanes c.pass_rest.ensures.rest
 
 pub returns-clause-bytes : goal.returns-clause-bytes
@@ -66,17 +68,17 @@ returns-clause-lanes c = lanes c
 
 pub returns-clause-line : goal.returns-clause-line
 returns-clause-line c =
-    let long : length (c.open_rows-sums.new.to ++ c.pass_rest.new.bytes) ≡ length c.args.from.now =
+    let long : length (c.mix_to-sums.new.to ++ c.pass_rest.new.bytes) ≡ length c.args.from.now =
     omega (
       arith,
-      length-append c.open_rows-sums.new.to c.pass_rest.new.bytes,
-      c.open_rows-sums.auto.to,
+      length-append c.mix_to-sums.new.to c.pass_rest.new.bytes,
+      c.mix_to-sums.auto.to,
       c.pass_rest.auto.bytes,
       behind c,
       c.split_at_mut-whole.ensures.front_len,
       c.split_at.ensures.back_len,
     ) in
-    parity-of-line true c.args.from.now (c.open_rows-sums.new.to ++ c.pass_rest.new.bytes) c.pass_rest.new.lanes c.args.at _ _ long (each c)
+    parity-of-line c.args.clear_after c.args.from.now (c.mix_to-sums.new.to ++ c.pass_rest.new.bytes) c.pass_rest.new.lanes c.args.at _ _ long (each c)
     (small_from c) (small_to c)
     (omega (arith, c.pass_rest.auto.lanes, c.join.auto.all)) (lanes c) c.bip8.ensures c.sequence_parity.ensures
 
