@@ -95,7 +95,6 @@ impl Sender {
 // in, the payloads of the node's ports, and the K bytes.
 #[derive(Drop)]
 struct Content<'a, 'b> {
-    side: Side,
     choice: Choice<'a>,
     pointers: &'a [[u8; 9]],
     first: &'a FrameBuf,
@@ -105,30 +104,29 @@ struct Content<'a, 'b> {
     k2: u8,
 }
 
-// Returns what was planned for a frame of a side, with the K bytes of a word.
+// Returns what was planned for a frame, with the K bytes of a word.
 fn content_of<'a, 'b, X: Matrix>(
+    rate: Rate,
     cross: &'a X,
-    side: Side,
     assembly: &'a Assembly,
     own: Payloads<'b>,
     word: K,
 ) -> Content<'a, 'b>
-    requires sources { AreSources (n_of (X.lines cross.now).rate) assembly.now.sources.items }
+    requires rate { (X.lines cross.now).rate ≡ rate }
+    requires sources { AreSources (n_of rate) assembly.now.sources.items }
     requires word { IsSpellable word }
-    ensures side { result.side ≡ side }
-    ensures choice { result.choice ≡ record { rate = (X.lines cross.now).rate; sources = assembly.now.sources.items } }
+    ensures choice { result.choice ≡ record { rate = rate; sources = assembly.now.sources.items } }
     ensures pointers { result.pointers.now ≡ assembly.now.pointers.items }
     ensures first { result.first.now ≡ (X.lines cross.now).west.intake.frame }
     ensures second { result.second.now ≡ (X.lines cross.now).east.intake.frame }
-    ensures rates { (result.first.now.rate ≡ (X.lines cross.now).rate) × (result.second.now.rate ≡ (X.lines cross.now).rate) }
+    ensures rates { (result.first.now.rate ≡ rate) × (result.second.now.rate ≡ rate) }
     ensures own { result.own ≡ own.entry }
     ensures k1 { result.k1 ≡ first_byte word }
     ensures k2 { result.k2 ≡ second_byte word }
 {
     let (k1, k2) = encode(word);
     Content {
-        side,
-        choice: Choice::new(cross.rate(), assembly.sources.as_slice()),
+        choice: Choice::new(rate, assembly.sources.as_slice()),
         pointers: assembly.pointers.as_slice(),
         first: cross.intake(Side::West).frame(),
         second: cross.intake(Side::East).frame(),
@@ -139,23 +137,29 @@ fn content_of<'a, 'b, X: Matrix>(
 }
 
 // Puts a frame together, gives it its overhead and scrambles it to where it leaves.
-fn write_frame<E: Exit>(content: &Content, section: &mut Section, out: &mut FrameBuf, exit: &mut E)
+fn write_frame<E: Exit>(
+    content: &Content,
+    side: Side,
+    section: &mut Section,
+    out: &mut FrameBuf,
+    exit: &mut E,
+)
     requires content { content.now.choice.rate ≡ out.old.rate }
     requires pointers { length content.now.pointers.now ≡ n_of out.old.rate }
     requires first { content.now.first.now.rate ≡ out.old.rate }
     requires second { content.now.second.now.rate ≡ out.old.rate }
     requires section { section.old.rate ≡ out.old.rate }
     requires fits { E.Fits out.old.rate exit.old }
-    ensures frame { E.sent content.now.side exit.new out.new ≡ record out.old {
+    ensures frame { E.sent side exit.new out.new ≡ record out.old {
       bytes = line_frame (n_of out.old.rate) section.old.last content.now.k1 content.now.k2
           (put_together (n_of out.old.rate) content.now.first.now.bytes content.now.second.now.bytes content.now.own
           content.now.choice.sources content.now.pointers.now out.old.bytes);
     } }
-    ensures other { (buffer : Frame) → E.sent (opposite content.now.side) exit.new buffer ≡ E.sent (opposite content.now.side) exit.old buffer }
+    ensures other { (buffer : Frame) → E.sent (opposite side) exit.new buffer ≡ E.sent (opposite side) exit.old buffer }
     ensures section { section.new ≡ holding out.old.rate (Some (parities_of (n_of out.old.rate)
         (clear_frame (n_of out.old.rate) section.old.last content.now.k1 content.now.k2
         (put_together (n_of out.old.rate) content.now.first.now.bytes content.now.second.now.bytes content.now.own
-        content.now.choice.sources content.now.pointers.now out.old.bytes)) (E.sent content.now.side exit.new out.new).bytes)) }
+        content.now.choice.sources content.now.pointers.now out.old.bytes)) (E.sent side exit.new out.new).bytes)) }
     ensures out { out.new.rate ≡ out.old.rate }
     ensures fits { E.Fits out.old.rate exit.new }
 {
@@ -167,7 +171,7 @@ fn write_frame<E: Exit>(content: &Content, section: &mut Section, out: &mut Fram
         content.second,
         &content.own,
     );
-    exit.seal(content.side, section, content.k1, content.k2, out);
+    exit.seal(side, section, content.k1, content.k2, out);
 }
 
 // Sends the next frame of a side. Returns whether each of its generators is in the state in which it was.
@@ -196,8 +200,8 @@ fn send_side<X: Matrix, E: Exit>(
     let same = sender
         .assembly
         .plan(cross, ports, side, generators, &mut own);
-    let content = content_of(cross, side, &sender.assembly, own, sender.word);
-    write_frame(&content, &mut sender.section, out, exit);
+    let content = content_of(out.rate(), cross, &sender.assembly, own, sender.word);
+    write_frame(&content, side, &mut sender.section, out, exit);
     same
 }
 
