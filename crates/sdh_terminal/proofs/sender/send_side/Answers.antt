@@ -5,7 +5,7 @@ use Rattle.sdh_frame.specs.Aus.{Au}
 use Rattle.sdh_interchange.specs.Assembled.{assembled}
 use Rattle.sdh_terminal.specs.Passing.{Input, states_of, aus_sent}
 use Rattle.sdh_terminal.specs.Tributaries.{added_last}
-use Rattle.sdh_terminal.specs.Lines.{Lines, all_fed_by}
+use Rattle.sdh_terminal.specs.Lines.{all_fed_by}
 use Rattle.sdh_terminal.specs.Sending.{Sending, frame_from, after_sending}
 use Rattle.sdh_terminal.proofs.Frames.{sent-is, kept-is}
 use Rattle.sdh_terminal.proofs.sender.send_side.Given as given
