@@ -22,7 +22,7 @@ use sdh_payload::{Delivered, Turn};
 use sdh_plant::Arrived;
 use sdh_request::{Command, Moment, Settings};
 use sdh_ringmap::{Code, Pos, RingMap, Side};
-use sdh_terminal::{Outlet, Outlets, TakenPair};
+use sdh_terminal::{InPlace, Outlet, Outlets, TakenPair};
 use std::alloc::{AllocError, Global};
 use std::marker::Model;
 
@@ -240,7 +240,7 @@ impl Adm {
         ensures rates { (west.new.rate ≡ west.old.rate) × (east.new.rate ≡ east.old.rate) }
         ensures goes_on { GoesOn now.0 self.old self.new }
     {
-        self.node.send(now, west, east);
+        self.node.send(now, west, east, &mut InPlace);
         self.node.deliver(&mut self.taken, &mut self.outlets);
     }
 }

@@ -4,6 +4,7 @@ ghost use Rattle.sdh_ringmap.specs.Rates.{n_of};
 ghost use Rattle.sdh_circuits.specs.Kept.{KeepsRing};
 ghost use Rattle.sdh_kbytes.specs.KBytes.{IsSpellable};
 ghost use Rattle.sdh_ringmap.specs.declared.Pos.{Pos};
+ghost use Rattle.sdh_ringmap.specs.declared.Side.TheVariants.{West, East};
 ghost use Rattle.sdh_nodestate.specs.FarEnds.{far_of};
 ghost use Rattle.sdh_nodestate.specs.Filtering.{hears};
 ghost use Rattle.sdh_nodestate.specs.Words.{SendsSpellable};
@@ -23,7 +24,7 @@ use sdh_payload::{Front, Turn};
 use sdh_plant::Arrived;
 use sdh_request::{Command, Moment, Settings};
 use sdh_ringmap::{Code, Pos, RingMap, Side};
-use sdh_terminal::{Outlet, Outlets, Sender, TakenPair, Tributaries, send_both};
+use sdh_terminal::{Exit, Outlet, Outlets, Sender, TakenPair, Tributaries, send_both};
 use std::alloc::{AllocError, Global};
 use std::marker::Model;
 
@@ -235,19 +236,28 @@ impl Multiplexer {
     }
 
     /// Runs one round at a moment: it reads what arrived, decides the state and the words, and writes a frame for each
-    /// side. What the ports deliver waits until it is asked for. It takes no memory.
+    /// side. The frames are put together in `west` and `east`, and scrambled to where `exit` has them leave. What the
+    /// ports deliver waits until it is asked for. It takes no memory.
     #[tactic(auto, unfolding(crate::specs::Node::node_round))]
-    pub fn send(&mut self, now: Moment, west: &mut FrameBuf, east: &mut FrameBuf)
+    pub fn send<E: Exit>(
+        &mut self,
+        now: Moment,
+        west: &mut FrameBuf,
+        east: &mut FrameBuf,
+        exit: &mut E,
+    )
         requires west { west.old.rate ≡ self.old.settings.rate }
         requires east { east.old.rate ≡ self.old.settings.rate }
         requires later { moment_of self.old ≤ now.0 }
         requires within { now.0 ≤ 1000000000 }
         requires few { self.old.rounds < 2 ^ 32 }
+        requires fits { E.Fits self.old.settings.rate exit.old }
         ensures node { self.new ≡ (node_round now.0 self.old).0 }
-        ensures west { west.new ≡ (node_round now.0 self.old).1.west }
-        ensures east { east.new ≡ (node_round now.0 self.old).1.east }
+        ensures west { E.sent West exit.new west.new ≡ (node_round now.0 self.old).1.west }
+        ensures east { E.sent East exit.new east.new ≡ (node_round now.0 self.old).1.east }
         ensures rates { (west.new.rate ≡ west.old.rate) × (east.new.rate ≡ east.old.rate) }
         ensures goes_on { GoesOn now.0 self.old self.new }
+        ensures fits { E.Fits self.old.settings.rate exit.new }
     {
         let held = is_held(self.held);
         let counts = may_be_calm(self.rounds, held);
@@ -266,6 +276,7 @@ impl Multiplexer {
             &self.ports,
             west,
             east,
+            exit,
         );
         let signs = Signs {
             counts,

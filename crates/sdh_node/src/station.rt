@@ -10,7 +10,7 @@ use sdh_plant::Arrived;
 use sdh_request::{Moment, Settings};
 use sdh_ringmap::{Pos, RingMap, Side};
 use sdh_rounds::{IntoForm, Station};
-use sdh_terminal::{Delivers, Outlets, TakenPair};
+use sdh_terminal::{Delivers, InPlace, Outlets, TakenPair};
 use std::alloc::{AllocError, Global};
 
 impl Station for Adm {
@@ -74,7 +74,7 @@ impl Station for Waiting {
     }
 
     fn send(&mut self, now: Moment, west: &mut FrameBuf, east: &mut FrameBuf) {
-        self.node.send(now, west, east);
+        self.node.send(now, west, east, &mut InPlace);
     }
 
     fn calm(&self) -> bool {

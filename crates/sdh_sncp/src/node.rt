@@ -13,7 +13,7 @@ use sdh_overhead::Landed;
 use sdh_plant::Arrived;
 use sdh_request::Settings;
 use sdh_ringmap::{Pos, RingMap, Side};
-use sdh_terminal::{Outlet, Outlets, Sender, TakenPair, Tributaries, send_both};
+use sdh_terminal::{InPlace, Outlet, Outlets, Sender, TakenPair, Tributaries, send_both};
 use std::alloc::{AllocError, Global};
 use std::marker::Model;
 
@@ -139,6 +139,7 @@ impl PathNode {
             &self.ports,
             west,
             east,
+            &mut InPlace,
         );
         let signs = Signs {
             ran,

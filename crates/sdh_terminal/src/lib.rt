@@ -5,6 +5,7 @@
 #![tactic(auto)]
 
 mod deliveries;
+mod exit;
 mod inlet;
 mod intake;
 mod making;
@@ -16,6 +17,7 @@ mod tributaries;
 mod tributary;
 
 pub use deliveries::{Deliveries, Delivers};
+pub use exit::{Exit, InPlace};
 pub use inlet::Inlet;
 pub use intake::{Intake, h3_at};
 pub use matrix::{Feeder, Matrix};

@@ -1,6 +1,8 @@
 //! The sending half of one side.
 ghost use Rattle.std.specs.Prelude.{◌≡◌, None, Some, IfOk, length};
 ghost use Rattle.sdh_ringmap.specs.Rates.{n_of};
+ghost use Rattle.sdh_ringmap.specs.Places.{opposite};
+ghost use Rattle.sdh_frame.specs.Sizes.{Frame};
 ghost use Rattle.sdh_overhead.specs.Sections.{holding, clear_frame, line_frame, parities_of};
 ghost use Rattle.sdh_kbytes.specs.KBytes.{IsSpellable};
 ghost use Rattle.sdh_ringmap.specs.declared.Side.TheVariants.{West, East};
@@ -13,6 +15,7 @@ ghost use Rattle.sdh_terminal.specs.Tributaries.{added_last};
 ghost use Rattle.sdh_terminal.specs.Lines.{all_fed_by};
 ghost use Rattle.sdh_terminal.specs.Sending.{new_sending, with_word, frame_from, after_sending};
 
+use crate::exit::Exit;
 use crate::making::new_generators;
 use crate::matrix::Matrix;
 use crate::passing::Assembly;
@@ -20,7 +23,7 @@ use crate::tributaries::Tributaries;
 use sdh_frame::FrameBuf;
 use sdh_interchange::{Choice, Payloads, assemble};
 use sdh_kbytes::{K, encode, same_word};
-use sdh_overhead::{Section, write_section};
+use sdh_overhead::Section;
 use sdh_pointer::Gen;
 use sdh_ringmap::{Rate, Side};
 use std::alloc::{AllocError, Global};
@@ -88,28 +91,35 @@ impl Sender {
     }
 }
 
-// What one side's next frame is made of: the sources and the pointer bytes of its AU-4s, the payloads of the node's
-// ports, and the K bytes.
+// What one side's next frame is made of: the sources and the pointer bytes of its AU-4s, the frames that both sides took
+// in, the payloads of the node's ports, and the K bytes.
 #[derive(Drop)]
 struct Content<'a, 'b> {
     choice: Choice<'a>,
     pointers: &'a [[u8; 9]],
+    first: &'a FrameBuf,
+    second: &'a FrameBuf,
     own: Payloads<'b>,
     k1: u8,
     k2: u8,
 }
 
 // Returns what was planned for a frame, with the K bytes of a word.
-fn content_of<'a, 'b>(
+fn content_of<'a, 'b, X: Matrix>(
     rate: Rate,
+    cross: &'a X,
     assembly: &'a Assembly,
     own: Payloads<'b>,
     word: K,
 ) -> Content<'a, 'b>
+    requires rate { (X.lines cross.now).rate ≡ rate }
     requires sources { AreSources (n_of rate) assembly.now.sources.items }
     requires word { IsSpellable word }
     ensures choice { result.choice ≡ record { rate = rate; sources = assembly.now.sources.items } }
     ensures pointers { result.pointers.now ≡ assembly.now.pointers.items }
+    ensures first { result.first.now ≡ (X.lines cross.now).west.intake.frame }
+    ensures second { result.second.now ≡ (X.lines cross.now).east.intake.frame }
+    ensures rates { (result.first.now.rate ≡ rate) × (result.second.now.rate ≡ rate) }
     ensures own { result.own ≡ own.entry }
     ensures k1 { result.k1 ≡ first_byte word }
     ensures k2 { result.k2 ≡ second_byte word }
@@ -118,100 +128,112 @@ fn content_of<'a, 'b>(
     Content {
         choice: Choice::new(rate, assembly.sources.as_slice()),
         pointers: assembly.pointers.as_slice(),
+        first: cross.intake(Side::West).frame(),
+        second: cross.intake(Side::East).frame(),
         own,
         k1,
         k2,
     }
 }
 
-// Puts a frame together, gives it its overhead and scrambles it.
-fn write_frame(
+// Puts a frame together, gives it its overhead and scrambles it to where it leaves.
+fn write_frame<E: Exit>(
     content: &Content,
-    first: &FrameBuf,
-    second: &FrameBuf,
+    side: Side,
     section: &mut Section,
     out: &mut FrameBuf,
+    exit: &mut E,
 )
     requires content { content.now.choice.rate ≡ out.old.rate }
     requires pointers { length content.now.pointers.now ≡ n_of out.old.rate }
-    requires first { first.now.rate ≡ out.old.rate }
-    requires second { second.now.rate ≡ out.old.rate }
+    requires first { content.now.first.now.rate ≡ out.old.rate }
+    requires second { content.now.second.now.rate ≡ out.old.rate }
     requires section { section.old.rate ≡ out.old.rate }
-    ensures frame { out.new ≡ record out.old {
+    requires fits { E.Fits out.old.rate exit.old }
+    ensures frame { E.sent side exit.new out.new ≡ record out.old {
       bytes = line_frame (n_of out.old.rate) section.old.last content.now.k1 content.now.k2
-          (put_together (n_of out.old.rate) first.now.bytes second.now.bytes content.now.own content.now.choice.sources
-          content.now.pointers.now out.old.bytes);
+          (put_together (n_of out.old.rate) content.now.first.now.bytes content.now.second.now.bytes content.now.own
+          content.now.choice.sources content.now.pointers.now out.old.bytes);
     } }
+    ensures other { (buffer : Frame) → E.sent (opposite side) exit.new buffer ≡ E.sent (opposite side) exit.old buffer }
     ensures section { section.new ≡ holding out.old.rate (Some (parities_of (n_of out.old.rate)
         (clear_frame (n_of out.old.rate) section.old.last content.now.k1 content.now.k2
-        (put_together (n_of out.old.rate) first.now.bytes second.now.bytes content.now.own content.now.choice.sources
-        content.now.pointers.now out.old.bytes)) out.new.bytes)) }
+        (put_together (n_of out.old.rate) content.now.first.now.bytes content.now.second.now.bytes content.now.own
+        content.now.choice.sources content.now.pointers.now out.old.bytes)) (E.sent side exit.new out.new).bytes)) }
+    ensures out { out.new.rate ≡ out.old.rate }
+    ensures fits { E.Fits out.old.rate exit.new }
 {
     assemble(
         out,
         &content.choice,
         content.pointers,
-        first,
-        second,
+        content.first,
+        content.second,
         &content.own,
     );
-    write_section(section, content.k1, content.k2, out);
+    exit.seal(side, section, content.k1, content.k2, out);
 }
 
 // Sends the next frame of a side. Returns whether each of its generators is in the state in which it was.
-fn send_side<X: Matrix>(
+fn send_side<X: Matrix, E: Exit>(
     sender: &mut Sender,
     side: Side,
     cross: &X,
     ports: &Tributaries,
     out: &mut FrameBuf,
+    exit: &mut E,
 ) -> bool
     requires rate { (X.lines cross.now).rate ≡ out.old.rate }
     requires section { sender.old.section.rate ≡ out.old.rate }
+    requires fits { E.Fits out.old.rate exit.old }
     ensures sender { sender.new ≡ after_sending (all_fed_by (X.lines cross.now) (added_last ports.now) (X.leads cross.now side)) sender.old }
-    ensures frame { out.new ≡ frame_from (all_fed_by (X.lines cross.now) (added_last ports.now) (X.leads cross.now side)) sender.old }
+    ensures frame { E.sent side exit.new out.new ≡ frame_from
+        (all_fed_by (X.lines cross.now) (added_last ports.now) (X.leads cross.now side)) sender.old }
+    ensures other { (buffer : Frame) → E.sent (opposite side) exit.new buffer ≡ E.sent (opposite side) exit.old buffer }
     ensures same { result ≡ same_generators sender.new.generators sender.old.generators }
     ensures rate { sender.new.section.rate ≡ sender.old.section.rate }
     ensures out { out.new.rate ≡ out.old.rate }
+    ensures fits { E.Fits out.old.rate exit.new }
 {
     let mut own = Payloads::none();
     let generators = &mut sender.generators;
     let same = sender
         .assembly
         .plan(cross, ports, side, generators, &mut own);
-    let content = content_of(out.rate(), &sender.assembly, own, sender.word);
-    let first = cross.intake(Side::West).frame();
-    let second = cross.intake(Side::East).frame();
-    write_frame(&content, first, second, &mut sender.section, out);
+    let content = content_of(out.rate(), cross, &sender.assembly, own, sender.word);
+    write_frame(&content, side, &mut sender.section, out, exit);
     same
 }
 
-/// Sends the next frames of both sides. Returns for each side, the west first, whether each of its generators is in the
-/// state in which it was.
-pub fn send_both<X: Matrix>(
+/// Sends the next frames of both sides. They are put together in a buffer for each side, and scrambled to where they
+/// leave. Returns for each side, the west first, whether each of its generators is in the state in which it was.
+pub fn send_both<X: Matrix, E: Exit>(
     west: &mut Sender,
     east: &mut Sender,
     cross: &X,
     ports: &Tributaries,
     west_out: &mut FrameBuf,
     east_out: &mut FrameBuf,
+    exit: &mut E,
 ) -> (bool, bool)
     requires west_rate { (X.lines cross.now).rate ≡ west_out.old.rate }
     requires east_rate { (X.lines cross.now).rate ≡ east_out.old.rate }
     requires west_section { west.old.section.rate ≡ west_out.old.rate }
     requires east_section { east.old.section.rate ≡ east_out.old.rate }
+    requires fits { E.Fits (X.lines cross.now).rate exit.old }
     ensures west { west.new ≡ after_sending (all_fed_by (X.lines cross.now) (added_last ports.now) (X.leads cross.now West)) west.old }
     ensures east { east.new ≡ after_sending (all_fed_by (X.lines cross.now) (added_last ports.now) (X.leads cross.now East)) east.old }
-    ensures west_frame { west_out.new ≡ frame_from
+    ensures west_frame { E.sent West exit.new west_out.new ≡ frame_from
         (all_fed_by (X.lines cross.now) (added_last ports.now) (X.leads cross.now West)) west.old }
-    ensures east_frame { east_out.new ≡ frame_from
+    ensures east_frame { E.sent East exit.new east_out.new ≡ frame_from
         (all_fed_by (X.lines cross.now) (added_last ports.now) (X.leads cross.now East)) east.old }
     ensures west_same { result.0 ≡ same_generators west.new.generators west.old.generators }
     ensures east_same { result.1 ≡ same_generators east.new.generators east.old.generators }
     ensures rates { (west.new.section.rate ≡ west.old.section.rate) × (east.new.section.rate ≡ east.old.section.rate) }
     ensures outs { (west_out.new.rate ≡ west_out.old.rate) × (east_out.new.rate ≡ east_out.old.rate) }
+    ensures fits { E.Fits (X.lines cross.now).rate exit.new }
 {
-    let west_same = send_side(west, Side::West, cross, ports, west_out);
-    let east_same = send_side(east, Side::East, cross, ports, east_out);
+    let west_same = send_side(west, Side::West, cross, ports, west_out, exit);
+    let east_same = send_side(east, Side::East, cross, ports, east_out, exit);
     (west_same, east_same)
 }

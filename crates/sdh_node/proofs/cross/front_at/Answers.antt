@@ -1,4 +1,3 @@
-use Rattle.std.proofs.Common.{◌∙◌}
 use Rattle.sdh_node.specs.Crossing.{all_delivered}
 use Rattle.sdh_node.proofs.Later.{twice_below}
 use Rattle.sdh_node.proofs.cross.front_at.Goals as goal

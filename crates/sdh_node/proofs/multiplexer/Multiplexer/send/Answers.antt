@@ -13,14 +13,14 @@ use Rattle.sdh_node.proofs.Turning.{node_of, west_frame_is, east_frame_is, calm_
 use Rattle.sdh_node.proofs.multiplexer.Multiplexer.send.Goals as goal
 
 pub feed-requires : goal.feed-requires
-feed-requires c =
+feed-requires g c =
     let i = c.self.inside in
     let slots = n_of i.settings.rate / 2 in
     let few : i.rounds < 2 ^ 32 = subst (λ (n : Node). n.rounds < 2 ^ 32) (sym c.self.view_is) c.requires.few in
     few_rounds slots i.rounds i.ports few c.self.invariant.ports
 
 pub invariant_of-self : goal.invariant_of-self
-invariant_of-self c =
+invariant_of-self g c =
     let i = c.self.inside in
     let inv = c.self.invariant in
     let slots = n_of i.settings.rate / 2 in
@@ -41,7 +41,7 @@ invariant_of-self c =
     }
 
 pub returns-clause-west : goal.returns-clause-west
-returns-clause-west c =
+returns-clause-west g c =
     let i = c.self.inside in
     let held = c.is_held-held.ensures in
     let tk = c.take-taken.new.self in
@@ -52,11 +52,11 @@ returns-clause-west c =
     c.take-taken.new.self c.decide-decided.new.self c.feed.new.self c.take-taken.ensures.cross decided c.feed.ensures
     c.decide-decided.result.0.west c.decide-decided.result.0.east c.say-west_said.new.self c.say-east_said.new.self c.send_both-west_made.new.west c.send_both-west_made.new.east c.feed.new.self c.feed.new.self
     west_said east_said c.say-west_said.ensures.sender c.say-east_said.ensures.sender refl refl
-    c.send_both-west_made.new.west_out c.send_both-west_made.ensures.west_frame
+    (g.E.Exit.sent West c.send_both-west_made.new.exit c.send_both-west_made.new.west_out) c.send_both-west_made.ensures.west_frame
     ∙ ap (λ (n : Node). (node_round c.args.now.0 n).1.west) c.self.view_is
 
 pub returns-clause-east : goal.returns-clause-east
-returns-clause-east c =
+returns-clause-east g c =
     let i = c.self.inside in
     let held = c.is_held-held.ensures in
     let tk = c.take-taken.new.self in
@@ -67,11 +67,11 @@ returns-clause-east c =
     c.take-taken.new.self c.decide-decided.new.self c.feed.new.self c.take-taken.ensures.cross decided c.feed.ensures
     c.decide-decided.result.0.west c.decide-decided.result.0.east c.say-west_said.new.self c.say-east_said.new.self c.send_both-west_made.new.west c.send_both-west_made.new.east c.feed.new.self c.feed.new.self
     west_said east_said c.say-west_said.ensures.sender c.say-east_said.ensures.sender refl refl
-    c.send_both-west_made.new.east_out c.send_both-west_made.ensures.east_frame
+    (g.E.Exit.sent East c.send_both-west_made.new.exit c.send_both-west_made.new.east_out) c.send_both-west_made.ensures.east_frame
     ∙ ap (λ (n : Node). (node_round c.args.now.0 n).1.east) c.self.view_is
 
 pub returns-clause-node : goal.returns-clause-node
-returns-clause-node c =
+returns-clause-node g c =
     let i = c.self.inside in
     let held = c.is_held-held.ensures in
     let tk = c.take-taken.new.self in
@@ -99,5 +99,5 @@ returns-clause-node c =
     ∙ ap (λ (n : Node). (node_round c.args.now.0 n).0) c.self.view_is
 
 pub returns-clause-goes_on : goal.returns-clause-goes_on
-returns-clause-goes_on c =
-    subst (GoesOn c.args.now.0 c.args.self.now) (sym (returns-clause-node c)) (round_goes_on c.args.now.0 c.args.self.now)
+returns-clause-goes_on g c =
+    subst (GoesOn c.args.now.0 c.args.self.now) (sym (returns-clause-node g c)) (round_goes_on c.args.now.0 c.args.self.now)
