@@ -1,4 +1,4 @@
-//! What can be read of the nodes of a ring, whether a settle step runs or not, and of the ports of a resting one.
+//! What can be read of the nodes of a ring, whether a settle step runs or not, and of the ports of a `Ring`.
 ghost use Rattle.std.specs.Prelude.{◌≡◌, ◌<◌, ◌≤◌, Some, length, slice_get};
 ghost use Rattle.sdh_world.specs.Held.{HeldRing, outlet_at};
 

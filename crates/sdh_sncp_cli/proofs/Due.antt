@@ -56,9 +56,10 @@ module _ (rate : Rate) (ids : List ℕ) (circuits : Provisioning) where
       let t = mid.ring.rounds - 1 in
       let cut = cut_after n changes in
       let size : length mid.ring.ids ≡ n = ap (λ (l : List ℕ). length l) h.ids in
-      lines_same (end_outlet (outlet_at mid.ring)) (λ index c e. due_path n cut c e t) 0 mid.ring.circuits.circuits
+      let gives = end_outlet (outlet_at mid.ring) in
+      lines_same gives (λ index c e. due_path n cut c e t) 0 mid.ring.circuits.circuits
       (λ k c get e. (let same : 0 + k ≡ k = omega arith in
-      ap (λ i. end_outlet (outlet_at mid.ring) i c e) same ∙ delivers k c get e ∙ (λ i. due_path (size i) (cuts_told changes ran mid h i) c e t)))
+      ap (λ i. gives i c e) same ∙ delivers k c get e ∙ (λ i. due_path (size i) (cuts_told changes ran mid h i) c e t)))
       ∙ ap (λ (p : Provisioning). due_ports n cut t p.circuits) h.circuits
 
   owed : (limit before : ℕ) (earlier changes : List Change) (steps : List Step) (ran : ℕ) (w : World) (reports : List Report) (end : Status)
