@@ -12,12 +12,14 @@ use Rattle.sdh_circuits.specs.declared.PortId.{PortId}
 use Rattle.sdh_circuits.specs.Ends.{end_number}
 use Rattle.sdh_payload.specs.declared.delivered.Delivered.{Delivered}
 use Rattle.sdh_payload.specs.declared.delivered.Delivered.TheVariants.{Ais, Chunk}
-use Rattle.sdh_world.specs.Held.{HeldRing, outlet_at}
+use Rattle.sdh_payload.specs.Outlet.{Outlet}
+use Rattle.sdh_world.specs.Held.{HeldRing}
 use Rattle.sdh_report.specs.Lines.{node_line}
 use Rattle.sdh_report.specs.Reports.{PortLine, delivered_in, chunks_of, silences_of, chunks_in, silences_in}
+use Rattle.sdh_scripts.specs.Ports.{end_outlet, port_line_at, lines_from, port_lines}
 use Rattle.sdh_scripts.proofs.Ports.{length-ports, ports_next}
 use Rattle.sdh_scripts.proofs.Lists.{some_at}
-use Rattle.sdh_owed.specs.Reports.{told_at, port_told, ports_from, ports_told}
+use Rattle.sdh_owed.specs.Reports.{told_at}
 
 pub nodes_none : (r : HeldRing) → flat_map node_line (cells (told_at r) 0) ≡ []
 nodes_none r = ap (flat_map node_line) (cells-zero (told_at r))
@@ -35,15 +37,15 @@ chunks-append : (xs ys : List PortLine) → chunks_in (xs ++ ys) ≡ chunks_in x
 chunks-append [] ys = omega arith
 chunks-append (x ∷ xs) ys = let h = chunks-append xs ys in omega arith
 
-pub chunks_more : (r : HeldRing) (cs : List Provisioned) (i : ℕ) → i < length cs
-    → chunks_in (ports_from r 0 (take (i + 1) cs)) ≡ chunks_in (ports_from r 0 (take i cs)) +
-    (chunks_of (outlet_at r (record { circuit = i; end = A })).delivered + chunks_of
-    (outlet_at r (record { circuit = i; end = B })).delivered)
-chunks_more r cs i lt =
+pub chunks_more : (outlet : PortId → Outlet) (cs : List Provisioned) (i : ℕ) → i < length cs
+    → chunks_in (port_lines outlet (take (i + 1) cs)) ≡ chunks_in (port_lines outlet (take i cs)) +
+    (chunks_of (outlet (record { circuit = i; end = A })).delivered + chunks_of (outlet (record { circuit = i; end = B })).delivered)
+chunks_more outlet cs i lt =
     let here = some_at cs i lt in
     let c = here.0 in
-    ap chunks_in (ports_next (port_told r) cs i c lt here.1)
-    ∙ chunks-append (ports_from r 0 (take i cs)) (port_told r i c A ∷ port_told r i c B ∷ []) ∙ omega arith
+    let line = port_line_at (end_outlet outlet) in
+    ap chunks_in (ports_next line cs i c lt here.1)
+    ∙ chunks-append (port_lines outlet (take i cs)) (line i c A ∷ line i c B ∷ []) ∙ omega arith
 
 one_each : (d : Delivered) → chunks_of d + silences_of d ≡ 1
 one_each Ais = refl
@@ -54,27 +56,29 @@ counts_all [] = refl
 counts_all (p ∷ ports) = omega (arith, counts_all ports, one_each p.outlet.delivered)
 
 -- a port that delivers no chunk delivers AIS
-pub the_others : (r : HeldRing) → chunks_in (ports_told r) + silences_in (ports_told r) ≡ 2 * length r.circuits.circuits
-the_others r = counts_all (ports_told r) ∙ length-ports (port_told r) 0 r.circuits.circuits
+pub the_others : (outlet : PortId → Outlet) (cs : List Provisioned)
+    → chunks_in (port_lines outlet cs) + silences_in (port_lines outlet cs) ≡ 2 * length cs
+the_others outlet cs = counts_all (port_lines outlet cs) ∙ length-ports (port_line_at (end_outlet outlet)) 0 cs
 
 -- ---- one port
 
-port_place : (r : HeldRing) (index : ℕ) (cs : List Provisioned) (i : ℕ) (e : End) (d : PortLine) → i < length cs
-    → (slice_index_or (ports_from r index cs) (2 * i + end_number e) d).outlet ≡ outlet_at r (record { circuit = index + i; end = e })
-port_place r index (c ∷ cs) zero A d lt =
-    ap (λ k. outlet_at r (record { circuit = k; end = A })) (let e : index ≡ index + 0 = omega arith in e)
-port_place r index (c ∷ cs) zero B d lt =
-    ap (λ k. outlet_at r (record { circuit = k; end = B })) (let e : index ≡ index + 0 = omega arith in e)
-port_place r index (c ∷ cs) (suc i) e d lt =
-    let ports = ports_from r index (c ∷ cs) in
+port_place : (outlet : PortId → Outlet) (index : ℕ) (cs : List Provisioned) (i : ℕ) (e : End) (d : PortLine) → i < length cs
+    → (slice_index_or (lines_from (end_outlet outlet) index cs) (2 * i + end_number e) d).outlet
+    ≡ outlet (record { circuit = index + i; end = e })
+port_place outlet index (c ∷ cs) zero A d lt =
+    ap (λ k. outlet (record { circuit = k; end = A })) (let e : index ≡ index + 0 = omega arith in e)
+port_place outlet index (c ∷ cs) zero B d lt =
+    ap (λ k. outlet (record { circuit = k; end = B })) (let e : index ≡ index + 0 = omega arith in e)
+port_place outlet index (c ∷ cs) (suc i) e d lt =
+    let ports = lines_from (end_outlet outlet) index (c ∷ cs) in
     let there : 2 * suc i + end_number e ≡ suc (suc (2 * i + end_number e)) = omega arith in
-    ap (λ k. (slice_index_or ports k d).outlet) there ∙ port_place r (index + 1) cs i e d (omega arith)
-    ∙ ap (λ k. outlet_at r (record { circuit = k; end = e })) (omega arith)
-port_place r index [] i e d lt = absurd (omega arith)
+    ap (λ k. (slice_index_or ports k d).outlet) there ∙ port_place outlet (index + 1) cs i e d (omega arith)
+    ∙ ap (λ k. outlet (record { circuit = k; end = e })) (omega arith)
+port_place outlet index [] i e d lt = absurd (omega arith)
 
-pub delivered_is : (r : HeldRing) (port : PortId) → port.circuit < length r.circuits.circuits
-    → delivered_in (ports_told r) port ≡ (outlet_at r port).delivered
-delivered_is r port lt =
+pub delivered_is : (outlet : PortId → Outlet) (cs : List Provisioned) (port : PortId) → port.circuit < length cs
+    → delivered_in (port_lines outlet cs) port ≡ (outlet port).delivered
+delivered_is outlet cs port lt =
     let same : 0 + port.circuit ≡ port.circuit = omega arith in
-    ap (λ o. o.delivered) (port_place r 0 r.circuits.circuits port.circuit port.end _ lt)
-    ∙ ap (λ k. (outlet_at r (record { circuit = k; end = port.end })).delivered) same
+    ap (λ o. o.delivered) (port_place outlet 0 cs port.circuit port.end _ lt)
+    ∙ ap (λ k. (outlet (record { circuit = k; end = port.end })).delivered) same

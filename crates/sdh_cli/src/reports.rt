@@ -3,18 +3,18 @@ ghost use Rattle.std.specs.Prelude.{◌≡◌, ◌+◌, ◌-◌, ◌*◌, ◌≤
 ghost use Rattle.std.specs.List.{flat_map};
 ghost use Rattle.sdh_circuits.specs.declared.End.TheVariants.{A, B};
 ghost use Rattle.sdh_report.specs.Lines.{node_line, drop_lines, count_line};
-ghost use Rattle.sdh_report.specs.Reports.{told_line, report_text, delivered_in, chunks_of, chunks_in, silences_in, listed};
-ghost use Rattle.sdh_owed.specs.Reports.{nodes_told, told_at, port_told, ports_told, report_of};
+ghost use Rattle.sdh_report.specs.Reports.{report_text, delivered_in, chunks_of, chunks_in, silences_in, listed};
+ghost use Rattle.sdh_owed.specs.Reports.{nodes_told, told_at, ports_told, report_of};
 ghost use Rattle.sdh_world.specs.Held.{outlet_at};
 ghost use Rattle.sdh_cli.specs.Room.{report_room, MayList};
 
 use sdh_aps::{bytes_told, state_told};
-use sdh_circuits::{Circuit, End, Name, PortId};
+use sdh_circuits::{End, PortId};
 use sdh_node::Delivered;
 use sdh_report::{Listing, NodeLine, Text};
 use sdh_ring::Ring;
 use sdh_ringmap::{Pos, Side};
-use sdh_scripts::put_settle;
+use sdh_scripts::{put_ports, put_settle};
 
 // Returns the line of the node at a position.
 fn node_told(ring: &Ring, at: u8) -> NodeLine
@@ -52,42 +52,6 @@ fn put_nodes(text: &mut Text, ring: &Ring)
 {
     for i in 0..ring.map().len() {
         put_node(text, ring, i as u8);
-    }
-}
-
-// Appends the line of the port at an end of a circuit.
-fn put_port(text: &mut Text, ring: &Ring, circuit: u8, named: &Circuit, end: End)
-    requires inside { circuit < length ring.now.circuits.circuits }
-    requires room { 96 ≤ text.old.room }
-    ensures bytes { text.new.bytes ≡ text.old.bytes ++ told_line (port_told ring.now circuit named.now end) }
-    ensures room { text.old.room ≤ text.new.room + 96 }
-{
-    let port = PortId { circuit, end };
-    text.port_line(named.name(), end, ring.port(port), ring.value(port));
-}
-
-// Appends the lines of both ports of a circuit.
-fn put_circuit(text: &mut Text, ring: &Ring, circuit: u8, named: &Circuit)
-    requires inside { circuit < length ring.now.circuits.circuits }
-    requires room { 192 ≤ text.old.room }
-    ensures bytes { text.new.bytes ≡ text.old.bytes
-        ++ (told_line (port_told ring.now circuit named.now A) ++ told_line (port_told ring.now circuit named.now B)) }
-    ensures room { text.old.room ≤ text.new.room + 192 }
-{
-    put_port(text, ring, circuit, named, End::A);
-    put_port(text, ring, circuit, named, End::B);
-}
-
-// Appends the lines of all ports.
-fn put_ports(text: &mut Text, ring: &Ring)
-    requires whole { ring.now.broken ≡ false }
-    requires room { 192 * length ring.now.circuits.circuits ≤ text.old.room }
-    ensures bytes { text.new.bytes ≡ text.old.bytes ++ flat_map told_line (ports_told ring.now) }
-    ensures room { text.old.room ≤ text.new.room + 192 * length ring.now.circuits.circuits }
-{
-    let circuits = ring.circuits();
-    for i in 0..circuits.len() {
-        put_circuit(text, ring, i as u8, circuits.get(i as u8));
     }
 }
 

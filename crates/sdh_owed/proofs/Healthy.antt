@@ -28,7 +28,8 @@ use Rattle.sdh_plan.specs.declared.step.Step.TheVariants as step
 use Rattle.sdh_report.specs.declared.status.Status.{Status}
 use Rattle.sdh_report.specs.declared.status.Status.TheVariants as status
 use Rattle.sdh_report.specs.Reports.{Report}
-use Rattle.sdh_owed.specs.Reports.{report_of, ports_from}
+use Rattle.sdh_scripts.specs.Ports.{port_lines}
+use Rattle.sdh_owed.specs.Reports.{report_of}
 use Rattle.sdh_owed.specs.Scripts.{Runs}
 use Rattle.sdh_promise.specs.Owed.{owed_ports}
 use Rattle.sdh_owed.specs.Healthy.{AllSettle, AreHealthy}
@@ -107,7 +108,7 @@ module _ (settle : HealthyStepsSettle) (deliver : HealthyStepsDeliver) (s : Sett
       let there : w ≡ after = is ∙ sym (steps_are.left steps (omega arith)) in
       let number : w.ring.rounds ≡ 128 * steps + 1 = ap (λ (v : World). v.ring.rounds) there ∙ steps_are.number steps (omega arith) in
       let ports =
-      subst (λ (v : World). ports_from v.ring 0 circuits.circuits
+      subst (λ (v : World). port_lines (outlet_at v.ring) circuits.circuits
       ≡ owed_ports (length ids) nothing_applied (happened []) (128 * steps) 0 circuits.circuits) (sym there)
       (ports_are after.ring (length ids) nothing_applied (happened []) (128 * steps) 0 circuits.circuits (λ k c get e. (
       let one : k ≡ 0 + k = omega arith in
@@ -120,7 +121,7 @@ module _ (settle : HealthyStepsSettle) (deliver : HealthyStepsDeliver) (s : Sett
       let same : w.ring.circuits.circuits ≡ circuits.circuits =
       ap (λ (v : World). v.ring.circuits.circuits) there
       ∙ ap (λ (l : Layout). l.circuits) (layout_stretches (healthy_steps steps) from) in
-      (refl, omega (arith, number), ap (ports_from w.ring 0) same ∙ ports, more)
+      (refl, omega (arith, number), ap (port_lines (outlet_at w.ring)) same ∙ ports, more)
 
   walk : (before m : ℕ) (steps : List Step) (w : World) (reports : List Report) (end : Status) (left : World) → AllSettle steps
       → w ≡ run m from → Reached before m → (before ≡ 0 → 1 ≤ length steps) → Runs limit before steps w reports end left

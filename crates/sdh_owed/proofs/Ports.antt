@@ -29,7 +29,8 @@ use Rattle.sdh_laws.specs.Carrying.Laws.{due_by_clocks, IsRestored}
 use Rattle.sdh_laws.specs.Carrying.Windows.{layout_of, HasCircuits}
 use Rattle.sdh_laws.proofs.carrying.Owed.{offset_small}
 use Rattle.sdh_report.specs.Reports.{PortLine}
-use Rattle.sdh_owed.specs.Reports.{port_told, ports_from, report_of}
+use Rattle.sdh_scripts.specs.Ports.{end_outlet, port_line_at, lines_from}
+use Rattle.sdh_owed.specs.Reports.{report_of}
 
 -- ---- clocks and what happened
 
@@ -71,7 +72,7 @@ pub ports_are : (r : HeldRing) (n : ℕ) (applied : ℕ → Bool) (before : Port
     → ((k : ℕ) (c : Provisioned) → slice_get cs k ≡ Some c → (e : End)
     → outlet_at r (record { circuit = index + k; end = e })
     ≡ due n applied c (λ j. sends_by (customer_at c (other_end e)) (before (record { circuit = index + k; end = other_end e }) j)) t)
-    → ports_from r index cs ≡ owed_ports n applied before t index cs
+    → lines_from (end_outlet (outlet_at r)) index cs ≡ owed_ports n applied before t index cs
 ports_are r n applied before t index [] h = refl
 ports_are r n applied before t index (c ∷ cs) h =
     let line = λ (e : End) (o : Outlet). let x : PortLine = record { name = c.name; end = e; outlet = o } in x in
@@ -80,8 +81,9 @@ ports_are r n applied before t index (c ∷ cs) h =
     ≡ due n applied d (λ j. sends_by (customer_at d (other_end e)) (before (record { circuit = i; end = other_end e }) j)) t in
     let here : index + 0 ≡ index = omega arith in
     let one = λ (e : End). ap (line e) (subst (Shows c e) here (h 0 c refl e)) in
-    let first = λ (x : PortLine). x ∷ port_told r index c B ∷ ports_from r (index + 1) cs in
-    let second = λ (x : PortLine). owed_port n applied before t index c A ∷ x ∷ ports_from r (index + 1) cs in
+    let later = lines_from (end_outlet (outlet_at r)) (index + 1) cs in
+    let first = λ (x : PortLine). x ∷ port_line_at (end_outlet (outlet_at r)) index c B ∷ later in
+    let second = λ (x : PortLine). owed_port n applied before t index c A ∷ x ∷ later in
     let third = λ (x : List PortLine). owed_port n applied before t index c A ∷ owed_port n applied before t index c B ∷ x in
     ap first (one A) ∙ ap second (one B) ∙ ap third (ports_are r n applied before t (index + 1) cs (λ k d get e. (
     let next : index + suc k ≡ index + 1 + k = omega arith in

@@ -1,14 +1,12 @@
 -- What the report of a settle step shows of the ring that it left.
 use Rattle.std.specs.Prelude.{ℕ, ◌-◌, List, length, get_or}
 use Rattle.sdh_basics.specs.Cells.{cells}
-use Rattle.sdh_circuits.specs.declared.End.{End}
-use Rattle.sdh_circuits.specs.Provisioned.{Provisioned}
 use Rattle.sdh_node.specs.Node.{Node}
 use Rattle.sdh_world.specs.Held.{HeldRing, outlet_at, node_at}
 use Rattle.sdh_report.specs.declared.node_line.NodeLine.{NodeLine}
 use Rattle.sdh_report.specs.Reports.{PortLine, Report}
 use Rattle.sdh_aps.specs.Told.{state_word, bytes_told}
-use Rattle.sdh_scripts.specs.Ports.{of_ports}
+use Rattle.sdh_scripts.specs.Ports.{port_lines}
 
 -- a node's identifier, its state, and the words that it sent in the last round
 abbrev pub node_told : ℕ → Node → NodeLine
@@ -21,16 +19,8 @@ told_at r p = node_told (get_or r.ids p 0) (node_at r.nodes p)
 abbrev pub nodes_told : HeldRing → List NodeLine
 nodes_told r = cells (told_at r) (length r.ids)
 
--- the line of the port at an end of circuit number `index`, with what it delivered
-abbrev pub port_told : HeldRing → ℕ → Provisioned → End → PortLine
-port_told r index c e = record { name = c.name; end = e; outlet = outlet_at r (record { circuit = index; end = e }) }
-
--- the lines of the ports of these circuits, which are counted from `index`
-abbrev pub ports_from : HeldRing → ℕ → List Provisioned → List PortLine
-ports_from r = of_ports (port_told r)
-
 abbrev pub ports_told : HeldRing → List PortLine
-ports_told r = ports_from r 0 r.circuits.circuits
+ports_told r = port_lines (outlet_at r) r.circuits.circuits
 
 -- the report of settle step `number` that left this ring
 unfoldable pub report_of : ℕ → HeldRing → Report

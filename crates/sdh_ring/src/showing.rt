@@ -1,11 +1,13 @@
-//! What can be read of the nodes of a ring, whether a settle step runs or not.
+//! What can be read of the nodes of a ring, whether a settle step runs or not, and of the ports of a `Ring`.
 ghost use Rattle.std.specs.Prelude.{◌≡◌, ◌<◌, ◌≤◌, Some, length, slice_get};
-ghost use Rattle.sdh_world.specs.Held.{HeldRing};
+ghost use Rattle.sdh_world.specs.Held.{HeldRing, outlet_at};
 
 use crate::ring::Ring;
 use crate::running::Running;
-use sdh_node::Multiplexer;
+use sdh_circuits::{CircuitMap, PortId};
+use sdh_node::{Delivered, Multiplexer};
 use sdh_ringmap::Pos;
+use sdh_rounds::ShowsPorts;
 
 /// A ring whose nodes can be looked at.
 pub trait ShowsNodes {
@@ -44,5 +46,23 @@ impl ShowsNodes for Running {
 
     fn multiplexer(&self, at: Pos) -> &Multiplexer {
         self.node(at)
+    }
+}
+
+impl ShowsPorts for Ring {
+    ghost provisioning = { λ ring. ring.circuits };
+
+    ghost outlet = { outlet_at };
+
+    fn circuits(&self) -> &CircuitMap {
+        Ring::circuits(self)
+    }
+
+    fn port(&self, port: PortId) -> &Delivered {
+        Ring::port(self, port)
+    }
+
+    fn value(&self, port: PortId) -> u16 {
+        Ring::value(self, port)
     }
 }

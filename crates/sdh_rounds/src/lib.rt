@@ -10,11 +10,13 @@ mod faults;
 mod receiving;
 mod ring;
 mod sending;
+mod showing;
 mod station;
 mod steps;
 
 pub use faults::{PlantFault, SettleError, Stopped};
 pub use ring::StationRing;
+pub use showing::ShowsPorts;
 pub use station::{IntoForm, Station};
 pub use steps::{Nobody, Nowhere, Observer, Recorder, RunsRounds, settle, settle_recording};
 

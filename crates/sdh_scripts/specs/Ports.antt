@@ -3,6 +3,7 @@ use Rattle.std.specs.Prelude.{ℕ, ◌+◌, ◌*◌, List, [], ◌∷◌}
 use Rattle.sdh_payload.specs.Outlet.{Outlet}
 use Rattle.sdh_circuits.specs.declared.End.{End}
 use Rattle.sdh_circuits.specs.declared.End.TheVariants.{A, B}
+use Rattle.sdh_circuits.specs.declared.PortId.{PortId}
 use Rattle.sdh_circuits.specs.Provisioned.{Provisioned}
 use Rattle.sdh_report.specs.Reports.{PortLine}
 
@@ -18,6 +19,14 @@ port_line_at gives index c e = record { name = c.name; end = e; outlet = gives i
 -- the lines of the ports of these circuits, which are counted from a number
 abbrev pub lines_from : (ℕ → Provisioned → End → Outlet) → ℕ → List Provisioned → List PortLine
 lines_from gives = of_ports (port_line_at gives)
+
+-- what the port at an end of the circuit of this number delivers, where `outlet` says it of each port
+abbrev pub end_outlet : (PortId → Outlet) → ℕ → Provisioned → End → Outlet
+end_outlet outlet index c e = outlet (record { circuit = index; end = e })
+
+-- the lines of all ports of a ring with these circuits
+abbrev pub port_lines : (PortId → Outlet) → List Provisioned → List PortLine
+port_lines outlet circuits = lines_from (end_outlet outlet) 0 circuits
 
 -- room enough for the line of a settle step and one for each port of `circuits` circuits: 96 bytes a line
 abbrev pub lines_room : ℕ → ℕ

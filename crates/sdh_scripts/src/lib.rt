@@ -26,7 +26,7 @@ mod streaming;
 mod teller;
 
 pub use calling::{call, call_over};
-pub use lines::{lines_room, put_settle};
+pub use lines::{lines_room, put_ports, put_settle};
 pub use program::RunsPlans;
 pub use run::{NewRun, NewScript, Run, start, start_over, text_for};
 pub use runner::Runner;

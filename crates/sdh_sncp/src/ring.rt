@@ -25,7 +25,7 @@ use sdh_payload::Delivered;
 use sdh_plant::Plant;
 use sdh_request::Settings;
 use sdh_ringmap::RingMap;
-use sdh_rounds::{Nobody, Observer, PlantFault, RunsRounds, SettleError, StationRing};
+use sdh_rounds::{Nobody, Observer, PlantFault, RunsRounds, SettleError, ShowsPorts, StationRing};
 use sdh_terminal::{Deliveries, Outlet};
 use std::alloc::{AllocError, Global};
 use std::marker::Model;
@@ -274,5 +274,23 @@ impl PathRing {
         ensures { result ≡ self.now.broken }
     {
         self.ring.is_broken()
+    }
+}
+
+impl ShowsPorts for PathRing {
+    ghost provisioning = { λ ring. ring.circuits };
+
+    ghost outlet = { outlet_at };
+
+    fn circuits(&self) -> &CircuitMap {
+        PathRing::circuits(self)
+    }
+
+    fn port(&self, port: PortId) -> &Delivered {
+        PathRing::port(self, port)
+    }
+
+    fn value(&self, port: PortId) -> u16 {
+        PathRing::value(self, port)
     }
 }

@@ -14,16 +14,17 @@ use Rattle.sdh_report.specs.Reports.{Report}
 use Rattle.sdh_rounds.specs.Quiet.{enough_for}
 use Rattle.sdh_promise.specs.Changes.{Change, Fibre, scenes}
 use Rattle.sdh_scripts.specs.Scripts.{Runs}
+use Rattle.sdh_scripts.specs.Ports.{end_outlet}
 use Rattle.sdh_scripts.proofs.Ports.{lines_same}
 use Rattle.sdh_scripts.specs.Outcomes.{IsSettled}
 use Rattle.sdh_scripts.proofs.Outcomes.{refused_ends, settled_by, ok_settles, fault_settles}
 use Rattle.sdh_scripts.proofs.Reporting.{settles_by, reports_by}
 use Rattle.sdh_sncp.specs.Stations.{path_node}
-use Rattle.sdh_sncp.specs.Ring.{World}
+use Rattle.sdh_sncp.specs.Ring.{World, outlet_at}
 use Rattle.sdh_sncp.specs.Due.{due_path}
 use Rattle.sdh_sncp.specs.Laws.{DeliversWhatIsDue, cut_in}
 use Rattle.sdh_sncp.proofs.Converging.{steps_answer, steps_deliver}
-use Rattle.sdh_sncp_cli.specs.Reports.{end_outlet, ports_told, report_of}
+use Rattle.sdh_sncp_cli.specs.Reports.{ports_told, report_of}
 use Rattle.sdh_sncp_cli.specs.Walking.{does, path_walk}
 use Rattle.sdh_sncp_cli.specs.Steps.{MayDo}
 use Rattle.sdh_sncp_cli.specs.Promise.{cut_after, due_ports, AreDue}
@@ -55,9 +56,10 @@ module _ (rate : Rate) (ids : List ℕ) (circuits : Provisioning) where
       let t = mid.ring.rounds - 1 in
       let cut = cut_after n changes in
       let size : length mid.ring.ids ≡ n = ap (λ (l : List ℕ). length l) h.ids in
-      lines_same (end_outlet mid.ring) (λ index c e. due_path n cut c e t) 0 mid.ring.circuits.circuits
+      let gives = end_outlet (outlet_at mid.ring) in
+      lines_same gives (λ index c e. due_path n cut c e t) 0 mid.ring.circuits.circuits
       (λ k c get e. (let same : 0 + k ≡ k = omega arith in
-      ap (λ i. end_outlet mid.ring i c e) same ∙ delivers k c get e ∙ (λ i. due_path (size i) (cuts_told changes ran mid h i) c e t)))
+      ap (λ i. gives i c e) same ∙ delivers k c get e ∙ (λ i. due_path (size i) (cuts_told changes ran mid h i) c e t)))
       ∙ ap (λ (p : Provisioning). due_ports n cut t p.circuits) h.circuits
 
   owed : (limit before : ℕ) (earlier changes : List Change) (steps : List Step) (ran : ℕ) (w : World) (reports : List Report) (end : Status)

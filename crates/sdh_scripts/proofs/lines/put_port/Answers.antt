@@ -1,10 +1,10 @@
 use Rattle.std.proofs.Common.{arith, ap}
 use Rattle.sdh_report.specs.Written.{Written}
 use Rattle.sdh_report.proofs.Short.{short-port_line}
-use Rattle.sdh_cli.proofs.reports.put_port.Goals as goal
+use Rattle.sdh_scripts.proofs.lines.put_port.Goals as goal
 
 pub port_line-requires : goal.port_line-requires
-port_line-requires c =
+port_line-requires g c =
     omega (
       arith,
       c.requires.room,
@@ -13,7 +13,7 @@ port_line-requires c =
     )
 
 pub returns-clause-room : goal.returns-clause-room
-returns-clause-room c =
+returns-clause-room g c =
     omega (
       arith,
       c.requires.room,
