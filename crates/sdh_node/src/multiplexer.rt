@@ -236,8 +236,8 @@ impl Multiplexer {
     }
 
     /// Runs one round at a moment: it reads what arrived, decides the state and the words, and writes a frame for each
-    /// side. The frames are put together in `west` and `east`, and scrambled to where `exit` has them leave. What the
-    /// ports deliver waits until it is asked for. It takes no memory.
+    /// side. The frames are put together in `west` and `east`, and leave through `exit`. What the ports deliver waits
+    /// until it is asked for. It takes no memory.
     #[tactic(auto, unfolding(crate::specs::Node::node_round))]
     pub fn send<E: Exit>(
         &mut self,

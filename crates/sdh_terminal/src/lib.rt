@@ -1,7 +1,8 @@
 //! The parts of a ring node that handle frames and pointers: sides that receive frames and interpret pointers, ports
 //! that add and drop, and sides that generate pointers and send frames.
 //!
-//! A `Matrix` decides where AU-4s come from. Each kind of node has its own.
+//! A `Matrix` decides where AU-4s come from. Each kind of node has its own. An `Exit` decides where frames are
+//! scrambled to.
 #![tactic(auto)]
 
 mod deliveries;

@@ -91,8 +91,8 @@ impl Sender {
     }
 }
 
-// What one side's next frame is made of: the sources and the pointer bytes of its AU-4s, the frames that both sides took
-// in, the payloads of the node's ports, and the K bytes.
+// What one side's next frame is made of: the sources and the pointer bytes of its AU-4s, the frames that both sides
+// took in, the payloads of the node's ports, and the K bytes.
 #[derive(Drop)]
 struct Content<'a, 'b> {
     choice: Choice<'a>,
