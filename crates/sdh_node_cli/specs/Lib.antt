@@ -6,5 +6,6 @@ pub mod Records
 pub mod Bench
 pub mod Streams
 pub mod Turns
+pub mod Rooms
 pub mod Outcome
 pub mod Laws

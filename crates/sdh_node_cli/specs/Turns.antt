@@ -72,11 +72,6 @@ pub record HasLine (b : Bench) (line : List ℕ) (r : Record) (first : Option �
 
 -- ---- what came on the sides
 
--- what came on a side was read: no bytes, or those of a whole frame
-pub record Takes (b : Bench) (came : Came) (left now : Option (List ℕ)) (bytes : List ℕ) : Type 0 where
-  pub whole : length bytes ≡ size_after b.node.settings.rate came
-  pub read : Consumes left now bytes
-
 -- fewer than `size` bytes were read: the source has ended, or a read failed
 abbrev pub TakesPart : ℕ → Option (List ℕ) → Option (List ℕ) → Stop → Type 0
 TakesPart size left now (stop.Bad flaw.Cut) = (bytes : List ℕ) × (length bytes < size) × Consumes left now bytes × IsAtEnd now

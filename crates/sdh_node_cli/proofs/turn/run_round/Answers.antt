@@ -6,7 +6,7 @@ use Rattle.sdh_node_cli.proofs.turn.run_round.Goals as goal
 pub answer_round-requires : goal.answer_round-requires
 answer_round-requires g c =
     let stay = both_stay _ _ _ _ _ _ c.in-Ok.ensures.ok in
-    record { few = omega (arith, c.requires.few, stay.0); room = omega (arith, c.requires.room, stay.1) }
+    record { few = omega (arith, c.requires.few, stay.0); room = omega (arith, c.requires.room.answer, stay.1) }
 
 pub returns-in-Err-clause-stops : goal.returns-in-Err-clause-stops
 returns-in-Err-clause-stops g c = part_stops c.args.bench.now c.args.came.west c.args.came.east c.in-Err.stop _ _ _ c.in-Err.ensures.part

@@ -14,6 +14,7 @@ send-requires c =
       later = inv.0.forward;
       within = inv.0.within;
       few = subst (λ (b : Bench). b.node.rounds < 2 ^ 32) (sym c.self.view_is) c.requires.few;
+      fits = tt;
     }
 
 pub put_shown-requires : goal.put_shown-requires
