@@ -7,6 +7,7 @@ use Rattle.sdh_outside.specs.Writing.{AppendsFewer}
 use Rattle.sdh_node_cli.specs.Lines.{whole_line}
 use Rattle.sdh_ringmap.specs.declared.Side.{Side}
 use Rattle.sdh_ringmap.specs.declared.Side.TheVariants.{West, East}
+use Rattle.sdh_ringmap.specs.declared.terms.Rate.{Rate}
 use Rattle.sdh_request.specs.declared.settings.Settings.{Settings}
 use Rattle.sdh_plan.specs.Check.{unless}
 use Rattle.sdh_plan.specs.declared.reason.Reason.{Reason}
@@ -22,11 +23,11 @@ use Rattle.sdh_node_cli.specs.declared.stop.Stop.{Stop}
 use Rattle.sdh_node_cli.specs.declared.stop.Stop.TheVariants as stop
 use Rattle.sdh_node_cli.specs.Records.{record_of}
 use Rattle.sdh_node_cli.proofs.Long.{line_long}
-use Rattle.sdh_node_cli.specs.Bench.{Bench, refusal_of, after_told, after_coming, after_round, answer_to, answer_room}
+use Rattle.sdh_node_cli.specs.Bench.{Bench, refusal_of, after_told, after_coming, after_round, answer_to}
 use Rattle.sdh_node_cli.specs.Streams.{Given, after_record, after, west_of, IsLine, IsBehind, IsRefusedFor, IsRefused, most_ahead}
 use Rattle.sdh_node_cli.specs.declared.turn.Rooms.{Rooms}
 use Rattle.sdh_node_cli.specs.Rooms.{HasRoom}
-use Rattle.sdh_node_cli.specs.Turns.{room_for, with_ahead, IsAhead, ReadsLine, HasLine, TakesPart, TakesBoth, both_sizes, Ran, RanCut, StopsRound, Goes, Halts, StopsBy}
+use Rattle.sdh_node_cli.specs.Turns.{with_ahead, IsAhead, ReadsLine, HasLine, TakesPart, TakesBoth, both_sizes, Ran, RanCut, StopsRound, Goes, Halts, StopsBy}
 
 -- ---- what stays
 
@@ -49,12 +50,11 @@ coming_rounds side came.Dark bytes n = refl
 coming_rounds side came.Frame bytes n = refl
 
 told_node : (t : Told) (b : Bench) → ((after_told t b).node.settings ≡ b.node.settings) × ((after_told t b).node.rounds ≡ b.node.rounds)
-    × ((after_told t b).circuits ≡ b.circuits)
 unfolding after_told
-told_node (told.Command side c) b = (refl, refl, refl)
-told_node (told.Moment m) b = (refl, refl, refl)
-told_node (told.Hold turns) b = (refl, refl, refl)
-told_node (told.Slip port turn count) b = (refl, refl, refl)
+told_node (told.Command side c) b = (refl, refl)
+told_node (told.Moment m) b = (refl, refl)
+told_node (told.Hold turns) b = (refl, refl)
+told_node (told.Slip port turn count) b = (refl, refl)
 
 round_settings : (now : ℕ) (n : Node) → (node_round now n).0.settings ≡ n.settings
 unfolding node_round with_calm after_crossing
@@ -91,28 +91,11 @@ after_rounds g b = by g.record_is
           coming_rounds West west g.west b.node,
         )
 
-pub after_circuits : (g : Given) (b : Bench) → (after g b).circuits ≡ b.circuits
-after_circuits g b = by g.record_is
-  where
-    by : (r : Record) → (after_record r g.west g.east b).circuits ≡ b.circuits
-    by (what.Told t) = (told_node t b).2
-    by (what.Round west east) = refl
-
-after_room : (g : Given) (b : Bench) → room_for (after g b) ≡ room_for b
-after_room g b =
-    ap (λ (s : Settings). answer_room s.rate (length (after g b).circuits)) (after_settings g b)
-    ∙ ap (λ cs. answer_room b.node.settings.rate (length cs)) (after_circuits g b)
-
 -- room for the records of a bench is room for those that come after a record
-pub room_after : (g : Given) (b d : Bench) (r : Rooms) → d ≡ after g b → HasRoom b r → HasRoom d r
+pub room_after : (g : Given) (b d : Bench) (r : Rooms) → d ≡ after g b → HasRoom b.node.settings.rate r → HasRoom d.node.settings.rate r
 room_after g b d r is has =
-    let same : room_for d ≡ room_for b = ap room_for is ∙ after_room g b in
-    record {
-      line = has.line;
-      arriving =
-          has.arriving ∙ sym (ap (λ (x : Bench). x.node.settings.rate) is ∙ ap (λ (s : Settings). s.rate) (after_settings g b));
-      answer = omega (arith, same, has.answer);
-    }
+    subst (λ (rate : Rate). HasRoom rate r) (sym (ap (λ (x : Bench). x.node.settings.rate) is
+    ∙ ap (λ (s : Settings). s.rate) (after_settings g b))) has
 
 -- ---- a round
 
@@ -153,9 +136,9 @@ part_stops b west east (stop.Bad flaw.Many) left now text p = absurd p
 part_stops b west east stop.Done left now text p = absurd p
 part_stops b west east stop.WriteFault left now text p = absurd p
 
--- after what came on both sides was kept, the number of rounds and the room for an answer are as before
+-- after what came on both sides was kept, the number of rounds and the rate are as before
 pub both_stay : (b d : Bench) (west east : Came) (left now : Option (List ℕ)) → TakesBoth b d west east left now
-    → (d.node.rounds ≡ b.node.rounds) × (room_for d ≡ room_for b)
+    → (d.node.rounds ≡ b.node.rounds) × (d.node.settings.rate ≡ b.node.settings.rate)
 both_stay b d west east left now both =
     let node = came_node west both.from_west east both.from_east b in
     let rounds = coming_rounds East east both.from_east (after_coming West west both.from_west b.node)
@@ -163,7 +146,7 @@ both_stay b d west east left now both =
     let settings = coming_settings East east both.from_east (after_coming West west both.from_west b.node)
     ∙ coming_settings West west both.from_west b.node in (
       ap (λ (x : Bench). x.node.rounds) both.bench ∙ rounds,
-      ap room_for both.bench ∙ ap (λ (s : Settings). answer_room s.rate (length b.circuits)) settings,
+      ap (λ (x : Bench). x.node.settings.rate) both.bench ∙ ap (λ (s : Settings). s.rate) settings,
     )
 
 -- ---- a record

@@ -14,12 +14,8 @@ use Rattle.sdh_node_cli.specs.declared.record.Record.{Record}
 use Rattle.sdh_node_cli.specs.declared.stop.Stop.{Stop}
 use Rattle.sdh_node_cli.specs.declared.stop.Stop.TheVariants as stop
 use Rattle.sdh_node_cli.specs.Records.{record_of}
-use Rattle.sdh_node_cli.specs.Bench.{Bench, size_after, with_arrivals, after_round, answer_to, answer_room}
+use Rattle.sdh_node_cli.specs.Bench.{Bench, size_after, with_arrivals, after_round, answer_to}
 use Rattle.sdh_node_cli.specs.Streams.{IsBehind, IsLine, Given, IsGiven, west_of, bytes_of, after, answer, IsPart, IsFlawed, EndsIf}
-
--- room enough for an answer of a bench
-abbrev pub room_for : Bench → ℕ
-room_for b = answer_room b.node.settings.rate (length b.circuits)
 
 -- ---- the byte that comes with a line
 

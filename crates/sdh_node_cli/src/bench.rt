@@ -1,13 +1,14 @@
 //! A node on the bench.
-ghost use Rattle.std.specs.Prelude.{◌≡◌, ◌^◌, ◌<◌, ◌≤◌, [], IfOk, OnOk, OnErr, length};
+ghost use Rattle.std.specs.Prelude.{◌≡◌, ◌^◌, ◌<◌, [], IfOk, OnOk, OnErr, length};
 ghost use Rattle.sdh_frame.specs.Sizes.{size_of};
 ghost use Rattle.sdh_plan.specs.Check.{unless};
 ghost use Rattle.sdh_shell.specs.Writing.{room_in};
 ghost use Rattle.sdh_node_cli.specs.Records.{record_of, IsTold, IsRecord};
 ghost use Rattle.sdh_node_cli.specs.declared.record.Came.TheVariants as came;
-ghost use Rattle.sdh_node_cli.specs.Bench.{new_bench, refusal_of, after_told, after_coming, after_round, answer_to, answer_room};
+ghost use Rattle.sdh_node_cli.specs.Bench.{new_bench, refusal_of, after_told, after_coming, after_round, answer_to};
+ghost use Rattle.sdh_node_cli.specs.Leaving.{written};
 
-use crate::answer::{put_frames_if, put_ports, put_shown};
+use crate::answer::{Answer, put_ports, put_shown};
 use crate::record::{Record, Told, record_of};
 use crate::words::{Ask, Mode};
 use sdh_circuits::CircuitMap;
@@ -16,10 +17,8 @@ use sdh_node::Multiplexer;
 use sdh_overhead::Landed;
 use sdh_plan::{Plan, Reason};
 use sdh_plant::Arrived;
-use sdh_report::Text;
 use sdh_request::Moment;
 use sdh_ringmap::{Pos, Rate, Side};
-use sdh_terminal::InPlace;
 use std::alloc::{AllocError, Global};
 use std::marker::Model;
 
@@ -82,11 +81,11 @@ impl Bench {
         self.west.rate()
     }
 
-    /// Returns a number of bytes in which every answer has room.
-    pub fn answer_room(&self) -> usize
-        ensures { result ≡ answer_room self.now.node.settings.rate (length self.now.circuits) }
+    /// Returns what is written for a round.
+    pub fn mode(&self) -> Mode
+        ensures { result ≡ self.now.mode }
     {
-        128 + 96 * self.circuits.len() + 32 + 2 * self.west.bytes().len()
+        self.mode
     }
 
     /// Returns the record that a line is for this node, or the reason for which the first check of its words fails.
@@ -146,21 +145,24 @@ impl Bench {
         self.node.receive_landed(side, Arrived::Frame, inbox);
     }
 
-    /// Runs a round, and writes its answer into an empty text. It takes no memory.
-    pub fn run(&mut self, text: &mut Text)
+    /// Runs a round, and makes its answer, whose lines are empty before. The frames are put together in the bench, and
+    /// scrambled to the answer. It takes no memory.
+    pub fn run(&mut self, answer: &mut Answer)
         requires few { self.old.node.rounds < 2 ^ 32 }
-        requires room { answer_room self.old.node.settings.rate (length self.old.circuits) ≤ text.old.room }
-        requires empty { text.old.bytes ≡ [] }
+        requires lines { answer.old.lines ≡ record { bytes = []; room = 12448 } }
+        requires frames { answer.old.frames.rate ≡ self.old.node.settings.rate }
         ensures bench { self.new ≡ after_round self.old }
-        ensures text { text.new.bytes ≡ answer_to self.old }
-        ensures kept { room_in text.new ≡ room_in text.old }
+        ensures bytes { written self.old.mode answer.new.lines.bytes answer.new.frames ≡ answer_to self.old }
+        ensures lines { room_in answer.new.lines ≡ 12448 }
+        ensures frames { answer.new.frames.rate ≡ answer.old.frames.rate }
     {
+        let frames = &mut answer.frames;
         self.node
-            .send(self.moment, &mut self.west, &mut self.east, &mut InPlace);
-        put_shown(text, &self.node, self.rounds, self.id);
+            .send(self.moment, &mut self.west, &mut self.east, frames);
+        put_shown(&mut answer.lines, &self.node, self.rounds, self.id);
         self.rounds += 1;
-        put_ports(text, &self.node, self.at, &self.circuits);
-        put_frames_if(text, self.mode, &self.west, &self.east);
+        put_ports(&mut answer.lines, &self.node, self.at, &self.circuits);
+        answer.close(self.mode);
     }
 }
 

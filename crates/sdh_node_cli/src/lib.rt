@@ -13,6 +13,7 @@ mod arriving;
 mod bench;
 mod ending;
 mod head;
+mod leaving;
 mod line;
 mod record;
 mod room;

@@ -29,7 +29,7 @@ pub fn serve<R: Source, W: Sink>(
     sink: &mut W,
 ) -> Stopped
     requires fresh { bench.old.node.rounds ≡ 0 }
-    requires room { HasRoom bench.old rooms.old }
+    requires room { HasRoom bench.old.node.settings.rate rooms.old }
     ensures served { result.stop ≢ Stop.WriteFault → (text : List ℕ)
         × Served bench.old [] (R.left source.old) (R.left source.new) result.number result.stop text
         × Appends (W.written sink.old) (W.written sink.new) text }

@@ -1,5 +1,5 @@
 //! One record, and what is written for it.
-ghost use Rattle.std.specs.Prelude.{◌≡◌, ◌^◌, ◌<◌, ◌≤◌, [], Err, IfOk, IfErr, OnOk, OnErr};
+ghost use Rattle.std.specs.Prelude.{◌≡◌, ◌^◌, ◌<◌, [], Err, IfOk, IfErr, OnOk, OnErr};
 ghost use Rattle.std.specs.Io.KnownBytes.{Appends};
 ghost use Rattle.sdh_outside.specs.Writing.{AppendsFewer};
 ghost use Rattle.sdh_shell.specs.Writing.{room_in};
@@ -7,8 +7,9 @@ ghost use Rattle.sdh_node_cli.specs.Faults.{CountsFault};
 ghost use Rattle.sdh_node_cli.specs.Records.{IsRecord};
 ghost use Rattle.sdh_node_cli.specs.Bench.{after_round, answer_to};
 ghost use Rattle.sdh_node_cli.specs.Rooms.{HasRoom};
-ghost use Rattle.sdh_node_cli.specs.Turns.{room_for, with_ahead, IsAhead, HasLine, Ran, StopsRound, Goes, Halts, StopsBy};
+ghost use Rattle.sdh_node_cli.specs.Turns.{with_ahead, IsAhead, HasLine, Ran, StopsRound, Goes, Halts, StopsBy};
 
+use crate::answer::Answer;
 use crate::arriving::{Arriving, Coming};
 use crate::bench::Bench;
 use crate::ending::Flaw;
@@ -27,19 +28,18 @@ const LINE_READ: usize = 65;
 pub struct Rooms {
     pub line: Text,
     pub arriving: Arriving,
-    pub answer: Text,
+    pub answer: Answer,
 }
 
 impl Rooms {
     /// Returns room for the line of a record, and for the rounds of a bench. It takes all its memory here.
     pub fn try_new(alloc: Global, bench: &Bench) -> Result<Rooms, AllocError>
-        ensures { IfOk result (HasRoom bench.now) }
+        ensures { IfOk result (HasRoom bench.now.node.settings.rate) }
     {
         let rate = bench.rate();
-        let room = bench.answer_room();
         let line = Text::try_new(alloc, LINE_READ)?;
         let arriving = Arriving::try_new(alloc, rate)?;
-        let answer = Text::try_new(alloc, room)?;
+        let answer = Answer::try_new(alloc, rate)?;
         Ok(Rooms {
             line,
             arriving,
@@ -76,19 +76,21 @@ fn next_record<R: Source>(bench: &Bench, line: &mut Text, source: &mut R) -> Res
 }
 
 // Runs a round over what was kept for both sides, and writes its answer to the sink.
-fn answer_round<W: Sink>(bench: &mut Bench, answer: &mut Text, sink: &mut W) -> Result<(), Stop>
+fn answer_round<W: Sink>(bench: &mut Bench, answer: &mut Answer, sink: &mut W) -> Result<(), Stop>
     requires few { bench.old.node.rounds < 2 ^ 32 }
-    requires room { room_for bench.old ≤ room_in answer.old }
+    requires lines { room_in answer.old.lines ≡ 12448 }
+    requires frames { answer.old.frames.rate ≡ bench.old.node.settings.rate }
     ensures bench { bench.new ≡ after_round bench.old }
     ensures ok { OnOk result (Appends (W.written sink.old) (W.written sink.new) (answer_to bench.old)) }
     ensures front { OnErr result (AppendsFewer (W.written sink.old) (W.written sink.new) (answer_to bench.old)) }
     ensures why { IfErr result (λ why. why ≡ Stop.WriteFault) }
-    ensures kept { room_in answer.new ≡ room_in answer.old }
+    ensures lines { room_in answer.new.lines ≡ 12448 }
+    ensures frames { answer.new.frames.rate ≡ answer.old.frames.rate }
     ensures writes { CountsFault W.exact (W.faults sink.old) (W.faults sink.new) (result ≡ Err Stop.WriteFault) }
 {
-    answer.clear();
+    answer.lines.clear();
     bench.run(answer);
-    match write_text(sink, answer.bytes()) {
+    match write_text(sink, answer.bytes(bench.mode())) {
         Ok(()) => Ok(()),
         Err(_) => Err(Stop::WriteFault),
     }
@@ -104,12 +106,12 @@ fn run_round<R: Source, W: Sink>(
 ) -> Result<(), Stop>
     requires ahead { IsAhead came.west came.first }
     requires few { bench.old.node.rounds < 2 ^ 32 }
-    requires room { HasRoom bench.old rooms.old }
+    requires room { HasRoom bench.old.node.settings.rate rooms.old }
     ensures ran { OnOk result (Ran bench.old bench.new came.west came.east (with_ahead came.first (R.left source.old)) (R.left source.new)
         (W.written sink.old) (W.written sink.new)) }
     ensures stops { IfErr result (λ why. StopsRound bench.old came.west came.east why (with_ahead came.first (R.left source.old)) (R.left source.new)
         (W.written sink.old) (W.written sink.new)) }
-    ensures room { HasRoom bench.old rooms.new }
+    ensures room { HasRoom bench.old.node.settings.rate rooms.new }
     ensures reads { CountsFault R.exact (R.faults source.old) (R.faults source.new) (result ≡ Err Stop.ReadFault) }
     ensures writes { CountsFault W.exact (W.faults sink.old) (W.faults sink.new) (result ≡ Err Stop.WriteFault) }
 {
@@ -131,11 +133,11 @@ pub fn turn<R: Source, W: Sink>(
     sink: &mut W,
 ) -> Result<(), Stop>
     requires few { bench.old.node.rounds < 2 ^ 32 }
-    requires room { HasRoom bench.old rooms.old }
+    requires room { HasRoom bench.old.node.settings.rate rooms.old }
     ensures goes { OnOk result (Goes bench.old bench.new (R.left source.old) (R.left source.new) (W.written sink.old) (W.written sink.new)) }
     ensures stops { IfErr result
         (λ why. StopsBy bench.old why (R.left source.old) (R.left source.new) (W.written sink.old) (W.written sink.new)) }
-    ensures room { HasRoom bench.old rooms.new }
+    ensures room { HasRoom bench.old.node.settings.rate rooms.new }
     ensures reads { CountsFault R.exact (R.faults source.old) (R.faults source.new) (result ≡ Err Stop.ReadFault) }
     ensures writes { CountsFault W.exact (W.faults sink.old) (W.faults sink.new) (result ≡ Err Stop.WriteFault) }
 {

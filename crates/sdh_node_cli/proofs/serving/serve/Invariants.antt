@@ -8,7 +8,7 @@ invariant-loop-done g l = record {
   went : Went l.initial.bench l.bench (g.R.Source.left l.initial.source) (g.R.Source.left l.source) (g.W.Sink.written l.initial.sink)
       (g.W.Sink.written l.sink) l.done;
   rounds : l.bench.node.rounds ≤ l.done;
-  room : HasRoom l.bench l.rooms;
+  room : HasRoom l.bench.node.settings.rate l.rooms;
   reads : g.R.Source.exact ≡ true → g.R.Source.faults l.source ≡ g.R.Source.faults l.initial.source;
   writes : g.W.Sink.exact ≡ true → g.W.Sink.faults l.sink ≡ g.W.Sink.faults l.initial.sink;
   later_reads : g.R.Source.faults l.initial.source ≤ g.R.Source.faults l.source;
