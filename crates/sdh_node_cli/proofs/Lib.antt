@@ -9,6 +9,7 @@ pub mod Heads
 pub mod Long
 pub mod Newlines
 pub mod Ahead
+pub mod Places
 pub mod Turning
 pub mod Faults
 pub mod Told

@@ -37,7 +37,3 @@ short_count count h =
 pub few_bytes : (rate : Rate) → size_of rate ≤ 38880
 few_bytes Four = omega arith
 few_bytes Sixteen = omega arith
-
-pub some_bytes : (rate : Rate) → 0 < size_of rate
-some_bytes Four = omega arith
-some_bytes Sixteen = omega arith

@@ -1,13 +1,13 @@
 -- One record, by its parts.
-use Rattle.std.proofs.Common.{◌≡◌, ℕ, ◌+◌, ◌≤◌, ◌⊎◌, List, [], ◌∷◌, ◌++◌, length, refl, ap, sym, subst, ◌∙◌, arith, inl, inr, append_assoc, append-nil}
+use Rattle.std.proofs.Common.{◌≡◌, ℕ, ◌+◌, ◌≤◌, List, [], ◌∷◌, ◌++◌, length, refl, ap, sym, subst, ◌∙◌, arith, inl, inr, append_assoc, append-nil}
 use Rattle.std.specs.Prelude.{Option, Some, None, Result, Ok, Err, slice_get}
 use Rattle.std.specs.Io.KnownBytes.{Appends, Consumes}
-use Rattle.std.proofs.KnownBytes.{Appends-nil, Consumes-nil, Consumes-trans, Keeps-refl}
-use Rattle.std.proofs.lemmas.List.{length-append}
+use Rattle.std.proofs.KnownBytes.{Appends-nil, Consumes-trans, Keeps-refl}
 use Rattle.sdh_outside.specs.Writing.{AppendsFewer}
 use Rattle.sdh_node_cli.specs.Lines.{whole_line}
 use Rattle.sdh_ringmap.specs.declared.Side.{Side}
 use Rattle.sdh_ringmap.specs.declared.Side.TheVariants.{West, East}
+use Rattle.sdh_ringmap.specs.declared.terms.Rate.{Rate}
 use Rattle.sdh_request.specs.declared.settings.Settings.{Settings}
 use Rattle.sdh_plan.specs.Check.{unless}
 use Rattle.sdh_plan.specs.declared.reason.Reason.{Reason}
@@ -23,9 +23,11 @@ use Rattle.sdh_node_cli.specs.declared.stop.Stop.{Stop}
 use Rattle.sdh_node_cli.specs.declared.stop.Stop.TheVariants as stop
 use Rattle.sdh_node_cli.specs.Records.{record_of}
 use Rattle.sdh_node_cli.proofs.Long.{line_long}
-use Rattle.sdh_node_cli.specs.Bench.{Bench, refusal_of, after_told, size_after, after_coming, with_arrivals, after_round, answer_to, answer_room}
+use Rattle.sdh_node_cli.specs.Bench.{Bench, refusal_of, after_told, after_coming, after_round, answer_to}
 use Rattle.sdh_node_cli.specs.Streams.{Given, after_record, after, west_of, IsLine, IsBehind, IsRefusedFor, IsRefused, most_ahead}
-use Rattle.sdh_node_cli.specs.Turns.{room_for, with_ahead, IsAhead, ReadsLine, HasLine, Takes, TakesPart, TakesBoth, both_sizes, Ran, RanCut, StopsRound, Goes, Halts, StopsBy}
+use Rattle.sdh_node_cli.specs.declared.turn.Rooms.{Rooms}
+use Rattle.sdh_node_cli.specs.Rooms.{HasRoom}
+use Rattle.sdh_node_cli.specs.Turns.{with_ahead, IsAhead, ReadsLine, HasLine, TakesPart, TakesBoth, both_sizes, Ran, RanCut, StopsRound, Goes, Halts, StopsBy}
 
 -- ---- what stays
 
@@ -35,6 +37,12 @@ coming_settings side came.Nothing bytes n = refl
 coming_settings side came.Dark bytes n = refl
 coming_settings side came.Frame bytes n = refl
 
+-- what came on a side leaves the rate
+pub coming_rate : (side : Side) (c : Came) (bytes : List ℕ) (b d : Bench) → d ≡ record b { node = after_coming side c bytes b.node }
+    → d.node.settings.rate ≡ b.node.settings.rate
+coming_rate side c bytes b d is =
+    ap (λ (x : Bench). x.node.settings.rate) is ∙ ap (λ (s : Settings). s.rate) (coming_settings side c bytes b.node)
+
 coming_rounds : (side : Side) (c : Came) (bytes : List ℕ) (n : Node) → (after_coming side c bytes n).rounds ≡ n.rounds
 unfolding after_coming
 coming_rounds side came.Nothing bytes n = refl
@@ -42,12 +50,11 @@ coming_rounds side came.Dark bytes n = refl
 coming_rounds side came.Frame bytes n = refl
 
 told_node : (t : Told) (b : Bench) → ((after_told t b).node.settings ≡ b.node.settings) × ((after_told t b).node.rounds ≡ b.node.rounds)
-    × ((after_told t b).circuits ≡ b.circuits)
 unfolding after_told
-told_node (told.Command side c) b = (refl, refl, refl)
-told_node (told.Moment m) b = (refl, refl, refl)
-told_node (told.Hold turns) b = (refl, refl, refl)
-told_node (told.Slip port turn count) b = (refl, refl, refl)
+told_node (told.Command side c) b = (refl, refl)
+told_node (told.Moment m) b = (refl, refl)
+told_node (told.Hold turns) b = (refl, refl)
+told_node (told.Slip port turn count) b = (refl, refl)
 
 round_settings : (now : ℕ) (n : Node) → (node_round now n).0.settings ≡ n.settings
 unfolding node_round with_calm after_crossing
@@ -84,104 +91,13 @@ after_rounds g b = by g.record_is
           coming_rounds West west g.west b.node,
         )
 
-pub after_circuits : (g : Given) (b : Bench) → (after g b).circuits ≡ b.circuits
-after_circuits g b = by g.record_is
-  where
-    by : (r : Record) → (after_record r g.west g.east b).circuits ≡ b.circuits
-    by (what.Told t) = (told_node t b).2
-    by (what.Round west east) = refl
-
-pub after_room : (g : Given) (b : Bench) → room_for (after g b) ≡ room_for b
-after_room g b =
-    ap (λ (s : Settings). answer_room s.rate (length (after g b).circuits)) (after_settings g b)
-    ∙ ap (λ cs. answer_room b.node.settings.rate (length cs)) (after_circuits g b)
+-- room for the records of a bench is room for those that come after a record
+pub room_after : (g : Given) (b d : Bench) (r : Rooms) → d ≡ after g b → HasRoom b.node.settings.rate r → HasRoom d.node.settings.rate r
+room_after g b d r is has =
+    subst (λ (rate : Rate). HasRoom rate r) (sym (ap (λ (x : Bench). x.node.settings.rate) is
+    ∙ ap (λ (s : Settings). s.rate) (after_settings g b))) has
 
 -- ---- a round
-
-pub coming_is : (side : Side) (c : Came) (bytes : List ℕ) (b d : Bench) → d ≡ record b { node = after_coming side c bytes b.node }
-    → (d.node.settings ≡ b.node.settings) × (d.node.rounds ≡ b.node.rounds) × (d.circuits ≡ b.circuits)
-coming_is side c bytes b d is = (
-  ap (λ (x : Bench). x.node.settings) is ∙ coming_settings side c bytes b.node,
-  ap (λ (x : Bench). x.node.rounds) is ∙ coming_rounds side c bytes b.node,
-  ap (λ (x : Bench). x.circuits) is,
-)
-
-both_came : (b c d : Bench) (west east : Came) (w e : List ℕ) → c ≡ record b { node = after_coming West west w b.node }
-    → d ≡ record c { node = after_coming East east e c.node } → d ≡ with_arrivals west w east e b
-both_came b c d west east w e first second =
-    second ∙ ap (λ (x : Bench). record x { node = after_coming East east e x.node }) first
-
--- ---- what came on a side that has no frame
-
-pub none_ahead : (c : Came) → IsAhead c None
-none_ahead came.Nothing = refl
-none_ahead came.Dark = refl
-none_ahead came.Frame = tt
-
-none_first : (c : Came) (first : Option ℕ) → (c ≡ came.Nothing) ⊎ (c ≡ came.Dark) → IsAhead c first → first ≡ None
-none_first c first (inl is) ahead = subst (λ (x : Came). IsAhead x first) is ahead
-none_first c first (inr is) ahead = subst (λ (x : Came). IsAhead x first) is ahead
-
-pub takes_none : (b : Bench) (c : Came) (first : Option ℕ) (left : Option (List ℕ)) → (c ≡ came.Nothing) ⊎ (c ≡ came.Dark) → IsAhead c first
-    → Takes b c (with_ahead first left) left []
-takes_none b c first left is ahead = record {
-  whole = no_size is;
-  read = subst (λ (f : Option ℕ). Consumes (with_ahead f left) left []) (sym (none_first c first is ahead)) (Consumes-nil left);
-}
-  where
-    no_size : (c ≡ came.Nothing) ⊎ (c ≡ came.Dark) → 0 ≡ size_after b.node.settings.rate c
-    no_size (inl e) = sym (ap (λ x. size_after b.node.settings.rate x) e)
-    no_size (inr e) = sym (ap (λ x. size_after b.node.settings.rate x) e)
-
-pub nothing_came : (side : Side) (c : Came) (b : Bench) → c ≡ came.Nothing → b ≡ record b { node = after_coming side c [] b.node }
-unfolding after_coming
-nothing_came side c b is = subst (λ (x : Came). b ≡ record b { node = after_coming side x [] b.node }) (sym is) refl
-
-pub dark_came : (side : Side) (c : Came) (b d : Bench) → c ≡ came.Dark → d ≡ record b { node = after_coming side came.Dark [] b.node }
-    → d ≡ record b { node = after_coming side c [] b.node }
-dark_came side c b d is made = subst (λ (x : Came). d ≡ record b { node = after_coming side x [] b.node }) (sym is) made
-
--- ---- both sides
-
--- whole frames came on both sides
-pub takes_both : (b c d : Bench) (west east : Came) (left mid now : Option (List ℕ)) (w e : List ℕ)
-    → Takes b west left mid w → c ≡ record b { node = after_coming West west w b.node } → Takes c east mid now e
-    → d ≡ record c { node = after_coming East east e c.node } → TakesBoth b d west east left now
-takes_both b c d west east left mid now w e first is_c second is_d = record {
-  from_west = w;
-  from_east = e;
-  west_whole = first.whole;
-  east_whole = second.whole ∙ ap (λ (s : Settings). size_after s.rate east) (coming_is West west w b c is_c).0;
-  read = Consumes-trans left mid now w e first.read second.read;
-  bench = both_came b c d west east w e is_c is_d;
-}
-
--- what came from the west was cut off
-pub west_part : (b : Bench) (west east : Came) (why : Stop) (left now : Option (List ℕ))
-    → TakesPart (size_after b.node.settings.rate west) left now why → TakesPart (both_sizes b west east) left now why
-west_part b west east (stop.Bad flaw.Cut) left now p = (p.0, omega (arith, p.1), p.2, p.3)
-west_part b west east stop.ReadFault left now p = (p.0, omega (arith, p.1), p.2)
-west_part b west east (stop.Bad (flaw.Said r)) left now p = absurd p
-west_part b west east (stop.Bad flaw.Long) left now p = absurd p
-west_part b west east (stop.Bad flaw.Many) left now p = absurd p
-west_part b west east stop.Done left now p = absurd p
-west_part b west east stop.WriteFault left now p = absurd p
-
--- what came from the east was cut off
-pub east_part : (b c : Bench) (west east : Came) (why : Stop) (left mid now : Option (List ℕ)) (w : List ℕ)
-    → Takes b west left mid w → c ≡ record b { node = after_coming West west w b.node }
-    → TakesPart (size_after c.node.settings.rate east) mid now why → TakesPart (both_sizes b west east) left now why
-east_part b c west east (stop.Bad flaw.Cut) left mid now w first is p =
-    let size = ap (λ (s : Settings). size_after s.rate east) (coming_is West west w b c is).0 in
-    (w ++ p.0, omega (arith, p.1, size, first.whole, length-append w p.0), Consumes-trans left mid now w p.0 first.read p.2, p.3)
-east_part b c west east stop.ReadFault left mid now w first is p =
-    let size = ap (λ (s : Settings). size_after s.rate east) (coming_is West west w b c is).0 in
-    (w ++ p.0, omega (arith, p.1, size, first.whole, length-append w p.0), Consumes-trans left mid now w p.0 first.read p.2)
-east_part b c west east (stop.Bad (flaw.Said r)) left mid now w first is p = absurd p
-east_part b c west east (stop.Bad flaw.Long) left mid now w first is p = absurd p
-east_part b c west east (stop.Bad flaw.Many) left mid now w first is p = absurd p
-east_part b c west east stop.Done left mid now w first is p = absurd p
-east_part b c west east stop.WriteFault left mid now w first is p = absurd p
 
 -- the round that runs over both, with its answer
 pub ran_by : (b d new : Bench) (west east : Came) (left now old_text new_text : Option (List ℕ)) → TakesBoth b d west east left now
@@ -220,9 +136,9 @@ part_stops b west east (stop.Bad flaw.Many) left now text p = absurd p
 part_stops b west east stop.Done left now text p = absurd p
 part_stops b west east stop.WriteFault left now text p = absurd p
 
--- after what came on both sides was kept, the number of rounds and the room for an answer are as before
+-- after what came on both sides was kept, the number of rounds and the rate are as before
 pub both_stay : (b d : Bench) (west east : Came) (left now : Option (List ℕ)) → TakesBoth b d west east left now
-    → (d.node.rounds ≡ b.node.rounds) × (room_for d ≡ room_for b)
+    → (d.node.rounds ≡ b.node.rounds) × (d.node.settings.rate ≡ b.node.settings.rate)
 both_stay b d west east left now both =
     let node = came_node west both.from_west east both.from_east b in
     let rounds = coming_rounds East east both.from_east (after_coming West west both.from_west b.node)
@@ -230,7 +146,7 @@ both_stay b d west east left now both =
     let settings = coming_settings East east both.from_east (after_coming West west both.from_west b.node)
     ∙ coming_settings West west both.from_west b.node in (
       ap (λ (x : Bench). x.node.rounds) both.bench ∙ rounds,
-      ap room_for both.bench ∙ ap (λ (s : Settings). answer_room s.rate (length b.circuits)) settings,
+      ap (λ (x : Bench). x.node.settings.rate) both.bench ∙ ap (λ (s : Settings). s.rate) settings,
     )
 
 -- ---- a record

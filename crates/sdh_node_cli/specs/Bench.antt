@@ -1,5 +1,5 @@
 -- A node that runs alone, on the bench: what records do with it, and what is written for a round.
-use Rattle.std.specs.Prelude.{ℕ, ◌+◌, ◌-◌, ◌*◌, ◌≤◌, nat_lt, if◌then◌else◌, List, [], ◌∷◌, ◌++◌, length, codes, decimal}
+use Rattle.std.specs.Prelude.{ℕ, ◌+◌, ◌-◌, ◌≤◌, nat_lt, if◌then◌else◌, List, [], ◌∷◌, ◌++◌, length, codes, decimal}
 use Rattle.std.specs.Prelude.{Option, Some, None}
 use Rattle.std.specs.Option.{option_map_or}
 use Rattle.sdh_ringmap.specs.declared.Pos.{Pos}
@@ -139,9 +139,3 @@ pub record IsBench (b : Bench) : Type 0 where
   pub within : b.moment ≤ 1000000000
   pub few : length b.circuits ≤ 128
   pub ports : (port : PortId) → IsOwn b.circuits b.at port → HasPort b.node.ports port
-
--- ---- room
-
--- room enough for an answer: its first line, a line of each port, the line before the frames, and the frames
-abbrev pub answer_room : Rate → ℕ → ℕ
-answer_room rate circuits = 128 + 96 * circuits + 32 + 2 * size_of rate

@@ -14,12 +14,8 @@ use Rattle.sdh_node_cli.specs.declared.record.Record.{Record}
 use Rattle.sdh_node_cli.specs.declared.stop.Stop.{Stop}
 use Rattle.sdh_node_cli.specs.declared.stop.Stop.TheVariants as stop
 use Rattle.sdh_node_cli.specs.Records.{record_of}
-use Rattle.sdh_node_cli.specs.Bench.{Bench, size_after, with_arrivals, after_round, answer_to, answer_room}
+use Rattle.sdh_node_cli.specs.Bench.{Bench, size_after, with_arrivals, after_round, answer_to}
 use Rattle.sdh_node_cli.specs.Streams.{IsBehind, IsLine, Given, IsGiven, west_of, bytes_of, after, answer, IsPart, IsFlawed, EndsIf}
-
--- room enough for an answer of a bench
-abbrev pub room_for : Bench → ℕ
-room_for b = answer_room b.node.settings.rate (length b.circuits)
 
 -- ---- the byte that comes with a line
 
@@ -71,11 +67,6 @@ pub record HasLine (b : Bench) (line : List ℕ) (r : Record) (first : Option �
   pub read : Consumes left (with_ahead first now) (whole_line line)
 
 -- ---- what came on the sides
-
--- what came on a side was read: no bytes, or those of a whole frame
-pub record Takes (b : Bench) (came : Came) (left now : Option (List ℕ)) (bytes : List ℕ) : Type 0 where
-  pub whole : length bytes ≡ size_after b.node.settings.rate came
-  pub read : Consumes left now bytes
 
 -- fewer than `size` bytes were read: the source has ended, or a read failed
 abbrev pub TakesPart : ℕ → Option (List ℕ) → Option (List ℕ) → Stop → Type 0

@@ -1,6 +1,5 @@
 //! What is written for a round.
-ghost use Rattle.std.specs.Prelude.{◌≡◌, ◌+◌, ◌*◌, ◌≤◌, ◌++◌, IfSome, length};
-ghost use Rattle.sdh_frame.specs.Sizes.{size_of};
+ghost use Rattle.std.specs.Prelude.{◌≡◌, ◌+◌, ◌*◌, ◌≤◌, ◌++◌, IfOk, IfSome, length};
 ghost use Rattle.sdh_circuits.specs.declared.PortId.{PortId};
 ghost use Rattle.sdh_terminal.specs.Tributaries.{HasPort};
 ghost use Rattle.sdh_report.specs.Written.{with_part};
@@ -8,17 +7,19 @@ ghost use Rattle.sdh_shell.specs.Writing.{room_in};
 ghost use Rattle.sdh_aps.specs.Lines.{signal_line};
 ghost use Rattle.sdh_aps.specs.Showing.{shown_of};
 ghost use Rattle.sdh_node_cli.specs.Records.{IsOwn};
-ghost use Rattle.sdh_node_cli.specs.Bench.{text_of, ports_from, count_line, frames_text, frames_if};
+ghost use Rattle.sdh_node_cli.specs.Bench.{text_of, ports_from, count_line, frames_if};
+ghost use Rattle.sdh_node_cli.specs.Leaving.{frames_of, written};
 
+use crate::leaving::{LINES_MAX, Leaving};
 use crate::record::port_here;
 use crate::words::Mode;
 use sdh_aps::{shown_of, signal_line};
 use sdh_circuits::{Circuit, CircuitMap, PortId};
-use sdh_frame::FrameBuf;
 use sdh_node::Multiplexer;
 use sdh_report::Text;
 use sdh_report::laws::front_line_is_short;
-use sdh_ringmap::Pos;
+use sdh_ringmap::{Pos, Rate};
+use std::alloc::{AllocError, Global};
 
 // Appends the line of the port of a circuit, if it has one at the node.
 fn put_port(text: &mut Text, node: &Multiplexer, circuit: &Circuit, port: Option<PortId>)
@@ -72,26 +73,51 @@ fn put_count(text: &mut Text, count: usize)
     text.put(b"\n");
 }
 
-// Appends the line with the number of bytes of both frames together, and then the frames, the one to the west first.
-#[tactic(auto, unfolding(crate::specs::Bench::frames_text))]
-fn put_frames(text: &mut Text, west: &FrameBuf, east: &FrameBuf)
-    requires room { 32 + size_of west.now.rate + size_of east.now.rate ≤ text.old.room }
-    ensures bytes { text.new.bytes ≡ text.old.bytes ++ frames_text (record { west = west.now; east = east.now }) }
-    ensures kept { room_in text.new ≡ room_in text.old }
-{
-    put_count(text, west.bytes().len() + east.bytes().len());
-    text.put(west.bytes());
-    text.put(east.bytes());
+/// Room for the answer to a round: for its lines, and for the frames that leave the node, with the lines in front of
+/// them.
+#[derive(Drop)]
+pub struct Answer {
+    pub lines: Text,
+    pub frames: Leaving,
 }
 
-/// Appends the number of bytes of two frames, and the frames, where frames are written.
-pub fn put_frames_if(text: &mut Text, mode: Mode, west: &FrameBuf, east: &FrameBuf)
-    requires room { 32 + size_of west.now.rate + size_of east.now.rate ≤ text.old.room }
-    ensures bytes { text.new.bytes ≡ text.old.bytes ++ frames_if mode (record { west = west.now; east = east.now }) }
-    ensures kept { room_in text.new ≡ room_in text.old }
-{
-    match mode {
-        Mode::Lines => {}
-        Mode::Frames => put_frames(text, west, east),
+impl Answer {
+    /// Returns room for the answers of a node whose frames are of this rate. It takes all its memory here.
+    pub fn try_new(alloc: Global, rate: Rate) -> Result<Answer, AllocError>
+        ensures lines { IfOk result (λ answer. room_in answer.lines ≡ 12448) }
+        ensures frames { IfOk result (λ answer. answer.frames.rate ≡ rate) }
+    {
+        let lines = Text::try_new(alloc, LINES_MAX)?;
+        let frames = Leaving::try_new(alloc, rate)?;
+        Ok(Answer { lines, frames })
+    }
+
+    /// Ends an answer. Where frames are written, it appends the number of bytes of both to the lines, and puts the lines
+    /// in front of the frames.
+    #[tactic(auto, unfolding(crate::specs::Bench::frames_text))]
+    pub fn close(&mut self, mode: Mode)
+        requires line { 32 ≤ self.old.lines.room }
+        requires room { room_in self.old.lines ≡ 12448 }
+        ensures bytes { written mode self.new.lines.bytes self.new.frames ≡ self.old.lines.bytes ++ frames_if mode (frames_of self.old.frames) }
+        ensures room { room_in self.new.lines ≡ room_in self.old.lines }
+        ensures rate { self.new.frames.rate ≡ self.old.frames.rate }
+    {
+        match mode {
+            Mode::Lines => {}
+            Mode::Frames => {
+                put_count(&mut self.lines, self.frames.count());
+                self.frames.put_lines(self.lines.bytes());
+            }
+        }
+    }
+
+    /// Returns what is written of an answer that was ended.
+    pub fn bytes(&self, mode: Mode) -> &[u8]
+        ensures { result.now ≡ written mode self.now.lines.bytes self.now.frames }
+    {
+        match mode {
+            Mode::Lines => self.lines.bytes(),
+            Mode::Frames => self.frames.bytes(),
+        }
     }
 }

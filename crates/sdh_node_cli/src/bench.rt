@@ -1,29 +1,22 @@
 //! A node on the bench.
-ghost use Rattle.std.specs.Prelude.{◌≡◌, ℕ, ◌^◌, ◌<◌, ◌≤◌, List, [], Err, IfOk, IfErr, OnOk, OnErr, length, take};
-ghost use Rattle.std.specs.Io.KnownBytes.{Consumes, IsAtEnd};
-ghost use Rattle.sdh_basics.specs.Causes.{HasCause};
-ghost use Rattle.sdh_outside.specs.Reading.{TakesFewer};
+ghost use Rattle.std.specs.Prelude.{◌≡◌, ◌^◌, ◌<◌, [], IfOk, OnOk, OnErr, length};
 ghost use Rattle.sdh_frame.specs.Sizes.{size_of};
 ghost use Rattle.sdh_plan.specs.Check.{unless};
 ghost use Rattle.sdh_shell.specs.Writing.{room_in};
-ghost use Rattle.sdh_node_cli.specs.Faults.{CountsFault};
 ghost use Rattle.sdh_node_cli.specs.Records.{record_of, IsTold, IsRecord};
-ghost use Rattle.sdh_node_cli.specs.Turns.{TakesPart, with_ahead};
 ghost use Rattle.sdh_node_cli.specs.declared.record.Came.TheVariants as came;
-ghost use Rattle.sdh_node_cli.specs.Bench.{new_bench, refusal_of, after_told, after_coming, after_round, answer_to, answer_room};
+ghost use Rattle.sdh_node_cli.specs.Bench.{new_bench, refusal_of, after_told, after_coming, after_round, answer_to};
+ghost use Rattle.sdh_node_cli.specs.Leaving.{written};
 
-use crate::answer::{put_frames_if, put_ports, put_shown};
-use crate::ending::Flaw;
+use crate::answer::{Answer, put_ports, put_shown};
 use crate::record::{Record, Told, record_of};
-use crate::stop::Stop;
 use crate::words::{Ask, Mode};
 use sdh_circuits::CircuitMap;
 use sdh_frame::FrameBuf;
 use sdh_node::Multiplexer;
-use sdh_outside::{Failed, Source, fill};
+use sdh_overhead::Landed;
 use sdh_plan::{Plan, Reason};
 use sdh_plant::Arrived;
-use sdh_report::Text;
 use sdh_request::Moment;
 use sdh_ringmap::{Pos, Rate, Side};
 use std::alloc::{AllocError, Global};
@@ -81,11 +74,18 @@ impl Bench {
         })
     }
 
-    /// Returns a number of bytes in which every answer has room.
-    pub fn answer_room(&self) -> usize
-        ensures { result ≡ answer_room self.now.node.settings.rate (length self.now.circuits) }
+    /// Returns the rate of the frames.
+    pub fn rate(&self) -> Rate
+        ensures { result ≡ self.now.node.settings.rate }
     {
-        128 + 96 * self.circuits.len() + 32 + 2 * self.west.bytes().len()
+        self.west.rate()
+    }
+
+    /// Returns what is written for a round.
+    pub fn mode(&self) -> Mode
+        ensures { result ≡ self.now.mode }
+    {
+        self.mode
     }
 
     /// Returns the record that a line is for this node, or the reason for which the first check of its words fails.
@@ -132,40 +132,37 @@ impl Bench {
         self.node.receive(side, Arrived::Dark, &self.west);
     }
 
-    /// Reads a frame of a side from a source, and keeps it for the next round. `first` is its first byte, where that
-    /// was read before. Returns `Cut` where the source ends within the frame, and `ReadFault` where a read fails.
+    /// Keeps for the next round a frame that came on a side. It lands in the inbox, whose buffer is then exchanged for
+    /// another one.
     #[tactic(auto, unfolding(crate::specs::Bench::after_coming))]
-    pub fn take_frame<R: Source>(
-        &mut self,
-        source: &mut R,
-        side: Side,
-        first: Option<u8>,
-    ) -> Result<(), Stop>
-        ensures ok { OnOk result ((bytes : List ℕ) × (length bytes ≡ size_of self.old.node.settings.rate)
-            × Consumes (with_ahead first (R.left source.old)) (R.left source.new) bytes
-            × (self.new ≡ record self.old { node = after_coming side came.Frame bytes self.old.node })) }
-        ensures part { IfErr result (TakesPart (size_of self.old.node.settings.rate) (with_ahead first (R.left source.old)) (R.left source.new)) }
-        ensures reads { CountsFault R.exact (R.faults source.old) (R.faults source.new) (result ≡ Err Stop.ReadFault) }
+    pub fn take_frame(&mut self, inbox: &mut Landed, side: Side, bytes: &[u8])
+        requires whole { length bytes.now ≡ size_of self.old.node.settings.rate }
+        requires rate { inbox.old.rate ≡ self.old.node.settings.rate }
+        ensures bench { self.new ≡ record self.old { node = after_coming side came.Frame bytes.now self.old.node } }
+        ensures rate { inbox.new.rate ≡ inbox.old.rate }
     {
-        read_frame(source, &mut self.west, first)?;
-        self.node.receive(side, Arrived::Frame, &self.west);
-        Ok(())
+        inbox.land_bytes(bytes);
+        self.node.receive_landed(side, Arrived::Frame, inbox);
     }
 
-    /// Runs a round, and writes its answer into an empty text. It takes no memory.
-    pub fn run(&mut self, text: &mut Text)
+    /// Runs a round, and makes its answer, whose lines are empty before. The frames are put together in the bench, and
+    /// scrambled to the answer. It takes no memory.
+    pub fn run(&mut self, answer: &mut Answer)
         requires few { self.old.node.rounds < 2 ^ 32 }
-        requires room { answer_room self.old.node.settings.rate (length self.old.circuits) ≤ text.old.room }
-        requires empty { text.old.bytes ≡ [] }
+        requires lines { answer.old.lines ≡ record { bytes = []; room = 12448 } }
+        requires frames { answer.old.frames.rate ≡ self.old.node.settings.rate }
         ensures bench { self.new ≡ after_round self.old }
-        ensures text { text.new.bytes ≡ answer_to self.old }
-        ensures kept { room_in text.new ≡ room_in text.old }
+        ensures bytes { written self.old.mode answer.new.lines.bytes answer.new.frames ≡ answer_to self.old }
+        ensures lines { room_in answer.new.lines ≡ 12448 }
+        ensures frames { answer.new.frames.rate ≡ answer.old.frames.rate }
     {
-        self.node.send(self.moment, &mut self.west, &mut self.east);
-        put_shown(text, &self.node, self.rounds, self.id);
+        let frames = &mut answer.frames;
+        self.node
+            .send(self.moment, &mut self.west, &mut self.east, frames);
+        put_shown(&mut answer.lines, &self.node, self.rounds, self.id);
         self.rounds += 1;
-        put_ports(text, &self.node, self.at, &self.circuits);
-        put_frames_if(text, self.mode, &self.west, &self.east);
+        put_ports(&mut answer.lines, &self.node, self.at, &self.circuits);
+        answer.close(self.mode);
     }
 }
 
@@ -176,49 +173,4 @@ fn room_for(alloc: Global, rate: Rate) -> Result<(FrameBuf, FrameBuf), AllocErro
     let west = FrameBuf::try_new(alloc, rate)?;
     let east = FrameBuf::try_new(alloc, rate)?;
     Ok((west, east))
-}
-
-// Fills a buffer: with the byte that was read before, if one was, and then from a source. Returns the number of bytes,
-// that one included.
-fn fill_after<R: Source>(source: &mut R, buf: &mut [u8], first: Option<u8>) -> Result<usize, Failed>
-    requires some { 0 < length buf.old }
-    ensures within { IfOk result (λ count. count ≤ length buf.new) }
-    ensures took { IfOk result (λ count. Consumes (with_ahead first (R.left source.old)) (R.left source.new) (take count buf.new)) }
-    ensures end { IfOk result (λ count. count < length buf.new → IsAtEnd (R.left source.new)) }
-    ensures failed { OnErr result (TakesFewer (with_ahead first (R.left source.old)) (R.left source.new) (length buf.new)) }
-    ensures cause { HasCause R.exact (R.faults source.old) (R.faults source.new) result }
-{
-    match first {
-        Some(byte) => {
-            buf[0] = byte;
-            match fill(source, &mut buf[1..]) {
-                Ok(count) => Ok(1 + count),
-                Err(failed) => Err(failed),
-            }
-        }
-        None => fill(source, buf),
-    }
-}
-
-// Reads a frame. `first` is its first byte, where that was read before.
-#[tactic(auto, using(crate::proofs::Short::some_bytes))]
-fn read_frame<R: Source>(
-    source: &mut R,
-    frame: &mut FrameBuf,
-    first: Option<u8>,
-) -> Result<(), Stop>
-    ensures rate { frame.new.rate ≡ frame.old.rate }
-    ensures full { length frame.new.bytes ≡ size_of frame.old.rate }
-    ensures ok { OnOk result (Consumes (with_ahead first (R.left source.old)) (R.left source.new) frame.new.bytes) }
-    ensures part { IfErr result (TakesPart (size_of frame.old.rate) (with_ahead first (R.left source.old)) (R.left source.new)) }
-    ensures reads { CountsFault R.exact (R.faults source.old) (R.faults source.new) (result ≡ Err Stop.ReadFault) }
-{
-    let size = frame.bytes().len();
-    let filled = fill_after(source, frame.bytes_mut(), first);
-    prove!(frame.bytes().len() == size);
-    match filled {
-        Ok(count) if count == size => Ok(()),
-        Ok(_) => Err(Stop::Bad(Flaw::Cut)),
-        Err(_) => Err(Stop::ReadFault),
-    }
 }

@@ -9,11 +9,14 @@
 ghost use Rattle.sdh_node_cli.specs.Laws.{RecordsAreLong, RecordsAreTold};
 
 mod answer;
+mod arriving;
 mod bench;
 mod ending;
 mod head;
+mod leaving;
 mod line;
 mod record;
+mod room;
 mod serving;
 mod stop;
 mod top;

@@ -1,15 +1,14 @@
 //! The records of a stream, one after the other.
-ghost use Rattle.std.specs.Prelude.{◌≡◌, ◌≢◌, ◌<◌, ◌≤◌, ◌^◌, [], List, ℕ, length};
+ghost use Rattle.std.specs.Prelude.{◌≡◌, ◌≢◌, [], List, ℕ};
 ghost use Rattle.std.specs.Io.KnownBytes.{Appends};
-ghost use Rattle.sdh_shell.specs.Writing.{room_in};
 ghost use Rattle.sdh_node_cli.specs.Faults.{CountsFault};
-ghost use Rattle.sdh_node_cli.specs.Turns.{room_for};
+ghost use Rattle.sdh_node_cli.specs.Rooms.{HasRoom};
 ghost use Rattle.sdh_node_cli.specs.Outcome.{Served, CutShort};
 
 use crate::bench::Bench;
 use crate::ending::Flaw;
 use crate::stop::Stop;
-use crate::turn::{Texts, turn};
+use crate::turn::{Rooms, turn};
 use sdh_outside::{Sink, Source};
 
 /// The most records of a stream that are done.
@@ -25,13 +24,12 @@ pub struct Stopped {
 /// Does the records of a source, one after the other, and writes the answer to each before it reads more.
 pub fn serve<R: Source, W: Sink>(
     bench: &mut Bench,
-    texts: &mut Texts,
+    rooms: &mut Rooms,
     source: &mut R,
     sink: &mut W,
 ) -> Stopped
     requires fresh { bench.old.node.rounds ≡ 0 }
-    requires line { room_in texts.old.line ≡ 65 }
-    requires answer { room_for bench.old ≤ room_in texts.old.answer }
+    requires room { HasRoom bench.old.node.settings.rate rooms.old }
     ensures served { result.stop ≢ Stop.WriteFault → (text : List ℕ)
         × Served bench.old [] (R.left source.old) (R.left source.new) result.number result.stop text
         × Appends (W.written sink.old) (W.written sink.new) text }
@@ -41,7 +39,7 @@ pub fn serve<R: Source, W: Sink>(
     ensures writes { CountsFault W.exact (W.faults sink.old) (W.faults sink.new) (result.stop ≡ Stop.WriteFault) }
 {
     for done in 0..RECORDS_MAX {
-        match turn(bench, texts, source, sink) {
+        match turn(bench, rooms, source, sink) {
             Ok(()) => {}
             Err(stop) => return Stopped {
                 stop,

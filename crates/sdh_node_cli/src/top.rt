@@ -21,7 +21,7 @@ use crate::ending::{Ending, Flaw};
 use crate::head::{NoHead, plan_in};
 use crate::serving::{Stopped, serve};
 use crate::stop::Stop;
-use crate::turn::Texts;
+use crate::turn::Rooms;
 use crate::words::{Ask, asked};
 use sdh_outside::{Sink, Source};
 use sdh_plan::Plan;
@@ -74,8 +74,8 @@ fn answer_records<R: Source, W: Sink>(
     ensures later { (R.faults source.old ≤ R.faults source.new) × (W.faults sink.old ≤ W.faults sink.new) }
     ensures memory { OnErr result (sink.new ≡ sink.old) }
 {
-    let mut texts = Texts::try_new(alloc, bench)?;
-    let stopped = serve(bench, &mut texts, source, sink);
+    let mut rooms = Rooms::try_new(alloc, bench)?;
+    let stopped = serve(bench, &mut rooms, source, sink);
     match stopped.stop {
         Stop::WriteFault => Ok(Ending::Shared(Status::WriteFault)),
         _ => Ok(write_ended(sink, ended(ending_of(stopped), text))),

@@ -1,43 +1,50 @@
 //! One record, and what is written for it.
-ghost use Rattle.std.specs.Prelude.{◌≡◌, ◌^◌, ◌<◌, ◌≤◌, ◌+◌, List, ℕ, [], Err, IfOk, IfErr, OnOk, OnErr, length};
+ghost use Rattle.std.specs.Prelude.{◌≡◌, ◌^◌, ◌<◌, [], Err, IfOk, IfErr, OnOk, OnErr};
 ghost use Rattle.std.specs.Io.KnownBytes.{Appends};
 ghost use Rattle.sdh_outside.specs.Writing.{AppendsFewer};
 ghost use Rattle.sdh_shell.specs.Writing.{room_in};
 ghost use Rattle.sdh_node_cli.specs.Faults.{CountsFault};
 ghost use Rattle.sdh_node_cli.specs.Records.{IsRecord};
-ghost use Rattle.sdh_node_cli.specs.Bench.{after_coming, size_after, after_round, answer_to};
-ghost use Rattle.sdh_node_cli.specs.Turns.{room_for, with_ahead, IsAhead, HasLine, Takes, TakesPart, TakesBoth, both_sizes, Ran, StopsRound, Goes, Halts, StopsBy};
+ghost use Rattle.sdh_node_cli.specs.Bench.{after_round, answer_to};
+ghost use Rattle.sdh_node_cli.specs.Rooms.{HasRoom};
+ghost use Rattle.sdh_node_cli.specs.Turns.{with_ahead, IsAhead, HasLine, Ran, StopsRound, Goes, Halts, StopsBy};
 
+use crate::answer::Answer;
+use crate::arriving::{Arriving, Coming};
 use crate::bench::Bench;
 use crate::ending::Flaw;
 use crate::line::next_line;
-use crate::record::{Came, Record};
+use crate::record::Record;
 use crate::stop::Stop;
 use sdh_outside::{Sink, Source, write_text};
 use sdh_report::Text;
-use sdh_ringmap::Side;
 use std::alloc::{AllocError, Global};
 
 /// The most bytes that are read of a line: 64, and one more, which has to be its newline byte.
 const LINE_READ: usize = 65;
 
-/// Room for the line of a record, and for an answer.
+/// Room for the line of a record, for what comes from both sides before a round, and for an answer.
 #[derive(Drop)]
-pub struct Texts {
+pub struct Rooms {
     pub line: Text,
-    pub answer: Text,
+    pub arriving: Arriving,
+    pub answer: Answer,
 }
 
-impl Texts {
-    /// Returns room for the line of a record, and for the answers of a bench. It takes all their memory here.
-    pub fn try_new(alloc: Global, bench: &Bench) -> Result<Texts, AllocError>
-        ensures line { IfOk result (λ texts. room_in texts.line ≡ 65) }
-        ensures answer { IfOk result (λ texts. room_for bench.now ≤ room_in texts.answer) }
+impl Rooms {
+    /// Returns room for the line of a record, and for the rounds of a bench. It takes all its memory here.
+    pub fn try_new(alloc: Global, bench: &Bench) -> Result<Rooms, AllocError>
+        ensures { IfOk result (HasRoom bench.now.node.settings.rate) }
     {
-        let room = bench.answer_room();
+        let rate = bench.rate();
         let line = Text::try_new(alloc, LINE_READ)?;
-        let answer = Text::try_new(alloc, room)?;
-        Ok(Texts { line, answer })
+        let arriving = Arriving::try_new(alloc, rate)?;
+        let answer = Answer::try_new(alloc, rate)?;
+        Ok(Rooms {
+            line,
+            arriving,
+            answer,
+        })
     }
 }
 
@@ -46,15 +53,6 @@ impl Texts {
 struct Found {
     record: Record,
     /// The first byte of the frame from the west, where it was read with the line.
-    first: Option<u8>,
-}
-
-/// What comes from both sides before a round.
-#[derive(Clone, Copy)]
-struct Coming {
-    west: Came,
-    east: Came,
-    /// The first byte of the frame from the west, where it was read before.
     first: Option<u8>,
 }
 
@@ -77,66 +75,22 @@ fn next_record<R: Source>(bench: &Bench, line: &mut Text, source: &mut R) -> Res
     }
 }
 
-// Keeps for the next round what came on a side. A frame is read from the source, after its first byte, where that was
-// read before.
-#[tactic(auto, unfolding(crate::specs::Bench::after_coming))]
-fn take_in<R: Source>(
-    bench: &mut Bench,
-    source: &mut R,
-    side: Side,
-    came: Came,
-    first: Option<u8>,
-) -> Result<(), Stop>
-    requires ahead { IsAhead came first }
-    ensures ok { OnOk result ((bytes : List ℕ) × Takes bench.old came (with_ahead first (R.left source.old)) (R.left source.new) bytes
-        × (bench.new ≡ record bench.old { node = after_coming side came bytes bench.old.node })) }
-    ensures part { IfErr result
-        (TakesPart (size_after bench.old.node.settings.rate came) (with_ahead first (R.left source.old)) (R.left source.new)) }
-    ensures reads { CountsFault R.exact (R.faults source.old) (R.faults source.new) (result ≡ Err Stop.ReadFault) }
-{
-    match came {
-        Came::Nothing => Ok(()),
-        Came::Dark => {
-            bench.darken(side);
-            Ok(())
-        }
-        Came::Frame => bench.take_frame(source, side, first),
-    }
-}
-
-// Keeps for the next round what came from the west and from the east. The frame from the west is read first.
-#[tactic(auto, using(crate::proofs::Turning::none_ahead))]
-fn take_both<R: Source>(bench: &mut Bench, source: &mut R, came: Coming) -> Result<(), Stop>
-    requires ahead { IsAhead came.west came.first }
-    ensures ok { OnOk result (TakesBoth bench.old bench.new came.west came.east (with_ahead came.first (R.left source.old)) (R.left source.new)) }
-    ensures part { IfErr result
-        (TakesPart (both_sizes bench.old came.west came.east) (with_ahead came.first (R.left source.old)) (R.left source.new)) }
-    ensures reads { CountsFault R.exact (R.faults source.old) (R.faults source.new) (result ≡ Err Stop.ReadFault) }
-{
-    match take_in(bench, source, Side::West, came.west, came.first) {
-        Ok(()) => {}
-        Err(stop) => return Err(stop),
-    }
-    match take_in(bench, source, Side::East, came.east, None) {
-        Ok(()) => Ok(()),
-        Err(stop) => Err(stop),
-    }
-}
-
 // Runs a round over what was kept for both sides, and writes its answer to the sink.
-fn answer_round<W: Sink>(bench: &mut Bench, answer: &mut Text, sink: &mut W) -> Result<(), Stop>
+fn answer_round<W: Sink>(bench: &mut Bench, answer: &mut Answer, sink: &mut W) -> Result<(), Stop>
     requires few { bench.old.node.rounds < 2 ^ 32 }
-    requires room { room_for bench.old ≤ room_in answer.old }
+    requires lines { room_in answer.old.lines ≡ 12448 }
+    requires frames { answer.old.frames.rate ≡ bench.old.node.settings.rate }
     ensures bench { bench.new ≡ after_round bench.old }
     ensures ok { OnOk result (Appends (W.written sink.old) (W.written sink.new) (answer_to bench.old)) }
     ensures front { OnErr result (AppendsFewer (W.written sink.old) (W.written sink.new) (answer_to bench.old)) }
     ensures why { IfErr result (λ why. why ≡ Stop.WriteFault) }
-    ensures kept { room_in answer.new ≡ room_in answer.old }
+    ensures lines { room_in answer.new.lines ≡ 12448 }
+    ensures frames { answer.new.frames.rate ≡ answer.old.frames.rate }
     ensures writes { CountsFault W.exact (W.faults sink.old) (W.faults sink.new) (result ≡ Err Stop.WriteFault) }
 {
-    answer.clear();
+    answer.lines.clear();
     bench.run(answer);
-    match write_text(sink, answer.bytes()) {
+    match write_text(sink, answer.bytes(bench.mode())) {
         Ok(()) => Ok(()),
         Err(_) => Err(Stop::WriteFault),
     }
@@ -145,27 +99,27 @@ fn answer_round<W: Sink>(bench: &mut Bench, answer: &mut Text, sink: &mut W) -> 
 // Runs a round over what came from the west and from the east, and writes its answer.
 fn run_round<R: Source, W: Sink>(
     bench: &mut Bench,
-    answer: &mut Text,
+    rooms: &mut Rooms,
     came: Coming,
     source: &mut R,
     sink: &mut W,
 ) -> Result<(), Stop>
     requires ahead { IsAhead came.west came.first }
     requires few { bench.old.node.rounds < 2 ^ 32 }
-    requires room { room_for bench.old ≤ room_in answer.old }
+    requires room { HasRoom bench.old.node.settings.rate rooms.old }
     ensures ran { OnOk result (Ran bench.old bench.new came.west came.east (with_ahead came.first (R.left source.old)) (R.left source.new)
         (W.written sink.old) (W.written sink.new)) }
     ensures stops { IfErr result (λ why. StopsRound bench.old came.west came.east why (with_ahead came.first (R.left source.old)) (R.left source.new)
         (W.written sink.old) (W.written sink.new)) }
-    ensures kept { room_in answer.new ≡ room_in answer.old }
+    ensures room { HasRoom bench.old.node.settings.rate rooms.new }
     ensures reads { CountsFault R.exact (R.faults source.old) (R.faults source.new) (result ≡ Err Stop.ReadFault) }
     ensures writes { CountsFault W.exact (W.faults sink.old) (W.faults sink.new) (result ≡ Err Stop.WriteFault) }
 {
-    match take_both(bench, source, came) {
+    match rooms.arriving.take_both(bench, source, came) {
         Ok(()) => {}
         Err(stop) => return Err(stop),
     }
-    match answer_round(bench, answer, sink) {
+    match answer_round(bench, &mut rooms.answer, sink) {
         Ok(()) => Ok(()),
         Err(stop) => Err(stop),
     }
@@ -174,28 +128,26 @@ fn run_round<R: Source, W: Sink>(
 /// Reads one record, does it, and writes its answer, if it has one, before more is read.
 pub fn turn<R: Source, W: Sink>(
     bench: &mut Bench,
-    texts: &mut Texts,
+    rooms: &mut Rooms,
     source: &mut R,
     sink: &mut W,
 ) -> Result<(), Stop>
     requires few { bench.old.node.rounds < 2 ^ 32 }
-    requires line { room_in texts.old.line ≡ 65 }
-    requires answer { room_for bench.old ≤ room_in texts.old.answer }
+    requires room { HasRoom bench.old.node.settings.rate rooms.old }
     ensures goes { OnOk result (Goes bench.old bench.new (R.left source.old) (R.left source.new) (W.written sink.old) (W.written sink.new)) }
     ensures stops { IfErr result
         (λ why. StopsBy bench.old why (R.left source.old) (R.left source.new) (W.written sink.old) (W.written sink.new)) }
-    ensures line { room_in texts.new.line ≡ 65 }
-    ensures answer { room_in texts.new.answer ≡ room_in texts.old.answer }
+    ensures room { HasRoom bench.old.node.settings.rate rooms.new }
     ensures reads { CountsFault R.exact (R.faults source.old) (R.faults source.new) (result ≡ Err Stop.ReadFault) }
     ensures writes { CountsFault W.exact (W.faults sink.old) (W.faults sink.new) (result ≡ Err Stop.WriteFault) }
 {
-    texts.line.clear();
-    match next_record(bench, &mut texts.line, source) {
+    rooms.line.clear();
+    match next_record(bench, &mut rooms.line, source) {
         Ok(found) => match found.record {
             Record::Round(west, east) => {
                 let first = found.first;
                 let came = Coming { west, east, first };
-                match run_round(bench, &mut texts.answer, came, source, sink) {
+                match run_round(bench, rooms, came, source, sink) {
                     Ok(()) => Ok(()),
                     Err(stop) => Err(stop),
                 }

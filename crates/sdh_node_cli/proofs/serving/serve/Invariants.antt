@@ -1,6 +1,5 @@
 use Rattle.std.proofs.Common.{◌≡◌, true, ◌≤◌}
-use Rattle.sdh_shell.specs.Writing.{room_in}
-use Rattle.sdh_node_cli.specs.Turns.{room_for}
+use Rattle.sdh_node_cli.specs.Rooms.{HasRoom}
 use Rattle.sdh_node_cli.proofs.Runs.{Went}
 use Rattle.sdh_node_cli.proofs.serving.serve.Given as goal
 
@@ -9,9 +8,7 @@ invariant-loop-done g l = record {
   went : Went l.initial.bench l.bench (g.R.Source.left l.initial.source) (g.R.Source.left l.source) (g.W.Sink.written l.initial.sink)
       (g.W.Sink.written l.sink) l.done;
   rounds : l.bench.node.rounds ≤ l.done;
-  room : room_for l.bench ≡ room_for l.initial.bench;
-  line : room_in l.texts.line ≡ 65;
-  answer : room_in l.texts.answer ≡ room_in l.initial.texts.answer;
+  room : HasRoom l.bench.node.settings.rate l.rooms;
   reads : g.R.Source.exact ≡ true → g.R.Source.faults l.source ≡ g.R.Source.faults l.initial.source;
   writes : g.W.Sink.exact ≡ true → g.W.Sink.faults l.sink ≡ g.W.Sink.faults l.initial.sink;
   later_reads : g.R.Source.faults l.initial.source ≤ g.R.Source.faults l.source;

@@ -10,8 +10,8 @@ use Rattle.sdh_node_cli.proofs.Faults.{renamed, behind, write_or_usage, write_or
 use Rattle.sdh_node_cli.proofs.Told.{stop_shown, tells_end, wrote_line, of_served, cut_of}
 use Rattle.sdh_node_cli.proofs.top.answer_records.Goals as goal
 
-pub returns-in_err-texts-clause-later : goal.returns-in_err-texts-clause-later
-returns-in_err-texts-clause-later g c = (le_refl _, le_refl _)
+pub returns-in_err-rooms-clause-later : goal.returns-in_err-rooms-clause-later
+returns-in_err-rooms-clause-later g c = (le_refl _, le_refl _)
 
 -- ---- a write failed
 

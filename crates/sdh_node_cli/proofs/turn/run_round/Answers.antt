@@ -1,4 +1,4 @@
-use Rattle.std.proofs.Common.{arith, refl}
+use Rattle.std.proofs.Common.{sym, ◌∙◌, arith, refl}
 use Rattle.sdh_node_cli.proofs.Faults.{none_made, well_alone, no_write_part, write_not_read, err_same}
 use Rattle.sdh_node_cli.proofs.Turning.{ran_by, cut_by, part_stops, both_stay}
 use Rattle.sdh_node_cli.proofs.turn.run_round.Goals as goal
@@ -6,7 +6,11 @@ use Rattle.sdh_node_cli.proofs.turn.run_round.Goals as goal
 pub answer_round-requires : goal.answer_round-requires
 answer_round-requires g c =
     let stay = both_stay _ _ _ _ _ _ c.in-Ok.ensures.ok in
-    record { few = omega (arith, c.requires.few, stay.0); room = omega (arith, c.requires.room, stay.1) }
+    record {
+      few = omega (arith, c.requires.few, stay.0);
+      lines = c.requires.room.lines;
+      frames = c.requires.room.frames ∙ sym stay.1;
+    }
 
 pub returns-in-Err-clause-stops : goal.returns-in-Err-clause-stops
 returns-in-Err-clause-stops g c = part_stops c.args.bench.now c.args.came.west c.args.came.east c.in-Err.stop _ _ _ c.in-Err.ensures.part

@@ -10,7 +10,12 @@ pub run_round-requires : goal.run_round-requires
 run_round-requires g c = record {
   ahead = subst (λ (r : Record). IsAhead (west_of r) c.in-Ok.found.first) c.in-Round.is c.in-Ok.ensures.line.ahead;
   few = search rules;
-  room = search rules;
+  room = record {
+    line = c.next_record.ensures.room;
+    arriving = c.requires.room.arriving;
+    lines = c.requires.room.lines;
+    frames = c.requires.room.frames;
+  };
 }
 
 pub returns-in-Ok-run_round-clause-goes : goal.returns-in-Ok-run_round-clause-goes

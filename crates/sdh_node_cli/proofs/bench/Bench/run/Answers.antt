@@ -1,7 +1,10 @@
-use Rattle.std.proofs.Common.{◌<◌, ◌^◌, length, ap, sym, subst, ◌∙◌, arith}
-use Rattle.sdh_frame.specs.Sizes.{size_of}
+use Rattle.std.proofs.Common.{◌<◌, ◌^◌, ap, sym, subst, ◌∙◌, arith}
+use Rattle.sdh_ringmap.specs.declared.Side.TheVariants.{West, East}
 use Rattle.sdh_request.specs.declared.settings.Settings.{Settings}
+use Rattle.sdh_report.specs.Written.{Written}
+use Rattle.sdh_shell.specs.Writing.{room_in}
 use Rattle.sdh_node_cli.specs.Bench.{Bench}
+use Rattle.sdh_node_cli.specs.Leaving.{frame_on, written}
 use Rattle.sdh_node_cli.proofs.Rounds.{round_is, answered}
 use Rattle.sdh_node_cli.proofs.bench.Bench.run.Goals as goal
 
@@ -14,30 +17,35 @@ send-requires c =
       later = inv.0.forward;
       within = inv.0.within;
       few = subst (λ (b : Bench). b.node.rounds < 2 ^ 32) (sym c.self.view_is) c.requires.few;
+      fits = c.requires.frames ∙ sym (ap (λ (b : Bench). b.node.settings.rate) c.self.view_is);
     }
 
 pub put_shown-requires : goal.put_shown-requires
-put_shown-requires c = record { room = omega (arith, c.requires.room) }
+put_shown-requires c = record { room = omega (arith, ap (λ (w : Written). w.room) c.requires.lines) }
 
 pub put_ports-requires : goal.put_ports-requires
 put_ports-requires c = record {
   there = λ port own. c.send.ensures.goes_on.ports port (c.self.invariant.0.ports port own);
-  room = omega (arith, c.requires.room, c.put_shown.ensures.room, ap (λ (b : Bench). length b.circuits) c.self.view_is);
-}
-
-pub put_frames_if-requires : goal.put_frames_if-requires
-put_frames_if-requires c = record {
   room =
       omega (
         arith,
-        c.requires.room,
+        ap (λ (w : Written). w.room) c.requires.lines,
+        c.put_shown.ensures.room,
+        c.self.invariant.0.few,
+      );
+}
+
+pub close-requires : goal.close-requires
+close-requires c = record {
+  line =
+      omega (
+        arith,
+        ap (λ (w : Written). w.room) c.requires.lines,
         c.put_shown.ensures.room,
         c.put_ports.ensures.room,
-        ap size_of (c.send.ensures.rates.0 ∙ c.self.invariant.2),
-        ap size_of (c.send.ensures.rates.1 ∙ c.self.invariant.3),
-        ap (λ (b : Bench). length b.circuits) c.self.view_is,
-        ap (λ (b : Bench). size_of b.node.settings.rate) c.self.view_is,
+        c.self.invariant.0.few,
       );
+  room = c.put_ports.ensures.kept ∙ c.put_shown.ensures.kept ∙ ap room_in c.requires.lines;
 }
 
 pub invariant_of-self : goal.invariant_of-self
@@ -60,12 +68,12 @@ invariant_of-self c =
 pub returns-clause-bench : goal.returns-clause-bench
 returns-clause-bench c = round_is _ _ c.send.new.self c.self.view_is c.send.ensures.node
 
-pub returns-clause-text : goal.returns-clause-text
-returns-clause-text c =
-    answered _ _ c.send.new.self c.send.new.west c.send.new.east c.self.inside.rounds c.args.text.now.bytes c.put_shown.new.text.bytes
-    c.put_ports.new.text.bytes c.put_frames_if.new.text.bytes c.self.view_is c.send.ensures.node c.send.ensures.west c.send.ensures.east
-    (omega (arith, c.self.invariant.1, c.send.ensures.goes_on.rounds)) c.requires.empty c.put_shown.ensures.bytes c.put_ports.ensures.bytes
-    c.put_frames_if.ensures.bytes
-
-pub returns-clause-kept : goal.returns-clause-kept
-returns-clause-kept c = c.put_frames_if.ensures.kept ∙ c.put_ports.ensures.kept ∙ c.put_shown.ensures.kept
+pub returns-clause-bytes : goal.returns-clause-bytes
+returns-clause-bytes c =
+    let answer = c.close.new.self in
+    let frames = c.send.new.exit in
+    sym (ap (λ (b : Bench). written b.mode answer.lines.bytes answer.frames) c.self.view_is)
+    ∙ answered _ _ c.send.new.self (frame_on West frames) (frame_on East frames) c.self.inside.rounds c.args.answer.now.lines.bytes
+    c.put_shown.new.text.bytes c.put_ports.new.text.bytes (written c.self.inside.mode answer.lines.bytes answer.frames) c.self.view_is
+    c.send.ensures.node c.send.ensures.west c.send.ensures.east (omega (arith, c.self.invariant.1, c.send.ensures.goes_on.rounds))
+    (ap (λ (w : Written). w.bytes) c.requires.lines) c.put_shown.ensures.bytes c.put_ports.ensures.bytes c.close.ensures.bytes
