@@ -6,7 +6,7 @@ pub mod Records
 pub mod Bench
 pub mod Streams
 pub mod Turns
-pub mod Leaving
+pub mod Pairs
 pub mod Rooms
 pub mod Outcome
 pub mod Laws

@@ -8,9 +8,9 @@ ghost use Rattle.sdh_aps.specs.Lines.{signal_line};
 ghost use Rattle.sdh_aps.specs.Showing.{shown_of};
 ghost use Rattle.sdh_node_cli.specs.Records.{IsOwn};
 ghost use Rattle.sdh_node_cli.specs.Bench.{text_of, ports_from, count_line, frames_if};
-ghost use Rattle.sdh_node_cli.specs.Leaving.{frames_of, written};
+ghost use Rattle.sdh_node_cli.specs.Pairs.{frames_of, written};
 
-use crate::leaving::{LINES_MAX, Leaving};
+use crate::pair::{LINES_MAX, Pair};
 use crate::record::port_here;
 use crate::words::Mode;
 use sdh_aps::{shown_of, signal_line};
@@ -78,7 +78,7 @@ fn put_count(text: &mut Text, count: usize)
 #[derive(Drop)]
 pub struct Answer {
     pub lines: Text,
-    pub frames: Leaving,
+    pub frames: Pair,
 }
 
 impl Answer {
@@ -88,7 +88,7 @@ impl Answer {
         ensures frames { IfOk result (λ answer. answer.frames.rate ≡ rate) }
     {
         let lines = Text::try_new(alloc, LINES_MAX)?;
-        let frames = Leaving::try_new(alloc, rate)?;
+        let frames = Pair::try_new(alloc, rate)?;
         Ok(Answer { lines, frames })
     }
 

@@ -6,7 +6,7 @@ ghost use Rattle.sdh_shell.specs.Writing.{room_in};
 ghost use Rattle.sdh_node_cli.specs.Records.{record_of, IsTold, IsRecord};
 ghost use Rattle.sdh_node_cli.specs.declared.record.Came.TheVariants as came;
 ghost use Rattle.sdh_node_cli.specs.Bench.{new_bench, refusal_of, after_told, after_coming, after_round, answer_to};
-ghost use Rattle.sdh_node_cli.specs.Leaving.{written};
+ghost use Rattle.sdh_node_cli.specs.Pairs.{written};
 
 use crate::answer::{Answer, put_ports, put_shown};
 use crate::record::{Record, Told, record_of};

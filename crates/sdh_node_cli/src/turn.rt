@@ -10,24 +10,26 @@ ghost use Rattle.sdh_node_cli.specs.Rooms.{HasRoom};
 ghost use Rattle.sdh_node_cli.specs.Turns.{with_ahead, IsAhead, HasLine, Ran, StopsRound, Goes, Halts, StopsBy};
 
 use crate::answer::Answer;
-use crate::arriving::{Arriving, Coming};
+use crate::arriving::{Coming, take_both};
 use crate::bench::Bench;
 use crate::ending::Flaw;
 use crate::line::next_line;
 use crate::record::Record;
 use crate::stop::Stop;
 use sdh_outside::{Sink, Source, write_text};
+use sdh_overhead::Landed;
 use sdh_report::Text;
 use std::alloc::{AllocError, Global};
 
 /// The most bytes that are read of a line: 64, and one more, which has to be its newline byte.
 const LINE_READ: usize = 65;
 
-/// Room for the line of a record, for what comes from both sides before a round, and for an answer.
+/// Room for the line of a record, for a frame that lands, and for an answer. Frames are read to where those of the answer
+/// will be.
 #[derive(Drop)]
 pub struct Rooms {
     pub line: Text,
-    pub arriving: Arriving,
+    pub inbox: Landed,
     pub answer: Answer,
 }
 
@@ -38,11 +40,11 @@ impl Rooms {
     {
         let rate = bench.rate();
         let line = Text::try_new(alloc, LINE_READ)?;
-        let arriving = Arriving::try_new(alloc, rate)?;
+        let inbox = Landed::try_new(alloc, rate)?;
         let answer = Answer::try_new(alloc, rate)?;
         Ok(Rooms {
             line,
-            arriving,
+            inbox,
             answer,
         })
     }
@@ -115,7 +117,8 @@ fn run_round<R: Source, W: Sink>(
     ensures reads { CountsFault R.exact (R.faults source.old) (R.faults source.new) (result ≡ Err Stop.ReadFault) }
     ensures writes { CountsFault W.exact (W.faults sink.old) (W.faults sink.new) (result ≡ Err Stop.WriteFault) }
 {
-    match rooms.arriving.take_both(bench, source, came) {
+    let pair = &mut rooms.answer.frames;
+    match take_both(bench, &mut rooms.inbox, pair, source, came) {
         Ok(()) => {}
         Err(stop) => return Err(stop),
     }

@@ -9,7 +9,7 @@ answer_round-requires g c =
     record {
       few = omega (arith, c.requires.few, stay.0);
       lines = c.requires.room.lines;
-      frames = c.requires.room.frames ∙ sym stay.1;
+      frames = c.take_both.ensures.pair ∙ c.requires.room.frames ∙ sym stay.1;
     }
 
 pub returns-in-Err-clause-stops : goal.returns-in-Err-clause-stops

@@ -12,7 +12,7 @@ run_round-requires g c = record {
   few = search rules;
   room = record {
     line = c.next_record.ensures.room;
-    arriving = c.requires.room.arriving;
+    inbox = c.requires.room.inbox;
     lines = c.requires.room.lines;
     frames = c.requires.room.frames;
   };

@@ -4,7 +4,7 @@ use Rattle.sdh_request.specs.declared.settings.Settings.{Settings}
 use Rattle.sdh_report.specs.Written.{Written}
 use Rattle.sdh_shell.specs.Writing.{room_in}
 use Rattle.sdh_node_cli.specs.Bench.{Bench}
-use Rattle.sdh_node_cli.specs.Leaving.{frame_on, written}
+use Rattle.sdh_node_cli.specs.Pairs.{frame_on, written}
 use Rattle.sdh_node_cli.proofs.Rounds.{round_is, answered}
 use Rattle.sdh_node_cli.proofs.bench.Bench.run.Goals as goal
 

@@ -1,5 +1,5 @@
 use Rattle.sdh_node_cli.proofs.Ahead.{filled, cut_short}
-use Rattle.sdh_node_cli.proofs.arriving.fill_after.Goals as goal
+use Rattle.sdh_node_cli.proofs.pair.fill_after.Goals as goal
 
 pub returns-in-Ok-clause-took : goal.returns-in-Ok-clause-took
 returns-in-Ok-clause-took g c =
