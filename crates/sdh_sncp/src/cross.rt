@@ -1,11 +1,11 @@
 //! The receiving half of each side, and where the AU-4s that come in on them lead.
-ghost use Rattle.std.specs.Prelude.{◌≡◌, ◌≢◌, ◌&&◌, ◌≤◌, None, IfOk, length};
+ghost use Rattle.std.specs.Prelude.{◌≡◌, ◌≢◌, ◌&&◌, ◌≤◌, None, IfOk};
 ghost use Rattle.sdh_ringmap.specs.Rates.{n_of};
 ghost use Rattle.sdh_plant.specs.Arrivals.{arrived_in};
 ghost use Rattle.sdh_ringmap.specs.Places.{opposite};
 ghost use Rattle.sdh_terminal.specs.Same.{same_readings};
-ghost use Rattle.sdh_terminal.specs.Receiving.{new_inlet, new_intake, inlet_told};
-ghost use Rattle.sdh_terminal.specs.Lines.{line_on, received, IsFeeder};
+ghost use Rattle.sdh_terminal.specs.Receiving.{new_inlet, new_intake};
+ghost use Rattle.sdh_terminal.specs.Lines.{received};
 ghost use Rattle.sdh_sncp.specs.Node.{new_cross, cross_told, after_taken, lines_of, leads, comes, drops, fed_for};
 
 use crate::slots::{Use, uses_at};

@@ -1,5 +1,4 @@
 //! A node of a path ring as a node that runs in rounds, and whose ports deliver.
-ghost use Rattle.sdh_ringmap.specs.declared.Side.TheVariants.{West, East};
 
 use crate::node::PathNode;
 use sdh_circuits::CircuitMap;

@@ -39,7 +39,7 @@ pub struct Sender {
 }
 
 impl Model for Sender {
-    ghost use Rattle.std.specs.Prelude.{◌≡◌, ◌*◌, None, length};
+    ghost use Rattle.std.specs.Prelude.{◌≡◌, None, length};
     ghost use Rattle.sdh_ringmap.specs.Rates.{n_of};
     ghost use Rattle.sdh_terminal.specs.Passing.{states_of};
     ghost use Rattle.sdh_terminal.specs.Sending.{Sending, IsSending};
