@@ -1,10 +1,7 @@
--- Lines are short, and frames have few bytes.
+-- Lines are short.
 use Rattle.std.proofs.Common.{ℕ, ◌^◌, ◌<◌, ◌≤◌, ◌++◌, length, codes, decimal, arith}
 use Rattle.std.proofs.lemmas.List.{length-append}
 use Rattle.std.proofs.lemmas.Fmt.{length-decimal-le}
-use Rattle.sdh_ringmap.specs.declared.terms.Rate.{Rate}
-use Rattle.sdh_ringmap.specs.declared.terms.Rate.TheVariants.{Four, Sixteen}
-use Rattle.sdh_frame.specs.Sizes.{size_of}
 use Rattle.sdh_node_cli.specs.Endings.{bad_record_text}
 use Rattle.sdh_node_cli.specs.Bench.{count_line}
 
@@ -32,8 +29,3 @@ short_count count h =
       length-append (codes "bytes ") (decimal count),
       length-decimal-le 20 count (omega arith) (omega arith) h,
     )
-
--- a frame has few bytes
-pub few_bytes : (rate : Rate) → size_of rate ≤ 38880
-few_bytes Four = omega arith
-few_bytes Sixteen = omega arith

@@ -7,7 +7,6 @@ use Rattle.sdh_outside.specs.Writing.{AppendsFewer}
 use Rattle.sdh_node_cli.specs.Lines.{whole_line}
 use Rattle.sdh_ringmap.specs.declared.Side.{Side}
 use Rattle.sdh_ringmap.specs.declared.Side.TheVariants.{West, East}
-use Rattle.sdh_ringmap.specs.declared.terms.Rate.{Rate}
 use Rattle.sdh_request.specs.declared.settings.Settings.{Settings}
 use Rattle.sdh_plan.specs.Check.{unless}
 use Rattle.sdh_plan.specs.declared.reason.Reason.{Reason}
@@ -25,8 +24,6 @@ use Rattle.sdh_node_cli.specs.Records.{record_of}
 use Rattle.sdh_node_cli.proofs.Long.{line_long}
 use Rattle.sdh_node_cli.specs.Bench.{Bench, refusal_of, after_told, after_coming, after_round, answer_to}
 use Rattle.sdh_node_cli.specs.Streams.{Given, after_record, after, west_of, IsLine, IsBehind, IsRefusedFor, IsRefused, most_ahead}
-use Rattle.sdh_node_cli.specs.declared.turn.Rooms.{Rooms}
-use Rattle.sdh_node_cli.specs.Rooms.{HasRoom}
 use Rattle.sdh_node_cli.specs.Turns.{with_ahead, IsAhead, ReadsLine, HasLine, TakesPart, TakesBoth, both_sizes, Ran, RanCut, StopsRound, Goes, Halts, StopsBy}
 
 -- ---- what stays
@@ -91,11 +88,9 @@ after_rounds g b = by g.record_is
           coming_rounds West west g.west b.node,
         )
 
--- room for the records of a bench is room for those that come after a record
-pub room_after : (g : Given) (b d : Bench) (r : Rooms) → d ≡ after g b → HasRoom b.node.settings.rate r → HasRoom d.node.settings.rate r
-room_after g b d r is has =
-    subst (λ (rate : Rate). HasRoom rate r) (sym (ap (λ (x : Bench). x.node.settings.rate) is
-    ∙ ap (λ (s : Settings). s.rate) (after_settings g b))) has
+-- a record leaves the rate
+pub rate_after : (g : Given) (b d : Bench) → d ≡ after g b → d.node.settings.rate ≡ b.node.settings.rate
+rate_after g b d is = ap (λ (x : Bench). x.node.settings.rate) is ∙ ap (λ (s : Settings). s.rate) (after_settings g b)
 
 -- ---- a round
 

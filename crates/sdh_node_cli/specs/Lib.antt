@@ -7,6 +7,5 @@ pub mod Bench
 pub mod Streams
 pub mod Turns
 pub mod Pairs
-pub mod Rooms
 pub mod Outcome
 pub mod Laws

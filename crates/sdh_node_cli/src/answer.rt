@@ -79,13 +79,13 @@ fn put_count(text: &mut Text, count: usize)
 pub struct Answer {
     pub lines: Text,
     pub frames: Pair,
+    pub ghost lines_room: { room_in lines ≡ 12448 },
 }
 
 impl Answer {
     /// Returns room for the answers of a node whose frames are of this rate. It takes all its memory here.
     pub fn try_new(alloc: Global, rate: Rate) -> Result<Answer, AllocError>
-        ensures lines { IfOk result (λ answer. room_in answer.lines ≡ 12448) }
-        ensures frames { IfOk result (λ answer. answer.frames.rate ≡ rate) }
+        ensures { IfOk result (λ answer. answer.frames.rate ≡ rate) }
     {
         let lines = Text::try_new(alloc, LINES_MAX)?;
         let frames = Pair::try_new(alloc, rate)?;
@@ -96,10 +96,8 @@ impl Answer {
     /// in front of the frames.
     #[tactic(auto, unfolding(crate::specs::Bench::frames_text))]
     pub fn close(&mut self, mode: Mode)
-        requires line { 32 ≤ self.old.lines.room }
-        requires room { room_in self.old.lines ≡ 12448 }
+        requires { 32 ≤ self.old.lines.room }
         ensures bytes { written mode self.new.lines.bytes self.new.frames ≡ self.old.lines.bytes ++ frames_if mode (frames_of self.old.frames) }
-        ensures room { room_in self.new.lines ≡ room_in self.old.lines }
         ensures rate { self.new.frames.rate ≡ self.old.frames.rate }
     {
         match mode {

@@ -2,7 +2,6 @@
 ghost use Rattle.std.specs.Prelude.{◌≡◌, ◌^◌, ◌<◌, [], IfOk, OnOk, OnErr, length};
 ghost use Rattle.sdh_frame.specs.Sizes.{size_of};
 ghost use Rattle.sdh_plan.specs.Check.{unless};
-ghost use Rattle.sdh_shell.specs.Writing.{room_in};
 ghost use Rattle.sdh_node_cli.specs.Records.{record_of, IsTold, IsRecord};
 ghost use Rattle.sdh_node_cli.specs.declared.record.Came.TheVariants as came;
 ghost use Rattle.sdh_node_cli.specs.Bench.{new_bench, refusal_of, after_told, after_coming, after_round, answer_to};
@@ -149,11 +148,10 @@ impl Bench {
     /// scrambled to the answer. It takes no memory.
     pub fn run(&mut self, answer: &mut Answer)
         requires few { self.old.node.rounds < 2 ^ 32 }
-        requires lines { answer.old.lines ≡ record { bytes = []; room = 12448 } }
+        requires empty { answer.old.lines.bytes ≡ [] }
         requires frames { answer.old.frames.rate ≡ self.old.node.settings.rate }
         ensures bench { self.new ≡ after_round self.old }
         ensures bytes { written self.old.mode answer.new.lines.bytes answer.new.frames ≡ answer_to self.old }
-        ensures lines { room_in answer.new.lines ≡ 12448 }
         ensures frames { answer.new.frames.rate ≡ answer.old.frames.rate }
     {
         let frames = &mut answer.frames;

@@ -16,6 +16,7 @@ mod head;
 mod line;
 mod pair;
 mod record;
+mod rooms;
 mod serving;
 mod stop;
 mod top;

@@ -2,13 +2,13 @@
 ghost use Rattle.std.specs.Prelude.{◌≡◌, ◌≢◌, [], List, ℕ};
 ghost use Rattle.std.specs.Io.KnownBytes.{Appends};
 ghost use Rattle.sdh_node_cli.specs.Faults.{CountsFault};
-ghost use Rattle.sdh_node_cli.specs.Rooms.{HasRoom};
 ghost use Rattle.sdh_node_cli.specs.Outcome.{Served, CutShort};
 
 use crate::bench::Bench;
 use crate::ending::Flaw;
+use crate::rooms::Rooms;
 use crate::stop::Stop;
-use crate::turn::{Rooms, turn};
+use crate::turn::turn;
 use sdh_outside::{Sink, Source};
 
 /// The most records of a stream that are done.
@@ -29,7 +29,7 @@ pub fn serve<R: Source, W: Sink>(
     sink: &mut W,
 ) -> Stopped
     requires fresh { bench.old.node.rounds ≡ 0 }
-    requires room { HasRoom bench.old.node.settings.rate rooms.old }
+    requires rate { rooms.old.inbox.rate ≡ bench.old.node.settings.rate }
     ensures served { result.stop ≢ Stop.WriteFault → (text : List ℕ)
         × Served bench.old [] (R.left source.old) (R.left source.new) result.number result.stop text
         × Appends (W.written sink.old) (W.written sink.new) text }

@@ -19,9 +19,9 @@ ghost use Rattle.sdh_node_cli.specs.declared.words.Ask.{Ask};
 use crate::bench::Bench;
 use crate::ending::{Ending, Flaw};
 use crate::head::{NoHead, plan_in};
+use crate::rooms::Rooms;
 use crate::serving::{Stopped, serve};
 use crate::stop::Stop;
-use crate::turn::Rooms;
 use crate::words::{Ask, asked};
 use sdh_outside::{Sink, Source};
 use sdh_plan::Plan;
@@ -74,7 +74,7 @@ fn answer_records<R: Source, W: Sink>(
     ensures later { (R.faults source.old ≤ R.faults source.new) × (W.faults sink.old ≤ W.faults sink.new) }
     ensures memory { OnErr result (sink.new ≡ sink.old) }
 {
-    let mut rooms = Rooms::try_new(alloc, bench)?;
+    let mut rooms = Rooms::try_new(alloc, bench.rate())?;
     let stopped = serve(bench, &mut rooms, source, sink);
     match stopped.stop {
         Stop::WriteFault => Ok(Ending::Shared(Status::WriteFault)),

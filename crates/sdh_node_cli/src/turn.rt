@@ -6,7 +6,6 @@ ghost use Rattle.sdh_shell.specs.Writing.{room_in};
 ghost use Rattle.sdh_node_cli.specs.Faults.{CountsFault};
 ghost use Rattle.sdh_node_cli.specs.Records.{IsRecord};
 ghost use Rattle.sdh_node_cli.specs.Bench.{after_round, answer_to};
-ghost use Rattle.sdh_node_cli.specs.Rooms.{HasRoom};
 ghost use Rattle.sdh_node_cli.specs.Turns.{with_ahead, IsAhead, HasLine, Ran, StopsRound, Goes, Halts, StopsBy};
 
 use crate::answer::Answer;
@@ -15,40 +14,10 @@ use crate::bench::Bench;
 use crate::ending::Flaw;
 use crate::line::next_line;
 use crate::record::Record;
+use crate::rooms::Rooms;
 use crate::stop::Stop;
 use sdh_outside::{Sink, Source, write_text};
-use sdh_overhead::Landed;
 use sdh_report::Text;
-use std::alloc::{AllocError, Global};
-
-/// The most bytes that are read of a line: 64, and one more, which has to be its newline byte.
-const LINE_READ: usize = 65;
-
-/// Room for the line of a record, for a frame that lands, and for an answer. Frames are read to where those of the answer
-/// will be.
-#[derive(Drop)]
-pub struct Rooms {
-    pub line: Text,
-    pub inbox: Landed,
-    pub answer: Answer,
-}
-
-impl Rooms {
-    /// Returns room for the line of a record, and for the rounds of a bench. It takes all its memory here.
-    pub fn try_new(alloc: Global, bench: &Bench) -> Result<Rooms, AllocError>
-        ensures { IfOk result (HasRoom bench.now.node.settings.rate) }
-    {
-        let rate = bench.rate();
-        let line = Text::try_new(alloc, LINE_READ)?;
-        let inbox = Landed::try_new(alloc, rate)?;
-        let answer = Answer::try_new(alloc, rate)?;
-        Ok(Rooms {
-            line,
-            inbox,
-            answer,
-        })
-    }
-}
 
 /// A record, and what was read with its line.
 #[derive(Clone, Copy)]
@@ -80,13 +49,11 @@ fn next_record<R: Source>(bench: &Bench, line: &mut Text, source: &mut R) -> Res
 // Runs a round over what was kept for both sides, and writes its answer to the sink.
 fn answer_round<W: Sink>(bench: &mut Bench, answer: &mut Answer, sink: &mut W) -> Result<(), Stop>
     requires few { bench.old.node.rounds < 2 ^ 32 }
-    requires lines { room_in answer.old.lines ≡ 12448 }
     requires frames { answer.old.frames.rate ≡ bench.old.node.settings.rate }
     ensures bench { bench.new ≡ after_round bench.old }
     ensures ok { OnOk result (Appends (W.written sink.old) (W.written sink.new) (answer_to bench.old)) }
     ensures front { OnErr result (AppendsFewer (W.written sink.old) (W.written sink.new) (answer_to bench.old)) }
     ensures why { IfErr result (λ why. why ≡ Stop.WriteFault) }
-    ensures lines { room_in answer.new.lines ≡ 12448 }
     ensures frames { answer.new.frames.rate ≡ answer.old.frames.rate }
     ensures writes { CountsFault W.exact (W.faults sink.old) (W.faults sink.new) (result ≡ Err Stop.WriteFault) }
 {
@@ -108,12 +75,12 @@ fn run_round<R: Source, W: Sink>(
 ) -> Result<(), Stop>
     requires ahead { IsAhead came.west came.first }
     requires few { bench.old.node.rounds < 2 ^ 32 }
-    requires room { HasRoom bench.old.node.settings.rate rooms.old }
+    requires rate { rooms.old.inbox.rate ≡ bench.old.node.settings.rate }
     ensures ran { OnOk result (Ran bench.old bench.new came.west came.east (with_ahead came.first (R.left source.old)) (R.left source.new)
         (W.written sink.old) (W.written sink.new)) }
     ensures stops { IfErr result (λ why. StopsRound bench.old came.west came.east why (with_ahead came.first (R.left source.old)) (R.left source.new)
         (W.written sink.old) (W.written sink.new)) }
-    ensures room { HasRoom bench.old.node.settings.rate rooms.new }
+    ensures rate { rooms.new.inbox.rate ≡ rooms.old.inbox.rate }
     ensures reads { CountsFault R.exact (R.faults source.old) (R.faults source.new) (result ≡ Err Stop.ReadFault) }
     ensures writes { CountsFault W.exact (W.faults sink.old) (W.faults sink.new) (result ≡ Err Stop.WriteFault) }
 {
@@ -136,11 +103,11 @@ pub fn turn<R: Source, W: Sink>(
     sink: &mut W,
 ) -> Result<(), Stop>
     requires few { bench.old.node.rounds < 2 ^ 32 }
-    requires room { HasRoom bench.old.node.settings.rate rooms.old }
+    requires rate { rooms.old.inbox.rate ≡ bench.old.node.settings.rate }
     ensures goes { OnOk result (Goes bench.old bench.new (R.left source.old) (R.left source.new) (W.written sink.old) (W.written sink.new)) }
     ensures stops { IfErr result
         (λ why. StopsBy bench.old why (R.left source.old) (R.left source.new) (W.written sink.old) (W.written sink.new)) }
-    ensures room { HasRoom bench.old.node.settings.rate rooms.new }
+    ensures rate { rooms.new.inbox.rate ≡ rooms.old.inbox.rate }
     ensures reads { CountsFault R.exact (R.faults source.old) (R.faults source.new) (result ≡ Err Stop.ReadFault) }
     ensures writes { CountsFault W.exact (W.faults sink.old) (W.faults sink.new) (result ≡ Err Stop.WriteFault) }
 {

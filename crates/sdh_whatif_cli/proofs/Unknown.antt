@@ -9,9 +9,6 @@ use Rattle.sdh_whatif_cli.specs.declared.own.OwnError.TheVariants as error
 use Rattle.sdh_whatif_cli.specs.Own.{first_unknown, IsUnknown}
 use Rattle.sdh_whatif_cli.specs.Outcome.{HasPlanFor}
 
-one_document : {X : Type 0} (x y : X) → ◌≡◌ {A = Option X} (Some x) (Some y) → x ≡ y
-one_document x y e = cc
-
 pub known_of : (left : Option (List ℕ)) (texts : List (List ℕ)) (plan : Planned) → HasPlanFor texts left
     → IfSome left (λ bytes. TellsPlan bytes plan) → first_unknown plan.nodes texts ≡ None
 known_of None texts plan has tells = absurd has

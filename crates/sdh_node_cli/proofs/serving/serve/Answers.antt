@@ -1,18 +1,18 @@
-use Rattle.std.proofs.Common.{ap, subst, ◌∙◌, arith, refl}
+use Rattle.std.proofs.Common.{ap, sym, subst, ◌∙◌, arith, refl}
 use native.Mathlib.Nat.{le_refl}
 use Rattle.sdh_node_cli.specs.declared.stop.Stop.{Stop}
 use Rattle.sdh_node_cli.specs.Bench.{Bench}
 use Rattle.sdh_node_cli.specs.Turns.{StopsBy}
 use Rattle.sdh_node_cli.proofs.Faults.{quiet, behind, stopped}
 use Rattle.sdh_node_cli.proofs.Runs.{went_none, went_on, served_by, cut_by, served_all}
-use Rattle.sdh_node_cli.proofs.Turning.{after_rounds, room_after}
+use Rattle.sdh_node_cli.proofs.Turning.{after_rounds, rate_after}
 use Rattle.sdh_node_cli.proofs.serving.serve.Goals as goal
 
 pub loop-done-init : goal.loop-done-init
 loop-done-init g c = record {
   went = went_none _ _ _;
   rounds = omega (arith, c.requires.fresh);
-  room = c.requires.room;
+  rate = c.requires.rate;
   reads = λ e. refl;
   writes = λ e. refl;
   later_reads = le_refl _;
@@ -27,7 +27,7 @@ loop-done-preserved g c =
     record {
       went = went_on _ b c.turn.new.bench _ _ _ _ _ _ c.loop-done.done inv.went goes;
       rounds = omega (arith, inv.rounds, ap (λ (x : Bench). x.node.rounds) goes.bench, after_rounds goes.given b);
-      room = room_after goes.given b c.turn.new.bench c.turn.new.rooms goes.bench c.turn.ensures.room;
+      rate = c.turn.ensures.rate ∙ inv.rate ∙ sym (rate_after goes.given b c.turn.new.bench goes.bench);
       reads = λ e. c.in-Ok.ensures.reads.counted.none e (λ f. cc) ∙ inv.reads e;
       writes = λ e. c.in-Ok.ensures.writes.counted.none e (λ f. cc) ∙ inv.writes e;
       later_reads = omega (arith, c.in-Ok.ensures.reads.later, inv.later_reads);

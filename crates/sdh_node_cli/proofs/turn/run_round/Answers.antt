@@ -3,13 +3,19 @@ use Rattle.sdh_node_cli.proofs.Faults.{none_made, well_alone, no_write_part, wri
 use Rattle.sdh_node_cli.proofs.Turning.{ran_by, cut_by, part_stops, both_stay}
 use Rattle.sdh_node_cli.proofs.turn.run_round.Goals as goal
 
+pub take_both-requires : goal.take_both-requires
+take_both-requires g c = record {
+  ahead = c.requires.ahead;
+  pair = c.args.rooms.now.same_rate ∙ c.requires.rate;
+  inbox = c.requires.rate;
+}
+
 pub answer_round-requires : goal.answer_round-requires
 answer_round-requires g c =
     let stay = both_stay _ _ _ _ _ _ c.in-Ok.ensures.ok in
     record {
       few = omega (arith, c.requires.few, stay.0);
-      lines = c.requires.room.lines;
-      frames = c.take_both.ensures.pair ∙ c.requires.room.frames ∙ sym stay.1;
+      frames = c.take_both.ensures.pair ∙ c.args.rooms.now.same_rate ∙ c.requires.rate ∙ sym stay.1;
     }
 
 pub returns-in-Err-clause-stops : goal.returns-in-Err-clause-stops

@@ -10,12 +10,7 @@ pub run_round-requires : goal.run_round-requires
 run_round-requires g c = record {
   ahead = subst (λ (r : Record). IsAhead (west_of r) c.in-Ok.found.first) c.in-Round.is c.in-Ok.ensures.line.ahead;
   few = search rules;
-  room = record {
-    line = c.next_record.ensures.room;
-    inbox = c.requires.room.inbox;
-    lines = c.requires.room.lines;
-    frames = c.requires.room.frames;
-  };
+  rate = c.requires.rate;
 }
 
 pub returns-in-Ok-run_round-clause-goes : goal.returns-in-Ok-run_round-clause-goes

@@ -13,17 +13,20 @@ kept : (count : ℕ) (w v : Written) → 32 ≤ w.room → count ≤ 77760 → v
 kept count w v room few is = ap room_in is ∙ kept_part w (count_line count) (fits count w room few)
 
 pub put_count-requires : goal.put_count-requires
-put_count-requires c = fits c.count.result c.args.self.now.lines c.requires.line c.count.ensures.few
+put_count-requires c = fits c.count.result c.args.self.now.lines c.requires c.count.ensures.few
 
 pub put_lines-requires : goal.put_lines-requires
 put_lines-requires c =
     omega (
       arith,
       ap length c.bytes.ensures,
-      kept c.count.result c.args.self.now.lines c.put_count.new.text c.requires.line c.count.ensures.few c.put_count.ensures,
-      c.requires.room,
+      kept c.count.result c.args.self.now.lines c.put_count.new.text c.requires c.count.ensures.few c.put_count.ensures,
+      c.args.self.now.lines_room,
     )
 
-pub returns-in-Frames-clause-room : goal.returns-in-Frames-clause-room
-returns-in-Frames-clause-room c =
-    kept c.count.result c.args.self.now.lines c.put_count.new.text c.requires.line c.count.ensures.few c.put_count.ensures
+pub invariant_of-self : goal.invariant_of-self
+invariant_of-self c = record {
+  lines_room =
+      kept c.count.result c.args.self.now.lines c.put_count.new.text c.requires c.count.ensures.few c.put_count.ensures
+      ∙ c.args.self.now.lines_room;
+}

@@ -1,4 +1,4 @@
-use Rattle.std.proofs.Common.{◌<◌, ◌^◌, ap, sym, subst, ◌∙◌, arith}
+use Rattle.std.proofs.Common.{◌≡◌, ◌<◌, ◌^◌, [], length, ap, sym, subst, ◌∙◌, arith}
 use Rattle.sdh_ringmap.specs.declared.Side.TheVariants.{West, East}
 use Rattle.sdh_request.specs.declared.settings.Settings.{Settings}
 use Rattle.sdh_report.specs.Written.{Written}
@@ -20,8 +20,12 @@ send-requires c =
       fits = c.requires.frames ∙ sym (ap (λ (b : Bench). b.node.settings.rate) c.self.view_is);
     }
 
+-- the room that is left in an empty text
+left : (w : Written) → room_in w ≡ 12448 → w.bytes ≡ [] → w.room ≡ 12448
+left w is empty = omega (arith, is, ap length empty)
+
 pub put_shown-requires : goal.put_shown-requires
-put_shown-requires c = record { room = omega (arith, ap (λ (w : Written). w.room) c.requires.lines) }
+put_shown-requires c = record { room = omega (arith, left c.args.answer.now.lines c.args.answer.now.lines_room c.requires.empty) }
 
 pub put_ports-requires : goal.put_ports-requires
 put_ports-requires c = record {
@@ -29,23 +33,25 @@ put_ports-requires c = record {
   room =
       omega (
         arith,
-        ap (λ (w : Written). w.room) c.requires.lines,
+        left c.args.answer.now.lines c.args.answer.now.lines_room c.requires.empty,
         c.put_shown.ensures.room,
         c.self.invariant.0.few,
       );
 }
 
 pub close-requires : goal.close-requires
-close-requires c = record {
-  line =
-      omega (
-        arith,
-        ap (λ (w : Written). w.room) c.requires.lines,
-        c.put_shown.ensures.room,
-        c.put_ports.ensures.room,
-        c.self.invariant.0.few,
-      );
-  room = c.put_ports.ensures.kept ∙ c.put_shown.ensures.kept ∙ ap room_in c.requires.lines;
+close-requires c =
+    omega (
+      arith,
+      left c.args.answer.now.lines c.args.answer.now.lines_room c.requires.empty,
+      c.put_shown.ensures.room,
+      c.put_ports.ensures.room,
+      c.self.invariant.0.few,
+    )
+
+pub invariant_of-answer : goal.invariant_of-answer
+invariant_of-answer c = record {
+  lines_room = c.put_ports.ensures.kept ∙ c.put_shown.ensures.kept ∙ c.args.answer.now.lines_room;
 }
 
 pub invariant_of-self : goal.invariant_of-self
@@ -76,4 +82,4 @@ returns-clause-bytes c =
     ∙ answered _ _ c.send.new.self (frame_on West frames) (frame_on East frames) c.self.inside.rounds c.args.answer.now.lines.bytes
     c.put_shown.new.text.bytes c.put_ports.new.text.bytes (written c.self.inside.mode answer.lines.bytes answer.frames) c.self.view_is
     c.send.ensures.node c.send.ensures.west c.send.ensures.east (omega (arith, c.self.invariant.1, c.send.ensures.goes_on.rounds))
-    (ap (λ (w : Written). w.bytes) c.requires.lines) c.put_shown.ensures.bytes c.put_ports.ensures.bytes c.close.ensures.bytes
+    c.requires.empty c.put_shown.ensures.bytes c.put_ports.ensures.bytes c.close.ensures.bytes
