@@ -35,6 +35,24 @@ impl Model for Waiting {
     ghost invariant = { λ w. length w.outlets ≡ length w.node.ports };
 }
 
+// Returns a node with memory for what its ports deliver.
+fn with_room(alloc: Global, node: Multiplexer, taken: TakenPair) -> Result<Waiting, AllocError>
+    ensures { IfOk result (λ waiting. waiting ≡ node) }
+{
+    match node.outlets(alloc) {
+        Ok(outlets) => Ok(Waiting {
+            node,
+            outlets,
+            taken,
+        }),
+        Err(AllocError) => {
+            drop(taken);
+            drop(node);
+            Err(AllocError)
+        }
+    }
+}
+
 impl Waiting {
     /// Returns the node at a position of a ring with these circuits: idle, without commands and defects. All its memory
     /// is taken here.
@@ -50,14 +68,9 @@ impl Waiting {
         requires kept { KeepsRing circuits.now map.now }
         ensures { IfOk result (λ node. node ≡ new_node settings map.now circuits.now.circuits at) }
     {
-        let node = Multiplexer::try_new(alloc, settings, map, circuits, at)?;
-        let outlets = node.outlets(alloc)?;
         let taken = TakenPair::try_new(alloc)?;
-        Ok(Waiting {
-            node,
-            outlets,
-            taken,
-        })
+        let node = Multiplexer::try_new(alloc, settings, map, circuits, at)?;
+        with_room(alloc, node, taken)
     }
 
     /// Returns the multiplexer.
