@@ -52,6 +52,10 @@ before from to at part bytes low within =
 behind : (from to at : ℕ) (part bytes : List ℕ) → at + length part ≤ from → at ≤ length bytes → between from to (placed at part bytes) ≡ between from to bytes
 behind from to at part bytes high within = ap (take (to - from)) (drop-put_mid at (length part) bytes part from high within (λ i. length part))
 
+-- what stands before the frames stays where the bytes before them do
+pub lines_stay : (from at : ℕ) (bytes now : List ℕ) → take at now ≡ take at bytes → between from at now ≡ between from at bytes
+lines_stay from at bytes now same = between_is now from at ∙ ap (drop from) same ∙ sym (between_is bytes from at)
+
 -- where a frame is put to its place, the other one stays
 pub other_stays : (side : Side) (rate : Rate) (from at : ℕ) (line bytes : List ℕ) → length line ≡ size_of rate
     → length bytes ≡ at + 2 * size_of rate

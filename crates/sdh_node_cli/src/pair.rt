@@ -101,6 +101,7 @@ fn read_at<R: Source>(
     requires room { at + size ≤ length buf.old }
     ensures ok { OnOk result (Consumes (with_ahead first (R.left source.old)) (R.left source.new) (take size (drop at buf.new))) }
     ensures part { IfErr result (TakesPart size (with_ahead first (R.left source.old)) (R.left source.new)) }
+    ensures front { take at buf.new ≡ take at buf.old }
     ensures reads { CountsFault R.exact (R.faults source.old) (R.faults source.new) (result ≡ Err Stop.ReadFault) }
 {
     match fill_after(source, &mut buf[at..at + size], first) {
@@ -176,6 +177,7 @@ impl Pair {
         ensures part { IfErr result (TakesPart size (with_ahead first (R.left source.old)) (R.left source.new)) }
         ensures reads { CountsFault R.exact (R.faults source.old) (R.faults source.new) (result ≡ Err Stop.ReadFault) }
         ensures rate { self.new.rate ≡ self.old.rate }
+        ensures lines { self.new.lines ≡ self.old.lines }
     {
         read_at(source, self.bytes.as_mut_slice(), self.at, size, first)
     }
