@@ -14,11 +14,12 @@ from ringtools.report import read_report
 from ringtools.rows import read_rows
 
 
-def bound(size, words):
-    """After this number of rounds from these changes on each port has what it is owed, whatever happened before them."""
-    if "hold" in words:
-        return 12 * size + 102
-    return max(12 * size + 2, 8 * size + 61) if "slip" in words else 12 * size + 2
+def bound(size, words, longest=0):
+    """After this number of rounds from these changes on each port has what it is owed, whatever happened before them.
+    The longest hold among them has `longest` rounds."""
+    if "slip" not in words:
+        return 7 * size + 7 + longest
+    return 12 * size + 102 if "hold" in words else max(12 * size + 2, 8 * size + 61)
 
 
 def ends(plan, report):
@@ -29,17 +30,19 @@ def ends(plan, report):
 
 def counted(plan, report):
     """Of each settle step that ran to its end: is what is owed promised by its last round, and by 12n + 102 alone?"""
-    found, words, since, ran, left = [], [], [], 0, ends(plan, report)
+    found, changes, since, ran, left = [], [], [], 0, ends(plan, report)
     for step in plan.steps:
         if step.word != "settle":
-            words.append(step.word)
+            changes.append(step)
             continue
         if not left:
             break
         end = left.pop(0)
-        if words or not found:
-            since, start, words = words, ran, []
-        found.append((bound(plan.size, since) <= end - start, 12 * plan.size + 102 <= end - ran))
+        if changes or not found:
+            since, start, changes = changes, ran, []
+        longest = max((step.number for step in since if step.word == "hold"), default=0)
+        late = bound(plan.size, [step.word for step in since], longest)
+        found.append((late <= end - start, 12 * plan.size + 102 <= end - ran))
         ran = end
     return found
 

@@ -39,7 +39,7 @@ def below(crate, lines):
 class Headline(unittest.TestCase):
     def test_definitions_are_those_of_the_source(self):
         found = list(quoted(PAGE.read_text()))
-        self.assertEqual(len(found), 31)
+        self.assertEqual(len(found), 32)
         for file, words in found:
             with self.subTest(file=file, words=words[:3]):
                 self.assertTrue(words)
@@ -57,7 +57,8 @@ class Headline(unittest.TestCase):
 
     def test_bounds_are_those_of_the_changes(self):
         bounds = [soon.bound(4, words) for words in ([], ["cut", "degrade"], ["slip", "cut"], ["hold", "slip"])]
-        self.assertEqual(bounds, [50, 50, 93, 150])
+        self.assertEqual(bounds, [35, 35, 93, 150])
+        self.assertEqual(soon.bound(4, ["hold", "cut", "hold"], 20), 55)
         self.assertEqual(soon.bound(16, ["slip"]), 194)
 
     def test_the_promise_stands_on_no_frame_word_or_node(self):

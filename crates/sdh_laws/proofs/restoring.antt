@@ -4,3 +4,9 @@ pub mod Walking
 pub mod Resting
 pub mod Soon
 pub mod Stretches
+pub mod Following
+pub mod Followed
+pub mod AtOnce
+pub mod SoonAtOnce
+pub mod Anew
+pub mod Windows

@@ -2,6 +2,7 @@ pub mod Rules
 pub mod Asking
 pub mod Content
 pub mod Lags
+pub mod Saying
 pub mod Nodes
 pub mod Arrivals
 pub mod Worlds

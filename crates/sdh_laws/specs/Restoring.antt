@@ -1,2 +1,3 @@
 pub mod Flowing
 pub mod Laws
+pub mod Followed

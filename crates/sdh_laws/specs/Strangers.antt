@@ -1,4 +1,5 @@
 pub mod Owners
+pub mod Ages
 pub mod Vouched
 pub mod Laws
 pub mod Undisturbed

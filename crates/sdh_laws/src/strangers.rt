@@ -5,7 +5,8 @@
 
 ghost use Rattle.sdh_laws.specs.Strangers.Laws.{VouchedRingsStay, RoundsKeepStrangersOut, StepsKeepStrangersOut, NoPortEverMeetsAStranger};
 ghost use Rattle.sdh_laws.specs.Strangers.Laws.{NodesAsideMayBeHeld, NodesThatDoNotPassMayBeHeld, SettledRingsAreVouchedFor};
-ghost use Rattle.sdh_laws.specs.Strangers.Laws.{AHoldSpoilsItsOwnStepAlone, RingsComeToBeVouchedFor};
+ghost use Rattle.sdh_laws.specs.Strangers.Laws.{AHoldSpoilsItsOwnStepAlone, RingsComeToBeVouchedFor, StrangersAreGoneSoon};
+ghost use Rattle.sdh_laws.specs.Strangers.Laws.{StepsDeliverRecentBytes, NothingComesLate};
 ghost use Rattle.sdh_laws.specs.Strangers.Undisturbed.{UndisturbedPortsDeliver};
 
 /// A new ring is vouched for. It stays so over every change, except one that holds the controller of a node that is
@@ -60,10 +61,27 @@ pub fn a_hold_spoils_its_own_step_alone()
     sdh_signal::still_rings_are_settled();
 }
 
-/// Every whole ring becomes vouched for, whatever it carries. That takes n(n + 1) rounds after the last one that a
+/// Every whole ring becomes vouched for, whatever it carries. That takes 2n - 2 rounds after the last one that a
 /// controller missed.
 pub fn rings_come_to_be_vouched_for()
     ensures { RingsComeToBeVouchedFor }
+{}
+
+/// In a whole ring, whatever it carries, no port meets a stranger once 2n - 3 rounds are over after the last one that a
+/// controller missed. From then on none delivers bytes that are older than 2n - 3 rounds.
+pub fn strangers_are_gone_soon()
+    ensures { StrangersAreGoneSoon }
+{}
+
+/// In every settle step of a whole ring no port delivers bytes that are older than 2n - 3 rounds, once 2n - 3 rounds of
+/// the step are over after the last one that a controller missed.
+pub fn steps_deliver_recent_bytes()
+    ensures { StepsDeliverRecentBytes }
+{}
+
+/// From a new ring on, where no controller is ever held, no port delivers bytes that are older than 2n - 3 rounds.
+pub fn nothing_comes_late()
+    ensures { NothingComesLate }
 {}
 
 /// Where nothing is ever asked on a circuit's arc, its ports deliver straight over it from the first round on.

@@ -37,12 +37,12 @@ use Rattle.sdh_scripts.proofs.Reporting.{settles_by, reports_by, breaks_by}
 use Rattle.sdh_world.specs.Steps.{after_step}
 use Rattle.sdh_owed.specs.Scripts.{Runs}
 use Rattle.sdh_owed.specs.Laws.{ring_by}
-use Rattle.sdh_owed.proofs.Strangers.{none_old_then, none_old}
+use Rattle.sdh_owed.proofs.Strangers.{none_old_unheld, none_old_then, none_old}
 use Rattle.sdh_owed.specs.Strangers.{NoneEverMeetsOldBytes}
-use Rattle.sdh_owed.proofs.Soon.{RestoredSoon, happens_front, ready_then, owed_soon}
+use Rattle.sdh_owed.proofs.Soon.{RestoredSoon, happens_front, ready_then, followed_then, owed_soon, joined_soon}
 use Rattle.sdh_owed.proofs.Standing.{Stands, whole, stretch_to, changed_then, settled_then, stands_new}
 use Rattle.sdh_owed.specs.Course.{stretch, HaveCondition, IsLeftOff, WentThrough, AreSentAlike, HasSent, NoneEverMeetsAStranger}
-use Rattle.sdh_owed.specs.Course.{AllIsOwedSoon, HasCourse, CoursesAreTold}
+use Rattle.sdh_owed.specs.Course.{AllIsOwedSoon, TrafficIsOwedSoon, HasCourse, CoursesAreTold}
 
 -- ---- stretches one after the other
 
@@ -298,7 +298,10 @@ module _ (s : Settings) (ids : List ℕ) (circuits : Provisioning) (f : Fibres) 
         let ready =
         ready_then s ids circuits f may earlier last later (subst (MayHappen from) is happens) (subst (EndQuietly from) is quiet) in
         elim old [
-          | inl late ↦ none_old_then s ids circuits f may form still law earlier last happened ended ready t age low late.0 late.1
+          | inl soon ↦ elim soon.1 [
+            | inl unheld ↦ none_old_unheld s ids circuits f may form still law earlier last happened ended ready t age low soon.0 unheld
+            | inr late ↦ none_old_then s ids circuits f may form still law earlier last happened ended ready t age low soon.0 late
+          ]
           | inr any ↦ none_old s ids circuits f may form still law earlier last happened ended ready t age low any.0 any.1
         ]
 
@@ -308,7 +311,19 @@ module _ (s : Settings) (ids : List ℕ) (circuits : Provisioning) (f : Fibres) 
         owed_soon s ids circuits f may form earlier last k
         (happens_cut earlier last (same ++ later) k from (subst (MayHappen from) front happens))
         (ready_then s ids circuits f may earlier last (same ++ later) (subst (MayHappen from) front happens)
+        (subst (EndQuietly from) front quiet))
+        (followed_then s ids circuits f may laws form earlier last (same ++ later) (subst (MayHappen from) front happens)
         (subst (EndQuietly from) front quiet)) laws late
+
+    traffic : RestoredSoon → TrafficIsOwedSoon from ring ss
+    traffic laws earlier same later last is still none k few index c get e joined enough =
+        let front : ss ≡ earlier ++ last ∷ (same ++ later) = is in
+        joined_soon s ids circuits f may form earlier last k
+        (happens_cut earlier last (same ++ later) k from (subst (MayHappen from) front happens))
+        (ready_then s ids circuits f may earlier last (same ++ later) (subst (MayHappen from) front happens)
+        (subst (EndQuietly from) front quiet))
+        (followed_then s ids circuits f may laws form earlier last (same ++ later) (subst (MayHappen from) front happens)
+        (subst (EndQuietly from) front quiet)) laws none index c get e joined enough
 
 pub courses_are_told : StillRingsAreSettled → AHoldSpoilsItsOwnStepAlone → RestoredSoon → CoursesAreTold
 courses_are_told still_law strangers_law soon_laws s ids circuits f may form limit past steps each reports end left x =
@@ -322,6 +337,7 @@ courses_are_told still_law strangers_law soon_laws s ids circuits f may form lim
       strangers = strangers s ids circuits f may form goes.stretches goes.happens goes.quiet strangers_law;
       recent = recent s ids circuits f may form goes.stretches goes.happens goes.quiet still_law strangers_law;
       soon = soon s ids circuits f may form goes.stretches goes.happens goes.quiet soon_laws;
+      traffic = traffic s ids circuits f may form goes.stretches goes.happens goes.quiet soon_laws;
     }
 
 -- ---- without fibres
@@ -342,4 +358,5 @@ none_ran w ring limit steps reports end left none is unmade sent = record {
   strangers = λ earlier later last front holds t low. none_last earlier last later _ front;
   recent = λ earlier later last front t age low old. none_last earlier last later _ front;
   soon = λ earlier same later last front still k late few. none_last earlier last (same ++ later) _ front;
+  traffic = λ earlier same later last front still none k few index c get e joined enough. none_last earlier last (same ++ later) _ front;
 }

@@ -1,5 +1,5 @@
 -- A ring of three after slips, a cut span and a held controller.
-use Rattle.std.proofs.Common.{◌≡◌, ℕ, suc, ◌-◌, ◌<◌, ◌≤◌, Bool, true, false, Option, List, [], ◌∷◌, ◌++◌, length, refl, ap, sym, ◌∙◌}
+use Rattle.std.proofs.Common.{◌≡◌, ℕ, ◌+◌, suc, ◌-◌, ◌<◌, ◌≤◌, Bool, true, false, Option, List, [], ◌∷◌, ◌++◌, length, refl, ap, sym, ◌∙◌}
 use Rattle.std.proofs.Common.{subst, arith, inl, inr}
 use Rattle.std.specs.Prelude.{◌||◌, nat_lt, if◌then◌else◌, option_map}
 use Rattle.std.proofs.lemmas.Bool.Decides.{nat_tests}
@@ -36,8 +36,8 @@ use Rattle.sdh_laws.specs.Converging.Rings.{settings, three, one_circuit, ARingO
 use Rattle.sdh_owed.specs.Course.{stretch, IsLate}
 use Rattle.sdh_owed.specs.Strangers.{IsOldest}
 use Rattle.sdh_owed.specs.Occurring.{slipping, cutting, holding, ring_of_three, three_over, IsOwedBehind, ThreeAreOwedSoon}
-use Rattle.sdh_owed.specs.Occurring.{cutting_held, mending_held, GetsItsOwn, ThreeGetTheirOwn, ThreeMeetNoStrangers}
-use Rattle.sdh_owed.proofs.Soon.{RestoredSoon, ready_new, owed_soon}
+use Rattle.sdh_owed.specs.Occurring.{cutting_held, mending, mending_held, GetsItsOwn, ThreeGetTheirOwn, ThreeMeetNoStrangers}
+use Rattle.sdh_owed.proofs.Soon.{RestoredSoon, ready_new, followed_new, owed_soon}
 use Rattle.sdh_owed.proofs.Course.{strangers, recent}
 
 module _ (occurs : ARingOccurs) (laws : RestoredSoon) (f : Fibres) (honest : IsHonest f) where
@@ -47,15 +47,15 @@ module _ (occurs : ARingOccurs) (laws : RestoredSoon) (f : Fibres) (honest : IsH
     happens = happens;
     late = late;
     shows = owed_soon settings three one_circuit f (occurs f honest).may (occurs f honest).circuits [] (stretch changes k) k happens
-        (ready_new settings three one_circuit f) laws late;
+        (ready_new settings three one_circuit f) (followed_new settings three one_circuit f (occurs f honest).may laws) laws late;
   }
 
 pub three_are_owed_soon : ARingOccurs → RestoredSoon → ThreeAreOwedSoon
 three_are_owed_soon occurs laws f honest = record {
   slips = owed_behind occurs laws f honest slipping 85 (((occurs f honest).happen.0.0, tt), tt)
-      (inl ((tt, tt), omega arith, inr (omega arith)));
-  cut = owed_behind occurs laws f honest cutting 38 ((tt, (tt, tt)), tt) (inl ((tt, (tt, tt)), omega arith, inl (tt, (tt, tt))));
-  hold = owed_behind occurs laws f honest holding 138 ((omega arith, tt), tt) (inr (omega arith));
+      (inr (inl ((tt, tt), omega arith, omega arith)));
+  cut = owed_behind occurs laws f honest cutting 28 ((tt, (tt, tt)), tt) (inl ((tt, (tt, tt)), omega arith));
+  hold = owed_behind occurs laws f honest holding 35 ((omega arith, tt), tt) (inl ((tt, tt), omega arith));
 }
 
 -- ---- a node beside a span that is cut is switched
@@ -163,13 +163,17 @@ module _ (occurs : ARingOccurs) (still : StillRingsAreSettled) (spoils : AHoldSp
 
   pub got : ThreeGetTheirOwn f
   got = record {
-    cut = λ t low. gets [] (stretch cutting_held 64) happens_cut tt cut_held t 41 low (inr (refl, cut_held));
-    cut_later = λ t late low. gets [] (stretch cutting_held 64) happens_cut tt cut_held t 12 low (inl (refl, late));
+    cut = λ t low. gets [] (stretch cutting_held 64) happens_cut tt cut_held t 32 low (inr (refl, cut_held));
+    cut_later = λ t late low. gets [] (stretch cutting_held 64) happens_cut tt cut_held t 3 low
+        (inl (refl, inr (let z : 26 ≤ t + 3 = omega arith in z)));
+    cut_unheld = λ t low. gets [] (stretch cutting 64) ((tt, (tt, tt)), tt) tt (tt, (tt, tt)) t 3 low (inl (refl, inl (tt, (tt, tt))));
     rounds = ends;
-    mended = λ t low. gets (stretch cutting ends ∷ []) (stretch mending_held 64) happens_mended (window, tt) mended_held t 41 low
+    mended = λ t low. gets (stretch cutting ends ∷ []) (stretch mending_held 64) happens_mended (window, tt) mended_held t 32 low
         (inr (refl, mended_held));
-    mended_later = λ t late low. gets (stretch cutting ends ∷ []) (stretch mending_held 64) happens_mended (window, tt) mended_held t 12 low
-        (inl (refl, late));
+    mended_later = λ t late low. gets (stretch cutting ends ∷ []) (stretch mending_held 64) happens_mended (window, tt) mended_held t 3 low
+        (inl (refl, inr (let z : 26 ≤ t + 3 = omega arith in z)));
+    mended_unheld = λ t low. gets (stretch cutting ends ∷ []) (stretch mending 64) ((tt, (tt, tt)), ((tt, (tt, tt)), tt)) (window, tt)
+        (tt, (tt, tt)) t 3 low (inl (refl, inl (tt, (tt, tt))));
   }
 
 pub three_meet_no_strangers : ARingOccurs → StillRingsAreSettled → AHoldSpoilsItsOwnStepAlone → WindowsComeSoon → ThreeMeetNoStrangers

@@ -4,7 +4,6 @@ use Rattle.std.proofs.Common.{sym, ◌∙◌, subst, arith, inl, inr, append_ass
 use Rattle.std.specs.Prelude.{nat_lt, if◌then◌else◌, slice_get, ◌%◌}
 use Rattle.std.proofs.lemmas.Bool.{cases_lt}
 use Rattle.std.proofs.lemmas.Bool.Decides.{nat_tests}
-use Rattle.std.proofs.lemmas.Nat.{mul-le}
 use Rattle.sdh_frame.specs.Aus.{Au}
 use Rattle.sdh_circuits.specs.Provisioned.{Provisioned, customer_at}
 use Rattle.sdh_circuits.specs.Provisioning.{Provisioning}
@@ -23,33 +22,37 @@ use Rattle.sdh_world.specs.Changes.{all_changed, after_stretches, new_world}
 use Rattle.sdh_world.specs.Clocks.{clocks_by}
 use Rattle.sdh_world.specs.Laws.{MayHappen}
 use Rattle.sdh_world.specs.Sides.{world_in}
-use Rattle.sdh_promise.specs.Changes.{Stretch, rounds_in}
+use Rattle.sdh_promise.specs.Changes.{Change, Stretch, rounds_in}
+use Rattle.sdh_promise.specs.Changes.{Fibre, Order, Hold, Slip, Now}
 use Rattle.sdh_laws.specs.Hearing.Laws.{IsWhole, MayStart}
 use Rattle.sdh_laws.specs.Carrying.Windows.{layout_in, layout_of, HasCircuits}
 use Rattle.sdh_laws.specs.Strangers.Owners.{other_port, put_by, HasBytesOf, Holds, MeetsNoStranger, NoneMeetsAStranger, AreClocksOf}
 use Rattle.sdh_laws.specs.Strangers.Owners as owner
 use Rattle.sdh_laws.specs.Strangers.Vouched.{IsVouched}
-use Rattle.sdh_laws.specs.Strangers.Laws.{HoldNonePassing, EndQuietly, AHoldSpoilsItsOwnStepAlone}
+use Rattle.sdh_laws.specs.Strangers.Laws.{HoldsNone, HoldNone, HoldsNonePassing, HoldNonePassing, EndQuietly, AHoldSpoilsItsOwnStepAlone}
 use Rattle.sdh_laws.proofs.hearing.Changes.{whole_run}
 use Rattle.sdh_laws.proofs.hearing.Requests.{whole_last, after_last}
-use Rattle.sdh_laws.proofs.hearing.Staying.{left_all, left_run, left_stretches, world_low}
+use Rattle.sdh_laws.proofs.hearing.Staying.{left_all, left_run, left_stretches, world_low, world_later}
 use Rattle.sdh_laws.proofs.carrying.Settles.{layout_all, layout_stretches}
 use Rattle.sdh_laws.proofs.carrying.Ways.{layout_run}
 use Rattle.sdh_laws.proofs.converging.Runs.{run_more}
 use Rattle.sdh_laws.proofs.strangers.Keeping.{rounds_together, happens_in_parts, world_behind}
 use Rattle.sdh_laws.proofs.strangers.Quiet.{safe_in}
-use Rattle.sdh_laws.proofs.strangers.Runs.{tells, rings_come_to_be_vouched_for}
+use Rattle.sdh_laws.proofs.strangers.Runs.{tells, strangers_are_gone_soon, nothing_comes_late}
 use Rattle.sdh_laws.proofs.strangers.Safe.{IsSafe, safe_of, safe_ready}
-use Rattle.sdh_laws.proofs.strangers.Vouched.{ready_aside, none_meets}
+use Rattle.sdh_laws.proofs.strangers.Vouched.{none_meets}
 use Rattle.sdh_laws.proofs.strangers.Shields.{AllShielded}
 use Rattle.sdh_laws.proofs.strangers.Windows.{window_vouched, window_shields}
-use Rattle.sdh_owed.specs.Strangers.{HoldsSince, MeetsNoStrangerSince, NoneMeetsAStrangerSince, longest_hold}
-use Rattle.sdh_owed.specs.Strangers as since
+use Rattle.sdh_laws.specs.Strangers.Ages.{HoldsSince, MeetsNoStrangerSince, NoneMeetsAStrangerSince}
+use Rattle.sdh_laws.specs.Strangers.Ages as since
+use Rattle.sdh_owed.specs.Strangers.{longest_hold}
 use Rattle.sdh_owed.proofs.Soon.{IsReady}
 use Rattle.sdh_owed.proofs.Holding.{held_by_all, held_beside_passing}
 use Rattle.sdh_laws.proofs.strangers.Scripts.{snoc, ends_behind}
 use Rattle.sdh_laws.proofs.hearing.Nodes.{one_more}
-use Rattle.sdh_laws.proofs.hearing.Steady.{AllHeldFor, held_for_none, held_after}
+use Rattle.sdh_laws.proofs.hearing.Signalling.{calm_rounds_are_still}
+use Rattle.sdh_rounds.specs.Runs as any_run
+use Rattle.sdh_laws.proofs.hearing.Steady.{AllHeldFor, held_for_none}
 
 -- ---- clocks that aren't known before a round
 
@@ -198,25 +201,12 @@ module _ (s : Settings) (ids : List ℕ) (circuits : Provisioning) (f : Fibres) 
 
   module _ (earlier : List Stretch) (last : Stretch) (happens : MayHappen from (earlier ++ last ∷ []))
       (ready : IsReady (after_stretches earlier from)) (t : ℕ) (low : t < last.rounds)
-      (long : longest_hold last.changes + n * (n + 1) ≤ t) where
-    abbrev many : ℕ
-    many = n * (n + 1)
-
+      (long : longest_hold last.changes + 2 * n ≤ t + 3) where
     abbrev all_now : List Stretch
     all_now = earlier ++ last ∷ []
 
     abbrev begun_now : World
     begun_now = all_changed last.changes (after_stretches earlier from)
-
-    -- the world `many` rounds before
-    abbrev past : World
-    past = run (t - many) begun_now
-
-    abbrev oldest : ℕ
-    oldest = rounds_in earlier + (t - many)
-
-    abbrev known_now : PortId → ℕ → Clock
-    known_now = clocks_since oldest (clocks_by circuits.circuits all_now)
 
     abbrev longest : ℕ
     longest = longest_hold last.changes
@@ -226,47 +216,31 @@ module _ (s : Settings) (ids : List ℕ) (circuits : Provisioning) (f : Fibres) 
         held_by_all longest last.changes (after_stretches earlier from) (le_refl longest)
         (held_for_none longest (after_stretches earlier from) ready.free)
 
-    whole_now : IsWhole begun_now
-    whole_now = whole_begun earlier last [] all_now refl happens
-
-    free_then : AllHeldFor 0 past
-    free_then p h = (let few = held_after begun_now whole_now longest held_now (t - many) p h in omega (arith, few, long))
-
-    run_on : (j : ℕ) → run j past ≡ run (j + (t - many)) begun_now
-    run_on j = run_more begun_now (t - many) j
-
     abbrev alone : List Stretch
-    alone = record { changes = []; rounds = many + 1 } ∷ []
+    alone = record { changes = []; rounds = last.rounds } ∷ []
 
-    world_on : (j : ℕ) → j < many + 1 → world_in alone past j ≡ run (j + (t - many)) begun_now
-    world_on j few = world_low (record { changes = []; rounds = many + 1 }) [] past j few ∙ run_on j
+    world_on : (j : ℕ) → j < last.rounds → world_in alone begun_now j ≡ run j begun_now
+    world_on j few = world_low (record { changes = []; rounds = last.rounds }) [] begun_now j few
 
-    told_now : (j : ℕ) → j < rounds_in alone → AreClocksOf known_now (world_in alone past j).ring
+    told_now : (j : ℕ) → j < rounds_in alone → AreClocksOf (clocks_by circuits.circuits all_now) (world_in alone begun_now j).ring
     told_now j few =
-        subst (λ (v : World). AreClocksOf known_now v.ring) (sym (world_on j (omega arith)))
-        (tells_since oldest (clocks_by circuits.circuits all_now) (run (j + (t - many)) begun_now).ring
-        (omega (arith, rounds_at earlier last [] all_now refl happens (j + (t - many))))
-        (told_at earlier last [] all_now refl happens (j + (t - many)) (omega (arith, low, long))))
+        subst (λ (v : World). AreClocksOf (clocks_by circuits.circuits all_now) v.ring) (sym (world_on j (omega arith)))
+        (told_at earlier last [] all_now refl happens j (omega arith))
 
-    vouched_now : IsVouched known_now (run t begun_now)
-    vouched_now =
-        let there : world_in alone past many ≡ run t begun_now =
-        world_on many (omega arith) ∙ ap (λ i. run i begun_now) (let e : many + (t - many) ≡ t = omega (arith, long) in e) in
-        let size : length past.ring.ids ≡ n = size_at earlier last [] all_now refl happens (t - many) in
-        subst (IsVouched known_now) there (rings_come_to_be_vouched_for 0 past alone known_now (whole_run begun_now (t - many) whole_now)
-        (form_at earlier last [] all_now refl happens (t - many)) free_then (tt, tt) (tt, tt) told_now many (subst (λ (m : ℕ). 0 + m * (m + 1) ≤ many) (sym size) (omega arith)) (omega arith))
+    size_now : length begun_now.ring.ids ≡ n
+    size_now = ap (λ (l : List ℕ). length l) (sym (left_run 0 begun_now).ids) ∙ size_at earlier last [] all_now refl happens 0
 
-    pub recent_long : NoneMeetsAStrangerSince oldest (clocks_by circuits.circuits all_now) (round (world_in all_now from (rounds_in earlier + t))).ring
+    pub recent_long : NoneMeetsAStrangerSince (rounds_in earlier + t + 3 - 2 * n) (clocks_by circuits.circuits all_now)
+        (round (world_in all_now from (rounds_in earlier + t))).ring
     recent_long =
-        let here = form_at earlier last [] all_now refl happens t in
-        let some : 1 * 1 ≤ n * (n + 1) =
-        mul-le 1 1 n (n + 1) (omega (arith, may.ids_ok.enough)) (omega arith) in
-        let after : (oldest ≡ 0) ⊎ (oldest < (round (run t begun_now)).ring.rounds - 1) =
-        inr (omega (arith, one_more (run t begun_now), rounds_at earlier last [] all_now refl happens t, some, long)) in
-        subst (λ (v : World). NoneMeetsAStrangerSince oldest (clocks_by circuits.circuits all_now) (round v).ring)
-        (sym (world_at earlier last [] all_now refl happens t low))
-        (none_since oldest (clocks_by circuits.circuits all_now) (round (run t begun_now)).ring after
-        (none_meets known_now (run t begun_now) here (ready_aside known_now (run t begun_now) here vouched_now)))
+        let number : begun_now.ring.rounds + t + 3 - 2 * length begun_now.ring.ids ≡ rounds_in earlier + t + 3 - 2 * n =
+        omega (arith, size_now, (left_run 0 begun_now).rounds, rounds_at earlier last [] all_now refl happens 0) in
+        subst (λ (v : World). NoneMeetsAStrangerSince (rounds_in earlier + t + 3 - 2 * n) (clocks_by circuits.circuits all_now) (round v).ring)
+        (world_on t low ∙ sym (world_at earlier last [] all_now refl happens t low))
+        (subst (λ i. NoneMeetsAStrangerSince i (clocks_by circuits.circuits all_now) (round (world_in alone begun_now t)).ring) number
+        (strangers_are_gone_soon longest begun_now alone (clocks_by circuits.circuits all_now) (whole_begun earlier last [] all_now refl happens)
+        (form_begun earlier last [] all_now refl happens) held_now (tt, tt) (tt, tt) told_now t (omega (arith, long, size_now))
+        (omega (arith, low))))
 
   -- ---- a stretch after a quiet window
 
@@ -398,7 +372,81 @@ module _ (s : Settings) (ids : List ℕ) (circuits : Provisioning) (f : Fibres) 
         (none_since opening (clocks_by circuits.circuits all_next) (round now).ring after
         (none_meets known_next now form_now (safe_ready known_next now form_now (safe_at t low) (told_in t (omega (arith, low)))))))
 
+    -- ---- where its changes hold no controller
+
+    module _ (unheld : HoldNone next.changes) where
+      -- no controller missed a turn in the window
+      free_then : AllHeldFor 0 opened
+      unfolding any_run.run
+      free_then =
+          held_for_none 0 opened (calm_rounds_are_still opened whole_then
+          (window_then.calm 1 (let z = ap (λ (v : World). length v.ring.ids) until_now ∙ size_prev prev.rounds in omega (arith, z))
+          (omega (arith, may.ids_ok.enough)))).free
+
+      abbrev waiting : Stretch
+      waiting = record { changes = []; rounds = 3 * n }
+
+      abbrev since_opened : List Stretch
+      since_opened = waiting ∷ next ∷ []
+
+      later_now : (j : ℕ) → world_in since_opened opened (3 * n + j) ≡ world_in (next ∷ []) closed j
+      later_now j = world_later waiting (next ∷ []) opened j ∙ ap (λ (v : World). world_in (next ∷ []) v j) until_now
+
+      told_within : (j : ℕ) → j < 3 * n → AreClocksOf (clocks_by circuits.circuits all_next) (world_in since_opened opened j).ring
+      told_within j few =
+          subst (λ (v : World). AreClocksOf (clocks_by circuits.circuits all_next) v.ring)
+          (sym (world_low waiting (next ∷ []) opened j few ∙ run_more begun_prev lead j))
+          (told_at before prev (next ∷ []) all_next parted_so happens_prev (j + lead) (omega (arith, few, long_prev)))
+
+      told_behind : (j : ℕ) → j < next.rounds → AreClocksOf (clocks_by circuits.circuits all_next) (world_in since_opened opened (3 * n + j)).ring
+      told_behind j few =
+          let later = before ++ prev ∷ [] in
+          subst (λ (v : World). AreClocksOf (clocks_by circuits.circuits all_next) v.ring)
+          (ap (run j) same_start ∙ sym (later_now j ∙ world_low next [] closed j few))
+          (told_at later next [] all_next refl happens j few)
+
+      told_all : (j : ℕ) → j < rounds_in since_opened → AreClocksOf (clocks_by circuits.circuits all_next) (world_in since_opened opened j).ring
+      told_all j few = elim (cases_lt j (3 * n)) [
+        | inl low ↦ told_within j low
+        | inr high ↦ subst (λ i. AreClocksOf (clocks_by circuits.circuits all_next) (world_in since_opened opened i).ring)
+            (let e : 3 * n + (j - 3 * n) ≡ j = omega (arith, high) in e) (told_behind (j - 3 * n) (omega (arith, few, high)))
+      ]
+
+      pub recent_unheld : (t : ℕ) → t < next.rounds
+          → NoneMeetsAStrangerSince (rounds_in (before ++ prev ∷ []) + t + 3 - 2 * n) (clocks_by circuits.circuits all_next)
+          (round (world_in all_next from (rounds_in (before ++ prev ∷ []) + t))).ring
+      recent_unheld t low =
+          let later = before ++ prev ∷ [] in
+          let there : world_in since_opened opened (3 * n + t) ≡ world_in all_next from (rounds_in later + t) =
+          later_now t ∙ world_low next [] closed t low ∙ ap (run t) (sym same_start) ∙ sym (world_at later next [] all_next refl happens t low) in
+          let size : length opened.ring.ids ≡ n = size_prev lead in
+          let number : opened.ring.rounds + (3 * n + t) + 3 - 2 * length opened.ring.ids ≡ rounds_in later + t + 3 - 2 * n =
+          omega (
+            arith,
+            size,
+            rounds_at before prev (next ∷ []) all_next parted_so happens_prev lead,
+            rounds_together before (prev ∷ []),
+            long_prev,
+          ) in
+          subst (λ (v : World). NoneMeetsAStrangerSince (rounds_in later + t + 3 - 2 * n) (clocks_by circuits.circuits all_next) (round v).ring) there
+          (subst (λ i. NoneMeetsAStrangerSince i (clocks_by circuits.circuits all_next) (round (world_in since_opened opened (3 * n + t))).ring) number
+          (strangers_are_gone_soon 0 opened since_opened (clocks_by circuits.circuits all_next) whole_then form_then free_then
+          (tt, subst (λ (v : World). MayHappen v (next ∷ [])) (sym until_now) parts_next.1.1) (tt, (unheld, tt)) told_all (3 * n + t)
+          (omega (arith, size)) (omega (arith, low))))
+
   -- ---- any stretch
+
+  -- changes that hold no controller hold none of a node that passes traffic through
+  passes_one : (earlier : List Stretch) (c : Change) → HoldsNone c → HoldsNonePassing s.threshold s.wait n earlier c
+  passes_one earlier (Fibre p d condition) h = tt
+  passes_one earlier (Order p d command) h = tt
+  passes_one earlier (Hold p turns) h = inl h
+  passes_one earlier (Slip port turn count) h = tt
+  passes_one earlier (Now t) h = tt
+
+  passes_each : (earlier : List Stretch) (cs : List Change) → HoldNone cs → HoldNonePassing s.threshold s.wait n earlier cs
+  passes_each earlier [] h = tt
+  passes_each earlier (c ∷ cs) h = (passes_one earlier c h.0, passes_each earlier cs h.1)
 
   module _ (law : StillRingsAreSettled) (spoils : AHoldSpoilsItsOwnStepAlone) where
     abbrev Behind : List Stretch → Stretch → Type 0
@@ -422,6 +470,27 @@ module _ (s : Settings) (ids : List ℕ) (circuits : Provisioning) (f : Fibres) 
         subst (λ (ss : List Stretch). Behind ss last) (sym parted.2)
         (λ happens quiet none t low. behind_window law parted.0 parted.1 last happens quiet none t low)
 
+    -- where no controller is held
+    abbrev Unheld : List Stretch → Stretch → Type 0
+    Unheld earlier last =
+        MayHappen from (earlier ++ last ∷ []) → EndQuietly from (earlier ++ last ∷ []) → HoldNone last.changes → (t : ℕ) → t < last.rounds
+        → NoneMeetsAStrangerSince (rounds_in earlier + t + 3 - 2 * n) (clocks_by circuits.circuits (earlier ++ last ∷ []))
+        (round (world_in (earlier ++ last ∷ []) from (rounds_in earlier + t))).ring
+
+    unheld_first : (last : Stretch) → Unheld [] last
+    unheld_first last happens quiet unheld t low =
+        subst (λ i. NoneMeetsAStrangerSince (i + 3 - 2 * n) (clocks_by circuits.circuits (last ∷ [])) (round (world_in (last ∷ []) from i)).ring)
+        (let z : t ≡ 0 + t = omega arith in z)
+        (nothing_comes_late s ids circuits f (last ∷ []) may.ids_ok may.honest happens (unheld, tt) form t (omega (arith, low)))
+
+    unheld_any : (earlier : List Stretch) (last : Stretch) → Unheld earlier last
+    unheld_any [] last = unheld_first last
+    unheld_any (x ∷ earlier) last =
+        let parted = snoc x earlier in
+        subst (λ (ss : List Stretch). Unheld ss last) (sym parted.2)
+        (λ happens quiet unheld t low.
+        recent_unheld law parted.0 parted.1 last happens quiet (passes_each (parted.0 ++ parted.1 ∷ []) last.changes unheld) unheld t low)
+
     module _ (earlier : List Stretch) (last : Stretch) (happens : MayHappen from (earlier ++ last ∷ []))
         (quiet : EndQuietly from (earlier ++ last ∷ [])) (ready : IsReady (after_stretches earlier from)) (t age : ℕ) (low : t < last.rounds) where
       abbrev seen : PortId → ℕ → Clock
@@ -430,19 +499,25 @@ module _ (s : Settings) (ids : List ℕ) (circuits : Provisioning) (f : Fibres) 
       abbrev left : HeldRing
       left = (round (world_in (earlier ++ last ∷ []) from (rounds_in earlier + t))).ring
 
+      -- where no controller is held
+      pub none_old_unheld : age ≡ 2 * n - 3 → HoldNone last.changes → NoneMeetsAStrangerSince (rounds_in earlier + t - age) seen left
+      none_old_unheld is unheld =
+          none_longer (rounds_in earlier + t - age) (rounds_in earlier + t + 3 - 2 * n) seen left (omega (arith, is, may.ids_ok.enough))
+          (unheld_any earlier last happens quiet unheld t low)
+
       -- once no controller is held
-      pub none_old_then : age ≡ n * (n + 1) → longest_hold last.changes + n * (n + 1) ≤ t
+      pub none_old_then : age ≡ 2 * n - 3 → longest_hold last.changes + 2 * n ≤ t + 3
           → NoneMeetsAStrangerSince (rounds_in earlier + t - age) seen left
       none_old_then is long =
-          none_longer (rounds_in earlier + t - age) (rounds_in earlier + (t - n * (n + 1))) seen left (omega (arith, is, long))
+          none_longer (rounds_in earlier + t - age) (rounds_in earlier + t + 3 - 2 * n) seen left (omega (arith, is, long, may.ids_ok.enough))
           (recent_long earlier last happens ready t low long)
 
       -- in every round
-      pub none_old : age ≡ n * (n + 1) + 3 * n + longest_hold last.changes → HoldNonePassing s.threshold s.wait n earlier last.changes
+      pub none_old : age ≡ 5 * n - 3 + longest_hold last.changes → HoldNonePassing s.threshold s.wait n earlier last.changes
           → NoneMeetsAStrangerSince (rounds_in earlier + t - age) seen left
-      none_old is none = elim (cases_lt t (longest_hold last.changes + n * (n + 1))) [
-        | inl early ↦ none_longer (rounds_in earlier + t - age) (rounds_in earlier - 3 * n) seen left (omega (arith, is, early))
-            (in_any earlier last happens quiet none t low)
-        | inr late ↦ none_longer (rounds_in earlier + t - age) (rounds_in earlier + (t - n * (n + 1))) seen left (omega (arith, is, late))
-            (recent_long earlier last happens ready t low late)
+      none_old is none = elim (cases_lt (t + 3) (longest_hold last.changes + 2 * n)) [
+        | inl early ↦ none_longer (rounds_in earlier + t - age) (rounds_in earlier - 3 * n) seen left
+            (omega (arith, is, early, may.ids_ok.enough)) (in_any earlier last happens quiet none t low)
+        | inr late ↦ none_longer (rounds_in earlier + t - age) (rounds_in earlier + t + 3 - 2 * n) seen left
+            (omega (arith, is, late, may.ids_ok.enough)) (recent_long earlier last happens ready t low late)
       ]

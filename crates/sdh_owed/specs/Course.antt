@@ -1,10 +1,10 @@
 -- The course of a script over honest fibres: what happened in it, stretch by stretch, and what holds in its rounds,
 -- settled or not.
-use Rattle.std.specs.Prelude.{ℕ, ◌≡◌, ◌⊎◌, ◌+◌, ◌-◌, ◌*◌, ◌<◌, ◌≤◌, List, [], ◌∷◌, ◌++◌, length}
+use Rattle.std.specs.Prelude.{ℕ, ◌≡◌, ◌⊎◌, ◌+◌, ◌-◌, ◌*◌, ◌<◌, ◌≤◌, true, Some, List, [], ◌∷◌, ◌++◌, length, slice_get}
 use Rattle.sdh_circuits.specs.Provisioning.{Provisioning}
 use Rattle.sdh_plant.specs.Fibres.{Fibres, HasNoFibres}
 use Rattle.sdh_request.specs.declared.settings.Settings.{Settings}
-use Rattle.sdh_world.specs.Held.{new_ring}
+use Rattle.sdh_world.specs.Held.{new_ring, outlet_at}
 use Rattle.sdh_world.specs.Rounds.{World, round}
 use Rattle.sdh_world.specs.Runs.{IsBrokenOff}
 use Rattle.sdh_world.specs.Sides.{world_in}
@@ -22,12 +22,18 @@ use Rattle.sdh_report.specs.declared.status.Status.TheVariants as status
 use Rattle.sdh_report.specs.Reports.{Report}
 use Rattle.sdh_promise.specs.Changes.{Change, Fibre, Order, Hold, Slip, Now, Stretch, rounds_in, scenes}
 use Rattle.sdh_promise.specs.Happened.{happened}
-use Rattle.sdh_promise.specs.Owed.{Ring, requests_by, IsOwed, IsLast}
+use Rattle.sdh_promise.specs.Owed.{Ring, requests_by, owed_port, IsOwed, IsLast}
+use Rattle.sdh_restoration.specs.Applied.{is_applied}
+use Rattle.sdh_restoration.specs.Routes.{hops}
+use Rattle.sdh_ringmap.specs.Arcs.{is_joined}
+use Rattle.sdh_circuits.specs.Ends.{port_id}
+use Rattle.sdh_circuits.specs.Provisioned.{Provisioned, arc_of}
+use Rattle.sdh_circuits.specs.declared.End.{End}
 use Rattle.sdh_promise.specs.Plans.{ports_of}
 use Rattle.sdh_owed.specs.Reports.{report_of}
 use Rattle.sdh_owed.specs.Scripts.{Runs}
 use Rattle.sdh_owed.specs.Laws.{ring_by}
-use Rattle.sdh_owed.specs.Strangers.{NoneEverMeetsOldBytes}
+use Rattle.sdh_owed.specs.Strangers.{NoneEverMeetsOldBytes, longest_hold}
 
 -- ---- what happened
 
@@ -107,11 +113,13 @@ abbrev pub SlipNone : List Change → Type 0
 SlipNone [] = Unit {0}
 SlipNone (c ∷ cs) = SlipsNone c × SlipNone cs
 
--- `k` rounds after these changes are enough in a ring of n. The bound is 12n + 2 where they hold no controller and add
--- no slips. It is the larger of 12n + 2 and 8n + 61 where they hold none and add slips. A bound of 12n + 102 holds
--- whatever they are.
+-- `k` rounds after these changes are enough in a ring of n. Where they add no slips the bound is 7n + 7 and the rounds
+-- of their longest hold. It is the larger of 12n + 2 and 8n + 61 where they add slips and hold no controller. A bound of
+-- 12n + 102 holds whatever they are.
 abbrev pub IsLate : ℕ → List Change → ℕ → Type 0
-IsLate n changes k = (HoldNone changes × (12 * n + 2 ≤ k) × (SlipNone changes ⊎ (8 * n + 61 ≤ k))) ⊎ (12 * n + 102 ≤ k)
+IsLate n changes k =
+    (SlipNone changes × (7 * n + 7 + longest_hold changes ≤ k))
+    ⊎ ((HoldNone changes × (12 * n + 2 ≤ k) × (8 * n + 61 ≤ k)) ⊎ (12 * n + 102 ≤ k))
 
 -- none of these stretches has a change
 abbrev pub ChangeNothing : List Stretch → Type 0
@@ -126,6 +134,19 @@ AllIsOwedSoon w ring ss =
     → IsLate ring.nodes last.changes k → k ≤ rounds_in (last ∷ same)
     → ShowsWhatIsOwed w ring (earlier ++ stretch last.changes k ∷ [])
 
+-- A port of a circuit whose ends are joined over h hops has what it is owed sooner. It does so 4n + 11 + h rounds after
+-- changes that add no slips, and the rounds of their longest hold later where they hold a controller.
+abbrev pub TrafficIsOwedSoon : World → Ring → List Stretch → Type 0
+TrafficIsOwedSoon w ring ss =
+    (earlier same later : List Stretch) (last : Stretch) → ss ≡ earlier ++ last ∷ (same ++ later) → ChangeNothing same
+    → SlipNone last.changes → (k : ℕ) → k ≤ rounds_in (last ∷ same)
+    → (index : ℕ) (c : Provisioned) → slice_get ring.circuits index ≡ Some c → (e : End)
+    → (let now = earlier ++ stretch last.changes k ∷ [] in let t = rounds_in now - 1 in
+    let applied = is_applied (requests_by ring now t) in
+    is_joined ring.nodes applied (arc_of ring.nodes c) ≡ true
+    → 4 * ring.nodes + 11 + hops ring.nodes applied (arc_of ring.nodes c) + longest_hold last.changes ≤ k
+    → outlet_at (after_stretches now w).ring (port_id index e) ≡ (owed_port ring.nodes applied (happened now) t index c e).outlet)
+
 -- ---- the course
 
 -- What holds in each round of a script from a new ring over new honest fibres, which gave these reports, ended so, and
@@ -138,6 +159,7 @@ pub record HasCourse (w : World) (ring : Ring) (limit : ℕ) (steps : List Step)
   pub strangers : NoneEverMeetsAStranger w ring stretches
   pub recent : NoneEverMeetsOldBytes w ring stretches
   pub soon : AllIsOwedSoon w ring stretches
+  pub traffic : TrafficIsOwedSoon w ring stretches
 
 -- every script that may be run from a new ring over new honest fibres has a course
 abbrev pub CoursesAreTold : Type 0

@@ -12,12 +12,13 @@ use Rattle.sdh_world.specs.Laws.{MayHappen}
 use Rattle.sdh_world.specs.Sides.{world_in}
 use Rattle.sdh_laws.specs.Converging.Rings.{settings, three, one_circuit}
 use Rattle.sdh_laws.specs.Strangers.Owners.{NoneMeetsAStranger}
+use Rattle.sdh_laws.specs.Strangers.Ages.{NoneMeetsAStrangerSince}
 use Rattle.sdh_laws.specs.Strangers.Laws.{HoldNonePassing, EndQuietly}
 use Rattle.sdh_promise.specs.Changes.{Change, Fibre, Hold, Slip, Stretch, rounds_in}
 use Rattle.sdh_promise.specs.Owed.{Ring}
 use Rattle.sdh_owed.specs.Laws.{ring_by}
 use Rattle.sdh_owed.specs.Course.{stretch, IsLate, ShowsWhatIsOwed}
-use Rattle.sdh_owed.specs.Strangers.{NoneMeetsAStrangerSince, IsOldest}
+use Rattle.sdh_owed.specs.Strangers.{IsOldest}
 
 -- the clock of a customer slips three times
 abbrev pub slipping : List Change
@@ -44,11 +45,11 @@ pub record IsOwedBehind (f : Fibres) (changes : List Change) (k : ℕ) : Type 0 
   pub late : IsLate (length three) changes k
   pub shows : ShowsWhatIsOwed (three_over f) ring_of_three (stretch changes k ∷ [])
 
--- each port shows what it is owed 8n + 61 rounds after the slips, 12n + 2 after the cut, and 12n + 102 after the hold
+-- each port shows what it is owed 8n + 61 rounds after the slips, 7n + 7 after the cut, and 7n + 14 after the hold
 pub record ThreeAreOwed (f : Fibres) : Type 0 where
   pub slips : IsOwedBehind f slipping 85
-  pub cut : IsOwedBehind f cutting 38
-  pub hold : IsOwedBehind f holding 138
+  pub cut : IsOwedBehind f cutting 28
+  pub hold : IsOwedBehind f holding 35
 
 abbrev pub ThreeAreOwedSoon : Type 0
 ThreeAreOwedSoon = (f : Fibres) → IsHonest f → ThreeAreOwed f
@@ -63,6 +64,10 @@ cutting_held = Slip (record { circuit = 0; end = A }) Up 3 ∷ Fibre 0 East Cut 
 -- the span is mended, while the controller of the first node, which is switched away from it, misses twenty rounds
 abbrev pub mending_held : List Change
 mending_held = Hold 0 20 ∷ Fibre 0 East Clear ∷ Fibre 1 West Clear ∷ []
+
+-- the span is mended, and no controller is held
+abbrev pub mending : List Change
+mending = Fibre 0 East Clear ∷ Fibre 1 West Clear ∷ []
 
 -- These stretches may happen to the ring, and each but the last ends with a quiet window. The changes of the last one
 -- hold no node that passes traffic through, and `age` is the bound for its round t. So in this round no port meets a
@@ -79,14 +84,17 @@ pub record GetsItsOwn (f : Fibres) (earlier : List Stretch) (last : Stretch) (t 
       (round (world_in now (three_over f) (rounds_in earlier + t))).ring)
 
 -- No port meets a stranger in the 64 rounds after the span is cut in a new ring. Nor does one in the 64 rounds after
--- the span is mended, where a quiet window came before. Bytes that come are at most 41 rounds old: n(n + 1), 3n and the
--- hold. From round 32 on they are at most 12 rounds old, which is n(n + 1).
+-- the span is mended, where a quiet window came before. Bytes that come are at most 32 rounds old: 5n - 3 and the hold.
+-- From round 23 on they are at most 3 rounds old, which is 2n - 3. Where no controller is held they are so in every
+-- round.
 pub record ThreeGetTheirOwn (f : Fibres) : Type 0 where
-  pub cut : (t : ℕ) → t < 64 → GetsItsOwn f [] (stretch cutting_held 64) t 41
-  pub cut_later : (t : ℕ) → 32 ≤ t → t < 64 → GetsItsOwn f [] (stretch cutting_held 64) t 12
+  pub cut : (t : ℕ) → t < 64 → GetsItsOwn f [] (stretch cutting_held 64) t 32
+  pub cut_later : (t : ℕ) → 23 ≤ t → t < 64 → GetsItsOwn f [] (stretch cutting_held 64) t 3
+  pub cut_unheld : (t : ℕ) → t < 64 → GetsItsOwn f [] (stretch cutting 64) t 3
   pub rounds : ℕ
-  pub mended : (t : ℕ) → t < 64 → GetsItsOwn f (stretch cutting rounds ∷ []) (stretch mending_held 64) t 41
-  pub mended_later : (t : ℕ) → 32 ≤ t → t < 64 → GetsItsOwn f (stretch cutting rounds ∷ []) (stretch mending_held 64) t 12
+  pub mended : (t : ℕ) → t < 64 → GetsItsOwn f (stretch cutting rounds ∷ []) (stretch mending_held 64) t 32
+  pub mended_later : (t : ℕ) → 23 ≤ t → t < 64 → GetsItsOwn f (stretch cutting rounds ∷ []) (stretch mending_held 64) t 3
+  pub mended_unheld : (t : ℕ) → t < 64 → GetsItsOwn f (stretch cutting rounds ∷ []) (stretch mending 64) t 3
 
 abbrev pub ThreeMeetNoStrangers : Type 0
 ThreeMeetNoStrangers = (f : Fibres) → IsHonest f → ThreeGetTheirOwn f

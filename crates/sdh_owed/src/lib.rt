@@ -35,7 +35,7 @@ pub fn healthy_scripts()
 
 /// Over honest fibres each script from a new ring on has a course, however it ends. No port meets a stranger, nor bytes
 /// of long ago, in a settle step right before which no controller of a node that passes traffic through is held.
-/// In any other settle step none does from n(n + 1) rounds after the step's longest hold on. Soon after the last
+/// In any other settle step none does from 2n - 3 rounds after the step's longest hold on. Soon after the last
 /// changes all ports have what they are owed.
 pub fn courses_are_told()
     ensures { CoursesAreTold }
@@ -44,7 +44,11 @@ pub fn courses_are_told()
     sdh_laws::strangers::a_hold_spoils_its_own_step_alone();
     sdh_laws::restoring::stretches_are_restored_soon();
     sdh_laws::restoring::free_rings_are_restored_soon();
-    sdh_laws::restoring::unslipped_rings_are_restored_soon();
+    sdh_laws::restoring::held_followed_rings_are_restored_soon();
+    sdh_laws::restoring::followed_ports_are_owed_soon();
+    sdh_laws::restoring::new_rings_are_followed();
+    sdh_laws::restoring::changes_keep_followed();
+    sdh_laws::restoring::windows_leave_followed();
 }
 
 /// Over a plant that reports its frames, the reports of a script that came to its end say how many were sent.
@@ -60,7 +64,11 @@ pub fn three_are_owed_soon()
     sdh_laws::converging::a_ring_occurs();
     sdh_laws::restoring::stretches_are_restored_soon();
     sdh_laws::restoring::free_rings_are_restored_soon();
-    sdh_laws::restoring::unslipped_rings_are_restored_soon();
+    sdh_laws::restoring::held_followed_rings_are_restored_soon();
+    sdh_laws::restoring::followed_ports_are_owed_soon();
+    sdh_laws::restoring::new_rings_are_followed();
+    sdh_laws::restoring::changes_keep_followed();
+    sdh_laws::restoring::windows_leave_followed();
 }
 
 /// In a ring of three over honest fibres no port meets a stranger, nor bytes of long ago, while a span is cut or mended

@@ -19,8 +19,9 @@ use Rattle.sdh_laws.specs.Carrying.Windows.{layout_in, HasCircuits}
 use Rattle.sdh_laws.specs.Carrying.Laws.{SettledRingsAreRestored}
 use Rattle.sdh_laws.specs.Resting.Laws.{StepsLeaveAtRest}
 use Rattle.sdh_laws.specs.Restoring.Laws.{UnsettledRingsAreRestored}
+use Rattle.sdh_laws.specs.Restoring.Followed.{UnsettledFollowedRingsAreRestored, StepsLeaveFollowed}
 use Rattle.sdh_laws.specs.Converging.Laws.{StepsAnswer}
-use Rattle.sdh_laws.specs.Strangers.Laws.{StepsKeepStrangersOut}
+use Rattle.sdh_laws.specs.Strangers.Laws.{StepsKeepStrangersOut, StepsDeliverRecentBytes}
 use Rattle.sdh_ring.specs.Promises.{KeepsPromises}
 use Rattle.sdh_ring.proofs.Breaking.{breaks_step, went_by}
 
@@ -39,8 +40,11 @@ pub record StepLaws : Type 0 where
   pub restored : SettledRingsAreRestored
   pub rests : StepsLeaveAtRest
   pub soon : UnsettledRingsAreRestored
+  pub sooner : UnsettledFollowedRingsAreRestored
+  pub followed : StepsLeaveFollowed
   pub answers : StepsAnswer
   pub strangers : StepsKeepStrangersOut
+  pub recent : StepsDeliverRecentBytes
 
 pub promises_kept : StepLaws → (w left : World) (limit : ℕ) (result : Result (Unit {0}) SettleError) → HasCircuits (layout_in w.ring)
     → ((port : PortId) → HasPortIn w.ring port → IsRested (clock_at w.ring port)) → Outcome adm w limit result left
@@ -50,8 +54,11 @@ promises_kept laws w left limit (Ok u) fit rested s broke = record {
   slips = λ port long. none_left w left limit port s (rested port) long;
   restored = laws.restored w left limit fit s;
   soon = λ e. absurd (cc);
+  sooner = λ e. absurd (cc);
+  followed = laws.followed w left limit fit s;
   rests = laws.rests w left limit fit s;
   strangers = λ _. laws.strangers.settled w left limit fit s;
+  recent = λ _. laws.recent.settled w left limit fit s;
   answers = λ whole large e. cc;
   clocks = λ _ port there. went_by s.rounds w left port s.left_is there;
   broken_clocks = λ e. absurd (cc);
@@ -61,8 +68,11 @@ promises_kept laws w left limit (Err Unsettled) fit rested s broke = record {
   slips = tt;
   restored = tt;
   soon = λ _. laws.soon w left limit fit s;
+  sooner = λ _. laws.sooner w left limit fit s;
+  followed = tt;
   rests = tt;
   strangers = λ _. laws.strangers.unsettled w left limit fit s;
+  recent = λ _. laws.recent.unsettled w left limit fit s;
   answers = λ whole large _. laws.answers w left limit fit whole large s;
   clocks = λ _ port there. went_by s.rounds w left port s.left_is there;
   broken_clocks = λ e. absurd (cc);
@@ -72,8 +82,11 @@ promises_kept laws w left limit (Err PlantFault) fit rested s broke = record {
   slips = tt;
   restored = tt;
   soon = λ e. absurd (cc);
+  sooner = λ e. absurd (cc);
+  followed = tt;
   rests = tt;
   strangers = λ no. absurd (no refl);
+  recent = λ no. absurd (no refl);
   answers = λ whole large e. cc;
   clocks = λ no port there. absurd (no refl);
   broken_clocks = λ e. breaks_step w left limit (broke e);

@@ -9,8 +9,9 @@ use Rattle.sdh_world.specs.Rounds.{World}
 use Rattle.sdh_laws.specs.Hearing.Laws.{IsWhole}
 use Rattle.sdh_laws.specs.Carrying.Laws.{Restores}
 use Rattle.sdh_laws.specs.Resting.Laws.{LeavesAtRest}
+use Rattle.sdh_laws.specs.Restoring.Followed.{RestoresFollowedBy, LeavesFollowed}
 use Rattle.sdh_laws.specs.Restoring.Laws.{RestoresBy}
-use Rattle.sdh_laws.specs.Strangers.Laws.{KeepsStrangersOutInAll}
+use Rattle.sdh_laws.specs.Strangers.Laws.{KeepsStrangersOutInAll, DeliversRecentBytes}
 use Rattle.sdh_ring.specs.Faults.{BreaksStep}
 
 pub record KeepsPromises (w : World) (limit : ℕ) (result : Result (Unit {0}) SettleError) (left : World) : Type 0 where
@@ -22,11 +23,19 @@ pub record KeepsPromises (w : World) (limit : ℕ) (result : Result (Unit {0}) S
   pub restored : OnOk result (Restores w left)
   -- the same holds after an unsettled step, if its limit is at least 12n + 102
   pub soon : result ≡ Err Unsettled → RestoresBy w limit left
+  -- and, if its limit is at least 7n + 7, where the interpreters of the ring followed the generators across their spans
+  -- (`IsFollowed` in `sdh_laws/specs/Restoring/Followed`), no controller was held and no slip waited
+  pub sooner : result ≡ Err Unsettled → RestoresFollowedBy w limit left
+  -- interpreters follow once a window ended
+  pub followed : OnOk result (LeavesFollowed w left)
   -- ring and fibres are at rest once a window ended
   pub rests : OnOk result (LeavesAtRest w left)
   -- a ring that is vouched for (`IsVouched` in `sdh_laws/specs/Strangers/Vouched`) stays so, and no port meets a
   -- stranger in any round of the step
   pub strangers : result ≢ Err PlantFault → KeepsStrangersOutInAll w left
+  -- if the ring was whole before it: once the last controller stopped missing rounds and 2n - 3 rounds more are over, no
+  -- port meets a stranger or gets bytes that are older than 2n - 3 rounds
+  pub recent : result ≢ Err PlantFault → DeliversRecentBytes w left
   -- if the ring was whole before the step, a step whose limit is at least 64n + 512 rounds (`enough_for`) is not
   -- unsettled, whatever happened before it
   pub answers : IsWhole w → enough_for (length w.ring.ids) ≤ limit → result ≢ Err Unsettled

@@ -239,8 +239,8 @@ impl Ring {
         ensures step { IsStep adm P.exact (world self.old (P.fibres plant.old)) limit result (world self.new (P.fibres plant.new))
             (P.faults plant.old) (P.faults plant.new) }
 
-        // `KeepsPromises` says when a step restores traffic, when the step keeps strangers out, and when it has to end
-        // with a window.
+        // `KeepsPromises` says when a step restores traffic, when the step keeps strangers out, from which round on it
+        // delivers recent bytes alone, and when it has to end with a window.
         ensures laws { KeepsPromises (world self.old (P.fibres plant.old)) limit result (world self.new (P.fibres plant.new)) }
     {
         self.resting().circuits_fit();
@@ -249,8 +249,11 @@ impl Ring {
         sdh_laws::carrying::settled_rings_are_restored();
         sdh_laws::resting::steps_leave_at_rest();
         sdh_laws::restoring::unsettled_rings_are_restored();
+        sdh_laws::restoring::unsettled_followed_rings_are_restored();
+        sdh_laws::restoring::steps_leave_followed();
         sdh_laws::converging::steps_answer();
         sdh_laws::strangers::steps_keep_strangers_out();
+        sdh_laws::strangers::steps_deliver_recent_bytes();
         let Some(resting) = self.resting.take() else {
             unreachable!()
         };
@@ -288,8 +291,11 @@ impl Ring {
         sdh_laws::carrying::settled_rings_are_restored();
         sdh_laws::resting::steps_leave_at_rest();
         sdh_laws::restoring::unsettled_rings_are_restored();
+        sdh_laws::restoring::unsettled_followed_rings_are_restored();
+        sdh_laws::restoring::steps_leave_followed();
         sdh_laws::converging::steps_answer();
         sdh_laws::strangers::steps_keep_strangers_out();
+        sdh_laws::strangers::steps_deliver_recent_bytes();
         sdh_rounds::settle(self, plant, limit, observer)
     }
 
@@ -334,8 +340,11 @@ impl Ring {
         sdh_laws::carrying::settled_rings_are_restored();
         sdh_laws::resting::steps_leave_at_rest();
         sdh_laws::restoring::unsettled_rings_are_restored();
+        sdh_laws::restoring::unsettled_followed_rings_are_restored();
+        sdh_laws::restoring::steps_leave_followed();
         sdh_laws::converging::steps_answer();
         sdh_laws::strangers::steps_keep_strangers_out();
+        sdh_laws::strangers::steps_deliver_recent_bytes();
         let Some(resting) = self.resting.take() else {
             unreachable!()
         };

@@ -42,7 +42,7 @@ use Rattle.sdh_laws.proofs.hearing.Changes.{whole_run, new_worlds_are_whole}
 use Rattle.sdh_laws.proofs.hearing.Requests.{whole_last, requests_last, after_last}
 use Rattle.sdh_laws.proofs.hearing.Signalling.{requests_stay, windows_are_settled}
 use Rattle.sdh_laws.specs.Carrying.Windows.{Layout, layout_of, size_of, HasCircuits, requests_of, AreSettled, FailOnApplied, IsQuiet}
-use Rattle.sdh_laws.specs.Carrying.Laws.{due_by_clocks, DeliversWhatIsDue, IsRestored, SettledRingsAreRestored, SettledRingsRestore}
+use Rattle.sdh_laws.specs.Carrying.Laws.{due_by_clocks, DeliversItsDue, IsRestored, SettledRingsAreRestored, SettledRingsRestore}
 use Rattle.sdh_laws.specs.Carrying.Laws.{RingsHaveCircuits}
 use Rattle.sdh_laws.proofs.carrying.Applied.{failures_applied, length-requests_of}
 use Rattle.sdh_laws.proofs.carrying.Owed.{quiet_delivers, port_is_there}
@@ -206,14 +206,12 @@ module _ (s : Settings) (ids : List ℕ) (circuits : Provisioning) (f : Fibres) 
         ∙ (goes_in id ss k begun (omega (arith, rounds_u, rounds_all, high)) there).1
         ∙ ap (λ c. clock_in id ss c k) (clocks_go_on.new s ids circuits id there)
 
-  -- where the last stretch had enough rounds for a window, and left the ring restored under the requests of its last
-  -- round
-  module _ (long : 3 * length u.ring.ids ≤ last.rounds) (settled_u : IsRestored (clocks_from v) u (requests_of u)) where
-    restored : IsRestored (clocks_from v) u qs
-    restored = subst (IsRestored (clocks_from v) u) (requests_last s ids circuits f earlier last may happen t many) settled_u
-
-    delivers : DeliversWhatIsDue (clocks_by circuits.circuits ss) u qs
-    delivers index c get e =
+  -- where the last stretch had enough rounds for a window
+  module _ (long : 3 * length u.ring.ids ≤ last.rounds) where
+    -- a port that delivered what it is owed by the clocks from there on did so by those of the history
+    by_history : (index : ℕ) (c : Provisioned) → slice_get u.ring.circuits.circuits index ≡ Some c → (e : End)
+        → DeliversItsDue (clocks_from v) u qs c index e → DeliversItsDue (clocks_by circuits.circuits ss) u qs c index e
+    by_history index c get e delivered =
         let n = length u.ring.ids in
         let applied = is_applied qs in
         let far = other_end e in
@@ -231,15 +229,28 @@ module _ (s : Settings) (ids : List ℕ) (circuits : Provisioning) (f : Fibres) 
         let whole_w = new_worlds_are_whole s ids circuits f may.ids_ok may.honest in
         let there = port_is_there begun whole_w index c far first inside in
         let there_v = port_is_there v whole_v index c far here (subst (λ (l : Layout). port_at c far < size_of l) (sym layout_v) inside) in
-        restored.ports index c get e
+        delivered
         ∙ due_by n applied c e (clocks_from v id) (clocks_by circuits.circuits ss id) (u.ring.rounds - 1)
         (clock_same id there there_v k (omega (arith, rounds_u, few, long, may.ids_ok.enough))
         (omega (arith, rounds_u, few, long, may.ids_ok.enough)))
 
-    pub restored_by_history : IsRestored (clocks_by circuits.circuits ss) (after_stretches ss begun) qs
-    restored_by_history =
-        subst (λ y. IsRestored (clocks_by circuits.circuits ss) y qs) (sym (after_last earlier last begun))
-        (record { states = restored.states; ports = delivers })
+    pub port_by_history : (index : ℕ) (c : Provisioned) → slice_get circuits.circuits index ≡ Some c → (e : End)
+        → DeliversItsDue (clocks_from v) u (requests_of u) c index e
+        → DeliversItsDue (clocks_by circuits.circuits ss) (after_stretches ss begun) qs c index e
+    port_by_history index c get e delivered =
+        subst (λ y. DeliversItsDue (clocks_by circuits.circuits ss) y qs c index e) (sym (after_last earlier last begun))
+        (by_history index c (ap (λ (l : Layout). slice_get l.circuits index) (layout_run v last.rounds ∙ layout_v) ∙ get) e
+        (subst (λ rs. DeliversItsDue (clocks_from v) u rs c index e) (requests_last s ids circuits f earlier last may happen t many) delivered))
+
+    -- where it left the ring restored under the requests of its last round
+    module _ (settled_u : IsRestored (clocks_from v) u (requests_of u)) where
+      restored : IsRestored (clocks_from v) u qs
+      restored = subst (IsRestored (clocks_from v) u) (requests_last s ids circuits f earlier last may happen t many) settled_u
+
+      pub restored_by_history : IsRestored (clocks_by circuits.circuits ss) (after_stretches ss begun) qs
+      restored_by_history =
+          subst (λ y. IsRestored (clocks_by circuits.circuits ss) y qs) (sym (after_last earlier last begun))
+          (record { states = restored.states; ports = λ index c get e. by_history index c get e (restored.ports index c get e) })
 
 pub stretches_restore : StillRingsAreSettled → SettledRingsRestore
 stretches_restore law s ids circuits f earlier last t may happen form ends many =

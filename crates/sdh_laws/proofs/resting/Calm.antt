@@ -92,13 +92,13 @@ module _ (law : StillRingsAreSettled) (w : World) (whole : IsWhole w) (form : Ha
 
   -- ---- what six calm rounds leave
 
-  sending_kept : (p : ℕ) (d : Side) (i j : ℕ) → p < length w.ring.nodes → j < 6 → sending_in w p d i (suc j) ≡ sending_in w p d i j
+  pub sending_kept : (p : ℕ) (d : Side) (i j : ℕ) → p < length w.ring.nodes → j < 6 → sending_in w p d i (suc j) ≡ sending_in w p d i j
   unfolding any_run.run
   sending_kept p d i j h low =
       ap (λ l. get_or l i None) (generators_on d (node_at (round (run j w)).ring.nodes p) (node_at (run j w).ring.nodes p)
       ((still_at law w whole calm j low).same p (inside_run w j p h)))
 
-  reading_kept : (p : ℕ) (d : Side) (i j : ℕ) → p < length w.ring.nodes → j < 6 → reading_in w p d i (suc j) ≡ reading_in w p d i j
+  pub reading_kept : (p : ℕ) (d : Side) (i j : ℕ) → p < length w.ring.nodes → j < 6 → reading_in w p d i (suc j) ≡ reading_in w p d i j
   unfolding any_run.run
   reading_kept p d i j h low =
       ap (λ l. get_or l i start) (readings_on d (node_at (round (run j w)).ring.nodes p) (node_at (run j w).ring.nodes p)
@@ -109,10 +109,10 @@ module _ (law : StillRingsAreSettled) (w : World) (whole : IsWhole w) (form : Ha
   reading_first p d i (suc j) h low = reading_kept p d i j h (omega arith) ∙ reading_first p d i j h (omega arith)
 
   -- the word that comes to an interpreter in round j + 1
-  abbrev behind : ℕ → Side → ℕ → ℕ → ℕ
+  abbrev pub behind : ℕ → Side → ℕ → ℕ → ℕ
   behind p d i j = word_behind (is_cut (condition_to w p d)) (word_in w (neighbour n p d) (opposite d) i j)
 
-  takes : (p : ℕ) (d : Side) (i j : ℕ) → p < n → i < many → j ≤ 6 → Takes w p d i (suc j) (behind p d i j)
+  pub takes : (p : ℕ) (d : Side) (i j : ℕ) → p < n → i < many → j ≤ 6 → Takes w p d i (suc j) (behind p d i j)
   takes p d i j h few low = interpreter_goes w whole p d i j (inside_of w whole p h) few
 
   -- ---- ports that fill an AU-4
@@ -334,7 +334,7 @@ module _ (law : StillRingsAreSettled) (w : World) (whole : IsWhole w) (form : Ha
 
   -- ---- all AU-4s
 
-  even_went : (q : ℕ) (e : Side) (i j : ℕ) → q < n → i < many → j ≤ 4
+  pub even_went : (q : ℕ) (e : Side) (i j : ℕ) → q < n → i < many → j ≤ 4
       → IsEven (went w q e (i + 1) (suc j)).action (went w q e (i + 1) (suc j)).value
   even_went q e i j h few late = elim (cases_lt half (i + 1)) [
     | inr small ↦ even_working (i + 1) (omega arith) small q j e h late
@@ -348,7 +348,7 @@ module _ (law : StillRingsAreSettled) (w : World) (whole : IsWhole w) (form : Ha
         (even_protection m one most q j e h late (all_good m one most q (protection_in n cs q (state q) e m) h)))
   ]
 
-  word_state : (q : ℕ) (e : Side) (i j : ℕ) → q < n → i < many → j ≤ 4 → word_in w q e i (suc j) ≡ state_word (sending_in w q e i (suc j))
+  pub word_state : (q : ℕ) (e : Side) (i j : ℕ) → q < n → i < many → j ≤ 4 → word_in w q e i (suc j) ≡ state_word (sending_in w q e i (suc j))
   word_state q e i j h few late =
       sends_state (sending_in w q e i (suc j)) (went w q e (i + 1) (suc j)).action (went w q e (i + 1) (suc j)).value
       (even_went q e i j h few late) (state_still q e i (suc j) h few (omega arith))
@@ -451,10 +451,10 @@ module _ (law : StillRingsAreSettled) (w : World) (whole : IsWhole w) (form : Ha
 -- ---- all later rounds are calm
 
 -- rounds a + 1 to a + 6 are calm
-abbrev SixFrom : World → ℕ → Type 0
+abbrev pub SixFrom : World → ℕ → Type 0
 SixFrom w a = (j : ℕ) → a < j → j ≤ a + 6 → IsCalm (course w) j
 
-from_there : (w : World) (a j : ℕ) → IsCalm (course w) (j + a) → IsCalm (course (run a w)) j
+pub from_there : (w : World) (a j : ℕ) → IsCalm (course w) (j + a) → IsCalm (course (run a w)) j
 from_there w a j calm = ap (λ (v : World). is_calm v.ring.nodes) (run_more w a j) ∙ calm
 
 six_more : StillRingsAreSettled → (w : World) → IsWhole w → HasCircuits (layout_of w) → (a : ℕ) → SixFrom w a → SixFrom w (suc a)

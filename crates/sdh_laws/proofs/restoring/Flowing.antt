@@ -50,7 +50,7 @@ use Rattle.sdh_spans.proofs.Sends.{ais_word}
 
 -- ---- a generator
 
-state_of : (a : Action) (v : ℕ) → is_ais_action a ≡ false → lasting_state a v ≡ Some v
+pub state_of : (a : Action) (v : ℕ) → is_ais_action a ≡ false → lasting_state a v ≡ Some v
 state_of action.Ais v e = absurd (cc)
 state_of action.Normal v e = refl
 state_of action.New v e = refl
@@ -95,7 +95,7 @@ module _ (w : World) (whole : IsWhole w) (p : ℕ) (d : Side) (i : ℕ) (inside 
   q_inside : q < length w.ring.nodes
   q_inside = neighbour_inside w whole p d
 
-  taking : (m : ℕ) → 1 ≤ m → Takes w p d i m (word_behind cut (word_in w q e i (m - 1)))
+  pub taking : (m : ℕ) → 1 ≤ m → Takes w p d i m (word_behind cut (word_in w q e i (m - 1)))
   taking m some =
       let j = m - 1 in
       let now : suc j ≡ m = omega arith in
@@ -134,10 +134,10 @@ module _ (w : World) (whole : IsWhole w) (p : ℕ) (d : Side) (i : ℕ) (inside 
         subst (Takes w p d i m) (ap (λ b. word_behind b (word_in w q e i (m - 1))) kept ∙ word_rests (m - 1) (omega arith))
         (taking m (omega arith))
 
-    abbrev At_of : Reading → Type 0
+    abbrev pub At_of : Reading → Type 0
     At_of r = IsAt word v (normal_word v small) (normal_value v small) r
 
-    abbrev At : ℕ → Type 0
+    abbrev pub At : ℕ → Type 0
     At j = At_of (reading j)
 
     at_from : (u : ℕ) → t + 2 ≤ u → At u → (k : ℕ) → At (u + k)
@@ -173,7 +173,7 @@ module _ (w : World) (whole : IsWhole w) (p : ℕ) (d : Side) (i : ℕ) (inside 
         ap (λ l. (comes l).au.payload) (sym now) ∙ one_payload m (omega arith)
 
     -- the bytes flow from round u on, if the interpreter is in Norm at the value v after round u
-    from_round : (u : ℕ) → t + 1 ≤ u → is_ais_action (comes u).action ≡ false → (comes u).value ≡ v → At (suc u)
+    pub from_round : (u : ℕ) → t + 1 ≤ u → is_ais_action (comes u).action ≡ false → (comes u).value ≡ v → At (suc u)
         → Flows comes u v (λ j. bytes (j - 1))
     from_round u late first worth here = record {
       taken = λ j h. elim (cases_lt u j) [

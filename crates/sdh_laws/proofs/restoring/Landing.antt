@@ -27,7 +27,7 @@ norm_new_action : (r : Reading) (v : ℕ) → action_in mode.Norm (event.New v) 
 unfolding action_in reading_row_of reading_table
 norm_new_action r v = refl
 
-ais_new_action : (r : Reading) (v : ℕ) → action_in mode.Ais (event.New v) r ≡ (if nat_le 3 (news_with r v) then action.New else action.Ais)
+pub ais_new_action : (r : Reading) (v : ℕ) → action_in mode.Ais (event.New v) r ≡ (if nat_le 3 (news_with r v) then action.New else action.Ais)
 unfolding action_in reading_row_of reading_table
 ais_new_action r v = refl
 
@@ -84,7 +84,7 @@ module _ (w v : ℕ) (normal : is_normal w ≡ true) (carries : value_in w ≡ v
   pub answered : (r : Reading) → IsAt (after_word r w) → is_ais_action (action_on r w) ≡ false
   answered r at = answer_tells_mode r w ∙ ap (λ m. not (is_norm m)) at.0
 
-  acts : (m : Mode) (r : Reading) (e : Event) → r.mode ≡ m → normal_event r v ≡ e → action_on r w ≡ action_in m e r
+  pub acts : (m : Mode) (r : Reading) (e : Event) → r.mode ≡ m → normal_event r v ≡ e → action_on r w ≡ action_in m e r
   acts m r e norm is = action_by_event r w m e norm (of_normal_word r w normal ∙ ap (normal_event r) carries ∙ is)
 
   -- after fewer than `most` rounds comes one with the action New, which leads to Norm at the value of the word

@@ -115,10 +115,10 @@ module _ (w : World) (whole : IsWhole w) (form : HasCircuits (layout_of w)) (rs 
       (subst (λ a. IsSilent (went w (neighbour n p d) (opposite d) a) t) (sym back) s))
 
   module _ (m : ℕ) (low : 1 ≤ m) (high : m ≤ half) where
-    went_working : (q j : ℕ) (e : Side) → q < n → went w q e m j ≡ brought w q m (working_in n cs q (settled rs q) e m) j
+    pub went_working : (q j : ℕ) (e : Side) → q < n → went w q e m j ≡ brought w q m (working_in n cs q (settled rs q) e m) j
     went_working q j e h = working_goes w whole q m j e (settled rs q) h high (rest.settled_are (suc j) (omega arith) q h)
 
-    went_protection : (q j : ℕ) (e : Side) → q < n → went w q e (half + m) j ≡ brought w q m (protection_in n cs q (settled rs q) e m) j
+    pub went_protection : (q j : ℕ) (e : Side) → q < n → went w q e (half + m) j ≡ brought w q m (protection_in n cs q (settled rs q) e m) j
     went_protection q j e h = protection_goes w whole q m j e (settled rs q) h low (rest.settled_are (suc j) (omega arith) q h)
 
     over_free : (s v : ℕ) (bytes : ℕ → List ℕ) → v ≤ 782 → (p : ℕ) (o : Origin) → p < n → IsArrival o → routes.IsFree n applied p o
@@ -173,32 +173,32 @@ module _ (w : World) (whole : IsWhole w) (form : HasCircuits (layout_of w)) (rs 
   -- ---- a port
 
   module _ (index : ℕ) (c : Provisioned) (get : slice_get cs index ≡ Some c) (e : End) where
-    abbrev far : End
+    abbrev pub far : End
     far = other_end e
 
-    abbrev id : PortId
+    abbrev pub id : PortId
     id = port_id index far
 
-    abbrev h : ℕ
+    abbrev pub h : ℕ
     h = hops n applied (arc_of n c)
 
-    inside : (e : End) → port_at c e < n
+    pub inside : (e : End) → port_at c e < n
     inside e = end_inside n half cs form index c get e
 
-    slot_is : IsInSlots half c
+    pub slot_is : IsInSlots half c
     slot_is = slot_inside half cs form.in_slots index c get
 
-    form_rs : AreCircuits (length rs) half cs
+    pub form_rs : AreCircuits (length rs) half cs
     form_rs = subst (λ k. AreCircuits k half cs) (sym rest.spans) form
 
     -- the clock of the port at the other end, in round i
-    abbrev clock : ℕ → Clock
+    abbrev pub clock : ℕ → Clock
     clock i = clock_at (run i w).ring id
 
-    abbrev v : ℕ
+    abbrev pub v : ℕ
     v = (clock 0).value
 
-    abbrev bytes : ℕ → List ℕ
+    abbrev pub bytes : ℕ → List ℕ
     bytes i = stream_from (customer_at c far) (clock i).sent 2349
 
     unslipped : (i : ℕ) → waiting (clock i) ≡ 0
@@ -212,7 +212,7 @@ module _ (w : World) (whole : IsWhole w) (form : HasCircuits (layout_of w)) (rs 
         here : (i : ℕ) → port_at c far < length (run i w).ring.ids
         here i = let same : length (run i w).ring.ids ≡ n = ap size_of (layout_run w i) in omega (arith, inside far)
 
-    plain : (i : ℕ) → Brings (value_at (run i w) (port_at c far) c.slot.0 (port index far)) (plainly (customer_at c far) (clock i))
+    pub plain : (i : ℕ) → Brings (value_at (run i w) (port_at c far) c.slot.0 (port index far)) (plainly (customer_at c far) (clock i))
     plain i =
         let there : slice_get (run i w).ring.circuits.circuits index ≡ Some c =
         ap (λ (l : Layout). slice_get l.circuits index) (layout_run w i) ∙ get in
@@ -222,13 +222,13 @@ module _ (w : World) (whole : IsWhole w) (form : HasCircuits (layout_of w)) (rs 
         (plain_here (run i w) (whole_run w i whole) index c far there here
         (none_waits_later w whole rest.unslipped i (port_at c far) (omega (arith, inside far, count w whole.placed, length_run w i))))
 
-    keeps_value : (i : ℕ) → (clock i).value ≡ v
+    pub keeps_value : (i : ℕ) → (clock i).value ≡ v
     unfolding any_run.run
     keeps_value i =
         ap (λ (k : Clock). k.value) (goes_run id i w (port_is_there w whole index c far get (inside far))).1
         ∙ (goes_on (clock 0) i (unslipped 0)).value
 
-    small : v ≤ 782
+    pub small : v ≤ 782
     unfolding any_run.run
     small = port_small w whole index c far get (inside far) (offset_small cs form.offsets index c get far)
 
@@ -245,7 +245,7 @@ module _ (w : World) (whole : IsWhole w) (form : HasCircuits (layout_of w)) (rs 
     }
 
     -- what the port delivers in round j
-    delivered_so : (j : ℕ) (b : Outlet) → HasValue b → (let x = delivery n (settled rs) cs c e in Brings
+    pub delivered_so : (j : ℕ) (b : Outlet) → HasValue b → (let x = delivery n (settled rs) cs c e in Brings
         (value_at (run j w) x.at c.slot.0 x.origin) b) → outlet_at (run (suc j) w).ring (port_id index e) ≡ b
     unfolding any_run.run
     delivered_so j b has is =
@@ -306,7 +306,7 @@ module _ (w : World) (whole : IsWhole w) (form : HasCircuits (layout_of w)) (rs 
           ∙ ap (λ t. if t then plainly (customer_at c far) (clocks (w.ring.rounds + j - h)) else silent) (sym parted)
 
       -- no route has more than 2n - 3 spans
-      few_hops : h + 3 ≤ 2 * n
+      pub few_hops : h + 3 ≤ 2 * n
       few_hops =
           let s = short n applied half cs form index c get in
           let two = whole.placed.ids.enough in

@@ -53,7 +53,7 @@ module _ (law : RingsSettle) (w : World) (whole : IsWhole w) (form : HasCircuits
   abbrev n : ℕ
   n = length w.ring.ids
 
-  abbrev rs : List ℕ
+  abbrev pub rs : List ℕ
   rs = requests_of (run (f + 3) w)
 
   still : StillFrom w f
@@ -67,29 +67,29 @@ module _ (law : RingsSettle) (w : World) (whole : IsWhole w) (form : HasCircuits
   requests_at (suc k) = let e : f + 3 + suc k ≡ suc (f + 3 + k) =
       omega arith in ap (λ j. requests_of (run j w)) e ∙ ap requests_in (still.needs (f + 3 + k) (omega arith)) ∙ requests_at k
 
-  requests_from : (k : ℕ) → f + 3 ≤ k → requests_of (run k w) ≡ rs
+  pub requests_from : (k : ℕ) → f + 3 ≤ k → requests_of (run k w) ≡ rs
   requests_from k h = let e : k ≡ f + 3 + (k - (f + 3)) = omega arith in ap (λ j. requests_of (run j w)) e ∙ requests_at (k - (f + 3))
 
-  states_from : (k : ℕ) → 4 * n + f + 10 ≤ k → (signals_of (run k w)).states ≡ settled_states rs
+  pub states_from : (k : ℕ) → 4 * n + f + 10 ≤ k → (signals_of (run k w)).states ≡ settled_states rs
   states_from k h = still.states k h ∙ ap settled_states (requests_from k (omega arith))
 
   -- ---- the ring at rest
 
-  abbrev u : World
+  abbrev pub u : World
   u = run base w
 
-  whole_u : IsWhole u
+  pub whole_u : IsWhole u
   whole_u = whole_run w base whole
 
-  ids_u : length u.ring.ids ≡ n
+  pub ids_u : length u.ring.ids ≡ n
   ids_u = ap size_of (layout_run w base)
 
-  settled_u : (k : ℕ) → 1 ≤ k → AreSettled n rs (run k u)
+  pub settled_u : (k : ℕ) → 1 ≤ k → AreSettled n rs (run k u)
   settled_u k some =
       subst (AreSettled n rs) (sym (run_more w base k)) (each_settled (run (k + base) w) n rs (nodes_run w whole (k + base)) spans_are
       (states_from (k + base) (omega (arith, late))))
 
-  at_rest : StaysSettled u rs
+  pub at_rest : StaysSettled u rs
   at_rest = record {
     spans = spans_are ∙ sym ids_u;
     unslipped = slips;
@@ -109,7 +109,7 @@ module _ (law : RingsSettle) (w : World) (whole : IsWhole w) (form : HasCircuits
     | inr x ↦ x
   ]
 
-  uncut : AreUncut u rs
+  pub uncut : AreUncut u rs
   uncut p d h clear =
       clear_where_it_works u whole_u p d (let r = (left_run base w).rounds in omega (arith, late))
       (omega (arith, h, count u whole_u.placed)) (works p d h clear)
@@ -117,11 +117,11 @@ module _ (law : RingsSettle) (w : World) (whole : IsWhole w) (form : HasCircuits
   -- ---- its ports
 
   module _ (index : ℕ) (c : Provisioned) (get : slice_get w.ring.circuits.circuits index ≡ Some c) (e : End) where
-    get_u : slice_get u.ring.circuits.circuits index ≡ Some c
+    pub get_u : slice_get u.ring.circuits.circuits index ≡ Some c
     get_u = ap (λ (l : Layout). slice_get l.circuits index) (layout_run w base) ∙ get
 
     -- the clock at the other end, as it goes from w on
-    tells : (i : ℕ) → clock_at (run i u).ring (port_id index (other_end e))
+    pub tells : (i : ℕ) → clock_at (run i u).ring (port_id index (other_end e))
         ≡ clocks_from w (port_id index (other_end e)) (u.ring.rounds + i)
     tells i =
         let id = port_id index (other_end e) in
@@ -132,7 +132,7 @@ module _ (law : RingsSettle) (w : World) (whole : IsWhole w) (form : HasCircuits
         (end_inside n (slots_of (layout_of w)) w.ring.circuits.circuits form index c get (other_end e)))).1
         ∙ ap (λ t. ticks t (clock_at w.ring id)) number
 
-    delivers_by : (j : ℕ) → outlet_at (run (suc j) u).ring (port_id index e)
+    pub delivers_by : (j : ℕ) → outlet_at (run (suc j) u).ring (port_id index e)
         ≡ due_by_clocks (length u.ring.ids) (is_applied rs) c e (clocks_from w (port_id index (other_end e))) (u.ring.rounds + j)
         → DeliversItsDue (clocks_from w) (run (suc j) u) rs c index e
     delivers_by j so =
@@ -142,10 +142,10 @@ module _ (law : RingsSettle) (w : World) (whole : IsWhole w) (form : HasCircuits
         ∙ ap (λ (l : Layout). due_by_clocks (size_of l) (is_applied rs) c e (clocks_from w (port_id index (other_end e)))
         ((run (suc j) u).ring.rounds - 1)) (sym (layout_run u (suc j)))
 
-    abbrev form_u : HasCircuits (layout_of u)
+    abbrev pub form_u : HasCircuits (layout_of u)
     form_u = subst HasCircuits (sym (layout_run w base)) form
 
-    abbrev clocks : ℕ → Clock
+    abbrev pub clocks : ℕ → Clock
     clocks = clocks_from w (port_id index (other_end e))
 
     delivers : (j : ℕ) → 8 * n ≤ j + 8 → DeliversItsDue (clocks_from w) (run (suc j) u) rs c index e

@@ -37,7 +37,7 @@ use Rattle.sdh_laws.specs.Strangers.Vouched.{spoken_of, HoldsAtMost, au_in}
 use Rattle.sdh_laws.proofs.strangers.Arrivals.{span_across, heard_came}
 use Rattle.sdh_laws.proofs.strangers.Content.{Bears, Fine}
 use Rattle.sdh_laws.proofs.strangers.Nodes.{working_fine, protection_fine}
-use Rattle.sdh_laws.proofs.strangers.Worlds.{received_fine, sourced_words, sent_bears}
+use Rattle.sdh_laws.proofs.strangers.Worlds.{received_fine, sourced_words, came, heard, sent_bears}
 use Rattle.sdh_laws.proofs.strangers.Vouched.{adds_own, carried_holds, lags_now, lags_more}
 use Rattle.sdh_laws.proofs.strangers.Shielded.{state_free, word_free}
 
@@ -180,8 +180,10 @@ module _ (clocks : PortId → ℕ → Clock) (w : World) (form : HasCircuits (la
         (from_alone (Fine (Own (t + 1)) (circuits_at n cs p m d) d) (working_in n cs p (state_after s) d m)
         (sym (ap (λ x. working_in n cs p x d m) after) ∙ is)
         (working_fine (λ i. Own t) (λ i. Own (t + 1)) (lags_more clocks w form) ids cs whole.placed.ids ring_is s (scene_ids w whole p h) p
-        (scene_place w whole p h) (below p h) m fed working_in_fine protection_in_fine
-        (sourced_words (λ i. Own t) (λ i. Own (t + 1)) (lags_more clocks w form) w whole p h) refl added d))
+        (scene_place w whole p h) (below p h) m fed
+        (came (λ i. Own t) (λ i. Own (t + 1)) (lags_more clocks w form) w whole p h) working_in_fine protection_in_fine
+        (sourced_words (λ i. Own t) (λ i. Own (t + 1)) (lags_more clocks w form) w whole p h)
+        (heard (λ i. Own t) (λ i. Own (t + 1)) (lags_more clocks w form) w whole p h) refl added d))
 
     pub sends_protection_fine : (d : Side) → protection_in n cs p st d m ≡ o → ProtectionSent p m d
     sends_protection_fine d is =
@@ -192,8 +194,10 @@ module _ (clocks : PortId → ℕ → Clock) (w : World) (form : HasCircuits (la
         (from_alone (Fine (Own (t + 1)) (spoken_of ids cs m (opposite d) (word s d)) (opposite d)) (protection_in n cs p (state_after s) d m)
         (sym (ap (λ x. protection_in n cs p x d m) after) ∙ is)
         (protection_fine (λ i. Own t) (λ i. Own (t + 1)) (lags_more clocks w form) ids cs whole.placed.ids ring_is s (scene_ids w whole p h) p
-        (scene_place w whole p h) (below p h) m fed working_in_fine protection_in_fine
-        (sourced_words (λ i. Own t) (λ i. Own (t + 1)) (lags_more clocks w form) w whole p h) refl added d)))
+        (scene_place w whole p h) (below p h) m fed
+        (came (λ i. Own t) (λ i. Own (t + 1)) (lags_more clocks w form) w whole p h) working_in_fine protection_in_fine
+        (sourced_words (λ i. Own t) (λ i. Own (t + 1)) (lags_more clocks w form) w whole p h)
+        (heard (λ i. Own t) (λ i. Own (t + 1)) (lags_more clocks w form) w whole p h) refl added d)))
 
 -- ---- over a span, from one round to the next
 
@@ -230,7 +234,7 @@ module _ (clocks : PortId → ℕ → Clock) (w : World) (form : HasCircuits (la
       let r = w.ring.rounds + 1 in
       let cs = w.ring.circuits.circuits in
       let Now = HoldsAtMost cs clocks r in
-      let came = heard_came (round w) (whole_round w whole) p there d k
+      let word = heard_came (round w) (whole_round w whole) p there d k
       (long_from (scene_in (next_node (round w) (whole_round w whole) p)) d k e).heard in
       let said = word_of (opposite d) (node_at (round w).ring.nodes q) in
       let slots = slots_of (layout_of w) in
@@ -238,7 +242,7 @@ module _ (clocks : PortId → ℕ → Clock) (w : World) (form : HasCircuits (la
       (sym (brings_protection (round w) (whole_round w whole) p m d (omega (arith, count w whole.placed))))
       (received_fine (λ i. Now) (λ i. Now) (lags_now clocks (round w) form_after) (round w) (whole_round w whole) p there 0
       (spoken_of w.ring.ids cs m d k) d d (slots + m) (omega arith) (omega arith)
-      (λ line kept carried. subst (λ j. Bears Now (spoken_of w.ring.ids cs m d j) d (au_in w (slots + m) line)) came.is
+      (λ line kept carried. subst (λ j. Bears Now (spoken_of w.ring.ids cs m d j) d (au_in w (slots + m) line)) word.is
       (subst (λ y. Bears Now (spoken_of w.ring.ids cs m y said) y (au_in w (slots + m) line)) (opposite_twice d)
       (sent_bears Now (carried_holds cs clocks r) w whole (spoken_of w.ring.ids cs m (opposite (opposite d)) said) (opposite (opposite d)) q
       (slots + m) (opposite d) line (neighbour_inside w whole p d) (omega arith) (omega arith) carried sent))))

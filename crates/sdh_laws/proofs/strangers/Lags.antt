@@ -1,9 +1,11 @@
--- How many rounds it takes at most until an AU-4 holds nothing but what its port has put in since: a span of an arc
--- takes n + 1 rounds at most, one where traffic goes straight on, and up to n + 1 where it goes round the ring.
-use Rattle.std.proofs.Common.{◌≡◌, ℕ, zero, suc, ◌+◌, ◌-◌, ◌*◌, ◌<◌, ◌≤◌, Option, Some, None, ap, sym, ◌∙◌, arith, mod-lt}
-use Rattle.std.specs.Prelude.{◌≢◌, List, length}
+-- How many rounds it takes at most until an AU-4 holds nothing but what its port has put in since: one for each span.
+-- What goes round the ring does so once, past one span of its arc at least.
+use Rattle.std.proofs.Common.{◌≡◌, ℕ, zero, suc, ◌+◌, ◌-◌, ◌<◌, ◌≤◌, Bool, true, false, Option, Some, None, refl, ap, sym, ◌∙◌, arith}
+use Rattle.std.proofs.Common.{mod-lt}
+use Rattle.std.specs.Prelude.{◌≢◌, List, length, nat_le}
 use Rattle.std.specs.Option.{option_and_then}
-use Rattle.std.proofs.lemmas.Nat.{mul-le, row_fits}
+use Rattle.std.proofs.lemmas.Bool.{le-leb, leb-true}
+use Rattle.std.proofs.lemmas.Bool.Decides.{nat_tests}
 use Rattle.sdh_frame.specs.Aus.{Au}
 use Rattle.sdh_kbytes.specs.declared.K.{K}
 use Rattle.sdh_ringmap.specs.Places.{opposite, neighbour, eastwards, found_at}
@@ -17,6 +19,8 @@ use Rattle.sdh_circuits.specs.declared.PortId.{PortId}
 use Rattle.sdh_squelch.specs.declared.Row.{Row}
 use Rattle.sdh_squelch.specs.Table.{OnSpan}
 use Rattle.sdh_nodestate.specs.Rules.{long_word}
+use Rattle.sdh_nodestate.specs.declared.NodeState.{NodeState}
+use Rattle.sdh_nodestate.specs.declared.NodeState.TheVariants as state
 use Rattle.sdh_laws.specs.Strangers.Vouched.{spoken_of}
 use Rattle.sdh_laws.proofs.strangers.Content.{IsCarried}
 
@@ -39,6 +43,9 @@ module _ (n : ℕ) (some : 0 < n) where
       let z : 0 + k ≡ k = omega arith in
       ap (λ q. eastwards n (going n West p k) q) (sym (going-none n some West p h))
       ∙ ap (λ j. eastwards n (going n West p j) (going n West p 0)) (sym z) ∙ far_west n some p 0 k few
+
+  pub steps_none : (d : Side) (x : ℕ) → x < n → steps n d x x ≡ 0
+  steps_none d x h = ap (steps n d x) (sym (going-none n some d x h)) ∙ steps_going d x 0 h some
 
   next_by : (d : Side) (p q k : ℕ) → p < n → p ≢ q → going n d p k ≡ q → k < n
       → steps n d p q ≡ steps n d p (neighbour n q (opposite d)) + 1
@@ -66,16 +73,45 @@ abbrev pub place_on : ℕ → Side → Option OnSpan → ℕ → ℕ
 place_on n d None p = 0
 place_on n d (Some r) p = steps n d (start_of d r) p
 
--- the lag of a working AU-4 that the node at p sends on side d, where this is on the span there
-abbrev pub working_lag : ℕ → Side → Option OnSpan → ℕ → ℕ
-working_lag n d o p = place_on n d o p * (n + 1)
+-- n - 2 rounds, or none
+abbrev pub round_if : ℕ → Bool → ℕ
+round_if n true = n - 2
+round_if n false = 0
+
+-- How many rounds more than there are spans a working AU-4 lags at most that the node at p sends on side d, where o is
+-- on the span there, and the word beside the AU-4 has its source at g. The AU-4 has come straight where the source is
+-- farther along the arc than p. Otherwise it may have gone round the ring once.
+abbrev pub extra_lag : ℕ → Side → Option OnSpan → Option Pos → ℕ → ℕ
+extra_lag n d o None p = n - 2
+extra_lag n d o (Some g) p = round_if n (nat_le (place_on n d o g.0) (place_on n d o p))
+
+-- the lag of that working AU-4
+abbrev pub working_lag : ℕ → Side → Option OnSpan → Option Pos → ℕ → ℕ
+working_lag n d o g p = place_on n d o p + extra_lag n d o g p
+
+-- i where the node takes what stands for the arrival from a side from the working slot, and j where it takes it from
+-- protection
+abbrev pub by_slot : NodeState → Side → ℕ → ℕ → ℕ
+by_slot (state.Isolated x) d i j = i
+by_slot (state.PassThrough x) d i j = i
+by_slot (state.Idle x) d i j = i
+by_slot (state.SwitchWest f) West i j = j
+by_slot (state.SwitchWest f) East i j = i
+by_slot (state.SwitchEast f) West i j = i
+by_slot (state.SwitchEast f) East i j = j
+
+-- The lag of what stands for the working arrival from side d at a node in this state, where q is the neighbour there, o
+-- is on the span between them, and the word that came with the arrival has its source at g. What is taken from
+-- protection has gone round the ring past one span at least.
+abbrev pub stand_lag : ℕ → Side → Option OnSpan → Option Pos → ℕ → NodeState → ℕ
+stand_lag n d o g q x = place_on n (opposite d) o q + 1 + by_slot x d (extra_lag n (opposite d) o g q) (n - 2)
 
 -- The lag of a protection AU-4 that the node at p sends on the side opposite to d. The word beside it has its source at
--- g and speaks of circuit o. The lag is the working lag at g, and one round more than there are spans from g to p. It
+-- g and speaks of circuit o. The AU-4 has come straight to g, and then as many spans as there are from g to p. The lag
 -- is 0 where the ring has no such source.
 abbrev pub protection_lag : ℕ → Side → Option OnSpan → Option Pos → ℕ → ℕ
 protection_lag n d o None p = 0
-protection_lag n d o (Some g) p = place_on n d o g.0 * (n + 1) + steps n (opposite d) g.0 p + 1
+protection_lag n d o (Some g) p = place_on n d o g.0 + steps n (opposite d) g.0 p
 
 -- the source of a long word that asks, where it is in the ring
 abbrev pub source_in : List ℕ → K → Option Pos
@@ -85,12 +121,46 @@ source_in ids k = option_and_then (λ (k : K). found_at ids k.from) (long_word k
 abbrev pub spoken_lag : List ℕ → List Provisioned → ℕ → Side → K → ℕ → ℕ
 spoken_lag ids cs m d k p = protection_lag (length ids) d (spoken_of ids cs m d k) (source_in ids k) p
 
--- round a chain the lag grows by fewer than n + 1 rounds, and the far end is nearer to the port
-pub lag_less : (n a b s : ℕ) → a ≤ b → s < n → a * (n + 1) + s + 1 < (b + 1) * (n + 1)
-lag_less n a b s h few =
-    let most : a * (n + 1) ≤ b * (n + 1) = mul-le a (n + 1) b (n + 1) h (omega arith) in
-    let more : b * (n + 1) + (n + 1) ≤ (b + 1) * (n + 1) = row_fits b (n + 1) (b + 1) (n + 1) (omega arith) (omega arith) in
-    omega arith
+round_few : (n : ℕ) (b : Bool) → round_if n b ≤ n - 2
+round_few n true = omega arith
+round_few n false = omega arith
+
+round_more : (n : ℕ) (a b : Bool) → ((a ≡ true) → b ≡ true) → round_if n a ≤ round_if n b
+round_more n false b h = omega arith
+round_more n true b h = (let e = ap (round_if n) (h refl) in omega arith)
+
+-- nothing goes round twice
+pub extra_few : (n : ℕ) (d : Side) (o : Option OnSpan) (g : Option Pos) (p : ℕ) → extra_lag n d o g p ≤ n - 2
+extra_few n d o None p = omega arith
+extra_few n d o (Some g) p = round_few n (nat_le (place_on n d o g.0) (place_on n d o p))
+
+-- with a word from behind an AU-4 may have gone round
+pub extra_behind : (n : ℕ) (d : Side) (o : Option OnSpan) (g : Pos) (p : ℕ) → place_on n d o g.0 ≤ place_on n d o p
+    → extra_lag n d o (Some g) p ≡ n - 2
+extra_behind n d o g p less = ap (round_if n) (le-leb (place_on n d o g.0) (place_on n d o p) less)
+
+-- with a word from ahead it has come straight
+pub extra_ahead : (n : ℕ) (d : Side) (o : Option OnSpan) (g : Pos) (p : ℕ) → place_on n d o p < place_on n d o g.0
+    → extra_lag n d o (Some g) p ≡ 0
+extra_ahead n d o g p less =
+    ap (round_if n) (let b : nat_le (place_on n d o g.0) (place_on n d o p) ≡ false = grind (arith, nat_tests) in b)
+
+-- what passed on with its word may have gone round where it may have before
+pub extra_on : (n : ℕ) (d : Side) (o : Option OnSpan) (g : Pos) (p q : ℕ) → place_on n d o p ≤ place_on n d o q
+    → extra_lag n d o (Some g) p ≤ extra_lag n d o (Some g) q
+extra_on n d o g p q less =
+    round_more n (nat_le (place_on n d o g.0) (place_on n d o p)) (nat_le (place_on n d o g.0) (place_on n d o q))
+    (λ h. (let low = leb-true (place_on n d o g.0) (place_on n d o p) h in
+    le-leb (place_on n d o g.0) (place_on n d o q) (omega arith)))
+
+pub by_slot_few : (x : NodeState) (d : Side) (i j : ℕ) → i ≤ j → by_slot x d i j ≤ j
+by_slot_few (state.Isolated x) d i j h = h
+by_slot_few (state.PassThrough x) d i j h = h
+by_slot_few (state.Idle x) d i j h = h
+by_slot_few (state.SwitchWest f) West i j h = omega arith
+by_slot_few (state.SwitchWest f) East i j h = h
+by_slot_few (state.SwitchEast f) West i j h = h
+by_slot_few (state.SwitchEast f) East i j h = omega arith
 
 -- ---- what holds at most of lagging AU-4s, before a round and after it
 

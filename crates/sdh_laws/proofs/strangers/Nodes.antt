@@ -1,12 +1,11 @@
 -- What a node sends and delivers, where what comes in is fine.
-use Rattle.std.proofs.Common.{◌≡◌, ℕ, zero, suc, ◌+◌, ◌-◌, ◌*◌, ◌<◌, ◌≤◌, Bool, true, false, List, length, Option, Some, None, refl, ap}
+use Rattle.std.proofs.Common.{◌≡◌, ℕ, zero, suc, ◌+◌, ◌-◌, ◌<◌, ◌≤◌, Bool, true, false, List, length, Option, Some, None, refl, ap}
 use Rattle.std.proofs.Common.{sym, ◌∙◌, subst, arith, inl, inr, ◌⊎◌}
 use Rattle.std.specs.Prelude.{◌≢◌, if◌then◌else◌, slice_index, slice_get}
 use Rattle.std.specs.Option.{option_and_then}
 use Rattle.std.proofs.lemmas.Bool.{cases_Bool, and_parts, eqb-true}
 use Rattle.std.specs.Prelude.{◌==◌}
 use Rattle.sdh_kbytes.specs.declared.K.{K}
-use Rattle.sdh_kbytes.specs.declared.Path.TheVariants.{Long}
 use Rattle.sdh_ringmap.specs.Ids.{AreIds}
 use Rattle.sdh_ringmap.specs.Places.{opposite, neighbour, position_of, found_at, span_at}
 use Rattle.sdh_ringmap.specs.declared.Pos.{Pos}
@@ -14,7 +13,7 @@ use Rattle.sdh_ringmap.specs.declared.Side.{Side}
 use Rattle.sdh_ringmap.specs.declared.Side.TheVariants.{West, East}
 use Rattle.sdh_ringmap.specs.Steps.{going}
 use Rattle.sdh_ringmap.proofs.Sides.{opposite_twice}
-use Rattle.sdh_ringmap.proofs.Going.{way-behind, going-none, going-inside, going-next, going-back, mirror}
+use Rattle.sdh_ringmap.proofs.Going.{way-behind, going-none, going-inside, going-next, going-back, going-last, going-add, mirror}
 use Rattle.sdh_circuits.specs.Provisioned.{Provisioned}
 use Rattle.sdh_circuits.specs.declared.End.{End}
 use Rattle.sdh_circuits.specs.declared.End.TheVariants.{A, B}
@@ -24,7 +23,7 @@ use Rattle.sdh_squelch.specs.Table.{OnSpan, circuits_at, circuit_from}
 use Rattle.sdh_squelch.proofs.LookUps.{entry}
 use Rattle.sdh_nodestate.specs.declared.NodeState.{NodeState}
 use Rattle.sdh_nodestate.specs.declared.NodeState.TheVariants as state
-use Rattle.sdh_nodestate.specs.Rules.{Scene, own_id, stronger, weight, long, relayed, word, own_word, state_after}
+use Rattle.sdh_nodestate.specs.Rules.{Scene, own_id, long, relayed, word, state_after}
 use Rattle.sdh_nodestate.specs.Words.{IsMember}
 use Rattle.sdh_squelch.specs.declared.connecting.Origin.{Origin}
 use Rattle.sdh_squelch.specs.declared.connecting.Origin.TheVariants.{Working, Protection, Ais}
@@ -45,11 +44,13 @@ use Rattle.sdh_signal.proofs.Passing.{idle-leaves, switched-stands, bridged-leav
 use Rattle.sdh_laws.specs.Strangers.Vouched.{sender, told_of, spoken_of, IsAside}
 use Rattle.sdh_laws.specs.Strangers.Vouched.{streams_to}
 use Rattle.sdh_laws.proofs.strangers.Content.{Fine}
-use Rattle.sdh_laws.proofs.strangers.Lags.{steps, steps_few, steps_going, steps_next, start_of, place_on, working_lag, protection_lag}
-use Rattle.sdh_laws.proofs.strangers.Lags.{source_in, spoken_lag, lag_less, AreLags}
+use Rattle.sdh_laws.proofs.strangers.Lags.{steps, steps_going, steps_next, start_of, place_on, extra_lag, working_lag, by_slot, stand_lag}
+use Rattle.sdh_laws.proofs.strangers.Lags.{protection_lag, source_in, spoken_lag, extra_few, extra_behind, extra_ahead, extra_on, AreLags}
+use Rattle.sdh_laws.proofs.strangers.Saying.{Sourced, switched_source}
+use Rattle.sdh_laws.proofs.strangers.Saying as saying
 use Rattle.sdh_signal.proofs.Ends.{found}
-use Rattle.sdh_signal.proofs.OneNode.{word_long, relayed_from}
-use Rattle.sdh_laws.proofs.strangers.Rules.{switched_one, passes_relays, relays, switched_says_long, long_word_is, heard_is_long, far_from}
+use Rattle.sdh_signal.proofs.OneNode.{relayed_from}
+use Rattle.sdh_laws.proofs.strangers.Rules.{switched_one, passes_relays, relays, heard_is_long, far_from}
 
 -- ---- the circuits on the two spans of a node
 
@@ -140,6 +141,25 @@ module _ (n : ℕ) (cs : List Provisioned) (ring : AreOnRing n cs) (p m : ℕ) (
           ∙ seen.on_arc j (omega arith))
           (farther_on i c get d p j (let short = seen.short in omega arith) at)
 
+  -- a node with a circuit on the span of a side has at least one span of its arc before it to go, out of n - 1
+  pub place_short : 2 ≤ n → (d : Side) (o : Option Row) → circuits_at n cs p m d ≡ o → place_on n d o p + 2 ≤ n
+  place_short two d None e = two
+  place_short two d (Some r) e =
+      let f = found-gives n (span_at n p d) m 0 cs r e in
+      let c = f.circuit in
+      let i = f.place in
+      let both = and_parts (c.slot.0 == m) (holds n c (span_at n p d)) f.on in
+      let at = on-arc n cs ring some c d p (ring.inside i c f.is).0 inside both.1 in
+      let seen = seen-on n cs ring i c f.is d in
+      let short = seen.short in
+      let few = at.few in
+      let row : r ≡ entry i c = f.row ∙ ap (λ k. entry k c) {x = 0 + i} (omega arith) in
+      let start : start_of d r ≡ near_at n c d = ap (start_of d) row ∙ starts_near n cs ring i c f.is d in
+      let here : steps n d (start_of d r) p ≡ at.step =
+      (λ k. steps n d (start k) (at.there k))
+      ∙ steps_going n some d (near_at n c d) at.step (near_inside n cs ring i c f.is d) (omega arith) in
+      omega arith
+
   pub meets : (d : Side) → Meets n cs p m d
   meets d = met_by d (circuits_at n cs p m d) refl
 
@@ -154,11 +174,13 @@ no_far n cs p East m = refl
 module _ (Was Own : ℕ → Option PortId → Au → Type 0) (lags : AreLags Was Own) (ids : List ℕ) (cs : List Provisioned) (are : AreIds ids)
     (ring : AreOnRing (length ids) cs)
     (s : Scene) (same : s.ids ≡ ids) (p : ℕ) (at : s.at ≡ p) (inside : p < length ids) (m : ℕ) (value : Origin → Input)
-    (working_in_fine : (d : Side) → Fine (Was (working_lag (length ids) (opposite d) (circuits_at (length ids) cs p m d)
+    (came : Side → Option Pos)
+    (working_in_fine : (d : Side) → Fine (Was (working_lag (length ids) (opposite d) (circuits_at (length ids) cs p m d) (came d)
     (neighbour (length ids) p d))) (circuits_at (length ids) cs p m d) (opposite d) (value (Working d)))
     (protection_in_fine : (d : Side) (k : K) → long s d ≡ Some k
     → Fine (Was (spoken_lag ids cs m d k (neighbour (length ids) p d))) (spoken_of ids cs m d k) d (value (Protection d)))
     (sourced : (d : Side) (k : K) → long s d ≡ Some k → IsMember ids k.from)
+    (heard : (d : Side) (k : K) → long s d ≡ Some k → came d ≡ source_in ids k)
     (silence : (value Ais).action ≡ action.Ais) where
   abbrev n : ℕ
   n = length ids
@@ -172,9 +194,12 @@ module _ (Was Own : ℕ → Option PortId → Au → Type 0) (lags : AreLags Was
   peopled : 0 < n
   peopled = omega (arith, inside)
 
-  -- what stands for the working arrival from a side lags so
-  abbrev arrival_lag : Side → ℕ
-  arrival_lag d = (place_on n (opposite d) (on d) (neighbour n p d) + 1) * (n + 1)
+  two : 2 ≤ n
+  two = are.enough
+
+  -- what stands for the working arrival from a side lags so, at a node in this state
+  abbrev arrival_lag : NodeState → Side → ℕ
+  arrival_lag x d = stand_lag n d (on d) (came d) (neighbour n p d) x
 
   by_origin : (i : ℕ) (o : Option OnSpan) (d : Side) (x y : Origin) → x ≡ y → Fine (Own i) o d (value y) → Fine (Own i) o d (value x)
   by_origin i o d x y e h = subst (λ z. Fine (Own i) o d (value z)) (sym e) h
@@ -199,10 +224,16 @@ module _ (Was Own : ℕ → Option PortId → Au → Type 0) (lags : AreLags Was
       → spoken_of ids cs m d k ≡ circuits_at n cs f.0 m d
   heard_speaks d k f h at = ap (told_of ids cs m d) (heard_source d k f h at)
 
-  -- the far end is nearer to the circuit's port than the neighbour over the switched span
-  nearer : (d : Side) (f : Pos) → f.0 < n → carries_in n cs p d m (Some f) ≡ true
-      → place_on n (opposite d) (on d) f.0 ≤ place_on n (opposite d) (on d) (neighbour n p d)
-  nearer d f low t =
+  -- where the far end of side d is, with which the circuit there may be carried
+  pub record IsAhead (d : Side) (f : Pos) : Type 0 where
+    -- it is farther along the circuit's arc than p
+    pub ahead : place_on n d (on d) p < place_on n d (on d) f.0
+    -- what comes from it on protection has gone round the ring past one span of the arc at least
+    pub less : protection_lag n (opposite d) (on d) (Some f) (neighbour n p (opposite d))
+        < place_on n (opposite d) (on d) (neighbour n p d) + 1 + (n - 2)
+
+  is_ahead : (d : Side) (f : Pos) → f.0 < n → carries_in n cs p d m (Some f) ≡ true → IsAhead d f
+  is_ahead d f low t =
       let far = meets-farther n cs ring peopled d p m f inside low t in
       let c = far.circuit in
       let b = near_at n c d in
@@ -210,9 +241,17 @@ module _ (Was Own : ℕ → Option PortId → Au → Type 0) (lags : AreLags Was
       let seen = seen-on n cs ring far.index c far.is d in
       let short = seen.short in
       let base = near_inside n cs ring far.index c far.is d in
+      let begin : start_of d (entry far.index c) ≡ b = starts_near n cs ring far.index c far.is d in
       let start : start_of (opposite d) (entry far.index c) ≡ going n d b l = starts_distant far.index c d ∙ seen.distant_at in
       let after = far.after in
       let within = far.within in
+      let k = far.last - far.step in
+      let enough = two in
+      let place : place_on n d (on d) p ≡ far.step =
+      ap (λ o. place_on n d o p) far.row ∙ (λ i. steps n d (begin i) (far.here i)) ∙ steps_going n peopled d b far.step base (omega arith) in
+      let beyond : place_on n d (on d) f.0 ≡ far.last =
+      ap (λ o. place_on n d o f.0) far.row ∙ (λ i. steps n d (begin i) ((sym far.there) i))
+      ∙ steps_going n peopled d b far.last base (omega arith) in
       let there : place_on n (opposite d) (on d) f.0 ≡ l - far.last =
       ap (λ o. place_on n (opposite d) o f.0) far.row
       ∙ (λ k. steps n (opposite d) (start k) ((sym far.there ∙ sym (mirror n peopled d b (l - far.last) far.last l (omega arith))) k))
@@ -222,11 +261,20 @@ module _ (Was Own : ℕ → Option PortId → Au → Type 0) (lags : AreLags Was
       ap (λ o. place_on n (opposite d) o (neighbour n p d)) far.row
       ∙ (λ k. steps n (opposite d) (start k) ((beside ∙ sym (mirror n peopled d b (l - suc far.step) (suc far.step) l (omega arith))) k))
       ∙ steps_going n peopled (opposite d) (going n d b l) (l - suc far.step) (going-inside n peopled d b l) (omega arith) in
-      omega arith
+      let to : f.0 ≡ going n d p k =
+      sym far.there ∙ ap (going n d b) {x = far.last} {y = far.step + k} (omega arith) ∙ sym (going-add n peopled d b far.step k)
+      ∙ ap (λ y. going n d y k) (sym far.here) in
+      let round_ring : steps n (opposite (opposite d)) f.0 (neighbour n p (opposite d)) ≡ n - 1 - k =
+      ap (λ y. steps n y f.0 (neighbour n p (opposite d))) (opposite_twice d)
+      ∙ ap (steps n d f.0) (sym (going-last n peopled d p (n - 1) inside (omega arith))
+      ∙ ap (going n d p) {x = n - 1} {y = k + (n - 1 - k)} (omega arith) ∙ sym (going-add n peopled d p k (n - 1 - k))
+      ∙ ap (λ y. going n d y (n - 1 - k)) (sym to))
+      ∙ steps_going n peopled d f.0 (n - 1 - k) low (omega arith) in
+      record { ahead = omega arith; less = omega arith }
 
   -- what comes on protection in place of the working arrival from a switched side
   in_place : (d : Side) (f : Option Pos) → state_after s ≡ Switch d f → carries_in n cs p d m f ≡ true
-      → Fine (Own (arrival_lag d)) (on d) (opposite d) (value (Protection (opposite d)))
+      → Fine (Own (place_on n (opposite d) (on d) (neighbour n p d) + 1 + (n - 2))) (on d) (opposite d) (value (Protection (opposite d)))
   in_place d None h t = absurd (no (sym (no_far n cs p d m) ∙ t))
     where
       no : false ≡ true → ⊥
@@ -235,35 +283,54 @@ module _ (Was Own : ℕ → Option PortId → Au → Type 0) (lags : AreLags Was
       let is = far_from s d f (sym (switched_one s d (Some f) h).end) in
       let low : f.0 < n = subst (λ i. f.0 < length i) same is.inside in
       let e = opposite d in
+      let most = place_on n e (on d) (neighbour n p d) + 1 + (n - 2) in
       let circuit : spoken_of ids cs m e is.k ≡ on d =
       heard_speaks e is.k f is.heard is.found ∙ meets-own n cs ring peopled d p m f inside low t in
       let lag : spoken_lag ids cs m e is.k (neighbour n p e) ≡ protection_lag n e (on d) (Some f) (neighbour n p e) =
       (λ j. protection_lag n e (circuit j) (heard_source e is.k f is.heard is.found j) (neighbour n p e)) in
-      let less : protection_lag n e (on d) (Some f) (neighbour n p e) < arrival_lag d =
-      lag_less n (place_on n e (on d) f.0) (place_on n e (on d) (neighbour n p d)) (steps n (opposite e) f.0 (neighbour n p e))
-      (nearer d f low t) (steps_few n peopled (opposite e) f.0 (neighbour n p e)) in
-      sooner (protection_lag n e (on d) (Some f) (neighbour n p e)) (arrival_lag d) less (on d) e (value (Protection e))
+      sooner (protection_lag n e (on d) (Some f) (neighbour n p e)) most (is_ahead d f low t).less (on d) e (value (Protection e))
       (subst (λ i. Fine (Was i) (on d) e (value (Protection e))) lag
       (subst (λ o. Fine (Was (spoken_lag ids cs m e is.k (neighbour n p e))) o e (value (Protection e))) circuit
       (protection_in_fine e is.k is.heard)))
 
+  -- a node that is switched on a side takes what stands for the arrival from protection
+  taken : (d : Side) (f : Option Pos) (i j : ℕ) → by_slot (Switch d f) d i j ≡ j
+  taken West f i j = refl
+  taken East f i j = refl
+
+  -- on the other side it takes it from the working slot
+  straight : (x : NodeState) (d : Side) (i j : ℕ) → is_open x d ≡ true → by_slot x d i j ≡ i
+  straight (state.Isolated x) d i j o = refl
+  straight (state.PassThrough x) d i j o = refl
+  straight (state.Idle x) d i j o = refl
+  straight (state.SwitchWest f) West i j o = cc
+  straight (state.SwitchWest f) East i j o = refl
+  straight (state.SwitchEast f) West i j o = refl
+  straight (state.SwitchEast f) East i j o = cc
+
   switched_fine : (d : Side) (f : Option Pos) → state_after s ≡ Switch d f
-      → Fine (Own (arrival_lag d)) (on d) (opposite d) (value (stands_in n cs p (Switch d f) d m))
-  switched_fine d f h = elim (cases_Bool (carries_in n cs p d m f)) [
-    | inl t ↦ by_origin _ (on d) (opposite d) _ (Protection (opposite d)) (switched-stands n cs p d m f true t) (in_place d f h t)
-    | inr t ↦ by_origin _ (on d) (opposite d) _ Ais (switched-stands n cs p d m f false t) (silent_is_fine _ (on d) (opposite d))
-  ]
+      → Fine (Own (arrival_lag (Switch d f) d)) (on d) (opposite d) (value (stands_in n cs p (Switch d f) d m))
+  switched_fine d f h =
+      let a = place_on n (opposite d) (on d) (neighbour n p d) + 1 in
+      let i = extra_lag n (opposite d) (on d) (came d) (neighbour n p d) in
+      subst (λ j. Fine (Own (a + j)) (on d) (opposite d) (value (stands_in n cs p (Switch d f) d m))) (sym (taken d f i (n - 2)))
+      (elim (cases_Bool (carries_in n cs p d m f)) [
+        | inl t ↦ by_origin _ (on d) (opposite d) _ (Protection (opposite d)) (switched-stands n cs p d m f true t) (in_place d f h t)
+        | inr t ↦ by_origin _ (on d) (opposite d) _ Ais (switched-stands n cs p d m f false t) (silent_is_fine _ (on d) (opposite d))
+      ])
 
   open_fine : (x : NodeState) (d : Side) → is_open x d ≡ true
-      → Fine (Own (arrival_lag d)) (on d) (opposite d) (value (stands_in n cs p x d m))
+      → Fine (Own (arrival_lag x d)) (on d) (opposite d) (value (stands_in n cs p x d m))
   open_fine x d o =
-      let a = place_on n (opposite d) (on d) (neighbour n p d) in
-      let less : a * (n + 1) < (a + 1) * (n + 1) = (let h = lag_less n a a 0 (omega arith) peopled in omega arith) in
+      let q = neighbour n p d in
+      let a = place_on n (opposite d) (on d) q in
+      let i = extra_lag n (opposite d) (on d) (came d) q in
+      let less : a + i < a + 1 + by_slot x d i (n - 2) = (let e = straight x d i (n - 2) o in omega arith) in
       by_origin _ (on d) (opposite d) _ (Working d) (open-stands n cs p x d m o)
-      (sooner (a * (n + 1)) (arrival_lag d) less (on d) (opposite d) (value (Working d)) (working_in_fine d))
+      (sooner (a + i) (arrival_lag x d) less (on d) (opposite d) (value (Working d)) (working_in_fine d))
 
   stands_by : (x : NodeState) → state_after s ≡ x → (d : Side)
-      → Fine (Own (arrival_lag d)) (on d) (opposite d) (value (stands_in n cs p x d m))
+      → Fine (Own (arrival_lag x d)) (on d) (opposite d) (value (stands_in n cs p x d m))
   stands_by (state.Isolated i) h d =
       by_origin _ (on d) (opposite d) _ Ais (isolated-stands n cs p d m) (silent_is_fine _ (on d) (opposite d))
   stands_by (state.SwitchWest f) h West = switched_fine West f h
@@ -275,7 +342,7 @@ module _ (Was Own : ℕ → Option PortId → Au → Type 0) (lags : AreLags Was
 
   -- what stands for the working arrival from side d is fine at a node in this state
   abbrev StandsFine : NodeState → Side → Type 0
-  StandsFine x d = Fine (Own (arrival_lag d)) (on d) (opposite d) (value (stands_in n cs p x d m))
+  StandsFine x d = Fine (Own (arrival_lag x d)) (on d) (opposite d) (value (stands_in n cs p x d m))
 
   pub aside_stands : (x : NodeState) → IsAside x → (d : Side) → StandsFine x d
   aside_stands (state.Isolated i) a d =
@@ -286,7 +353,7 @@ module _ (Was Own : ℕ → Option PortId → Au → Type 0) (lags : AreLags Was
   aside_stands (state.SwitchEast f) a d = absurd a
 
   -- what stands for the working arrival from a side
-  pub stands_fine : (d : Side) → Fine (Own (arrival_lag d)) (on d) (opposite d) (value (stands_in n cs p st d m))
+  pub stands_fine : (d : Side) → StandsFine st d
   stands_fine d = stands_by st refl d
 
   -- a node that stands aside puts nothing on protection
@@ -302,39 +369,98 @@ module _ (Was Own : ℕ → Option PortId → Au → Type 0) (lags : AreLags Was
 
   module _ (added_own : (j i : ℕ) (c : Provisioned) (e : End) → slice_get cs i ≡ Some c → port_at c e ≡ p
       → Own j (Some (port_id i e)) (value (port i e)).au) where
+    -- the lag of what leaves in the working slot, beside the word that is sent
     abbrev leaving_lag : Side → ℕ
-    leaving_lag d = working_lag n d (on d) p
+    leaving_lag d = working_lag n d (on d) (source_in ids (word s d)) p
 
-    abbrev WorkingFine : NodeState → Side → Type 0
-    WorkingFine x d = Fine (Own (leaving_lag d)) (on d) d (value (working_in n cs p x d m))
+    abbrev WorkingFine : ℕ → NodeState → Side → Type 0
+    WorkingFine j x d = Fine (Own j) (on d) d (value (working_in n cs p x d m))
 
-    working_by : (x : NodeState) → ((d : Side) → StandsFine x d) → (d : Side) → Meets n cs p m d → WorkingFine x d
-    working_by x stands d (nothing e) = by_origin _ (on d) d _ Ais (leaves-unused n cs p x d m e) (silent_is_fine _ (on d) d)
-    working_by x stands d (ends i c e h get there) = elim (leaves-own_or_none n cs p x i c (sender d) d m e h) [
-      | inl none ↦ by_origin _ (on d) d _ Ais none (silent_is_fine _ (on d) d)
-      | inr own ↦ by_origin _ (on d) d _ (port i (sender d)) own
-          (subst (λ o. Fine (Own (leaving_lag d)) o d (value (port i (sender d)))) (sym e)
-          (inr (added_own (leaving_lag d) i c (sender d) get there)))
+    -- where a circuit goes on here, what stands for its arrival, with lag i, lags no more than this
+    abbrev GoesWithin : ℕ → ℕ → Side → Type 0
+    GoesWithin i j d = on (opposite d) ≡ on d → place_on n d (on d) p ≡ place_on n d (on d) (neighbour n p (opposite d)) + 1 → i ≤ j
+
+    working_by : (x : NodeState) (d : Side) (i j : ℕ) → GoesWithin i j d
+        → Fine (Own i) (on (opposite d)) (opposite (opposite d)) (value (stands_in n cs p x (opposite d) m)) → Meets n cs p m d
+        → WorkingFine j x d
+    working_by x d i j within stands (nothing e) = by_origin j (on d) d _ Ais (leaves-unused n cs p x d m e) (silent_is_fine j (on d) d)
+    working_by x d i j within stands (ends index c e h get there) = elim (leaves-own_or_none n cs p x index c (sender d) d m e h) [
+      | inl none ↦ by_origin j (on d) d _ Ais none (silent_is_fine j (on d) d)
+      | inr own ↦ by_origin j (on d) d _ (port index (sender d)) own
+          (subst (λ o. Fine (Own j) o d (value (port index (sender d)))) (sym e) (inr (added_own j index c (sender d) get there)))
     ]
-    working_by x stands d (goes_on i c e h other next) =
+    working_by x d i j within stands (goes_on index c e h other next) =
         let o = stands_in n cs p x (opposite d) m in
-        let back : opposite (opposite d) ≡ d = opposite_twice d in
-        let lag : arrival_lag (opposite d) ≡ leaving_lag d =
-        (λ k. (place_on n (back k) (other k) (neighbour n p (opposite d)) + 1) * (n + 1)) ∙ ap (λ j. j * (n + 1)) (sym next)
-        ∙ ap (λ o. place_on n d o p * (n + 1)) (sym e) in
-        by_origin _ (on d) d _ o (leaves-on n cs p x i c d m e h)
-        (subst (λ j. Fine (Own j) (on d) d (value o)) lag
-        (subst (λ y. Fine (Own (arrival_lag (opposite d))) (on d) y (value o)) back
-        (subst (λ q. Fine (Own (arrival_lag (opposite d))) q (opposite (opposite d)) (value o)) (other ∙ sym e)
-        (stands (opposite d)))))
+        let one : on (opposite d) ≡ on d = other ∙ sym e in
+        let farther : place_on n d (on d) p ≡ place_on n d (on d) (neighbour n p (opposite d)) + 1 =
+        subst (λ r. place_on n d r p ≡ place_on n d r (neighbour n p (opposite d)) + 1) (sym e) next in
+        by_origin j (on d) d _ o (leaves-on n cs p x index c d m e h)
+        (longer i j (within one farther) (on d) d (value o)
+        (subst (λ y. Fine (Own i) (on d) y (value o)) (opposite_twice d)
+        (subst (λ r. Fine (Own i) r (opposite (opposite d)) (value o)) one stands)))
+
+    -- what a node in any state sends in the working slot is fine, where what stands for its arrival is
+    pub working_from : (x : NodeState) (d : Side) (i j : ℕ) → GoesWithin i j d
+        → Fine (Own i) (on (opposite d)) (opposite (opposite d)) (value (stands_in n cs p x (opposite d) m)) → WorkingFine j x d
+    working_from x d i j within stands = working_by x d i j within stands (meets n cs ring p m inside d)
+
+    -- at the neighbour behind, where a circuit goes on
+    behind_is : (d : Side) → on (opposite d) ≡ on d → place_on n (opposite (opposite d)) (on (opposite d)) (neighbour n p (opposite d))
+        ≡ place_on n d (on d) (neighbour n p (opposite d))
+    behind_is d one = (λ i. place_on n (opposite_twice d i) (one i) (neighbour n p (opposite d)))
+
+    -- what goes on with the word that is sent has gone round only where that word says so
+    extra_by : (d : Side) (g : Pos) → Sourced s p ids same at are inside d g → on (opposite d) ≡ on d
+        → place_on n d (on d) p ≡ place_on n d (on d) (neighbour n p (opposite d)) + 1
+        → extra_lag n (opposite (opposite d)) (on (opposite d)) (came (opposite d)) (neighbour n p (opposite d)) ≤ extra_lag n d (on d) (Some g) p
+    extra_by d g (saying.here is) one next =
+        let few = extra_few n (opposite (opposite d)) (on (opposite d)) (came (opposite d)) (neighbour n p (opposite d)) in
+        let all : extra_lag n d (on d) (Some g) p ≡ n - 2 =
+        extra_behind n d (on d) g p (let same_place = ap (place_on n d (on d)) is in omega arith) in
+        omega arith
+    extra_by d g (saying.passed k h from) one next =
+        let q = neighbour n p (opposite d) in
+        let same_extra : extra_lag n (opposite (opposite d)) (on (opposite d)) (came (opposite d)) q ≡ extra_lag n d (on d) (Some g) q =
+        (λ i. extra_lag n (opposite_twice d i) (one i) ((heard (opposite d) k h ∙ from) i) q) in
+        let grows : extra_lag n d (on d) (Some g) q ≤ extra_lag n d (on d) (Some g) p = extra_on n d (on d) g q p (omega arith) in
+        omega arith
+
+    extra_goes : (d : Side) (o : Option Pos) → source_in ids (word s d) ≡ o → on (opposite d) ≡ on d
+        → place_on n d (on d) p ≡ place_on n d (on d) (neighbour n p (opposite d)) + 1
+        → extra_lag n (opposite (opposite d)) (on (opposite d)) (came (opposite d)) (neighbour n p (opposite d)) ≤ extra_lag n d (on d) o p
+    extra_goes d None h one next = extra_few n (opposite (opposite d)) (on (opposite d)) (came (opposite d)) (neighbour n p (opposite d))
+    extra_goes d (Some g) h one next = extra_by d g (saying.sourced s p ids same at are inside d g h) one next
+
+    -- a node that is switched on a side says so the other way, with its own word
+    extra_switched : (d : Side) (f : Option Pos) → state_after s ≡ Switch (opposite d) f
+        → extra_lag n d (on d) (source_in ids (word s d)) p ≡ n - 2
+    extra_switched d f h =
+        ap (λ g. extra_lag n d (on d) g p) (switched_source s p ids same at are inside d f h)
+        ∙ extra_behind n d (on d) (position_of p) p (omega arith)
+
+    slot_goes : (x : NodeState) → state_after s ≡ x → (d : Side) (i j : ℕ) → i ≤ j
+        → ((f : Option Pos) → state_after s ≡ Switch (opposite d) f → n - 2 ≤ j) → by_slot x (opposite d) i (n - 2) ≤ j
+    slot_goes (state.Isolated x) h d i j less other = less
+    slot_goes (state.PassThrough x) h d i j less other = less
+    slot_goes (state.Idle x) h d i j less other = less
+    slot_goes (state.SwitchWest f) h West i j less other = less
+    slot_goes (state.SwitchWest f) h East i j less other = other f h
+    slot_goes (state.SwitchEast f) h West i j less other = other f h
+    slot_goes (state.SwitchEast f) h East i j less other = less
+
+    goes_within : (d : Side) → GoesWithin (arrival_lag st (opposite d)) (leaving_lag d) d
+    goes_within d one next =
+        let i = extra_lag n (opposite (opposite d)) (on (opposite d)) (came (opposite d)) (neighbour n p (opposite d)) in
+        let j = extra_lag n d (on d) (source_in ids (word s d)) p in
+        let place = behind_is d one in
+        let less : by_slot st (opposite d) i (n - 2) ≤ j =
+        slot_goes st refl d i j (extra_goes d (source_in ids (word s d)) refl one next)
+        (λ f h. (let all = extra_switched d f h in omega arith)) in
+        omega arith
 
     -- what leaves in the working slot
-    pub working_fine : (d : Side) → WorkingFine st d
-    working_fine d = working_by st stands_fine d (meets n cs ring p m inside d)
-
-    -- what a node in any state sends in the working slot is fine, where what stands for its arrivals is
-    pub working_from : (x : NodeState) → ((d : Side) → StandsFine x d) → (d : Side) → WorkingFine x d
-    working_from x stands d = working_by x stands d (meets n cs ring p m inside d)
+    pub working_fine : (d : Side) → WorkingFine (leaving_lag d) st d
+    working_fine d = working_from st d (arrival_lag st (opposite d)) (leaving_lag d) (goes_within d) (stands_fine (opposite d))
 
     -- the lag of what leaves in the protection slot, beside the word that is sent
     abbrev pub beside_lag : Side → ℕ
@@ -342,20 +468,36 @@ module _ (Was Own : ℕ → Option PortId → Au → Type 0) (lags : AreLags Was
 
     -- the own long word speaks of the circuit on the span of the switched side
     own_source : (e : Side) (f : Option Pos) → state_after s ≡ Switch e f → source_in ids (word s (opposite e)) ≡ Some (position_of p)
-    own_source e f h =
-        let is = switched_one s e f h in
-        let says = switched_says_long s e is.this is.other in
-        let d = opposite e in
-        let back : opposite d ≡ e = opposite_twice e in
-        let k = own_word s d (stronger s (opposite d)) (opposite d) Long in
-        let strong : 5 ≤ weight s (opposite d) = subst (λ x. 5 ≤ weight s x) (sym back) says.strong in
-        let own : own_id s ≡ slice_index ids p = λ i. slice_index (same i) (at i) in
-        ap (source_in ids) (word_long s d says.chosen_is)
-        ∙ ap (option_and_then (λ (k : K). found_at ids k.from)) (long_word_is k refl strong)
-        ∙ ap (found_at ids) own ∙ found ids p are inside
+    own_source e f h = switched_source s p ids same at are inside (opposite e) f (h ∙ ap (λ d. Switch d f) (sym (opposite_twice e)))
 
     own_speaks : (e : Side) (f : Option Pos) → state_after s ≡ Switch e f → spoken_of ids cs m e (word s (opposite e)) ≡ on e
     own_speaks e f h = ap (told_of ids cs m e) (own_source e f h)
+
+    other_open : (e : Side) (f : Option Pos) → is_open (Switch e f) (opposite e) ≡ true
+    other_open West f = refl
+    other_open East f = refl
+
+    -- what a switched node puts on protection has come straight: its far end is ahead, and that is where the word has its
+    -- source that came with what stands for the arrival
+    straight_on : (e : Side) (f : Option Pos) → state_after s ≡ Switch e f → carries_in n cs p e m f ≡ true
+        → GoesWithin (arrival_lag (Switch e f) (opposite e)) (place_on n e (on e) p) e
+    straight_on e None h t one next = absurd (no (sym (no_far n cs p e m) ∙ t))
+      where
+        no : false ≡ true → ⊥
+        no z = cc
+    straight_on e (Some f) h t one next =
+        let is = far_from s e f (sym (switched_one s e (Some f) h).end) in
+        let low : f.0 < n = subst (λ i. f.0 < length i) same is.inside in
+        let q = neighbour n p (opposite e) in
+        let i = extra_lag n (opposite (opposite e)) (on (opposite e)) (came (opposite e)) q in
+        let ahead = (is_ahead e f low t).ahead in
+        let place = behind_is e one in
+        let same_extra : i ≡ extra_lag n e (on e) (Some f) q =
+        (λ j. extra_lag n (opposite_twice e j) (one j)
+        ((heard (opposite e) is.k is.heard ∙ heard_source (opposite e) is.k f is.heard is.found) j) q) in
+        let none : extra_lag n e (on e) (Some f) q ≡ 0 = extra_ahead n e (on e) f q (omega arith) in
+        let slot = straight (Switch e (Some f)) (opposite e) i (n - 2) (other_open e (Some f)) in
+        omega arith
 
     bridged_fine : (e : Side) (f : Option Pos) → state_after s ≡ Switch e f
         → Fine (Own (spoken_lag ids cs m e (word s (opposite e)) p)) (spoken_of ids cs m e (word s (opposite e))) e
@@ -365,12 +507,13 @@ module _ (Was Own : ℕ → Option PortId → Au → Type 0) (lags : AreLags Was
           let x = working_in n cs p (Switch e f) e m in
           let lag : protection_lag n e (on e) (Some (position_of p)) p ≡ spoken_lag ids cs m e (word s (opposite e)) p =
           sym (λ k. protection_lag n e (own_speaks e f h k) (own_source e f h k) p) in
-          let more : leaving_lag e ≤ protection_lag n e (on e) (Some (position_of p)) p = omega arith in
+          let more : place_on n e (on e) p ≤ protection_lag n e (on e) (Some (position_of p)) p = omega arith in
           by_origin _ _ e _ x (bridged-leaves n cs p e m f t)
           (subst (λ o. Fine (Own (spoken_lag ids cs m e (word s (opposite e)) p)) o e (value x)) (sym (own_speaks e f h))
           (subst (λ j. Fine (Own j) (on e) e (value x)) lag
-          (longer (leaving_lag e) (protection_lag n e (on e) (Some (position_of p)) p) more (on e) e (value x)
-          (subst (λ y. Fine (Own (leaving_lag e)) (on e) e (value (working_in n cs p y e m))) h (working_fine e))))))
+          (longer (place_on n e (on e) p) (protection_lag n e (on e) (Some (position_of p)) p) more (on e) e (value x)
+          (working_from (Switch e f) e (arrival_lag (Switch e f) (opposite e)) (place_on n e (on e) p) (straight_on e f h t)
+          (stands_by (Switch e f) h (opposite e)))))))
       | inr t ↦ by_origin _ _ e _ Ais (blocked-leaves n cs p e m f t) (silent_is_fine _ _ e)
     ]
 

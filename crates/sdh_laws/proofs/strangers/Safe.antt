@@ -143,7 +143,7 @@ module _ (clocks : PortId → ℕ → Clock) where
             subst (λ z. Fine (Own (t + 1)) (circuits_at n cs p m (opposite e)) (opposite e) (value_at w p m z)) (sym leaves)
             (works_from (λ i. Own t) (λ i. Own (t + 1)) (lags_more clocks w form) w k.whole p h k.vouches m low high ring_is
             (λ j i c e get at. subst (λ y. Own (t + 1) (Some (port_id i e)) (added_by (node_at w.ring.nodes y).ports (port_id i e)).au) at
-            (adds_own clocks w k.whole form tells i c e get)) this goes_on (opposite e))
+            (adds_own clocks w k.whole form tells i c e get)) this (opposite e) 0 0 (omega arith) (goes_on (opposite (opposite e))))
 
         spoken_is : spoken_of w.ring.ids cs m (opposite e) (word_of e (node_at w.ring.nodes p)) ≡ circuits_at n cs p m (opposite e)
         spoken_is = ap (told_of w.ring.ids cs m (opposite e)) (sh.says (let g = k.whole.placed.ids.enough in omega arith))

@@ -29,7 +29,7 @@ use Rattle.sdh_node.proofs.Decided.{scene_in, state_is, word_is}
 use Rattle.sdh_world.specs.Held.{node_at}
 use Rattle.sdh_world.specs.Rounds.{World, round}
 use Rattle.sdh_rounds.specs.Rounds as any_round
-use Rattle.sdh_signal.specs.Walks.{carries_in, stands_in, working_in, protection_in}
+use Rattle.sdh_signal.specs.Walks.{carries_in, working_in, protection_in}
 use Rattle.sdh_signal.proofs.Views.{AreOnRing, Switch, on-ring}
 use Rattle.sdh_signal.proofs.Passing.{isolated-leaves, idle-leaves, bridged-leaves, blocked-leaves, away-leaves, passed-leaves}
 use Rattle.sdh_signal.proofs.OneNode.{long_from}
@@ -42,13 +42,13 @@ use Rattle.sdh_laws.specs.Strangers.Owners.{AreClocksOf}
 use Rattle.sdh_laws.specs.Strangers.Vouched.{HoldsAtMost, IsAside, au_in}
 use Rattle.sdh_laws.proofs.strangers.Arrivals.{heard_came}
 use Rattle.sdh_laws.proofs.strangers.Content.{Bears, Fine}
-use Rattle.sdh_laws.proofs.strangers.Lags.{steps, steps_few, steps_next, source_in}
+use Rattle.sdh_laws.proofs.strangers.Lags.{steps, steps_few, steps_none, steps_next, source_in}
 use Rattle.sdh_laws.proofs.strangers.Rules.{switched_one, heard_is_long, far_from}
 use Rattle.sdh_laws.proofs.strangers.Nodes.{no_far}
 use Rattle.sdh_laws.proofs.strangers.Worlds.{received_fine, working_goes, sent_bears}
-use Rattle.sdh_laws.proofs.strangers.Vouched.{IsReady, state_kept, adds_own, carried_holds, lags_now, lags_more, fine_more}
-use Rattle.sdh_laws.proofs.strangers.Shields.{steps_none, meets-between, Sourced, here, passed, sourced, switched_source, no_both, no_pass}
-use Rattle.sdh_laws.proofs.strangers.Shields.{by_state, Shields}
+use Rattle.sdh_laws.proofs.strangers.Vouched.{IsReady, ready_works, state_kept, adds_own, carried_holds, lags_now, lags_more, fine_more}
+use Rattle.sdh_laws.proofs.strangers.Saying.{Sourced, here, passed, sourced, switched_source}
+use Rattle.sdh_laws.proofs.strangers.Shields.{meets-between, no_both, no_pass, by_state, Shields}
 
 module _ (w : World) (whole : IsWhole w) (q : ℕ) (h : q < length w.ring.nodes) where
   abbrev before : Node
@@ -271,17 +271,11 @@ module _ (clocks : PortId → ℕ → Clock) (w : World) where
     ring_is : AreOnRing n cs
     ring_is = on-ring n slots cs form
 
-    held_stand : (q m : ℕ) → q < length w.ring.nodes → 1 ≤ m → m ≤ slots → is_held (node_at w.ring.nodes q) ≡ true → (d : Side)
-        → Fine (Own (t + 1)) (circuits_at n cs q m d) (opposite d) (value_at w q m (stands_in n cs q (node_at w.ring.nodes q).state d m))
-    held_stand q m h low high held d =
-        fine_more clocks w form (circuits_at n cs q m d) (opposite d)
-        (value_at w q m (stands_in n cs q (node_at w.ring.nodes q).state d m)) (k.stand q m d h low high held)
-
     works : (q m : ℕ) (d : Side) → q < length w.ring.nodes → 1 ≤ m → m ≤ slots → Fine (Own (t + 1)) (circuits_at n cs q m d) d (sent_at w q d m)
     works q m d h low high =
         working_goes (λ i. Own t) (λ i. Own (t + 1)) (lags_more clocks w form) w k.whole q h k.vouches m low high ring_is
         (λ j i c e get at. subst (λ y. Own (t + 1) (Some (port_id i e)) (added_by (node_at w.ring.nodes y).ports (port_id i e)).au) at
-        (adds_own clocks w k.whole form tells i c e get)) (held_stand q m h low high) d
+        (adds_own clocks w k.whole form tells i c e get)) (λ held y. ready_works clocks w form k tells q m y h low high held) d
 
     -- one switched node x, which has a shield
     module _ (x : ℕ) (e : Side) (hx : x < length w.ring.nodes) (a b : ℕ) (sh : Shields clocks a b w x e) (f : Option Pos)

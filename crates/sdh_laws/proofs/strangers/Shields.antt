@@ -1,26 +1,19 @@
 -- A switched node lets no word and no protection AU-4 past it. So it is known whose these are beyond it.
-use Rattle.std.proofs.Common.{◌≡◌, ℕ, suc, ◌+◌, ◌-◌, ◌<◌, ◌≤◌, Bool, true, false, List, length, Option, Some, None, refl, ap, sym}
+use Rattle.std.proofs.Common.{◌≡◌, ℕ, suc, ◌+◌, ◌-◌, ◌<◌, ◌≤◌, true, List, length, Option, Some, refl, ap, sym}
 use Rattle.std.proofs.Common.{◌∙◌, arith, inl, inr, ◌⊎◌}
-use Rattle.std.specs.Prelude.{◌≢◌, slice_index, if◌then◌else◌}
-use Rattle.std.specs.Option.{option_and_then}
+use Rattle.std.specs.Prelude.{◌≢◌}
 use Rattle.std.proofs.lemmas.Bool.{cases_lt}
-use Rattle.sdh_kbytes.specs.declared.K.{K}
-use Rattle.sdh_kbytes.specs.declared.Path.TheVariants.{Long}
-use Rattle.sdh_ringmap.specs.Ids.{AreIds}
-use Rattle.sdh_ringmap.specs.Places.{opposite, span_at, found_at, position_of}
+use Rattle.sdh_ringmap.specs.Places.{opposite, span_at, position_of}
 use Rattle.sdh_ringmap.specs.Steps.{going}
 use Rattle.sdh_ringmap.specs.declared.Pos.{Pos}
 use Rattle.sdh_ringmap.specs.declared.Side.{Side}
 use Rattle.sdh_ringmap.specs.declared.Side.TheVariants.{West, East}
-use Rattle.sdh_ringmap.proofs.Sides.{opposite_twice}
 use Rattle.sdh_ringmap.proofs.Going.{reached, going-none, going-inside, going-add, going-round, way-behind}
 use Rattle.sdh_circuits.specs.Provisioned.{Provisioned}
 use Rattle.sdh_circuits.specs.declared.PortId.{PortId}
 use Rattle.sdh_squelch.specs.Table.{circuits_at, circuit_from}
 use Rattle.sdh_nodestate.specs.declared.NodeState.{NodeState}
 use Rattle.sdh_nodestate.specs.declared.NodeState.TheVariants as state
-use Rattle.sdh_nodestate.specs.Rules.{Scene, own_id, stronger, long, long_word, word, own_word, word_by, chosen, Choice, own_short}
-use Rattle.sdh_nodestate.specs.Rules.{own_long, relay, rest, state_after}
 use Rattle.sdh_payload.specs.Clock.{Clock}
 use Rattle.sdh_ringmap.specs.Fibres.{fibre}
 use Rattle.sdh_plant.specs.Arrivals.{carried_on}
@@ -32,19 +25,13 @@ use Rattle.sdh_signal.proofs.Views.{AreOnRing, Switch}
 use Rattle.sdh_signal.proofs.OnArcs.{near_at, seen-on}
 use Rattle.sdh_signal.proofs.Meets.{meets-farther}
 use Rattle.sdh_signal.proofs.Passing.{is_open}
-use Rattle.sdh_signal.proofs.Ends.{found}
-use Rattle.sdh_signal.proofs.OneNode.{word_long}
 use Rattle.sdh_laws.specs.Carrying.Windows.{layout_of, slots_of}
 use Rattle.sdh_laws.specs.Strangers.Vouched.{streams_to, HoldsAtMost, au_in, IsAside}
 use Rattle.sdh_laws.proofs.strangers.Lags.{steps, steps_going, source_in}
-use Rattle.sdh_laws.proofs.strangers.Rules.{switched_one, relays, switched_says_long, long_word_is}
 
 -- ---- where positions lie round the ring
 
 module _ (n : ℕ) (some : 0 < n) (e : Side) where
-  pub steps_none : (x : ℕ) → x < n → steps n e x x ≡ 0
-  steps_none x h = ap (steps n e x) (sym (going-none n some e x h)) ∙ steps_going n some e x 0 h some
-
   -- from a position k steps on, what is fewer steps on comes last
   around : (q k l : ℕ) → k < n → l < k → (x f : ℕ) → x ≡ going n e q k → f ≡ going n e q l → steps n e x f ≡ n - k + l
   around q k l few less x f at to =
@@ -96,67 +83,6 @@ module _ (n : ℕ) (cs : List Provisioned) (ring : AreOnRing n cs) (some : 0 < n
       ∙ ap (λ s. circuit_from n s m 0 cs) (way-behind n some e b i)
       ∙ ap (λ z. circuit_from n (span_at n (going n e b i) e) z 0 cs) (sym far.slot)
       ∙ seen.on_arc i (omega arith) ∙ sym far.row
-
--- ---- what a node says
-
-module _ (s : Scene) (p : ℕ) (ids : List ℕ) (same : s.ids ≡ ids) (at : s.at ≡ p) (are : AreIds ids) (inside : p < length ids) (d : Side) where
-  own_is : own_id s ≡ slice_index ids p
-  own_is i = slice_index (same i) (at i)
-
-  -- the source of a node's own word is the node
-  own_by : (k : K) → k.from ≡ own_id s → (o : Option K) → long_word k ≡ o → (o ≡ None) ⊎ (o ≡ Some k) → (g : Pos)
-      → source_in ids k ≡ Some g → g.0 ≡ p
-  own_by k from o is (inl none) g h = absurd (no (sym (ap (option_and_then (λ (k : K). found_at ids k.from)) (is ∙ none)) ∙ h))
-    where
-      no : None ≡ Some g → ⊥
-      no z = cc
-  own_by k from o is (inr some) g h =
-      let there : found_at ids k.from ≡ Some (position_of p) = ap (found_at ids) (from ∙ own_is) ∙ found ids p are inside in
-      let both : Some g ≡ Some (position_of p) =
-      sym h ∙ ap (option_and_then (λ (k : K). found_at ids k.from)) (is ∙ some) ∙ there in
-      place both
-    where
-      place : Some g ≡ Some (position_of p) → g.0 ≡ p
-      place z = ap (λ (o : Option Pos). at_or o) z
-        where
-          at_or : Option Pos → ℕ
-          at_or None = 0
-          at_or (Some x) = x.0
-
-  either : (k : K) (b : Bool) → ((if b then Some k else None) ≡ None) ⊎ ((if b then Some k else None) ≡ Some k)
-  either k true = inr refl
-  either k false = inl refl
-
-  own_source : (k : K) → k.from ≡ own_id s → (g : Pos) → source_in ids k ≡ Some g → g.0 ≡ p
-  own_source k from g h = own_by k from (long_word k) refl (either k _) g h
-
-  -- the source of the word that it sends is the node, or that of a long word that it heard on the other side
-  pub data Sourced (g : Pos) : Type 0 where
-    here : g.0 ≡ p → Sourced g
-    passed : (k : K) → long s (opposite d) ≡ Some k → source_in ids k ≡ Some g → Sourced g
-
-  by_choice : (c : Choice) → chosen s d ≡ c → (g : Pos) → source_in ids (word s d) ≡ Some g → Sourced g
-  unfolding word
-  by_choice own_short e g h = here (own_source (word s d) (ap (λ c. (word_by s d c).from) e) g h)
-  by_choice own_long e g h = here (own_source (word s d) (ap (λ c. (word_by s d c).from) e) g h)
-  by_choice rest e g h = here (own_source (word s d) (ap (λ c. (word_by s d c).from) e) g h)
-  by_choice relay e g h = (let r = relays s d e in passed r.k r.heard (ap (source_in ids) (sym r.says) ∙ h))
-
-  pub sourced : (g : Pos) → source_in ids (word s d) ≡ Some g → Sourced g
-  sourced g h = by_choice (chosen s d) refl g h
-
-  -- a node that is switched on the other side says its own long word
-  pub switched_source : (f : Option Pos) → state_after s ≡ Switch (opposite d) f → source_in ids (word s d) ≡ Some (position_of p)
-  switched_source f h =
-      let e = opposite d in
-      let back : opposite e ≡ d = opposite_twice d in
-      let is = switched_one s e f h in
-      let says = switched_says_long s e is.this is.other in
-      let k = own_word s d (stronger s (opposite d)) (opposite d) Long in
-      let chosen_is : chosen s d ≡ own_long = ap (chosen s) (sym back) ∙ says.chosen_is in
-      ap (source_in ids) (word_long s d chosen_is)
-      ∙ ap (option_and_then (λ (k : K). found_at ids k.from)) (long_word_is k refl says.strong)
-      ∙ ap (found_at ids) own_is ∙ found ids p are inside
 
 -- ---- sides and states
 

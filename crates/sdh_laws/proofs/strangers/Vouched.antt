@@ -17,7 +17,9 @@ use Rattle.sdh_squelch.proofs.LookUps.{entry}
 use Rattle.sdh_request.specs.declared.Command.{Command}
 use Rattle.sdh_request.specs.declared.settings.Settings.{Settings}
 use Rattle.sdh_payload.specs.Clock.{Clock}
-use Rattle.sdh_payload.specs.Outlet.{Outlet, silent}
+use Rattle.sdh_payload.specs.Chunk.{taken}
+use Rattle.sdh_payload.specs.declared.chunk.ChunkForm.{ChunkForm}
+use Rattle.sdh_payload.specs.Outlet.{Outlet, silent, delivering}
 use Rattle.sdh_pointer.specs.declared.word.Form.{Form}
 use Rattle.sdh_pointer.specs.declared.word.Form.TheVariants as form
 use Rattle.sdh_pointer.specs.declared.reading.Action.{Action}
@@ -58,21 +60,21 @@ use Rattle.sdh_laws.specs.Strangers.Owners.{ais_comes, bytes_come, NoneMeetsAStr
 use Rattle.sdh_laws.specs.Strangers.Vouched.{streams_to, spoken_of, HoldsAtMost, au_in, IsVouched, IsAside, MissesAside}
 use Rattle.sdh_laws.specs.Strangers.Laws.{HoldsNone, HoldsAside}
 use Rattle.sdh_laws.proofs.strangers.Content.{IsCarried, Bears, Fine}
-use Rattle.sdh_laws.proofs.strangers.Lags.{spoken_lag, AreLags}
+use Rattle.sdh_laws.proofs.strangers.Lags.{working_lag, source_in, spoken_lag, AreLags}
 use Rattle.sdh_laws.proofs.strangers.Nodes.{at_port, sent_to}
-use Rattle.sdh_laws.proofs.strangers.Worlds.{Vouches, WorksOn, SpeaksOf, HeldStand, HeldSay, vouched_round, delivers_fine, aside_delivers}
-use Rattle.sdh_laws.proofs.strangers.Worlds.{aside_says}
+use Rattle.sdh_laws.proofs.strangers.Worlds.{Vouches, WorksOn, SpeaksOf, HeldStand, HeldWork, HeldSay, vouched_round, delivers_fine}
+use Rattle.sdh_laws.proofs.strangers.Worlds.{aside_delivers, aside_says, works_from}
 
 -- ---- what an AU-4 holds is carried
 
-bytes_with : (f : Form) (w : ℕ) (from a : Au) → HasBytesOf from a → HasBytesOf from (au_with f w a)
+pub bytes_with : (f : Form) (w : ℕ) (from a : Au) → HasBytesOf from a → HasBytesOf from (au_with f w a)
 bytes_with form.Normal w from a h = record { payload = h.payload; h3 = inr refl }
 bytes_with form.Enabled w from a h = record { payload = h.payload; h3 = inr refl }
 bytes_with form.Up w from a h = record { payload = h.payload; h3 = inr refl }
 bytes_with form.Down w from a h = record { payload = h.payload; h3 = h.h3 }
 bytes_with form.Ais w from a h = record { payload = h.payload; h3 = inr refl }
 
-own_bytes : (from a : Au) → a ≡ from → HasBytesOf from a
+pub own_bytes : (from a : Au) → a ≡ from → HasBytesOf from a
 own_bytes from a e = record { payload = ap (λ (x : Au). x.payload) e; h3 = inl (ap (λ (x : Au). h3_of x.pointers) e) }
 
 module _ (cs : List Provisioned) (clocks : PortId → ℕ → Clock) where
@@ -108,7 +110,10 @@ module _ (Own : ℕ → Option PortId → Au → Type 0) where
   vouches_node : (f : Node → Node) → ((d : Side) (n : Node) → word_of d (f n) ≡ word_of d n) → (p : ℕ) (w : World) → Vouches Own w
       → Vouches Own (with_node p f w)
   vouches_node f leaves p w k = record {
-    working = each_at_place (WorksOn Own w) f (λ q n x. x) p w.ring.nodes k.working;
+    working = each_at_place (WorksOn Own w) f (λ q n x m d line there low high.
+        (let o = circuits_at (length w.ring.ids) w.ring.circuits.circuits q m d in
+        subst (λ j. Bears (Own (working_lag (length w.ring.ids) d o (source_in w.ring.ids j) q)) o d (au_in w m line))
+        (sym (leaves d n)) (x m d line there low high))) p w.ring.nodes k.working;
     protection = each_at_place (SpeaksOf Own w) f (λ q n x m d line there low high.
         subst (λ j. Bears (Own (spoken_lag w.ring.ids w.ring.circuits.circuits m (opposite d) j q))
         (spoken_of w.ring.ids w.ring.circuits.circuits m (opposite d) j) (opposite d) (au_in w (slots_of (layout_of w) + m) line))
@@ -202,7 +207,7 @@ module _ (clocks : PortId → ℕ → Clock) where
   -- ---- a new ring
 
   module _ (s : Settings) (ids : List ℕ) (circuits : Provisioning) (f : Fibres) (are : AreIds ids) (honest : IsHonest f) where
-    new_free : (p : ℕ) → (new_node s ids circuits.circuits (position_of p)).held ≡ 0
+    pub new_free : (p : ℕ) → (new_node s ids circuits.circuits (position_of p)).held ≡ 0
     unfolding new_node
     new_free p = refl
 
@@ -257,12 +262,12 @@ aside_after w whole k p h =
       | inr none ↦ inl (omega arith)
     ]
 
--- what a port adds to its AU-4 is its own
-pub adds_own : (clocks : PortId → ℕ → Clock) (w : World) → IsWhole w → HasCircuits (layout_of w) → AreClocksOf clocks w.ring
+-- what a port adds to its AU-4 is what it puts in in this round
+pub adds_put : (clocks : PortId → ℕ → Clock) (w : World) → IsWhole w → HasCircuits (layout_of w) → AreClocksOf clocks w.ring
     → (i : ℕ) (c : Provisioned) (e : End) → slice_get w.ring.circuits.circuits i ≡ Some c
-    → Holds w.ring.circuits.circuits clocks (w.ring.rounds + 1) (port_id i e)
+    → HasBytesOf (put_by (customer_at c e) (clocks (port_id i e) w.ring.rounds))
     (added_by (node_at w.ring.nodes (port_at c e)).ports (port_id i e)).au
-adds_own clocks w whole form_is tells i c e get =
+adds_put clocks w whole form_is tells i c e get =
     let inside = end_inside (length w.ring.ids) (slots_of (layout_of w)) w.ring.circuits.circuits form_is i c get e in
     let t = w.ring.rounds in
     let f = found w whole i c e get inside in
@@ -271,7 +276,15 @@ adds_own clocks w whole form_is tells i c e get =
     ≡ put_by (customer_at c e) (clocks (port_id i e) t) =
     ap (λ o. (option_map_or (λ (t : Tributary). input_by (sent_in t.feed)) o no_input).au) f.is
     ∙ λ j. (input_by (sent_in (record { port = f.sender j; clock = clock j }))).au in
-    customers c t get (omega arith) (own_bytes (put_by (customer_at c e) (clocks (port_id i e) t)) _ added)
+    own_bytes (put_by (customer_at c e) (clocks (port_id i e) t)) _ added
+
+-- so it is its own
+pub adds_own : (clocks : PortId → ℕ → Clock) (w : World) → IsWhole w → HasCircuits (layout_of w) → AreClocksOf clocks w.ring
+    → (i : ℕ) (c : Provisioned) (e : End) → slice_get w.ring.circuits.circuits i ≡ Some c
+    → Holds w.ring.circuits.circuits clocks (w.ring.rounds + 1) (port_id i e)
+    (added_by (node_at w.ring.nodes (port_at c e)).ports (port_id i e)).au
+adds_own clocks w whole form_is tells i c e get =
+    customers c w.ring.rounds get (omega arith) (adds_put clocks w whole form_is tells i c e get)
 
 -- ---- what a round needs
 
@@ -299,9 +312,6 @@ module _ (clocks : PortId → ℕ → Clock) (w : World) (form_is : HasCircuits 
   ring_is : AreOnRing size cs
   ring_is = on-ring size (slots_of (layout_of w)) cs form_is
 
-  inside : (i : ℕ) (c : Provisioned) → slice_get cs i ≡ Some c → (e : End) → port_at c e < size
-  inside i c get e = end_inside size (slots_of (layout_of w)) cs form_is i c get e
-
   pub lags_now : AreLags (λ i. Own t) (λ i. Own t)
   lags_now = record {
     was = λ i. carried_holds cs clocks t;
@@ -323,11 +333,18 @@ module _ (clocks : PortId → ℕ → Clock) (w : World) (form_is : HasCircuits 
   fine_more o d x (inl z) = inl z
   fine_more o d x (inr z) = inr (holds_more cs clocks t (streams_to d o) x.au z)
 
+  -- what the nodes whose controllers miss the turn send in working slots is fine, where what they take is
+  pub ready_works : IsReady clocks w → AreClocksOf clocks w.ring → HeldWork (λ i. Own (t + 1)) w
+  ready_works k tells p m d h low high held =
+      works_from (λ i. Own t) (λ i. Own (t + 1)) lags_more w k.whole p h k.vouches m low high ring_is
+      (λ j i c e get at. subst (λ y. Own (t + 1) (Some (port_id i e)) (added_by (node_at w.ring.nodes y).ports (port_id i e)).au) at
+      (adds_own clocks w k.whole form_is tells i c e get)) (node_at w.ring.nodes p).state d 0 0 (omega arith)
+      (fine_more (circuits_at size cs p m (opposite d)) (opposite (opposite d))
+      (value_at w p m (stands_in size cs p (node_at w.ring.nodes p).state (opposite d) m)) (k.stand p m (opposite d) h low high held))
+
   pub ready_goes : IsReady clocks w → AreClocksOf clocks w.ring → Vouches (λ i. Own (t + 1)) (round w)
   ready_goes k tells =
-      vouched_round (λ i. Own t) (λ i. Own (t + 1)) lags_more w k.whole ring_is
-      (λ p m d h low high held. fine_more (circuits_at size cs p m d) (opposite d)
-      (value_at w p m (stands_in size cs p (node_at w.ring.nodes p).state d m)) (k.stand p m d h low high held)) k.say k.vouches
+      vouched_round (λ i. Own t) (λ i. Own (t + 1)) lags_more w k.whole ring_is (ready_works k tells) k.say k.vouches
       (λ j i c e get. adds_own clocks w k.whole form_is tells i c e get)
 
   -- ---- a ring in which only nodes that stand aside miss their turns
@@ -353,61 +370,90 @@ module _ (clocks : PortId → ℕ → Clock) (w : World) (form_is : HasCircuits 
         protection = λ p m d line h there low high. goes.protection p h m d line there low high;
       }
 
-  -- ---- deliveries
+-- ---- deliveries
 
-  still_there : (i : ℕ) (c : Provisioned) → slice_get (round w).ring.circuits.circuits i ≡ Some c → slice_get cs i ≡ Some c
-  unfolding any_round.round any_round.round_with
-  still_there i c get = get
+-- a port delivers AIS, or a chunk of an AU-4 that has this property for the other port
+pub data Delivers (P : Option PortId → Au → Type 0) (q : PortId) (o : Outlet) : Type 0 where
+  silence_comes : o ≡ silent → Delivers P q o
+  chunk_comes : (value : ℕ) (form : ChunkForm) (a : Au) → o ≡ delivering value (taken form a.payload (h3_of a.pointers))
+      → P (Some (other_port q)) a → Delivers P q o
 
-  meets_by : (q : PortId) (a : Action) (x : Input) (o : Outlet) → o ≡ delivered_by a x
-      → (a ≡ action.Ais) ⊎ Holds cs clocks t (other_port q) x.au → MeetsNoStranger cs clocks t q o
-  meets_by q action.Ais x o is own = ais_comes is
-  meets_by q action.Normal x o is (inl z) = cc
-  meets_by q action.Normal x o is (inr own) = bytes_come x.value (chunk_form x.action) x.au is own
-  meets_by q action.New x o is (inl z) = cc
-  meets_by q action.New x o is (inr own) = bytes_come x.value (chunk_form x.action) x.au is own
-  meets_by q action.Up x o is (inl z) = cc
-  meets_by q action.Up x o is (inr own) = bytes_come x.value (chunk_form x.action) x.au is own
-  meets_by q action.Down x o is (inl z) = cc
-  meets_by q action.Down x o is (inr own) = bytes_come x.value (chunk_form x.action) x.au is own
+module _ (P : Option PortId → Au → Type 0) where
+  delivers_by : (q : PortId) (a : Action) (x : Input) (o : Outlet) → o ≡ delivered_by a x
+      → (a ≡ action.Ais) ⊎ P (Some (other_port q)) x.au → Delivers P q o
+  delivers_by q action.Ais x o is own = silence_comes is
+  delivers_by q action.Normal x o is (inl z) = cc
+  delivers_by q action.Normal x o is (inr own) = chunk_comes x.value (chunk_form x.action) x.au is own
+  delivers_by q action.New x o is (inl z) = cc
+  delivers_by q action.New x o is (inr own) = chunk_comes x.value (chunk_form x.action) x.au is own
+  delivers_by q action.Up x o is (inl z) = cc
+  delivers_by q action.Up x o is (inr own) = chunk_comes x.value (chunk_form x.action) x.au is own
+  delivers_by q action.Down x o is (inl z) = cc
+  delivers_by q action.Down x o is (inr own) = chunk_comes x.value (chunk_form x.action) x.au is own
 
-  meets : (q : PortId) (x : Input) (o : Outlet) → o ≡ delivered_from x → (x.action ≡ action.Ais) ⊎ Holds cs clocks t (other_port q) x.au
-      → MeetsNoStranger cs clocks t q o
+  delivers_from : (q : PortId) (x : Input) (o : Outlet) → o ≡ delivered_from x → (x.action ≡ action.Ais) ⊎ P (Some (other_port q)) x.au
+      → Delivers P q o
   unfolding delivered_from
-  meets q x o is own = meets_by q x.action x o is own
+  delivers_from q x o is own = delivers_by q x.action x o is own
 
-  own_of : (i : ℕ) (c : Provisioned) (e : End) (x : Input) → Fine (Own t) (Some (entry i c)) (opposite (inward e)) x
-      → (x.action ≡ action.Ais) ⊎ Holds cs clocks t (other_port (port_id i e)) x.au
+  own_of : (i : ℕ) (c : Provisioned) (e : End) (x : Input) → Fine P (Some (entry i c)) (opposite (inward e)) x
+      → (x.action ≡ action.Ais) ⊎ P (Some (other_port (port_id i e))) x.au
   own_of i c e x (inl ais) = inl ais
-  own_of i c e x (inr is) = inr (subst (λ y. Holds cs clocks t (port_id i y) x.au) (sent_to e) is)
+  own_of i c e x (inr is) = inr (subst (λ y. P (Some (port_id i y)) x.au) (sent_to e) is)
 
-  delivers : IsReady clocks w → (i : ℕ) (c : Provisioned) → slice_get (round w).ring.circuits.circuits i ≡ Some c → (e : End)
-      → MeetsNoStranger cs clocks t (port_id i e) (outlet_at (round w).ring (port_id i e))
-  delivers k i c there e =
-      let get = still_there i c there in
-      let u = round w in
-      let hu = whole_round w k.whole in
-      let p = port_at c e in
-      let lt = inside i c get e in
-      let h : p < length w.ring.nodes = omega (arith, count w k.whole.placed) in
-      let hp : p < length u.ring.nodes = omega (arith, length-after w) in
-      let st = (node_at u.ring.nodes p).state in
-      let m = c.slot.0 in
-      let slot = slot_inside (slots_of (layout_of w)) cs form_is.in_slots i c get in
-      let found_at = port-found u.ring.circuits.circuits (node_at u.ring.nodes p).ports i c e there (node_of u hu p hp).ports_are in
-      let input = value_at w p m (stands_in size cs p st (inward e) m) in
-      let out : outlet_at u.ring (port_id i e) ≡ delivered_from input =
-      outlet_there u hu i c e there hp ∙ ap (λ o. option_map_or (λ (t : Tributary). t.outlet) o silent) found_at.is
-      ∙ found_arrives w k.whole i c e h st (state_in_turn w k.whole p h) found_at in
-      let fine : Fine (Own t) (circuits_at size cs p m (inward e)) (opposite (inward e)) input =
-      delivers_fine (λ i. Own t) (λ i. Own t) lags_now w k.whole p h k.vouches m slot.from_1 slot.small ring_is
-      (λ held d. k.stand p m d h slot.from_1 slot.small held) (inward e) in
-      let own : Fine (Own t) (Some (entry i c)) (opposite (inward e)) input =
-      subst (λ o. Fine (Own t) o (opposite (inward e)) input) (at_port size cs ring_is i c get e) fine in
-      meets (port_id i e) input _ out (own_of i c e input own)
+  module _ (w : World) (form_is : HasCircuits (layout_of w)) (whole : IsWhole w)
+      (stands : (p m : ℕ) (d : Side) → p < length w.ring.nodes → 1 ≤ m → m ≤ slots_of (layout_of w)
+      → Fine P (circuits_at (length w.ring.ids) w.ring.circuits.circuits p m d) (opposite d)
+      (value_at w p m (stands_in (length w.ring.ids) w.ring.circuits.circuits p (node_at (round w).ring.nodes p).state d m))) where
+    still_there : (i : ℕ) (c : Provisioned) → slice_get (round w).ring.circuits.circuits i ≡ Some c
+        → slice_get w.ring.circuits.circuits i ≡ Some c
+    unfolding any_round.round any_round.round_with
+    still_there i c get = get
+
+    -- what each port delivers in the round
+    pub delivers : (i : ℕ) (c : Provisioned) → slice_get (round w).ring.circuits.circuits i ≡ Some c → (e : End)
+        → Delivers P (port_id i e) (outlet_at (round w).ring (port_id i e))
+    delivers i c there e =
+        let cs = w.ring.circuits.circuits in
+        let size = length w.ring.ids in
+        let get = still_there i c there in
+        let u = round w in
+        let hu = whole_round w whole in
+        let p = port_at c e in
+        let lt = end_inside size (slots_of (layout_of w)) cs form_is i c get e in
+        let h : p < length w.ring.nodes = omega (arith, count w whole.placed) in
+        let hp : p < length u.ring.nodes = omega (arith, length-after w) in
+        let st = (node_at u.ring.nodes p).state in
+        let m = c.slot.0 in
+        let slot = slot_inside (slots_of (layout_of w)) cs form_is.in_slots i c get in
+        let found_at = port-found u.ring.circuits.circuits (node_at u.ring.nodes p).ports i c e there (node_of u hu p hp).ports_are in
+        let input = value_at w p m (stands_in size cs p st (inward e) m) in
+        let out : outlet_at u.ring (port_id i e) ≡ delivered_from input =
+        outlet_there u hu i c e there hp ∙ ap (λ o. option_map_or (λ (t : Tributary). t.outlet) o silent) found_at.is
+        ∙ found_arrives w whole i c e h st (state_in_turn w whole p h) found_at in
+        let own : Fine P (Some (entry i c)) (opposite (inward e)) input =
+        subst (λ o. Fine P o (opposite (inward e)) input)
+        (at_port size cs (on-ring size (slots_of (layout_of w)) cs form_is) i c get e) (stands p m (inward e) h slot.from_1 slot.small) in
+        delivers_from (port_id i e) input _ out (own_of i c e input own)
+
+module _ (clocks : PortId → ℕ → Clock) (w : World) (form_is : HasCircuits (layout_of w)) where
+  meets : (t : ℕ) (q : PortId) (o : Outlet) → Delivers (HoldsAtMost w.ring.circuits.circuits clocks t) q o
+      → MeetsNoStranger w.ring.circuits.circuits clocks t q o
+  meets t q o (silence_comes is) = ais_comes is
+  meets t q o (chunk_comes value form a is own) = bytes_come value form a is own
+
+  ready_delivers : IsReady clocks w → (i : ℕ) (c : Provisioned) → slice_get (round w).ring.circuits.circuits i ≡ Some c → (e : End)
+      → Delivers (HoldsAtMost w.ring.circuits.circuits clocks w.ring.rounds) (port_id i e) (outlet_at (round w).ring (port_id i e))
+  ready_delivers k =
+      delivers (HoldsAtMost w.ring.circuits.circuits clocks w.ring.rounds) w form_is k.whole
+      (λ p m d h low high. delivers_fine (λ i. HoldsAtMost w.ring.circuits.circuits clocks w.ring.rounds)
+      (λ i. HoldsAtMost w.ring.circuits.circuits clocks w.ring.rounds) (lags_now clocks w form_is) w k.whole p h k.vouches m low high
+      (ring_is clocks w form_is) (λ held d. k.stand p m d h low high held) d)
 
   pub none_meets : IsReady clocks w → NoneMeetsAStranger clocks (round w).ring
   unfolding any_round.round any_round.round_with
   none_meets k i c get e =
+      let t = w.ring.rounds in
       let back : t ≡ t + 1 - 1 = omega arith in
-      subst (λ r. MeetsNoStranger cs clocks r (port_id i e) (outlet_at (round w).ring (port_id i e))) back (delivers k i c get e)
+      subst (λ r. MeetsNoStranger w.ring.circuits.circuits clocks r (port_id i e) (outlet_at (round w).ring (port_id i e))) back
+      (meets t (port_id i e) _ (ready_delivers k i c get e))

@@ -1,5 +1,5 @@
 -- A round of a whole world: what its frames hold is what the words in them speak of.
-use Rattle.std.proofs.Common.{◌≡◌, ℕ, ◌+◌, ◌-◌, ◌*◌, ◌<◌, ◌≤◌, Bool, true, false, List, length, Option, Some, refl, ap, sym, ◌∙◌, subst, arith}
+use Rattle.std.proofs.Common.{◌≡◌, ℕ, ◌+◌, ◌-◌, ◌<◌, ◌≤◌, Bool, true, false, List, length, Option, Some, refl, ap, sym, ◌∙◌, subst, arith}
 use Rattle.std.proofs.Common.{inl, inr}
 use Rattle.std.specs.Prelude.{if◌then◌else◌, slice_get}
 use Rattle.std.proofs.lemmas.Bool.{cases_Bool, cases_lt}
@@ -8,6 +8,7 @@ use Rattle.sdh_ringmap.specs.Rates.{n_of}
 use Rattle.sdh_frame.specs.Aus.{Au}
 use Rattle.sdh_kbytes.specs.declared.K.{K}
 use Rattle.sdh_ringmap.specs.Places.{opposite, neighbour}
+use Rattle.sdh_ringmap.specs.declared.Pos.{Pos}
 use Rattle.sdh_ringmap.specs.declared.Side.{Side}
 use Rattle.sdh_ringmap.proofs.Sides.{opposite_twice}
 use Rattle.sdh_circuits.specs.Provisioned.{Provisioned}
@@ -40,11 +41,11 @@ use Rattle.sdh_signal.specs.Walks.{port, port_at, stands_in, working_in, protect
 use Rattle.sdh_signal.proofs.Views.{AreOnRing}
 use Rattle.sdh_laws.specs.Strangers.Vouched.{streams_to, spoken_of, au_in, IsAside}
 use Rattle.sdh_laws.proofs.strangers.Content.{IsCarried, Bears, Fine, bears_sent}
-use Rattle.sdh_laws.proofs.strangers.Lags.{place_on, working_lag, spoken_lag, AreLags}
+use Rattle.sdh_laws.proofs.strangers.Lags.{working_lag, stand_lag, source_in, spoken_lag, AreLags}
 use Rattle.sdh_signal.proofs.OneNode.{long_from}
 use Rattle.sdh_rounds.specs.Rounds as any_round
 use Rattle.sdh_laws.proofs.strangers.Arrivals.{span_across, lost, silent_first, au_received, ones_received, heard_came}
-use Rattle.sdh_laws.proofs.strangers.Nodes.{stands_fine, protection_fine, aside_stands, aside_protection, working_from}
+use Rattle.sdh_laws.proofs.strangers.Nodes.{stands_fine, working_fine, protection_fine, aside_stands, aside_protection, working_from}
 
 -- ---- what is fine at a node in a state, of what comes in and by its word
 
@@ -52,13 +53,14 @@ module _ (Own : ℕ → Option PortId → Au → Type 0) (w : World) (p m : ℕ)
   abbrev pub StandsAt : NodeState → Type 0
   StandsAt x =
       (let n = length w.ring.ids in let cs = w.ring.circuits.circuits in
-      Fine (Own ((place_on n (opposite d) (circuits_at n cs p m d) (neighbour n p d) + 1) * (n + 1))) (circuits_at n cs p m d) (opposite d)
-      (value_at w p m (stands_in n cs p x d m)))
+      Fine (Own (stand_lag n d (circuits_at n cs p m d) (source_in w.ring.ids (word_to w p d)) (neighbour n p d) x)) (circuits_at n cs p m d)
+      (opposite d) (value_at w p m (stands_in n cs p x d m)))
 
-  abbrev pub WorksAt : NodeState → Type 0
-  WorksAt x =
+  abbrev pub WorksAt : K → NodeState → Type 0
+  WorksAt k x =
       (let n = length w.ring.ids in let cs = w.ring.circuits.circuits in
-      Fine (Own (working_lag n d (circuits_at n cs p m d) p)) (circuits_at n cs p m d) d (value_at w p m (working_in n cs p x d m)))
+      Fine (Own (working_lag n d (circuits_at n cs p m d) (source_in w.ring.ids k) p)) (circuits_at n cs p m d) d
+      (value_at w p m (working_in n cs p x d m)))
 
   abbrev pub SaysAt : K → NodeState → Type 0
   SaysAt k x =
@@ -71,6 +73,11 @@ abbrev pub HeldStand : (ℕ → Option PortId → Au → Type 0) → World → T
 HeldStand Own w = (p m : ℕ) (d : Side) → p < length w.ring.nodes → 1 ≤ m → m ≤ slots_of (layout_of w)
     → is_held (node_at w.ring.nodes p) ≡ true → StandsAt Own w p m d (node_at w.ring.nodes p).state
 
+abbrev pub HeldWork : (ℕ → Option PortId → Au → Type 0) → World → Type 0
+HeldWork Own w = (p m : ℕ) (d : Side) → p < length w.ring.nodes → 1 ≤ m → m ≤ slots_of (layout_of w)
+    → is_held (node_at w.ring.nodes p) ≡ true
+    → WorksAt Own w p m d (word_of d (node_at w.ring.nodes p)) (node_at w.ring.nodes p).state
+
 abbrev pub HeldSay : (ℕ → Option PortId → Au → Type 0) → World → Type 0
 HeldSay Own w = (p m : ℕ) (d : Side) → p < length w.ring.nodes → 1 ≤ m → m ≤ slots_of (layout_of w)
     → is_held (node_at w.ring.nodes p) ≡ true
@@ -82,8 +89,8 @@ HeldSay Own w = (p m : ℕ) (d : Side) → p < length w.ring.nodes → 1 ≤ m �
 module _ (Own : ℕ → Option PortId → Au → Type 0) where
   abbrev pub WorksOn : World → ℕ → Node → Type 0
   WorksOn w p node = (m : ℕ) (d : Side) (line : List ℕ) → carried_on w.fibres (fibre p d) ≡ Some line → 1 ≤ m → m ≤ slots_of (layout_of w)
-      → (let o = circuits_at (length w.ring.ids) w.ring.circuits.circuits p m d in Bears (Own (working_lag (length w.ring.ids) d o p)) o d
-      (au_in w m line))
+      → (let o = circuits_at (length w.ring.ids) w.ring.circuits.circuits p m d in
+      Bears (Own (working_lag (length w.ring.ids) d o (source_in w.ring.ids (word_of d node)) p)) o d (au_in w m line))
 
   abbrev pub SpeaksOf : World → ℕ → Node → Type 0
   SpeaksOf w p node = (m : ℕ) (d : Side) (line : List ℕ) → carried_on w.fibres (fibre p d) ≡ Some line → 1 ≤ m → m ≤ slots_of (layout_of w)
@@ -159,18 +166,25 @@ module _ (Was Own : ℕ → Option PortId → Au → Type 0) (lags : AreLags Was
         subst (λ (j : K). IsMember ids j.from) (heard_came w whole p h d k (long_from s d k e).heard).is
         (whole.paired.sourced (back d) (neighbour_inside w whole p d) (opposite d))
 
+    -- the source of the word that comes in
+    abbrev pub came : Side → Option Pos
+    came d = source_in ids (word_to w p d)
+
+    pub heard : (d : Side) (k : K) → long s d ≡ Some k → came d ≡ source_in ids k
+    heard d k e = ap (source_in ids) (heard_came w whole p h d k (long_from s d k e).heard).is
+
     -- ---- both arrivals
 
     module _ (vouched : Vouches Was w) (m : ℕ) (low : 1 ≤ m) (high : m ≤ slots) where
       pub inside : p < n
       inside = omega (arith, count w whole.placed)
 
-      pub working_comes : (d : Side) → Fine (Was (working_lag n (opposite d) (circuits_at n cs p m d) (back d))) (circuits_at n cs p m d)
-          (opposite d) (value_at w p m (Working d))
+      pub working_comes : (d : Side) → Fine (Was (working_lag n (opposite d) (circuits_at n cs p m d) (came d) (back d)))
+          (circuits_at n cs p m d) (opposite d) (value_at w p m (Working d))
       working_comes d =
-          received_fine (working_lag n (opposite d) (circuits_at n cs p m d) (back d)) (circuits_at n cs p m d) (opposite d) d m low
+          received_fine (working_lag n (opposite d) (circuits_at n cs p m d) (came d) (back d)) (circuits_at n cs p m d) (opposite d) d m low
           (omega arith) (λ line kept there.
-          subst (λ o. Bears (Was (working_lag n (opposite d) o (back d))) o (opposite d) (au_in w m line))
+          subst (λ o. Bears (Was (working_lag n (opposite d) o (came d) (back d))) o (opposite d) (au_in w m line))
           (ap (λ z. circuit_on n cs z m) (span_across n p d inside))
           (vouched.working (back d) (neighbour_inside w whole p d) m (opposite d) line there low high))
 
@@ -214,12 +228,12 @@ module _ (Was Own : ℕ → Option PortId → Au → Type 0) (lags : AreLags Was
         pub aside_delivers : (x : NodeState) → IsAside x → (d : Side) → StandsAt Own w p m d x
         aside_delivers x a d =
             aside_stands Was Own lags ids cs whole.placed.ids ring s (scene_ids w whole p h) p (scene_place w whole p h) inside m
-            (value_at w p m) working_comes protection_comes sourced_words silence x a d
+            (value_at w p m) came working_comes protection_comes sourced_words heard silence x a d
 
         pub aside_says : (x : NodeState) → IsAside x → (d : Side) (k : K) → SaysAt Own w p m d k x
         aside_says x a d k =
             aside_protection Was Own lags ids cs whole.placed.ids ring s (scene_ids w whole p h) p (scene_place w whole p h) inside m
-            (value_at w p m) working_comes protection_comes sourced_words silence x a (spoken_lag ids cs m (opposite d) k p)
+            (value_at w p m) came working_comes protection_comes sourced_words heard silence x a (spoken_lag ids cs m (opposite d) k p)
             (spoken_of ids cs m (opposite d) k) d
 
         module _ (held_stands : is_held before ≡ true → (d : Side) → StandsAt Own w p m d before.state) where
@@ -228,23 +242,34 @@ module _ (Was Own : ℕ → Option PortId → Au → Type 0) (lags : AreLags Was
             | inl held ↦ subst (StandsAt Own w p m d) (sym (state_by_turn true held)) (held_stands held d)
             | inr turn ↦ subst (StandsAt Own w p m d) (sym (state_by_turn false turn))
                 (stands_fine Was Own lags ids cs whole.placed.ids ring s (scene_ids w whole p h) p (scene_place w whole p h) inside m
-                (value_at w p m) working_comes protection_comes sourced_words silence d)
+                (value_at w p m) came working_comes protection_comes sourced_words heard silence d)
           ]
 
         module _ (added : (j i : ℕ) (c : Provisioned) (e : End) → slice_get cs i ≡ Some c → port_at c e ≡ p
             → Own j (Some (port_id i e)) (value_at w p m (port i e)).au) where
-          -- what leaves in the working slot of a node in any state, where what stands for its arrivals is fine
-          pub works_from : (x : NodeState) → ((d : Side) → StandsAt Own w p m d x) → (d : Side) → WorksAt Own w p m d x
-          works_from x stands d =
+          -- what leaves in the working slot of a node in any state, where what stands for its arrival is fine, and lags no
+          -- more
+          pub works_from : (x : NodeState) (d : Side) (i j : ℕ) → i ≤ j
+              → Fine (Own i) (circuits_at n cs p m (opposite d)) (opposite (opposite d)) (value_at w p m (stands_in n cs p x (opposite d) m))
+              → Fine (Own j) (circuits_at n cs p m d) d (value_at w p m (working_in n cs p x d m))
+          works_from x d i j less stands =
               working_from Was Own lags ids cs whole.placed.ids ring s (scene_ids w whole p h) p (scene_place w whole p h) inside m
-              (value_at w p m) working_comes protection_comes sourced_words silence added x stands d
+              (value_at w p m) came working_comes protection_comes sourced_words heard silence added x d i j (λ one next. less) stands
 
-          abbrev Works : Side → Input → Type 0
-          Works d i = Fine (Own (working_lag n d (circuits_at n cs p m d) p)) (circuits_at n cs p m d) d i
+          abbrev Works : Side → K → Input → Type 0
+          Works d k i = Fine (Own (working_lag n d (circuits_at n cs p m d) (source_in ids k) p)) (circuits_at n cs p m d) d i
 
-          pub working_goes : (is_held before ≡ true → (d : Side) → StandsAt Own w p m d before.state) → (d : Side) → Works d (sent_at w p d m)
-          working_goes held_stands d =
-              subst (Works d) (sym (sends_working w whole p m d st inside high refl)) (works_from st (delivers_fine held_stands) d)
+          pub working_goes : (is_held before ≡ true → (d : Side) → WorksAt Own w p m d (word_of d before) before.state) → (d : Side)
+              → Works d (word_of d (node_at (round w).ring.nodes p)) (sent_at w p d m)
+          working_goes held_works d = elim (cases_Bool (is_held before)) [
+            | inl held ↦ subst (λ k. Works d k (sent_at w p d m)) (sym (word_by_turn true held d))
+                (subst (Works d (word_of d before)) (sym (sends_working w whole p m d before.state inside high (state_by_turn true held)))
+                (held_works held d))
+            | inr turn ↦ subst (λ k. Works d k (sent_at w p d m)) (sym (word_by_turn false turn d))
+                (subst (Works d (word s d)) (sym (sends_working w whole p m d (state_after s) inside high (state_by_turn false turn)))
+                (working_fine Was Own lags ids cs whole.placed.ids ring s (scene_ids w whole p h) p (scene_place w whole p h) inside
+                m (value_at w p m) came working_comes protection_comes sourced_words heard silence added d))
+          ]
 
           abbrev Said : Side → K → Input → Type 0
           Said d k i = Fine (Own (spoken_lag ids cs m (opposite d) k p)) (spoken_of ids cs m (opposite d) k) (opposite d) i
@@ -258,7 +283,7 @@ module _ (Was Own : ℕ → Option PortId → Au → Type 0) (lags : AreLags Was
             | inr turn ↦ subst (λ k. Said d k (sent_at w p d (slots + m))) (sym (word_by_turn false turn d))
                 (subst (Said d (word s d)) (sym (sends_protection w whole p m d (state_after s) inside low (state_by_turn false turn)))
                 (protection_fine Was Own lags ids cs whole.placed.ids ring s (scene_ids w whole p h) p (scene_place w whole p h) inside
-                m (value_at w p m) working_comes protection_comes sourced_words silence added d))
+                m (value_at w p m) came working_comes protection_comes sourced_words heard silence added d))
           ]
 
   -- ---- the round
@@ -270,7 +295,7 @@ module _ (Was Own : ℕ → Option PortId → Au → Type 0) (lags : AreLags Was
       → Own j (Some (port_id i e)) (added_by (node_at w.ring.nodes (port_at c e)).ports (port_id i e)).au
 
   module _ (w : World) (whole : IsWhole w) (ring : AreOnRing (length w.ring.ids) w.ring.circuits.circuits)
-      (held_stand : HeldStand Own w) (held_say : HeldSay Own w) (vouched : Vouches Was w) (add : AddOwn w) where
+      (held_work : HeldWork Own w) (held_say : HeldSay Own w) (vouched : Vouches Was w) (add : AddOwn w) where
     pub added_at : (p m j i : ℕ) (c : Provisioned) (e : End) → slice_get w.ring.circuits.circuits i ≡ Some c → port_at c e ≡ p
         → Own j (Some (port_id i e)) (value_at w p m (port i e)).au
     added_at p m j i c e get at =
@@ -281,7 +306,7 @@ module _ (Was Own : ℕ → Option PortId → Au → Type 0) (lags : AreLags Was
     vouched_round = record {
       working = λ p h m d line there low high. (let ph : p < length w.ring.nodes = omega (arith, length-after w) in
           sent_bears _ (lags.own _) w whole _ d p m d line ph low (omega arith) there
-          (working_goes w whole p ph vouched m low high ring (added_at p m) (λ held e. held_stand p m e ph low high held) d));
+          (working_goes w whole p ph vouched m low high ring (added_at p m) (λ held e. held_work p m e ph low high held) d));
       protection = λ p h m d line there low high. (let ph : p < length w.ring.nodes = omega (arith, length-after w) in
           sent_bears _ (lags.own _) w whole _ (opposite d) p (slots_of (layout_of w) + m) d line ph (omega arith) (omega arith) there
           (protection_goes w whole p ph vouched m low high ring (added_at p m) (λ held e. held_say p m e ph low high held) d));

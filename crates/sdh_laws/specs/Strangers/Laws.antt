@@ -27,6 +27,7 @@ use Rattle.sdh_promise.specs.Owed.{asked_in}
 use Rattle.sdh_laws.specs.Hearing.Laws.{IsWhole, MayStart}
 use Rattle.sdh_laws.specs.Carrying.Windows.{layout_of, HasCircuits}
 use Rattle.sdh_laws.specs.Strangers.Owners.{NoneMeetsAStranger, AreClocksOf, AreClocksBetween}
+use Rattle.sdh_laws.specs.Strangers.Ages.{NoneMeetsAStrangerSince}
 use Rattle.sdh_laws.specs.Strangers.Vouched.{IsAside, IsVouched}
 
 -- ---- no controller is held
@@ -215,11 +216,46 @@ AHoldSpoilsItsOwnStepAlone =
 -- ---- from every whole ring on
 
 -- Whatever a ring carries, and whatever happens to it except further holds, it becomes vouched for. That takes `most`
--- rounds, in which the last controller stops missing rounds, and then n(n + 1) rounds: n + 1 for each span of an arc,
--- which has fewer than n spans.
+-- rounds, in which the last controller stops missing rounds, and then 2n - 2 rounds: bytes go round the ring at most
+-- once, and that past one span of their arc at least.
 abbrev pub RingsComeToBeVouchedFor : Type 0
 RingsComeToBeVouchedFor =
     (most : ℕ) (w : World) (ss : List Stretch) (clocks : PortId → ℕ → Clock) → IsWhole w → HasCircuits (layout_of w)
     → AtEach (λ p n. n.held ≤ most) w.ring.nodes → MayHappen w ss → NoneHolds ss
     → ((j : ℕ) → j < rounds_in ss → AreClocksOf clocks (world_in ss w j).ring)
-    → (t : ℕ) → most + length w.ring.ids * (length w.ring.ids + 1) ≤ t → t ≤ rounds_in ss → IsVouched clocks (world_in ss w t)
+    → (t : ℕ) → most + 2 * length w.ring.ids ≤ t + 2 → t ≤ rounds_in ss → IsVouched clocks (world_in ss w t)
+
+-- Its ports meet no stranger as soon as 2n - 3 rounds are over in which no controller missed its turn. From then on no
+-- port delivers bytes that are older than 2n - 3 rounds.
+abbrev pub StrangersAreGoneSoon : Type 0
+StrangersAreGoneSoon =
+    (most : ℕ) (w : World) (ss : List Stretch) (clocks : PortId → ℕ → Clock) → IsWhole w → HasCircuits (layout_of w)
+    → AtEach (λ p n. n.held ≤ most) w.ring.nodes → MayHappen w ss → NoneHolds ss
+    → ((j : ℕ) → j < rounds_in ss → AreClocksOf clocks (world_in ss w j).ring)
+    → (t : ℕ) → most + 2 * length w.ring.ids ≤ t + 3 → t < rounds_in ss
+    → NoneMeetsAStrangerSince (w.ring.rounds + t + 3 - 2 * length w.ring.ids) clocks (round (world_in ss w t)).ring
+
+-- Over rounds alone, from a whole ring on in which no controller misses more than `most` turns, from 2n - 3 rounds after
+-- these on no port delivers bytes that are older than 2n - 3 rounds, whatever the ring carried. These are the ports'
+-- clocks before each round.
+abbrev pub DeliversRecentBytes : World → World → Type 0
+DeliversRecentBytes w left =
+    (most : ℕ) (clocks : PortId → ℕ → Clock) → IsWhole w → AtEach (λ p n. n.held ≤ most) w.ring.nodes → AreClocksBetween clocks w left
+    → (j : ℕ) → most + 2 * length w.ring.ids ≤ j + 2 → w.ring.rounds + j ≤ left.ring.rounds
+    → NoneMeetsAStrangerSince (w.ring.rounds + j + 2 - 2 * length w.ring.ids) clocks (run j w).ring
+
+-- so does every settle step, whether it ended with a window or ran all its rounds
+pub record StepsDeliverRecentBytes : Type 0 where
+  pub settled : (w left : World) (limit : ℕ) → HasCircuits (layout_of w) → Settles w limit left → DeliversRecentBytes w left
+  pub unsettled : (w left : World) (limit : ℕ) → HasCircuits (layout_of w) → Unsettles w limit left → DeliversRecentBytes w left
+
+-- Where no controller is ever held, no port delivers bytes that are older than 2n - 3 rounds, from the first round of a
+-- new ring on, whatever else happens: each port delivers AIS, ones, or what its circuit's other port sent in one of the
+-- 2n - 3 rounds before.
+abbrev pub NothingComesLate : Type 0
+NothingComesLate =
+    (s : Settings) (ids : List ℕ) (circuits : Provisioning) (f : Fibres) (ss : List Stretch) → AreIds ids → IsHonest f
+    → MayHappen (new_world s ids circuits f) ss → NoneHolds ss
+    → AreCircuits (length ids) (n_of s.rate / 2) circuits.circuits
+    → (t : ℕ) → t < rounds_in ss → NoneMeetsAStrangerSince (t + 3 - 2 * length ids) (clocks_by circuits.circuits ss)
+    (round (world_in ss (new_world s ids circuits f) t)).ring

@@ -26,8 +26,11 @@ returns-clause-laws g c =
       restored = c.settled_rings_are_restored.ensures;
       rests = c.steps_leave_at_rest.ensures;
       soon = c.unsettled_rings_are_restored.ensures;
+      sooner = c.unsettled_followed_rings_are_restored.ensures;
+      followed = c.steps_leave_followed.ensures;
       answers = c.steps_answer.ensures;
       strangers = c.steps_keep_strangers_out.ensures;
+      recent = c.steps_deliver_recent_bytes.ensures;
     }) (world c.wait-running.result f) (world c.settle-result.new.ring end) c.args.limit c.settle-result.result fit rested step.outcome
     step.breaks in
     subst (λ (r : HeldRing). KeepsPromises (world c.args.self.now f) c.args.limit c.settle-result.result (world r end))

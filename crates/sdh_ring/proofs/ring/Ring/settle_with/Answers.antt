@@ -17,6 +17,9 @@ returns-clause-laws g c =
       restored = c.settled_rings_are_restored.ensures;
       rests = c.steps_leave_at_rest.ensures;
       soon = c.unsettled_rings_are_restored.ensures;
+      sooner = c.unsettled_followed_rings_are_restored.ensures;
+      followed = c.steps_leave_followed.ensures;
       answers = c.steps_answer.ensures;
       strangers = c.steps_keep_strangers_out.ensures;
+      recent = c.steps_deliver_recent_bytes.ensures;
     }) _ _ c.args.limit _ fit rested c.settle.ensures.step.outcome c.settle.ensures.step.breaks
