@@ -47,9 +47,12 @@ def reading_of(asked, subject):
     """What reads the table of a plan, with the groups of --groups."""
     plan, places = subject.asked, subject.plan.places
     try:
-        return Reading(plan, places, named_groups(asked.groups, plan, places))
+        groups = named_groups(asked.groups, plan, places)
     except (FileProblem, TableProblem) as problem:
         raise Stop(str(problem)) from None
+    for note in groups.notes:
+        say(note)
+    return Reading(plan, places, groups.found)
 
 
 def against_of(asked, told, part):

@@ -32,11 +32,14 @@ SIGNED = "".join(f"<tr><th scope=\"row\">{who}</th><td></td><td></td></tr>" for 
 
 
 class Desk:
-    """A plan with its table of cases, and perhaps its components and what its script leaves. `tables` are the files of rates, with their checksums."""
+    """A plan with its table of cases, and perhaps its components and what its script leaves.
 
-    def __init__(self, plan, places, table, components=None, left=None, tables=()):
+    `tables` are the files of rates, with their checksums, and `notes` say what of them wasn't read.
+    """
+
+    def __init__(self, plan, places, table, components=None, left=None, tables=(), notes=()):
         self.plan, self.places, self.table = plan, places, table
-        self.components, self.left, self.tables = components, left, tables
+        self.components, self.left, self.tables, self.notes = components, left, tables, notes
         self.called = [places.circuit(circuit.name) for circuit in plan.circuits]
         self.path = PathRing(plan, table.failures)
 
@@ -95,6 +98,8 @@ def summary(desk):
     pairs = desk.pairs()
     some = [case for case in pairs if case.lost]
     yield f"<strong>Two spans cut</strong>: customers are lost in {len(some)} of {len(pairs)} pairs; at most {max((case.lost for case in pairs), default=0)}."
+    for note in desk.notes:
+        yield f"<strong>Not all of a table was read</strong>: {escape(note)}."
 
 
 def matrix(desk):

@@ -62,7 +62,7 @@ def read_nodes(name):
             raise row.problem("a node is to have a place, or a number, or both")
         check_place(row, row["place"], nodes)
         nodes.append(Node(next(free) if number is None else number, row["place"]))
-    return nodes, table.unread
+    return nodes, table.notes()
 
 
 class Ring:
@@ -144,7 +144,7 @@ def read_circuits(name, ring, rate):
     for row, (made, called) in zip(table.rows, names_of(table.rows)):
         check_sent(row)
         circuits.append(Circuit(row, made, called, wanted_of(row, ring, rate)))
-    return circuits, table.unread
+    return circuits, table.notes()
 
 
 def sides_of(ring, circuits, laid, circuit, slots):
@@ -199,9 +199,7 @@ def notes_of(circuits, layout, is_sure, unread):
     if not is_sure:
         least = f"and none has less than {layout.bound}; whether one has less than {layout.load} isn't known"
     yield f"{count_of(len(circuits), 'circuit')}; the largest load of a span is {layout.load}, {least}"
-    for file, columns in unread:
-        if columns:
-            yield f"{file}: not read: {', '.join(columns)}"
+    yield from unread
     renamed = [circuit for circuit in circuits if circuit.name != circuit.called]
     for circuit in renamed[:NOTED]:
         yield f"{circuit.row.file}:{circuit.row.line}: `{circuit.called}` is named {circuit.name} in the plan"
@@ -221,5 +219,5 @@ def imported(circuits_file, nodes_file, asked):
     places = {node.number: node.place for node in nodes if node.place}
     asked = replace(asked, nodes=tuple(node.number for node in nodes), places=places)
     written = [written_of(circuit, laid, ring) for circuit, laid in zip(circuits, layout.laid)]
-    notes = notes_of(circuits, layout, is_sure, ((nodes_file, unread), (circuits_file, more)))
+    notes = notes_of(circuits, layout, is_sure, unread + more)
     return Imported(document_of(asked, written), tuple(notes))

@@ -1,12 +1,14 @@
 """Tables that people keep in spreadsheets, as CSV: columns are found by their names, and mistakes are reported with file and line."""
 
 import csv
+import difflib
 import io
 from dataclasses import dataclass, field
 
 from .files import read_input
 
 SIGNS = ",;\t"
+LIKENESS = 0.7  # of two names, from 0 to 1, from which on one is taken for a mistyped form of the other
 
 
 class TableProblem(Exception):
@@ -52,9 +54,25 @@ class Row:
 @dataclass
 class Table:
     file: str
-    columns: tuple  # as far as they are known
-    unread: tuple  # the other columns, as they stand
-    rows: list = field(default_factory=list)
+    columns: tuple[str, ...]  # as far as they are known
+    unread: tuple[str, ...]  # the other columns, as they stand
+    known: tuple[str, ...] = ()  # all names that a column may have
+    rows: list[Row] = field(default_factory=list)
+
+    def nearest(self, column: str) -> str:
+        """Returns the known name that a column may stand for, of those that the table lacks; empty where none is like it."""
+        missing = [name for name in self.known if name not in self.columns]
+        return next(iter(difflib.get_close_matches(spelled(column), missing, 1, LIKENESS)), "")
+
+    def notes(self) -> list[str]:
+        """Returns a line on the columns that aren't read, each with the name that is nearest to it; none where all are."""
+        told = [column + (f" (nearest: {near})" if (near := self.nearest(column)) else "") for column in self.unread]
+        return [f"{self.file}: not read: {', '.join(told)}"] if told else []
+
+
+def spelled(column: str) -> str:
+    """Returns the name of a column in small letters, with `_` for blanks."""
+    return "_".join(column.lower().split())
 
 
 def text_of(name):
@@ -68,7 +86,7 @@ def text_of(name):
 
 def head_of(name, cells, known, needed):
     """The names of the columns in small letters; None for one that isn't known."""
-    heads = ["_".join(cell.lower().split()) for cell in cells]
+    heads = [spelled(cell) for cell in cells]
     again = [head for at, head in enumerate(heads) if head in known and head in heads[:at]]
     if again:
         raise TableProblem(f"{name}:1: the column `{again[0]}` is there twice")
@@ -96,7 +114,7 @@ def read_table(name, known, needed):
             if table is None:
                 heads = head_of(name, cells, known, needed)
                 unread = tuple(cell for cell, head in zip(cells, heads) if head is None and cell)
-                table = Table(name, tuple(filter(None, heads)), unread)
+                table = Table(name, tuple(filter(None, heads)), unread, known)
             elif any(cells):
                 table.rows.append(row_of(name, begun, heads, cells, "," if sign != "," else "."))
     except csv.Error as error:

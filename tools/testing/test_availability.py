@@ -4,6 +4,7 @@ import json
 import math
 import random
 import re
+import sys
 import tempfile
 import unittest
 from collections import defaultdict
@@ -21,6 +22,7 @@ from ringtools.tables import TableProblem
 
 AVAILABILITY, PLAN = run_path(str(TOOLS / "sdhring-availability")), run_path(str(TOOLS / "sdhring-plan"))
 DOCS = TOOLS.parent / "docs"
+TELLER = f"{sys.executable} {TOOLS.parent / 'bench' / 'whatif' / 'model.py'}"
 STEPS = ("cut", "cut", "mend", "forced", "manual", "clear", "degrade", "settle")
 
 
@@ -326,6 +328,17 @@ class Command(unittest.TestCase):
         self.assertEqual(ended.stderr, b"sdhring-availability: spans.csv:1: the first line is to name the columns, and `hours` is missing; there are from, to\n")
         self.assertEqual(call("sdhring-availability", "plan.toml", "spans.csv", "--causes", cwd=self.folder).returncode, 2)
 
+    def test_a_column_that_is_not_read_is_told_with_the_nearest_name(self):
+        (self.folder / "spans.csv").write_text(SPANS.replace("hours", "hours,fibre_failure,cuts_per_1000km,Owner").replace(",8", ",8,2,9,DB"))
+        (self.folder / "groups.csv").write_text("group,members,failures,hours,since\nduct,span 1-2,1,1,1999\n")
+        ended = call("sdhring-availability", "plan.toml", "spans.csv", "--groups", "groups.csv", cwd=self.folder)
+        read = "spans.csv: not read: fibre_failure (nearest: fibre_failures), cuts_per_1000km (nearest: cuts_per_1000_km), Owner"
+        said = f"sdhring-availability: {read}\nsdhring-availability: groups.csv: not read: since\n"
+        self.assertEqual((ended.returncode, ended.stderr.decode()), (0, said))
+        words = "--all", "--depth", "single", "--frames", "0", "--groups", "groups.csv", "--teller", TELLER
+        ended = call("sdhring-whatif", *words, "plan.toml", cwd=self.folder)
+        self.assertIn("sdhring-whatif: groups.csv: not read: since\n", ended.stderr.decode())
+
     def test_tables_that_are_refused(self):
         line = lambda row: {"spans": "from,to,cuts,km,hours\n" + row}
         group = lambda row: {"groups": "group,members,failures,hours\n" + row}
@@ -339,6 +352,7 @@ class Command(unittest.TestCase):
             ("spans.csv:2: `hours` is `-8`, and a number is wanted that isn't below 0", line("1,2,1,,-8\n")),
             ("spans.csv:2: `cuts` is `nan`", line("1,2,nan,,8\n")),
             ("spans.csv:2: `cuts` a year are wanted, or `km`", line("1,2,,80,8\n")),
+            ("spans.csv:2: `fibre_hours` is `8`, and `fibre_failures`, the failures a year", {"spans": "from,to,cuts,hours,fibre_hours\n1,2,1,8,8\n"}),
             ("nodes.csv: node 2, node 3, node 4: they have no row", {"nodes": "node,failures,hours\n1,0,4\n"}),
             ("nodes.csv:3: node 1 stood before", {"nodes": "node,failures,hours\n1,0,4\n1,0,4\n"}),
             ("nodes.csv:1: the first line is to name the column `node`", {"nodes": "failures,hours\n0,4\n"}),

@@ -213,6 +213,20 @@ class Pages(unittest.TestCase):
     def test_where_the_rates_come_from(self):
         self.assertIn(f"spans.csv , checksum {hashlib.sha256(SPANS.encode()).hexdigest()}", Seen(page()).text())
 
+    def test_a_column_that_is_not_read_is_told_on_the_page_too(self):
+        with tempfile.TemporaryDirectory() as folder:
+            spans = SPANS.replace("hours", "hours,fibre_failure").replace(",8", ",8,2")
+            groups = "group,members,fibre <since>\nduct,span 2-9\n"
+            for name, text in (("plan.toml", PLAN), ("spans.csv", spans), ("groups.csv", groups)):
+                (Path(folder) / name).write_text(text, encoding="utf-8")
+            for words, said in (
+                (("--spans", "spans.csv"), "spans.csv: not read: fibre_failure (nearest: fibre_failures)"),
+                (("--groups", "groups.csv"), "groups.csv: not read: fibre <since>"),
+            ):
+                ended = call("sdhring-desk", "plan.toml", *words, "--depth", "double", "--teller", TELLER, cwd=folder)
+                self.assertEqual((ended.returncode, ended.stderr.decode()), (0, f"sdhring-desk: {said}\n"))
+                self.assertIn(f"Not all of a table was read : {said}.", Seen(ended.stdout.decode()).text())
+
     def test_availability_is_that_of_the_tool(self):
         tool = run_path(str(TOOLS / "sdhring-availability"))
         with tempfile.TemporaryDirectory() as folder:
@@ -338,6 +352,7 @@ class Refused(unittest.TestCase):
                 (1, "sdhring-desk: plan.toml: the answer isn't a table of this plan: status 1", ("--teller", "false")),
                 (1, "sdhring-desk: spans.csv: span Köln–Bad <Ems>,", ("--spans", "spans.csv", "--teller", TELLER)),
                 (2, "--nodes goes with --spans", ("--nodes", "n.csv")),
+                (2, "--cuts-per-1000-km goes with --spans", ("--cuts-per-1000-km", "2")),
                 (1, "groups.csv:2: `span 5-9` is no span, node or fibre of the plan", ("--groups", "groups.csv", "--teller", TELLER)),
                 (2, "several plans, or a folder, go with --to", ("other.toml",)),
                 (2, "several plans, or a folder, go with --to", (".",)),
