@@ -47,7 +47,7 @@
   const namesOf = (results, letter) => data.circuits.filter((_, i) => results[i] === letter).map((circuit) => circuit[0]);
 
   const sentence = (found) => {
-    const what = chosen.map((number) => data.failures[number][0]).join(" and ") || "Nothing fails";
+    const what = chosen.map((number) => data.failures[number][0]).join(" and ") || (data.left ? "Nothing more fails" : "Nothing fails");
     if (!found) return `${what}: ${missing()}`;
     const [impaired, over, lost] = ["i", "o", "l"].map((letter) => namesOf(found[1], letter));
     const kept = data.circuits.length - impaired.length - over.length - lost.length;
@@ -77,13 +77,16 @@
     return `M${point(working, from)} ${out} L${point(protection, first)} ${back} L${point(working, last)} ${on}`;
   };
 
+  // A failure of the case marks its own part of the drawing; a cut by a lost node, span or group marks the fibre too.
   const showRing = (found) => {
+    const cut = chosen.flatMap((number) => data.failures[number][4]);
     for (const item of all(".button", ring)) {
       const number = chosen.find((one) => isOf(item, one)), kind = number === undefined ? "" : data.failures[number][1];
       item.classList.toggle("failing", kind !== "");
       item.dataset.kind = kind;
       item.setAttribute("aria-pressed", String(kind !== ""));
-      if (item.dataset.switch) item.querySelector("text").textContent = { forced: "F", manual: "M" }[kind] ?? "";
+      item.classList.toggle("struck", cut.includes(item.dataset.fibre));
+      if (item.dataset.switch) item.querySelector("text").textContent = { forced: "F", manual: "M" }[kind || item.dataset.left] ?? "";
     }
     all(".span", ring).forEach((item) => item.classList.toggle("is-applied", !!found && found[0].includes(data.failures[+item.dataset.failure][2])));
     all(".circuit", ring).forEach((item, i) => {
