@@ -22,8 +22,8 @@ class Works:
 
     def counts(self, name):
         stage = self.verdict.stage(name)
-        shown = ((stage.count("lost"), "lost"), (stage.count("odd"), "odd"), (stage.count("over"), "over protection"), (stage.count("kept"), "on their own arc"))
-        return ", ".join(f"{count} {words}" for count, words in shown if count) or "no customers"
+        words = {"lost": "lost", "odd": "odd", "over": "over protection", "impaired": "on their own arc, but impaired", "kept": "on their own arc"}
+        return ", ".join(f"{stage.count(kind)} {words[kind]}" for kind in words if stage.count(kind)) or "no customers"
 
     def summary(self):
         """Each stage in a sentence."""

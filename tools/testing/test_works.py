@@ -5,6 +5,7 @@ import unittest
 from collections import Counter
 
 from cases import CIRCUITS, Asking, document, expected, failures, script_of
+from pages import Seen
 from rules import Rules
 
 from ringtools.failures import read_beforehand, works_part
@@ -106,6 +107,22 @@ class Works(Asking):
         self.check_second(["manual 2 east"])
         gives_way = [name for name, cut in failures().items() if not name.startswith("pair") and 1 not in rules_of(script_of(cut, ["manual 2 east"])).applied(256)]
         self.assertIn(f"The switch gives way under {len(gives_way)} of them: traffic comes back to 2–9, while people work there.", self.words())
+
+    def test_customers_on_a_degraded_fibre_are_touched(self):
+        """By a degradation that isn't applied, since a cut span is: they are kept, and impaired."""
+        also, works = ["cut 2 east", "cut 9 west"], ["degrade 5 east 4"]
+        self.ask("--also", "; ".join(also), "--works", "; ".join(works), "--kinds", "span")
+        stages = self.check_stages([*also, "settle", *works, "settle", "mend 5 east", "settle", "moment 10", "settle"])
+        impaired = [name for name in NAMES if stages[1][name] == "impaired"]
+        self.assertEqual(impaired, ["near"])
+        shown = {row["customer"]: row["during"] for row in self.page().table_named("Customers that the works touch")}
+        self.assertEqual(shown["near"], "kept, but impaired")
+        self.assertIn("During : 2 over protection, 1 on their own arc, but impaired, 1 on their own arc.", self.words())
+        self.assertNotRegex(self.words(), r"Not touched by the works \(\d+\): [^.]*near")
+        drawn = Seen((self.top / "out" / "cases" / "works.html").read_text()).text()
+        self.assertIn("Kept on their own arc, but impaired: a span of it is degraded or asked for (1): near", drawn)
+        self.assertIn("2 over protection, 1 impaired, 1 kept", drawn)
+        self.assertIn("circuit near: 1 span, impaired (was: 1 span)", drawn)
 
     def test_works_on_a_node(self):
         """Its own customers are lost meanwhile, and second failures aren't blamed for them."""
