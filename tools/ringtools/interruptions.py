@@ -68,7 +68,7 @@ class Interruptions:
         if not self.is_hit(stage, circuit):
             return "<td>–</td>" if self.of(stage, circuit).out else "<td>no</td>"
         outage = self.of(stage, circuit)
-        words = "from then on" if outage.is_out_still else outage.words() if outage.out else count_of(outage.jumps, "jump")
+        words = "lost from then on" if outage.is_out_still else outage.words() if outage.out else count_of(outage.jumps, "jump")
         return f'<td class="changed-cell">{words}</td>'
 
     def words(self, plan):
@@ -79,7 +79,7 @@ class Interruptions:
             breaks = {name: outage.longest for name, outage in outages.items() if outage.out and not outage.is_out_still}
             lost = sum(outage.is_out_still for outage in outages.values())
             parts = [f"{count_of(len(breaks), 'customer')} of {len(plan.circuits)} for at most {frames_words(max(breaks.values()))}"] if breaks else []
-            parts += [f"{count_of(lost, 'customer')} from then on"] if lost else []
+            parts += [f"{count_of(lost, 'customer')} lost from then on"] if lost else []
             jumps = len(hit) - len(breaks) - lost
             parts += [f"{count_of(jumps, 'customer')} for no frame, but with a jump"] if jumps else []
             yield f"<strong>Interrupted {BEGINNINGS[stage]}</strong>: {'; '.join(parts) or 'no customer'}."
@@ -115,13 +115,14 @@ def count_works(store, beforehand, case, text, anew):
 
 
 def rows(interruptions, plan, source):
-    """A record for each port of each circuit and stage, but for the first, in which the ring starts."""
+    """A record for each port of each circuit and stage, but for the first, in which the ring starts. One that is out still is lost, for no number of frames."""
     for name in [name for name in BEGINNINGS if name in interruptions.stages]:
         for circuit in plan.circuits:
             for end in "ab":
                 outage, number = interruptions.stages[name].ports[circuit.name, end], plan.ids[circuit.start if end == "a" else circuit.end]
                 who = [name, circuit.name, plan.places.circuit(circuit.name), end, number, plan.places.nodes.get(number, "")]
-                yield [*who, outage.out, milliseconds(outage.out), outage.jumps, "yes" if outage.is_out_still else "no", *source]
+                frames = ["", ""] if outage.is_out_still else [outage.out, milliseconds(outage.out)]
+                yield [*who, *frames, outage.jumps, "yes" if outage.is_out_still else "no", *source]
 
 
 def write_interruptions(path, heads, interruptions, plan, source):

@@ -16,13 +16,13 @@ BEGIN, END = "interrupted as they begin", "interrupted as they end"
 
 
 def simulated(plan):
-    """What the simulation says of each stage of this plan's script: by stage, circuit and port the frames, milliseconds, jumps and whether it is out to the end."""
+    """What the simulation says of each stage of this plan's script: by stage, circuit and port the frames, milliseconds, jumps, first round and whether it is out to the end."""
     text = subprocess.run([*SIMULATE.split(), "run"], input=plan, capture_output=True, check=True).stdout.decode()
     found = {}
     for stage, part in zip(STAGES, text.split("settle ")[-len(STAGES) :]):
         last = part.split()[2]
-        for name, end, frames, _, to, jumps in PORT.findall(part):
-            found[stage, name, end] = int(frames), f"{int(frames) / 8:.3f}", int(jumps), to == last and frames != "0"
+        for name, end, frames, begin, to, jumps in PORT.findall(part):
+            found[stage, name, end] = int(frames), f"{int(frames) / 8:.3f}", int(jumps), begin, to == last and frames != "0"
     return found
 
 
@@ -36,8 +36,9 @@ class Interruptions(Asking):
         rows = self.table("outages.csv")
         self.assertEqual(len(rows), 3 * 2 * len(CIRCUITS))
         for row in rows:
-            told = int(row["Frames"]), row["Milliseconds"], int(row["Jumps"]), row["Still out"] == "yes"
-            self.assertEqual(told, wanted[row["Stage"], row["Circuit"], row["Port"]])
+            frames, milliseconds, jumps, _, is_lost = wanted[row["Stage"], row["Circuit"], row["Port"]]
+            counted = ("", "") if is_lost else (str(frames), milliseconds)
+            self.assertEqual((row["Frames"], row["Milliseconds"], row["Jumps"], row["Still out"]), (*counted, str(jumps), "yes" if is_lost else "no"))
         ends = {name: (str(start), str(end)) for name, start, end, _ in CIRCUITS}
         self.assertEqual({row["Node"] for row in rows if (row["Circuit"], row["Port"]) == ("far", "b")}, {ends["far"][1]})
         return wanted
@@ -63,11 +64,17 @@ class Interruptions(Asking):
         self.order("node 2")
         wanted, rows = self.check_table(), self.touched()
         for name in ("near", "far"):
-            self.assertEqual(rows[name][BEGIN], "from then on")
+            self.assertEqual(rows[name][BEGIN], "lost from then on")
             frames, ms, *_ = max(wanted["after", name, end] for end in "ab")
             self.assertTrue(rows[name][END].startswith(f"{frames} frame"), rows[name][END])
             self.assertIn(f"{ms} ms", rows[name][END])
-        self.assertIn("2 customers from then on", self.words())
+        self.assertIn("2 customers lost from then on", self.words())
+        drawn = Seen((self.cases() / "works.html").read_text())
+        during = {row["circuit"]: row for row in drawn.table_named("Circuits", 1)}
+        for name in ("near", "far"):
+            shown = [during[name][f"out at port {end}"] for end in "ab"]
+            self.assertEqual(shown, [f"lost from round {wanted['during', name, end][3]} on" for end in "ab"])
+        self.assertNotIn("16.000 ms", drawn.text())
 
     def test_what_was_lost_before_is_not_interrupted(self):
         self.order("manual 9 east", "--also", "cut 5 east; cut 2 east")
@@ -79,7 +86,7 @@ class Interruptions(Asking):
         self.plan.write_text(self.plan.read_text().replace('["settle"]', '["settle", "cut 4 west", "settle", "moment 3", "settle"]'))
         self.order("span 5-2")
         wanted, rows = self.check_table(), self.touched()
-        self.assertEqual(rows["near"][BEGIN], "from then on")
+        self.assertEqual(rows["near"][BEGIN], "lost from then on")
         self.assertTrue(wanted["during", "near", "a"][-1])
         self.assertEqual(len(list(Seen((self.cases() / "works.html").read_text()).tables_of("Customers after"))[0][0]), 1 + len(STAGES))
 
