@@ -138,6 +138,59 @@ class Interruptions(Asking):
         self.assertTrue((self.top / "out" / "outages-1-of-2.csv").exists())
 
 
+class Opening(Asking):
+    """Whether the spans that works free can be opened, against the plain simulation of the same steps."""
+
+    LOST = re.compile(r"(\d+) customers? of 4 for at most (\d+) frames?, (\d+\.\d{3}) ms")
+
+    def order(self, works):
+        ended = self.ask("--works", works, "--kinds", "span")
+        return ended.stderr.decode().replace("\u2060", "")
+
+    def wanted(self, steps, fibres, called):
+        """What the simulation says of cutting these fibres under the steps, and of mending them: the most frames of a circuit that comes back."""
+        script = ["settle", *steps, "settle", *(f"cut {one}" for one in fibres), "settle", *(f"mend {one}" for one in fibres), "settle"]
+        plan = self.plan.read_text().replace('["settle"]', str(script).replace("'", '"'))
+        found = simulated(plan.encode())
+        for stage in ("after", "waited"):
+            out = {name: max(found[stage, name, end][0] for end in "ab" if not found[stage, name, end][-1]) for name, *_ in CIRCUITS}
+            hit = [frames for frames in out.values() if frames]
+            yield f"{len(hit)} customer{'s' * (len(hit) > 1)} of 4 for at most {max(hit)} frames, {max(hit) / 8:.3f} ms" if hit else None
+
+    def test_a_switch_on_one_side(self):
+        said = self.order("forced 2 east")
+        opened, closed = self.wanted(["forced 2 east"], ["2 east", "9 west"], "2–9")
+        self.assertTrue(opened and closed)
+        words = (
+            f"2–9 can't be opened under this order without interruptions. Interrupted as the fibres are cut: {opened}; interrupted as they are joined again: {closed}. "
+            "2–9 has no forced switch on both its sides; the order `span 2-9` has."
+        )
+        shown = words.replace("interruptions.", "interruptions .").replace("`span 2-9`", " span 2-9 ")
+        self.assertIn(" ".join(shown.split()), self.words())
+        self.assertIn(f"sdhring-whatif: {words}\n", said)
+
+    def test_switches_on_both_sides(self):
+        for works, steps, fibres, called in (
+            ("span 2-9", ["forced 2 east", "forced 9 west"], ["2 east", "9 west"], "2–9"),
+            ("node 2", ["forced 5 east", "forced 9 west"], ["5 east", "2 west", "2 east", "9 west"], "5–2, 2–9"),
+        ):
+            with self.subTest(works=works):
+                said = self.order(works)
+                if called == "2–9":
+                    self.assertEqual(list(self.wanted(steps, fibres, called)), [None, None])
+                words = f"{called} can be opened under this order: no customer is interrupted as the fibres are cut, and none as they are joined again."
+                self.assertIn(words, self.words())
+                self.assertIn(words, said)
+
+    def test_an_order_without_a_switch_frees_nothing(self):
+        self.assertNotIn("opened", self.order("degrade 2 east 4"))
+        self.assertNotIn("opened", self.words())
+
+    def test_what_was_not_counted_is_told(self):
+        self.ask("--works", "span 2-9", "--kinds", "span", "--counter", self.script("counter", "done", 0), wanted=4)
+        self.assertIn("Whether 2–9 can be opened under this order isn't known: ", self.words())
+
+
 class Title(Asking):
     TITLE = "Order 4711 <night>, 01:00 to 05:00"
 
