@@ -151,8 +151,8 @@ def is_joined(plan, circuit, applied):
 
 
 def is_impaired(plan, circuit, requests: list[int]) -> bool:
-    """Returns whether a span of a circuit's own arc is degraded or asked for: one that is kept there is impaired. `requests` are the spans'."""
-    return any(requests[span] != NONE for span in arc(plan, circuit))
+    """Returns whether a span of a circuit's own arc asks for more than to wait: one that is kept there is impaired. `requests` are the spans'."""
+    return any(requests[span] > WAIT for span in arc(plan, circuit))
 
 
 @dataclass(frozen=True)

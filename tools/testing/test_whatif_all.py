@@ -58,10 +58,9 @@ class All(Asking):
         rules = Rules(tomllib.loads(document()) | {"script": [*script, *cuts, *more, "settle"]}, [128 * (k + 1) for k in range(script.count("settle") + 1)])
         last = rules.rounds[-1]
         cells, applied = expected(rules, last), rules.applied(last)
-        troubled = {span for span, request in enumerate(rules.requests(last)) if request >= 6}
-        impaired = [circuit["name"] for circuit in rules.circuits if cells[circuit["name"]] == "kept" and troubled & set(rules.arc(circuit))]
+        impaired = [name for name, cell in cells.items() if cell == "impaired"]
         for row in rows:
-            kinds = [cell[:4] for cell in cells.values()]
+            kinds = ["kept" if cell == "impaired" else cell[:4] for cell in cells.values()]
             self.assertEqual(self.counts(row), [kinds.count(kind) for kind in ("kept", "over", "lost")], row["Failures"])
             self.assertEqual(row["Applied"].split(), [f"{IDS[span]}-{IDS[(span + 1) % 4]}" for span in sorted(applied)])
             self.assertEqual(row["Impaired circuits"].split(), impaired, row["Failures"])
@@ -363,8 +362,9 @@ class Beside(Asking):
 
     def test_a_plan_and_the_same_during_works(self):
         """Beside itself without the works nobody gains, and the table of an earlier run says the same as the plan."""
-        self.ask("--all", "--teller", TELLER, "--frames", "0", "--dir", self.top / "out")
-        (self.top / "out" / "all.csv").rename(self.top / "out" / "before.csv")
+        self.ask("--all", "--teller", TELLER, "--frames", "0", "--dir", self.top / "before")
+        (self.top / "out").mkdir()
+        (self.top / "before" / "all.csv").rename(self.top / "out" / "before.csv")
         by_plan, words = self.rows("--works", "span 5-2", "--against", self.plan)
         by_table, _ = self.rows("--works", "span 5-2", "--against", self.top / "out" / "before.csv")
         self.assertEqual(by_plan, by_table)
