@@ -5,7 +5,7 @@ import sys
 import time
 
 from .against import Against, cases_of_table, cases_of_told
-from .asking import DIFFERS, INTERRUPTED, Stop, folder_of, say, subject_of, warn_of
+from .asking import DIFFERS, INTERRUPTED, Stop, folder_of, keep_question, say, subject_of, warn_of
 from .casepage import draw_cases
 from .checks import SETTLES
 from .desktable import WHOLE, Reading, ToldProblem, merged, read_cases, words_for
@@ -99,7 +99,7 @@ class Writing:
 
     def write_once(self):
         """What doesn't change by cases that are run: what was asked and answered, as it is, as JSON, and beside the other."""
-        self.folder.mkdir(parents=True, exist_ok=True)
+        keep_question(self.asked, self.subject)
         self.path("toml").write_bytes(self.subject.document)
         self.path("text").write_bytes(self.told.table.text)
         self.told.write_json(self.path("json"), self.question, self.teller)

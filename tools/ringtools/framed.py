@@ -3,7 +3,7 @@
 import shlex
 
 from .answers import limit_advice
-from .asking import DIFFERS, INTERRUPTED, NOT_SETTLED, Stop, folder_of, say, warn_of
+from .asking import DIFFERS, INTERRUPTED, NOT_SETTLED, Stop, folder_of, keep_question, say, warn_of
 from .casepage import Asked, answers_page, draw_cases
 from .checks import SETTLES
 from .failures import KINDS, all_cases, shard_of
@@ -126,6 +126,7 @@ def write_answers(asked, subject, store, counted, opening, cases):
     part = "" if shards == 1 else f"-{shard}-of-{shards}"
     told = asked_of(asked, subject, store, part and f"{shard} of {shards}", counted, opening)
     verdicts = [judge(case, subject.beforehand.plan_of(case), store.text(case.name), store.answer(case.name)) for case in cases]
+    keep_question(asked, subject)
     folder = store.folder.parent
     table, page = folder / f"table{part}.csv", folder / f"page{part}.html"
     write_table(table, told, verdicts)

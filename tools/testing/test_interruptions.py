@@ -1,6 +1,7 @@
 """How long works interrupt customers: the page and the table of a works order, against the plain simulation and the rule of a forced switch."""
 
 import re
+import shutil
 import subprocess
 import sys
 import unittest
@@ -175,6 +176,7 @@ class Opening(Asking):
             ("node 2", ["forced 5 east", "forced 9 west"], ["5 east", "2 west", "2 east", "9 west"], "5–2, 2–9"),
         ):
             with self.subTest(works=works):
+                shutil.rmtree(self.top / "out", ignore_errors=True)
                 said = self.order(works)
                 if called == "2–9":
                     self.assertEqual(list(self.wanted(steps, fibres, called)), [None, None])

@@ -5,6 +5,7 @@ import unittest
 from collections import Counter
 
 from cases import CIRCUITS, Asking, document, expected, failures, script_of
+from common import STANDIN, call
 from pages import Seen
 from rules import Rules
 
@@ -131,6 +132,24 @@ class Works(Asking):
         stages = self.check_stages(["settle", *steps, "settle", "clear 9 west", "clear 5 east", "settle", "moment 10", "settle"])
         self.assertEqual([name for name in NAMES if stages[1][name] == "lost"], ["near", "far"])
         self.check_second(steps, ("span",), "a span")
+
+    def test_a_second_order_leaves_the_first_alone(self):
+        """In a folder of its own where none is named; in a folder with answers to another question it is refused."""
+        whatif = lambda *words: call("sdhring-whatif", "plan.toml", "--kinds", "span", "--program", STANDIN, *words, cwd=self.top)
+        orders = ((), ("--works", "span 2-9"), ("--works", "span 4-5"), ("--works", "span 4-5", "--also", "cut 2 east"), ("--without-script",))
+        folders = ["", ".span-2-9", ".span-4-5", ".span-4-5.after-cut-2-east", ".without-script"]
+        for words, folder in zip(orders, folders):
+            ended = whatif(*words)
+            self.assertEqual(ended.stdout.decode().splitlines()[1], f"plan{folder}.whatif/page.html", ended.stderr.decode())
+        first = (self.top / "plan.span-2-9.whatif" / "page.html").read_bytes()
+        ended = whatif("--works", "span 4-5", "--dir", "plan.span-2-9.whatif")
+        said = "sdhring-whatif: plan.span-2-9.whatif has the answers to another question, --works 'forced 2 east; forced 9 west', and they would be written over: "
+        self.assertEqual((ended.returncode, ended.stderr.decode()), (1, said + "--dir names another folder, or remove this one\n"))
+        self.assertEqual((self.top / "plan.span-2-9.whatif" / "page.html").read_bytes(), first)
+        for words in (("--all", "--frames", "0"), ("--outages",)):
+            words = [word for word in ("plan.toml", *words, "--dir", "plan.span-2-9.whatif")]
+            self.assertEqual(call("sdhring-whatif", *words, cwd=self.top).returncode, 1)
+        self.assertEqual(whatif("--works", "span 9-2", "--dir", "plan.span-2-9.whatif").returncode, 0)  # the same order in other words
 
     def test_unknown_orders(self):
         self.assertIn(b"no span joins node 5 and node 9; the spans are 5-2, 2-9, 9-4, 4-5", self.ask("--works", "span 5-9", wanted=1).stderr)
