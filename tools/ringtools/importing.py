@@ -7,7 +7,7 @@ from .checks import is_name, is_sent
 from .making import Written, check_rate, document_of, text_of
 from .markup import count_of
 from .places import why_no_name
-from .slots import Demand, Wanted, arcs_of, fitted, layout_of, loads_of, spans_of
+from .slots import ORDERS, Demand, Wanted, arcs_of, fitted, layout_of, loads_of, spans_of
 from .tables import read_table
 
 NODE_COLUMNS = ("place", "node")
@@ -165,7 +165,8 @@ def misfits(ring, circuits, slots, is_sure):
     size, wanted = len(ring.nodes), [circuit.wanted for circuit in circuits]
     where = fitted(size, slots, wanted)
     laid, left = [one for one in where if one], [circuit for circuit, one in zip(circuits, where) if not one]
-    told = [f"{count_of(len(left), 'circuit')} of {len(circuits)} can't be fitted beside the others" + ("" if is_sure else ", as far as was searched")]
+    searched = f", in the best of {ORDERS} orders that were tried" if len(left) > 1 else ""
+    told = [f"{count_of(len(left), 'circuit')} of {len(circuits)} can't be fitted beside the others" + searched + ("" if is_sure else ", as far as was searched")]
     demand = Demand(size, wanted)
     pair = demand.fullest()
     if demand.need(pair) > 2 * slots:

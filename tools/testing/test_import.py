@@ -113,6 +113,33 @@ class Slots(unittest.TestCase):
         self.assertEqual(where[0], Laid(0, 2, 1))
 
 
+    def test_how_many_are_left_over_does_not_hang_on_the_order(self):
+        """The same circuits in other orders: as many of the same ends are left, and never more than where they are laid as they come."""
+        for seed in range(12):
+            chance = random.Random(seed)
+            size, slots = chance.choice(((4, 2), (8, 2), (12, 8), (16, 8)))
+            wanted = [Wanted(*chance.sample(range(size), 2)) for _ in range(3 * size)]
+            found = set()
+            for _ in range(3):
+                chance.shuffle(wanted)
+                where = fitted(size, slots, wanted)
+                taken = [one for one, laid in zip(wanted, where) if laid]
+                self.holds(size, slots, taken, [laid for laid in where if laid])
+                found.add(tuple(sorted((one.start, one.end) for one, laid in zip(wanted, where) if not laid)))
+                self.assertGreaterEqual(len(taken), self.laid_as_they_come(size, slots, wanted))
+            with self.subTest(seed=seed):
+                self.assertEqual(len(found), 1)
+
+    def laid_as_they_come(self, size, slots, wanted):
+        """How many fit where each in turn takes the first way and slot that are free."""
+        taken, count = set(), 0
+        for one in wanted:
+            choices = ({(span, slot) for span in spans_of(size, *arc)} for arc in arcs_of(size, one) for slot in range(1, slots + 1))
+            places = next((places for places in choices if not taken & places), set())
+            taken, count = taken | places, count + bool(places)
+        return count
+
+
 class Names(unittest.TestCase):
     def test_comments_of_the_form_are_read_and_nothing_else(self):
         plan = '# node 3 is Köln\n#node 4 is no\n# node 5  is no\nx = "# node 6 is no"\ny = """\n# node 7 is no"""  # node 8 is Bad Ems  \r\n'
@@ -199,6 +226,7 @@ class Import(unittest.TestCase):
 
     def test_what_doesn_t_fit_is_told_with_the_spans_that_are_full(self):
         self.refused("1 circuit of 5 can't be fitted beside the others\n  5 circuits have to cross", "from,to\n" + "Köln,Mainz\n" * 5)
+        self.refused("3 circuits of 7 can't be fitted beside the others, in the best of 16 orders that were tried\n", "from,to\n" + "Köln,Mainz\n" * 7)
         said = "circuits.csv:6: c5, Köln to Mainz: eastwards Köln–Bad Ems is full, with 2 of 2 slots taken; westwards Mainz–Aachen is full"
         self.refused(said, "from,to\n" + "Köln,Mainz\n" * 5)
         self.refused("circuits.csv:3: c2, Köln to Mainz: eastwards slot 1 is taken", "from,to,direction,slot\nKöln,Mainz,east,1\nKöln,Mainz,east,1\n")
