@@ -5,6 +5,7 @@ from dataclasses import dataclass, replace
 from itertools import combinations
 
 from .model import CUT, CLEAR, Script
+from .places import composed
 from .plan import PlanProblem, read_step, write_plan
 
 SCRIPT = "script"  # a settle step of the plan's own script, before the last one
@@ -250,7 +251,7 @@ def works_part(plan, text):
 
 
 def parts_of(words):
-    return [" ".join(part.split()) for part in (words or "").split(";") if part.strip()]
+    return [" ".join(part.split()) for part in composed(words or "").split(";") if part.strip()]
 
 
 def read_steps_of(plan, texts):

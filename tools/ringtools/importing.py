@@ -8,7 +8,8 @@ from .making import Written, check_rate, document_of, text_of
 from .markup import count_of
 from .places import why_no_name
 from .slots import ORDERS, Demand, Wanted, arcs_of, fitted, layout_of, loads_of, spans_of
-from .tables import read_table
+from .tables import advice, read_table
+from .tables import text_of as text_in
 
 NODE_COLUMNS = ("place", "node")
 OF_OTHERS = ("failures", "hours")  # columns of the table of nodes that another tool reads
@@ -50,7 +51,8 @@ def read_nodes(name):
     """The nodes of a table, one in each row, eastwards round the ring. Those without a number get the lowest free ones, from 1 on."""
     table, nodes = read_table(name, NODE_COLUMNS + OF_OTHERS, ()), []
     if not set(table.columns) & set(NODE_COLUMNS):
-        raise ImportProblem(f"{name}:1: the first line is to name the column `place`, or `node`, or both")
+        hint = advice(text_in(name), ("place",)) or advice(text_in(name), ("node",))
+        raise ImportProblem(f"{name}:1: the first line is to name the column `place`, or `node`, or both{hint}")
     if not 2 <= len(table.rows) <= 16:
         raise ImportProblem(f"{name}: {count_of(len(table.rows), 'node')}, and a ring has 2 to 16")
     given = [row.whole("node", 0, 15) for row in table.rows]

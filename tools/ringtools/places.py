@@ -7,6 +7,7 @@ The program skips comments, so that names are for people and tools alone. Only `
 """
 
 import re
+import unicodedata
 from dataclasses import dataclass, field
 
 from .checks import is_decimal
@@ -56,6 +57,11 @@ class Places:
         return self.circuits.get(name, name)
 
 
+def composed(words: str) -> str:
+    """Returns words with each accent in its letter, so that names that look alike are alike."""
+    return unicodedata.normalize("NFC", words)
+
+
 def why_no_name(name):
     """What is wrong with a name, or None."""
     if not name or name != name.strip() or not name.isprintable():
@@ -79,7 +85,7 @@ def comments_of(text):
 
 def read_places(data):
     """Returns the names that a plan's comments give. Those of nodes and circuits that the plan doesn't have are kept too."""
-    places, text = Places(), data.decode("utf-8-sig")
+    places, text = Places(), composed(data.decode("utf-8-sig"))
     for at, comment in comments_of(text):
         found = NAMED.fullmatch(comment)
         if not found or found[1] == "node" and not is_decimal(found[2]) or why_no_name(found[3]):

@@ -300,6 +300,18 @@ class Command(unittest.TestCase):
         for name, minutes in wanted.items():
             self.assertTrue(math.isclose(alone[name], minutes, rel_tol=1e-12))
 
+    def test_a_number_that_may_have_two_meanings_is_refused(self):
+        """As 1.028, which is 1028 or 1,028, where commas don't separate the cells and no other cell shows what its mark is."""
+        table = lambda *km: {"spans": "from;to;km;cuts_per_1000_km;hours\n" + "".join(f"{a};{b};{one};2;8\n" for (a, b), one in zip(("12", "23", "34", "41"), km))}
+        minutes = lambda *km: [record["minutes"] for record in json.loads(self.made("--json", **table(*km)))]
+        self.refused("spans.csv:3: `km` is `1.028`, which may be 1028 or 1,0280: write one of these", **table("80,5", "1.028", "7", "8"))
+        self.refused("spans.csv:2: `km` is `1,028`, which may be 1028 or 1,0280: write one of these", **table("1,028", "80", "7", "8"))
+        self.refused("spans.csv:2: `km` is `12.345.678`, which may be 12345678", **table("12.345.678", "80", "7", "8"))
+        self.assertEqual(minutes("80.5", "1.028", "7", "8"), minutes("80,5", "1,0280", "7", "8"))
+        self.assertEqual(minutes("80,5", "1028", "0.250", "8"), minutes("80,5", "1028", "0,25", "8"))
+        with_commas = {"spans": table("80.5", "1.028", "7", "8")["spans"].replace(";", ",")}
+        self.assertEqual([record["minutes"] for record in json.loads(self.made("--json", **with_commas))], minutes("80.5", "1.028", "7", "8"))
+
     def test_what_the_script_leaves_is_said_and_may_be_left_out(self):
         plan = self.folder / "plan.toml"
         plan.write_text(plan.read_text().replace('    "settle",\n', '    "forced 1 east",\n    "settle",\n', 1))

@@ -3,6 +3,7 @@
 import random
 import tempfile
 import tomllib
+import unicodedata
 import unittest
 from pathlib import Path
 from runpy import run_path
@@ -257,6 +258,23 @@ class Import(unittest.TestCase):
                 self.refused(said, circuits, nodes)
         self.refused("rate 5: 4 or 16 is wanted", row, NODES, "--rate", "5")
         self.refused("bad plan 15 at 0", row, NODES, "--threshold", "13")
+
+    def test_what_spreadsheets_put_above_the_names_of_the_columns(self):
+        """A line with the separator and empty lines are skipped; of a title it is said what to do."""
+        plain, _ = self.made("from,to\nKöln,9\n")
+        for circuits in ("sep=;\r\nfrom;to\r\nKöln;9\r\n", "SEP=|\nfrom|to\nKöln|9\n", "\n\nfrom,to\nKöln,9\n", ";;\nfrom;to\nKöln;9\n"):
+            self.assertEqual(self.made(circuits)[0], plain, circuits)
+        self.refused("circuits.csv:4: `to` is `x`", "sep=;\n\nfrom;to\nKöln;x\n")
+        there = "the first line is to name the columns, and `from` is missing; there are Circuits of 2026; line 3 has them: take away what stands above it"
+        self.refused(there, "Circuits of 2026;;\n;;\nFrom;To;slot\nKöln;9;\n")
+        self.refused("or `node`, or both; line 2 has them: take away what stands above it", "from,to\n", "Our nodes\nplace\nKöln\nBonn\n")
+
+    def test_a_letter_and_its_accent_are_the_letter_with_it(self):
+        apart = unicodedata.normalize("NFD", "Köln")
+        self.assertNotEqual(apart, "Köln")
+        for circuits, nodes in ((f"from,to\n{apart},9\n", NODES), ("from,to\nKöln,9\n", NODES.replace("Köln", apart))):
+            self.assertEqual(read_places(self.made(circuits, nodes)[0]).nodes[4], "Köln")
+        self.assertEqual(read_places(f"# node 4 is {apart}\n".encode()).nodes, {4: "Köln"})
 
     def test_lines_within_quotes_are_counted(self):
         self.refused("circuits.csv:4: `to` is `x`", 'name,from,to\n"a\nb",4,9\nc,4,x\n')
