@@ -254,7 +254,7 @@ class Command(unittest.TestCase):
         self.plan("north=1>3", "west=4>1", "--rate", "16")
 
     def plan(self, *words):
-        (self.folder / "plan.toml").write_text(PLAN["document_for"](PLAN["options"](["new", *words]))[0])
+        (self.folder / "plan.toml").write_text(PLAN["made_for"](PLAN["options"](["new", *words])).document)
 
     def made(self, *words, **tables):
         """What the tool writes, without a process of its own."""

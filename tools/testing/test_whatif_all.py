@@ -391,11 +391,20 @@ class Beside(Asking):
         self.assertEqual(rows, [])  # `near` leads as before, and each circuit by itself
         self.assertIn("Only here: far, round, back.", words)
         self.assertIn("Only there: new.", words)
+        self.assertIn("Each customer leads the same way round as there, in the same slot.", words)
         other.write_text(document([("near", 2, 5, 1)]))
         rows, words = self.rows("--against", other)
         gains, loses = ({row["Failures"] for row in rows if row["Change"] == change} for change in ("gains", "loses"))
         self.assertEqual((gains, loses), (set(), set()))  # the same two arcs, the other way round
         self.assertIn("span 5-2", {row["Failures"] for row in rows if (row["Other"], row["This"]) == ("kept", "over")})
+        self.assertIn("Other way : 1 customer leads the other way round than there: near.", words)
+        self.assertIn("Over protection in some case here or there, and on their own arc in the other: near.", words)
+        shown = self.page("all.html").table_named("cases in which")
+        self.assertEqual({row["customer"]: int(row["each failure alone: other way"]) for row in shown}, {"near": sum(row["Depth"] == "1" for row in rows)})
+        other.write_text(document([("near", 5, 2, 2), ("far", 2, 4, 1)]))
+        self.assertIn("Other slot : 1 customer lies in another slot than there: near.", self.rows("--against", other)[1])
+        (self.top / "out" / "all.csv").rename(self.top / "last.csv")
+        self.assertIn("Whether customers lead the other way round, or lie in another slot, isn't in a table.", self.rows("--against", self.top / "last.csv")[1])
 
 
 class Many(Asking):
