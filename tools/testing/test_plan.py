@@ -191,7 +191,7 @@ class New(unittest.TestCase):
             file = Path(folder) / "ring.toml"
             self.assertEqual(self.made("--to", file, "1>2"), b"")
             self.assertIn(f"sdhring run < {file}", file.read_text())
-            self.refused("File exists", "--to", file, "1>3")
+            self.refused(f"{file} is there, and is left alone: name another file, or remove this one", "--to", file, "1>3")
             self.assertIn("from = 1\nto = 2", file.read_text())
 
 
