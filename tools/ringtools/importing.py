@@ -4,14 +4,12 @@ from __future__ import annotations
 
 import csv
 import io
-import unicodedata
 from dataclasses import dataclass, replace
 
-from .checks import is_name, is_sent
+from .checks import is_name, is_sent, plain_name, why_no_name
 from .keeping import Service, held, kept_words, positions_in
 from .making import Asked, Written, check_rate, document_of, text_of
 from .markup import count_of
-from .places import why_no_name
 from .slots import ORDERS, Demand, Laid, Wanted, arcs_of, fitted, layout_of, loads_of, spans_of
 from .tables import Table, advice, read_table, spelled
 from .tables import text_of as text_in
@@ -95,13 +93,6 @@ class Ring:
         return f"{self.name(at)}–{self.name(at + 1)}"
 
 
-def plain(called, number):
-    """A name of a plan's letters that is like the one that a circuit is called."""
-    letters = unicodedata.normalize("NFKD", called.casefold())
-    kept = "".join(letter if is_name(letter) else "" if unicodedata.combining(letter) else " " for letter in letters)
-    return "-".join(kept.split())[:16].strip("-") or f"c{number}"
-
-
 def apart(name, taken):
     """The name, or where another has it, the name with a number after it."""
     number, made = 1, name
@@ -123,7 +114,7 @@ def names_of(rows, known: dict[str, str]):
     taken, names = {known.get(name, name) for name in first if is_name(name) or name in known}, []
     for number, row in enumerate(rows, 1):
         kept = known.get(row["name"], row["name"])
-        made = kept if is_name(kept) else apart(plain(row["name"], number), taken)
+        made = kept if is_name(kept) else apart(plain_name(row["name"]) or f"c{number}", taken)
         taken.add(made)
         names.append((made, row["name"] or made))
     return names

@@ -10,10 +10,9 @@ import re
 import unicodedata
 from dataclasses import dataclass, field
 
-from .checks import is_decimal
+from .checks import is_decimal, why_no_name
 from .source import STRINGS
 
-LONGEST = 60  # characters of a name
 DRAWN = 18  # of a place in a drawing; its title has the whole name
 NAMED = re.compile(r"# (node|circuit) (\S+) is (\S(?:.*\S)?)[ \t\r]*")
 PARTS = re.compile("|".join([*(f"(?:{form.pattern})" for form in STRINGS), "(?P<comment>#[^\n]*)"]), re.S)
@@ -60,13 +59,6 @@ class Places:
 def composed(words: str) -> str:
     """Returns words with each accent in its letter, so that names that look alike are alike."""
     return unicodedata.normalize("NFC", words)
-
-
-def why_no_name(name):
-    """What is wrong with a name, or None."""
-    if not name or name != name.strip() or not name.isprintable():
-        return "a name has no blanks at its ends and no control characters"
-    return f"a name has at most {LONGEST} characters" if len(name) > LONGEST else None
 
 
 def written(kind, number, name):

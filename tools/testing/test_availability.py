@@ -340,6 +340,16 @@ class Command(unittest.TestCase):
         self.assertEqual(ended.stderr, b"sdhring-availability: spans.csv:1: the first line is to name the columns, and `hours` is missing; there are from, to\n")
         self.assertEqual(call("sdhring-availability", "plan.toml", "spans.csv", "--causes", cwd=self.folder).returncode, 2)
 
+    def test_words_that_are_refused_say_what_to_do(self):
+        for said, *words in (
+            ("spans.csv is a table, and stands where a plan is due: the plan is named first, and then its table of spans", "spans.csv", "plan.toml"),
+            ("spans.xlsx is a spreadsheet: save its table as `CSV UTF-8`, and name that file", "plan.toml", "spans.xlsx"),
+            ("argument --cuts-per-1000-km: `2,5`: a number with a point is wanted that isn't below 0, as 2.5", "plan.toml", "spans.csv", "--cuts-per-1000-km", "2,5"),
+            ("argument --cuts-per-1000-km: `-1`: a number with a point is wanted that isn't below 0", "plan.toml", "spans.csv", "--cuts-per-1000-km=-1"),
+        ):
+            ended = call("sdhring-availability", *words, cwd=self.folder)
+            self.assertEqual((ended.returncode, ended.stderr.decode().splitlines()[-1]), (2, f"sdhring-availability: error: {said}"))
+
     def test_a_column_that_is_not_read_is_told_with_the_nearest_name(self):
         (self.folder / "spans.csv").write_text(SPANS.replace("hours", "hours,fibre_failure,cuts_per_1000km,Owner").replace(",8", ",8,2,9,DB"))
         (self.folder / "groups.csv").write_text("group,members,failures,hours,since\nduct,span 1-2,1,1,1999\n")

@@ -425,6 +425,8 @@ class Refused(unittest.TestCase):
                 (1, "sdhring-desk: plan.toml: the answer isn't a table of this plan: status 1", ("--teller", "false")),
                 (1, "sdhring-desk: spans.csv: span Köln–Bad <Ems>,", ("--spans", "spans.csv", "--teller", TELLER)),
                 (2, "--nodes goes with --spans", ("--nodes", "n.csv")),
+                (2, "spans.csv is a table, and no plan: --spans spans.csv", ("spans.csv",)),
+                (2, "`2,5`: a number with a point is wanted that isn't below 0, as 2.5", ("--spans", "spans.csv", "--cuts-per-1000-km", "2,5")),
                 (2, "--cuts-per-1000-km goes with --spans", ("--cuts-per-1000-km", "2")),
                 (1, "groups.csv:2: `span 5-9` is no span, node or fibre of the plan", ("--groups", "groups.csv", "--teller", TELLER)),
                 (2, "several plans, or a folder, go with --to", ("other.toml",)),
