@@ -249,6 +249,17 @@ class Pages(unittest.TestCase):
             self.assertEqual(len(set(found)), count)
 
     @unittest.skipUnless(BROWSER, "there is no chromium")
+    def test_a_fourth_failure_takes_the_first_away_and_says_so(self):
+        deeds = """
+const told = [], choose = document.getElementById("choose"), said = () => document.getElementById("told").textContent;
+const add = (name) => { choose.value = [...choose.options].find((one) => one.textContent === name).value; choose.dispatchEvent(new Event("change")); };
+["node 9", "node 0", "span 9–0", "fibre 9>0 cut"].forEach(add); told.push(said().split(" fibre")[0]);
+document.getElementById("clear").click(); told.push(said());
+"""
+        gone = "node 9 is taken away, since at most three failures are shown together. node 0 and span 9–0 and"
+        self.assertEqual(browsed(page(), deeds), [gone, "Nothing fails. 0 lost. 0 over protection. 2 kept."])
+
+    @unittest.skipUnless(BROWSER, "there is no chromium")
     def test_clicks_and_keys_on_a_phone(self):
         self.assertEqual(browsed(page(), DEEDS), SAID)
 

@@ -7,7 +7,7 @@
   const count = data.failures.length, most = 3, ring = by("ring");
   let triples = null, unpacking = data.triples !== null;
   const words = { k: "kept", i: "impaired", o: "over", l: "lost" };
-  let chosen = [], whose = "";
+  let chosen = [], whose = "", gone = "";
 
   // The place of a case in the list: nothing, each alone, each two; and of three in a list of its own.
   const placeOf = ([one, other]) => {
@@ -117,7 +117,8 @@
 
   const show = () => {
     const found = outcome();
-    by("told").textContent = sentence(found);
+    by("told").textContent = gone + sentence(found);
+    gone = "";
     by("failed").replaceChildren(...chosen.map((number) => {
       const button = document.createElement("button");
       button.type = "button";
@@ -133,7 +134,10 @@
 
   const toggle = (number) => {
     if (chosen.includes(number)) chosen = chosen.filter((one) => one !== number);
-    else chosen = [...chosen, number].slice(-most);
+    else {
+      if (chosen.length === most) gone = `${data.failures[chosen[0]][0]} is taken away, since at most three failures are shown together. `;
+      chosen = [...chosen, number].slice(-most);
+    }
     show();
   };
 
