@@ -1,4 +1,4 @@
-"""What a plan in service holds where the table of its circuits grows: the direction, the slot and the plan's name of each circuit that it has."""
+"""What a plan in service holds where its table of circuits grows: direction, slot and name of each circuit."""
 
 from __future__ import annotations
 
@@ -41,7 +41,7 @@ def read_service(file: str) -> Service:
 
 
 def positions_in(service: Service, found: dict[str, int]) -> dict[int, int]:
-    """Returns where the nodes in service stand in the new ring, in which `found` has positions by places and identifiers.
+    """Returns where the nodes in service stand in the new ring. `found` has its positions by places and identifiers.
 
     Those that are in both have to stand in the same order eastwards; else a circuit couldn't lead the same way.
     """
@@ -50,7 +50,8 @@ def positions_in(service: Service, found: dict[str, int]) -> dict[int, int]:
     order = list(there.values())
     turns = sum(here > after for here, after in zip(order, order[1:] + order[:1]))
     if len(order) > 2 and turns != 1:
-        raise TableProblem(f"{service.file}: its nodes stand in another order eastwards than those of the table, so its circuits can't be held")
+        why = "its nodes stand in another order eastwards than those of the table"
+        raise TableProblem(f"{service.file}: {why}, so its circuits can't be held")
     return there
 
 
@@ -61,13 +62,16 @@ def held(service: Service, row: Row, called: str, wanted: Wanted, positions: dic
         return wanted
     start, end = positions.get(was.start), positions.get(was.end)
     if {start, end} != {wanted.start, wanted.end}:
-        raise row.problem(f"{called} can't be held: in {service.file} it leads from {service.ends_words(was)}, and here its ends are others")
+        before = f"in {service.file} it leads from {service.ends_words(was)}"
+        raise row.problem(f"{called} can't be held: {before}, and here its ends are others")
     way = "east" if start == wanted.start else "west"
     for column, asked, there in (("direction", wanted.way, way), ("slot", wanted.slot, was.slot)):
         if asked not in (None, there):
-            raise row.problem(f"{called} can't be held: `{column}` is {asked}, and in {service.file} it is {there}")
+            is_other = f"`{column}` is {asked}, and in {service.file} it is {there}"
+            raise row.problem(f"{called} can't be held: {is_other}")
     if was.slot > slots:
-        raise row.problem(f"{called} can't be held: in {service.file} it is in slot {was.slot}, and at this rate a span has {slots}")
+        before = f"in {service.file} it is in slot {was.slot}"
+        raise row.problem(f"{called} can't be held: {before}, and at this rate a span has {slots}")
     return replace(wanted, way=way, slot=was.slot, is_held=True)
 
 
@@ -75,5 +79,8 @@ def kept_words(service: Service, called: list[str]) -> list[str]:
     """Returns how many circuits are held, how many are new, and which of those in service the table has no more."""
     before = service.circuits
     new, gone = [one for one in called if one not in before], [one for one in before if one not in called]
-    told = [f"held in direction and slot as in {service.file}: {count_of(len(called) - len(new), 'circuit')}; new: {len(new)}"]
-    return told + ([f"{count_of(len(gone), 'circuit')} of {service.file} that the table doesn't have: {names(gone)}"] if gone else [])
+    kept = count_of(len(called) - len(new), "circuit")
+    told = [f"held in direction and slot as in {service.file}: {kept}; new: {len(new)}"]
+    if gone:
+        told.append(f"{count_of(len(gone), 'circuit')} of {service.file} that the table doesn't have: {names(gone)}")
+    return told

@@ -1,4 +1,4 @@
-"""Which circuits of a plan in service lead the other way round in another plan, lie in another slot, or end elsewhere."""
+"""Which circuits of a plan lead the other way round in another plan, are in another slot, or end elsewhere."""
 
 from __future__ import annotations
 
@@ -25,7 +25,7 @@ def node_called(plan: Plan, at: int) -> str:
 
 
 def same_nodes(old: Plan, new: Plan) -> dict[int, int]:
-    """Returns where the nodes of the old plan stand in the new one, for those that are in both: by place, or by identifier."""
+    """Returns where the old plan's nodes stand in the new one, for those that are in both: by place or identifier."""
     found = new.places.positions(new.ids)
     return {at: found[node_called(old, at)] for at in range(old.size) if node_called(old, at) in found}
 
@@ -58,4 +58,6 @@ def moves_words(old: Plan, new: Plan, name: str) -> str:
     found = moves(old, new)
     counts = {kind: sum(kind in move.kinds for move in found) for kind in (OTHER_WAY, OTHER_SLOT, OTHER_ENDS)}
     told = ", ".join(f"{count} {kind}" for kind, count in counts.items() if count)
-    return f"circuits of {name} that move: {len(found)} of {len(old.circuits)} ({told}); --keep {name} holds them" if found else ""
+    if not found:
+        return ""
+    return f"circuits of {name} that move: {len(found)} of {len(old.circuits)} ({told}); --keep {name} holds them"

@@ -1,4 +1,7 @@
-"""Whether the spans that a works order frees can be opened under it: what customers lose as their fibres are cut, and as they are joined again."""
+"""Whether the spans that a works order frees can be opened under it.
+
+That is what customers lose as the fibres of these spans are cut, and as they are joined again.
+"""
 
 from __future__ import annotations
 
@@ -40,13 +43,15 @@ class Opening:
 
     def costs(self) -> dict[str, str]:
         """Returns who is interrupted, and for how long at most, in each of the two stages in which any customer is."""
-        told = {stage: self.counted.stage_words(stage, self.plan) for stage in OPENING_STAGES[2:] if stage in self.counted.stages}
+        stages = [stage for stage in OPENING_STAGES[2:] if stage in self.counted.stages]
+        told = {stage: self.counted.stage_words(stage, self.plan) for stage in stages}
         return {stage: words for stage, words in told.items() if words}
 
     def sides(self) -> Iterator[str]:
         """Yields, of each span with a switch on one side alone, the order that has both."""
         for span in self.one_sided:
-            yield f"{self.plan.span_name(span)} has no forced switch on both its sides; the order `span {'-'.join(map(str, self.plan.ends(span)))}` has"
+            order = f"span {'-'.join(map(str, self.plan.ends(span)))}"
+            yield f"{self.plan.span_name(span)} has no forced switch on both its sides; the order `{order}` has"
 
     def words(self) -> str:
         """Returns all of it in one sentence or two; empty where the works free no span."""
@@ -56,10 +61,12 @@ class Opening:
         if self.counted.problem:
             return f"Whether {called} can be opened under this order isn't known: {self.counted.problem}."
         if not (costs := self.costs()):
-            return f"{called} can be opened under this order: no customer is interrupted as the fibres are cut, and none as they are joined again."
+            told = "no customer is interrupted as the fibres are cut, and none as they are joined again"
+            return f"{called} can be opened under this order: {told}."
         how = {"opened": "interrupted as the fibres are cut", "closed": "interrupted as they are joined again"}
         told = "; ".join(f"{how[stage]}: {words}" for stage, words in costs.items())
-        return ". ".join([f"{called} can't be opened under this order without interruptions. {told[0].upper()}{told[1:]}", *self.sides()]) + "."
+        first = f"{called} can't be opened under this order without interruptions"
+        return ". ".join([first, told[0].upper() + told[1:], *self.sides()]) + "."
 
     def line(self) -> str:
         """Returns the words as markup, the first sentence set off where the spans can't be opened."""
@@ -75,7 +82,8 @@ def count_opening(store: Store, beforehand: Beforehand, works: Case, anew: bool)
     plan, scene = beforehand.plan, during(beforehand, works)
     spans = freed_spans(plan, scene)
     one_sided = [span for span in spans if any(scene.commands[end] != "forced" for end in span_fibres(plan, span))]
-    case = Case("opening", "opening", "the opening", tuple(fibre for span in spans for fibre in span_fibres(plan, span)), settles=works.settles)
+    fibres = tuple(fibre for span in spans for fibre in span_fibres(plan, span))
+    case = Case("opening", "opening", "the opening", fibres, settles=works.settles)
     if not spans:
         return Opening(plan, spans, one_sided, Interruptions(store, case.name))
     count_case(store, beforehand, case, anew)
@@ -86,5 +94,7 @@ def count_opening(store: Store, beforehand: Beforehand, works: Case, anew: bool)
         if len(steps) != len(case.stages):
             raise ReportProblem(f"{len(steps)} of {len(case.stages)} settle steps were counted")
     except ReportProblem as problem:
-        return Opening(plan, spans, one_sided, Interruptions(store, case.name, problem=f"{store.program.words[0]}: {problem}"))
-    return Opening(plan, spans, one_sided, Interruptions(store, case.name, steps, case.settles - 1, names=OPENING_STAGES))
+        why = f"{store.program.words[0]}: {problem}"
+        return Opening(plan, spans, one_sided, Interruptions(store, case.name, problem=why))
+    counted = Interruptions(store, case.name, steps, case.settles - 1, names=OPENING_STAGES)
+    return Opening(plan, spans, one_sided, counted)

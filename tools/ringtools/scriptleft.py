@@ -1,4 +1,4 @@
-"""What a plan's script leaves when it has come to its end: the fibres and switches that stay, and the spans that wait."""
+"""What a plan's script leaves when it has come to its end: fibres and switches that stay, and spans that wait."""
 
 from __future__ import annotations
 
@@ -22,9 +22,9 @@ class ScriptLeft:
 
     @property
     def fibres(self) -> dict[tuple[int, str], str]:
-        """Returns `fibre` or `degraded` for each fibre that isn't clear, by the position and the side that it leaves."""
-        conditions = self.scene.conditions.items()
-        return {fibre: "fibre" if condition == CUT else "degraded" for fibre, condition in conditions if condition != CLEAR}
+        """Returns `fibre` or `degraded` for each fibre that isn't clear, by the position and side that it leaves."""
+        found = {fibre: condition for fibre, condition in self.scene.conditions.items() if condition != CLEAR}
+        return {fibre: "fibre" if condition == CUT else "degraded" for fibre, condition in found.items()}
 
     @property
     def switches(self) -> dict[tuple[int, str], str]:
@@ -34,7 +34,8 @@ class ScriptLeft:
     @property
     def waiting(self) -> list[int]:
         """Returns the spans whose highest request is to wait."""
-        return [span for span, request in enumerate(span_requests(self.plan.size, self.scene.requests)) if request == WAIT]
+        requests = span_requests(self.plan.size, self.scene.requests)
+        return [span for span, request in enumerate(requests) if request == WAIT]
 
     @property
     def is_something(self) -> bool:
@@ -45,7 +46,8 @@ class ScriptLeft:
         condition = self.scene.conditions[fibre]
         if condition == CUT:
             return ""
-        return f" by {condition}" + (f", below the threshold of {self.plan.threshold}" if condition < self.plan.threshold else "")
+        below = f", below the threshold of {self.plan.threshold}" if condition < self.plan.threshold else ""
+        return f" by {condition}{below}"
 
     def words(self) -> list[str]:
         """Returns what is left, one thing in each text."""
@@ -55,7 +57,7 @@ class ScriptLeft:
         return fibres + switches + [f"{namer.name('span', span, '')} waits to restore" for span in self.waiting]
 
     def line(self) -> str:
-        """Returns the first line of a page about the ring that the script left, as markup; empty for a script that only settles."""
+        """Returns the first line of a page about the ring that the script left, as markup; empty where it only settles."""
         if not self.steps:
             return ""
         steps = ", ".join(f"<code>{escape(step)}</code>" for step in self.steps)
@@ -63,7 +65,7 @@ class ScriptLeft:
             return f'<p class="script">The plan\'s script comes first, and leaves nothing: {steps}.</p>'
         left = escape("; ".join(self.words()))
         return (
-            f'<p class="script alarm"><strong>The ring isn\'t whole.</strong> The plan\'s script comes first: {steps}. '
+            f"<p class=\"script alarm\"><strong>The ring isn't whole.</strong> The plan's script comes first: {steps}. "
             f"It leaves: <strong>{left}</strong>. All that follows is beside that.</p>"
         )
 
