@@ -53,6 +53,13 @@ def moves(old: Plan, new: Plan) -> list[Move]:
     return [Move(circuit.name, new.places.circuit(circuit.name), kinds) for circuit, kinds in found if kinds]
 
 
+def is_earlier(old: Plan, new: Plan) -> bool:
+    """Returns whether at least half of the old plan's circuits have the same ends in the new one: then it is the same ring."""
+    nodes = same_nodes(old, new)
+    kept = sum(OTHER_ENDS not in kinds_of(was, now, nodes) for was, now in same_circuits(old, new))
+    return 0 < len(old.circuits) <= 2 * kept
+
+
 def moves_words(old: Plan, new: Plan, name: str) -> str:
     """Returns how many circuits of the plan of this name move, by kinds; empty where none does."""
     found = moves(old, new)

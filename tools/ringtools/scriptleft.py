@@ -57,7 +57,7 @@ class ScriptLeft:
         return fibres + switches + [f"{namer.name('span', span, '')} waits to restore" for span in self.waiting]
 
     def line(self) -> str:
-        """Returns the first line of a page about the ring that the script left, as markup; empty where it only settles."""
+        """Returns the first line of a page about the ring that the script left, as markup; empty if it only settles."""
         if not self.steps:
             return ""
         steps = ", ".join(f"<code>{escape(step)}</code>" for step in self.steps)

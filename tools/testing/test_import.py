@@ -307,6 +307,7 @@ class Growth(unittest.TestCase):
     def test_a_circuit_in_service_moves_and_it_is_said(self):
         _, before = self.plan(self.FIRST, "a.toml")
         self.assertEqual(before["alt"], (1, 2, 1))
+        self.plan("name,from,to\nalt,Trier,Aachen\nneu,Mainz,Trier\n", "other.toml")  # of another ring, which has circuits of these names
         grown = self.FIRST + "neu,Köln,Bonn\n"
         said, after = self.plan(grown, "b.toml")
         self.assertNotEqual(after["alt"], before["alt"])
