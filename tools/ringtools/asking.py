@@ -1,7 +1,9 @@
 """What both forms of sdhring-whatif share: how they end, the plan that they ask about, and where they keep what they write."""
 
+import re
 import shlex
 import sys
+import unicodedata
 from dataclasses import dataclass
 from functools import cached_property
 from pathlib import Path
@@ -9,10 +11,13 @@ from pathlib import Path
 from .answers import limit_advice
 from .failures import read_beforehand
 from .files import FileProblem, read_input
+from .origin import sum_of
 from .plan import PlanProblem, enough, read_plan, write_plan
 from .plans import stem_of
 
 FAILED, NOT_SETTLED, DIFFERS, INTERRUPTED = 1, 3, 4, 130
+QUESTION = "question"  # the file of a folder that says what its answers are about
+SLUG = 48  # characters of an order in the name of a folder
 
 
 def say(what):
@@ -69,12 +74,53 @@ def subject_of(name, also, works, without_script):
     return Subject(name, data, beforehand, data if as_it_is else write_plan(plan, beforehand.settled_texts()).encode())
 
 
+def slug(words: str) -> str:
+    """Returns words as a part of a file's name: small letters, digits and hyphens, at most SLUG of them."""
+    plain = "".join(letter for letter in unicodedata.normalize("NFKD", words).casefold() if not unicodedata.combining(letter))
+    made = "-".join(re.findall("[a-z0-9]+", plain)) or "order"
+    return made if len(made) <= SLUG else f"{made[: SLUG - 9]}-{sum_of(words.encode())[:8]}"
+
+
+def question_name(asked) -> str:
+    """Returns what the name of a folder has of the question, so that each works order has a folder of its own."""
+    parts = [slug(asked.works)] if asked.works else []
+    parts += [f"after-{slug(asked.also)}"] if asked.also else []
+    return "".join(f".{part}" for part in parts + ["without-script"] * asked.without_script)
+
+
 def folder_of(asked, name):
-    """Where all of a plan is kept. Several plans have a folder each, in that of --dir."""
-    own = f"{stem_of(name)}.whatif"
+    """Where all of a plan and a question is kept. Several plans have a folder each, in that of --dir."""
+    own = f"{stem_of(name)}{question_name(asked)}.whatif"
     if asked.many:
         return Path(asked.dir or ".") / own
     return Path(asked.dir or own)
+
+
+def question_of(asked, subject: Subject) -> str:
+    """Returns what is asked besides the plan, as the words that ask for it, with the steps that an order stands for."""
+    before, words = subject.beforehand, []
+    words += ["--works", "; ".join(before.works_texts())] if before.works else []
+    words += ["--also", "; ".join(before.also_texts())] if before.also else []
+    return shlex.join(words + ["--without-script"] * asked.without_script) + "\n"
+
+
+def check_question(asked, subject: Subject) -> None:
+    """Raises where the folder has answers to another question, which would be written over."""
+    folder = folder_of(asked, subject.name)
+    try:
+        kept = (folder / QUESTION).read_text(encoding="utf-8")
+    except (OSError, UnicodeDecodeError):
+        return
+    if kept != question_of(asked, subject):
+        other = kept.strip() or "without --works, --also and --without-script"
+        raise Stop(f"{folder} has the answers to another question, {other}, and they would be written over: --dir names another folder, or remove this one")
+
+
+def keep_question(asked, subject: Subject) -> None:
+    """Writes the question into its folder."""
+    folder = folder_of(asked, subject.name)
+    folder.mkdir(parents=True, exist_ok=True)
+    (folder / QUESTION).write_text(question_of(asked, subject), encoding="utf-8")
 
 
 def warn_of(program, plan=None):
