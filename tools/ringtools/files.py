@@ -1,6 +1,5 @@
 """Files that the tools read, `-` for standard input among them."""
 
-import signal
 import sys
 from functools import cache
 from pathlib import Path
@@ -22,7 +21,3 @@ def read_input(name):
     except OSError as error:
         raise FileProblem(f"{name}: {error.strerror}") from None
 
-
-def end_with_reader():
-    """Makes the tool end without a message where its reader stops reading, as `head` does."""
-    signal.signal(signal.SIGPIPE, signal.SIG_DFL)

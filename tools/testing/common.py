@@ -5,6 +5,7 @@ import subprocess
 import sys
 from pathlib import Path
 
+PATIENCE = 3600  # seconds after which a program is taken to hang, however slow the machine is
 TESTING = Path(__file__).resolve().parent
 TOOLS = TESTING.parent
 RINGS = TESTING / "rings"
