@@ -14,7 +14,7 @@ from .model import CUT, DEGRADE, FAIL, FORCED, MANUAL, WAIT, applied_spans, arc,
 from .plan import SIDES
 from .reasons import REASONS
 from .report import BAD_PLAN
-from .starting import start
+from .programs import ask
 
 KEPT, IMPAIRED, OVER, LOST = "k", "i", "o", "l"
 GROUP = "group"  # failures of the ring that come together, as `own` words name them
@@ -334,7 +334,7 @@ def words_for(failures, depth, part=WHOLE):
 
 def tell(program, document, words):
     """What the program writes where it is given these words."""
-    text, status = start(program, words, document)
+    text, status = ask(program, words, document)
     if status:
         raise ToldProblem(f"status {status}, {refused(text)}")
     return text

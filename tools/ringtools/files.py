@@ -1,7 +1,6 @@
 """Files that the tools read, `-` for standard input among them: what may be read, and how much of it."""
 
 import os
-import signal
 import stat
 import sys
 from dataclasses import dataclass
@@ -90,8 +89,3 @@ def read_input(name: str, limit: Limit = PLAN) -> bytes:
         shown = "standard input" if name == "-" else name
         raise FileProblem(f"{shown}: it is longer than {limit.bytes:,} bytes, the most that is read of {limit.what}")
     return data
-
-
-def end_with_reader() -> None:
-    """Makes the tool end without a message where its reader stops reading, as `head` does."""
-    signal.signal(signal.SIGPIPE, signal.SIG_DFL)

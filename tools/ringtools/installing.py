@@ -132,7 +132,7 @@ def pieces(places, prefix):
         text = path.read_bytes()
         if path.suffix in TEXTS:
             text = installed(text.decode("utf-8"), path.name, f"{prefix}/{DOC}").encode("utf-8")
-        found[f"{folder}/{path.name}"] = Piece(text)
+        found[f"{folder}/{path.name}"] = Piece(text, is_run=is_run(path))
     found[f"{DOC}/WORDS.md"] = Piece(words_of_the_field())
     for path in sorted((HOME / "docs").glob("*.svg")):
         found[f"{DOC}/{path.name}"] = Piece(path.read_bytes())

@@ -160,7 +160,7 @@ def tree():
         text = path.read_bytes()
         if path.suffix in (".md", ".1"):
             text = released(text.decode("utf-8")).encode("utf-8")
-        found[str(path.relative_to(HOME))] = Piece(text)
+        found[str(path.relative_to(HOME))] = Piece(text, is_run=is_run(path))
     found["docs/WORDS.md"] = Piece(words_of_the_field())
     found |= {f"docs/{path.name}": Piece(path.read_bytes()) for path in sorted((HOME / "docs").glob("*.svg"))}
     return found

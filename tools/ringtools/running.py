@@ -18,7 +18,7 @@ from .files import CASES, TEXT
 from .kept import ELSEWHERE, FORMS, HERE, LONGEST, Store
 from .origin import CannotRun, Program, file_of
 from .progress import Progress
-from .starting import start
+from .programs import ask
 from .writing import Folder
 
 STOPPED = (128 + signal.SIGINT, 128 + signal.SIGTERM)
@@ -29,7 +29,7 @@ TICK = 0.5  # seconds between two looks at what is done
 def run_one(store: Store, name: str) -> int:
     """Runs a case, keeps what was answered unless the program was stopped, and returns its status."""
     begun = time.monotonic()
-    text, status = start(store.program, ["run"], store.plan(name) or b"")
+    text, status = ask(store.program, ["run"], store.plan(name) or b"")
     if status not in STOPPED:
         store.put_answer(name, text, status, time.monotonic() - begun)
     return status

@@ -17,9 +17,6 @@ def shown_lines(text: object) -> str:
 
 
 def say(tool: str, what: object) -> None:
-    """Writes a line on standard error, in which a tool says something. Where nobody hears it, nothing is lost."""
-    try:
-        sys.stderr.write(f"{shown(tool)}: {shown_lines(what)}\n")
-        sys.stderr.flush()
-    except (OSError, ValueError, AttributeError):
-        pass
+    """Writes a line on standard error, in which a tool says something."""
+    sys.stderr.write(f"{shown(tool)}: {shown_lines(what)}\n")
+    sys.stderr.flush()

@@ -11,7 +11,7 @@ from .report import ReportProblem
 from .signalpage import signal_page
 from .signals import read_signalling
 from .spacetime import SpaceTime
-from .starting import start
+from .programs import ask
 from .ticks import broken, read_trace, ticks
 
 TRACES = 16  # the most ports that are traced
@@ -27,7 +27,7 @@ def signalling_text(asked, name, data):
     if asked.signalling:
         return read_input(asked.signalling, TEXT), Origin(None, name, sum_of(data), note="not known, since the program's text doesn't name it")
     program = program_of(asked.program, beside("sdhaps"))
-    text, _ = start(program, ["run"], data)
+    text, _ = ask(program, ["run"], data)
     return text, Origin(program, name, sum_of(data), (now(),))
 
 
@@ -35,7 +35,7 @@ def traced(program: Program, steps, data: bytes):
     """The events of ports that are out more than once in a settle step, one dictionary by port for each settle step."""
     found = [{} for _ in steps]
     for port in broken(steps)[:TRACES]:
-        text, _ = start(program, ["trace", *port], data)
+        text, _ = ask(program, ["trace", *port], data)
         for events, one in zip(found, read_trace(text)):
             events[port] = one
     return found
@@ -62,7 +62,7 @@ def outages_of(asked, data, plan):
         program = find_program([str(beside("sdhoutage"))])
     except CannotRun:
         return NONE
-    steps = read_outages(start(program, ["run"], data)[0], plan)
+    steps = read_outages(ask(program, ["run"], data)[0], plan)
     return Outages(steps, traced(program, steps, data), f"{program.version or program.words[0]}, {program.proof}")
 
 

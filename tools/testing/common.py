@@ -9,6 +9,7 @@ import sys
 import tempfile
 from pathlib import Path
 
+PATIENCE = 3600  # seconds after which a program is taken to hang, however slow the machine is
 TESTING = Path(__file__).resolve().parent
 TOOLS = TESTING.parent
 RINGS = TESTING / "rings"

@@ -15,7 +15,7 @@ from ringtools.build import BuildProblem, read_build, write_build
 from ringtools.kept import read_answer
 from ringtools.origin import CannotRun, find_program
 from ringtools.progress import Progress, duration
-from ringtools.starting import held, start
+from ringtools.programs import ask, held
 
 LAUNCHER = """#!/bin/sh
 case "$*" in
@@ -88,13 +88,13 @@ class Launched(unittest.TestCase):
         """A program that is replaced while it is asked isn't run, and one that has begun to be asked goes on."""
         launcher, runs = self.launcher()
         program, plan = find_program([launcher]), ring("span-cut")[0].read_bytes()
-        text, status = start(program, ["run"], plan)
+        text, status = ask(program, ["run"], plan)
         self.assertEqual(status, 0)
         executable(runs, "#!/bin/sh\necho forged\n")
-        self.assertEqual(start(program, ["run"], plan), (text, 0))
+        self.assertEqual(ask(program, ["run"], plan), (text, 0))
         held.cache_clear()
         with self.assertRaisesRegex(CannotRun, "has changed since this run began"):
-            start(program, ["run"], plan)
+            ask(program, ["run"], plan)
 
     def test_a_changed_program_is_not_known(self):
         _, runs = self.launcher()
@@ -111,7 +111,7 @@ class Launched(unittest.TestCase):
         with self.assertRaisesRegex(CannotRun, "ended with status 83, and has no program"):
             find_program([launcher])
         with self.assertRaises(CannotRun):
-            start(find_program(["/nowhere/sdhring"]), ["run"], b"")
+            ask(find_program(["/nowhere/sdhring"]), ["run"], b"")
 
     def page_of(self, launcher, *words, **more):
         ended = call(self.tools / "sdhring-view", *words, "--program", launcher, **more)

@@ -9,6 +9,7 @@ import unittest
 from pathlib import Path
 
 from checkouts import PROGRAM, RT, TOP, at_terminal, executable, make_checkout, release
+from common import PATIENCE
 
 from ringtools.build import PROGRAMS, read_build, sum_of
 from ringtools.installing import DOCUMENTS, TOOLS
@@ -25,7 +26,7 @@ VERSION = re.escape((TOP / "VERSION").read_text().strip())
 def run(words, folder, path="/usr/bin:/bin", **more):
     """As a user does who has no kit and no home."""
     environment = {"PATH": path, "HOME": ""}
-    return subprocess.run(words, cwd=folder, env=environment, capture_output=True, text=True, timeout=60, **{"input": "", **more})
+    return subprocess.run(words, cwd=folder, env=environment, capture_output=True, text=True, timeout=PATIENCE, **{"input": "", **more})
 
 
 def python_path():

@@ -253,7 +253,7 @@ class House(unittest.TestCase):
 
     def test_standard_error_is_written_by_one_function(self):
         for path, tree in self.modules():
-            if path.name not in ("shown.py", "progress.py", "test", "rows", "release", "install", "releasing.py"):
+            if path.name not in ("shown.py", "starting.py", "progress.py", "benching.py", "test", "rows", "release", "install", "releasing.py"):
                 text = ast.unparse(tree)
                 self.assertNotIn("sys.stderr.write", text, path.name)
                 self.assertNotIn("file=sys.stderr", text, path.name)
