@@ -17,8 +17,12 @@ import random
 import re
 import subprocess
 import sys
+from pathlib import Path
 
 from plans import answer
+
+sys.path.insert(0, str(Path(__file__).resolve().parents[2] / "tools"))
+from ringtools.starting import start
 
 NUMBERS = (
     "0 1 -1 2 3 4 5 8 9 12 13 15 16 17 48 49 782 783 1000 65536 65537 1000000 1000001 1000000000 1000000001 4294967297 "
@@ -52,13 +56,6 @@ BORDERS = {
 
 def plan(chance):
     """A plan, nearly always one that is accepted."""
-
-import sys
-from pathlib import Path
-
-sys.path.insert(0, str(Path(__file__).resolve().parents[2] / "tools"))
-from ringtools.starting import start
-
     rate = chance.choice((4, 16))
     nodes = chance.sample(range(16), chance.randint(2, 16 if chance.random() < 0.2 else 5))
     lines = [

@@ -14,6 +14,8 @@ from collections.abc import Callable
 from pathlib import Path
 from typing import NoReturn
 
+from .shown import say, shown_lines
+
 FAILED = 1
 OUTPUT_FAILED = 4  # as it is of the programs, and so is the next
 NO_MEMORY = 70
@@ -76,7 +78,7 @@ def ended(main: Main) -> int:
     except SystemExit as leaving:
         status = leaving.code
     if isinstance(status, str):
-        sys.stderr.write(f"{status}\n")
+        sys.stderr.write(f"{shown_lines(status)}\n")
         status = FAILED
     sys.stdout.flush()
     return int(status or 0)
@@ -133,6 +135,6 @@ def start(main: Main, failed: int = FAILED) -> NoReturn:
         if isinstance(error, OutputProblem) and error.errno == errno.EPIPE:
             end_with_reader()
         line, status = told(error, failed)
-        sys.stderr.write(f"{Path(sys.argv[0]).name}: {line}\n")
+        say(Path(sys.argv[0]).name, line)
         drop_output()
     sys.exit(status)

@@ -244,7 +244,7 @@ class Packed(Released):
         self.assertEqual(sorted(first), sorted(again))
         for name, path in first.items():
             self.assertEqual(path.read_bytes(), again[name].read_bytes(), name)
-        self.assertEqual(len(first), 1 + bool(shutil.which("dpkg-deb")))
+        self.assertEqual(len(first), 2 + bool(shutil.which("dpkg-deb")))
 
     def test_the_tarball(self):
         """The first commands of README, as they stand there, in a root where nothing else is."""
