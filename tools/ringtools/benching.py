@@ -7,10 +7,12 @@ from typing import NoReturn
 
 from .plan import PlanProblem, read_plan
 
+HELP = ["--help"], ["-h"]
+
 
 def refuse(about: str, words: list[str]) -> NoReturn:
     """Ends a command whose words are none of its own; `--help` writes what it is about."""
-    if words[:1] in (["--help"], ["-h"]):
+    if words[:1] in HELP:
         print(about)
         sys.exit(0)
     sys.stderr.write(f"{about}\n")
@@ -20,7 +22,7 @@ def refuse(about: str, words: list[str]) -> NoReturn:
 def words_of(about: str, words: list[str], programs: int, *numbers: int) -> tuple[list[str], list[int]]:
     """Returns the programs' files and the numbers, with these for those that aren't given. Other words end the command."""
     files, given = words[:programs], words[programs:]
-    if len(files) < programs or len(given) > len(numbers) or not all(word.isascii() and word.isdecimal() for word in given):
+    if words[:1] in HELP or len(files) < programs or len(given) > len(numbers) or not all(word.isascii() and word.isdecimal() for word in given):
         refuse(about, words)
     for file in files:
         if not (os.path.isfile(file) and os.access(file, os.X_OK)):

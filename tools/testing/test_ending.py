@@ -79,6 +79,7 @@ ALL = (
     tool("sdhring-whatif", "--outages", "--dir", "made", "PLAN"),
     tool("sdhring-whatif", "--works", "span 2-3", "--dir", "made", "PLAN"),
     tool("rows", PROGRAM["sdhpath"], "one-fibre-cut"),
+    tool("release", "--help"),
     tool("release", "pack", "--here", "1700000000", "--to", "made"),
     tool("install", "--install", "made", writes=False),
     Tried(TOP / "examples" / "bench" / "ring", ("PLAN",)),
@@ -96,11 +97,12 @@ ALL = (
     bench("outage/simulate.py", "run", given="PLAN"),
     bench("paths/compare", PROGRAM["sdhpath"], "0"),
     bench("plans/mutate.py", "--help"),
-    bench("retime/compare", PROGRAM["sdhretime"], "1"),
+    bench("retime/compare", "--help"),
     bench("watch/compare", PROGRAM["sdhwatch"], "0"),
     bench("whatif/compare", PROGRAM["sdhwhatif"], PROGRAM["sdhring"], "0"),
     bench("whatif/model.py", "single", given="PLAN"),
 )
+ONCE = [*{tried.file: tried for tried in reversed(ALL)}.values()]  # one form of each
 
 
 @cache
@@ -140,7 +142,7 @@ class Ending(unittest.TestCase):
         made = tempfile.TemporaryDirectory()
         cls.addClassCleanup(made.cleanup)
         cls.top = Path(made.name)
-        cls.well = dict(cls.each(cls(), lambda tried: started(tried, cls().folder(), stdout=subprocess.PIPE)))
+        cls.well = dict(cls.each(cls(), lambda tried: started(tried, cls().folder(), stdout=subprocess.PIPE), ALL))
 
     def folder(self):
         """A new folder with all files."""
@@ -149,7 +151,7 @@ class Ending(unittest.TestCase):
             (folder / name).write_bytes(data)
         return folder
 
-    def each(self, deed, tools=ALL):
+    def each(self, deed, tools):
         """Does the same with each tool, some at a time, and gives each with what came of it."""
         with ThreadPoolExecutor(max(2, os.cpu_count() or 1)) as pool:
             return zip(tools, pool.map(deed, tools))
@@ -176,11 +178,11 @@ class Ending(unittest.TestCase):
         self.assertEqual({str(path) for path in scripts} - {str(path) for path in tried}, {str(TOP / "bench" / "desk" / "opens")})
 
     def test_a_closed_standard_output(self):
-        for tried, ended in self.each(lambda tried: started(tried, self.folder(), shell=">&-")):
+        for tried, ended in self.each(lambda tried: started(tried, self.folder(), shell=">&-"), ONCE):
             self.check(tried, ended, {OUTPUT_FAILED} if tried.writes else {0, 1})
 
     def test_a_full_standard_output(self):
-        for tried, ended in self.each(lambda tried: started(tried, self.folder(), shell=">/dev/full")):
+        for tried, ended in self.each(lambda tried: started(tried, self.folder(), shell=">/dev/full"), ONCE):
             self.check(tried, ended, {OUTPUT_FAILED} if tried.writes else {0, 1})
 
     def test_a_reader_that_has_had_enough(self):
@@ -192,12 +194,12 @@ class Ending(unittest.TestCase):
             finally:
                 os.close(writes)
 
-        for tried, ended in self.each(deed, [tried for tried in ALL if tried.writes]):
+        for tried, ended in self.each(deed, [tried for tried in ONCE if tried.writes]):
             self.check(tried, ended, {SIGPIPE})
 
     def test_closed_standard_files(self):
         """Where nothing can be said nothing is, and what is written is the same."""
-        some = [tried for tried in ALL if tried.writes and not tried.given and "compare" not in tried.name]
+        some = [tried for tried in ONCE if tried.writes and not tried.given and tried.file.parent == TOOLS]
         for tried, (one, other) in self.each(lambda tried: [started(tried, self.folder(), shell=shell, stdout=subprocess.PIPE) for shell in ("2>/dev/full", "<&- 2>&-")], some):
             with self.subTest(tool=tried.name, words=tried.words):
                 self.assertIn(one.returncode, {0, 1})
@@ -215,7 +217,7 @@ class Ending(unittest.TestCase):
                 ends.append(started(tried, folder))
             return ends
 
-        for tried, ends in self.each(deed, {tried.file: tried for tried in reversed(ALL) if tried.inputs}.values()):
+        for tried, ends in self.each(deed, [tried for tried in ONCE if tried.inputs]):
             for ended in ends:
                 self.check(tried, ended, {0, *wanted} if tried.file.name in shows else wanted)
 
@@ -238,13 +240,13 @@ class Ending(unittest.TestCase):
             (folder / tried.given).write_bytes(b"nothing of the kind\n")
             return started(tried, folder)
 
-        for tried, ended in self.each(deed, [tried for tried in ALL if tried.given and tried.file.parent.name != "bench"]):
+        for tried, ended in self.each(deed, [tried for tried in ONCE if tried.given and tried.file.parent.name != "bench"]):
             with self.subTest(tool=tried.name):
                 self.assertNotIn("Traceback", "\n".join(said(ended)))
                 self.assertLessEqual(len(said(ended)), 1)
 
     def test_wrong_words(self):
-        for tried, ended in self.each(lambda tried: started(tried, self.folder(), ["--no-such-word"])):
+        for tried, ended in self.each(lambda tried: started(tried, self.folder(), ["--no-such-word"]), ONCE):
             with self.subTest(tool=tried.name):
                 self.assertNotIn("Traceback", "\n".join(said(ended)))
                 self.assertIn(ended.returncode, range(1, MISTAKE))
@@ -287,7 +289,7 @@ sys.version_info = (3, 10, 13); sys.modules.pop("tomllib", None); sys.modules["t
         def deed(tried):
             return subprocess.run([sys.executable, "-c", before, tried.file, *tried.words], capture_output=True, stdin=subprocess.DEVNULL, timeout=PATIENCE)
 
-        for tried, ended in self.each(deed):
+        for tried, ended in self.each(deed, ONCE):
             with self.subTest(tool=tried.name):
                 self.assertEqual((ended.returncode, ended.stderr.decode()), (1, f"{tried.file.name}: Python 3.11 or later is wanted, and this is 3.10\n"))
                 ast.parse(tried.file.read_text(), feature_version=OLDEST)
