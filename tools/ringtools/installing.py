@@ -2,6 +2,7 @@
 
 import os
 import re
+import shlex
 from collections.abc import Iterable, Mapping
 from contextlib import suppress
 from dataclasses import dataclass
@@ -12,10 +13,13 @@ from .origin import launched_record
 from .shown import shown
 from .writing import Folder, WriteProblem, named_folder, parts_of
 
-TOOLS = ("sdhring-availability", "sdhring-capture", "sdhring-desk", "sdhring-explain", "sdhring-plan", "sdhring-report", "sdhring-view", "sdhring-whatif")
+TOOLS = (
+    *("sdhring-availability", "sdhring-capture", "sdhring-compare-node", "sdhring-desk", "sdhring-explain", "sdhring-plan", "sdhring-report"),
+    *("sdhring-view", "sdhring-whatif"),
+)
 DOCUMENTS = (
     *("AVAILABILITY.md", "BENCH.md", "DESK.md", "FORMATS.md", "LOOKING.md", "OUTAGES.md", "PATHS.md", "RETIMING.md", "RING.md", "TABLES.md", "WATCHING.md"),
-    *("SIGNALLED.md", "WHATIF.md"),
+    *("ROUTES.md", "SIGNALLED.md", "SIGNALLING.md", "WHATIF.md"),
 )
 LIB, DOC, MAN = "lib/sdhring", "share/doc/sdhring", "share/man/man1"
 COMPLETIONS = "share/bash-completion/completions"
@@ -25,10 +29,11 @@ CACHE = "__pycache__"
 # What an install puts below a prefix, and so all that may be taken away from there.
 OURS = re.compile(rf"bin/sdh[a-z-]+|{LIB}/.+|{DOC}/.+|{MAN}/sdh[a-z-]+\.1|{COMPLETIONS}/sdh[a-z-]+")
 # What is about the repository alone, from the one comment to the other, of a document, a man page or a script.
-OF_REPOSITORY = re.compile(r"<!-- repository -->.*?<!-- end -->\n?\n?|^(?:\.\\\"|#) repository\n.*?^(?:\.\\\"|#) end\n\n?", re.M | re.S)
+OF_REPOSITORY = re.compile(r"^<!-- repository -->.*?<!-- end -->\n?\n?|<!-- repository -->.*?<!-- end -->|^(?:\.\\\"|#) repository\n.*?^(?:\.\\\"|#) end\n\n?", re.M | re.S)
 # What is of use only before it is installed.
-OF_UNPACKED = re.compile(r"<!-- unpacked -->.*?<!-- end -->\n?\n?", re.S)
+OF_UNPACKED = re.compile(r"<!-- unpacked -->.*?<!-- end -->\n?\n?|^\.\\\" unpacked\n.*?^\.\\\" end\n", re.M | re.S)
 TEXTS = {".md", ".1", ".toml", ".json", ""}
+EXAMPLE = r"examples/(?:[\w./-]*[\w/-])?"
 
 
 class InstallProblem(Exception):
@@ -49,14 +54,14 @@ def unlinked(found):
     before, words, name = found[1] or "", found[2], found[3]
     if name in DOCUMENTS or name in ("README.md", "CHANGELOG.md", "WORDS.md"):
         return found[0]
-    return "" if before and words.endswith(".md") else f"{before and ' ('}{words}{before and ')'}"
+    return "" if before and words.endswith(".md") else f"{before}{words}{before and ')'}"
 
 
 def released(text):
     """A text as a release has it: without what is about the repository alone, and without links to documents of it."""
     text = OF_REPOSITORY.sub("", text).replace("](MAP.md#the-words-of-the-field)", "](WORDS.md)")
-    text = re.sub(r"([ \n]\()\[([^]]*)\]\((?:docs/|\.\./)?([A-Z]+\.md)[^)]*\)\)", unlinked, text)
-    return re.sub(r"()\[([^]]*)\]\((?:docs/|\.\./)?([A-Z]+\.md)[^)]*\)", unlinked, text)
+    text = re.sub(r"((?:\n *| )\()\[([^]]*)\]\((?:docs/|\.\./)?([A-Z]+\.md)[^)]*\)\)", unlinked, text)
+    return re.sub(r"()\[([^]]*)\]\((?:docs/|\.\./)?([A-Z]+\.md)[^)]*\)", unlinked, text).rstrip("\n") + "\n"
 
 
 def glossary():
@@ -65,17 +70,22 @@ def glossary():
     return f"# The words of the field\n{words}"
 
 
+def with_places(text, files, doc):
+    """A text in which the names of these files, a form without groups, lead to the folder of the documents from wherever a command is typed."""
+    return re.sub(rf"(?<![\w/(])({files})", lambda found: shlex.quote(f"{doc}/{found[1].removeprefix('docs/')}"), text)
+
+
 def installed(text, name, doc):
     """A text of a release as it is installed: commands are on the PATH, and documents and examples stand in one folder."""
     text = re.sub(r"\\&\./(?=sdh)|(?<![\w.])\./(?=sdh)", "", OF_UNPACKED.sub("", released(text)))
     if name.endswith(".1"):
         text = text.replace("man \\-l docs/", "man ").replace("man -l docs/", "man ")
-        text = re.sub(r"(?<![\w/])(docs/|(?=examples/))(?=[\w.])", f"{doc}/", text)
+        text = with_places(text, rf"docs/[\w.-]*\w|{EXAMPLE}", doc)
         return re.sub(r'^(\.TH .*)"sdhring(?: [0-9.]+)?"', rf'\1"sdhring {version()}"', text, flags=re.M)
     text = re.sub(r"man -l docs/([\w-]+)\.1", r"man \1", text)
     text = re.sub(r"\[([\w-]+)\.1\]\((?:docs/)?[\w-]+\.1\)", r"\1(1)", text)
     text = re.sub(r"\]\((?:docs|\.\.)/", "](", text)
-    return re.sub(r"(?<![\w/])docs/(?=\w)", "", text)
+    return with_places(re.sub(r"(?<![\w/])docs/(?=\w)", "", text), EXAMPLE, doc)
 
 
 def words_of_the_field():
@@ -92,7 +102,7 @@ def texts():
         yield HOME / "docs" / name, DOC
     for path in sorted((HOME / "docs").glob("sdh*.1")):
         yield path, MAN
-    for path in sorted(path for path in (HOME / "examples").rglob("*") if path.is_file()):
+    for path in sorted(path for path in (HOME / "examples").rglob("*") if path.is_file() and "__pycache__" not in path.parts):
         yield path, f"{DOC}/{path.parent.relative_to(HOME)}"
 
 
@@ -101,7 +111,7 @@ def modules():
     for name in (*TOOLS, "install"):
         yield Path(name)
     for path in sorted((HOME / "tools" / "ringtools").rglob("*")):
-        if path.is_file() and path.suffix in (".py", ".css", ".js") and path.name not in ("rows.py", "releasing.py"):
+        if path.is_file() and path.suffix in (".py", ".css", ".js") and path.name not in ("benching.py", "rows.py", "releasing.py"):
             yield path.relative_to(HOME / "tools")
 
 

@@ -118,7 +118,7 @@ class Comparing(unittest.TestCase):
     def setUp(self):
         self.folder = tempfile.TemporaryDirectory()
         self.addCleanup(self.folder.cleanup)
-        self.compare_node = module("compare_node", TOOLS / "compare-node")
+        self.compare_node = module("compare_node", TOOLS / "sdhring-compare-node")
         self.text = answer("told")[1]
 
     def compare(self, ours, theirs):

@@ -6,10 +6,10 @@ import sys
 import unittest
 
 from cases import CIRCUITS, IDS, Asking
-from common import TOOLS
+from common import TOOLS, command
 from pages import Seen
 
-SIMULATE = f"{sys.executable} {TOOLS.parent / 'bench' / 'outage' / 'simulate.py'}"  # a command
+SIMULATE = command(TOOLS.parent / "bench" / "outage" / "simulate.py")
 PORT = re.compile(r"port (\S+) ([ab]) out (\d+) runs \d+ longest \d+ ms \d+\.\d{3} from (\S+) to (\S+) ais \d+ ones \d+ jump (\d+) torn ")
 STAGES = ["before", "during", "after", "waited"]
 BEGIN, END = "interrupted as they begin", "interrupted as they end"

@@ -97,7 +97,7 @@ class Installed(Released):
             self.assertRegex(self.start(name, "--version").stdout, rf"^{name} 9\.8\.7, commit 012345678901, sources [0-9a-f]{{12}}, proved with kit-of-the-release")
             told = self.start(name, "--help").stdout
             self.assertNotIn("./", told)
-            for example in re.findall(r"< (\S+\.toml)", told.replace(str(self.prefix), "PREFIX")):
+            for example in re.findall(r"< (\S+\.toml)", told.replace("\\ ", " ").replace(str(self.prefix), "PREFIX")):
                 self.assertTrue((Path(example.replace("PREFIX", str(self.prefix)))).is_file(), example)
 
     def test_tools(self):
@@ -270,7 +270,7 @@ class Packed(Released):
         commands = [line.strip() for line in readme.split("## Run it\n")[1].split("\n## ")[0].splitlines() if re.match(r"    (\./)?sdh\S* ", line) and "--" not in line]
         self.assertGreaterEqual(len(commands), 1)
         for command in [*commands, *(("sdhring --version", "sdhring --help") if path else ("./sdhring --version", "./sdhring --help"))]:
-            ended = run(["bash", "-c", command], folder, f"{path or ''}:{python_path()}")
+            ended = run(["bash", "-c", command.replace(" /usr/", f" {top}/usr/")], folder, f"{path or ''}:{python_path()}")
             with self.subTest(command=command):
                 self.assertEqual((ended.returncode, ended.stderr), (0, ""))
 
