@@ -133,10 +133,10 @@ def records_of(name: str, text: str, sign: str) -> Iterator[tuple[int, list[str]
         raise TableProblem(f"{name}:{line + 1}: {error}") from None
 
 
-def read_table(name: str, known: Sequence[str], needed: Sequence[str]) -> "Table":
+def read_table(name: str, known: Sequence[str], needed: Sequence[str], most: int = ROWS) -> "Table":
     """The rows of a table whose first line names its columns. Commas, semicolons or tabs part the cells; rows without a word are skipped.
 
-    Where semicolons or tabs do, numbers may have a comma for the point.
+    Where semicolons or tabs do, numbers may have a comma for the point. Raises TableProblem where there are more rows than `most`.
     """
     text = text_of(name)
     first = text[:LINE].partition("\n")[0]
@@ -146,6 +146,8 @@ def read_table(name: str, known: Sequence[str], needed: Sequence[str]) -> "Table
             heads = head_of(name, cells, known, needed)
             unread = tuple(cell for cell, head in zip(cells, heads) if head is None and cell)
             table = Table(name, tuple(filter(None, heads)), unread)
+        elif any(cells) and len(table.rows) == most:
+            raise TableProblem(f"{name}:{line}: this table has at most {most:,} rows")
         elif any(cells):
             table.rows.append(row_of(name, line, heads, cells, "," if sign != "," else "."))
     if table is None:
