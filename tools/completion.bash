@@ -31,7 +31,7 @@ _sdhring_tools() {
     rows) words='--dir --jobs --list --help' ;;
     sdhring-explain) words='--first --status --name --version --help' ;;
     sdhring-report) words='--json --csv --nodes --plan --version --help' ;;
-    sdhring-plan) words='new import --nodes --rate --threshold --wait --limit --steps --to --version --help' ;;
+    sdhring-plan) words='new import --nodes --keep --table --rate --threshold --wait --limit --steps --to --version --help' ;;
     sdhring-availability) words='--nodes --groups --cuts-per-1000-km --without-script --csv --json --causes --version --help' ;;
     sdhring-capture) words='--node --side --rounds --frames --program --version --help' ;;
     sdhring-compare-node) words='--version --help' ;;

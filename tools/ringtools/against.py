@@ -1,5 +1,7 @@
 """Two plans or tables beside each other: in which cases a circuit survives in one of them and is lost in the other."""
 
+from __future__ import annotations
+
 import csv
 import io
 from collections import Counter
@@ -9,6 +11,8 @@ from dataclasses import dataclass, field
 from .cells import read_cell, write_rows
 from .desktable import OVER
 from .files import CASES, read_input
+from .moves import moves
+from .plan import Plan
 from .tables import TableProblem
 from .writing import Folder
 
@@ -27,11 +31,12 @@ class Cases:
     circuits: tuple
     cases: dict
     called: dict = field(default_factory=dict)
+    plan: Plan | None = None  # where it isn't a table
 
 
 def cases_of_told(name, told):
     cases = {told.table.labels(case): (frozenset(told.of(case, OVER)), frozenset(told.lost(case))) for case in told.all()}
-    return Cases(name, tuple(told.names), cases, told.called)
+    return Cases(name, tuple(told.names), cases, told.called, told.plan)
 
 
 def columns_of(name: str, heads: list[str]) -> list[int]:
@@ -92,6 +97,7 @@ class Against:
         self.cases_here, self.cases_there = len(here - there), len(there - here)
         self.changes = list(self.changes_of())
         self.depths = sorted({len(key) for key in here})
+        self.moves = None if this.plan is None or other.plan is None else moves(other.plan, this.plan)
 
     def changes_of(self):
         """Each case and circuit whose fate differs."""

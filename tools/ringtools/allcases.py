@@ -1,11 +1,15 @@
 """Every failure of a plan alone, each two and each three, as sdhwhatif answers: tables and a page, rules, and some cases run frame by frame too."""
 
 import shlex
+import signal
 import sys
 import time
+from collections.abc import Iterator
+from concurrent.futures import ProcessPoolExecutor
+from functools import partial
 
 from .against import Against, cases_of_table, cases_of_told
-from .asking import DIFFERS, INTERRUPTED, Stop, folder_of, say, subject_of, warn_of
+from .asking import DIFFERS, INTERRUPTED, Stop, folder_of, keep_question, say, subject_of, warn_of
 from .casepage import draw_cases
 from .checks import SETTLES
 from .desktable import WHOLE, Reading, ToldProblem, merged, read_cases, words_for
@@ -13,7 +17,7 @@ from .files import FileProblem
 from .framed import asked_of, machines_of, put_cases, run_cases, store_of
 from .groups import named_groups
 from .origin import TELLER, CannotRun, Origin, Program, program_of, sum_of
-from .required import BROKEN, NOT_ASKED, depth_for, line_of, not_asked, records
+from .required import BROKEN, COLUMNS, NOT_ASKED, Rule, depth_for, line_of, not_asked, records
 from .running import processors, tell_with_parallel
 from .shown import shown
 from .tables import TableProblem
@@ -48,9 +52,12 @@ def reading_of(asked, subject):
     """What reads the table of a plan, with the groups of --groups."""
     plan, places = subject.asked, subject.plan.places
     try:
-        return Reading(plan, places, named_groups(asked.groups, plan, places))
+        groups = named_groups(asked.groups, plan, places)
     except (FileProblem, TableProblem) as problem:
         raise Stop(str(problem)) from None
+    for note in groups.notes:
+        say(note)
+    return Reading(plan, places, groups.found)
 
 
 def against_of(asked, told, part):
@@ -96,6 +103,7 @@ class Writing:
 
     def write_once(self):
         """What doesn't change by cases that are run: what was asked and answered, as it is, as JSON, and beside the other."""
+        keep_question(self.asked, self.subject)
         self.folder.write(self.name("toml"), self.subject.document)
         self.folder.write(self.name("text"), self.told.table.text)
         self.told.write_json(self.folder, self.name("json"), self.question, self.teller)
@@ -160,13 +168,31 @@ def ask_all(asked, subject):
     return writing.write(*run_some(asked, subject, told, chosen)) if chosen else 0
 
 
-def require(asked, name, rules):
-    """Writes a record for each rule about one plan. The status is 1 where a rule is broken, or nothing could be asked."""
+def required(asked, rules: list[Rule], name: str) -> list[list]:
+    """Returns a record for each rule about one plan."""
     try:
         told, _ = told_of(asked, subject_of(name, asked.also, asked.works, asked.without_script), depth_for(rules))
-        found = list(records(name, rules, told))
+        return list(records(name, rules, told))
     except (Stop, CannotRun) as problem:
-        found = not_asked(name, rules, str(problem))
-    sys.stdout.write("".join(map(line_of, found)))
-    sys.stdout.flush()
-    return int(any({BROKEN, NOT_ASKED} & set(cells) for cells in found))
+        return not_asked(name, rules, str(problem))
+
+
+def each_required(asked, plans: list[str], rules: list[Rule]) -> Iterator[list[list]]:
+    """Yields the records of each plan, in the order of the plans; as many are asked about at a time as there are processors, or --jobs."""
+    ask, jobs = partial(required, asked, rules), min(asked.jobs or processors(), len(plans))
+    if jobs < 2 or asked.sshlogin or "-" in plans:
+        yield from map(ask, plans)
+        return
+    with ProcessPoolExecutor(jobs, initializer=signal.signal, initargs=(signal.SIGINT, signal.SIG_IGN)) as pool:
+        yield from pool.map(ask, plans)
+
+
+def require(asked, plans: list[str], rules: list[Rule]) -> int:
+    """Writes a table with a record for each plan and rule. The status is 1 where a rule is broken, or nothing could be asked."""
+    sys.stdout.write(line_of(COLUMNS))
+    status = 0
+    for found in each_required(asked, plans, rules):
+        sys.stdout.write("".join(map(line_of, found)))
+        sys.stdout.flush()
+        status = max(status, int(any({BROKEN, NOT_ASKED} & set(cells) for cells in found)))
+    return status

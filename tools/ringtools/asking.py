@@ -1,6 +1,8 @@
 """What both forms of sdhring-whatif share: how they end, the plan that they ask about, and where they keep what they write."""
 
+import re
 import shlex
+import unicodedata
 from dataclasses import dataclass
 from functools import cached_property
 from pathlib import Path
@@ -9,11 +11,15 @@ from . import shown
 from .answers import limit_advice
 from .failures import read_beforehand
 from .files import FileProblem, read_input
+from .origin import sum_of
 from .plan import PlanProblem, enough, read_plan, write_plan
 from .plans import stem_of
 from .writing import Folder, named_folder, own_folder
 
 FAILED, NOT_SETTLED, DIFFERS, INTERRUPTED = 1, 3, 4, 130
+QUESTION = "question"  # the file of a folder that says what its answers are about
+LONGEST_QUESTION = 65_536  # bytes of it
+SLUG = 48  # characters of an order in the name of a folder
 
 
 def say(what: object) -> None:
@@ -69,12 +75,57 @@ def subject_of(name, also, works, without_script):
     return Subject(name, data, beforehand, data if as_it_is else write_plan(plan, beforehand.settled_texts()).encode())
 
 
-def folder_of(asked, name: str) -> Folder:
-    """Returns the folder where all of a plan is kept, which is there then. Several plans have a folder each, in that of --dir."""
-    own = f"{stem_of(name)}.whatif"
+def slug(words: str) -> str:
+    """Returns words as a part of a file's name: small letters, digits and hyphens, at most SLUG of them."""
+    plain = "".join(letter for letter in unicodedata.normalize("NFKD", words).casefold() if not unicodedata.combining(letter))
+    made = "-".join(re.findall("[a-z0-9]+", plain)) or "order"
+    return made if len(made) <= SLUG else f"{made[: SLUG - 9]}-{sum_of(words.encode())[:8]}"
+
+
+def question_name(asked) -> str:
+    """Returns what the name of a folder has of the question, so that each works order has a folder of its own."""
+    parts = [slug(asked.works)] if asked.works else []
+    parts += [f"after-{slug(asked.also)}"] if asked.also else []
+    return "".join(f".{part}" for part in parts + ["without-script"] * asked.without_script)
+
+
+def place_of(asked, name: str) -> Folder:
+    """Returns where all of a plan and a question is kept, be it there or not. Several plans have a folder each, in that of --dir."""
+    own = f"{stem_of(name)}{question_name(asked)}.whatif"
     if asked.dir is None:
-        return own_folder(own)
-    return named_folder(asked.dir).inside(own) if asked.many else named_folder(asked.dir)
+        return Folder(Path(own), is_own=True)
+    return Folder(Path(asked.dir), (own,) if asked.many else ())
+
+
+def folder_of(asked, name: str) -> Folder:
+    """Returns the same folder, which is there then."""
+    place = place_of(asked, name)
+    made = own_folder(place.base) if place.is_own else named_folder(place.base)
+    return made.inside(*place.below) if place.below else made
+
+
+def question_of(asked, subject: Subject) -> str:
+    """Returns what is asked besides the plan, as the words that ask for it, with the steps that an order stands for."""
+    before, words = subject.beforehand, []
+    words += ["--works", "; ".join(before.works_texts())] if before.works else []
+    words += ["--also", "; ".join(before.also_texts())] if before.also else []
+    return shlex.join(words + ["--without-script"] * asked.without_script) + "\n"
+
+
+def check_question(asked, subject: Subject) -> None:
+    """Raises where the folder has answers to another question, which would be written over."""
+    folder = place_of(asked, subject.name)
+    if not folder.path.is_dir() or (data := folder.read(QUESTION, LONGEST_QUESTION)) is None:
+        return
+    kept = data.decode("utf-8", "replace")
+    if kept != question_of(asked, subject):
+        other = kept.strip() or "without --works, --also and --without-script"
+        raise Stop(f"{folder.path} has the answers to another question, {other}, and they would be written over: --dir names another folder, or remove this one")
+
+
+def keep_question(asked, subject: Subject) -> None:
+    """Writes the question into its folder."""
+    folder_of(asked, subject.name).write(QUESTION, question_of(asked, subject))
 
 
 def warn_of(program, plan=None):

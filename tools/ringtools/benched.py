@@ -5,6 +5,7 @@ from __future__ import annotations
 
 import re
 from dataclasses import dataclass
+from functools import cache
 
 LETTERS = "(?:fs|sf|sd|ms|wtr|rr|nr)"
 WORD = "(?:[0-9a-f]{2} [0-9a-f]{2})"
@@ -30,6 +31,10 @@ RULES = (
     ("east", "the word sent to the east", "4, the words that are sent"),
 )
 ROWS, COLUMNS, HEAD = 9, 270, 9
+
+
+Difference = tuple[str, str, str, str]  # the field, ours, theirs, and the rule
+SCRAMBLING = "9, section overhead and scrambling: all bytes but the first 9 N are scrambled, from seven ones on"
 
 
 class BenchProblem(Exception):
@@ -116,13 +121,57 @@ def first_difference(ours, theirs):
     return first_byte(ours.frames, theirs.frames)
 
 
-def first_byte(ours, theirs):
-    """The first byte of two pairs of frames that differs. Where one of the texts has no frames there is none."""
-    if ours is None or theirs is None or ours == theirs:
+@cache
+def sequence(n: int) -> bytes:
+    """Returns what the scrambler of ITU-T G.707 adds to a frame of STM-n: nothing to the first 9n bytes, then 1 + x^6 + x^7 from seven ones on."""
+    bits = [1] * 7
+    while len(bits) < 8 * 127:
+        bits.append(bits[-6] ^ bits[-7])
+    period = bytes(int("".join(map(str, bits[at : at + 8])), 2) for at in range(0, 8 * 127, 8))
+    clear, length = HEAD * n, ROWS * COLUMNS * n
+    return bytes(clear) + (period * (length // 127 + 1))[: length - clear]
+
+
+def added(frame: bytes, other: bytes) -> bytes:
+    """Returns the exclusive or of two stretches of one length."""
+    return (int.from_bytes(frame, "big") ^ int.from_bytes(other, "big")).to_bytes(len(frame), "big")
+
+
+def is_scrambled_otherwise(ours: bytes, theirs: bytes, n: int) -> bool:
+    """Returns whether two frames, from which the sequence was taken, differ all over their section overhead: then another sequence was added."""
+    places = [row * COLUMNS * n + column for row in range(1, ROWS) for column in range(HEAD * n)]
+    differing = sum(ours[at] != theirs[at] for at in places)
+    return 2 * differing > len(places)
+
+
+def first_in_frame(ours: bytes, theirs: bytes) -> Difference | None:
+    """Returns the first byte of two frames on the line that differs, with its values before the scrambler."""
+    n = len(ours) // (ROWS * COLUMNS)
+    clear, other = (added(frame, sequence(n)) for frame in (ours, theirs))
+    at = next((i for i, pair in enumerate(zip(clear, other)) if pair[0] != pair[1]), None)
+    if at is None:
         return None
+    where, field, rule = place_of(len(ours), at)
+    if is_scrambled_otherwise(clear, other, n):
+        used = added(theirs, clear)
+        return f"{where}, the scrambling: what is added here to the frame", f"{sequence(n)[at]:02x}", f"{used[at]:02x}", SCRAMBLING
+    return f"{where}, {field}, before the scrambler", f"{clear[at]:02x}", f"{other[at]:02x}", rule
+
+
+def first_byte(ours: bytes | None, theirs: bytes | None) -> Difference | None:
+    """Returns the first byte of two pairs of frames that differs."""
+    if ours == theirs:
+        return None
+    if ours is None or theirs is None:
+        told = ["no frames" if frames is None else f"{len(frames)} bytes" for frames in (ours, theirs)]
+        return "the frames that leave", *told, "the word `frames`, with which each answer has the two frames that leave"
     if len(ours) != len(theirs):
         return "the bytes of both frames", str(len(ours)), str(len(theirs)), "the rate of the plan"
-    at = next(i for i, pair in enumerate(zip(ours, theirs)) if pair[0] != pair[1])
+    if len(ours) % (2 * ROWS * COLUMNS):
+        return "the bytes of both frames", str(len(ours)), f"{len(theirs)} others", "the rate of the plan: two frames of 2430 bytes for each AU-4"
     size = len(ours) // 2
-    where, field, rule = place_of(size, at % size)
-    return f"the frame to the {'east' if at >= size else 'west'}, {where}, {field}", f"{ours[at]:02x}", f"{theirs[at]:02x}", rule
+    for side, begin in (("west", 0), ("east", size)):
+        if found := first_in_frame(ours[begin : begin + size], theirs[begin : begin + size]):
+            place, here, there, rule = found
+            return f"the frame to the {side}, {place}", here, there, rule
+    return None

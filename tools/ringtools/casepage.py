@@ -28,6 +28,7 @@ class Asked:
     shard: str = ""
     title: str = ""  # the heading that was asked for, such as an order's number and time
     interruptions: object = None  # what sdhoutage counts of the works
+    opening: object = None  # and of the opening of the spans that these free
 
     def heading(self):
         """The title, with the plan below it; or the plan."""
@@ -47,7 +48,7 @@ def answers_page(asked, verdicts):
     counted = asked.interruptions and asked.interruptions.origin(asked.plan, asked.plan_sum)
     parts = [f"<h1>{escape(title)}</h1>", below, *dict.fromkeys(warning(each) for each in (origin, counted) if each)]
     if asked.beforehand.works:
-        parts += [Works(answers, asked.interruptions).section(), "<section><h2>All failures during the works</h2>"]
+        parts += [Works(answers, asked.interruptions, asked.opening).section(), "<section><h2>All failures during the works</h2>"]
     parts += [listing(answers.words()), f"<p>{about}</p>", in_short(origin), tools(), "</section>" if asked.beforehand.works else ""]
     if plan.circuits:
         parts.append(f'<section id="customers"><h2>Customers: {tables.headline()}</h2>{tables.customers()}</section>')

@@ -6,7 +6,7 @@ from .markup import escape, folded, heads, unbroken
 
 COLUMNS = 40  # customers side by side, as many as fit a printed page
 KEY = (
-    '<p class="key"><span class="kept">·</span>kept on its own arc <span class="over">+4</span>kept over protection, with this number of spans more than its own arc '
+    '<p class="key"><span class="kept">·</span>kept on its own arc <span class="impaired">i</span>kept there, but impaired: a span of it is degraded or asked for <span class="over">+4</span>kept over protection, with this number of spans more than its own arc '
     '(with a minus, fewer; <span class="over">=</span>as many) <span class="lost">✕</span>lost <span class="odd">?</span>neither: see its text</p>'
 )
 FILTER = """<form class="filter tools" hidden><label>Failure <input type="search" name="words" placeholder="such as 2–3"></label>
@@ -85,7 +85,15 @@ class CaseTables:
         now, before = verdict.stage(name), verdict.stage("before")
         if now is None:
             return "–"
-        return "as before" if now.cells == before.cells else f'{now.count("lost")} lost, {now.count("over")} over protection'
+        if now.cells == before.cells:
+            return "as before"
+        impaired = f', {now.count("impaired")} impaired' if now.count("impaired") else ""
+        return f'{now.count("lost")} lost, {now.count("over")} over protection{impaired}'
+
+    def own_arc_cell(self, stage) -> str:
+        """How many are kept on their own arc, and how many of these are impaired."""
+        impaired = stage.count("impaired")
+        return f'{stage.count("kept") + impaired}, {impaired} of them impaired' if impaired else str(stage.count("kept"))
 
     def begin_of_row(self, verdict):
         """What the page's filter reads of a row."""
@@ -103,7 +111,7 @@ class CaseTables:
         words += [f"odd: {escape(self.answers.customers(odd))}"] if odd else []
         kind = "odd" if odd else "kept"
         later = f'<td colspan="2">{note}</td>' if note else "".join(f"<td>{self.later_cell(verdict, name)}</td>" for name in ("mended", "waited"))
-        return f'{head}<td class="result-{kind}">{"; ".join(words)}</td><td>{stage.count("over")}</td><td>{stage.count("kept")}</td>{later}</tr>'
+        return f'{head}<td class="result-{kind}">{"; ".join(words)}</td><td>{stage.count("over")}</td><td>{self.own_arc_cell(stage)}</td>{later}</tr>'
 
     def group(self, kind):
         verdicts = self.answers.sorted_of((kind,))

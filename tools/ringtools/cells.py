@@ -34,15 +34,15 @@ def read_cell(text: str) -> str:
     return text[1:] if text.startswith("'") and is_formula(text) else text
 
 
-def write_rows(file: TextIO, rows: Iterable[Sequence[object]]) -> None:
+def write_rows(file: TextIO, rows: Iterable[Sequence[object]], sign: str = ",") -> None:
     """Writes rows as CSV."""
-    csv.writer(file, lineterminator="\n").writerows(map(cell, row) for row in rows)
+    csv.writer(file, delimiter=sign, lineterminator="\n").writerows(map(cell, row) for row in rows)
 
 
-def text_of_rows(rows: Iterable[Sequence[object]]) -> str:
-    """Returns rows as the text of a CSV."""
+def text_of_rows(rows: Iterable[Sequence[object]], sign: str = ",") -> str:
+    """Returns rows as the text of a CSV, whose cells are separated by this sign."""
     text = io.StringIO(newline="")
-    write_rows(text, rows)
+    write_rows(text, rows, sign)
     return text.getvalue()
 
 

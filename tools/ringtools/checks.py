@@ -3,8 +3,11 @@
 Each refusal says where in the document it is, which word is wrong, and which words would be right in its place.
 """
 
+from __future__ import annotations
+
+import unicodedata
 from collections import Counter
-from dataclasses import dataclass
+from dataclasses import dataclass, replace
 from itertools import islice
 
 SIDES = ("west", "east")
@@ -33,6 +36,7 @@ SETTLES, SLIPS, STEPS = 64, 16, 1000
 RING = 128  # of the refusals of rate and nodes, which may be many more, these are given
 CIRCUITS = 128  # the most that a ring has: 16 spans of 8 slots
 LAST_MOMENT = 1_000_000_000
+LONGEST = 60  # characters of the name of a place or a customer
 
 
 @dataclass(frozen=True)
@@ -45,6 +49,7 @@ class Refusal:
     said: str
     right: tuple = ()  # words or numbers that would be right there
     word: int | None = None  # which word of a step, counted from 0
+    advice: str = ""  # what to do, where that is more than what the reason says
 
 
 def is_number(value):
@@ -66,6 +71,20 @@ def is_sent(text):
 
 def is_name(name):
     return 1 <= len(name) <= 16 and NAME_LETTERS.issuperset(name)
+
+
+def why_no_name(name):
+    """What is wrong with a name of a place or a customer, or None."""
+    if not name or name != name.strip() or not name.isprintable():
+        return "a name has no blanks at its ends and no control characters"
+    return f"a name has at most {LONGEST} characters" if len(name) > LONGEST else None
+
+
+def plain_name(called: str) -> str:
+    """Returns a name of a plan's letters that is like the one that a circuit is called; empty where no letter of it is one of these."""
+    letters = unicodedata.normalize("NFKD", called.casefold())
+    kept = "".join(letter if letter in NAME_LETTERS else "" if unicodedata.combining(letter) else " " for letter in letters)
+    return "-".join(kept.split())[:16].strip("-")
 
 
 def is_decimal(word):
@@ -123,7 +142,7 @@ class Checks:
         if self.rate is None:
             yield self.of_key("rate", 13, "is to be 4 or 16", (4, 16))
         if not (isinstance(self.document.get("nodes"), list) and all(map(is_number, self.nodes))):
-            yield self.of_key("nodes", 14, "is to be an array of numbers")
+            yield self.nodes_refused()
             return
         if not 2 <= len(self.nodes) <= 16:
             yield Refusal(1, 0, ("nodes",), f"there are {len(self.nodes)} nodes, and a ring has 2 to 16")
@@ -134,6 +153,15 @@ class Checks:
         for at, node in enumerate(self.nodes):
             if node in self.nodes[:at]:
                 yield Refusal(3, at + 1, ("nodes", at), f"no two nodes have one identifier, and {node} stood before", free)
+
+    def nodes_refused(self) -> Refusal:
+        """Returns why `nodes` are none; names of places stand in comments."""
+        refused = self.of_key("nodes", 14, "is to be an array of numbers")
+        texts = [node for node in self.nodes if is_text(node)]
+        if not texts:
+            return refused
+        advice = f"number the nodes, `nodes = {[*range(1, len(self.nodes) + 1)]}`, and name them in comments of their own lines: `# node 1 is {texts[0]}`"
+        return replace(refused, said=f"`nodes` is to be an array of numbers; {shown(texts[0])} is in it", advice=advice)
 
     def of_key(self, key, reason, wanted, right=()):
         value = self.document.get(key)
@@ -165,12 +193,18 @@ class Checks:
         yield from self.ports(table, place, path)
         name = table["name"]
         if not is_name(name):
-            right = "".join(letter for letter in name.lower().replace(" ", "-") if letter in NAME_LETTERS)[:16]
-            said = f"`name` is to have 1 to 16 of a to z, 0 to 9, - and _; it is {shown(name)}"
-            yield Refusal(10, place, (*path, "name"), said, (right,) if right else ())
+            yield self.name_refused(10, name, place, path)
         if name in self.names:
             yield Refusal(10, place, (*path, "name"), f"an earlier circuit is named {name}")
         yield from self.way(table, place, path)
+
+    def name_refused(self, reason: int, name: str, place: int, path: tuple) -> Refusal:
+        """Returns why a name is none. Where it is the trace too, the same name mends both."""
+        right = plain_name(name)
+        said = f"`name` is to have 1 to 16 of a to z, 0 to 9, - and _; it is {shown(name)}" + (", and the trace too" if reason == 11 else "")
+        is_called = right and why_no_name(name) is None
+        advice = f"write `name = \"{right}\"`, and the customer's own name in a comment: `# circuit {right} is {name}`" if is_called else ""
+        return Refusal(reason, place, (*path, "name"), said, (right,) if right else (), advice=advice)
 
     def kinds(self, table, place, path):
         for key in CIRCUIT_KEYS:
@@ -202,6 +236,8 @@ class Checks:
         for reason, keys in ((8, ("text_a", "text_b")), (11, ("trace_a", "trace_b"))):
             for key in keys:
                 if not is_sent(table.get(key, table["name"])):
+                    if key not in table and not is_name(table["name"]):
+                        yield self.name_refused(reason, table["name"], place, path)
                     at = key if key in table else "name"
                     said = f"`{at}` is to have 1 to 64 characters from space to ~" + ("" if at == key else ", since it is the trace")
                     yield Refusal(reason, place, (*path, at), said)
@@ -261,7 +297,7 @@ class Checks:
         for kind, reason in ORDER.items():
             for at, word in enumerate(rest):
                 if STEP_FORMS[first][at] == kind and (said := self.why_not(first, kind, word)):
-                    yield Refusal(reason, place, path, *said, at + 1)
+                    yield Refusal(reason, place, path, *said[:2], at + 1, *said[2:])
 
     def why_not(self, first, kind, word):
         """What is wrong with a word of this kind, and what would be right."""
@@ -271,10 +307,22 @@ class Checks:
         if kind == "number":
             low, high = self.bounds(first)
             is_right = is_decimal(word) and low <= int(word) <= high
-            return None if is_right else (f"`{word}` is no number from {low:,} to {high:,}", (low, high))
+            return None if is_right else (f"`{word}` is no number from {low:,} to {high:,}", (low, high), self.number_advice(first, word, high))
         right = self.names if kind == "name" else CHOICES[kind]
         what = "circuit of the plan" if kind == "name" else kind
         return None if word in right else (f"`{word}` is no {what}", tuple(right))
+
+    def number_advice(self, first: str, word: str, high: int) -> str:
+        """Returns what to do about a number of a step: how it is written, or what it counts."""
+        if not is_decimal(word):
+            return "write digits alone, without a sign, a leading zero or a point"
+        counts = {
+            "degrade": f"the number counts violations of B2 in a frame, at most {high} at STM-{self.rate}; from `threshold` on they are a degradation",
+            "moment": "a moment is a whole number of the plan's own unit of time",
+            "hold": "the number counts turns of the node's controller; a settle step runs far more rounds",
+            "slip": "the number counts slips of a customer's clock that wait at a time; more go after the next settle step",
+        }
+        return counts[first]
 
     def bounds(self, first):
         return {"degrade": (1, 3 * self.rate), "moment": (0, LAST_MOMENT), "hold": (1, 100), "slip": (1, SLIPS)}[first]

@@ -123,6 +123,8 @@ def fibres_alone(row, finder, span):
     """The two fibres of a span as components of their own, where the row has a rate for them."""
     rate = row.number("fibre_failures")
     if rate is None:
+        if row["fibre_hours"]:
+            raise row.problem(f"`fibre_hours` is `{row['fibre_hours']}`, and `fibre_failures`, the failures a year of each fibre, are missing")
         return
     hours = needed(row, "fibre_hours", REPAIR)
     for at, side in span_fibres(finder.plan, span):
@@ -138,8 +140,16 @@ def complete(file, found, names):
         raise TableProblem(f"{file}: {', '.join(missing)}: {'it has' if len(missing) == 1 else 'they have'} no row; a rate of 0 stands for what never fails")
 
 
-def read_spans(name, finder, per_1000_km=None):
-    """Each span of the ring by its row, and its fibres where they fail by themselves too."""
+@dataclass(frozen=True)
+class Read:
+    """What a table gave, and in words what of it wasn't read."""
+
+    found: list
+    notes: list[str]
+
+
+def read_spans(name: str, finder: Finder, per_1000_km: float | None = None) -> Read:
+    """Returns each span of the ring by its row, and its fibres where they fail by themselves too."""
     table, found = read_table(name, SPAN_COLUMNS, ("from", "to", "hours"), SPANS), {}
     for row in table.rows:
         span = finder.span(row)
@@ -149,10 +159,10 @@ def read_spans(name, finder, per_1000_km=None):
         whole = Component(finder.span_name(span), "span", fibres, cuts_of(row, per_1000_km), needed(row, "hours", REPAIR))
         found[span] = [whole, *fibres_alone(row, finder, span)]
     complete(name, found, [finder.span_name(span) for span in range(finder.plan.size)])
-    return [component for span in range(finder.plan.size) for component in found[span]]
+    return Read([component for span in range(finder.plan.size) for component in found[span]], table.notes())
 
 
-def read_nodes(name, finder):
+def read_nodes(name: str, finder: Finder) -> Read:
     table, found = read_table(name, NODE_COLUMNS, ("failures", "hours"), NODES), {}
     if not {"place", "node"} & set(table.columns):
         raise TableProblem(f"{name}:1: the first line is to name the column `node`, or `place`")
@@ -163,11 +173,11 @@ def read_nodes(name, finder):
         rate, hours = needed(row, "failures", "the failures a year are wanted"), needed(row, "hours", REPAIR)
         found[at] = Component(f"node {finder.places.place(finder.plan.ids[at])}", "node", finder.fibres(("node", at, "")), rate, hours, at)
     complete(name, found, [f"node {finder.places.node(number)}" for number in finder.plan.ids])
-    return [found[at] for at in range(finder.plan.size)]
+    return Read([found[at] for at in range(finder.plan.size)], table.notes())
 
 
-def groups_in(name, finder, wanted=("group", "members")):
-    """Each group of a table, beside its row."""
+def groups_in(name: str, finder: Finder, wanted: tuple[str, ...] = ("group", "members")) -> Read:
+    """Returns each group of a table, beside its row."""
     table, found = read_table(name, GROUP_COLUMNS, wanted, GROUPS), {}
     for row in table.rows:
         if not row["group"]:
@@ -178,12 +188,20 @@ def groups_in(name, finder, wanted=("group", "members")):
         if not words:
             raise row.problem("`members` is empty; spans, nodes and fibres are wanted, separated by semicolons")
         found[row["group"]] = row, Group(row["group"], tuple(dict.fromkeys(finder.member(row, member) for member in words)))
-    return list(found.values())
+    return Read(list(found.values()), table.notes())
 
 
-def read_groups(name, finder):
-    groups = []
-    for row, group in groups_in(name, finder, GROUP_COLUMNS):
+def read_groups(name: str, finder: Finder) -> Read:
+    groups, read = [], groups_in(name, finder, GROUP_COLUMNS)
+    for row, group in read.found:
         rate, hours = needed(row, "failures", "the failures a year are wanted"), needed(row, "hours", REPAIR)
         groups.append(Component(f"group {group.name}", "group", finder.fibres(*group.members), rate, hours))
-    return groups
+    return Read(groups, read.notes)
+
+
+def read_components(spans: str, nodes: str | None, groups: str | None, finder: Finder, per_1000_km: float | None) -> Read:
+    """Returns all that may fail by these tables; None stands for a table that isn't there."""
+    parts = [read_spans(spans, finder, per_1000_km)]
+    parts += [read_nodes(nodes, finder)] if nodes else []
+    parts += [read_groups(groups, finder)] if groups else []
+    return Read([one for part in parts for one in part.found], [note for part in parts for note in part.notes])

@@ -7,10 +7,11 @@ RESULTS = {
     "odd": "Not what they are owed",
     "lost": "Lost",
     "over": "Kept over protection",
+    "impaired": "Kept on their own arc, but impaired: a span of it is degraded or asked for",
     "kept": "Kept on their own arc",
     "untold": "Not told by this text",
 }
-TOTALS = {"odd": "not owed", "lost": "lost", "over": "over protection", "kept": "kept"}
+TOTALS = {"odd": "not owed", "lost": "lost", "over": "over protection", "impaired": "impaired", "kept": "kept"}
 GROUP, GROUP_WITH_OUTAGES = 12, 5  # settle steps side by side, as many as fit a printed page
 
 
@@ -34,7 +35,7 @@ def result_words(look, circuit):
     if result in ("odd", "lost", "untold"):
         return {"odd": "not what it is owed", "lost": "lost: AIS at both ports", "untold": "not told"}[result]
     spans = count_of(len(way.hops), "span")
-    return f"kept over protection, {spans}, {longer_words(way.more)}" if way.over else f"kept, {spans}"
+    return f"kept over protection, {spans}, {longer_words(way.more)}" if way.over else f"kept, {spans}" + (", impaired" if way.impaired else "")
 
 
 def short(look, circuit):
@@ -42,7 +43,7 @@ def short(look, circuit):
     result, way = look.result(circuit), look.ways[circuit.name]
     if result == "over":
         return f"protection, {count_of(len(way.hops), 'span')}"
-    return {"odd": "not owed", "lost": "lost", "kept": "kept", "untold": "not told"}[result]
+    return {"odd": "not owed", "lost": "lost", "impaired": "kept, impaired", "kept": "kept", "untold": "not told"}[result]
 
 
 def out_words(look, circuit):

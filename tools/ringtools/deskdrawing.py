@@ -1,18 +1,24 @@
-"""The ring of a desk page: what can be made to fail or switched is a button, and each circuit lies on its own arc."""
+"""The ring of a desk page, as the plan's script left it: what can be made to fail or switched is a button, and each circuit lies on its own arc."""
 
 import math
 import xml.etree.ElementTree as ElementTree
 
+from .desktable import LOST, OVER, Outcome
 from .drawing import NODE, Measures, add, anchor, arc_path, point
 from .model import arc
-from .plan import SIDES
+from .places import Places
+from .plan import SIDES, Plan
+from .scriptleft import ScriptLeft
 
 SWITCH = 12  # how wide and how far from its node's edge a switch is drawn
+LETTERS = {"forced": "F", "manual": "M"}  # in a switch that was given a command
 
 
 class DeskDrawing:
-    def __init__(self, plan, places, failures):
-        self.plan, self.places = plan, places
+    """`left` is what the script left, and `outcome` what becomes of the circuits by that alone."""
+
+    def __init__(self, plan: Plan, places: Places, failures: tuple, left: ScriptLeft, outcome: Outcome):
+        self.plan, self.places, self.left, self.outcome = plan, places, left, outcome
         self.m = Measures(plan)
         self.numbers = {(one.kind, one.at, one.side): number for number, one in enumerate(failures)}
         self.failures = failures
@@ -44,15 +50,25 @@ class DeskDrawing:
         span = self.plan.span(at, side)
         clear = (NODE + SWITCH + 4) / self.m.ring
         path = arc_path(radius, self.m.angle(span) + clear, self.m.angle(span) + self.m.step - clear)
-        item = self.button("fibre", data_fibre=f"{at} {side}")
-        add(item, "title", self.failures[self.numbers["fibre", at, side]].name.removesuffix(" cut"))
+        item = self.button("fibre", data_fibre=f"{at} {side}", **self.left_at(self.left.fibres, at, side))
+        add(item, "title", self.failures[self.numbers["fibre", at, side]].name.removesuffix(" cut") + self.fibre_words(at, side))
         add(item, "path", class_="hit", d=path)
         add(item, "path", class_="line", d=path)
+
+    def left_at(self, found: dict[tuple[int, str], str], at: int, side: str) -> dict[str, str]:
+        """Returns the attribute of what the script left there, as the stylesheet and the page's script read it."""
+        return {"data_left": found[at, side]} if (at, side) in found else {}
+
+    def fibre_words(self, at: int, side: str) -> str:
+        """Returns what the script left of a fibre, behind the fibre's name."""
+        if (at, side) not in self.left.fibres:
+            return ""
+        return ", cut by the script" if self.left.fibres[at, side] == "fibre" else f", degraded{self.left.degree_words((at, side))} by the script"
 
     def draw_span(self, span):
         number = self.numbers["span", span, ""]
         x, y = point(self.m.ring + 33, self.m.angle(span) + self.m.step / 2)
-        item = self.button("span", data_failure=number)
+        item = self.button("span is-applied" if span in self.outcome.applied else "span", data_failure=number)
         add(item, "title", self.failures[number].name)
         add(item, "rect", x=x - 23, y=y - 10, width=46, height=20, rx=10)
         add(item, "text", "{}–{}".format(*self.plan.ends(span)), x=x, y=y + 4, text_anchor="middle")
@@ -61,11 +77,12 @@ class DeskDrawing:
         """The switch of a side: a small square on the span, beside its node; a letter in it says what it was given."""
         way = 1 if side == "east" else -1
         x, y = point(self.m.ring, self.m.angle(at) + way * (NODE + SWITCH / 2 + 1) / self.m.ring)
-        item = self.button("switch", data_switch=f"{at} {side}")
-        add(item, "title", self.failures[self.numbers["manual", at, side]].name.removeprefix("manual "))
+        given = self.left.switches.get((at, side), "")
+        item = self.button("switch", data_switch=f"{at} {side}", **self.left_at(self.left.switches, at, side))
+        add(item, "title", self.failures[self.numbers["manual", at, side]].name.removeprefix("manual ") + (f", {given} by the script" if given else ""))
         add(item, "rect", class_="hit", x=x - SWITCH, y=y - SWITCH, width=2 * SWITCH, height=2 * SWITCH)
         add(item, "rect", x=x - SWITCH / 2, y=y - SWITCH / 2, width=SWITCH, height=SWITCH, rx=2)
-        add(item, "text", class_="given", x=x, y=y + 4, text_anchor="middle")
+        add(item, "text", LETTERS.get(given, ""), class_="given", x=x, y=y + 4, text_anchor="middle")
 
     def draw_node(self, at):
         number, angle = self.numbers["node", at, ""], self.m.angle(at)
@@ -81,7 +98,8 @@ class DeskDrawing:
     def draw_circuit(self, number, circuit):
         start, aside = self.m.angle(circuit.start), self.m.aside(circuit.slot)
         end = start + len(arc(self.plan, circuit)) * self.m.step
-        item = add(self.root, "g", class_="circuit", data_customer=number)
+        result = {OVER: " over", LOST: " lost"}.get(self.outcome.results[number], "")
+        item = add(self.root, "g", class_=f"circuit{result}", data_customer=number)
         add(item, "title", self.places.circuit(circuit.name))
         add(item, "path", d=arc_path(self.m.working(circuit.slot), start + aside, end - aside))
         for angle in (start + aside, end - aside):

@@ -29,7 +29,8 @@ def index_row(name, file, desk):
     some = sum(case.lost > 0 for case in pairs)
     besides = max((besides_ends(desk, case).count(LOST) for case in desk.singles("node")), default=0)
     counts = [most(desk.singles("fibre")), most(desk.singles("span")), most(desk.singles("node")), besides, most(pairs), f"{some} of {len(pairs)}"]
-    return [f'<a href="{quote(file)}">{escape(name)}</a>', desk.plan.size, len(desk.plan.circuits), *counts, *least_available(desk)]
+    left = f'<br>after {escape("; ".join(desk.script.steps))}' if desk.script.is_something else ""
+    return [f'<a href="{quote(file)}">{escape(name)}</a>{left}', desk.plan.size, len(desk.plan.circuits), *counts, *least_available(desk)]
 
 
 def besides_ends(desk, case):
@@ -42,6 +43,7 @@ def index_page(rows, problems=()):
     """The page of these rows, and of the rings that have no page, each with what is wrong."""
     words = (
         "<p>The most customers that are lost with one failure of a kind, and with two cut spans. "
+        "A ring that its plan's script leaves broken has the script's steps under its name, and its numbers are beside what these leave. "
         "Each ring leads to its page, which describes where its numbers come from.</p>"
     )
     missing = listing(f'<strong class="result-lost">{escape(name)}</strong> has no page: {escape(problem)}' for name, problem in problems)

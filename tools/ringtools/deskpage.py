@@ -11,9 +11,11 @@ from .availability import PROTECTIONS, Seen
 from .availabilitytable import minutes_words, nines_words
 from .deskdrawing import DeskDrawing
 from .desktable import DEPTHS as TABLE_DEPTHS
-from .desktable import GROUP, KINDS, LOST, OVER
+from .desktable import GROUP, IMPAIRED, KINDS, LOST, OVER, Case, Failure
+from .failures import cut_by
 from .markup import count_of, escape, folded, heads, listing, names, origin_list, table, unbroken, warning, whole
 from .pathrings import PathRing
+from .scriptleft import script_left
 
 WORST = 10
 BREAKS = ("span", "node", "fibre", "degraded", GROUP)  # failures; the other kinds are operators' switches
@@ -31,20 +33,38 @@ SIGNED = "".join(f"<tr><th scope=\"row\">{who}</th><td></td><td></td></tr>" for 
 
 
 class Desk:
-    """A plan with its table of cases, and perhaps its components and what its script leaves. `tables` are the files of rates, with their checksums."""
+    """A plan with its table of cases, and perhaps its components and what its script leaves.
 
-    def __init__(self, plan, places, table, components=None, left=None, tables=()):
+    `tables` are the files of rates, with their checksums, and `notes` say what of them wasn't read.
+    """
+
+    def __init__(self, plan, places, table, components=None, left=None, tables=(), notes=()):
         self.plan, self.places, self.table = plan, places, table
-        self.components, self.left, self.tables = components, left, tables
+        self.components, self.left, self.tables, self.notes = components, left, tables, notes
         self.called = [places.circuit(circuit.name) for circuit in plan.circuits]
         self.path = PathRing(plan, table.failures)
+        self.script = script_left(plan, places)
 
     @property
     def depth(self):
         return TABLE_DEPTHS[self.table.depth]
 
+    @property
+    def nothing(self) -> Case:
+        """The case in which nothing fails but what the script left."""
+        return self.table.cases[()]
+
+    @property
+    def alone(self) -> str:
+        """Returns how a failure comes: alone, or as one more beside what the script left."""
+        return "more" if self.script.is_something else "alone"
+
+    def of(self, letter: str, case: Case) -> list[str]:
+        """Returns the customers of whom a case has this result."""
+        return [name for name, found in zip(self.called, case.results) if found == letter]
+
     def lost(self, case):
-        return [name for name, letter in zip(self.called, case.results) if letter == LOST]
+        return self.of(LOST, case)
 
     def singles(self, kind):
         return self.table.singles(kind)
@@ -84,16 +104,29 @@ def besides_words(desk):
     return f"besides those that end there, at most {max(counts)}" if any(counts) else "all of these end there"
 
 
+def nothing_more(desk: Desk) -> str:
+    """Returns what becomes of the customers by what the script left alone."""
+    case, words = desk.nothing, {LOST: "lost", OVER: "over protection", IMPAIRED: "kept but impaired"}
+    found = {letter: desk.of(letter, case) for letter in words}
+    told = "; ".join(f"{len(who)} {words[letter]}" + (f": {escape(names(who))}" if who else "") for letter, who in found.items())
+    counted = " All numbers below count them too." if found[LOST] else ""
+    return f"<strong>Nothing more fails</strong>: {told}; {case.outcome.counts[0]} kept.{counted}"
+
+
 def summary(desk):
+    if desk.script.is_something:
+        yield nothing_more(desk)
     for kind in desk.kinds("fibre", "span", "node"):
         cases = list(desk.singles(kind))
         some = [case for case in cases if case.lost]
         most = f"in {len(some)} of {len(cases)}; at most {max((case.lost for case in some), default=0)}" if some else "in none"
         besides = f"; {besides_words(desk)}" if kind == "node" and some else ""
-        yield f"<strong>{TITLES[kind].capitalize()}, one alone</strong>: customers are lost {most}{besides}."
+        yield f"<strong>{TITLES[kind].capitalize()}, one {desk.alone}</strong>: customers are lost {most}{besides}."
     pairs = desk.pairs()
     some = [case for case in pairs if case.lost]
-    yield f"<strong>Two spans cut</strong>: customers are lost in {len(some)} of {len(pairs)} pairs; at most {max((case.lost for case in pairs), default=0)}."
+    yield f"<strong>{'Two more spans' if desk.script.is_something else 'Two spans'} cut</strong>: customers are lost in {len(some)} of {len(pairs)} pairs; at most {max((case.lost for case in pairs), default=0)}."
+    for note in desk.notes:
+        yield f"<strong>Not all of a table was read</strong>: {escape(note)}."
 
 
 def matrix(desk):
@@ -147,7 +180,7 @@ CASE_HEADS = ["case", "kept", "kept, impaired", "over protection", "lost", "long
 def cases(desk):
     for kind in desk.kinds(*KINDS):
         rows = [case_row(desk, case) for case in desk.singles(kind)]
-        yield folded(f"{TITLES[kind].capitalize()}, each alone ({len(rows)})", table(TITLES[kind].capitalize(), CASE_HEADS, rows), open=kind in ("span", "node", GROUP))
+        yield folded(f"{TITLES[kind].capitalize()}, each {'one ' * desk.script.is_something}{desk.alone} ({len(rows)})", table(TITLES[kind].capitalize(), CASE_HEADS, rows), open=kind in ("span", "node", GROUP))
 
 
 def packed(data):
@@ -162,13 +195,20 @@ def data_of(desk, drawing):
     shown = [[sorted(outcome.applied), outcome.results] for outcome in outcomes]
     return {
         "size": desk.plan.size,
-        "failures": [[one.name, one.kind, one.at, one.side] for one in desk.table.failures],
+        "left": desk.script.is_something,
+        "failures": [[one.name, one.kind, one.at, one.side, cuts_of(desk, one)] for one in desk.table.failures],
         "depth": desk.depth,
         "cases": [keyed.get(number, -1) for number in range(max(keyed) + 1)],
         "outcomes": shown,
         "triples": triples_of(desk, outcomes) if desk.depth == 3 else None,
         "circuits": [[name, *lane] for name, lane in zip(desk.called, drawing.lanes())],
     }
+
+
+def cuts_of(desk: Desk, failure: Failure) -> list[str]:
+    """Returns the fibres that a failure cuts, as the drawing names them; for a cut fibre alone none, since that is a button of its own."""
+    parts = [] if failure.kind == "fibre" else failure.parts
+    return [f"{at} {side}" for part in parts for at, side in cut_by(desk.plan, part.kind, part.at, part.side)]
 
 
 def triples_of(desk, outcomes):
@@ -217,6 +257,7 @@ def chooser(desk):
 <p>A click, a tap, or Tab and Enter makes a node, a span (the label outside) or a fibre fail, or switches a side (the square beside a node); once more takes it away. Up to {DEPTHS[desk.depth].removeprefix("up to ")} together. <label><input type="checkbox" id="large"> large drawing</label></p>
 {fibres}{switches}
 <p><label>Or choose <select id="choose">{option("", "a failure")}{"".join(failure_options(desk))}</select></label> <button type="button" id="clear">clear</button></p>
+{f'<p class="script">The script left: {escape("; ".join(desk.script.words()))}.</p>' if desk.script.is_something else ""}
 <p id="failed"></p><div id="told" role="status" aria-live="polite"></div>
 <p><label>Way of <select id="whose">{option("", "no customer")}{customers}</select></label></p>
 </div>"""
@@ -239,12 +280,12 @@ def origin_section(desk, origin):
 
 
 def desk_page(title, desk, origin):
-    drawing = DeskDrawing(desk.plan, desk.places, desk.table.failures)
+    drawing = DeskDrawing(desk.plan, desk.places, desk.table.failures, desk.script, desk.nothing.outcome)
     svg = drawing.draw()
     data = json.dumps(data_of(desk, drawing), separators=(",", ":"), ensure_ascii=False).replace("<", "\\u003c")
     worst = [case_row(desk, case) for case in desk.worst()]
     filter_line = '<p class="tools" hidden><label>Only customers with <input id="filter" type="search"></label></p>'
-    parts = [f"<h1>{escape(title)}</h1>", warning(origin), listing(summary(desk))]
+    parts = [f"<h1>{escape(title)}</h1>", desk.script.line(), warning(origin), listing(summary(desk))]
     parts.append(section("try", "The ring", f'<div class="step"><figure class="ring-figure">{svg}</figure>{chooser(desk)}</div>'))
     parts.append(section("customers", "Customers", filter_line, customers(desk), note(*([FROM_RATES] if desk.components is not None else []), SEE_ORIGIN)))
     parts.append(section("matrix", "Spans by spans", matrix(desk), note(SEE_ORIGIN)))

@@ -18,7 +18,7 @@ from .programs import ask
 
 KEPT, IMPAIRED, OVER, LOST = "k", "i", "o", "l"
 GROUP = "group"  # failures of the ring that come together, as `own` words name them
-RESULTS = {KEPT: "kept", IMPAIRED: "kept", OVER: "over", LOST: "lost"}  # as a run shows them
+RESULTS = {KEPT: "kept", IMPAIRED: "impaired", OVER: "over", LOST: "lost"}  # as a run shows them
 KINDS = ("degraded", "fibre", "span", "node", "manual", "forced")  # of the ring's own failures
 ALL_KINDS = (*KINDS, GROUP)
 KIND_WORDS = ("degraded", "fibres", "spans", "nodes", "manual", "forced")  # as sdhwhatif calls these

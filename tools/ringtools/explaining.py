@@ -54,14 +54,16 @@ def marked(place: Place) -> list[str]:
     return ["    " + place.part.replace("\t", " "), "    " + " " * place.at + marks]
 
 
-def nearest(word, right):
-    """Of what would be right, what is nearest; nothing where nothing is near."""
+def nearest(word, right, is_range=False):
+    """Of what would be right, what is nearest; nothing where nothing is near. A range has its least and its largest number."""
     if not right:
         return None
     if all(isinstance(choice, int) for choice in right):
         digits = str(word).lstrip("+-")
         number = int(digits) if digits.isdigit() and len(digits) <= 10 else None
-        return None if number is None else min(right, key=lambda choice: (abs(choice - number), choice))
+        if number is None or is_range:
+            return None if number is None else max(min(right), min(max(right), number))
+        return min(right, key=lambda choice: (abs(choice - number), choice))
     if len(right) == 1:
         return right[0]
     near = get_close_matches(str(word).lower(), map(str, right), 3, 0.5)
@@ -98,13 +100,13 @@ def choices(right):
 
 def notes_of(document, refusal):
     notes = []
-    near = nearest(wrong_word(document, refusal), refusal.right)
+    is_range = REASONS[refusal.reason].name in ("number", "threshold", "wait", "limit", "offset")
+    near = nearest(wrong_word(document, refusal), refusal.right, is_range)
     if near is not None:
         notes.append(f"nearest: {near}")
-    is_range = REASONS[refusal.reason].name in ("number", "threshold", "wait", "limit", "offset")
     if len(refusal.right) > 1 and not is_range:
         notes.append(f"right would be: {choices(refusal.right)}")
-    return (*notes, f"what to do: {REASONS[refusal.reason].advice}")
+    return (*notes, f"what to do: {refusal.advice or REASONS[refusal.reason].advice}")
 
 
 def of_refusal(document, source, refusal, is_first):

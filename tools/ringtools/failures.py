@@ -5,11 +5,13 @@ from dataclasses import dataclass, replace
 from itertools import combinations
 
 from .model import CUT, CLEAR, Script
+from .places import composed
 from .plan import PlanProblem, read_step, write_plan
 
 SCRIPT = "script"  # a settle step of the plan's own script, before the last one
 STAGES = ("before", "failed", "mended", "waited")
 WORKS_STAGES = ("before", "during", "after", "waited")
+OPENING_STAGES = ("before", "during", "opened", "closed")
 KINDS = ("fibre", "span", "node", "pair")
 SIGN = re.compile("[-–]")
 WORKS_FORMS = {"span": re.compile(".+[-–].+"), "node": re.compile("[0-9]+|.*[^-–0-9 ].*")}
@@ -19,10 +21,11 @@ LAST_MOMENT = 1_000_000_000
 
 @dataclass(frozen=True)
 class Case:
-    """One failure: the fibres that are cut, each by the position and side that it leaves. Or the works, which cut nothing; or a case by its steps."""
+    """One failure: the fibres that are cut, each by the position and side that it leaves. Or the works, which cut nothing; or the opening of the
+    fibres that the works free; or a case by its steps."""
 
     name: str  # also of its files
-    kind: str  # fibre, span, node, pair, works or told
+    kind: str  # fibre, span, node, pair, works, opening or told
     words: str
     fibres: tuple = ()
     steps: tuple = ()  # of a case of sdhwhatif's, which isn't mended
@@ -31,7 +34,7 @@ class Case:
     @property
     def own_stages(self):
         """The stages that are the case's own, without those of the plan's script."""
-        return {"works": WORKS_STAGES, "told": STAGES[:2]}.get(self.kind, STAGES)
+        return {"works": WORKS_STAGES, "opening": OPENING_STAGES, "told": STAGES[:2]}.get(self.kind, STAGES)
 
     @property
     def stages(self):
@@ -149,7 +152,7 @@ class Beforehand:
 
     def settles_before(self, case):
         """The number of settle steps up to the stage `before`."""
-        return self.settled(self.also if case.kind == "works" else self.also + self.works).count("settle")
+        return self.settled(self.also if case.kind in ("works", "opening") else self.also + self.works).count("settle")
 
     def later(self):
         """The moment when every wait that begins with the mending is over, as far as moments go."""
@@ -182,6 +185,8 @@ class Beforehand:
             return [*self.settled(self.also), *self.works_texts(), "settle", *self.undoing(), *waited]
         fail = [self.condition_step(fibre, CUT) for fibre in case.fibres]
         mend = [self.condition_step(fibre, self.conditions[fibre]) for fibre in case.fibres]
+        if case.kind == "opening":
+            return [*self.settled(self.also), *self.works_texts(), "settle", *fail, "settle", *mend, "settle"]
         return [*self.settled_texts(), *fail, "settle", *mend, *waited]
 
     def plan_of(self, case):
@@ -246,7 +251,7 @@ def works_part(plan, text):
 
 
 def parts_of(words):
-    return [" ".join(part.split()) for part in (words or "").split(";") if part.strip()]
+    return [" ".join(part.split()) for part in composed(words or "").split(";") if part.strip()]
 
 
 def read_steps_of(plan, texts):

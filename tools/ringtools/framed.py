@@ -3,13 +3,14 @@
 import shlex
 
 from .answers import limit_advice
-from .asking import DIFFERS, INTERRUPTED, NOT_SETTLED, Stop, folder_of, say, warn_of
+from .asking import DIFFERS, INTERRUPTED, NOT_SETTLED, Stop, folder_of, keep_question, say, warn_of
 from .casepage import Asked, answers_page, draw_cases
 from .checks import SETTLES
 from .failures import KINDS, all_cases, shard_of
 from .interruptions import COUNTER, count_works, write_interruptions
 from .kept import Store
 from .markup import count_of
+from .opening import count_opening
 from .origin import LAUNCHER, program_of, sum_of
 from .plan import read_plan
 from .progress import Progress, duration
@@ -50,9 +51,9 @@ def counting_store_of(asked, subject):
     return Store(folder_of(asked, subject.name).inside("outages"), program)
 
 
-def asked_of(asked, subject, store, part="", interruptions=None):
+def asked_of(asked, subject, store, part="", interruptions=None, opening=None):
     """What the pages of the cases have to know."""
-    return Asked(subject.title, sum_of(subject.data), subject.beforehand, store, part, asked.title, interruptions)
+    return Asked(subject.title, sum_of(subject.data), subject.beforehand, store, part, asked.title, interruptions, opening)
 
 
 def check_room(subject, case):
@@ -125,11 +126,12 @@ def put_cases(asked, store, beforehand, cases):
         store.forget(case.name)
 
 
-def write_answers(asked, subject, store, counted, cases):
+def write_answers(asked, subject, store, counted, opening, cases):
     shard, shards = asked.shard
     part = "" if shards == 1 else f"-{shard}-of-{shards}"
-    told = asked_of(asked, subject, store, part and f"{shard} of {shards}", counted)
+    told = asked_of(asked, subject, store, part and f"{shard} of {shards}", counted, opening)
     verdicts = [judge(case, subject.beforehand.plan_of(case), store.text(case.name), store.answer(case.name)) for case in cases]
+    keep_question(asked, subject)
     folder = folder_of(asked, subject.name)
     write_table(folder, f"table{part}.csv", told, verdicts)
     draw_cases(told, cases, asked.jobs or processors())
@@ -138,6 +140,8 @@ def write_answers(asked, subject, store, counted, cases):
     if counted:
         write_interruptions(folder, f"outages{part}.csv", SOURCE, counted, subject.plan, source_cells(counted.answer, told))
         print(shown(folder.path / f"outages{part}.csv"))
+    if opening and opening.words():
+        say(opening.words())
     return verdicts
 
 
@@ -167,7 +171,8 @@ def ask_by_frames(asked, subject):
     try:
         run_cases(asked, store, beforehand, cases)
         counted = works and count_works(counting, beforehand, works, store.text(works.name), asked.anew)
+        opening = works and count_opening(counting, beforehand, works, asked.anew)
     except KeyboardInterrupt:
         done = sum(store.is_done(case.name) for case in cases)
         raise Stop(f"stopped; {done} of {len(cases)} cases are kept, the same command goes on from there", INTERRUPTED) from None
-    return ended(subject.plan, write_answers(asked, subject, store, counted, cases), counted)
+    return ended(subject.plan, write_answers(asked, subject, store, counted, opening, cases), counted)

@@ -1,6 +1,6 @@
 """Shared-risk groups of a table as sdhwhatif is asked about them: each is a failure of the user's own, which has the group's name here."""
 
-from .components import Finder, groups_in
+from .components import Finder, Read, groups_in
 
 MOST = 16  # groups, and members of one, that sdhwhatif takes
 
@@ -18,7 +18,7 @@ def checked(number, row, group, plan):
     return group
 
 
-def named_groups(name, plan, places):
-    """The groups of this table, or none where there is no table."""
-    found = groups_in(name, Finder(plan, places)) if name else []
-    return tuple(checked(number, row, group, plan) for number, (row, group) in enumerate(found, 1))
+def named_groups(name: str | None, plan, places) -> Read:
+    """Returns the groups of this table, or none where there is no table."""
+    read = groups_in(name, Finder(plan, places)) if name else Read([], [])
+    return Read([checked(number, row, group, plan) for number, (row, group) in enumerate(read.found, 1)], read.notes)

@@ -1,14 +1,17 @@
 """A plan from tables of circuits and of nodes: names of places for numbers, and ways and slots where the tables leave them open."""
 
-import unicodedata
+from __future__ import annotations
+
 from dataclasses import dataclass, replace
 
-from .checks import is_name, is_sent
-from .making import Written, check_rate, document_of, text_of
+from .cells import text_of_rows
+from .checks import is_name, is_sent, plain_name, why_no_name
+from .keeping import Service, held, kept_words, positions_in
+from .making import Asked, Written, check_rate, document_of, text_of
 from .markup import count_of
-from .places import why_no_name
-from .slots import Demand, Wanted, arcs_of, fitted, layout_of, loads_of, spans_of
-from .tables import read_table
+from .slots import ORDERS, Demand, Laid, Wanted, arcs_of, fitted, layout_of, loads_of, spans_of
+from .tables import Table, advice, read_table, spelled
+from .tables import text_of as text_in
 
 NODE_COLUMNS = ("place", "node")
 OF_OTHERS = ("failures", "hours")  # columns of the table of nodes that another tool reads
@@ -51,7 +54,8 @@ def read_nodes(name):
     """The nodes of a table, one in each row, eastwards round the ring. Those without a number get the lowest free ones, from 1 on."""
     table, nodes = read_table(name, NODE_COLUMNS + OF_OTHERS, (), NODES), []
     if not set(table.columns) & set(NODE_COLUMNS):
-        raise ImportProblem(f"{name}:1: the first line is to name the column `place`, or `node`, or both")
+        hint = advice(text_in(name), ("place",)) or advice(text_in(name), ("node",))
+        raise ImportProblem(f"{name}:1: the first line is to name the column `place`, or `node`, or both{hint}")
     if not 2 <= len(table.rows) <= 16:
         raise ImportProblem(f"{name}: {count_of(len(table.rows), 'node')}, and a ring has 2 to 16")
     given = [row.whole("node", 0, 15) for row in table.rows]
@@ -63,7 +67,7 @@ def read_nodes(name):
             raise row.problem("a node is to have a place, or a number, or both")
         check_place(row, row["place"], nodes)
         nodes.append(Node(next(free) if number is None else number, row["place"]))
-    return nodes, table.unread
+    return nodes, table.notes()
 
 
 class Ring:
@@ -89,13 +93,6 @@ class Ring:
         return f"{self.name(at)}–{self.name(at + 1)}"
 
 
-def plain(called, number):
-    """A name of a plan's letters that is like the one that a circuit is called."""
-    letters = unicodedata.normalize("NFKD", called.casefold())
-    kept = "".join(letter if is_name(letter) else "" if unicodedata.combining(letter) else " " for letter in letters)
-    return "-".join(kept.split())[:16].strip("-") or f"c{number}"
-
-
 def apart(name, taken):
     """The name, or where another has it, the name with a number after it."""
     number, made = 1, name
@@ -105,8 +102,8 @@ def apart(name, taken):
     return made
 
 
-def names_of(rows):
-    """The name of each row in the plan, and what it is called. Names that a plan can have are kept."""
+def names_of(rows, known: dict[str, str]):
+    """The name of each row in the plan, and what it is called. Names that a plan can have are kept, and those that `known` gives."""
     first = {}
     for row in rows:
         name = row["name"]
@@ -114,9 +111,10 @@ def names_of(rows):
             raise row.problem(f"the circuit {name} stood in line {first[name].line} already")
         if name and (why := why_no_name(name)):
             raise row.problem(f"`name` is `{name}`, and {why}")
-    taken, names = {name for name in first if is_name(name)}, []
+    taken, names = {known.get(name, name) for name in first if is_name(name) or name in known}, []
     for number, row in enumerate(rows, 1):
-        made = row["name"] if is_name(row["name"]) else apart(plain(row["name"], number), taken)
+        kept = known.get(row["name"], row["name"])
+        made = kept if is_name(kept) else apart(plain_name(row["name"]) or f"c{number}", taken)
         taken.add(made)
         names.append((made, row["name"] or made))
     return names
@@ -140,12 +138,30 @@ def check_sent(row):
         row.whole(column, 0, 782)
 
 
-def read_circuits(name, ring, rate):
+def read_circuits(name: str, ring: Ring, rate: int, service: Service | None) -> tuple[list[Circuit], Table]:
+    """Returns the circuits of a table, those that are in service as these are there; and the table itself."""
     table, circuits = read_table(name, CIRCUIT_COLUMNS, ("from", "to"), CIRCUITS), []
-    for row, (made, called) in zip(table.rows, names_of(table.rows)):
+    positions = positions_in(service, ring.found) if service else {}
+    for row, (made, called) in zip(table.rows, names_of(table.rows, service.plain_names if service else {})):
         check_sent(row)
-        circuits.append(Circuit(row, made, called, wanted_of(row, ring, rate)))
-    return circuits, table.unread
+        wanted = wanted_of(row, ring, rate)
+        circuits.append(Circuit(row, made, called, held(service, row, called, wanted, positions, rate // 2) if service else wanted))
+    return circuits, table
+
+
+def with_choices(table: Table, circuits: list[Circuit], laid: tuple[Laid, ...]) -> str:
+    """Returns the table with the chosen directions and slots, and with the names of all circuits; other cells as they stand."""
+    heads, columns = list(table.heads), [spelled(head) for head in table.heads]
+    for column in ("name", "direction", "slot"):
+        if column not in columns:
+            heads, columns = heads + [column], columns + [column]
+    rows = [heads]
+    for circuit, one in zip(circuits, laid):
+        way = "east" if one.start == circuit.wanted.start else "west"
+        chosen = {"name": circuit.called, "direction": way, "slot": str(one.slot)}
+        cells = [*circuit.row.given, *[""] * (len(columns) - len(circuit.row.given))]
+        rows.append([chosen.get(column, cell) for column, cell in zip(columns, cells)])
+    return text_of_rows(rows, table.form.sign)
 
 
 def sides_of(ring, circuits, laid, circuit, slots):
@@ -166,7 +182,8 @@ def misfits(ring, circuits, slots, is_sure):
     size, wanted = len(ring.nodes), [circuit.wanted for circuit in circuits]
     where = fitted(size, slots, wanted)
     laid, left = [one for one in where if one], [circuit for circuit, one in zip(circuits, where) if not one]
-    told = [f"{count_of(len(left), 'circuit')} of {len(circuits)} can't be fitted beside the others" + ("" if is_sure else ", as far as was searched")]
+    searched = f", in the best of {ORDERS} orders that were tried" if len(left) > 1 else ""
+    told = [f"{count_of(len(left), 'circuit')} of {len(circuits)} can't be fitted beside the others" + searched + ("" if is_sure else ", as far as was searched")]
     demand = Demand(size, wanted)
     pair = demand.fullest()
     if demand.need(pair) > 2 * slots:
@@ -193,16 +210,15 @@ def written_of(circuit, laid, ring):
 class Imported:
     document: str
     notes: tuple  # what has to be known of it, in words
+    table: str = ""  # that of the circuits, with the chosen directions and slots
 
 
 def notes_of(circuits, layout, is_sure, unread):
-    least = "and no choice of directions and slots has less"
+    least = "and no choice of directions and slots has less" + (" that holds these" if any(circuit.wanted.is_held for circuit in circuits) else "")
     if not is_sure:
         least = f"and none has less than {layout.bound}; whether one has less than {layout.load} isn't known"
     yield f"{count_of(len(circuits), 'circuit')}; the largest load of a span is {layout.load}, {least}"
-    for file, columns in unread:
-        if columns:
-            yield f"{file}: not read: {', '.join(columns)}"
+    yield from unread
     renamed = [circuit for circuit in circuits if circuit.name != circuit.called]
     for circuit in renamed[:NOTED]:
         yield f"{circuit.row.file}:{circuit.row.line}: `{circuit.called}` is named {circuit.name} in the plan"
@@ -210,17 +226,18 @@ def notes_of(circuits, layout, is_sure, unread):
         yield f"{len(renamed) - NOTED} more have another name in the plan, with their own beside it as a comment"
 
 
-def imported(circuits_file, nodes_file, asked):
-    """The plan of these tables. `asked` has everything but the nodes and the circuits."""
+def imported(circuits_file: str, nodes_file: str, asked: Asked, service: Service | None = None) -> Imported:
+    """The plan of these tables. `asked` has everything but the nodes and the circuits; `service` is a plan whose circuits stay as they are there."""
     check_rate(asked)
     nodes, unread = read_nodes(nodes_file)
     ring = Ring(nodes)
-    circuits, more = read_circuits(circuits_file, ring, asked.rate)
+    circuits, table = read_circuits(circuits_file, ring, asked.rate, service)
     layout, is_sure = layout_of(len(nodes), asked.rate // 2, [circuit.wanted for circuit in circuits])
     if layout is None:
         raise misfits(ring, circuits, asked.rate // 2, is_sure)
     places = {node.number: node.place for node in nodes if node.place}
     asked = replace(asked, nodes=tuple(node.number for node in nodes), places=places)
     written = [written_of(circuit, laid, ring) for circuit, laid in zip(circuits, layout.laid)]
-    notes = notes_of(circuits, layout, is_sure, ((nodes_file, unread), (circuits_file, more)))
-    return Imported(document_of(asked, written), tuple(notes))
+    notes = list(notes_of(circuits, layout, is_sure, unread + table.notes()))
+    notes += kept_words(service, [circuit.called for circuit in circuits]) if service else []
+    return Imported(document_of(asked, written), tuple(notes), with_choices(table, circuits, layout.laid))

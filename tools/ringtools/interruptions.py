@@ -8,6 +8,7 @@ from .failures import WORKS_STAGES
 from .kept import Store
 from .markup import count_of, escape
 from .origin import LAUNCHER, Origin
+from .plan import Plan
 from .outages import frames_words, milliseconds, put_beside, read_outages
 from .report import ReportProblem, read_report
 from .running import run_one
@@ -21,17 +22,18 @@ NOT_COUNTED = "Fibre delay is not included."
 
 @dataclass(frozen=True)
 class Interruptions:
-    """What was counted of each settle step of the works, which have stages from the step `first` on; or why there is nothing."""
+    """What was counted of each settle step of the works, which have these stages from the step `first` on; or why there is nothing."""
 
     store: Store
     name: str
     steps: list = field(default_factory=list)
     first: int = 0
     problem: str = ""
+    names: tuple[str, ...] = WORKS_STAGES
 
     @property
     def stages(self):
-        return dict(zip(WORKS_STAGES, self.steps[self.first :]))
+        return dict(zip(self.names, self.steps[self.first :]))
 
     @property
     def answer(self):
@@ -70,21 +72,24 @@ class Interruptions:
         if not self.is_hit(stage, circuit):
             return "<td>–</td>" if self.of(stage, circuit).out else "<td>no</td>"
         outage = self.of(stage, circuit)
-        words = "from then on" if outage.is_out_still else outage.words() if outage.out else count_of(outage.jumps, "jump")
+        words = "lost from then on" if outage.is_out_still else outage.words() if outage.out else count_of(outage.jumps, "jump")
         return f'<td class="changed-cell">{words}</td>'
+
+    def stage_words(self, stage: str, plan: Plan) -> str:
+        """Returns how many customers are interrupted in a stage, and for how long at most; empty where none is."""
+        hit = self.hit(stage, plan.circuits)
+        outages = {circuit.name: self.of(stage, circuit) for circuit in hit}
+        breaks = {name: outage.longest for name, outage in outages.items() if outage.out and not outage.is_out_still}
+        lost = sum(outage.is_out_still for outage in outages.values())
+        parts = [f"{count_of(len(breaks), 'customer')} of {len(plan.circuits)} for at most {frames_words(max(breaks.values()))}"] if breaks else []
+        parts += [f"{count_of(lost, 'customer')} lost from then on"] if lost else []
+        jumps = len(hit) - len(breaks) - lost
+        return "; ".join(parts + ([f"{count_of(jumps, 'customer')} for no frame, but with a jump"] if jumps else []))
 
     def words(self, plan):
         """How many customers are interrupted in each stage, and who for longest."""
         for stage in self.told_stages(plan.circuits):
-            hit = self.hit(stage, plan.circuits)
-            outages = {circuit.name: self.of(stage, circuit) for circuit in hit}
-            breaks = {name: outage.longest for name, outage in outages.items() if outage.out and not outage.is_out_still}
-            lost = sum(outage.is_out_still for outage in outages.values())
-            parts = [f"{count_of(len(breaks), 'customer')} of {len(plan.circuits)} for at most {frames_words(max(breaks.values()))}"] if breaks else []
-            parts += [f"{count_of(lost, 'customer')} from then on"] if lost else []
-            jumps = len(hit) - len(breaks) - lost
-            parts += [f"{count_of(jumps, 'customer')} for no frame, but with a jump"] if jumps else []
-            yield f"<strong>Interrupted {BEGINNINGS[stage]}</strong>: {'; '.join(parts) or 'no customer'}."
+            yield f"<strong>Interrupted {BEGINNINGS[stage]}</strong>: {self.stage_words(stage, plan) or 'no customer'}."
             if alarm := self.stages[stage].alarm():
                 yield f"<strong>{escape(alarm)}</strong>"
 
@@ -98,13 +103,18 @@ def note(interruptions):
     return f'<p class="note">{counted} <strong>{NOT_COUNTED}</strong> {jump}</p>'
 
 
-def count_works(store, beforehand, case, text, anew):
-    """Has sdhoutage count what the works take. `text` is the report of the same works."""
+def count_case(store, beforehand, case, anew: bool) -> None:
+    """Has sdhoutage count what a case takes, unless that is kept."""
     store.put_plan(case.name, beforehand.document(case))
     if anew:
         store.forget(case.name)
     if not store.is_done(case.name):
         run_one(store, case.name)
+
+
+def count_works(store, beforehand, case, text, anew):
+    """Has sdhoutage count what the works take. `text` is the report of the same works."""
+    count_case(store, beforehand, case, anew)
     plan = beforehand.plan_of(case)
     try:
         if store.answer(case.name) is None:
@@ -117,13 +127,14 @@ def count_works(store, beforehand, case, text, anew):
 
 
 def rows(interruptions, plan, source):
-    """A record for each port of each circuit and stage, but for the first, in which the ring starts."""
+    """A record for each port of each circuit and stage, but for the first, in which the ring starts. One that is out still is lost, for no number of frames."""
     for name in [name for name in BEGINNINGS if name in interruptions.stages]:
         for circuit in plan.circuits:
             for end in "ab":
                 outage, number = interruptions.stages[name].ports[circuit.name, end], plan.ids[circuit.start if end == "a" else circuit.end]
                 who = [name, circuit.name, plan.places.circuit(circuit.name), end, number, plan.places.nodes.get(number, "")]
-                yield [*who, outage.out, milliseconds(outage.out), outage.jumps, "yes" if outage.is_out_still else "no", *source]
+                frames = ["", ""] if outage.is_out_still else [outage.out, milliseconds(outage.out)]
+                yield [*who, *frames, outage.jumps, "yes" if outage.is_out_still else "no", *source]
 
 
 def write_interruptions(folder: Folder, name: str, heads: Sequence[str], interruptions: Interruptions, plan, source) -> None:

@@ -2,7 +2,7 @@
 
 from dataclasses import dataclass
 
-from .model import CLEAR, CUT, REQUEST_NAMES, arc, owed, route, span_requests
+from .model import CLEAR, CUT, REQUEST_NAMES, arc, is_impaired, owed, route, span_requests
 from .plan import SIDES
 from .report import STATES
 
@@ -17,6 +17,12 @@ class Way:
 
     hops: tuple | None
     length: int  # spans of its own arc
+    is_asked_for: bool = False  # whether a span of its own arc is degraded or asked for
+
+    @property
+    def impaired(self) -> bool:
+        """Whether it is kept on its own arc, though a span of that is degraded or asked for."""
+        return self.is_asked_for and self.hops is not None and not self.over
 
     @property
     def over(self):
@@ -52,7 +58,8 @@ class Look:
         self.ways = {}
         for circuit in plan.circuits:
             hops = route(plan, circuit, scene.applied)
-            self.ways[circuit.name] = Way(None if hops is None else tuple(hops), len(arc(plan, circuit)))
+            asked_for = is_impaired(plan, circuit, self.requests())
+            self.ways[circuit.name] = Way(None if hops is None else tuple(hops), len(arc(plan, circuit)), asked_for)
         self.verdicts = {}
         for circuit in plan.circuits:
             for end in "ab":
@@ -66,11 +73,15 @@ class Look:
         differ = (lambda now, then: {key for key in now if now[key] != then[key]}) if old else (lambda now, then: set())
         self.changed_fibres = differ(self.scene.conditions, old and old.scene.conditions)
         self.changed_commands = differ(self.scene.commands, old and old.scene.commands)
-        self.changed_circuits = differ(self.ways, old and old.ways)
+        self.changed_circuits = differ(self.fates(), old and old.fates())
         self.changed_nodes = differ(self.states(), old and old.states())
         self.changed_words = differ(self.words(), old and old.words())
         self.changed_requests = differ(dict(enumerate(self.requests())), old and dict(enumerate(old.requests())))
         self.changed_spans = self.changed_requests | (self.scene.applied ^ old.scene.applied if old else set())
+
+    def fates(self):
+        """What counts as a change of a circuit: the spans that it goes over, and whether it is impaired."""
+        return {name: (way.hops, way.impaired) for name, way in self.ways.items()}
 
     def states(self):
         return {at: node.state for at, node in enumerate(self.settled.nodes)}
@@ -127,15 +138,16 @@ class Look:
         if way.hops is None:
             return "lost"
         count = f"{len(way.hops)} span" + ("s" if len(way.hops) > 1 else "")
-        return f"{count} over protection, {longer_words(way.more)}" if way.over else count
+        return f"{count} over protection, {longer_words(way.more)}" if way.over else f"{count}, impaired" if way.impaired else count
 
     def result(self, circuit):
-        """What the text shows of a customer: odd, lost, over, kept, or untold."""
+        """What the text shows of a customer: odd, lost, over, impaired, kept, or untold."""
         verdicts = [self.port(circuit.name, end) for end in "ab"]
         if None in verdicts:
             return "untold"
         way = self.ways[circuit.name]
-        return "odd" if "wrong" in verdicts else "lost" if way.hops is None else "over" if way.over else "kept"
+        joined = "over" if way.over else "impaired" if way.impaired else "kept"
+        return "odd" if "wrong" in verdicts else "lost" if way.hops is None else joined
 
     def circuit_words(self, circuit):
         ends = ends_words(self.plan, circuit)

@@ -150,6 +150,11 @@ def is_joined(plan, circuit, applied):
     return not own & applied or not opposite & applied
 
 
+def is_impaired(plan, circuit, requests: list[int]) -> bool:
+    """Returns whether a span of a circuit's own arc asks for more than to wait: one that is kept there is impaired. `requests` are the spans'."""
+    return any(requests[span] > WAIT for span in arc(plan, circuit))
+
+
 @dataclass(frozen=True)
 class Hop:
     """One span of a route, walked from position `start` to position `end`."""

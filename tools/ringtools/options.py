@@ -1,6 +1,9 @@
 """The words that a tool is started with, among which each knows --help and --version."""
 
+from __future__ import annotations
+
 import argparse
+import re
 
 from typing import NoReturn
 
@@ -17,6 +20,32 @@ def version_words(tool):
     except CannotRun:
         beside = "no program"
     return f"{tool} {version()}, a tool outside the proofs; beside it {beside}"
+
+
+def rate_number(word: str) -> int:
+    """Returns the rate that a word means: 16 for 16, STM-16 and STM16."""
+    if found := re.fullmatch("(?:stm-?)?([0-9]+)", word, re.I):
+        return int(found[1])
+    raise argparse.ArgumentTypeError(f"`{word}`: 4 or 16 is wanted, for STM-4 or STM-16")
+
+
+def whole_number(word: str) -> int:
+    """Returns the number that a word means, which has digits alone."""
+    if word.isascii() and word.isdecimal():
+        return int(word)
+    raise argparse.ArgumentTypeError(f"`{word}`: a whole number is wanted, in digits alone")
+
+
+def decimal_number(word: str) -> float:
+    """Returns the number that a word means, whose decimal mark is a point and which isn't below 0."""
+    try:
+        value = float(word)
+    except ValueError:
+        value = float("nan")
+    if 0 <= value < float("inf"):
+        return value
+    point = f", as {word.replace(',', '.')}" if re.fullmatch("[0-9]+,[0-9]+", word) else ""
+    raise argparse.ArgumentTypeError(f"`{word}`: a number with a point is wanted that isn't below 0{point}")
 
 
 class ShowVersion(argparse.Action):

@@ -65,16 +65,21 @@ class Outage:
     def foreign_words(self):
         return f"{count_of(self.foreign, 'FOREIGN FRAME')}, of {' '.join(self.whose)}"
 
+    def out_words(self) -> list[str]:
+        """Returns for how long it was out. Where it is out still the frames up to the end of the step say nothing: it is lost."""
+        if self.is_out_still:
+            return [f"lost from round {self.begin} on" if self.is_whole and not self.jumps else "lost"]
+        parts = [frames_words(self.out) if self.out else "none"]
+        parts += [f"in {self.runs} runs of at most {frames_words(self.longest)}"] if self.runs > 1 else []
+        return parts + (["the ring's start among them"] if self.starts else [])
+
     def words(self):
         if self.is_start:
             return f"none; first bytes after {frames_words(self.out)}"
-        parts = [frames_words(self.out) if self.out else "none"]
-        parts += [f"in {self.runs} runs of at most {frames_words(self.longest)}"] if self.runs > 1 else []
-        parts += ["the ring's start among them"] if self.starts and not self.is_out_still else []
+        parts = self.out_words()
         parts += [count_of(self.jumps, "jump")] if self.jumps else []
         parts += [count_of(self.counts["torn"], "torn frame")] if self.counts["torn"] else []
-        parts += [self.foreign_words()] if self.foreign else []
-        return ", ".join(parts + (["still out"] if self.is_out_still else []))
+        return ", ".join(parts + ([self.foreign_words()] if self.foreign else []))
 
 
 @dataclass

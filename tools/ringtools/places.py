@@ -7,12 +7,12 @@ The program skips comments, so that names are for people and tools alone. Only `
 """
 
 import re
+import unicodedata
 from dataclasses import dataclass, field
 
-from .checks import is_decimal
+from .checks import is_decimal, why_no_name
 from .source import STRINGS
 
-LONGEST = 60  # characters of a name
 DRAWN = 18  # of a place in a drawing; its title has the whole name
 NAMED = re.compile(r"# (node|circuit) (\S+) is (\S(?:.*\S)?)[ \t\r]*")
 PARTS = re.compile("|".join([*(f"(?:{form.pattern})" for form in STRINGS), "(?P<comment>#[^\n]*)"]), re.S)
@@ -56,11 +56,9 @@ class Places:
         return self.circuits.get(name, name)
 
 
-def why_no_name(name):
-    """What is wrong with a name, or None."""
-    if not name or name != name.strip() or not name.isprintable():
-        return "a name has no blanks at its ends and no control characters"
-    return f"a name has at most {LONGEST} characters" if len(name) > LONGEST else None
+def composed(words: str) -> str:
+    """Returns words with each accent in its letter, so that names that look alike are alike."""
+    return unicodedata.normalize("NFC", words)
 
 
 def written(kind, number, name):
@@ -79,7 +77,7 @@ def comments_of(text):
 
 def read_places(data):
     """Returns the names that a plan's comments give. Those of nodes and circuits that the plan doesn't have are kept too."""
-    places, text = Places(), data.decode("utf-8-sig")
+    places, text = Places(), composed(data.decode("utf-8-sig"))
     for at, comment in comments_of(text):
         found = NAMED.fullmatch(comment)
         if not found or found[1] == "node" and not is_decimal(found[2]) or why_no_name(found[3]):

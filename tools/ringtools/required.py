@@ -14,6 +14,7 @@ from dataclasses import dataclass
 
 from .cells import text_of_rows
 from .desktable import ALL_KINDS, DEPTHS, GROUP
+from .places import composed
 
 COUNTS = {"nothing": 0, **DEPTHS}
 RULE = re.compile(r"(?P<depth>\w+)(?: (?P<kinds>[\w, ]+))?: ?(?:(?P<none>none)|at most (?P<most>[0-9]{1,9})|(?P<names>.+) not) lost(?P<besides> besides ends)?")
@@ -42,7 +43,7 @@ class Rule:
 
 
 def read_rule(text):
-    text = " ".join(text.split())
+    text = composed(" ".join(text.split()))
     found = RULE.fullmatch(text)
     if not found or found["depth"] not in COUNTS:
         raise RuleProblem(f"`{text}` is no rule: `single span: none lost` is one, and `double: at most 2 lost`, and `single node: none lost besides ends`")

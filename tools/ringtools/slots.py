@@ -5,12 +5,14 @@ done the next choice is tried. Both searches are exhaustive unless a number of t
 """
 
 import random
+from collections.abc import Iterator
 from dataclasses import dataclass
 from itertools import combinations
 
 EXACT_NODES = 8  # up to this size all choices are tried before it is said that there is none
 QUICK_CHOICES = 30  # choices of ways that are drawn at random before all are gone through
 CHOICES, STEPS = 400, 20_000  # in larger rings: choices of ways, and steps of the search for slots in each
+ORDERS = 16  # in which circuits that don't all fit are laid, so that few are left over
 
 
 @dataclass(frozen=True)
@@ -21,6 +23,7 @@ class Wanted:
     end: int
     way: str | None = None
     slot: int | None = None
+    is_held: bool = False  # whether it is in service, so that it comes before others
 
 
 @dataclass(frozen=True)
@@ -355,12 +358,32 @@ def added(size, count, wanted, laid):
     return search.quick(count) if search.bound <= count else None
 
 
-def fitted(size, count, wanted):
-    """Of circuits that don't all fit, in their order, the layout of those that fit; by index, with None for each that doesn't."""
+def orders_of(size: int, wanted: list[Wanted]) -> Iterator[list[int]]:
+    """Yields orders in which circuits may be laid, held ones first: the shortest first, and then mixtures of that.
+
+    They go by what is wanted alone. So of one and the same circuits, in whichever order a table has them, as many are laid.
+    """
+    length = lambda one: min((end - start) % size for start, end in arcs_of(size, one))
+    alike = lambda one: (not one.is_held, length(one), one.start, one.end, one.way or "", one.slot or 0)
+    by_kind = sorted(range(len(wanted)), key=lambda index: (alike(wanted[index]), index))
+    yield by_kind
+    for number in range(1, ORDERS):
+        chance = random.Random(number)
+        mixed = {index: (not wanted[index].is_held, length(wanted[index]) + chance.uniform(0, size / 4)) for index in by_kind}
+        yield sorted(by_kind, key=mixed.__getitem__)
+
+
+def fitted_in(size: int, count: int, wanted: list[Wanted], order: list[int]) -> dict[int, Laid]:
+    """Returns the layout of the circuits that fit when they are laid in this order, by their indices."""
     kept, laid = [], ()
-    for index, one in enumerate(wanted):
-        more = added(size, count, [*(wanted[i] for i in kept), one], laid)
+    for index in order:
+        more = added(size, count, [*(wanted[i] for i in kept), wanted[index]], laid)
         if more is not None:
             kept, laid = [*kept, index], more
-    where = dict(zip(kept, laid))
+    return dict(zip(kept, laid))
+
+
+def fitted(size, count, wanted):
+    """Of circuits that don't all fit, the layout of those that fit in the best of several orders; by index, with None for each that doesn't."""
+    where = max((fitted_in(size, count, wanted, order) for order in orders_of(size, wanted)), key=len)
     return [where.get(index) for index in range(len(wanted))]

@@ -1,18 +1,28 @@
 """Tables that people keep in spreadsheets, as CSV: columns are found by their names, and mistakes are reported with file and line."""
 
+from __future__ import annotations
+
 import csv
+import difflib
 import io
 import os
+import re
 from collections.abc import Iterator, Sequence
 from dataclasses import dataclass, field
 
 from .build import sum_of
 from .cells import read_cell
 from .files import TABLE, read_input
+from .places import composed
 from .shown import shown
 
 SIGNS = ",;\t"
-ROWS, COLUMNS, CELL, LINE = 4096, 256, 4096, 16_384  # the most of a table: rows, columns, characters of a cell, bytes of the first line
+TOLD_SIGN = re.compile(r"sep=(.)\r?\n", re.I)  # the first line by which a spreadsheet says what separates the cells
+GROUPED = {mark: re.compile(rf"[1-9][0-9]{{0,2}}({re.escape(mark)}[0-9]{{3}})+") for mark in ".,"}  # as 1.028, or 1,028,000
+FRACTION = {mark: re.compile(rf"[0-9]*{re.escape(mark)}[0-9]+") for mark in ".,"}
+LOOKED_AT = 20  # lines of a table in which the names of the columns are looked for
+LIKENESS = 0.7  # of two names, from 0 to 1, from which on one is taken for a mistyped form of the other
+ROWS, COLUMNS, CELL, LINE = 4096, 256, 4096, 16_384  # the most of a table: rows, columns, characters of a cell, and those of the first lines that are looked at
 LARGEST = 10**9  # numbers are below it: rates, hours, lengths
 QUOTED = 80  # characters of a cell that a message shows
 
@@ -26,14 +36,32 @@ def quoted(text: str) -> str:
     return shown(text if len(text) <= QUOTED else f"{text[:QUOTED]}..")
 
 
+@dataclass
+class Form:
+    """What separates the cells of a table, and which marks its cells show to be decimal ones: as in 0.5, but not in 1.028."""
+
+    sign: str
+    shown: set[str] = field(default_factory=set)
+
+    def look_at(self, cells: list[str]) -> None:
+        self.shown |= {mark for mark in FRACTION for cell in cells if FRACTION[mark].fullmatch(cell) and not GROUPED[mark].fullmatch(cell)}
+
+    def unclear(self, text: str) -> str:
+        """Returns the mark of a number that may part thousands as well as decimals; empty where the number is clear."""
+        if self.sign == ",":
+            return ""
+        return next((mark for mark in GROUPED if mark not in self.shown and GROUPED[mark].fullmatch(text)), "")
+
+
 @dataclass(frozen=True)
 class Row:
     """A row by the names of its columns; a cell that is missing is an empty text."""
 
     file: str
     line: int
-    cells: dict
-    decimal: str = "."
+    cells: dict[str, str]
+    form: Form
+    given: tuple[str, ...] = ()  # all cells, as they stand
 
     def __getitem__(self, column):
         return self.cells.get(column, "")
@@ -50,8 +78,11 @@ class Row:
         text = self[column]
         if not text:
             return None
+        if mark := self.form.unclear(text):
+            whole = text.replace(mark, "")
+            raise self.problem(f"`{column}` is `{text}`, which may be {whole} or {text.replace(mark, ',')}0: write one of these")
         try:
-            value = float(text.replace(self.decimal, "."))
+            value = float(text.replace(",", ".") if self.form.sign != "," else text)
         except ValueError:
             value = float("nan")
         if value >= LARGEST:
@@ -71,9 +102,27 @@ class Row:
 @dataclass
 class Table:
     file: str
-    columns: tuple  # as far as they are known
-    unread: tuple  # the other columns, as they stand
-    rows: list = field(default_factory=list)
+    columns: tuple[str, ...]  # as far as they are known
+    unread: tuple[str, ...]  # the other columns, as they stand
+    known: tuple[str, ...]  # all names that a column may have
+    form: Form
+    heads: tuple[str, ...]  # the names of all columns, as they stand
+    rows: list[Row] = field(default_factory=list)
+
+    def nearest(self, column: str) -> str:
+        """Returns the known name that a column may stand for, of those that the table lacks; empty where none is like it."""
+        missing = [name for name in self.known if name not in self.columns]
+        return next(iter(difflib.get_close_matches(spelled(column), missing, 1, LIKENESS)), "")
+
+    def notes(self) -> list[str]:
+        """Returns a line on the columns that aren't read, each with the name that is nearest to it; none where all are."""
+        told = [column + (f" (nearest: {near})" if (near := self.nearest(column)) else "") for column in self.unread]
+        return [f"{self.file}: not read: {', '.join(told)}"] if told else []
+
+
+def spelled(column: str) -> str:
+    """Returns the name of a column in small letters, with `_` for blanks."""
+    return "_".join(column.lower().split())
 
 
 PIPED: dict[str, bytes] = {}  # what came out of pipes, which can be read once
@@ -97,23 +146,46 @@ def sum_of_table(name: str) -> str:
 def text_of(name):
     data = table_bytes(name)
     try:
-        return data.decode("utf-8-sig")
+        return composed(data.decode("utf-8-sig"))
     except UnicodeDecodeError as error:
         line = data.count(b"\n", 0, error.start) + 1
         raise TableProblem(f"{name}:{line}: the text isn't UTF-8; save the table as `CSV UTF-8`") from None
 
 
-def head_of(name, cells, known, needed):
+def named_in(text: str, needed: tuple[str, ...]) -> int | None:
+    """Returns the number of the line that names these columns, where one of the first does."""
+    for number, line in enumerate(text.splitlines()[:LOOKED_AT], 1):
+        if any({*needed} <= {spelled(cell) for cell in line.split(sign)} for sign in SIGNS):
+            return number
+    return None
+
+
+def advice(text: str, needed: tuple[str, ...]) -> str:
+    """Returns what to do where another line than the first names the columns, for the end of a sentence."""
+    number = named_in(text, needed)
+    return f"; line {number} has them: take away what stands above it" if number else ""
+
+
+def head_of(name, line, cells, known, needed, text):
     """The names of the columns in small letters; None for one that isn't known."""
-    heads = ["_".join(cell.lower().split()) for cell in cells]
+    heads = [spelled(cell) for cell in cells]
     again = [head for at, head in enumerate(heads) if head in known and head in heads[:at]]
     if again:
-        raise TableProblem(f"{name}:1: the column `{again[0]}` is there twice")
+        raise TableProblem(f"{name}:{line}: the column `{again[0]}` is there twice")
     missing = [column for column in needed if column not in heads]
     if missing:
-        found = quoted(", ".join(filter(None, heads))) or "nothing"
-        raise TableProblem(f"{name}:1: the first line is to name the columns, and `{missing[0]}` is missing; there are {found}")
+        found = quoted(", ".join(filter(None, cells)))
+        said = f"the first line is to name the columns, and `{missing[0]}` is missing; there are {found}"
+        raise TableProblem(f"{name}:{line}: {said}{advice(text, needed)}")
     return [head if head in known else None for head in heads]
+
+
+def sign_of(text: str) -> tuple[str, int]:
+    """Returns what separates the cells, and how many characters say so in a line of their own."""
+    if told := TOLD_SIGN.match(text):
+        return told[1], told.end()
+    first = next((line for line in text[:LINE].splitlines() if line.strip()), "")
+    return max(SIGNS, key=first.count), 0
 
 
 def cells_of(name: str, line: int, raw: Sequence[str]) -> list[str]:
@@ -123,12 +195,12 @@ def cells_of(name: str, line: int, raw: Sequence[str]) -> list[str]:
     return [read_cell(" ".join(cell.split())) for cell in raw]
 
 
-def records_of(name: str, text: str, sign: str) -> Iterator[tuple[int, list[str]]]:
-    """Gives the first line of each record, and its cells."""
-    reader, line, number = csv.reader(io.StringIO(text, newline=""), delimiter=sign, strict=True), 0, 0
+def records_of(name: str, text: str, sign: str, before: int) -> Iterator[tuple[int, list[str]]]:
+    """Gives the first line of each record, and its cells. `before` is the number of lines above the text."""
+    reader, line, number = csv.reader(io.StringIO(text, newline=""), delimiter=sign, strict=True), before, 0
     try:
         for raw in reader:
-            begun, line, number = line + 1, reader.line_num, number + 1
+            begun, line, number = line + 1, before + reader.line_num, number + 1
             if number > ROWS + 1:
                 raise TableProblem(f"{name}:{begun}: a table has at most {ROWS:,} rows")
             yield begun, cells_of(name, begun, raw)
@@ -136,29 +208,33 @@ def records_of(name: str, text: str, sign: str) -> Iterator[tuple[int, list[str]
         raise TableProblem(f"{name}:{line + 1}: {error}") from None
 
 
-def read_table(name: str, known: Sequence[str], needed: Sequence[str], most: int = ROWS) -> "Table":
-    """The rows of a table whose first line names its columns. Commas, semicolons or tabs part the cells; rows without a word are skipped.
+def read_table(name: str, known: tuple[str, ...], needed: tuple[str, ...], most: int = ROWS) -> Table:
+    """The rows of a table whose first line with a word names its columns. Commas, semicolons or tabs separate the cells, or what a line `sep=;` says.
 
-    Where semicolons or tabs do, numbers may have a comma for the point. Raises TableProblem where there are more rows than `most`.
+    Rows without a word are skipped. Where something else than commas separates the cells, numbers may have a comma for the point.
+    Raises TableProblem where there are more rows than `most`.
     """
     text = text_of(name)
-    first = text[:LINE].partition("\n")[0]
-    sign, table = max(SIGNS, key=first.count), None
-    for line, cells in records_of(name, text, sign):
+    sign, begin = sign_of(text)
+    form, table = Form(sign), None
+    for line, cells in records_of(name, text[begin:], sign, text.count("\n", 0, begin)):
+        if not any(cells):
+            continue
         if table is None:
-            heads = head_of(name, cells, known, needed)
+            heads = head_of(name, line, cells, known, needed, text[:LINE])
             unread = tuple(cell for cell, head in zip(cells, heads) if head is None and cell)
-            table = Table(name, tuple(filter(None, heads)), unread)
-        elif any(cells) and len(table.rows) == most:
+            table = Table(name, tuple(filter(None, heads)), unread, known, form, tuple(cells))
+            continue
+        if len(table.rows) == most:
             raise TableProblem(f"{name}:{line}: this table has at most {most:,} rows")
-        elif any(cells):
-            table.rows.append(row_of(name, line, heads, cells, "," if sign != "," else "."))
+        form.look_at(cells)
+        table.rows.append(row_of(name, line, heads, cells, form))
     if table is None:
         raise TableProblem(f"{name}:1: the table is empty; its first line is to name the columns {', '.join(needed)}")
     return table
 
 
-def row_of(name, line, heads, cells, decimal):
+def row_of(name, line, heads, cells, form):
     if any(cells[len(heads) :]):
         raise TableProblem(f"{name}:{line}: {len(cells)} cells, and the first line names {len(heads)} columns")
-    return Row(name, line, {head: cell for head, cell in zip(heads, cells) if head}, decimal)
+    return Row(name, line, {head: cell for head, cell in zip(heads, cells) if head}, form, tuple(cells))

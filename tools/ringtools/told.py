@@ -11,6 +11,7 @@ from .failures import Case
 from .model import arc
 from .origin import sum_of
 from .pathrings import PathRing
+from .verdicts import JOINED
 from .writing import Folder
 
 OF_CASE = ("Failures", "Depth", "Kind", "Steps", "Applied", "Kept", "Impaired", "Over", "Lost", "Longest", "Impaired circuits", "Over circuits", "Lost circuits", "Besides ends")
@@ -164,7 +165,7 @@ def differences(told, case, verdict):
     if stage is None:
         return [verdict.problem or "no answer"]
     cells, plan = stage.cells, told.plan
-    ways = [len(arc(plan, circuit)) + cells[circuit.name].more for circuit in plan.circuits if cells[circuit.name].kind in ("kept", "over")]
+    ways = [len(arc(plan, circuit)) + cells[circuit.name].more for circuit in plan.circuits if cells[circuit.name].kind in JOINED]
     odd = [f"{name} is {RESULTS[letter]}, the run shows {cells[name].kind}" for name, letter in zip(told.names, case.results) if cells[name].kind != RESULTS[letter]]
     if max(ways, default=0) != case.outcome.hops:
         odd.append(f"the longest way has {case.outcome.hops} spans, the run shows {max(ways, default=0)}")

@@ -1,12 +1,17 @@
 """The page of all failures: what sdhwhatif answers about them, the same circuits in a path ring, and which cases were run frame by frame too."""
 
-from collections import Counter
+from __future__ import annotations
 
-from .against import GAINS, LOSES
+from collections import Counter
+from collections.abc import Iterator
+
+from .against import CHANGED, GAINS, LOSES
 from .desktable import ALL_KINDS, WHOLE
 from .markup import count_of, escape, folded, listing, names, origin_list, table, unbroken, warning, whole
+from .moves import OTHER_ENDS, OTHER_SLOT, OTHER_WAY
 from .page import tools
 
+CHANGES = (GAINS, LOSES, CHANGED)
 WORST = 60  # cases of several failures that are shown
 KIND_WORDS = {"degraded": "fibre degraded", "fibre": "fibre cut", "span": "span cut", "node": "node lost", "manual": "manual switch", "forced": "forced switch", "group": "group"}
 KIND_PLURALS = {"degraded": "fibres degraded", "fibre": "fibres cut", "span": "spans cut", "node": "nodes lost", "manual": "manual switches", "forced": "forced switches", "group": "groups"}
@@ -169,22 +174,39 @@ def alone(told, checked):
     return "\n".join([*parts, "</section>"])
 
 
+def moved_words(against) -> Iterator[str]:
+    """Who leads the other way round, or lies in another slot: a customer in service is interrupted where one plan takes the other's place."""
+    if against.moves is None:
+        yield "Whether customers lead the other way round, or lie in another slot, isn't in a table."
+        return
+    said = ((OTHER_WAY, "leads", "lead", "the other way round"), (OTHER_SLOT, "lies", "lie", "in another slot"), (OTHER_ENDS, "has", "have", "other ends"))
+    for kind, one, many, how in said:
+        found = [move.called for move in against.moves if kind in move.kinds]
+        if found:
+            yield f"<strong>{kind.capitalize()}</strong>: {count_of(len(found), f'customer {one}', f'customers {many}')} {how} than there: {escape(names(found))}."
+    if not against.moves:
+        yield "Each customer leads the same way round as there, in the same slot."
+
+
 def against_section(against):
-    """Who gains and who loses beside the other plan or table."""
+    """Who gains, who loses and who goes another way beside the other plan or table."""
     counts, name, depths = against.counts(), escape(against.other.name), against.depths
     of = lambda circuit, what: sum(counts[circuit, depth, what] for depth in depths)
-    gains, loses = ([circuit for circuit in against.shared if of(circuit, what)] for what in (GAINS, LOSES))
+    gains, loses, changed = ([circuit for circuit in against.shared if of(circuit, what)] for what in CHANGES)
     called = lambda found: escape(names(map(against.called, found))) or "none"
     words = [f"<strong>Gain</strong>, as they survive here and are lost there in some case: {called(gains)}."]
     words.append(f"<strong>Lose</strong>, as they are lost here and survive there: {called(loses)}.")
+    words.append(f"<strong>Over protection</strong> in some case here or there, and on their own arc in the other: {called(changed)}.")
+    words += moved_words(against)
     words += [f"Only here: {called(against.only_here)}."] if against.only_here else []
     words += [f"Only there: {called(against.only_there)}."] if against.only_there else []
     if against.cases_here or against.cases_there:
         words.append(f"{against.cases_here} cases are only here, and {against.cases_there} only there; nothing is said of them.")
-    titles = ["customer", *(f"{DEPTH_WORDS.get(depth, 'Nothing more').lower()}: {what}" for depth in depths for what in (GAINS, LOSES))]
-    rows = [[escape(against.called(circuit)), *(counts[circuit, depth, what] for depth in depths for what in (GAINS, LOSES))] for circuit in against.shared]
+    titles = ["customer", *(f"{DEPTH_WORDS.get(depth, 'Nothing more').lower()}: {what}" for depth in depths for what in CHANGES)]
+    rows = [[escape(against.called(circuit)), *(counts[circuit, depth, what] for depth in depths for what in CHANGES)] for circuit in against.shared]
     shown = [row for row in rows if any(row[1:])]
-    body = listing(words) + (table("cases in which a customer gains or loses", titles, shown) if shown else "<p>Every customer survives and is lost in the same cases.</p>")
+    same = "" if gains or loses else "<p>Every customer survives and is lost in the same cases.</p>"
+    body = listing(words) + same + (table("cases in which a customer gains, loses or goes another way", titles, shown) if shown else "")
     return f'<section id="against"><h2>Beside {name}</h2>{body}</section>'
 
 

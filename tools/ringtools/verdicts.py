@@ -4,7 +4,7 @@ from collections.abc import Iterator
 from dataclasses import dataclass, field
 
 from .cells import write_rows
-from .model import arc, is_joined, owed, route, scenes
+from .model import Scene, arc, is_impaired, is_joined, owed, route, scenes, span_requests
 from .report import ReportProblem, read_report
 from .writing import Folder
 
@@ -25,23 +25,27 @@ STATUSES = {
 }
 
 
+JOINED = ("kept", "impaired", "over")  # what becomes of a circuit whose ends are joined
+
+
 @dataclass(frozen=True)
 class Cell:
-    """One circuit in one stage: kept on its own arc, over protection with this number of spans more, lost, or odd."""
+    """One circuit in one stage: kept on its own arc, impaired there, over protection with this number of spans more, lost, or odd."""
 
     kind: str
     more: int = 0
 
     def sign(self):
         """For a narrow cell of the page."""
-        return {"kept": "·", "over": f"{self.more:+d}" if self.more else "=", "lost": "✕", "odd": "?"}[self.kind]
+        return {"kept": "·", "impaired": "i", "over": f"{self.more:+d}" if self.more else "=", "lost": "✕", "odd": "?"}[self.kind]
 
     def longer(self):
         spans = f"{abs(self.more)} span{'s' if abs(self.more) > 1 else ''}"
         return "as long" if self.more == 0 else f"{spans} {'more' if self.more > 0 else 'fewer'}"
 
     def words(self):
-        return {"kept": "kept", "over": f"over protection, {self.longer()}", "lost": "lost", "odd": "odd: see its text"}[self.kind]
+        over = f"over protection, {self.longer()}"
+        return {"kept": "kept", "impaired": "kept, but impaired", "over": over, "lost": "lost", "odd": "odd: see its text"}[self.kind]
 
     def short(self):
         return f"over{self.more:+d}" if self.kind == "over" else self.kind
@@ -103,8 +107,8 @@ def applied_by_states(plan, nodes):
     return frozenset(span for span in range(plan.size) if switched(nodes[span].state, "east"))
 
 
-def cell_of(plan, circuit, settled, applied, slips):
-    """Lost where both ports have AIS; kept where both deliver their own customer's bytes; anything else is odd."""
+def cell_of(plan, circuit, settled, applied: frozenset[int], scene: Scene) -> Cell:
+    """Lost where both ports have AIS; kept where both deliver their own customer's bytes; anything else is odd. What is asked for is the model's."""
     lines = {end: settled.ports[circuit.name, end] for end in "ab"}
     if all(line.ais for line in lines.values()):
         return Cell("lost")
@@ -113,11 +117,11 @@ def cell_of(plan, circuit, settled, applied, slips):
         return Cell("odd")
     for end, line in lines.items():
         other = "b" if end == "a" else "a"
-        if (line.value, line.data) != owed(circuit, end, settled.round, len(hops), slips[circuit.name, other]):
+        if (line.value, line.data) != owed(circuit, end, settled.round, len(hops), scene.slips[circuit.name, other]):
             return Cell("odd")
     if any(hop.protection for hop in hops):
         return Cell("over", len(hops) - len(arc(plan, circuit)))
-    return Cell("kept")
+    return Cell("impaired" if is_impaired(plan, circuit, span_requests(plan.size, scene.requests)) else "kept")
 
 
 def compare(plan, stage, scene):
@@ -127,7 +131,7 @@ def compare(plan, stage, scene):
         result.append(f"{stage.name}: other spans are applied")
     for circuit in plan.circuits:
         joined, cell = is_joined(plan, circuit, scene.applied), stage.cells[circuit.name]
-        if cell.kind == "odd" or joined != (cell.kind in ("kept", "over")):
+        if cell.kind == "odd" or joined != (cell.kind in JOINED):
             result.append(f"{stage.name}: {circuit.name} is {cell.short()}, by the model {'joined' if joined else 'not joined'}")
     return result
 
@@ -140,7 +144,7 @@ def judge(case, plan, text, answer):
         report = read_report(text, plan)
         for scene, settled in zip(scenes(plan, [step.round for step in report.settled]), report.settled):
             applied = applied_by_states(plan, settled.nodes)
-            cells = {circuit.name: cell_of(plan, circuit, settled, applied, scene.slips) for circuit in plan.circuits}
+            cells = {circuit.name: cell_of(plan, circuit, settled, applied, scene) for circuit in plan.circuits}
             stage = Stage(case.stages[scene.number - 1], settled.round, applied, cells)
             verdict.stages.append(stage)
             verdict.differs += compare(plan, stage, scene)
@@ -156,7 +160,7 @@ def judge(case, plan, text, answer):
     return verdict
 
 
-FIXED = ["Case", "Kind", "Failure", "Status", "Stage", "Round", "Applied", "Kept", "Over", "Lost", "Odd", "Model"]
+FIXED = ["Case", "Kind", "Failure", "Status", "Stage", "Round", "Applied", "Kept", "Impaired", "Over", "Lost", "Odd", "Model"]
 SOURCE = ["Program", "Proof", "Version", "Sum", "Plan", "Script", "Also", "Works"]
 
 
@@ -182,10 +186,10 @@ def table_rows(asked, verdict):
         stage = verdict.stage(name)
         begin = [verdict.case.name, verdict.case.kind, verdict.case.words, verdict.status_words(), name]
         if stage is None:
-            yield begin + [""] * 7 + source + [""] * len(plan.circuits)
+            yield begin + [""] * 8 + source + [""] * len(plan.circuits)
             continue
         applied = " ".join(plan.span_name(span) for span in sorted(stage.applied))
-        counts = [stage.count(kind) for kind in ("kept", "over", "lost", "odd")]
+        counts = [stage.count(kind) for kind in ("kept", "impaired", "over", "lost", "odd")]
         model = "differs" if any(words.startswith(f"{name}:") for words in verdict.differs) else "agrees"
         yield begin + [stage.round, applied, *counts, model, *source, *(stage.cells[circuit.name].short() for circuit in plan.circuits)]
 

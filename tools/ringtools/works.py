@@ -12,16 +12,18 @@ SECOND = (*SINGLE, "node")
 
 
 class Works:
-    """What the works of an order come to. `answers.works` is the verdict on them, None in a part without it; so is what was counted of them."""
+    """What the works of an order come to. `answers.works` is the verdict on them, None in a part without it; so is what was counted of them, and of
+    the opening of the spans that they free."""
 
-    def __init__(self, answers, interruptions=None):
+    def __init__(self, answers, interruptions=None, opening=None):
+        self.opening = opening
         self.answers, self.plan, self.verdict, self.interruptions = answers, answers.plan, answers.works, interruptions
         self.counted = interruptions.told_stages(self.plan.circuits) if interruptions else []
 
     def counts(self, name):
         stage = self.verdict.stage(name)
-        shown = ((stage.count("lost"), "lost"), (stage.count("odd"), "odd"), (stage.count("over"), "over protection"), (stage.count("kept"), "on their own arc"))
-        return ", ".join(f"{count} {words}" for count, words in shown if count) or "no customers"
+        words = {"lost": "lost", "odd": "odd", "over": "over protection", "impaired": "on their own arc, but impaired", "kept": "on their own arc"}
+        return ", ".join(f"{stage.count(kind)} {words[kind]}" for kind in words if stage.count(kind)) or "no customers"
 
     def summary(self):
         """Each stage in a sentence."""
@@ -121,6 +123,7 @@ class Works:
             return parts[0] + "<p>The works themselves are in part 1.</p></section>"
         drawn = '<p><a href="cases/works.html">The works, drawn stage by stage</a></p>' if self.verdict.stages else ""
         hit = [*self.interruptions.words(self.plan)] if self.interruptions else []
+        hit += [self.opening.line()] if self.opening and self.opening.words() else []
         told = note(self.interruptions) if self.interruptions else f'<p class="note">{HITLESS}</p>'
         parts += [listing([*self.summary(), *hit]), self.table(), told, drawn]
         parts += ["<h3>Which second failures hurt during the works</h3>", listing(self.second_words()), self.hurting_table(), "</section>"]

@@ -4,7 +4,7 @@ from collections.abc import Iterator
 from dataclasses import dataclass
 
 from .answers import limit_advice
-from .asking import DIFFERS, INTERRUPTED, NOT_SETTLED, Stop, folder_of, say
+from .asking import DIFFERS, INTERRUPTED, NOT_SETTLED, Stop, folder_of, keep_question, say
 from .cells import write_rows
 from .failures import all_cases, shard_of
 from .framed import asked_of, check_room, counting_store_of, put_cases, read_kinds
@@ -117,6 +117,7 @@ def ask_outages(asked, subject):
         raise Stop(f"stopped; {done} of {len(cases)} cases are kept, the same command goes on from there", INTERRUPTED) from None
     found, odd = read_answers(store, subject.beforehand, cases)
     folder, table = folder_of(asked, subject.name), f"interruptions{'' if shards == 1 else f'-{shard}-of-{shards}'}.csv"
+    keep_question(asked, subject)
     write_interruptions(folder, table, asked_of(asked, subject, store), cases, found)
     told = [folder.path / table, *summary([row for case in cases for row in found.get(case.name, ())])]
     print("\n".join(map(shown, told)))

@@ -59,7 +59,8 @@ def expected(rules, last):
     for circuit in rules.circuits:
         longer = rules.hops(circuit, applied) - len(rules.arc(circuit)) if rules.joined(circuit, applied) else None
         struck = applied & set(rules.arc(circuit))
-        cells[circuit["name"]] = "lost" if longer is None else f"over{longer:+d}" if struck else "kept"
+        kept = "impaired" if any(rules.requests(last)[span] >= 6 for span in rules.arc(circuit)) else "kept"
+        cells[circuit["name"]] = "lost" if longer is None else f"over{longer:+d}" if struck else kept
     return cells
 
 

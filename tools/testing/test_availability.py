@@ -4,6 +4,7 @@ import json
 import math
 import random
 import re
+import sys
 import tempfile
 import unittest
 from collections import defaultdict
@@ -21,6 +22,7 @@ from ringtools.tables import TableProblem
 
 AVAILABILITY, PLAN = run_path(str(TOOLS / "sdhring-availability")), run_path(str(TOOLS / "sdhring-plan"))
 DOCS = TOOLS.parent / "docs"
+TELLER = f"{sys.executable} {TOOLS.parent / 'bench' / 'whatif' / 'model.py'}"
 STEPS = ("cut", "cut", "mend", "forced", "manual", "clear", "degrade", "settle")
 
 
@@ -252,7 +254,7 @@ class Command(unittest.TestCase):
         self.plan("north=1>3", "west=4>1", "--rate", "16")
 
     def plan(self, *words):
-        (self.folder / "plan.toml").write_text(PLAN["document_for"](PLAN["options"](["new", *words]))[0])
+        (self.folder / "plan.toml").write_text(PLAN["made_for"](PLAN["options"](["new", *words])).document)
 
     def made(self, *words, **tables):
         """What the tool writes, without a process of its own."""
@@ -298,6 +300,18 @@ class Command(unittest.TestCase):
         for name, minutes in wanted.items():
             self.assertTrue(math.isclose(alone[name], minutes, rel_tol=1e-12))
 
+    def test_a_number_that_may_have_two_meanings_is_refused(self):
+        """As 1.028, which is 1028 or 1,028, where commas don't separate the cells and no other cell shows what its mark is."""
+        table = lambda *km: {"spans": "from;to;km;cuts_per_1000_km;hours\n" + "".join(f"{a};{b};{one};2;8\n" for (a, b), one in zip(("12", "23", "34", "41"), km))}
+        minutes = lambda *km: [record["minutes"] for record in json.loads(self.made("--json", **table(*km)))]
+        self.refused("spans.csv:3: `km` is `1.028`, which may be 1028 or 1,0280: write one of these", **table("80,5", "1.028", "7", "8"))
+        self.refused("spans.csv:2: `km` is `1,028`, which may be 1028 or 1,0280: write one of these", **table("1,028", "80", "7", "8"))
+        self.refused("spans.csv:2: `km` is `12.345.678`, which may be 12345678", **table("12.345.678", "80", "7", "8"))
+        self.assertEqual(minutes("80.5", "1.028", "7", "8"), minutes("80,5", "1,0280", "7", "8"))
+        self.assertEqual(minutes("80,5", "1028", "0.250", "8"), minutes("80,5", "1028", "0,25", "8"))
+        with_commas = {"spans": table("80.5", "1.028", "7", "8")["spans"].replace(";", ",")}
+        self.assertEqual([record["minutes"] for record in json.loads(self.made("--json", **with_commas))], minutes("80.5", "1.028", "7", "8"))
+
     def test_what_the_script_leaves_is_said_and_may_be_left_out(self):
         plan = self.folder / "plan.toml"
         plan.write_text(plan.read_text().replace('    "settle",\n', '    "forced 1 east",\n    "settle",\n', 1))
@@ -326,6 +340,27 @@ class Command(unittest.TestCase):
         self.assertEqual(ended.stderr, b"sdhring-availability: spans.csv:1: the first line is to name the columns, and `hours` is missing; there are from, to\n")
         self.assertEqual(call("sdhring-availability", "plan.toml", "spans.csv", "--causes", cwd=self.folder).returncode, 2)
 
+    def test_words_that_are_refused_say_what_to_do(self):
+        for said, *words in (
+            ("spans.csv is a table, and stands where a plan is due: the plan is named first, and then its table of spans", "spans.csv", "plan.toml"),
+            ("spans.xlsx is a spreadsheet: save its table as `CSV UTF-8`, and name that file", "plan.toml", "spans.xlsx"),
+            ("argument --cuts-per-1000-km: `2,5`: a number with a point is wanted that isn't below 0, as 2.5", "plan.toml", "spans.csv", "--cuts-per-1000-km", "2,5"),
+            ("argument --cuts-per-1000-km: `-1`: a number with a point is wanted that isn't below 0", "plan.toml", "spans.csv", "--cuts-per-1000-km=-1"),
+        ):
+            ended = call("sdhring-availability", *words, cwd=self.folder)
+            self.assertEqual((ended.returncode, ended.stderr.decode().splitlines()[-1]), (2, f"sdhring-availability: {said}; sdhring-availability --help shows the words"))
+
+    def test_a_column_that_is_not_read_is_told_with_the_nearest_name(self):
+        (self.folder / "spans.csv").write_text(SPANS.replace("hours", "hours,fibre_failure,cuts_per_1000km,Owner").replace(",8", ",8,2,9,DB"))
+        (self.folder / "groups.csv").write_text("group,members,failures,hours,since\nduct,span 1-2,1,1,1999\n")
+        ended = call("sdhring-availability", "plan.toml", "spans.csv", "--groups", "groups.csv", cwd=self.folder)
+        read = "spans.csv: not read: fibre_failure (nearest: fibre_failures), cuts_per_1000km (nearest: cuts_per_1000_km), Owner"
+        said = f"sdhring-availability: {read}\nsdhring-availability: groups.csv: not read: since\n"
+        self.assertEqual((ended.returncode, ended.stderr.decode()), (0, said))
+        words = "--all", "--depth", "single", "--frames", "0", "--groups", "groups.csv", "--teller", TELLER
+        ended = call("sdhring-whatif", *words, "plan.toml", cwd=self.folder)
+        self.assertIn("sdhring-whatif: groups.csv: not read: since\n", ended.stderr.decode())
+
     def test_tables_that_are_refused(self):
         line = lambda row: {"spans": "from,to,cuts,km,hours\n" + row}
         group = lambda row: {"groups": "group,members,failures,hours\n" + row}
@@ -339,6 +374,7 @@ class Command(unittest.TestCase):
             ("spans.csv:2: `hours` is `-8`, and a number is wanted that isn't below 0", line("1,2,1,,-8\n")),
             ("spans.csv:2: `cuts` is `nan`", line("1,2,nan,,8\n")),
             ("spans.csv:2: `cuts` a year are wanted, or `km`", line("1,2,,80,8\n")),
+            ("spans.csv:2: `fibre_hours` is `8`, and `fibre_failures`, the failures a year", {"spans": "from,to,cuts,hours,fibre_hours\n1,2,1,8,8\n"}),
             ("nodes.csv: node 2, node 3, node 4: they have no row", {"nodes": "node,failures,hours\n1,0,4\n"}),
             ("nodes.csv:3: node 1 stood before", {"nodes": "node,failures,hours\n1,0,4\n1,0,4\n"}),
             ("nodes.csv:1: the first line is to name the column `node`", {"nodes": "failures,hours\n0,4\n"}),

@@ -2,6 +2,7 @@
 
 import io
 import random
+import re
 import subprocess
 import sys
 import tempfile
@@ -13,7 +14,7 @@ from importlib.machinery import SourceFileLoader
 from importlib.util import module_from_spec, spec_from_loader
 from pathlib import Path
 
-from common import PATIENCE, TOOLS
+from common import PATIENCE, TOOLS, call
 
 from ringtools.benched import BenchProblem, first_difference, read_answers
 from ringtools.rows import read_rows
@@ -23,6 +24,7 @@ NODE = TOOLS / "testing" / "node"
 SDHAPS, SDHNODE = TOP / "dist" / "sdhaps", TOP / "dist" / "sdhnode"
 sys.path[:0] = [str(TOP / "bench" / name) for name in ("node", "aps", "outage")]
 
+import frames  # noqa: E402
 import model  # noqa: E402
 
 
@@ -114,6 +116,70 @@ class Fed(unittest.TestCase):
         self.assertGreater(len(changed), 10)
 
 
+NEVER_SWITCHES = """#!{python}
+import subprocess, sys
+running = subprocess.Popen(["{program}", *sys.argv[1:]], stdin=subprocess.PIPE)
+for line in sys.stdin.buffer:
+    words = line.split()
+    if words[:1] == [b"round"]:
+        came = b"".join(sys.stdin.buffer.read(9720) for word in words if word == b"frame")
+        line = line.replace(b"dark", b"none") + came
+    running.stdin.write(line)
+    running.stdin.flush()
+running.stdin.close()
+sys.exit(running.wait())
+"""  # a fibre that goes dark is taken for one of which nothing is known yet
+
+
+@unittest.skipUnless(SDHNODE.is_file(), "dist/ has no sdhnode")
+class OfPrograms(unittest.TestCase):
+    """The example that makes a ring of programs."""
+
+    def setUp(self):
+        self.folder = Path(self.enterContext(tempfile.TemporaryDirectory()))
+
+    def plan(self, *words):
+        ended = call("sdhring-plan", "new", *words)
+        (self.folder / "plan.toml").write_bytes(ended.stdout)
+
+    def ring(self, *words):
+        command = [sys.executable, str(TOP / "examples" / "bench" / "ring"), "plan.toml", "--program", str(SDHNODE), *words]
+        return subprocess.run(command, cwd=self.folder, capture_output=True, text=True)
+
+    def never(self):
+        program = self.folder / "never"
+        program.write_text(NEVER_SWITCHES.format(python=sys.executable, program=SDHNODE))
+        program.chmod(0o755)
+        return str(program)
+
+    def test_bytes_are_back_after_they_were_lost(self):
+        """As sdhoutage counts it of the same cut, over the longest way of the largest ring."""
+        self.plan("--nodes", "0-15", "8>7")
+        ended = self.ring()
+        self.assertEqual(ended.returncode, 0, ended.stdout)
+        cut, last = re.search("cut between 0 and 1", ended.stdout), ended.stdout.splitlines()[-1]
+        self.assertTrue(cut)
+        told = re.fullmatch(r"round (\d+) 2 ports, which had lost their bytes, deliver bytes again", last)
+        plan = (self.folder / "plan.toml").read_text().replace('    "settle",\n', '    "settle",\n    "cut 0 east",\n    "cut 1 west",\n    "settle",\n', 1)
+        counted = subprocess.run([SDHNODE.with_name("sdhoutage"), "run"], input=plan, capture_output=True, text=True).stdout
+        settled, ends = int(re.search(r"settle 1 round (\d+)", counted)[1]), re.findall(r"port c1 [ab] out [1-9].* to (\d+) ", counted.split("settle 2")[1])
+        self.assertEqual(int(told[1]) - 119, max(map(int, ends)) + 1 - (settled + 1), ended.stdout)  # rounds from the cut on
+
+    def test_a_node_that_never_switches_is_told(self):
+        for circuit, words in (("8>7", "port c1 a delivers no bytes"), ("3>4", "node 1 at the cut is idle, and switch-west is right")):
+            self.plan("--nodes", "0-15", circuit)
+            ended = self.ring("--instead", "1", self.never())
+            self.assertEqual(ended.returncode, 1, ended.stdout)
+            self.assertIn(words, ended.stdout)
+
+    def test_a_node_that_the_plan_does_not_have_is_refused(self):
+        self.plan("--nodes", "1-3", "1>3")
+        ended = self.ring("--instead", "9", "false")
+        self.assertEqual((ended.returncode, ended.stdout, ended.stderr), (1, "", "--instead 9: no such node in the plan, whose nodes are 1, 2, 3\n"))
+        ended = self.ring("--instead", "2", "false", "--instead", "2", "true")
+        self.assertEqual((ended.returncode, ended.stderr), (1, "--instead 2: the node is named twice\n"))
+
+
 class Comparing(unittest.TestCase):
     def setUp(self):
         self.folder = tempfile.TemporaryDirectory()
@@ -154,7 +220,41 @@ class Comparing(unittest.TestCase):
         theirs[ours.index(b"bytes 19440\n") + 12 + 9720 + 4 * 1080 + 24] ^= 1
         status, said = self.compare(ours, bytes(theirs))
         self.assertEqual(status, 1)
-        self.assertIn("round 0: the frame to the east, row 5, column 25, K2", said)
+        self.assertIn("round 0: the frame to the east, row 5, column 25, K2, before the scrambler: ours ", said)
+
+    def framed(self):
+        """An answer of the model with frames, where these begin, and the first one as it is before the scrambler."""
+        text = model.answer((NODE / "ran.stream").read_bytes(), 2, True)[1]
+        begin = text.index(b"bytes 19440\n") + 12
+        return text, begin, frames.Scrambler(4).turn(text[begin : begin + 9720])
+
+    def test_values_are_those_before_the_scrambler(self):
+        """A new-data flag that isn't set: the words are told as a maker writes them."""
+        text, begin, clear = self.framed()
+        at = 3 * 1080 + 1  # row 4, the first byte of the pointer of AU-4 2
+        planted = bytearray(clear)
+        planted[at] ^= 0xF0
+        theirs = text[:begin] + frames.Scrambler(4).turn(bytes(planted)) + text[begin + 9720 :]
+        said = f"round 0: the frame to the west, row 4, column 2, pointer of AU-4 2, before the scrambler: ours {clear[at]:02x}, theirs {clear[at] ^ 0xF0:02x}\nrule 8"
+        self.assertIn(said, self.compare(text, theirs)[1])
+
+    def test_a_mistake_of_the_scrambler_is_called_that(self):
+        """A sequence one byte ahead, none at all, and one that isn't set anew: the same frame before the scrambler."""
+        text, begin, clear = self.framed()
+        sequence = frames.sequence(127) * 80
+        for name, used in (("one byte ahead", sequence[1:]), ("none", bytes(9720)), ("not set anew", sequence[9720 % 127 :])):
+            added = bytes(one ^ two for one, two in zip(clear[36:], used))
+            status, said = self.compare(text, text[:begin] + clear[:36] + added + text[begin + 9720 :])
+            with self.subTest(name):
+                self.assertEqual(status, 1)
+                self.assertIn(f"row 1, column 37, the scrambling: what is added here to the frame: ours {sequence[0]:02x}, theirs {used[0]:02x}\nrule 9", said)
+
+    def test_answers_without_frames_differ_from_those_with(self):
+        text, begin, _ = self.framed()
+        without = model.answer((NODE / "ran.stream").read_bytes(), 2, False)[1]
+        said = "round 0: the frames that leave: ours 19440 bytes, theirs no frames\nrule the word `frames`"
+        self.assertIn(said, self.compare(text, without)[1])
+        self.assertEqual(self.compare(without, text)[0], 1)
 
     def test_what_is_no_text_of_answers_is_refused(self):
         for text in (b"", b"done", b"round 0 node 2\n", b"round x\ndone\n", self.text + b"more\n", self.text.replace(b"asks", b"wants")):

@@ -174,7 +174,8 @@ class Cases(unittest.TestCase):
         document = (RINGS / "two-nodes.toml").read_bytes()
         plan = read_plan(document)
         table = read_cases(Reading(plan, Places()), Program((sys.executable, str(MODEL)), ""), document, "triple")
-        data = data_of(Desk(plan, Places(), table), DeskDrawing(plan, Places(), table.failures))
+        desk = Desk(plan, Places(), table)
+        data = data_of(desk, DeskDrawing(plan, Places(), table.failures, desk.script, desk.nothing.outcome))
         unpacked = {name: zlib.decompress(base64.b64decode(text)) for name, text in data["triples"].items()}
         outcomes = data["outcomes"] + json.loads(unpacked["outcomes"])
         places = [int.from_bytes(unpacked["cases"][at : at + 2], "little") for at in range(0, len(unpacked["cases"]), 2)]
@@ -213,6 +214,20 @@ class Pages(unittest.TestCase):
     def test_where_the_rates_come_from(self):
         self.assertIn(f"spans.csv , checksum {hashlib.sha256(SPANS.encode()).hexdigest()}", Seen(page()).text())
 
+    def test_a_column_that_is_not_read_is_told_on_the_page_too(self):
+        with tempfile.TemporaryDirectory() as folder:
+            spans = SPANS.replace("hours", "hours,fibre_failure").replace(",8", ",8,2")
+            groups = "group,members,fibre <since>\nduct,span 2-9\n"
+            for name, text in (("plan.toml", PLAN), ("spans.csv", spans), ("groups.csv", groups)):
+                (Path(folder) / name).write_text(text, encoding="utf-8")
+            for words, said in (
+                (("--spans", "spans.csv"), "spans.csv: not read: fibre_failure (nearest: fibre_failures)"),
+                (("--groups", "groups.csv"), "groups.csv: not read: fibre <since>"),
+            ):
+                ended = call("sdhring-desk", "plan.toml", *words, "--depth", "double", "--teller", TELLER, cwd=folder)
+                self.assertEqual((ended.returncode, ended.stderr.decode()), (0, f"sdhring-desk: {said}\n"))
+                self.assertIn(f"Not all of a table was read : {said}.", Seen(ended.stdout.decode()).text())
+
     def test_availability_is_that_of_the_tool(self):
         tool = run_path(str(TOOLS / "sdhring-availability"))
         with tempfile.TemporaryDirectory() as folder:
@@ -234,6 +249,17 @@ class Pages(unittest.TestCase):
             self.assertEqual(len(set(found)), count)
 
     @unittest.skipUnless(BROWSER, "there is no chromium")
+    def test_a_fourth_failure_takes_the_first_away_and_says_so(self):
+        deeds = """
+const told = [], choose = document.getElementById("choose"), said = () => document.getElementById("told").textContent;
+const add = (name) => { choose.value = [...choose.options].find((one) => one.textContent === name).value; choose.dispatchEvent(new Event("change")); };
+["node 9", "node 0", "span 9–0", "fibre 9>0 cut"].forEach(add); told.push(said().split(" fibre")[0]);
+document.getElementById("clear").click(); told.push(said());
+"""
+        gone = "node 9 is taken away, since at most three failures are shown together. node 0 and span 9–0 and"
+        self.assertEqual(browsed(page(), deeds), [gone, "Nothing fails. 0 lost. 0 over protection. 2 kept."])
+
+    @unittest.skipUnless(BROWSER, "there is no chromium")
     def test_clicks_and_keys_on_a_phone(self):
         self.assertEqual(browsed(page(), DEEDS), SAID)
 
@@ -248,6 +274,78 @@ class Printed(unittest.TestCase):
         self.assertGreater(len(beside), 1)
         for sheet in beside:
             self.assertIn("pairs of spans", sheet)
+
+
+BROKEN = PLAN.replace('script = ["settle"]', 'script = ["cut 2 east", "cut 9 west", "degrade 0 east 4", "degrade 5 east 2", "manual 0 west", "forced 5 west", "settle"]')
+LEFT = (
+    "fibre Köln>Bad <Ems> degraded by 2, below the threshold of 3; fibre Bad <Ems>>9 cut; fibre 9>Bad <Ems> cut; fibre 0>Köln degraded by 4; "
+    "forced switch at Köln to 0; manual switch at 0 to 9"
+)
+
+
+class AfterScript(unittest.TestCase):
+    """The desk of a ring that the plan's script leaves broken."""
+
+    @classmethod
+    def setUpClass(cls):
+        with tempfile.TemporaryDirectory() as name:
+            folder = Path(name)
+            (folder / "ring.toml").write_text(BROKEN, encoding="utf-8")
+            (folder / "again.toml").write_text(PLAN.replace('"settle"]', '"cut 2 east", "settle", "mend 2 east", "settle", "moment 99", "settle"]'), encoding="utf-8")
+            ended = call("sdhring-desk", "--to", "pages", "--teller", TELLER, "--depth", "double", ".", cwd=folder)
+            if ended.returncode or ended.stderr:
+                raise AssertionError(ended.stderr.decode())
+            cls.page, cls.again, cls.index = ((folder / "pages" / f"{name}.html").read_text(encoding="utf-8") for name in ("ring", "again", "index"))
+
+    def test_the_steps_of_the_script_are_the_first_line(self):
+        head, first = self.page.split("</h1>\n", 1)[0], self.page.split("</h1>\n", 1)[1].splitlines()[0]
+        self.assertTrue(head.endswith("ring"))
+        steps = "cut 2 east , cut 9 west , degrade 0 east 4 , degrade 5 east 2 , manual 0 west , forced 5 west"
+        said = f"The ring isn't whole. The plan's script comes first: {steps} . It leaves: {LEFT} . All that follows is beside that."
+        self.assertEqual(Seen(first).text(), said)
+        self.assertNotIn("script comes first", page())
+        self.assertIn("The plan's script comes first, and leaves nothing: cut 2 east , mend 2 east , moment 99 .", Seen(self.again).text())
+        self.assertNotIn("isn't whole", self.again)
+
+    def test_the_numbers_are_beside_what_the_script_left(self):
+        said = Seen(self.page).text()
+        self.assertIn("Nothing more fails : 1 lost: Far & wide; 0 over protection; 0 kept but impaired; 1 kept. All numbers below count them too.", said)
+        self.assertIn("Spans cut, one more : customers are lost", said)
+        self.assertIn("Two more spans cut : customers are lost", said)
+        self.assertIn("Fibres cut, each one more (8)", said)
+        self.assertIn("Spans cut, one alone : customers", Seen(page()).text())
+
+    def test_what_the_script_left_is_drawn(self):
+        drawn = lambda kind, page_: sorted((one[f"data-{kind}"], one["data-left"]) for one in Seen(page_).all("g") if f"data-{kind}" in one and "data-left" in one)
+        self.assertEqual(drawn("fibre", self.page), [("0 east", "degraded"), ("1 east", "fibre"), ("2 west", "fibre"), ("3 east", "degraded")])
+        self.assertEqual(drawn("switch", self.page), [("0 west", "forced"), ("3 west", "manual")])
+        self.assertEqual([drawn(kind, self.again) for kind in ("fibre", "switch")], [[], []])
+        self.assertIn("<title>fibre Bad &lt;Ems&gt;&gt;9, cut by the script</title>", self.page)
+        self.assertIn("<title>switch at 0 to 9, manual by the script</title>", self.page)
+        self.assertEqual(sorted(re.findall(r">([FM])<", self.page)), ["F", "M"])
+        self.assertEqual(len(re.findall('class="button span is-applied"', self.page)), 2)
+        self.assertEqual(re.findall('class="(circuit[^"]*)"', self.page), ["circuit lost", "circuit"])
+
+    def test_the_index_says_so_too(self):
+        rows = Seen(self.index).table_named("Rings")
+        self.assertEqual([row["ring"] for row in rows], ["again", "ring after cut 2 east; cut 9 west; degrade 0 east 4; degrade 5 east 2; manual 0 west; forced 5 west"])
+
+    @unittest.skipUnless(BROWSER, "there is no chromium")
+    def test_nothing_more_fails(self):
+        deeds = """
+const told = [document.getElementById("told").textContent], ring = document.getElementById("ring");
+const item = (name) => [...ring.querySelectorAll(".button")].find((one) => one.getAttribute("aria-label").startsWith(name));
+const down = () => told.push([...ring.querySelectorAll(".fibre.struck")].map((one) => one.dataset.fibre).join());
+item("node 0").dispatchEvent(new MouseEvent("click", { bubbles: true })); down();
+told.push([...ring.querySelectorAll(".given")].map((one) => one.textContent).join(""));
+"""
+        self.assertEqual(browsed(self.page, deeds), ["Nothing more fails. 1 lost: Far & wide. 0 over protection. 1 kept.", "2 east,3 west,3 east,0 west", "FM"])
+
+    @unittest.skipUnless(PRINTS, "there is no chromium, or no pdftotext")
+    def test_it_is_printed(self):
+        said = " ".join(printed(self.page).split("\f")[0].split())
+        self.assertIn("The ring isn't whole.", said)
+        self.assertIn("Nothing more fails", said)
 
 
 class Groups(unittest.TestCase):
@@ -338,6 +436,9 @@ class Refused(unittest.TestCase):
                 (1, "sdhring-desk: plan.toml: the answer isn't a table of this plan: status 1", ("--teller", "false")),
                 (1, "sdhring-desk: spans.csv: span Köln–Bad <Ems>,", ("--spans", "spans.csv", "--teller", TELLER)),
                 (2, "--nodes goes with --spans", ("--nodes", "n.csv")),
+                (2, "spans.csv is a table, and no plan: --spans spans.csv", ("spans.csv",)),
+                (2, "`2,5`: a number with a point is wanted that isn't below 0, as 2.5", ("--spans", "spans.csv", "--cuts-per-1000-km", "2,5")),
+                (2, "--cuts-per-1000-km goes with --spans", ("--cuts-per-1000-km", "2")),
                 (1, "groups.csv:2: `span 5-9` is no span, node or fibre of the plan", ("--groups", "groups.csv", "--teller", TELLER)),
                 (2, "several plans, or a folder, go with --to", ("other.toml",)),
                 (2, "several plans, or a folder, go with --to", (".",)),

@@ -97,6 +97,7 @@ ALL = (
     bench("outage/simulate.py", "run", given="PLAN"),
     bench("paths/compare", PROGRAM["sdhpath"], "0"),
     bench("plans/mutate.py", "--help"),
+    bench("hostile/fuzz", "0"),
     bench("retime/compare", "--help"),
     bench("watch/compare", PROGRAM["sdhwatch"], "0"),
     bench("whatif/compare", PROGRAM["sdhwhatif"], PROGRAM["sdhring"], "0"),

@@ -12,6 +12,7 @@ from ringtools.checks import STEP_FORMS
 from ringtools.explaining import explain, nearest
 from ringtools.holding import passes_through
 from ringtools.model import scenes, span_requests
+from ringtools.places import read_places
 from ringtools.plan import read_plan
 from ringtools.reasons import REASONS
 from ringtools.report import read_report
@@ -139,6 +140,29 @@ class Refusals(unittest.TestCase):
     def test_every_reason_says_what_to_do(self):
         self.assertEqual(list(REASONS), list(range(1, 32)))
         self.assertTrue(all(reason.advice and reason.wrong for reason in REASONS.values()))
+
+    def told(self, text):
+        """The lines about a plan with this in place of its own words."""
+        return [line for finding in explain(text.encode()).findings for line in finding.lines("p")]
+
+    def test_names_in_the_place_of_identifiers(self):
+        good = 'rate = 4\nnodes = [1, 2, 3]\nthreshold = 3\nwait = 10\nlimit = 1000\nscript = ["settle"]\n'
+        told = self.told(good.replace("[1, 2, 3]", '["Köln", "Bonn"]'))
+        self.assertIn("`nodes` is to be an array of numbers; the text `Köln` is in it", told[0])
+        self.assertEqual(told[-1], "  what to do: number the nodes, `nodes = [1, 2]`, and name them in comments of their own lines: `# node 1 is Köln`")
+        self.assertEqual(read_places(told[-1].split("lines: `")[1].rstrip("`").encode()).nodes, {1: "Köln"})
+        circuit = '[[circuit]]\nname = "Stadtwerke Köln"\nfrom = 1\nto = 2\nslot = 1\ntext_a = "a"\ntext_b = "b"\n'
+        told = self.told(good + circuit)
+        self.assertIn("bad plan 11 at 1, trace: `name` is to have 1 to 16 of a to z, 0 to 9, - and _; it is the text `Stadtwerke Köln`, and the trace too", told[0])
+        self.assertIn("write `name = \"stadtwerke-koln\"`, and the customer's own name in a comment: `# circuit stadtwerke-koln is Stadtwerke Köln`", told[-1])
+        self.assertEqual(explain((good + circuit.replace("Stadtwerke Köln", "stadtwerke-koln")).encode()).status, 0)  # one round is enough
+        for step, near, advice in (
+            ("degrade 2 east 50", "12", "the number counts violations of B2 in a frame, at most 12 at STM-4; from `threshold` on they are a degradation"),
+            ("degrade 2 east 03", "3", "write digits alone, without a sign, a leading zero or a point"),
+            ("hold 2 1000", "100", "the number counts turns of the node's controller; a settle step runs far more rounds"),
+        ):
+            told = self.told(good.replace('"settle"', f'"{step}", "settle"'))
+            self.assertEqual([line.strip() for line in told[-2:]], [f"nearest: {near}", f"what to do: {advice}"])
 
     def test_control_signs_are_not_shown(self):
         status, lines = said_of(GOOD.replace('"c1"', '"c\\u001b[31m"'))

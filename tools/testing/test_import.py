@@ -1,8 +1,11 @@
 """Plans from tables: directions and slots beside a brute search, names of places and of customers, and tables that are refused."""
 
+import csv
+import io
 import random
 import tempfile
 import tomllib
+import unicodedata
 import unittest
 from pathlib import Path
 from runpy import run_path
@@ -113,6 +116,33 @@ class Slots(unittest.TestCase):
         self.assertEqual(where[0], Laid(0, 2, 1))
 
 
+    def test_how_many_are_left_over_does_not_hang_on_the_order(self):
+        """The same circuits in other orders: as many of the same ends are left, and never more than where they are laid as they come."""
+        for seed in range(12):
+            chance = random.Random(seed)
+            size, slots = chance.choice(((4, 2), (8, 2), (12, 8), (16, 8)))
+            wanted = [Wanted(*chance.sample(range(size), 2)) for _ in range(3 * size)]
+            found = set()
+            for _ in range(3):
+                chance.shuffle(wanted)
+                where = fitted(size, slots, wanted)
+                taken = [one for one, laid in zip(wanted, where) if laid]
+                self.holds(size, slots, taken, [laid for laid in where if laid])
+                found.add(tuple(sorted((one.start, one.end) for one, laid in zip(wanted, where) if not laid)))
+                self.assertGreaterEqual(len(taken), self.laid_as_they_come(size, slots, wanted))
+            with self.subTest(seed=seed):
+                self.assertEqual(len(found), 1)
+
+    def laid_as_they_come(self, size, slots, wanted):
+        """How many fit where each in turn takes the first way and slot that are free."""
+        taken, count = set(), 0
+        for one in wanted:
+            choices = ({(span, slot) for span in spans_of(size, *arc)} for arc in arcs_of(size, one) for slot in range(1, slots + 1))
+            places = next((places for places in choices if not taken & places), set())
+            taken, count = taken | places, count + bool(places)
+        return count
+
+
 class Names(unittest.TestCase):
     def test_comments_of_the_form_are_read_and_nothing_else(self):
         plan = '# node 3 is Köln\n#node 4 is no\n# node 5  is no\nx = "# node 6 is no"\ny = """\n# node 7 is no"""  # node 8 is Bad Ems  \r\n'
@@ -145,8 +175,8 @@ class Import(unittest.TestCase):
         """What the tool writes and says, without a process of its own."""
         self.write(circuits, nodes)
         files = str(self.folder / "circuits.csv"), "--nodes", str(self.folder / "nodes.csv")
-        document, notes = PLAN["document_for"](PLAN["options"](["import", *files, *words]))
-        return document.encode(), "\n".join(notes)
+        made = PLAN["made_for"](PLAN["options"](["import", *files, *words]))
+        return made.document.encode(), "\n".join(made.notes)
 
     def refused(self, said, *words):
         with self.assertRaises((ImportProblem, MakingProblem, TableProblem)) as raised:
@@ -160,7 +190,8 @@ class Import(unittest.TestCase):
         said = "sdhring-plan: 1 circuit; the largest load of a span is 1, and no choice of directions and slots has less\nsdhring-plan: circuits.csv:2: `Nord 1` is named nord-1 in the plan\n"
         self.assertEqual((ended.returncode, ended.stdout, ended.stderr.decode()), (0, b"", said))
         self.assertIn("# node 4 is Köln\n", (self.folder / "ring.toml").read_text(encoding="utf-8"))
-        self.assertIn(b"File exists", call("sdhring-plan", *words, "--to", "ring.toml", cwd=self.folder).stderr)
+        there = b"sdhring-plan: ring.toml is there, and is left alone: name another file, or remove this one\n"
+        self.assertEqual(call("sdhring-plan", *words, "--to", "ring.toml", cwd=self.folder).stderr, there)
         self.write("from,to\n1,1\n", NODES)
         ended = call("sdhring-plan", *words, cwd=self.folder)
         self.assertEqual((ended.returncode, ended.stdout, ended.stderr), (1, b"", b"sdhring-plan: circuits.csv:2: `from` and `to` are both Bad Ems\n"))
@@ -199,6 +230,7 @@ class Import(unittest.TestCase):
 
     def test_what_doesn_t_fit_is_told_with_the_spans_that_are_full(self):
         self.refused("1 circuit of 5 can't be fitted beside the others\n  5 circuits have to cross", "from,to\n" + "Köln,Mainz\n" * 5)
+        self.refused("3 circuits of 7 can't be fitted beside the others, in the best of 16 orders that were tried\n", "from,to\n" + "Köln,Mainz\n" * 7)
         said = "circuits.csv:6: c5, Köln to Mainz: eastwards Köln–Bad Ems is full, with 2 of 2 slots taken; westwards Mainz–Aachen is full"
         self.refused(said, "from,to\n" + "Köln,Mainz\n" * 5)
         self.refused("circuits.csv:3: c2, Köln to Mainz: eastwards slot 1 is taken", "from,to,direction,slot\nKöln,Mainz,east,1\nKöln,Mainz,east,1\n")
@@ -230,8 +262,128 @@ class Import(unittest.TestCase):
         self.refused("rate 5: 4 or 16 is wanted", row, NODES, "--rate", "5")
         self.refused("bad plan 15 at 0", row, NODES, "--threshold", "13")
 
+    def test_what_spreadsheets_put_above_the_names_of_the_columns(self):
+        """A line with the separator and empty lines are skipped; of a title it is said what to do."""
+        plain, _ = self.made("from,to\nKöln,9\n")
+        for circuits in ("sep=;\r\nfrom;to\r\nKöln;9\r\n", "SEP=|\nfrom|to\nKöln|9\n", "\n\nfrom,to\nKöln,9\n", ";;\nfrom;to\nKöln;9\n"):
+            self.assertEqual(self.made(circuits)[0], plain, circuits)
+        self.refused("circuits.csv:4: `to` is `x`", "sep=;\n\nfrom;to\nKöln;x\n")
+        there = "the first line is to name the columns, and `from` is missing; there are Circuits of 2026; line 3 has them: take away what stands above it"
+        self.refused(there, "Circuits of 2026;;\n;;\nFrom;To;slot\nKöln;9;\n")
+        self.refused("or `node`, or both; line 2 has them: take away what stands above it", "from,to\n", "Our nodes\nplace\nKöln\nBonn\n")
+
+    def test_a_letter_and_its_accent_are_the_letter_with_it(self):
+        apart = unicodedata.normalize("NFD", "Köln")
+        self.assertNotEqual(apart, "Köln")
+        for circuits, nodes in ((f"from,to\n{apart},9\n", NODES), ("from,to\nKöln,9\n", NODES.replace("Köln", apart))):
+            self.assertEqual(read_places(self.made(circuits, nodes)[0]).nodes[4], "Köln")
+        self.assertEqual(read_places(f"# node 4 is {apart}\n".encode()).nodes, {4: "Köln"})
+
     def test_lines_within_quotes_are_counted(self):
         self.refused("circuits.csv:4: `to` is `x`", 'name,from,to\n"a\nb",4,9\nc,4,x\n')
+
+
+class Growth(unittest.TestCase):
+    """A table that grows: what holds the circuits that are in service, and what is said where they move."""
+
+    NODES = "place\n" + "".join(f"{place}\n" for place in ("Köln", "Bonn", "Mainz", "Trier", "Aachen"))
+    FIRST = "name,from,to\nalt,Köln,Bonn\n"
+
+    def setUp(self):
+        self.folder = Path(self.enterContext(tempfile.TemporaryDirectory()))
+        (self.folder / "nodes.csv").write_text(self.NODES, encoding="utf-8")
+
+    def plan(self, circuits, to, *words, status=0, folder=None):
+        """What is said, and the circuits of the plan by name: where they start and end, and their slot."""
+        (self.folder / "circuits.csv").write_text(circuits, encoding="utf-8")
+        ended = call("sdhring-plan", "import", "circuits.csv", "--nodes", "nodes.csv", "--to", to, *words, cwd=self.folder)
+        self.assertEqual(ended.returncode, status, ended.stderr.decode())
+        return ended.stderr.decode(), self.circuits(to) if not status else {}
+
+    def circuits(self, name):
+        plan = read_plan((self.folder / name).read_bytes())
+        return {one.name: (plan.ids[one.start], plan.ids[one.end], one.slot) for one in plan.circuits}
+
+    def test_a_circuit_in_service_moves_and_it_is_said(self):
+        _, before = self.plan(self.FIRST, "a.toml")
+        self.assertEqual(before["alt"], (1, 2, 1))
+        self.plan("name,from,to\nalt,Trier,Aachen\nneu,Mainz,Trier\n", "other.toml")  # of another ring, which has circuits of these names
+        grown = self.FIRST + "neu,Köln,Bonn\n"
+        said, after = self.plan(grown, "b.toml")
+        self.assertNotEqual(after["alt"], before["alt"])
+        self.assertRegex(said, r"sdhring-plan: circuits of a\.toml that move: 1 of 1 \(1 other way.*\); --keep a\.toml holds them\n")
+        said, _ = self.plan(grown, "a.toml", status=1)
+        self.assertRegex(said, r"a\.toml is there, and is left alone; circuits of a\.toml that move: 1 of 1 \(.*\); --keep a\.toml holds them: name another file")
+
+    def test_circuits_in_service_are_held(self):
+        _, before = self.plan(self.FIRST, "a.toml")
+        said, after = self.plan("name,from,to\nneu,Köln,Bonn\nalt,Bonn,Köln\nHalle <1>,Trier,Bonn\n", "b.toml", "--keep", "a.toml")
+        self.assertEqual(after["alt"], before["alt"])
+        self.assertIn("sdhring-plan: held in direction and slot as in a.toml: 1 circuit; new: 2\n", said)
+        self.assertNotIn("that move", said)
+        (self.folder / "nodes.csv").write_text(self.NODES.replace("Bonn", "Brühl\nBonn").replace("place", "place,node").replace("Bonn\n", "Bonn,9\n"), encoding="utf-8")
+        said, again = self.plan("name,from,to\nHalle <1>,Bonn,Trier\nalt,Köln,Bonn\nx,Köln,Brühl\n", "c.toml", "--keep", "b.toml")
+        plan = read_plan((self.folder / "c.toml").read_bytes())
+        self.assertEqual([again["alt"], again["halle-1"][2]], [(1, 9, 1), after["halle-1"][2]])
+        self.assertEqual([plan.places.place(node) for node in again["halle-1"][:2]], [{2: "Bonn", 4: "Trier"}[node] for node in after["halle-1"][:2]])
+        self.assertIn("1 circuit of b.toml that the table doesn't have: neu\n", said)
+
+    def test_many_circuits_are_held_in_a_full_ring(self):
+        """Whatever is added: no circuit in service moves, also where new ones could have been laid better."""
+        for seed in range(5):
+            chance = random.Random(seed)
+            places = ["Köln", "Bonn", "Mainz", "Trier", "Aachen"]
+            rows = [f"L{number},{','.join(chance.sample(places, 2))}\n" for number in range(14)]
+            _, before = self.plan("name,from,to\n" + "".join(rows[:10]), f"{seed}.toml", "--rate", "16")
+            grown = rows[:]
+            chance.shuffle(grown)
+            said, after = self.plan("name,from,to\n" + "".join(grown), f"{seed}-more.toml", "--rate", "16", "--keep", f"{seed}.toml")
+            held = {name: after[name] for name in before}
+            self.assertEqual(held, before)
+            self.assertIn(f"held in direction and slot as in {seed}.toml: 10 circuits; new: 4", said)
+
+    def test_what_can_not_be_held_is_refused_by_name(self):
+        self.plan(self.FIRST, "a.toml")
+        for said, circuits in (
+            ("circuits.csv:2: alt can't be held: in a.toml it leads from Köln to Bonn, and here its ends are others", "name,from,to\nalt,Köln,Mainz\n"),
+            ("circuits.csv:2: alt can't be held: `slot` is 2, and in a.toml it is 1", "name,from,to,slot\nalt,Köln,Bonn,2\n"),
+            ("circuits.csv:2: alt can't be held: `direction` is west, and in a.toml it is east", "name,from,to,direction\nalt,Köln,Bonn,west\n"),
+            ("circuits.csv:3: x, Köln to Bonn: eastwards slot 1 is taken on some of its spans", "name,from,to,direction,slot\nalt,Köln,Bonn,,\nx,Köln,Bonn,east,1\n"),
+        ):
+            self.assertIn(said, self.plan(circuits, "b.toml", "--keep", "a.toml", status=1)[0])
+        self.assertIn("none.toml: No such file", self.plan(self.FIRST, "b.toml", "--keep", "none.toml", status=1)[0])
+        places = self.NODES.splitlines()
+        (self.folder / "nodes.csv").write_text("\n".join([places[0], *reversed(places[1:])]), encoding="utf-8")
+        self.assertIn("a.toml: its nodes stand in another order eastwards", self.plan(self.FIRST, "b.toml", "--keep", "a.toml", status=1)[0])
+
+    def test_the_choices_are_written_back_to_a_table(self):
+        """With all columns and cells of the first one, so that the table alone gives the same plan again."""
+        first = "Kunde;To;from;name;Slot\n<b>;Bonn;Köln;Alt 1;\n;Mainz;Bonn;;2\n"
+        _, made = self.plan(first, "a.toml", "--table", "chosen.csv")
+        rows = list(csv.DictReader(io.StringIO((self.folder / "chosen.csv").read_text(encoding="utf-8")), delimiter=";"))
+        self.assertEqual([list(row) for row in rows], [["Kunde", "To", "from", "name", "Slot", "direction"]] * 2)
+        self.assertEqual([(row["Kunde"], row["name"], row["To"]) for row in rows], [("<b>", "Alt 1", "Bonn"), ("", "c2", "Mainz")])
+        self.assertEqual(rows[1]["Slot"], "2")
+        _, again = self.plan((self.folder / "chosen.csv").read_text(encoding="utf-8") + ";Mainz;Köln;neu;;\n", "b.toml")
+        self.assertEqual({name: again[name] for name in made}, made)
+        said, _ = self.plan(first, "c.toml", "--table", "chosen.csv", status=1)
+        self.assertIn("chosen.csv is there, and is left alone", said)
+        self.assertFalse((self.folder / "c.toml").exists())
+
+    def test_several_tables_have_a_plan_each_in_the_folder_of_keep(self):
+        rings = self.folder / "rings"
+        rings.mkdir()
+        for name in ("north", "south"):
+            (rings / f"{name}.nodes.csv").write_text(self.NODES, encoding="utf-8")
+            (rings / f"{name}.circuits.csv").write_text(self.FIRST, encoding="utf-8")
+        run = lambda *words: call("sdhring-plan", "import", "rings", *words, cwd=self.folder)
+        self.assertEqual(run("--to", "old").returncode, 0)
+        (self.folder / "old" / "south.toml").unlink()
+        (rings / "north.circuits.csv").write_text("name,from,to\nneu,Köln,Bonn\nalt,Köln,Bonn\n", encoding="utf-8")
+        ended = run("--to", "new", "--keep", "old")
+        self.assertEqual((ended.returncode, self.circuits("new/north.toml")["alt"]), (1, self.circuits("old/north.toml")["alt"]))
+        self.assertIn("rings/south.circuits.csv: old/south.toml: No such file", ended.stderr.decode())
+        self.assertIn(b"--table goes with one table", run("--to", "new", "--table", "x.csv").stderr)
 
 
 if __name__ == "__main__":

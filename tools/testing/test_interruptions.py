@@ -2,6 +2,7 @@
 
 import re
 import shlex
+import shutil
 import subprocess
 import sys
 import unittest
@@ -17,13 +18,13 @@ BEGIN, END = "interrupted as they begin", "interrupted as they end"
 
 
 def simulated(plan):
-    """What the simulation says of each stage of this plan's script: by stage, circuit and port the frames, milliseconds, jumps and whether it is out to the end."""
+    """What the simulation says of each stage of this plan's script: by stage, circuit and port the frames, milliseconds, jumps, first round and whether it is out to the end."""
     text = subprocess.run([*shlex.split(SIMULATE), "run"], input=plan, capture_output=True, check=True).stdout.decode()
     found = {}
     for stage, part in zip(STAGES, text.split("settle ")[-len(STAGES) :]):
         last = part.split()[2]
-        for name, end, frames, _, to, jumps in PORT.findall(part):
-            found[stage, name, end] = int(frames), f"{int(frames) / 8:.3f}", int(jumps), to == last and frames != "0"
+        for name, end, frames, begin, to, jumps in PORT.findall(part):
+            found[stage, name, end] = int(frames), f"{int(frames) / 8:.3f}", int(jumps), begin, to == last and frames != "0"
     return found
 
 
@@ -37,8 +38,9 @@ class Interruptions(Asking):
         rows = self.table("outages.csv")
         self.assertEqual(len(rows), 3 * 2 * len(CIRCUITS))
         for row in rows:
-            told = int(row["Frames"]), row["Milliseconds"], int(row["Jumps"]), row["Still out"] == "yes"
-            self.assertEqual(told, wanted[row["Stage"], row["Circuit"], row["Port"]])
+            frames, milliseconds, jumps, _, is_lost = wanted[row["Stage"], row["Circuit"], row["Port"]]
+            counted = ("", "") if is_lost else (str(frames), milliseconds)
+            self.assertEqual((row["Frames"], row["Milliseconds"], row["Jumps"], row["Still out"]), (*counted, str(jumps), "yes" if is_lost else "no"))
         ends = {name: (str(start), str(end)) for name, start, end, _ in CIRCUITS}
         self.assertEqual({row["Node"] for row in rows if (row["Circuit"], row["Port"]) == ("far", "b")}, {ends["far"][1]})
         return wanted
@@ -64,11 +66,17 @@ class Interruptions(Asking):
         self.order("node 2")
         wanted, rows = self.check_table(), self.touched()
         for name in ("near", "far"):
-            self.assertEqual(rows[name][BEGIN], "from then on")
+            self.assertEqual(rows[name][BEGIN], "lost from then on")
             frames, ms, *_ = max(wanted["after", name, end] for end in "ab")
             self.assertTrue(rows[name][END].startswith(f"{frames} frame"), rows[name][END])
             self.assertIn(f"{ms} ms", rows[name][END])
-        self.assertIn("2 customers from then on", self.words())
+        self.assertIn("2 customers lost from then on", self.words())
+        drawn = Seen((self.cases() / "works.html").read_text())
+        during = {row["circuit"]: row for row in drawn.table_named("Circuits", 1)}
+        for name in ("near", "far"):
+            shown = [during[name][f"out at port {end}"] for end in "ab"]
+            self.assertEqual(shown, [f"lost from round {wanted['during', name, end][3]} on" for end in "ab"])
+        self.assertNotIn("16.000 ms", drawn.text())
 
     def test_what_was_lost_before_is_not_interrupted(self):
         self.order("manual 9 east", "--also", "cut 5 east; cut 2 east")
@@ -80,7 +88,7 @@ class Interruptions(Asking):
         self.plan.write_text(self.plan.read_text().replace('["settle"]', '["settle", "cut 4 west", "settle", "moment 3", "settle"]'))
         self.order("span 5-2")
         wanted, rows = self.check_table(), self.touched()
-        self.assertEqual(rows["near"][BEGIN], "from then on")
+        self.assertEqual(rows["near"][BEGIN], "lost from then on")
         self.assertTrue(wanted["during", "near", "a"][-1])
         self.assertEqual(len(list(Seen((self.cases() / "works.html").read_text()).tables_of("Customers after"))[0][0]), 1 + len(STAGES))
 
@@ -130,6 +138,60 @@ class Interruptions(Asking):
         self.assertEqual([path.name for path in (self.top / "out").glob("outages*")], [])
         self.order("span 2-9", "--shard", "1/2")
         self.assertTrue((self.top / "out" / "outages-1-of-2.csv").exists())
+
+
+class Opening(Asking):
+    """Whether the spans that works free can be opened, against the plain simulation of the same steps."""
+
+    LOST = re.compile(r"(\d+) customers? of 4 for at most (\d+) frames?, (\d+\.\d{3}) ms")
+
+    def order(self, works):
+        ended = self.ask("--works", works, "--kinds", "span")
+        return ended.stderr.decode().replace("\u2060", "")
+
+    def wanted(self, steps, fibres, called):
+        """What the simulation says of cutting these fibres under the steps, and of mending them: the most frames of a circuit that comes back."""
+        script = ["settle", *steps, "settle", *(f"cut {one}" for one in fibres), "settle", *(f"mend {one}" for one in fibres), "settle"]
+        plan = self.plan.read_text().replace('["settle"]', str(script).replace("'", '"'))
+        found = simulated(plan.encode())
+        for stage in ("after", "waited"):
+            out = {name: max(found[stage, name, end][0] for end in "ab" if not found[stage, name, end][-1]) for name, *_ in CIRCUITS}
+            hit = [frames for frames in out.values() if frames]
+            yield f"{len(hit)} customer{'s' * (len(hit) > 1)} of 4 for at most {max(hit)} frames, {max(hit) / 8:.3f} ms" if hit else None
+
+    def test_a_switch_on_one_side(self):
+        said = self.order("forced 2 east")
+        opened, closed = self.wanted(["forced 2 east"], ["2 east", "9 west"], "2–9")
+        self.assertTrue(opened and closed)
+        words = (
+            f"2–9 can't be opened under this order without interruptions. Interrupted as the fibres are cut: {opened}; interrupted as they are joined again: {closed}. "
+            "2–9 has no forced switch on both its sides; the order `span 2-9` has."
+        )
+        shown = words.replace("interruptions.", "interruptions .").replace("`span 2-9`", " span 2-9 ")
+        self.assertIn(" ".join(shown.split()), self.words())
+        self.assertIn(f"sdhring-whatif: {words}\n", said)
+
+    def test_switches_on_both_sides(self):
+        for works, steps, fibres, called in (
+            ("span 2-9", ["forced 2 east", "forced 9 west"], ["2 east", "9 west"], "2–9"),
+            ("node 2", ["forced 5 east", "forced 9 west"], ["5 east", "2 west", "2 east", "9 west"], "5–2, 2–9"),
+        ):
+            with self.subTest(works=works):
+                shutil.rmtree(self.top / "out", ignore_errors=True)
+                said = self.order(works)
+                if called == "2–9":
+                    self.assertEqual(list(self.wanted(steps, fibres, called)), [None, None])
+                words = f"{called} can be opened under this order: no customer is interrupted as the fibres are cut, and none as they are joined again."
+                self.assertIn(words, self.words())
+                self.assertIn(words, said)
+
+    def test_an_order_without_a_switch_frees_nothing(self):
+        self.assertNotIn("opened", self.order("degrade 2 east 4"))
+        self.assertNotIn("opened", self.words())
+
+    def test_what_was_not_counted_is_told(self):
+        self.ask("--works", "span 2-9", "--kinds", "span", "--counter", self.script("counter", "done", 0), wanted=4)
+        self.assertIn("Whether 2–9 can be opened under this order isn't known: ", self.words())
 
 
 class Title(Asking):

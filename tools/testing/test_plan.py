@@ -186,12 +186,19 @@ class New(unittest.TestCase):
         self.refused("has at most 16", "a-name-of-17-char=1>2")
         self.refused("bad plan 6 at 1", "1>1")
 
+    def test_the_rate_by_its_name(self):
+        self.assertEqual(read_plan(self.made("--rate", "STM-16", "1>3")).rate, 16)
+        self.assertEqual(read_plan(self.made("--rate", "stm4", "1>3")).rate, 4)
+        for said, *words in (("--rate: `fast`: 4 or 16 is wanted, for STM-4 or STM-16", "--rate", "fast"), ("--wait: `2,5`: a whole number is wanted, in digits alone", "--wait", "2,5")):
+            ended = call("sdhring-plan", "new", *words)
+            self.assertEqual((ended.returncode, ended.stderr.decode().splitlines()[-1]), (2, f"sdhring-plan new: argument {said}; sdhring-plan new --help shows the words"))
+
     def test_a_file_is_never_written_over(self):
         with tempfile.TemporaryDirectory() as folder:
             file = Path(folder) / "ring.toml"
             self.assertEqual(self.made("--to", file, "1>2"), b"")
             self.assertIn(f"sdhring run < {file}", file.read_text())
-            self.refused("File exists", "--to", file, "1>3")
+            self.refused(f"{file} is there, and is left alone: name another file, or remove this one", "--to", file, "1>3")
             self.assertIn("from = 1\nto = 2", file.read_text())
 
 

@@ -2,6 +2,9 @@
 
 import csv
 import io
+import re
+import shlex
+import subprocess
 import sys
 import unittest
 
@@ -51,6 +54,27 @@ class Required(Asking):
             self.verdicts("single span,fibre: none lost", "single node: none lost", "single node: none lost besides ends", f"single node: at most {max(at)} lost"),
             [("holds", "12", "0", "", "", ""), ("broken", "4", str(sum(map(bool, at))), f"node {IDS[worst]}", str(max(at)), names), ("holds", "4", "0", "", "", ""), ("holds", "4", "0", "", "", "")],
         )
+
+    def test_many_rings_are_one_table_in_their_order(self):
+        """However many are asked about at a time; and so by each command of the pages that has rules."""
+        rings = self.top / "rings"
+        rings.mkdir()
+        for number in range(5):
+            (rings / f"ring{number}.toml").write_text(document() if number % 2 else document(CIRCUITS[:2]))
+        (rings / "ring9.toml").write_text("rate = 5\n")
+        whatif = lambda *words: call("sdhring-whatif", "--teller", TELLER, *words, cwd=self.top)
+        one, two = (whatif("--require", "single span: none lost", "--jobs", jobs, "rings") for jobs in ("1", "2"))
+        self.assertEqual((one.stdout, one.returncode), (two.stdout, 1))
+        rows = list(csv.DictReader(io.StringIO(one.stdout.decode())))
+        self.assertEqual([row["plan"] for row in rows], [f"rings/ring{number}.toml" for number in (0, 1, 2, 3, 4, 9)])
+        self.assertEqual([row["verdict"] for row in rows], ["holds"] * 5 + ["not asked"])
+        pages = [(TOOLS.parent / "docs" / name).read_text() for name in ("LOOKING.md", "sdhring-whatif.1")]
+        shown = [line.strip() for page in pages for line in page.splitlines() if re.match(r"(    |\\&)\S*.*sdhring-whatif .*--require", line)]
+        self.assertEqual(len(shown), 3)
+        for line in shown:
+            command = line.removeprefix("\\&").replace("./sdhring-whatif", shlex.join([sys.executable, str(TOOLS / "sdhring-whatif"), "--teller", TELLER])).replace(" > rules.csv", "")
+            text = subprocess.run(["bash", "-c", command], cwd=self.top, capture_output=True, text=True).stdout
+            self.assertEqual((text.count("plan,rule,"), len(text.splitlines())), (1, 1 + 6 * line.count("--require")), line)
 
     def test_circuits_by_name(self):
         self.plan.write_text("# circuit near is North line\n" + document())

@@ -230,7 +230,7 @@ class Outages(unittest.TestCase):
 
     def test_a_port_that_stays_out(self):
         rows = self.page(OUTAGES / "node-cut-off.text", ring("node-cut-off")).table_named("Circuits")
-        self.assertEqual({row[f"out at port {end}"] for row in rows for end in "ab"}, {"129 frames, 16.125 ms, still out"})
+        self.assertEqual({row[f"out at port {end}"] for row in rows for end in "ab"}, {"lost from round 0 on"})
 
     def test_every_outage_of_a_text_is_told(self):
         for name in ("two-nodes", "slip-up", "no-circuits"):

@@ -30,6 +30,7 @@ class Whatif(Asking):
                 self.assertEqual({name: row[name] for name in cells}, cells)
                 self.assertEqual(int(row["Lost"]), sum(cell == "lost" for cell in cells.values()))
                 self.assertEqual(int(row["Over"]), sum(cell.startswith("over") for cell in cells.values()))
+                self.assertEqual([int(row[count]) for count in ("Kept", "Impaired")], [sum(cell == kind for cell in cells.values()) for kind in ("kept", "impaired")])
                 self.assertEqual((row["Status"], row["Model"], int(row["Round"])), ("Ok", "agrees", last))
 
     def rules_of(self, cut, also):
@@ -65,7 +66,7 @@ class Whatif(Asking):
             pairs = [r for r in failed if r["Kind"] == "pair" and r[row["customer"]] == "lost"]
             self.assertTrue(row["lost with pairs of spans"].startswith(f"{len(pairs)} of 6"), row)
             self.assertEqual((row["in short"], row["lost with fibres and spans"]), ("survives each fibre and span", "none of 12"))
-        signs = {"kept": "·", "lost": "✕", "over+0": "="}
+        signs = {"kept": "·", "impaired": "i", "lost": "✕", "over+0": "="}
         for row in page.table_with("failure", "near"):
             cells = next(r for r in failed if r["Failure"] == row["failure"].replace("\u2060", ""))
             self.assertEqual([row[name] for name, *_ in CIRCUITS], [signs.get(cells[name], cells[name].removeprefix("over")) for name, *_ in CIRCUITS])

@@ -58,10 +58,9 @@ class All(Asking):
         rules = Rules(tomllib.loads(document()) | {"script": [*script, *cuts, *more, "settle"]}, [128 * (k + 1) for k in range(script.count("settle") + 1)])
         last = rules.rounds[-1]
         cells, applied = expected(rules, last), rules.applied(last)
-        troubled = {span for span, request in enumerate(rules.requests(last)) if request >= 6}
-        impaired = [circuit["name"] for circuit in rules.circuits if cells[circuit["name"]] == "kept" and troubled & set(rules.arc(circuit))]
+        impaired = [name for name, cell in cells.items() if cell == "impaired"]
         for row in rows:
-            kinds = [cell[:4] for cell in cells.values()]
+            kinds = ["kept" if cell == "impaired" else cell[:4] for cell in cells.values()]
             self.assertEqual(self.counts(row), [kinds.count(kind) for kind in ("kept", "over", "lost")], row["Failures"])
             self.assertEqual(row["Applied"].split(), [f"{IDS[span]}-{IDS[(span + 1) % 4]}" for span in sorted(applied)])
             self.assertEqual(row["Impaired circuits"].split(), impaired, row["Failures"])
@@ -363,8 +362,9 @@ class Beside(Asking):
 
     def test_a_plan_and_the_same_during_works(self):
         """Beside itself without the works nobody gains, and the table of an earlier run says the same as the plan."""
-        self.ask("--all", "--teller", TELLER, "--frames", "0", "--dir", self.top / "out")
-        (self.top / "out" / "all.csv").rename(self.top / "out" / "before.csv")
+        self.ask("--all", "--teller", TELLER, "--frames", "0", "--dir", self.top / "before")
+        (self.top / "out").mkdir()
+        (self.top / "before" / "all.csv").rename(self.top / "out" / "before.csv")
         by_plan, words = self.rows("--works", "span 5-2", "--against", self.plan)
         by_table, _ = self.rows("--works", "span 5-2", "--against", self.top / "out" / "before.csv")
         self.assertEqual(by_plan, by_table)
@@ -391,11 +391,20 @@ class Beside(Asking):
         self.assertEqual(rows, [])  # `near` leads as before, and each circuit by itself
         self.assertIn("Only here: far, round, back.", words)
         self.assertIn("Only there: new.", words)
+        self.assertIn("Each customer leads the same way round as there, in the same slot.", words)
         other.write_text(document([("near", 2, 5, 1)]))
         rows, words = self.rows("--against", other)
         gains, loses = ({row["Failures"] for row in rows if row["Change"] == change} for change in ("gains", "loses"))
         self.assertEqual((gains, loses), (set(), set()))  # the same two arcs, the other way round
         self.assertIn("span 5-2", {row["Failures"] for row in rows if (row["Other"], row["This"]) == ("kept", "over")})
+        self.assertIn("Other way : 1 customer leads the other way round than there: near.", words)
+        self.assertIn("Over protection in some case here or there, and on their own arc in the other: near.", words)
+        shown = self.page("all.html").table_named("cases in which")
+        self.assertEqual({row["customer"]: int(row["each failure alone: other way"]) for row in shown}, {"near": sum(row["Depth"] == "1" for row in rows)})
+        other.write_text(document([("near", 5, 2, 2), ("far", 2, 4, 1)]))
+        self.assertIn("Other slot : 1 customer lies in another slot than there: near.", self.rows("--against", other)[1])
+        (self.top / "out" / "all.csv").rename(self.top / "last.csv")
+        self.assertIn("Whether customers lead the other way round, or lie in another slot, isn't in a table.", self.rows("--against", self.top / "last.csv")[1])
 
 
 class Many(Asking):

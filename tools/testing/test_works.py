@@ -5,6 +5,8 @@ import unittest
 from collections import Counter
 
 from cases import CIRCUITS, Asking, document, expected, failures, script_of
+from common import STANDIN, call
+from pages import Seen
 from rules import Rules
 
 from ringtools.failures import read_beforehand, works_part
@@ -107,6 +109,22 @@ class Works(Asking):
         gives_way = [name for name, cut in failures().items() if not name.startswith("pair") and 1 not in rules_of(script_of(cut, ["manual 2 east"])).applied(256)]
         self.assertIn(f"The switch gives way under {len(gives_way)} of them: traffic comes back to 2–9, while people work there.", self.words())
 
+    def test_customers_on_a_degraded_fibre_are_touched(self):
+        """By a degradation that isn't applied, since a cut span is: they are kept, and impaired."""
+        also, works = ["cut 2 east", "cut 9 west"], ["degrade 5 east 4"]
+        self.ask("--also", "; ".join(also), "--works", "; ".join(works), "--kinds", "span")
+        stages = self.check_stages([*also, "settle", *works, "settle", "mend 5 east", "settle", "moment 10", "settle"])
+        impaired = [name for name in NAMES if stages[1][name] == "impaired"]
+        self.assertEqual(impaired, ["near"])
+        shown = {row["customer"]: row["during"] for row in self.page().table_named("Customers that the works touch")}
+        self.assertEqual(shown["near"], "kept, but impaired")
+        self.assertIn("During : 2 over protection, 1 on their own arc, but impaired, 1 on their own arc.", self.words())
+        self.assertNotRegex(self.words(), r"Not touched by the works \(\d+\): [^.]*near")
+        drawn = Seen((self.top / "out" / "cases" / "works.html").read_text()).text()
+        self.assertIn("Kept on their own arc, but impaired: a span of it is degraded or asked for (1): near", drawn)
+        self.assertIn("2 over protection, 1 impaired, 1 kept", drawn)
+        self.assertIn("circuit near: 1 span, impaired (was: 1 span)", drawn)
+
     def test_works_on_a_node(self):
         """Its own customers are lost meanwhile, and second failures aren't blamed for them."""
         self.ask("--works", "node 2", "--kinds", "span,pair")
@@ -114,6 +132,24 @@ class Works(Asking):
         stages = self.check_stages(["settle", *steps, "settle", "clear 9 west", "clear 5 east", "settle", "moment 10", "settle"])
         self.assertEqual([name for name in NAMES if stages[1][name] == "lost"], ["near", "far"])
         self.check_second(steps, ("span",), "a span")
+
+    def test_a_second_order_leaves_the_first_alone(self):
+        """In a folder of its own where none is named; in a folder with answers to another question it is refused."""
+        whatif = lambda *words: call("sdhring-whatif", "plan.toml", "--kinds", "span", "--program", STANDIN, *words, cwd=self.top)
+        orders = ((), ("--works", "span 2-9"), ("--works", "span 4-5"), ("--works", "span 4-5", "--also", "cut 2 east"), ("--without-script",))
+        folders = ["", ".span-2-9", ".span-4-5", ".span-4-5.after-cut-2-east", ".without-script"]
+        for words, folder in zip(orders, folders):
+            ended = whatif(*words)
+            self.assertEqual(ended.stdout.decode().splitlines()[1], f"plan{folder}.whatif/page.html", ended.stderr.decode())
+        first = (self.top / "plan.span-2-9.whatif" / "page.html").read_bytes()
+        ended = whatif("--works", "span 4-5", "--dir", "plan.span-2-9.whatif")
+        said = "sdhring-whatif: plan.span-2-9.whatif has the answers to another question, --works 'forced 2 east; forced 9 west', and they would be written over: "
+        self.assertEqual((ended.returncode, ended.stderr.decode()), (1, said + "--dir names another folder, or remove this one\n"))
+        self.assertEqual((self.top / "plan.span-2-9.whatif" / "page.html").read_bytes(), first)
+        for words in (("--all", "--frames", "0"), ("--outages",)):
+            words = [word for word in ("plan.toml", *words, "--dir", "plan.span-2-9.whatif")]
+            self.assertEqual(call("sdhring-whatif", *words, cwd=self.top).returncode, 1)
+        self.assertEqual(whatif("--works", "span 9-2", "--dir", "plan.span-2-9.whatif").returncode, 0)  # the same order in other words
 
     def test_unknown_orders(self):
         self.assertIn(b"no span joins node 5 and node 9; the spans are 5-2, 2-9, 9-4, 4-5", self.ask("--works", "span 5-9", wanted=1).stderr)

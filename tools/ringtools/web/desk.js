@@ -7,7 +7,7 @@
   const count = data.failures.length, most = 3, ring = by("ring");
   let triples = null, unpacking = data.triples !== null;
   const words = { k: "kept", i: "impaired", o: "over", l: "lost" };
-  let chosen = [], whose = "";
+  let chosen = [], whose = "", gone = "";
 
   // The place of a case in the list: nothing, each alone, each two; and of three in a list of its own.
   const placeOf = ([one, other]) => {
@@ -47,7 +47,7 @@
   const namesOf = (results, letter) => data.circuits.filter((_, i) => results[i] === letter).map((circuit) => circuit[0]);
 
   const sentence = (found) => {
-    const what = chosen.map((number) => data.failures[number][0]).join(" and ") || "Nothing fails";
+    const what = chosen.map((number) => data.failures[number][0]).join(" and ") || (data.left ? "Nothing more fails" : "Nothing fails");
     if (!found) return `${what}: ${missing()}`;
     const [impaired, over, lost] = ["i", "o", "l"].map((letter) => namesOf(found[1], letter));
     const kept = data.circuits.length - impaired.length - over.length - lost.length;
@@ -77,13 +77,16 @@
     return `M${point(working, from)} ${out} L${point(protection, first)} ${back} L${point(working, last)} ${on}`;
   };
 
+  // A failure of the case marks its own part of the drawing; a cut by a lost node, span or group marks the fibre too.
   const showRing = (found) => {
+    const cut = chosen.flatMap((number) => data.failures[number][4]);
     for (const item of all(".button", ring)) {
       const number = chosen.find((one) => isOf(item, one)), kind = number === undefined ? "" : data.failures[number][1];
       item.classList.toggle("failing", kind !== "");
       item.dataset.kind = kind;
       item.setAttribute("aria-pressed", String(kind !== ""));
-      if (item.dataset.switch) item.querySelector("text").textContent = { forced: "F", manual: "M" }[kind] ?? "";
+      item.classList.toggle("struck", cut.includes(item.dataset.fibre));
+      if (item.dataset.switch) item.querySelector("text").textContent = { forced: "F", manual: "M" }[kind || item.dataset.left] ?? "";
     }
     all(".span", ring).forEach((item) => item.classList.toggle("is-applied", !!found && found[0].includes(data.failures[+item.dataset.failure][2])));
     all(".circuit", ring).forEach((item, i) => {
@@ -114,7 +117,8 @@
 
   const show = () => {
     const found = outcome();
-    by("told").textContent = sentence(found);
+    by("told").textContent = gone + sentence(found);
+    gone = "";
     by("failed").replaceChildren(...chosen.map((number) => {
       const button = document.createElement("button");
       button.type = "button";
@@ -130,7 +134,10 @@
 
   const toggle = (number) => {
     if (chosen.includes(number)) chosen = chosen.filter((one) => one !== number);
-    else chosen = [...chosen, number].slice(-most);
+    else {
+      if (chosen.length === most) gone = `${data.failures[chosen[0]][0]} is taken away, since at most three failures are shown together. `;
+      chosen = [...chosen, number].slice(-most);
+    }
     show();
   };
 
