@@ -4,13 +4,12 @@ import signal
 from concurrent.futures import ProcessPoolExecutor
 from dataclasses import dataclass
 from functools import partial
-from html import escape
 
 from .answers import Answers
 from .casetables import CaseTables
 from .failures import WORKS_STAGES
 from .look import looks
-from .markup import count_of, listing, origin_list, warning, whole
+from .markup import count_of, escape, listing, origin_list, warning, whole
 from .model import scenes
 from .origin import Origin
 from .page import in_short, run_page, source, tools

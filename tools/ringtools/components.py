@@ -3,7 +3,7 @@
 from dataclasses import dataclass
 
 from .failures import cut_by, span_fibres, span_named
-from .tables import TableProblem, quoted, read_table
+from .tables import LARGEST, TableProblem, quoted, read_table
 
 SPANS, NODES, GROUPS = 64, 64, 64  # rows; a ring has 16 spans and 16 nodes, and whoever has more is told which row is wrong
 HOURS = 8760.0  # of a year of 365 days
@@ -114,6 +114,8 @@ def cuts_of(row, per_1000_km):
         return cuts
     if km is None or rate is None:
         raise row.problem("`cuts` a year are wanted, or `km` and the cuts a year of 1,000 km: `cuts_per_1000_km`, or --cuts-per-1000-km")
+    if not km * rate / 1000 < LARGEST:
+        raise row.problem(f"that many cuts a year aren't computed with: {LARGEST:,} are the most")
     return km * rate / 1000
 
 

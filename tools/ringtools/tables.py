@@ -13,6 +13,7 @@ from .shown import shown
 
 SIGNS = ",;\t"
 ROWS, COLUMNS, CELL, LINE = 4096, 256, 4096, 16_384  # the most of a table: rows, columns, characters of a cell, bytes of the first line
+LARGEST = 10**9  # numbers are below it: rates, hours, lengths
 QUOTED = 80  # characters of a cell that a message shows
 
 
@@ -53,7 +54,9 @@ class Row:
             value = float(text.replace(self.decimal, "."))
         except ValueError:
             value = float("nan")
-        if not low <= value < float("inf"):
+        if value >= LARGEST:
+            raise self.problem(f"`{column}` is `{quoted(text)}`, and a number below {LARGEST:,} is wanted")
+        if not low <= value:
             raise self.problem(f"`{column}` is `{quoted(text)}`, and {wanted} is wanted that isn't below {low}")
         return value
 
