@@ -1,5 +1,5 @@
 #!/usr/bin/env python3
-"""What `sdhaps` must write of a plan, by the plain simulation of the shared ring (../outage/simulate.py). It shares nothing with the
+"""What `sdhaps` must write of a plan, by the plain simulation of the shared ring (../outage/simulate.py). It shares no rule with the
 crates or the tools.
 
   bench/aps/signalled.py run < PLAN                            what `sdhaps run` must write
@@ -7,9 +7,14 @@ crates or the tools.
   bench/aps/signalled.py frames ID SIDE FIRST COUNT < PLAN     the frames of these words, as far as the run has them (frames.py)
 
 The plan has to be a good one. Ends with the status."""
+
 import sys
-import tomllib
 from pathlib import Path
+
+sys.path.insert(0, str(Path(__file__).resolve().parents[2] / "tools"))
+from ringtools.benching import good_plan, refuse
+from ringtools.starting import start
+
 
 sys.path.insert(0, str(Path(__file__).resolve().parents[1] / "outage"))
 
@@ -83,20 +88,19 @@ def sent(plan, node, side, first, count):
 
 
 def main(words):
-    plan = tomllib.load(sys.stdin.buffer)
-    if len(words) == 5 and words[0] == "frames":
+    form = ["frames"] if len(words) == 5 else ["node"] if len(words) == 2 else ["run"]
+    numbers = [word for at, word in enumerate(words[1:]) if at != 1]
+    if words[:1] != form or len(words) > 5 or not all(word.isdecimal() for word in numbers):
+        refuse(__doc__, words)
+    plan = good_plan(sys.stdin.buffer.read())
+    if words[0] == "frames":
         status, made = sent(plan, int(words[1]), words[2], int(words[3]), int(words[4]))
         sys.stdout.buffer.write(made)
         return status
-    if words == ["run"]:
-        status, text = run(plan)
-    elif len(words) == 2 and words[0] == "node":
-        status, text = run(plan, int(words[1]))
-    else:
-        sys.exit(__doc__)
+    status, text = run(plan, *map(int, numbers))
     sys.stdout.write(text)
     return status
 
 
 if __name__ == "__main__":
-    sys.exit(main(sys.argv[1:]))
+    start(main)

@@ -1,10 +1,15 @@
 #!/usr/bin/env python3
 """A plain model of what sdhwhatif writes: the rules once more, written from their words in docs/WHATIF.md and docs/RING.md."""
 
+import sys
+from pathlib import Path
+
+sys.path.insert(0, str(Path(__file__).resolve().parents[2] / "tools"))
+from ringtools.benching import good_plan, refuse
+from ringtools.starting import start
+
 import itertools
 import json
-import sys
-import tomllib
 from dataclasses import dataclass, field
 
 FORCED, FAIL, DEGRADE, MANUAL, WAIT = 13, 11, 8, 6, 5
@@ -282,8 +287,10 @@ def ring_of(document):
 def main(words):
     """What `sdhwhatif WORD.. < PLAN` has to write."""
     sys.stdout.reconfigure(newline="")
-    sys.stdout.write(table(ring_of(tomllib.load(sys.stdin.buffer)), asked_of(words)))
+    if words[:1] not in [[depth] for depth in DEPTHS]:
+        refuse(main.__doc__, words)
+    sys.stdout.write(table(ring_of(good_plan(sys.stdin.buffer.read())), asked_of(words)))
 
 
 if __name__ == "__main__":
-    main(sys.argv[1:])
+    start(main)

@@ -3,17 +3,23 @@
 from __future__ import annotations
 
 import csv
+import io
 from collections import Counter
+from collections.abc import Iterator
 from dataclasses import dataclass, field
 
+from .cells import read_cell, write_rows
 from .desktable import OVER
-from .files import read_input
+from .files import CASES, read_input
 from .moves import moves
 from .plan import Plan
 from .tables import TableProblem
+from .writing import Folder
 
 COLUMNS = ("Failures", "Depth", "Kind", "Circuit", "Other", "This", "Change")
 GAINS, LOSES, CHANGED = "gains", "loses", "other way"
+MOST_CASES = 100_000  # rows of a table
+MOST_CIRCUITS = 128
 WANTED = ("Failures", "Over circuits", "Lost circuits")
 
 
@@ -33,21 +39,40 @@ def cases_of_told(name, told):
     return Cases(name, tuple(told.names), cases, told.called, told.plan)
 
 
-def cases_of_table(name):
+def columns_of(name: str, heads: list[str]) -> list[int]:
+    """Returns where the columns stand that are compared."""
+    if missing := [column for column in WANTED if column not in heads]:
+        raise TableProblem(f"{name}: a table of --all is wanted, with the columns {', '.join(WANTED)}; there is no {missing[0]}")
+    return [heads.index(column) for column in WANTED]
+
+
+def cases_of_rows(name: str, rows: Iterator[list[str]]) -> Cases:
+    """Returns the cases of a table's rows, of which the first names the columns."""
+    places = columns_of(name, next(rows, []))
+    cases, circuits, known = {}, {}, {}
+    for number, row in enumerate(rows, 2):
+        if number > MOST_CASES or len(row) <= max(places):
+            why = f"a table has at most {MOST_CASES:,} rows" if number > MOST_CASES else "the row is too short"
+            raise TableProblem(f"{name}: row {number}: {why}")
+        failures, over, lost = (read_cell(row[place]) for place in places)
+        for cell in (over, lost):
+            if cell not in known:
+                known[cell] = frozenset(cell.split())
+                circuits |= dict.fromkeys(cell.split())
+        if len(circuits) > MOST_CIRCUITS:
+            raise TableProblem(f"{name}: row {number}: with it there are more than {MOST_CIRCUITS} circuits, the most that a ring has")
+        cases[() if failures == "nothing" else tuple(failures.split("; "))] = known[over], known[lost]
+    if not cases:
+        raise TableProblem(f"{name}: a table of --all is wanted, and this one has no row")
+    return Cases(name, tuple(circuits), cases)
+
+
+def cases_of_table(name: str) -> Cases:
     """The table that an earlier run wrote: its circuits are those that it names in any case, as each is lost with its own node."""
     try:
-        rows = list(csv.DictReader(read_input(name).decode("utf-8").splitlines()))
+        return cases_of_rows(name, csv.reader(io.TextIOWrapper(io.BytesIO(read_input(name, CASES)), encoding="utf-8", newline="")))
     except (UnicodeDecodeError, csv.Error) as problem:
         raise TableProblem(f"{name}: {problem}") from None
-    if not rows or any(row.get(column) is None for row in rows for column in WANTED):
-        raise TableProblem(f"{name}: a table of --all is wanted, with the columns {', '.join(WANTED)}")
-    cases, circuits = {}, {}
-    for row in rows:
-        key = () if row["Failures"] == "nothing" else tuple(row["Failures"].split("; "))
-        over, lost = (row[column].split() for column in WANTED[1:])
-        cases[key] = frozenset(over), frozenset(lost)
-        circuits |= dict.fromkeys(over + lost)
-    return Cases(name, tuple(circuits), cases)
 
 
 def change(before, now):
@@ -92,10 +117,12 @@ class Against:
     def called(self, name):
         return self.this.called.get(name, name)
 
-    def write_csv(self, path):
-        with open(path, "w", newline="", encoding="utf-8") as file:
-            writer = csv.writer(file, lineterminator="\n")
-            writer.writerow(COLUMNS)
-            for key, name, before, now in self.changes:
-                kinds = "+".join(label.split()[0] for label in key)
-                writer.writerow(["; ".join(key) or "nothing", len(key), kinds, name, before, now, change(before, now)])
+    def rows(self) -> Iterator[list]:
+        yield list(COLUMNS)
+        for key, name, before, now in self.changes:
+            kinds = "+".join(label.split()[0] for label in key)
+            yield ["; ".join(key) or "nothing", len(key), kinds, name, before, now, change(before, now)]
+
+    def write_csv(self, folder: Folder, file: str) -> None:
+        with folder.writing_text(file) as text:
+            write_rows(text, self.rows())

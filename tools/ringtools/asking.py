@@ -2,27 +2,28 @@
 
 import re
 import shlex
-import sys
 import unicodedata
 from dataclasses import dataclass
 from functools import cached_property
 from pathlib import Path
 
+from . import shown
 from .answers import limit_advice
 from .failures import read_beforehand
 from .files import FileProblem, read_input
 from .origin import sum_of
 from .plan import PlanProblem, enough, read_plan, write_plan
 from .plans import stem_of
+from .writing import Folder, named_folder, own_folder
 
 FAILED, NOT_SETTLED, DIFFERS, INTERRUPTED = 1, 3, 4, 130
 QUESTION = "question"  # the file of a folder that says what its answers are about
+LONGEST_QUESTION = 65_536  # bytes of it
 SLUG = 48  # characters of an order in the name of a folder
 
 
-def say(what):
-    sys.stderr.write(f"sdhring-whatif: {what}\n")
-    sys.stderr.flush()
+def say(what: object) -> None:
+    shown.say("sdhring-whatif", what)
 
 
 class Stop(Exception):
@@ -88,12 +89,19 @@ def question_name(asked) -> str:
     return "".join(f".{part}" for part in parts + ["without-script"] * asked.without_script)
 
 
-def folder_of(asked, name):
-    """Where all of a plan and a question is kept. Several plans have a folder each, in that of --dir."""
+def place_of(asked, name: str) -> Folder:
+    """Returns where all of a plan and a question is kept, be it there or not. Several plans have a folder each, in that of --dir."""
     own = f"{stem_of(name)}{question_name(asked)}.whatif"
-    if asked.many:
-        return Path(asked.dir or ".") / own
-    return Path(asked.dir or own)
+    if asked.dir is None:
+        return Folder(Path(own), is_own=True)
+    return Folder(Path(asked.dir), (own,) if asked.many else ())
+
+
+def folder_of(asked, name: str) -> Folder:
+    """Returns the same folder, which is there then."""
+    place = place_of(asked, name)
+    made = own_folder(place.base) if place.is_own else named_folder(place.base)
+    return made.inside(*place.below) if place.below else made
 
 
 def question_of(asked, subject: Subject) -> str:
@@ -106,21 +114,18 @@ def question_of(asked, subject: Subject) -> str:
 
 def check_question(asked, subject: Subject) -> None:
     """Raises where the folder has answers to another question, which would be written over."""
-    folder = folder_of(asked, subject.name)
-    try:
-        kept = (folder / QUESTION).read_text(encoding="utf-8")
-    except (OSError, UnicodeDecodeError):
+    folder = place_of(asked, subject.name)
+    if not folder.path.is_dir() or (data := folder.read(QUESTION, LONGEST_QUESTION)) is None:
         return
+    kept = data.decode("utf-8", "replace")
     if kept != question_of(asked, subject):
         other = kept.strip() or "without --works, --also and --without-script"
-        raise Stop(f"{folder} has the answers to another question, {other}, and they would be written over: --dir names another folder, or remove this one")
+        raise Stop(f"{folder.path} has the answers to another question, {other}, and they would be written over: --dir names another folder, or remove this one")
 
 
 def keep_question(asked, subject: Subject) -> None:
     """Writes the question into its folder."""
-    folder = folder_of(asked, subject.name)
-    folder.mkdir(parents=True, exist_ok=True)
-    (folder / QUESTION).write_text(question_of(asked, subject), encoding="utf-8")
+    folder_of(asked, subject.name).write(QUESTION, question_of(asked, subject))
 
 
 def warn_of(program, plan=None):

@@ -4,13 +4,12 @@ import signal
 from concurrent.futures import ProcessPoolExecutor
 from dataclasses import dataclass
 from functools import partial
-from html import escape
 
 from .answers import Answers
 from .casetables import CaseTables
 from .failures import WORKS_STAGES
 from .look import looks
-from .markup import count_of, listing, origin_list, warning, whole
+from .markup import count_of, escape, listing, origin_list, warning, whole
 from .model import scenes
 from .origin import Origin
 from .page import in_short, run_page, source, tools
@@ -36,8 +35,8 @@ class Asked:
         return (self.title, f"<p>Plan <code>{escape(self.plan)}</code></p>") if self.title else (f"What if: {self.plan}", "")
 
     def origin(self, answers):
-        dates = tuple(answer.date for answer in answers if answer is not None)
-        return Origin(self.store.program, self.plan, self.plan_sum, dates)
+        known = tuple(answer for answer in answers if answer is not None)
+        return Origin(self.store.program, self.plan, self.plan_sum, tuple(answer.date for answer in known), answers=known)
 
 
 def answers_page(asked, verdicts):
@@ -71,12 +70,24 @@ def draw_case(asked, case):
     seen = looks(plan, scenes(plan, [step.round for step in report.settled]), report.settled)
     drawn = WORKS_STAGES if case.kind == "works" else ("failed",)
     shown = [look for look in seen if case.stages[look.scene.number - 1] in drawn] or seen[-1:]
-    origin = Origin(store.program, f"{case.name}.toml", store.answer(case.name).plan, (store.answer(case.name).date,))
+    answer = store.answer(case.name)
+    origin = Origin(store.program, f"{case.name}.toml", answer.plan, (answer.date,), answers=(answer,))
     title = f"{asked.title or asked.plan}: {case.words}"
-    store.path(case.name, "html").write_text(run_page(title, plan, report, shown, origin, beside), encoding="utf-8")
+    store.folder.write(f"{case.name}.html", run_page(title, plan, report, shown, origin, beside))
+
+
+def made_pool(jobs: int) -> ProcessPoolExecutor | None:
+    """Returns processes that draw, or None where the system gives none, as one without a shared /dev/shm."""
+    try:
+        return ProcessPoolExecutor(jobs, initializer=signal.signal, initargs=(signal.SIGINT, signal.SIG_IGN))
+    except (OSError, ImportError):
+        return None
 
 
 def draw_cases(asked, cases, jobs):
-    done = [case for case in cases if asked.store.is_done(case.name)]
-    with ProcessPoolExecutor(jobs, initializer=signal.signal, initargs=(signal.SIGINT, signal.SIG_IGN)) as pool:
-        list(pool.map(partial(draw_case, asked), done, chunksize=4))
+    done, draw = [case for case in cases if asked.store.is_done(case.name)], partial(draw_case, asked)
+    if (pool := made_pool(jobs)) is None:
+        list(map(draw, done))
+        return
+    with pool:
+        list(pool.map(draw, done, chunksize=4))

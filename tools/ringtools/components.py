@@ -3,8 +3,9 @@
 from dataclasses import dataclass
 
 from .failures import cut_by, span_fibres, span_named
-from .tables import TableProblem, read_table
+from .tables import LARGEST, TableProblem, quoted, read_table
 
+SPANS, NODES, GROUPS = 64, 64, 64  # rows; a ring has 16 spans and 16 nodes, and whoever has more is told which row is wrong
 HOURS = 8760.0  # of a year of 365 days
 SPAN_COLUMNS = ("from", "to", "cuts", "km", "cuts_per_1000_km", "hours", "fibre_failures", "fibre_hours")
 NODE_COLUMNS = ("place", "node", "failures", "hours")
@@ -77,14 +78,14 @@ class Finder:
         at = self.nodes.get(row[column].casefold())
         if at is None:
             known = ", ".join(self.places.node(number) for number in self.plan.ids)
-            raise row.problem(f"`{column}` is `{row[column]}`, and the nodes of the plan are {known}")
+            raise row.problem(f"`{column}` is `{row.quoted(column)}`, and the nodes of the plan are {known}")
         return at
 
     def span(self, row):
         here, there = self.node(row, "from"), self.node(row, "to")
         span = span_named(self.plan, self.plan.ids[here], self.plan.ids[there])
         if span is None or here == there:
-            raise row.problem(f"no span of the ring joins {row['from']} and {row['to']}")
+            raise row.problem(f"no span of the ring joins {row.quoted('from')} and {row.quoted('to')}")
         return span
 
     def span_name(self, span):
@@ -93,7 +94,7 @@ class Finder:
     def member(self, row, words):
         member = self.members.get(" ".join(words.casefold().split()))
         if member is None:
-            raise row.problem(f"`{words.strip()}` is no span, node or fibre of the plan, as `span A-B`, `node A` or `fibre A>B`")
+            raise row.problem(f"`{quoted(words.strip())}` is no span, node or fibre of the plan, as `span A-B`, `node A` or `fibre A>B`")
         return member
 
 
@@ -113,6 +114,8 @@ def cuts_of(row, per_1000_km):
         return cuts
     if km is None or rate is None:
         raise row.problem("`cuts` a year are wanted, or `km` and the cuts a year of 1,000 km: `cuts_per_1000_km`, or --cuts-per-1000-km")
+    if not km * rate / 1000 < LARGEST:
+        raise row.problem(f"that many cuts a year aren't computed with: {LARGEST:,} are the most")
     return km * rate / 1000
 
 
@@ -147,7 +150,7 @@ class Read:
 
 def read_spans(name: str, finder: Finder, per_1000_km: float | None = None) -> Read:
     """Returns each span of the ring by its row, and its fibres where they fail by themselves too."""
-    table, found = read_table(name, SPAN_COLUMNS, ("from", "to", "hours")), {}
+    table, found = read_table(name, SPAN_COLUMNS, ("from", "to", "hours"), SPANS), {}
     for row in table.rows:
         span = finder.span(row)
         if span in found:
@@ -160,7 +163,7 @@ def read_spans(name: str, finder: Finder, per_1000_km: float | None = None) -> R
 
 
 def read_nodes(name: str, finder: Finder) -> Read:
-    table, found = read_table(name, NODE_COLUMNS, ("failures", "hours")), {}
+    table, found = read_table(name, NODE_COLUMNS, ("failures", "hours"), NODES), {}
     if not {"place", "node"} & set(table.columns):
         raise TableProblem(f"{name}:1: the first line is to name the column `node`, or `place`")
     for row in table.rows:
@@ -175,7 +178,7 @@ def read_nodes(name: str, finder: Finder) -> Read:
 
 def groups_in(name: str, finder: Finder, wanted: tuple[str, ...] = ("group", "members")) -> Read:
     """Returns each group of a table, beside its row."""
-    table, found = read_table(name, GROUP_COLUMNS, wanted), {}
+    table, found = read_table(name, GROUP_COLUMNS, wanted, GROUPS), {}
     for row in table.rows:
         if not row["group"]:
             raise row.problem("`group` is empty, and a name is wanted")

@@ -2,10 +2,9 @@
 
 from __future__ import annotations
 
-import csv
-import io
 from dataclasses import dataclass, replace
 
+from .cells import text_of_rows
 from .checks import is_name, is_sent, plain_name, why_no_name
 from .keeping import Service, held, kept_words, positions_in
 from .making import Asked, Written, check_rate, document_of, text_of
@@ -17,6 +16,7 @@ from .tables import text_of as text_in
 NODE_COLUMNS = ("place", "node")
 OF_OTHERS = ("failures", "hours")  # columns of the table of nodes that another tool reads
 CIRCUIT_COLUMNS = ("name", "from", "to", "direction", "slot", "text_a", "text_b", "trace", "trace_a", "trace_b", "offset_a", "offset_b")
+CIRCUITS, NODES = 512, 64  # rows; a ring has 128 circuits and 16 nodes, and of somewhat more it is said which don't fit
 NOTED = 3  # of the circuits that have another name in the plan, this many are reported one by one
 DIRECTIONS = {"east": "east", "eastwards": "east", "west": "west", "westwards": "west"}
 
@@ -52,7 +52,7 @@ def check_place(row, place, nodes):
 
 def read_nodes(name):
     """The nodes of a table, one in each row, eastwards round the ring. Those without a number get the lowest free ones, from 1 on."""
-    table, nodes = read_table(name, NODE_COLUMNS + OF_OTHERS, ()), []
+    table, nodes = read_table(name, NODE_COLUMNS + OF_OTHERS, (), NODES), []
     if not set(table.columns) & set(NODE_COLUMNS):
         hint = advice(text_in(name), ("place",)) or advice(text_in(name), ("node",))
         raise ImportProblem(f"{name}:1: the first line is to name the column `place`, or `node`, or both{hint}")
@@ -140,7 +140,7 @@ def check_sent(row):
 
 def read_circuits(name: str, ring: Ring, rate: int, service: Service | None) -> tuple[list[Circuit], Table]:
     """Returns the circuits of a table, those that are in service as these are there; and the table itself."""
-    table, circuits = read_table(name, CIRCUIT_COLUMNS, ("from", "to")), []
+    table, circuits = read_table(name, CIRCUIT_COLUMNS, ("from", "to"), CIRCUITS), []
     positions = positions_in(service, ring.found) if service else {}
     for row, (made, called) in zip(table.rows, names_of(table.rows, service.plain_names if service else {})):
         check_sent(row)
@@ -155,15 +155,13 @@ def with_choices(table: Table, circuits: list[Circuit], laid: tuple[Laid, ...]) 
     for column in ("name", "direction", "slot"):
         if column not in columns:
             heads, columns = heads + [column], columns + [column]
-    text = io.StringIO(newline="")
-    writer = csv.writer(text, delimiter=table.form.sign, lineterminator="\n")
-    writer.writerow(heads)
+    rows = [heads]
     for circuit, one in zip(circuits, laid):
         way = "east" if one.start == circuit.wanted.start else "west"
         chosen = {"name": circuit.called, "direction": way, "slot": str(one.slot)}
         cells = [*circuit.row.given, *[""] * (len(columns) - len(circuit.row.given))]
-        writer.writerow([chosen.get(column, cell) for column, cell in zip(columns, cells)])
-    return text.getvalue()
+        rows.append([chosen.get(column, cell) for column, cell in zip(columns, cells)])
+    return text_of_rows(rows, table.form.sign)
 
 
 def sides_of(ring, circuits, laid, circuit, slots):

@@ -8,12 +8,11 @@ from __future__ import annotations
 import re
 from collections.abc import Iterator
 from dataclasses import dataclass
-from html import escape
 
 from .failures import OPENING_STAGES, Beforehand, Case, span_fibres
 from .interruptions import Interruptions, count_case
 from .kept import Store
-from .markup import names
+from .markup import escape, names
 from .model import Scene, scenes
 from .outages import read_outages
 from .plan import Plan

@@ -5,8 +5,11 @@ from __future__ import annotations
 import argparse
 import re
 
+from typing import NoReturn
+
 from .build import version
 from .origin import LAUNCHER, CannotRun, find_program
+from .shown import shown
 
 
 def version_words(tool):
@@ -59,3 +62,7 @@ class Options(argparse.ArgumentParser):
     def __init__(self, **more):
         super().__init__(**more)
         self.add_argument("--version", action=ShowVersion, nargs=0, help="show the version, and whether the program beside is proved")
+
+    def error(self, message: str) -> NoReturn:
+        """Says what is wrong with the words in one line, and ends with status 2."""
+        self.exit(2, f"{self.prog}: {shown(message)}; {self.prog} --help shows the words\n")

@@ -1,12 +1,10 @@
 """The page of sdhring-view: every settle step of a run, customers first, or why there is none."""
 
-from html import escape
-
 from . import drawing
 from .customers import circuit_table, outcome, port_table, steps_table
 from .legend import legend
 from .look import condition_words
-from .markup import COMPARED, HITLESS, count_of, folded, listing, origin_list, table, warning, whole
+from .markup import COMPARED, HITLESS, count_of, escape, folded, listing, origin_list, table, warning, whole
 from .model import REQUEST_NAMES
 from .reasons import refusal, where
 from .report import STATES
@@ -159,7 +157,7 @@ def source(origin):
 def in_short(origin):
     """Program, proof and plan in one line."""
     program = origin.program
-    shown = f"{escape(program.version or 'A program')}, {program.proof}" if program else "By which program isn't known"
+    shown = f"{escape(program.version or 'A program')}, {escape(program.proof)}" if program else "By which program isn't known"
     return f'<p class="note">{shown}; plan <code>{origin.plan_sum[:12]}</code>: <a href="#source">where this comes from</a>.</p>'
 
 

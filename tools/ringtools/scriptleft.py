@@ -3,8 +3,8 @@
 from __future__ import annotations
 
 from dataclasses import dataclass
-from html import escape
 
+from .markup import escape
 from .desktable import Namer, last_scene
 from .model import CLEAR, CUT, WAIT, Scene, span_requests
 from .places import Places

@@ -5,11 +5,16 @@ from __future__ import annotations
 import csv
 import difflib
 import io
+import os
 import re
+from collections.abc import Iterator, Sequence
 from dataclasses import dataclass, field
 
-from .files import read_input
+from .build import sum_of
+from .cells import read_cell
+from .files import TABLE, read_input
 from .places import composed
+from .shown import shown
 
 SIGNS = ",;\t"
 TOLD_SIGN = re.compile(r"sep=(.)\r?\n", re.I)  # the first line by which a spreadsheet says what separates the cells
@@ -17,10 +22,18 @@ GROUPED = {mark: re.compile(rf"[1-9][0-9]{{0,2}}({re.escape(mark)}[0-9]{{3}})+")
 FRACTION = {mark: re.compile(rf"[0-9]*{re.escape(mark)}[0-9]+") for mark in ".,"}
 LOOKED_AT = 20  # lines of a table in which the names of the columns are looked for
 LIKENESS = 0.7  # of two names, from 0 to 1, from which on one is taken for a mistyped form of the other
+ROWS, COLUMNS, CELL, LINE = 4096, 256, 4096, 16_384  # the most of a table: rows, columns, characters of a cell, and those of the first lines that are looked at
+LARGEST = 10**9  # numbers are below it: rates, hours, lengths
+QUOTED = 80  # characters of a cell that a message shows
 
 
 class TableProblem(Exception):
     """A table isn't what was wanted."""
+
+
+def quoted(text: str) -> str:
+    """Returns a text as messages show it: the front of a long one, without signs that can't be seen."""
+    return shown(text if len(text) <= QUOTED else f"{text[:QUOTED]}..")
 
 
 @dataclass
@@ -56,6 +69,10 @@ class Row:
     def problem(self, words):
         return TableProblem(f"{self.file}:{self.line}: {words}")
 
+    def quoted(self, column: str) -> str:
+        """Returns a cell as messages show it, the front of a long one."""
+        return quoted(self[column])
+
     def number(self, column, low=0, wanted="a number"):
         """The cell as a number that isn't below `low`; None where it is empty."""
         text = self[column]
@@ -68,15 +85,17 @@ class Row:
             value = float(text.replace(",", ".") if self.form.sign != "," else text)
         except ValueError:
             value = float("nan")
-        if not low <= value < float("inf"):
-            raise self.problem(f"`{column}` is `{text}`, and {wanted} is wanted that isn't below {low}")
+        if value >= LARGEST:
+            raise self.problem(f"`{column}` is `{quoted(text)}`, and a number below {LARGEST:,} is wanted")
+        if not low <= value:
+            raise self.problem(f"`{column}` is `{quoted(text)}`, and {wanted} is wanted that isn't below {low}")
         return value
 
     def whole(self, column, low, high):
         """The cell as a whole number of this range; None where it is empty."""
         text = self[column]
-        if text and not (text.isascii() and text.isdecimal() and low <= int(text) <= high):
-            raise self.problem(f"`{column}` is `{text}`, and a whole number from {low} to {high} is wanted")
+        if text and not (text.isascii() and text.isdecimal() and len(text.lstrip("0")) <= 9 and low <= int(text) <= high):
+            raise self.problem(f"`{column}` is `{quoted(text)}`, and a whole number from {low} to {high} is wanted")
         return int(text) if text else None
 
 
@@ -106,8 +125,26 @@ def spelled(column: str) -> str:
     return "_".join(column.lower().split())
 
 
+PIPED: dict[str, bytes] = {}  # what came out of pipes, which can be read once
+SUMS: dict[str, str] = {}  # the checksum of each table as it was read last
+
+
+def table_bytes(name: str) -> bytes:
+    """Returns the bytes of a table, and notes their checksum."""
+    data = PIPED[name] if name in PIPED else read_input(name, TABLE)
+    if name != "-" and not os.path.isfile(name):
+        PIPED[name] = data
+    SUMS[name] = sum_of(data)
+    return data
+
+
+def sum_of_table(name: str) -> str:
+    """Returns the checksum of a table as it was read last, which isn't opened again."""
+    return SUMS[name] if name in SUMS else sum_of(table_bytes(name))
+
+
 def text_of(name):
-    data = read_input(name)
+    data = table_bytes(name)
     try:
         return composed(data.decode("utf-8-sig"))
     except UnicodeDecodeError as error:
@@ -137,7 +174,7 @@ def head_of(name, line, cells, known, needed, text):
         raise TableProblem(f"{name}:{line}: the column `{again[0]}` is there twice")
     missing = [column for column in needed if column not in heads]
     if missing:
-        found = ", ".join(filter(None, cells))
+        found = quoted(", ".join(filter(None, cells)))
         said = f"the first line is to name the columns, and `{missing[0]}` is missing; there are {found}"
         raise TableProblem(f"{name}:{line}: {said}{advice(text, needed)}")
     return [head if head in known else None for head in heads]
@@ -147,33 +184,51 @@ def sign_of(text: str) -> tuple[str, int]:
     """Returns what separates the cells, and how many characters say so in a line of their own."""
     if told := TOLD_SIGN.match(text):
         return told[1], told.end()
-    first = next((line for line in text.splitlines() if line.strip()), "")
+    first = next((line for line in text[:LINE].splitlines() if line.strip()), "")
     return max(SIGNS, key=first.count), 0
 
 
-def read_table(name, known, needed):
+def cells_of(name: str, line: int, raw: Sequence[str]) -> list[str]:
+    """Returns the cells of a record, each without blanks at its ends and with one where there were several."""
+    if len(raw) > COLUMNS or any(len(cell) > CELL for cell in raw):
+        raise TableProblem(f"{name}:{line}: a row has at most {COLUMNS} cells, and a cell {CELL:,} characters")
+    return [read_cell(" ".join(cell.split())) for cell in raw]
+
+
+def records_of(name: str, text: str, sign: str, before: int) -> Iterator[tuple[int, list[str]]]:
+    """Gives the first line of each record, and its cells. `before` is the number of lines above the text."""
+    reader, line, number = csv.reader(io.StringIO(text, newline=""), delimiter=sign, strict=True), before, 0
+    try:
+        for raw in reader:
+            begun, line, number = line + 1, before + reader.line_num, number + 1
+            if number > ROWS + 1:
+                raise TableProblem(f"{name}:{begun}: a table has at most {ROWS:,} rows")
+            yield begun, cells_of(name, begun, raw)
+    except csv.Error as error:
+        raise TableProblem(f"{name}:{line + 1}: {error}") from None
+
+
+def read_table(name: str, known: tuple[str, ...], needed: tuple[str, ...], most: int = ROWS) -> Table:
     """The rows of a table whose first line with a word names its columns. Commas, semicolons or tabs separate the cells, or what a line `sep=;` says.
 
     Rows without a word are skipped. Where something else than commas separates the cells, numbers may have a comma for the point.
+    Raises TableProblem where there are more rows than `most`.
     """
     text = text_of(name)
     sign, begin = sign_of(text)
-    form, table, before = Form(sign), None, text.count("\n", 0, begin)
-    reader = csv.reader(io.StringIO(text[begin:], newline=""), delimiter=sign, strict=True)
-    line = before
-    try:
-        for cells in reader:
-            begun, line = line + 1, before + reader.line_num
-            cells = [" ".join(cell.split()) for cell in cells]
-            if table is None and any(cells):
-                heads = head_of(name, begun, cells, known, needed, text)
-                unread = tuple(cell for cell, head in zip(cells, heads) if head is None and cell)
-                table = Table(name, tuple(filter(None, heads)), unread, known, form, tuple(cells))
-            elif any(cells):
-                form.look_at(cells)
-                table.rows.append(row_of(name, begun, heads, cells, form))
-    except csv.Error as error:
-        raise TableProblem(f"{name}:{line + 1}: {error}") from None
+    form, table = Form(sign), None
+    for line, cells in records_of(name, text[begin:], sign, text.count("\n", 0, begin)):
+        if not any(cells):
+            continue
+        if table is None:
+            heads = head_of(name, line, cells, known, needed, text[:LINE])
+            unread = tuple(cell for cell, head in zip(cells, heads) if head is None and cell)
+            table = Table(name, tuple(filter(None, heads)), unread, known, form, tuple(cells))
+            continue
+        if len(table.rows) == most:
+            raise TableProblem(f"{name}:{line}: this table has at most {most:,} rows")
+        form.look_at(cells)
+        table.rows.append(row_of(name, line, heads, cells, form))
     if table is None:
         raise TableProblem(f"{name}:1: the table is empty; its first line is to name the columns {', '.join(needed)}")
     return table

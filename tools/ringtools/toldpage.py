@@ -4,11 +4,10 @@ from __future__ import annotations
 
 from collections import Counter
 from collections.abc import Iterator
-from html import escape
 
 from .against import CHANGED, GAINS, LOSES
 from .desktable import ALL_KINDS, WHOLE
-from .markup import count_of, folded, listing, names, origin_list, table, unbroken, warning, whole
+from .markup import count_of, escape, folded, listing, names, origin_list, table, unbroken, warning, whole
 from .moves import OTHER_ENDS, OTHER_SLOT, OTHER_WAY
 from .page import tools
 

@@ -348,7 +348,7 @@ class Command(unittest.TestCase):
             ("argument --cuts-per-1000-km: `-1`: a number with a point is wanted that isn't below 0", "plan.toml", "spans.csv", "--cuts-per-1000-km=-1"),
         ):
             ended = call("sdhring-availability", *words, cwd=self.folder)
-            self.assertEqual((ended.returncode, ended.stderr.decode().splitlines()[-1]), (2, f"sdhring-availability: error: {said}"))
+            self.assertEqual((ended.returncode, ended.stderr.decode().splitlines()[-1]), (2, f"sdhring-availability: {said}; sdhring-availability --help shows the words"))
 
     def test_a_column_that_is_not_read_is_told_with_the_nearest_name(self):
         (self.folder / "spans.csv").write_text(SPANS.replace("hours", "hours,fibre_failure,cuts_per_1000km,Owner").replace(",8", ",8,2,9,DB"))

@@ -191,7 +191,7 @@ class New(unittest.TestCase):
         self.assertEqual(read_plan(self.made("--rate", "stm4", "1>3")).rate, 4)
         for said, *words in (("--rate: `fast`: 4 or 16 is wanted, for STM-4 or STM-16", "--rate", "fast"), ("--wait: `2,5`: a whole number is wanted, in digits alone", "--wait", "2,5")):
             ended = call("sdhring-plan", "new", *words)
-            self.assertEqual((ended.returncode, ended.stderr.decode().splitlines()[-1]), (2, f"sdhring-plan new: error: argument {said}"))
+            self.assertEqual((ended.returncode, ended.stderr.decode().splitlines()[-1]), (2, f"sdhring-plan new: argument {said}; sdhring-plan new --help shows the words"))
 
     def test_a_file_is_never_written_over(self):
         with tempfile.TemporaryDirectory() as folder:

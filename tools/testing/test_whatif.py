@@ -13,7 +13,7 @@ from collections import Counter
 
 from cases import CIRCUITS, Asking, document, expected, failures, script_of
 from common import STANDIN, TOOLS, ring
-from pages import BROWSER, browsed
+from pages import BROWSER, Seen, browsed
 from rules import Rules
 
 
@@ -177,20 +177,44 @@ class Whatif(Asking):
         self.assertEqual({row["p"] for row in rows}, {"odd", "lost"})
         self.assertEqual({(row["p"] == "odd", row["Model"]) for row in rows}, {(True, "differs"), (False, "agrees")})
 
+    def test_pages_without_processes(self):
+        """Where no process can be had, as without a shared memory of one's own, pages are drawn one after the other, with the same tables."""
+        self.ask("--kinds", "span")
+        seen = lambda: {path.name: Seen(path.read_text()).tables for path in self.cases().glob("*.html")}
+        pages = seen()
+        self.assertEqual(len(pages), 4)
+        without = "import sys, runpy, concurrent.futures.process as p\n"
+        without += "def none(*_, **__): raise PermissionError(13, 'Permission denied')\np.ProcessPoolExecutor.__init__ = none\n"
+        without += f"sys.argv[0] = {str(TOOLS / 'sdhring-whatif')!r}; sys.path[0] = {str(TOOLS)!r}; runpy.run_path(sys.argv[0], run_name='__main__')"
+        for path in self.cases().glob("*.html"):
+            path.unlink()
+        words = [sys.executable, "-c", without, self.plan, "--dir", self.top / "out", "--program", STANDIN, "--kinds", "span"]
+        ended = subprocess.run(words, capture_output=True)
+        self.assertEqual(ended.returncode, 0, ended.stderr.decode())
+        self.assertEqual(seen(), pages)
+
     def test_stopped_and_taken_up_again(self):
         self.small()
-        words = [sys.executable, TOOLS / "sdhring-whatif", self.plan, "--dir", self.top / "out", "--program", f"{STANDIN} slow 0.4", "--jobs", "2"]
+        turns = self.top / "turns"
+        turns.mkdir()
+        program = f"{STANDIN} takes {turns}"
+        give = lambda count: [(turns / str(number)).write_text("") for number in range(count)]
+        words = [sys.executable, TOOLS / "sdhring-whatif", self.plan, "--dir", self.top / "out", "--program", program, "--jobs", "2"]
+        give(4)
         running = subprocess.Popen(words, stderr=subprocess.PIPE, stdout=subprocess.PIPE)
-        until = time.monotonic() + 60
-        while len(self.times()) < 3 and time.monotonic() < until:
+        while len(self.times()) < 3:
             time.sleep(0.05)
         running.send_signal(signal.SIGTERM)
-        _, errors = running.communicate(timeout=30)
+        while running.poll() is None:  # the two that run come to their end
+            give(1)
+            time.sleep(0.05)
+        _, errors = running.communicate()
         self.assertEqual(running.returncode, 130)
         self.assertIn(b"cases are kept", errors)
         kept = self.times()
         self.assertTrue(3 <= len(kept) < 9, kept)
-        self.ask(program=f"{STANDIN} slow 0.4")
+        give(20)
+        self.ask(program=program)
         self.assertEqual({name: time for name, time in self.times().items() if name in kept}, kept)
         self.assertEqual(len(self.table()), 36)
 
