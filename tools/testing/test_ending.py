@@ -87,6 +87,7 @@ ALL = (
     bench("aps/compare", PROGRAM["sdhaps"], "0"),
     bench("aps/signalled.py", "run", given="PLAN"),
     bench("availability/compare", PROGRAM["sdhring"], PROGRAM["sdhpath"], "0"),
+    bench("hostile/fuzz", "--help"),
     bench("import/compare", "0"),
     bench("node/compare", PROGRAM["sdhnode"], "0"),
     bench("node/model.py", "2", given="STREAM"),
