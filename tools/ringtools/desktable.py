@@ -164,8 +164,8 @@ def group_failure(number, group, ring):
     return Failure(GROUP, None, "", shown, name, f"own {number}", steps, members)
 
 
-def failures_of(plan, places, groups=()):
-    """All failures by their numbers, as docs/WHATIF.md counts them from 1; here from 0. Groups are the user's own."""
+def failures_of(plan, places, groups=(), kinds=KINDS):
+    """All failures of these kinds by their numbers, as docs/WHATIF.md counts them from 1; here from 0. Groups are the user's own."""
     namer, found = Namer(plan, places), []
     for kind in KINDS:
         for at in range(plan.size):
@@ -173,6 +173,7 @@ def failures_of(plan, places, groups=()):
                 words = [name(kind, at, side) for name in (namer.name, namer.label, namer.called)]
                 found.append(Failure(kind, at, side, *words, steps_of(plan, kind, at, side)))
     ring = {(one.kind, one.at, one.side): one for one in found}
+    found = [one for one in found if one.kind in kinds]
     return (*found, *(group_failure(number, group, ring) for number, group in enumerate(groups, 1)))
 
 
@@ -261,8 +262,8 @@ class Model:
 class Reading:
     """Reads the text of one plan's table, whole or a part of it."""
 
-    def __init__(self, plan, places, groups=()):
-        self.plan, self.failures = plan, failures_of(plan, places, groups)
+    def __init__(self, plan, places, groups=(), kinds=KINDS):
+        self.plan, self.failures = plan, failures_of(plan, places, groups, kinds)
         self.model = Model(plan, self.failures)
         self.head = ",".join([*FIELDS, *(circuit.name for circuit in plan.circuits)])
         self.steps = ["".join(f'""{step}"", ' for step in failure.steps) for failure in self.failures]
@@ -329,7 +330,10 @@ def refused(text):
 def words_for(failures, depth, part=WHOLE):
     """The words that ask the program for a part of its table of these failures."""
     own = ["; ".join(member.called for member in failure.members) for failure in failures if failure.members]
-    kinds = KIND_WORDS if own else ()  # where `own` stands the others have to be named
+    there = {failure.kind for failure in failures}
+    kinds = [word for kind, word in zip(KINDS, KIND_WORDS) if kind in there]
+    if not own and len(kinds) == len(KINDS):
+        kinds = []  # without a word for a kind all are taken; where `own` stands they have to be named
     return [depth, "head", *kinds, *(word for text in own for word in ("own", text)), *(() if part == WHOLE else ("part", *map(str, part)))]
 
 
