@@ -27,7 +27,8 @@ class Answer:
         alone = [("", ""), (failure, ""), (other, "")] if other else [("", ""), case]
         if any(self.fates.get(one, {}).get(customer) == "lost" for one in alone):
             return "lost"
-        return self.fates.get(case, {}).get(customer) or self.fates.get(("", ""), {}).get(customer, "survives")
+        before = self.fates.get(("", ""), {}).get(customer, "survives")
+        return self.fates.get(case, {}).get(customer, before)
 
 
 def rows_of(path: Path, columns: tuple[str, ...]) -> Iterator[dict[str, str]]:

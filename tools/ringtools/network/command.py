@@ -22,6 +22,7 @@ from .document import file_of, read_network
 from .growing import added_to, read_more
 from .joining import Joined
 from .making import Made, Settings, kept_load, made_of, service_of
+from .minutes import CAUSES, SAVINGS, SHARES, Minutes, as_json
 from .model import Kind, Network, NetworkProblem
 from .parting import (
     Part,
@@ -36,6 +37,7 @@ from .parting import (
     run_with_parallel,
     run_with_slurm,
 )
+from .rates import read_rates
 from .ringwork import ALL, Base, Ends, Measure, base_of
 from .room import COLUMNS as ROOM_COLUMNS
 from .room import Room, head_words
@@ -270,6 +272,19 @@ def write_against(asked: argparse.Namespace, question: Question, folder: Path) -
         say(one)
 
 
+def availability(asked: argparse.Namespace) -> int:
+    folder = folder_of(asked.network)
+    network = read_network(str(folder))
+    minutes = Minutes(network, folder, read_rates(folder, network, asked.cuts_per_1000_km))
+    columns: tuple[str, ...] = SAVINGS if asked.savings else CAUSES if asked.causes else SHARES
+    records = {SAVINGS: minutes.saving_records, CAUSES: minutes.cause_records, SHARES: minutes.share_records}[columns]()
+    if asked.csv:
+        sys.stdout.write(csv_of(columns, ([record[column] for column in columns] for record in records)))
+    else:
+        sys.stdout.write(as_json(columns, records) if asked.json else minutes.text())
+    return 0
+
+
 def asking_options(parser: argparse.ArgumentParser) -> None:
     """The words of `whatif`."""
     parser.add_argument("network", metavar="NETWORK", help="the folder of a network, or its network.toml")
@@ -387,7 +402,32 @@ def options(words: list[str]) -> argparse.Namespace:
             description="Asks about every failure of a network alone, and each two.",
         )
     )
+    minutes = does.add_parser(
+        "availability",
+        help="minutes of loss a year",
+        description="Computes for which part of the time each customer is lost end to end, by what, and which investment helps most.",
+    )
+    minutes.add_argument(
+        "network", metavar="NETWORK", help="the folder of a network, with spans.csv, and nodes.csv where places fail"
+    )
+    minutes.add_argument(
+        "--cuts-per-1000-km", type=float, metavar="RATE", help="cuts a year of 1,000 km, for rows with a length alone"
+    )
+    minutes.add_argument("--csv", action="store_true", help="a record for each customer")
+    minutes.add_argument("--json", action="store_true", help="the same as JSON, one record in a line")
+    minutes.add_argument(
+        "--causes",
+        action="store_true",
+        help="with --csv or --json: the causes of loss, one component or pair in each record",
+    )
+    minutes.add_argument(
+        "--savings",
+        action="store_true",
+        help="with --csv or --json: for each component, what would be saved if it never failed",
+    )
     asked: argparse.Namespace = parser.parse_args(words)
+    if asked.does == "availability" and (asked.causes or asked.savings) and not (asked.csv or asked.json):
+        parser.error("--causes and --savings go with --csv or --json")
     for name in ("jobs", "parts"):
         if getattr(asked, name, None) is not None and getattr(asked, name) < 1:
             parser.error(f"--{name}: at least 1 is wanted")
@@ -399,6 +439,7 @@ DEEDS: dict[str, Callable[[argparse.Namespace], int]] = {
     "add": tell_added,
     "room": tell_room,
     "whatif": whatif,
+    "availability": availability,
 }
 
 

@@ -171,7 +171,11 @@ def in_memory(question: Question, jobs: int) -> list[dict[str, Any]]:
     step = max(1, min(8, total // (jobs * 4) or 1))
     pieces = [range(at, min(at + step, total)) for at in range(0, total, step)]
     progress, found = progress_of(total, 0, "rings"), {}
-    for piece, results in here(question, pieces, jobs, lambda count: progress.tell(min(count * step, total))):
+
+    def tell(count: int) -> None:
+        progress.tell(min(count * step, total))
+
+    for piece, results in here(question, pieces, jobs, tell):
         found[piece.start] = results
     return [result for at in sorted(found) for result in found[at]]
 

@@ -17,6 +17,10 @@ class Run:
     count: int
     slot: int
 
+    def order(self) -> tuple[int, int, int]:
+        """The largest first, in the lowest slot, and then eastwards."""
+        return -self.count, self.slot, self.start
+
 
 @dataclass(frozen=True)
 class Room:
@@ -51,7 +55,7 @@ class Room:
     def largest(self, span: int | None = None) -> Run | None:
         """Returns the largest circuit that still fits, over this span or anywhere; in the lowest slot, and then the first eastwards."""
         found = [run for run in self.runs() if span is None or (span - run.start) % self.ring.size < run.count]
-        return min(found, key=lambda run: (-run.count, run.slot, run.start), default=None)
+        return min(found, key=Run.order) if found else None
 
     def words(self) -> str:
         """Returns the largest circuit that still fits, in words."""
@@ -69,7 +73,9 @@ class Room:
         taken = self.taken()
         for span in range(self.ring.size):
             used, run = sum(span in spans for spans in taken), self.largest(span)
-            largest: list[object] = [0, "", "", ""] if run is None else [run.count, *self.ends(run), run.slot]
+            largest: list[object] = [0, "", "", ""]
+            if run is not None:
+                largest = [run.count, *self.ends(run), run.slot]
             yield [self.ring.name, self.ring.span_name(span), self.slots, used, self.slots - used, *largest]
 
 
