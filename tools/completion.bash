@@ -34,6 +34,7 @@ _sdhring_tools() {
     sdhring-plan) words='new import --nodes --rate --threshold --wait --limit --steps --to --version --help' ;;
     sdhring-availability) words='--nodes --groups --cuts-per-1000-km --without-script --csv --json --causes --version --help' ;;
     sdhring-capture) words='--node --side --rounds --frames --program --version --help' ;;
+    sdhring-compare-node) words='--version --help' ;;
     sdhring-desk) words='--to --title --depth --spans --nodes --groups --cuts-per-1000-km --teller --version --help' ;;
     sdhring-view) words='--to --svg --outages --signalling --program --version --help' ;;
     sdhring-whatif) words='--also --works --title --without-script --kinds --dir --program --jobs --shard --sshlogin --parallel --all --depth --frames --groups --against --outages --require --teller --counter --anew --version --help' ;;
@@ -43,7 +44,7 @@ _sdhring_tools() {
 }
 
 complete -F _sdhring {,./}sdh{ring,watch,outage,path,retime,whatif,aps,node}
-complete -F _sdhring_tools {,./}sdhring-{availability,capture,desk,explain,plan,report,view,whatif}
+complete -F _sdhring_tools {,./}sdhring-{availability,capture,compare-node,desk,explain,plan,report,view,whatif}
 # repository
 complete -F _sdhring_tools {,./}tools/rows
 # end

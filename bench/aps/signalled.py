@@ -1,5 +1,5 @@
 #!/usr/bin/env python3
-"""What `sdhaps` must write of a plan, by the plain simulation of the shared ring (../outage/simulate.py). It shares nothing with the
+"""What `sdhaps` must write of a plan, by the plain simulation of the shared ring (../outage/simulate.py). It shares no rule with the
 crates or the tools.
 
   bench/aps/signalled.py run < PLAN                            what `sdhaps run` must write
@@ -7,9 +7,14 @@ crates or the tools.
   bench/aps/signalled.py frames ID SIDE FIRST COUNT < PLAN     the frames of these words, as far as the run has them (frames.py)
 
 The plan has to be a good one. Ends with the status."""
+
 import sys
-import tomllib
 from pathlib import Path
+
+sys.path.insert(0, str(Path(__file__).resolve().parents[2] / "tools"))
+from ringtools.starting import start
+
+import tomllib
 
 sys.path.insert(0, str(Path(__file__).resolve().parents[1] / "outage"))
 
@@ -99,4 +104,4 @@ def main(words):
 
 
 if __name__ == "__main__":
-    sys.exit(main(sys.argv[1:]))
+    start(main)

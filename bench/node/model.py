@@ -1,14 +1,19 @@
 #!/usr/bin/env python3
 """What `sdhnode` must write for a stream, plainly: the rules of one node from the simulation of the shared ring (../outage), over frames
-that are read and made plainly by ITU-T G.707 (../aps/frames.py). It shares nothing with the crates or the tools.
+that are read and made plainly by ITU-T G.707 (../aps/frames.py). It shares no rule with the crates or the tools.
 
   bench/node/model.py ID [lines|frames] < STREAM
 
 The words have to be good ones, and so has the plan, but records and frames may be any. Ends with the status."""
-import re
+
 import sys
-import tomllib
 from pathlib import Path
+
+sys.path.insert(0, str(Path(__file__).resolve().parents[2] / "tools"))
+from ringtools.starting import start
+
+import re
+import tomllib
 
 HERE = Path(__file__).resolve().parent
 sys.path[:0] = [str(HERE.parent / "outage"), str(HERE.parent / "aps")]
@@ -316,4 +321,4 @@ def main(words):
 
 
 if __name__ == "__main__":
-    sys.exit(main(sys.argv[1:]))
+    start(main)

@@ -1,5 +1,5 @@
 #!/usr/bin/env python3
-"""A plain simulation of the shared ring, and what `sdhoutage` must write of it. It shares nothing with the crates or the tools.
+"""A plain simulation of the shared ring, and what `sdhoutage` must write of it. It shares no rule with the crates or the tools.
 
   bench/outage/simulate.py run < PLAN              what `sdhoutage run` must write
   bench/outage/simulate.py trace NAME END < PLAN   what `sdhoutage trace NAME END` must write
@@ -10,7 +10,13 @@ Words, pointers and connections are run round by round, without frames: in place
 customer's bytes it is, from which byte on, and how they were put in. `tags` gives the rounds' kinds by these alone. `run` and `trace`
 make the bytes of them that a port delivers, and look for these in the customer's stream (looking.py): where the length of a text divides
 2340, VC-4s look alike, and a jump may not be seen. The plan has to be a good one. Ends with the status."""
+
 import sys
+from pathlib import Path
+
+sys.path.insert(0, str(Path(__file__).resolve().parents[2] / "tools"))
+from ringtools.starting import start
+
 import tomllib
 from collections import Counter
 from functools import lru_cache
@@ -460,4 +466,4 @@ def main(words):
 
 
 if __name__ == "__main__":
-    sys.exit(main(sys.argv[1:]))
+    start(main)

@@ -17,8 +17,12 @@ import random
 import re
 import subprocess
 import sys
+from pathlib import Path
 
 from plans import answer
+
+sys.path.insert(0, str(Path(__file__).resolve().parents[2] / "tools"))
+from ringtools.starting import start
 
 NUMBERS = (
     "0 1 -1 2 3 4 5 8 9 12 13 15 16 17 48 49 782 783 1000 65536 65537 1000000 1000001 1000000000 1000000001 4294967297 "
@@ -251,14 +255,14 @@ def compare(seeds, words, batch):
     return [(seed, data, answer(data), line) for seed, data, line in zip(seeds, documents, told)]
 
 
-def main():
+def main(given_words):
     parser = argparse.ArgumentParser(description=__doc__, formatter_class=argparse.RawDescriptionHelpFormatter)
     parser.add_argument("--count", type=int, default=1000)
     parser.add_argument("--seed", type=int, default=1)
     parser.add_argument("--batch", type=int, default=0)
     parser.add_argument("--jobs", type=int, default=2)
     parser.add_argument("command", nargs=argparse.REMAINDER)
-    words = parser.parse_args()
+    words = parser.parse_args(given_words)
     if not words.command:
         parser.error("no command")
     seeds = range(words.seed * 1_000_000_000, words.seed * 1_000_000_000 + words.count)
@@ -280,8 +284,8 @@ def main():
         print(f"{times:8} {line}")
     missing = [reason for reason in range(1, 32) if not reasons[f"bad plan {reason}"]]
     print(f"{words.count} documents, {differ} differ, {len(answers)} answers" + (f", reasons that never came: {missing}" if missing else ""))
-    sys.exit(1 if differ or missing else 0)
+    return 1 if differ or missing else 0
 
 
 if __name__ == "__main__":
-    main()
+    start(main)

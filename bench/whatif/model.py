@@ -1,9 +1,14 @@
 #!/usr/bin/env python3
 """A plain model of what sdhwhatif writes: the rules once more, written from their words in docs/WHATIF.md and docs/RING.md."""
 
+import sys
+from pathlib import Path
+
+sys.path.insert(0, str(Path(__file__).resolve().parents[2] / "tools"))
+from ringtools.starting import start
+
 import itertools
 import json
-import sys
 import tomllib
 from dataclasses import dataclass, field
 
@@ -286,4 +291,4 @@ def main(words):
 
 
 if __name__ == "__main__":
-    main(sys.argv[1:])
+    start(main)

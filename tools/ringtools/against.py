@@ -2,11 +2,14 @@
 
 import csv
 from collections import Counter
+from collections.abc import Iterator
 from dataclasses import dataclass, field
 
+from .cells import read_cell, write_rows
 from .desktable import OVER
-from .files import read_input
+from .files import CASES, read_input
 from .tables import TableProblem
+from .writing import Folder
 
 COLUMNS = ("Failures", "Depth", "Kind", "Circuit", "Other", "This", "Change")
 GAINS, LOSES, CHANGED = "gains", "loses", "other way"
@@ -31,15 +34,16 @@ def cases_of_told(name, told):
 def cases_of_table(name):
     """The table that an earlier run wrote: its circuits are those that it names in any case, as each is lost with its own node."""
     try:
-        rows = list(csv.DictReader(read_input(name).decode("utf-8").splitlines()))
+        rows = list(csv.DictReader(read_input(name, CASES).decode("utf-8").splitlines()))
     except (UnicodeDecodeError, csv.Error) as problem:
         raise TableProblem(f"{name}: {problem}") from None
     if not rows or any(row.get(column) is None for row in rows for column in WANTED):
         raise TableProblem(f"{name}: a table of --all is wanted, with the columns {', '.join(WANTED)}")
     cases, circuits = {}, {}
     for row in rows:
-        key = () if row["Failures"] == "nothing" else tuple(row["Failures"].split("; "))
-        over, lost = (row[column].split() for column in WANTED[1:])
+        failures, *circuits_of = (read_cell(row[column]) for column in WANTED)
+        key = () if failures == "nothing" else tuple(failures.split("; "))
+        over, lost = (found.split() for found in circuits_of)
         cases[key] = frozenset(over), frozenset(lost)
         circuits |= dict.fromkeys(over + lost)
     return Cases(name, tuple(circuits), cases)
@@ -86,10 +90,12 @@ class Against:
     def called(self, name):
         return self.this.called.get(name, name)
 
-    def write_csv(self, path):
-        with open(path, "w", newline="", encoding="utf-8") as file:
-            writer = csv.writer(file, lineterminator="\n")
-            writer.writerow(COLUMNS)
-            for key, name, before, now in self.changes:
-                kinds = "+".join(label.split()[0] for label in key)
-                writer.writerow(["; ".join(key) or "nothing", len(key), kinds, name, before, now, change(before, now)])
+    def rows(self) -> Iterator[list]:
+        yield list(COLUMNS)
+        for key, name, before, now in self.changes:
+            kinds = "+".join(label.split()[0] for label in key)
+            yield ["; ".join(key) or "nothing", len(key), kinds, name, before, now, change(before, now)]
+
+    def write_csv(self, folder: Folder, file: str) -> None:
+        with folder.writing_text(file) as text:
+            write_rows(text, self.rows())

@@ -12,9 +12,10 @@ from .desktable import WHOLE, Reading, ToldProblem, merged, read_cases, words_fo
 from .files import FileProblem
 from .framed import asked_of, machines_of, put_cases, run_cases, store_of
 from .groups import named_groups
-from .origin import TELLER, CannotRun, Origin, find_program, sum_of
+from .origin import TELLER, CannotRun, Origin, Program, program_of, sum_of
 from .required import BROKEN, NOT_ASKED, depth_for, line_of, not_asked, records
 from .running import processors, tell_with_parallel
+from .shown import shown
 from .tables import TableProblem
 from .told import Question, Told, case_to_run, differences, drawn, part_name
 from .toldpage import beside_page, heading, told_page
@@ -24,7 +25,7 @@ PARTS = {"single": 1, "double": 8, "triple": 64}  # over machines
 
 
 def teller_of(asked):
-    return find_program(shlex.split(asked.teller) if asked.teller else [str(TELLER)])
+    return program_of(asked.teller, TELLER)
 
 
 def told_of(asked, subject, depth, part=WHOLE):
@@ -76,10 +77,9 @@ def compare_tables(asked, name):
     if not asked.against or not asked.against.endswith(".csv"):
         raise Stop(f"{name}: a table in place of a plan is compared with another one: --all --against TABLE.csv")
     against, folder = Against(table_of(name), table_of(asked.against)), folder_of(asked, name)
-    folder.mkdir(parents=True, exist_ok=True)
-    against.write_csv(folder / "against.csv")
-    (folder / "against.html").write_text(beside_page(against), encoding="utf-8")
-    print(f"{folder / 'against.csv'}\n{folder / 'against.html'}")
+    against.write_csv(folder, "against.csv")
+    folder.write("against.html", beside_page(against))
+    print(shown(folder.path / "against.csv"), shown(folder.path / "against.html"), sep="\n")
     return 0
 
 
@@ -91,37 +91,41 @@ class Writing:
         self.question = Question(sum_of(subject.data), sum_of(subject.document), subject.beforehand)
         self.folder, self.end = folder_of(asked, subject.name), part_name(told.table.part)
 
-    def path(self, kind):
-        return self.folder / f"all{self.end}.{kind}"
+    def name(self, kind: str) -> str:
+        return f"all{self.end}.{kind}"
 
     def write_once(self):
         """What doesn't change by cases that are run: what was asked and answered, as it is, as JSON, and beside the other."""
-        self.folder.mkdir(parents=True, exist_ok=True)
-        self.path("toml").write_bytes(self.subject.document)
-        self.path("text").write_bytes(self.told.table.text)
-        self.told.write_json(self.path("json"), self.question, self.teller)
+        self.folder.write(self.name("toml"), self.subject.document)
+        self.folder.write(self.name("text"), self.told.table.text)
+        self.told.write_json(self.folder, self.name("json"), self.question, self.teller)
         if self.against:
-            self.against.write_csv(self.folder / f"against{self.end}.csv")
+            self.against.write_csv(self.folder, f"against{self.end}.csv")
+
+    def origin_of(self, program: Program, answers: tuple) -> Origin:
+        """Returns where the answers of a program come from."""
+        dates = tuple(answer.date for answer in answers)
+        return Origin(program, self.subject.title, self.question.plan, dates, asked=self.question.asked, answers=answers)
 
     def write(self, store, checked):
         """The table and the page. `checked` has the cases that were run, each with its verdict."""
         told, subject = self.told, self.subject
         found = {case.failures: differences(told, case, verdict) for case, verdict in checked}
-        dates = tuple(store.answer(told.name(case)).date for case, verdict in checked if verdict.answer) if store else ()
-        programs = [(self.teller, ()), *([(store.program, dates)] if store else [])]
-        origins = [Origin(program, subject.title, self.question.plan, times, asked=self.question.asked) for program, times in programs]
-        told.write_csv(self.path("csv"), self.question, found)
+        known = tuple(store.answer(told.name(case)) for case, verdict in checked if verdict.answer) if store else ()
+        programs = [(self.teller, ()), *([(store.program, known)] if store else [])]
+        origins = [self.origin_of(*one) for one in programs]
+        told.write_csv(self.folder, self.name("csv"), self.question, found)
         title = self.asked.title or heading(subject.title, subject.beforehand)
         page = told_page(title, subject.beforehand, told, found, origins, self.against)
-        self.path("html").write_text(page, encoding="utf-8")
+        self.folder.write(self.name("html"), page)
         for case, _ in checked:
             for difference in found[case.failures]:
                 say(f"{told.table.words(case)}: {difference}")
         return DIFFERS if any(found.values()) else 0
 
-    def names(self):
-        kinds = [str(self.path(kind)) for kind in ("csv", "json", "html")]
-        return kinds + ([str(self.folder / f"against{self.end}.csv")] if self.against else [])
+    def names(self) -> list[str]:
+        files = [self.name(kind) for kind in ("csv", "json", "html")] + ([f"against{self.end}.csv"] if self.against else [])
+        return [shown(self.folder.path / file) for file in files]
 
 
 def run_some(asked, subject, told, chosen):

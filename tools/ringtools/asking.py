@@ -1,23 +1,23 @@
 """What both forms of sdhring-whatif share: how they end, the plan that they ask about, and where they keep what they write."""
 
 import shlex
-import sys
 from dataclasses import dataclass
 from functools import cached_property
 from pathlib import Path
 
+from . import shown
 from .answers import limit_advice
 from .failures import read_beforehand
 from .files import FileProblem, read_input
 from .plan import PlanProblem, enough, read_plan, write_plan
 from .plans import stem_of
+from .writing import Folder, named_folder, own_folder
 
 FAILED, NOT_SETTLED, DIFFERS, INTERRUPTED = 1, 3, 4, 130
 
 
-def say(what):
-    sys.stderr.write(f"sdhring-whatif: {what}\n")
-    sys.stderr.flush()
+def say(what: object) -> None:
+    shown.say("sdhring-whatif", what)
 
 
 class Stop(Exception):
@@ -69,12 +69,12 @@ def subject_of(name, also, works, without_script):
     return Subject(name, data, beforehand, data if as_it_is else write_plan(plan, beforehand.settled_texts()).encode())
 
 
-def folder_of(asked, name):
-    """Where all of a plan is kept. Several plans have a folder each, in that of --dir."""
+def folder_of(asked, name: str) -> Folder:
+    """Returns the folder where all of a plan is kept, which is there then. Several plans have a folder each, in that of --dir."""
     own = f"{stem_of(name)}.whatif"
-    if asked.many:
-        return Path(asked.dir or ".") / own
-    return Path(asked.dir or own)
+    if asked.dir is None:
+        return own_folder(own)
+    return named_folder(asked.dir).inside(own) if asked.many else named_folder(asked.dir)
 
 
 def warn_of(program, plan=None):

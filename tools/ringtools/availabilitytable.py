@@ -1,10 +1,9 @@
 """What an availability comes to, as a text for people, and as records for programs: CSV, or JSON with one record in a line."""
 
-import csv
-import io
 import json
 
 from .availability import MINUTES, PROTECTIONS, Seen
+from .cells import text_of_records
 from .markup import count_of
 
 SHARES = (
@@ -71,13 +70,9 @@ def cause_records(plan, places, components, left):
                 yield {"circuit": who["circuit"], "called": who["called"], "protection": protection, "component": names[0], "other": names[1], "minutes": cause.minutes}
 
 
-def as_csv(columns, records):
+def as_csv(columns, records) -> str:
     """Numbers with all their digits, and empty cells for what isn't there."""
-    text = io.StringIO(newline="")
-    writer = csv.DictWriter(text, columns, lineterminator="\n")
-    writer.writeheader()
-    writer.writerows(records)
-    return text.getvalue()
+    return text_of_records(columns, records)
 
 
 def as_json(columns, records):

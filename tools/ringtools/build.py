@@ -6,12 +6,16 @@ after them, up to the next of their kind; so BUILDs put one after the other are 
 
 import hashlib
 import re
+from collections.abc import Iterable
 from dataclasses import dataclass
 from pathlib import Path
+
+from .files import FileProblem, read_path
 
 PROGRAMS = ("sdhring", "sdhwatch", "sdhoutage", "sdhpath", "sdhretime", "sdhwhatif", "sdhaps", "sdhnode")
 HOME = Path(__file__).resolve().parents[2]  # a checkout, an unpacked release, or the folder of the installed programs
 HEAD = ("version", "commit", "kit")
+LONGEST = 65_536  # bytes of a BUILD
 IS_INSTALLED = not (HOME / "docs").is_dir()
 PROGRAM = re.compile("program ([a-z]+) ([0-9a-f]{64}) ([0-9a-f]{64})")
 
@@ -75,19 +79,17 @@ def write_build(records):
     return "\n".join(lines) + "\n"
 
 
-def builds_near(file):
-    """Where a BUILD may name a file: beside it, and of what is built, released or installed where these tools are."""
-    beside = [file.with_name("BUILD"), file.with_name(f"{file.name}.BUILD")]
-    return [*beside, HOME / "dist" / "BUILD", HOME / "BUILD", *sorted((HOME / "out").glob("*.BUILD"))]
+def own_builds() -> list[Path]:
+    """Returns the BUILDs of what is built, released or installed where these tools are."""
+    return [HOME / "dist" / "BUILD", HOME / "BUILD", *sorted((HOME / "out").glob("*.BUILD"))]
 
 
-def record_of(file):
-    """What is known of a program's file, or None."""
-    sum = sum_of(file.read_bytes())
-    for path in builds_near(file):
+def record_of_sum(sum: str, more: Iterable[Path] = ()) -> Record | None:
+    """Returns what the BUILDs here say of the program of this checksum, or None. A BUILD that lies elsewhere says nothing, unless it is one of `more`."""
+    for path in [*more, *own_builds()]:
         try:
-            records = read_build(path.read_text(encoding="ascii"))
-        except (OSError, UnicodeDecodeError, BuildProblem):
+            records = read_build(read_path(path, LONGEST).decode("ascii"))
+        except (FileProblem, UnicodeDecodeError, BuildProblem):
             continue
         if found := next((record for record in records if record.sum == sum), None):
             return found

@@ -35,8 +35,8 @@ class Asked:
         return (self.title, f"<p>Plan <code>{escape(self.plan)}</code></p>") if self.title else (f"What if: {self.plan}", "")
 
     def origin(self, answers):
-        dates = tuple(answer.date for answer in answers if answer is not None)
-        return Origin(self.store.program, self.plan, self.plan_sum, dates)
+        known = tuple(answer for answer in answers if answer is not None)
+        return Origin(self.store.program, self.plan, self.plan_sum, tuple(answer.date for answer in known), answers=known)
 
 
 def answers_page(asked, verdicts):
@@ -70,9 +70,10 @@ def draw_case(asked, case):
     seen = looks(plan, scenes(plan, [step.round for step in report.settled]), report.settled)
     drawn = WORKS_STAGES if case.kind == "works" else ("failed",)
     shown = [look for look in seen if case.stages[look.scene.number - 1] in drawn] or seen[-1:]
-    origin = Origin(store.program, f"{case.name}.toml", store.answer(case.name).plan, (store.answer(case.name).date,))
+    answer = store.answer(case.name)
+    origin = Origin(store.program, f"{case.name}.toml", answer.plan, (answer.date,), answers=(answer,))
     title = f"{asked.title or asked.plan}: {case.words}"
-    store.path(case.name, "html").write_text(run_page(title, plan, report, shown, origin, beside), encoding="utf-8")
+    store.folder.write(f"{case.name}.html", run_page(title, plan, report, shown, origin, beside))
 
 
 def draw_cases(asked, cases, jobs):

@@ -3,7 +3,7 @@
 from dataclasses import dataclass
 
 from .failures import cut_by, span_fibres, span_named
-from .tables import TableProblem, read_table
+from .tables import TableProblem, quoted, read_table
 
 HOURS = 8760.0  # of a year of 365 days
 SPAN_COLUMNS = ("from", "to", "cuts", "km", "cuts_per_1000_km", "hours", "fibre_failures", "fibre_hours")
@@ -77,14 +77,14 @@ class Finder:
         at = self.nodes.get(row[column].casefold())
         if at is None:
             known = ", ".join(self.places.node(number) for number in self.plan.ids)
-            raise row.problem(f"`{column}` is `{row[column]}`, and the nodes of the plan are {known}")
+            raise row.problem(f"`{column}` is `{row.quoted(column)}`, and the nodes of the plan are {known}")
         return at
 
     def span(self, row):
         here, there = self.node(row, "from"), self.node(row, "to")
         span = span_named(self.plan, self.plan.ids[here], self.plan.ids[there])
         if span is None or here == there:
-            raise row.problem(f"no span of the ring joins {row['from']} and {row['to']}")
+            raise row.problem(f"no span of the ring joins {row.quoted('from')} and {row.quoted('to')}")
         return span
 
     def span_name(self, span):
@@ -93,7 +93,7 @@ class Finder:
     def member(self, row, words):
         member = self.members.get(" ".join(words.casefold().split()))
         if member is None:
-            raise row.problem(f"`{words.strip()}` is no span, node or fibre of the plan, as `span A-B`, `node A` or `fibre A>B`")
+            raise row.problem(f"`{quoted(words.strip())}` is no span, node or fibre of the plan, as `span A-B`, `node A` or `fibre A>B`")
         return member
 
 

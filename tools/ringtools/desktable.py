@@ -3,7 +3,6 @@
 The table has all of it. The restoration model computes it again, and a case whose record differs from the model's in any byte is refused.
 """
 
-import subprocess
 import time
 from dataclasses import dataclass
 from functools import cached_property
@@ -12,10 +11,10 @@ from typing import NamedTuple
 
 from .failures import span_fibres
 from .model import CUT, DEGRADE, FAIL, FORCED, MANUAL, WAIT, applied_spans, arc, is_joined, route, scenes, span_requests
-from .origin import CannotRun
 from .plan import SIDES
 from .reasons import REASONS
 from .report import BAD_PLAN
+from .programs import ask
 
 KEPT, IMPAIRED, OVER, LOST = "k", "i", "o", "l"
 GROUP = "group"  # failures of the ring that come together, as `own` words name them
@@ -339,13 +338,10 @@ def words_for(failures, depth, part=WHOLE):
 
 def tell(program, document, words):
     """What the program writes where it is given these words."""
-    try:
-        ended = subprocess.run([*program.words, *words], input=document, stdout=subprocess.PIPE)
-    except OSError as error:
-        raise CannotRun(f"{program.words[0]}: {error.strerror}") from None
-    if ended.returncode:
-        raise ToldProblem(f"status {ended.returncode}, {refused(ended.stdout)}")
-    return ended.stdout
+    text, status = ask(program, words, document)
+    if status:
+        raise ToldProblem(f"status {status}, {refused(text)}")
+    return text
 
 
 def read_cases(reading, program, document, depth="double", part=WHOLE):

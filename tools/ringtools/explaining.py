@@ -12,6 +12,7 @@ from .markup import count_of
 from .places import PlaceProblem, read_places
 from .plan import PlanProblem, enough, read_document, read_plan
 from .reasons import REASONS
+from .shown import shown
 from .source import Place, Source
 from .stream import TEXT_BYTES
 
@@ -36,16 +37,11 @@ class Finding:
         at = f"{name}:{self.place.line}:{self.place.column}: " if self.place else f"{name}: "
         told = [at + self.head]
         if self.place:
-            told += shown(self.place)
-        return ["".join(map(seen, line)) for line in told + [f"  {note}" for note in self.notes]]
+            told += marked(self.place)
+        return [*map(shown, told + [f"  {note}" for note in self.notes])]
 
 
-def seen(letter):
-    """A letter as a terminal may be shown it: no control signs, which texts may have by escapes."""
-    return letter if letter.isprintable() else "\N{REPLACEMENT CHARACTER}"
-
-
-def shown(place, width=100):
+def marked(place, width=100):
     """The line with a mark below the place; of a long line the part around it."""
     begin = max(0, min(place.column - 1 - width // 2, len(place.whole) - width))
     part = place.whole[begin : begin + width].replace("\t", " ")

@@ -10,12 +10,13 @@ from .failures import KINDS, all_cases, shard_of
 from .interruptions import COUNTER, count_works, write_interruptions
 from .kept import Store
 from .markup import count_of
-from .origin import LAUNCHER, find_program, sum_of
+from .origin import LAUNCHER, program_of, sum_of
 from .plan import read_plan
 from .progress import Progress, duration
 from .reasons import REASONS
 from .report import ReportProblem, read_report
 from .running import Machines, processors, run_here, run_with_parallel
+from .shown import shown
 from .verdicts import SOURCE, UNSETTLED, judge, source_cells, write_table
 
 
@@ -30,21 +31,23 @@ def read_kinds(words, alone):
 
 
 def machines_of(asked):
-    return Machines(tuple(asked.sshlogin), asked.jobs, tuple(shlex.split(asked.parallel)))
+    try:
+        return Machines(tuple(asked.sshlogin), asked.jobs, tuple(shlex.split(asked.parallel)))
+    except ValueError as error:
+        raise Stop(f"--parallel `{asked.parallel}`: {error}") from None
 
 
 def store_of(asked, subject):
-    words = shlex.split(asked.program) if asked.program else [str(LAUNCHER)]
-    store = Store(folder_of(asked, subject.name) / "cases", find_program(words))
+    store = Store(folder_of(asked, subject.name).inside("cases"), program_of(asked.program, LAUNCHER))
     warn_of(store.program, subject.plan)
     return store
 
 
 def counting_store_of(asked, subject):
     """Where what sdhoutage counts is kept."""
-    program = find_program(shlex.split(asked.counter) if asked.counter else [str(COUNTER)])
+    program = program_of(asked.counter, COUNTER)
     warn_of(program)
-    return Store(folder_of(asked, subject.name) / "outages", program)
+    return Store(folder_of(asked, subject.name).inside("outages"), program)
 
 
 def asked_of(asked, subject, store, part="", interruptions=None):
@@ -113,9 +116,11 @@ def run_cases(asked, store, beforehand, cases):
 def put_cases(asked, store, beforehand, cases):
     for case in cases:
         store.put_plan(case.name, beforehand.document(case))
-    others = store.kept_of_others(case.name for case in cases)
+    others, strangers = store.others(case.name for case in cases)
     if others:
         say(f"{others} of {len(cases)} kept answers are another program's, and are run again")
+    if strangers:
+        say(f"{strangers} of {len(cases)} kept answers weren't written by this account's tools, and are run again")
     for case in cases if asked.anew else ():
         store.forget(case.name)
 
@@ -125,16 +130,14 @@ def write_answers(asked, subject, store, counted, cases):
     part = "" if shards == 1 else f"-{shard}-of-{shards}"
     told = asked_of(asked, subject, store, part and f"{shard} of {shards}", counted)
     verdicts = [judge(case, subject.beforehand.plan_of(case), store.text(case.name), store.answer(case.name)) for case in cases]
-    folder = store.folder.parent
-    table, page = folder / f"table{part}.csv", folder / f"page{part}.html"
-    write_table(table, told, verdicts)
+    folder = folder_of(asked, subject.name)
+    write_table(folder, f"table{part}.csv", told, verdicts)
     draw_cases(told, cases, asked.jobs or processors())
-    page.write_text(answers_page(told, verdicts), encoding="utf-8")
-    print(f"{table}\n{page}")
+    folder.write(f"page{part}.html", answers_page(told, verdicts))
+    print(shown(folder.path / f"table{part}.csv"), shown(folder.path / f"page{part}.html"), sep="\n")
     if counted:
-        outages = folder / f"outages{part}.csv"
-        write_interruptions(outages, SOURCE, counted, subject.plan, source_cells(counted.answer, told))
-        print(outages)
+        write_interruptions(folder, f"outages{part}.csv", SOURCE, counted, subject.plan, source_cells(counted.answer, told))
+        print(shown(folder.path / f"outages{part}.csv"))
     return verdicts
 
 

@@ -2,25 +2,38 @@
 
 import os
 import re
-import shutil
+import shlex
+from collections.abc import Iterable, Mapping
+from contextlib import suppress
 from dataclasses import dataclass
 from pathlib import Path
 
-from .build import HOME, PROGRAMS, record_of, version, write_build
+from .build import HOME, PROGRAMS, version, write_build
+from .origin import launched_record
+from .shown import shown
+from .writing import Folder, WriteProblem, named_folder, parts_of
 
-TOOLS = ("sdhring-availability", "sdhring-capture", "sdhring-desk", "sdhring-explain", "sdhring-plan", "sdhring-report", "sdhring-view", "sdhring-whatif")
+TOOLS = (
+    *("sdhring-availability", "sdhring-capture", "sdhring-compare-node", "sdhring-desk", "sdhring-explain", "sdhring-plan", "sdhring-report"),
+    *("sdhring-view", "sdhring-whatif"),
+)
 DOCUMENTS = (
     *("AVAILABILITY.md", "BENCH.md", "DESK.md", "FORMATS.md", "LOOKING.md", "OUTAGES.md", "PATHS.md", "RETIMING.md", "RING.md", "TABLES.md", "WATCHING.md"),
-    *("SIGNALLED.md", "WHATIF.md"),
+    *("ROUTES.md", "SIGNALLED.md", "SIGNALLING.md", "WHATIF.md"),
 )
 LIB, DOC, MAN = "lib/sdhring", "share/doc/sdhring", "share/man/man1"
 COMPLETIONS = "share/bash-completion/completions"
 FILES = f"{LIB}/FILES"
+LONGEST_LIST = 1 << 20  # bytes of it
+CACHE = "__pycache__"
+# What an install puts below a prefix, and so all that may be taken away from there.
+OURS = re.compile(rf"bin/sdh[a-z-]+|{LIB}/.+|{DOC}/.+|{MAN}/sdh[a-z-]+\.1|{COMPLETIONS}/sdh[a-z-]+")
 # What is about the repository alone, from the one comment to the other, of a document, a man page or a script.
-OF_REPOSITORY = re.compile(r"<!-- repository -->.*?<!-- end -->\n?\n?|^(?:\.\\\"|#) repository\n.*?^(?:\.\\\"|#) end\n\n?", re.M | re.S)
+OF_REPOSITORY = re.compile(r"^<!-- repository -->.*?<!-- end -->\n?\n?|<!-- repository -->.*?<!-- end -->|^(?:\.\\\"|#) repository\n.*?^(?:\.\\\"|#) end\n\n?", re.M | re.S)
 # What is of use only before it is installed.
-OF_UNPACKED = re.compile(r"<!-- unpacked -->.*?<!-- end -->\n?\n?", re.S)
+OF_UNPACKED = re.compile(r"<!-- unpacked -->.*?<!-- end -->\n?\n?|^\.\\\" unpacked\n.*?^\.\\\" end\n", re.M | re.S)
 TEXTS = {".md", ".1", ".toml", ".json", ""}
+EXAMPLE = r"examples/(?:[\w./-]*[\w/-])?"
 
 
 class InstallProblem(Exception):
@@ -41,14 +54,14 @@ def unlinked(found):
     before, words, name = found[1] or "", found[2], found[3]
     if name in DOCUMENTS or name in ("README.md", "CHANGELOG.md", "WORDS.md"):
         return found[0]
-    return "" if before and words.endswith(".md") else f"{before and ' ('}{words}{before and ')'}"
+    return "" if before and words.endswith(".md") else f"{before}{words}{before and ')'}"
 
 
 def released(text):
     """A text as a release has it: without what is about the repository alone, and without links to documents of it."""
     text = OF_REPOSITORY.sub("", text).replace("](MAP.md#the-words-of-the-field)", "](WORDS.md)")
-    text = re.sub(r"([ \n]\()\[([^]]*)\]\((?:docs/|\.\./)?([A-Z]+\.md)[^)]*\)\)", unlinked, text)
-    return re.sub(r"()\[([^]]*)\]\((?:docs/|\.\./)?([A-Z]+\.md)[^)]*\)", unlinked, text)
+    text = re.sub(r"((?:\n *| )\()\[([^]]*)\]\((?:docs/|\.\./)?([A-Z]+\.md)[^)]*\)\)", unlinked, text)
+    return re.sub(r"()\[([^]]*)\]\((?:docs/|\.\./)?([A-Z]+\.md)[^)]*\)", unlinked, text).rstrip("\n") + "\n"
 
 
 def glossary():
@@ -57,17 +70,22 @@ def glossary():
     return f"# The words of the field\n{words}"
 
 
+def with_places(text, files, doc):
+    """A text in which the names of these files, a form without groups, lead to the folder of the documents from wherever a command is typed."""
+    return re.sub(rf"(?<![\w/(])({files})", lambda found: shlex.quote(f"{doc}/{found[1].removeprefix('docs/')}"), text)
+
+
 def installed(text, name, doc):
     """A text of a release as it is installed: commands are on the PATH, and documents and examples stand in one folder."""
     text = re.sub(r"\\&\./(?=sdh)|(?<![\w.])\./(?=sdh)", "", OF_UNPACKED.sub("", released(text)))
     if name.endswith(".1"):
         text = text.replace("man \\-l docs/", "man ").replace("man -l docs/", "man ")
-        text = re.sub(r"(?<![\w/])(docs/|(?=examples/))(?=[\w.])", f"{doc}/", text)
+        text = with_places(text, rf"docs/[\w.-]*\w|{EXAMPLE}", doc)
         return re.sub(r'^(\.TH .*)"sdhring(?: [0-9.]+)?"', rf'\1"sdhring {version()}"', text, flags=re.M)
     text = re.sub(r"man -l docs/([\w-]+)\.1", r"man \1", text)
     text = re.sub(r"\[([\w-]+)\.1\]\((?:docs/)?[\w-]+\.1\)", r"\1(1)", text)
     text = re.sub(r"\]\((?:docs|\.\.)/", "](", text)
-    return re.sub(r"(?<![\w/])docs/(?=\w)", "", text)
+    return with_places(re.sub(r"(?<![\w/])docs/(?=\w)", "", text), EXAMPLE, doc)
 
 
 def words_of_the_field():
@@ -84,7 +102,7 @@ def texts():
         yield HOME / "docs" / name, DOC
     for path in sorted((HOME / "docs").glob("sdh*.1")):
         yield path, MAN
-    for path in sorted(path for path in (HOME / "examples").rglob("*") if path.is_file()):
+    for path in sorted(path for path in (HOME / "examples").rglob("*") if path.is_file() and "__pycache__" not in path.parts):
         yield path, f"{DOC}/{path.parent.relative_to(HOME)}"
 
 
@@ -93,13 +111,13 @@ def modules():
     for name in (*TOOLS, "install"):
         yield Path(name)
     for path in sorted((HOME / "tools" / "ringtools").rglob("*")):
-        if path.is_file() and path.suffix in (".py", ".css", ".js") and path.name not in ("rows.py", "releasing.py"):
+        if path.is_file() and path.suffix in (".py", ".css", ".js") and path.name not in ("benching.py", "rows.py", "releasing.py"):
             yield path.relative_to(HOME / "tools")
 
 
 def programs(places):
     """The programs' files by name, and the BUILD that names all of them. `places` has the file of each."""
-    records = [record_of(places[name]) for name in PROGRAMS]
+    records = [launched_record(places[name]) for name in PROGRAMS]
     if None in records:
         raise InstallProblem(f"no BUILD names {places[PROGRAMS[records.index(None)]]}")
     return {name: Piece(places[name].read_bytes(), is_run=True) for name in PROGRAMS}, write_build(records)
@@ -124,7 +142,7 @@ def pieces(places, prefix):
         text = path.read_bytes()
         if path.suffix in TEXTS:
             text = installed(text.decode("utf-8"), path.name, f"{prefix}/{DOC}").encode("utf-8")
-        found[f"{folder}/{path.name}"] = Piece(text)
+        found[f"{folder}/{path.name}"] = Piece(text, is_run=is_run(path))
     found[f"{DOC}/WORDS.md"] = Piece(words_of_the_field())
     for path in sorted((HOME / "docs").glob("*.svg")):
         found[f"{DOC}/{path.name}"] = Piece(path.read_bytes())
@@ -133,58 +151,77 @@ def pieces(places, prefix):
     return found
 
 
-def make_folder(path):
-    """A folder that all can read, whatever the mask of whoever installs; one that is there stays as it is."""
-    if not path.is_dir():
-        make_folder(path.parent)
-        path.mkdir(exist_ok=True)
-        path.chmod(0o755)
-
-
-def put(path, piece):
-    """Puts one file in place; a program that runs meanwhile goes on as it was."""
-    make_folder(path.parent)
-    new = path.with_name(f".{path.name}.new")
-    new.unlink(missing_ok=True)
+def put(root: Folder, path: str, piece: Piece) -> None:
+    """Puts one file in place, with the mode of a release; a program that runs meanwhile goes on as it was."""
+    folder, name = root.place_of(path, 0o755)
     if piece.link:
-        new.symlink_to(piece.link)
+        folder.write_link(name, piece.link)
     else:
-        new.write_bytes(piece.data)
-        new.chmod(0o755 if piece.is_run else 0o644)
-    new.replace(path)
+        folder.write(name, piece.data, 0o755 if piece.is_run else 0o644)
 
 
-def listed(root):
-    """The files that an earlier install has listed."""
-    path = root / FILES
-    return path.read_text(encoding="utf-8").splitlines() if path.is_file() else []
-
-
-def remove(root, names):
-    """Takes files away, and the folders that are empty then."""
+def listed(root: Folder) -> list[str]:
+    """Returns the files that an earlier install has listed. Raises InstallProblem where one of them can't be of an install."""
+    try:
+        folder, name = inner(root, FILES)
+        data = folder.read(name, LONGEST_LIST)
+    except WriteProblem:
+        return []
+    names = data.decode("utf-8", "replace").splitlines() if data is not None else []
     for name in names:
-        (root / name).unlink(missing_ok=True)
-    folders = {root / parent for name in names for parent in Path(name).parents}
-    for folder in sorted(folders - {root}, key=lambda path: -len(path.parts)):
-        shutil.rmtree(folder / "__pycache__", ignore_errors=True)
-        if folder.is_dir() and not any(folder.iterdir()):
-            folder.rmdir()
+        if not OURS.fullmatch(name) or {"", ".", ".."} & set(name.split("/")):
+            raise InstallProblem(f"{root.path / FILES} names `{shown(name)}`, which no install puts there; nothing is taken away")
+    return names
 
 
-def install(places, prefix, root=None, with_list=True):
+def inner(root: Folder, path: str) -> tuple[Folder, str]:
+    """Returns the folder of a file below a root, and the file's own name. Neither has to be there."""
+    *names, name = parts_of(path)
+    return Folder(root.base, (*root.below, *names)), name
+
+
+def remove_compiled(folder: Folder) -> None:
+    """Takes away what Python has left beside the modules of a folder."""
+    cache = Folder(folder.base, (*folder.below, CACHE))
+    with suppress(WriteProblem):
+        for name in cache.names():
+            if name.endswith(".pyc"):
+                cache.remove(name)
+        folder.remove_folder(CACHE)
+
+
+def remove(root: Folder, names: Iterable[str]) -> None:
+    """Takes files away, and the folders that are empty then. No link is followed on the way to any."""
+    names = list(names)
+    for path in names:
+        folder, name = inner(root, path)
+        with suppress(WriteProblem):
+            folder.remove(name)
+    folders = {str(parent) for name in names for parent in Path(name).parents} - {"."}
+    for path in sorted(folders, key=lambda path: -path.count("/")):
+        folder, name = inner(root, path)
+        with suppress(WriteProblem):
+            if path.startswith(LIB):
+                remove_compiled(Folder(folder.base, (*folder.below, name)))
+            folder.remove_folder(name)
+
+
+def install(places: Mapping[str, Path], prefix: Path, root: Path | None = None, with_list: bool = True) -> None:
     """Puts everything below a prefix, or below a root that stands for it, and removes what only an earlier install had."""
-    root, found = root or prefix, pieces(places, prefix)
-    before = set(listed(root))
+    folder, found = named_folder(root or prefix), pieces(places, prefix)
+    before = set(listed(folder))
     for name, piece in found.items():
-        put(root / name, piece)
+        put(folder, name, piece)
     if with_list:
-        put(root / FILES, Piece("".join(f"{name}\n" for name in sorted([*found, FILES])).encode("utf-8")))
-        remove(root, sorted(before - set(found) - {FILES}))
+        put(folder, FILES, Piece("".join(f"{name}\n" for name in sorted([*found, FILES])).encode("utf-8")))
+        remove(folder, sorted(before - set(found) - {FILES}))
 
 
-def uninstall(prefix):
-    names = listed(prefix)
+def uninstall(prefix: Path) -> int:
+    """Takes away what an install has put below a prefix, and returns how many files these were."""
+    folder = Folder(prefix)
+    names = listed(folder)
     if not names:
         raise InstallProblem(f"{prefix / FILES} isn't there, which lists what --install has put there")
-    remove(prefix, names)
+    remove(folder, names)
     return len(names)

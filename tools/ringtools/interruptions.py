@@ -1,9 +1,10 @@
 """For how long the works of an order interrupt each customer, as sdhoutage counts it in frames: for the page, and as a table."""
 
-import csv
+from collections.abc import Sequence
 from dataclasses import dataclass, field
 from html import escape
 
+from .cells import write_rows
 from .failures import WORKS_STAGES
 from .kept import Store
 from .markup import count_of
@@ -11,6 +12,7 @@ from .origin import LAUNCHER, Origin
 from .outages import frames_words, milliseconds, put_beside, read_outages
 from .report import ReportProblem, read_report
 from .running import run_one
+from .writing import Folder
 
 COUNTER = LAUNCHER.with_name("sdhoutage")
 BEGINNINGS = {"during": "as they begin", "after": "as they end", "waited": "after waiting"}
@@ -37,7 +39,8 @@ class Interruptions:
         return self.store.answer(self.name)
 
     def origin(self, plan, plan_sum):
-        return Origin(self.store.program, plan, plan_sum, (self.answer.date,) if self.answer else ())
+        known = (self.answer,) if self.answer else ()
+        return Origin(self.store.program, plan, plan_sum, tuple(answer.date for answer in known), answers=known)
 
     def put_beside(self, settled):
         """Gives the settle steps of the works' report what was counted of them; returns where that stands, or None."""
@@ -124,8 +127,6 @@ def rows(interruptions, plan, source):
                 yield [*who, outage.out, milliseconds(outage.out), outage.jumps, "yes" if outage.is_out_still else "no", *source]
 
 
-def write_interruptions(path, heads, interruptions, plan, source):
-    with open(path, "w", newline="", encoding="utf-8") as file:
-        writer = csv.writer(file, lineterminator="\n")
-        writer.writerow([*FIELDS, *heads])
-        writer.writerows(rows(interruptions, plan, source))
+def write_interruptions(folder: Folder, name: str, heads: Sequence[str], interruptions: Interruptions, plan, source) -> None:
+    with folder.writing_text(name) as file:
+        write_rows(file, [[*FIELDS, *heads], *rows(interruptions, plan, source)])

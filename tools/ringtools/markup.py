@@ -1,11 +1,13 @@
 """What all pages share: their head, tables, lists and words. A page needs nothing besides itself."""
 
 import re
+from collections.abc import Sequence
 from functools import cache
 from html import escape
 from pathlib import Path
 
-from .origin import NOT_KNOWN, now
+from .kept import ELSEWHERE, Answer
+from .origin import NOT_KNOWN, PROVED, now
 
 WEB = Path(__file__).parent / "web"
 COMPARED = (
@@ -88,8 +90,9 @@ def count_of(number, one, many=None):
     return f"{number} {one if number == 1 else many or one + 's'}"
 
 
-def moment_words(date):
-    return date.replace("T", " ").removesuffix("Z") + " UTC" if date else "not known"
+def moment_words(date: str) -> str:
+    """Returns a moment as markup."""
+    return escape(date.replace("T", " ").removesuffix("Z") + " UTC" if date else "not known")
 
 
 def dates_words(dates):
@@ -105,19 +108,32 @@ def warning(origin):
     return ""
 
 
+def answers_words(answers: Sequence[Answer]) -> str:
+    """Returns in words how many of these answers were run when the page was written, how many were kept, and how many came from other machines."""
+    kept, away = sum(answer.is_kept for answer in answers), sum(answer.where == ELSEWHERE for answer in answers)
+    words = [f"{len(answers) - kept} run for this page"] if kept < len(answers) else []
+    words += [f"{kept} kept from an earlier run of this account"] if kept else []
+    words += [f"{away} of them run on other machines"] if away else []
+    return f"{count_of(len(answers), 'answer')}: {', '.join(words)}"
+
+
 def origin_list(origin):
     """Program, proved or not, version, date and checksums."""
     program, code = origin.program, lambda words: f"<code>{escape(words)}</code>"
     told = program.lines() if program else {}
+    proved = "yes" if told.get("proof") == PROVED else "not known"
+    if any(answer.where == ELSEWHERE for answer in origin.answers):
+        proved += ", by the word of the machines that ran it"
     lines = {
         "Program": code(told["program"]) if told else escape(origin.note),
-        "Proved": "yes" if told.get("proof") == "proved" else "not known",
+        "Proved": proved,
         "Version": escape(told.get("version", "not known")),
         "Program's checksum": code(told["sum"]) if told else "not known",
         "Plan": code(origin.plan),
         "Plan's checksum": code(origin.plan_sum),
         **({"Checksum of the plan as asked": code(origin.asked)} if origin.asked not in ("", origin.plan_sum) else {}),
         "Answered": dates_words(origin.dates),
+        **({"Answers": answers_words(origin.answers)} if origin.answers else {}),
         "Page written": moment_words(now()),
     }
     inside = "".join(f"<dt>{name}</dt><dd>{words}</dd>" for name, words in lines.items())

@@ -2,8 +2,11 @@
 
 import argparse
 
+from typing import NoReturn
+
 from .build import version
 from .origin import LAUNCHER, CannotRun, find_program
+from .shown import shown
 
 
 def version_words(tool):
@@ -30,3 +33,6 @@ class Options(argparse.ArgumentParser):
     def __init__(self, **more):
         super().__init__(**more)
         self.add_argument("--version", action=ShowVersion, nargs=0, help="show the version, and whether the program beside is proved")
+
+    def error(self, message: str) -> NoReturn:
+        super().error(shown(message))

@@ -4,14 +4,18 @@ import os
 import shlex
 import shutil
 import subprocess
+from collections.abc import Sequence
 from dataclasses import dataclass
 from datetime import datetime, timezone
 from pathlib import Path
 
-from .build import HOME, PROGRAMS, record_of, sum_of
+from .build import HOME, PROGRAMS, Record, record_of_sum, sum_of
+from .files import FileProblem, read_path
+from .shown import shown
 
 LAUNCHER = HOME / "sdhring"  # or the program itself, where it is installed
 TELLER = LAUNCHER.with_name("sdhwhatif")
+LONGEST_PROGRAM = 64 << 20  # bytes of a program's file
 PROVED, NOT_KNOWN = "proved", "not known to be proved"
 
 
@@ -38,7 +42,7 @@ class Program:
 
     def lines(self):
         """What a kept answer and a table say of it, by name."""
-        return {"sum": self.sum, "program": shlex.join(self.words), "version": self.version or "not told", "proof": self.proof}
+        return {"sum": self.sum, "program": shown(shlex.join(self.words)), "version": self.version or "not told", "proof": self.proof}
 
 
 @dataclass(frozen=True)
@@ -51,6 +55,7 @@ class Origin:
     dates: tuple = ()  # of the answers
     note: str = ""
     asked: str = ""  # the checksum of what was asked about, where that isn't the plan's file as it is
+    answers: tuple = ()  # the kept answers of which it consists, where there are such
 
 
 def file_of(word):
@@ -64,37 +69,84 @@ def settled_words(words):
     return tuple(str(Path(word).resolve()) if "/" in word and Path(word).is_file() else word for word in words)
 
 
-def sum_of_command(words):
-    """Of the file where the command is one; else of the words, and of the files that they name."""
+def sum_of_file(file: Path) -> str:
+    """Returns the checksum of a program's file, or `-` where it can't be read or is longer than any program."""
+    try:
+        data = read_path(file, LONGEST_PROGRAM + 1)
+    except FileProblem:
+        return "-"
+    return sum_of(data) if len(data) <= LONGEST_PROGRAM else "-"
+
+
+def sum_of_command(words: Sequence[str]) -> str:
+    """Returns the checksum of the file where the command is one; else of the words, and of the files that they name."""
     files = [file_of(word) for word in words]
-    sums = [sum_of(file.read_bytes()) if file else "-" for file in files]
-    return sums[0] if len(words) == 1 and files[0] else sum_of(shlex.join([*words, *sums]).encode())
+    sums = [sum_of_file(file) if file else "-" for file in files]
+    return sums[0] if len(words) == 1 and files[0] else sum_of(shlex.join([*words, *sums]).encode("utf-8", "surrogateescape"))
 
 
-def is_launcher(words):
-    """Whether this is a script of a program's name that stands beside the launcher, which can be asked for the program."""
+def launcher_of(words: Sequence[str]) -> Path | None:
+    """Returns the script of a program's name that these words are, which stands beside a launcher and can be asked for the program; or None."""
     file = Path(shutil.which(words[0]) or words[0])
-    if len(words) != 1 or file.name not in PROGRAMS or not file.is_file() or file.read_bytes()[:2] != b"#!":
-        return False
-    launcher = file.resolve().with_name("sdhring")
-    return launcher.is_file() and b"--where" in launcher.read_bytes()
+    if len(words) != 1 or file.name not in PROGRAMS or not file.is_file():
+        return None
+    try:
+        is_script, launcher = read_path(file, 2) == b"#!", file.resolve().with_name("sdhring")
+        return file if is_script and launcher.is_file() and b"--where" in read_path(launcher, LONGEST_PROGRAM) else None
+    except FileProblem:
+        return None
 
 
-def launched(launcher):
-    """The file that a launcher runs. What it says where it has none goes to standard error."""
+def launched(launcher: Path) -> Path:
+    """Returns the file that a launcher runs. What it says where it has none goes to standard error."""
     try:
         ended = subprocess.run([launcher, "--where"], stdin=subprocess.DEVNULL, stdout=subprocess.PIPE, timeout=60)
     except (OSError, subprocess.TimeoutExpired) as error:
-        raise CannotRun(f"{launcher}: {getattr(error, 'strerror', error)}") from None
+        raise CannotRun(f"{launcher}: {getattr(error, 'strerror', None) or error}") from None
     runs = os.fsdecode(ended.stdout).strip()
     if ended.returncode or not Path(runs).is_file():
         raise CannotRun(f"{launcher} ended with status {ended.returncode}, and has no program")
-    return runs
+    return Path(runs)
 
 
-def find_program(words):
-    """The program of these words: what a launcher runs, or the command itself. It is proved where a BUILD has its very file."""
-    words = (launched(words[0]),) if is_launcher(words) else settled_words(words)
+def build_beside(file: Path) -> Path:
+    """Returns the BUILD that the launcher puts beside a program which it has built, and by which it chose it."""
+    return file.with_name(f"{file.name}.BUILD")
+
+
+def launched_record(file: Path) -> Record | None:
+    """Returns what is known of a program's file that this place's own launcher chose, or None."""
+    return record_of_sum(sum_of_file(file), [build_beside(file)])
+
+
+def known_program(words: Sequence[str], sum: str, more: Sequence[Path] = ()) -> Program:
+    """Returns the program of this checksum, which is proved where a BUILD of these tools' own place names that, or one of `more`."""
+    record = record_of_sum(sum, more)
+    return Program(words, sum, record.words(), PROVED) if record else Program(words, sum)
+
+
+def find_program(words: Sequence[str]) -> Program:
+    """Returns the program of these words: what a launcher runs, or the command itself.
+
+    It is proved where a BUILD of these tools' own place names the checksum of its file, wherever that lies; or one that
+    lies beside the file, where it is this place's own launcher that chose both. Another BUILD beside it says nothing.
+    """
+    if not words:
+        raise CannotRun("a program is named by no word")
+    launcher = launcher_of(words)
+    words = (str(launched(launcher)),) if launcher else settled_words(words)
     file = file_of(words[0]) if len(words) == 1 else None
-    record = record_of(file) if file else None
-    return Program(words, record.sum, record.words(), PROVED) if record else Program(words, sum_of_command(words))
+    if file is None:
+        return Program(words, sum_of_command(words))
+    is_own = launcher is not None and launcher.resolve().parent == LAUNCHER.resolve().parent
+    return known_program(words, sum_of_file(file), [build_beside(file)] if is_own else ())
+
+
+def program_of(asked: str | None, otherwise: Path) -> Program:
+    """Returns the program of an option's words, or of this file where the option wasn't given."""
+    if asked is None:
+        return find_program((str(otherwise),))
+    try:
+        return find_program(tuple(shlex.split(asked)))
+    except ValueError as error:
+        raise CannotRun(f"`{asked}` is no command: {error}") from None

@@ -159,7 +159,7 @@ def source(origin):
 def in_short(origin):
     """Program, proof and plan in one line."""
     program = origin.program
-    shown = f"{escape(program.version or 'A program')}, {program.proof}" if program else "By which program isn't known"
+    shown = f"{escape(program.version or 'A program')}, {escape(program.proof)}" if program else "By which program isn't known"
     return f'<p class="note">{shown}; plan <code>{origin.plan_sum[:12]}</code>: <a href="#source">where this comes from</a>.</p>'
 
 

@@ -1,6 +1,8 @@
 """Several plans, and folders of them, as the tools' words name them; and the tables that stand beside a plan."""
 
+import os
 from collections import Counter
+from collections.abc import Sequence
 from pathlib import Path
 
 from .files import FileProblem
@@ -25,15 +27,19 @@ def are_many(words):
     return len(words) > 1 or any(word != "-" and Path(word).is_dir() for word in words)
 
 
-def stem_of(name):
-    return "stdin" if name == "-" else Path(name).stem
+def stem_of(name: str) -> str:
+    """Returns the name of what is written of a plan; a byte that isn't UTF-8 is shown there by its two digits."""
+    return "stdin" if name == "-" else os.fsencode(Path(name).stem).decode("utf-8", "backslashreplace").replace("\\x", "-x")
 
 
-def need_names(names):
-    """Raises where what is made of two files would have one name."""
-    twice = [stem for stem, count in Counter(map(stem_of, names)).items() if count > 1]
+def need_names(names: Sequence[str], with_index: bool = False) -> None:
+    """Raises where what is made of two files would have one name, or that of the index."""
+    stems = Counter(map(stem_of, names))
+    twice = [stem for stem, count in stems.items() if count > 1]
     if twice:
         raise FileProblem(f"two plans have one name, {twice[0]}, and so would what is written of them")
+    if with_index and "index" in stems:
+        raise FileProblem("the page of a plan `index.toml` would stand in place of the index; give that plan another name")
 
 
 def beside(plan, table):

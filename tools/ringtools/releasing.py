@@ -8,12 +8,22 @@ import os
 import shutil
 import subprocess
 import tarfile
+import tempfile
+from dataclasses import replace
 from pathlib import Path
 
 from .build import HOME, PROGRAMS, Record, read_build, sum_of, version, write_build
-from .installing import TOOLS, Piece, install, is_run, modules, put, released, texts, words_of_the_field
+from .installing import DOC, MAN, TOOLS, Piece, is_run, modules, pieces, put, released, texts, words_of_the_field
+from .writing import Folder, named_folder
 
 DIST = HOME / "dist"
+SUMS = "SHA256SUMS"
+# What begins the first line of a script, and what stands there in the Debian package.
+INTERPRETERS = (
+    (b"/usr/bin/env bash\n", b"/bin/bash\n"),
+    (b"/usr/bin/env python3\n", b"/usr/bin/python3\n"),
+    (b"/usr/bin/env -S python3 -I\n", b"/usr/bin/python3 -I\n"),
+)
 PLATFORM = "x86_64-linux"
 OF_SOURCES = ("crates", "crates.txt", "HANDLES", "VERSION")
 MAINTAINER = "The sdhring project <sdhring@example.org>"
@@ -100,8 +110,8 @@ def refresh(folder=None):
     files = found_programs(folder)
     records = [Record(name, sum_of(files[name]), sources_of(name), version(), commit, kit) for name in PROGRAMS]
     for name, data in files.items():
-        put(DIST / name, Piece(data, is_run=True))
-    put(DIST / "BUILD", Piece(write_build(records).encode("ascii")))
+        put(named_folder(DIST), name, Piece(data, is_run=True))
+    put(named_folder(DIST), "BUILD", Piece(write_build(records).encode("ascii")))
     return records
 
 
@@ -150,7 +160,7 @@ def tree():
         text = path.read_bytes()
         if path.suffix in (".md", ".1"):
             text = released(text.decode("utf-8")).encode("utf-8")
-        found[str(path.relative_to(HOME))] = Piece(text)
+        found[str(path.relative_to(HOME))] = Piece(text, is_run=is_run(path))
     found["docs/WORDS.md"] = Piece(words_of_the_field())
     found |= {f"docs/{path.name}": Piece(path.read_bytes()) for path in sorted((HOME / "docs").glob("*.svg"))}
     return found
@@ -165,12 +175,13 @@ def member(name, piece, moment):
     return head
 
 
-def tarball(path, moment):
+def tarball(moment: int) -> bytes:
+    """Returns the tarball's bytes."""
     top, whole = f"sdhring-{version()}-{PLATFORM}", io.BytesIO()
     with tarfile.open(fileobj=whole, mode="w", format=tarfile.GNU_FORMAT) as archive:
         for name, piece in sorted(tree().items()):
             archive.addfile(member(f"{top}/{name}", piece, moment), io.BytesIO(piece.data))
-    path.write_bytes(lzma.compress(whole.getvalue(), preset=9 | lzma.PRESET_EXTREME))
+    return lzma.compress(whole.getvalue(), preset=9 | lzma.PRESET_EXTREME)
 
 
 def packed(data):
@@ -204,50 +215,52 @@ def changelog(moment):
     return f"sdhring ({version()}) unstable; urgency=medium\n\n  * Release {version()}; CHANGELOG.md has what changed.\n\n -- {MAINTAINER}  {date}\n"
 
 
-def debian_tree(root, moment):
-    """What the package has below its root."""
-    install({name: DIST / name for name in PROGRAMS}, Path("/usr"), root / "usr", with_list=False)
-    doc = root / "usr" / "share" / "doc" / "sdhring"
-    put(doc / "copyright", Piece(COPYRIGHT.encode()))
-    put(doc / "changelog.gz", Piece(packed(changelog(moment).encode())))
-    put(root / "usr" / "share" / "lintian" / "overrides" / "sdhring", Piece(OVERRIDES.encode()))
-    for path in sorted((root / "usr" / "share" / "man" / "man1").glob("*.1")):
-        put(path.with_name(f"{path.name}.gz"), Piece(packed(path.read_bytes())))
-        path.unlink()
-    for path in [*(root / "usr" / "bin").iterdir(), *(root / "usr" / "lib" / "sdhring" / "tools").iterdir()]:
-        if path.is_file() and not path.is_symlink():
-            script = path.read_bytes()
-            for name, place in ((b"bash", b"/bin/bash"), (b"python3", b"/usr/bin/python3")):
-                script = script.replace(b"#!/usr/bin/env " + name + b"\n", b"#!" + place + b"\n", 1)
-            path.write_bytes(script)
+def with_place(script: bytes) -> bytes:
+    """Returns a script whose first line names bash or Python by its place in Debian."""
+    for name, place in INTERPRETERS:
+        script = script.replace(b"#!" + name, b"#!" + place, 1) if script.startswith(b"#!" + name) else script
+    return script
 
 
-def debian_package(path, folder, moment):
-    root = folder / "root"
-    debian_tree(root, moment)
-    put(root / "DEBIAN" / "control", Piece(control(root).encode()))
-    put(root / "DEBIAN" / "prerm", Piece(PRERM.encode(), is_run=True))
-    sums = [f"{hashlib.md5(file.read_bytes()).hexdigest()}  {file.relative_to(root)}\n" for file in sorted((root / "usr").rglob("*")) if file.is_file() and not file.is_symlink()]
-    put(root / "DEBIAN" / "md5sums", Piece("".join(sums).encode()))
-    for each in [root, *root.rglob("*")]:
-        if each.is_dir():
-            each.chmod(0o755)
+def debian_pieces(root: Folder, moment: int) -> None:
+    """Puts below a root what the package has."""
+    usr = root.inside("usr", 0o755)
+    found = pieces({name: DIST / name for name in PROGRAMS}, Path("/usr"))
+    for name, piece in found.items():
+        if name.startswith(f"{MAN}/") and not piece.link:
+            put(usr, f"{name}.gz", Piece(packed(piece.data)))
+        else:
+            put(usr, name, replace(piece, data=with_place(piece.data)))
+    put(usr, f"{DOC}/copyright", Piece(COPYRIGHT.encode()))
+    put(usr, f"{DOC}/changelog.gz", Piece(packed(changelog(moment).encode())))
+    put(usr, "share/lintian/overrides/sdhring", Piece(OVERRIDES.encode()))
+
+
+def debian_package(path: Path, folder: Path, moment: int) -> None:
+    """Builds the package out of a folder that is empty."""
+    root = named_folder(folder).inside("root", 0o755)
+    debian_pieces(root, moment)
+    put(root, "DEBIAN/control", Piece(control(root.path).encode()))
+    put(root, "DEBIAN/prerm", Piece(PRERM.encode(), is_run=True))
+    files = sorted(file for file in (root.path / "usr").rglob("*") if file.is_file() and not file.is_symlink())
+    sums = [f"{hashlib.md5(file.read_bytes()).hexdigest()}  {file.relative_to(root.path)}\n" for file in files]
+    put(root, "DEBIAN/md5sums", Piece("".join(sums).encode()))
+    for each in [root.path, *root.path.rglob("*")]:
         os.utime(each, (moment, moment), follow_symlinks=False)
-    words = ["dpkg-deb", "--root-owner-group", "-Zxz", "-z9", "--build", str(root), str(path)]
+    words = ["dpkg-deb", "--root-owner-group", "-Zxz", "-z9", "--build", str(root.path), str(path)]
     subprocess.run(words, env={**os.environ, "SOURCE_DATE_EPOCH": str(moment)}, stdout=subprocess.DEVNULL, check=True)
 
 
-def pack_here(to, moment):
-    """Both archives of the release that stands where this module is."""
+def pack_here(to: Path, moment: int) -> list[Path]:
+    """Both archives of the release that stands where this module is, and their checksums."""
     if {name for name, record in in_dist().items() if sum_of((DIST / name).read_bytes()) == record.sum} != set(PROGRAMS):
         raise ReleaseProblem("dist/ doesn't have the programs that dist/BUILD names")
-    to.mkdir(parents=True, exist_ok=True)
-    paths = [to / f"sdhring-{version()}-{PLATFORM}.tar.xz"]
-    tarball(paths[0], moment)
+    folder = named_folder(to)
+    names = [f"sdhring-{version()}-{PLATFORM}.tar.xz"]
+    folder.write(names[0], tarball(moment))
     if shutil.which("dpkg-deb"):
-        paths.append(to / f"sdhring_{version()}_amd64.deb")
-        folder = to / "package"
-        shutil.rmtree(folder, ignore_errors=True)
-        debian_package(paths[1], folder, moment)
-        shutil.rmtree(folder)
-    return paths
+        names.append(f"sdhring_{version()}_amd64.deb")
+        with tempfile.TemporaryDirectory(prefix=".package-", dir=to) as place:
+            debian_package(to / names[1], Path(place), moment)
+    folder.write(SUMS, "".join(f"{sum_of((to / name).read_bytes())}  {name}\n" for name in names))
+    return [to / name for name in (*names, SUMS)]

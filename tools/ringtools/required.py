@@ -9,11 +9,10 @@ Without kinds a rule is about failures of all kinds; with some, each failure of 
 nodes are lost, the circuits that end at one of them. A circuit is named as the plan has it, or as its customer knows it.
 """
 
-import csv
-import io
 import re
 from dataclasses import dataclass
 
+from .cells import text_of_rows
 from .desktable import ALL_KINDS, DEPTHS, GROUP
 
 COUNTS = {"nothing": 0, **DEPTHS}
@@ -96,7 +95,5 @@ def not_asked(plan, rules, problem):
     return [[plan, rule.text, NOT_ASKED, "", "", "", "", "", problem] for rule in rules]
 
 
-def line_of(cells):
-    text = io.StringIO(newline="")
-    csv.writer(text, lineterminator="\n").writerow(cells)
-    return text.getvalue()
+def line_of(cells) -> str:
+    return text_of_rows([cells])

@@ -1,19 +1,17 @@
 """What sdhring-view draws of a plan's signalling: the text of sdhaps, and what sdhoutage says of the same rounds."""
 
-import shlex
-import subprocess
 from dataclasses import dataclass
 from pathlib import Path
 
 from .drawing import written
-from .files import read_input
-from .origin import LAUNCHER, CannotRun, Origin, find_program, now, sum_of
+from .files import TEXT, read_input
+from .origin import LAUNCHER, CannotRun, Origin, Program, find_program, now, program_of, sum_of
 from .outages import read_outages
 from .report import ReportProblem
-from .running import run_program
 from .signalpage import signal_page
 from .signals import read_signalling
 from .spacetime import SpaceTime
+from .programs import ask
 from .ticks import broken, read_trace, ticks
 
 TRACES = 16  # the most ports that are traced
@@ -27,18 +25,18 @@ def beside(name):
 def signalling_text(asked, name, data):
     """The text that says who sends what in a plan's run, and where it comes from."""
     if asked.signalling:
-        return read_input(asked.signalling), Origin(None, name, sum_of(data), note="not known, since the program's text doesn't name it")
-    program = find_program(shlex.split(asked.program) if asked.program else [str(beside("sdhaps"))])
-    text, _ = run_program(program.words, data)
+        return read_input(asked.signalling, TEXT), Origin(None, name, sum_of(data), note="not known, since the program's text doesn't name it")
+    program = program_of(asked.program, beside("sdhaps"))
+    text, _ = ask(program, ["run"], data)
     return text, Origin(program, name, sum_of(data), (now(),))
 
 
-def traced(words, steps, data):
+def traced(program: Program, steps, data: bytes):
     """The events of ports that are out more than once in a settle step, one dictionary by port for each settle step."""
     found = [{} for _ in steps]
     for port in broken(steps)[:TRACES]:
-        ended = subprocess.run([*words, "trace", *port], input=data, stdout=subprocess.PIPE)
-        for events, one in zip(found, read_trace(ended.stdout)):
+        text, _ = ask(program, ["trace", *port], data)
+        for events, one in zip(found, read_trace(text)):
             events[port] = one
     return found
 
@@ -58,14 +56,14 @@ NONE = Outages([], None, "not known: sdhoutage isn't here")
 def outages_of(asked, data, plan):
     """What sdhoutage wrote before, or writes now. Where it isn't here there is nothing, and the words can be drawn all the same."""
     if asked.outages:
-        text = read_input(asked.outages)
+        text = read_input(asked.outages, TEXT)
         return Outages(read_outages(text, plan), None, f"{asked.outages}, whose checksum is {sum_of(text)[:12]}")
     try:
         program = find_program([str(beside("sdhoutage"))])
     except CannotRun:
         return NONE
-    steps = read_outages(run_program(program.words, data)[0], plan)
-    return Outages(steps, traced(program.words, steps, data), f"{program.version or program.words[0]}, {program.proof}")
+    steps = read_outages(ask(program, ["run"], data)[0], plan)
+    return Outages(steps, traced(program, steps, data), f"{program.version or program.words[0]}, {program.proof}")
 
 
 def ticks_of(plan, signalling, outages):

@@ -2,15 +2,27 @@
 
 import csv
 import io
+import os
+from collections.abc import Iterator, Sequence
 from dataclasses import dataclass, field
 
-from .files import read_input
+from .build import sum_of
+from .cells import read_cell
+from .files import TABLE, read_input
+from .shown import shown
 
 SIGNS = ",;\t"
+ROWS, COLUMNS, CELL, LINE = 4096, 256, 4096, 16_384  # the most of a table: rows, columns, characters of a cell, bytes of the first line
+QUOTED = 80  # characters of a cell that a message shows
 
 
 class TableProblem(Exception):
     """A table isn't what was wanted."""
+
+
+def quoted(text: str) -> str:
+    """Returns a text as messages show it: the front of a long one, without signs that can't be seen."""
+    return shown(text if len(text) <= QUOTED else f"{text[:QUOTED]}..")
 
 
 @dataclass(frozen=True)
@@ -28,6 +40,10 @@ class Row:
     def problem(self, words):
         return TableProblem(f"{self.file}:{self.line}: {words}")
 
+    def quoted(self, column: str) -> str:
+        """Returns a cell as messages show it, the front of a long one."""
+        return quoted(self[column])
+
     def number(self, column, low=0, wanted="a number"):
         """The cell as a number that isn't below `low`; None where it is empty."""
         text = self[column]
@@ -38,14 +54,14 @@ class Row:
         except ValueError:
             value = float("nan")
         if not low <= value < float("inf"):
-            raise self.problem(f"`{column}` is `{text}`, and {wanted} is wanted that isn't below {low}")
+            raise self.problem(f"`{column}` is `{quoted(text)}`, and {wanted} is wanted that isn't below {low}")
         return value
 
     def whole(self, column, low, high):
         """The cell as a whole number of this range; None where it is empty."""
         text = self[column]
-        if text and not (text.isascii() and text.isdecimal() and low <= int(text) <= high):
-            raise self.problem(f"`{column}` is `{text}`, and a whole number from {low} to {high} is wanted")
+        if text and not (text.isascii() and text.isdecimal() and len(text.lstrip("0")) <= 9 and low <= int(text) <= high):
+            raise self.problem(f"`{column}` is `{quoted(text)}`, and a whole number from {low} to {high} is wanted")
         return int(text) if text else None
 
 
@@ -57,8 +73,26 @@ class Table:
     rows: list = field(default_factory=list)
 
 
+PIPED: dict[str, bytes] = {}  # what came out of pipes, which can be read once
+SUMS: dict[str, str] = {}  # the checksum of each table as it was read last
+
+
+def table_bytes(name: str) -> bytes:
+    """Returns the bytes of a table, and notes their checksum."""
+    data = PIPED[name] if name in PIPED else read_input(name, TABLE)
+    if name != "-" and not os.path.isfile(name):
+        PIPED[name] = data
+    SUMS[name] = sum_of(data)
+    return data
+
+
+def sum_of_table(name: str) -> str:
+    """Returns the checksum of a table as it was read last, which isn't opened again."""
+    return SUMS[name] if name in SUMS else sum_of(table_bytes(name))
+
+
 def text_of(name):
-    data = read_input(name)
+    data = table_bytes(name)
     try:
         return data.decode("utf-8-sig")
     except UnicodeDecodeError as error:
@@ -74,33 +108,46 @@ def head_of(name, cells, known, needed):
         raise TableProblem(f"{name}:1: the column `{again[0]}` is there twice")
     missing = [column for column in needed if column not in heads]
     if missing:
-        found = ", ".join(filter(None, heads)) or "nothing"
+        found = quoted(", ".join(filter(None, heads))) or "nothing"
         raise TableProblem(f"{name}:1: the first line is to name the columns, and `{missing[0]}` is missing; there are {found}")
     return [head if head in known else None for head in heads]
 
 
-def read_table(name, known, needed):
+def cells_of(name: str, line: int, raw: Sequence[str]) -> list[str]:
+    """Returns the cells of a record, each without blanks at its ends and with one where there were several."""
+    if len(raw) > COLUMNS or any(len(cell) > CELL for cell in raw):
+        raise TableProblem(f"{name}:{line}: a row has at most {COLUMNS} cells, and a cell {CELL:,} characters")
+    return [read_cell(" ".join(cell.split())) for cell in raw]
+
+
+def records_of(name: str, text: str, sign: str) -> Iterator[tuple[int, list[str]]]:
+    """Gives the first line of each record, and its cells."""
+    reader, line, number = csv.reader(io.StringIO(text, newline=""), delimiter=sign, strict=True), 0, 0
+    try:
+        for raw in reader:
+            begun, line, number = line + 1, reader.line_num, number + 1
+            if number > ROWS + 1:
+                raise TableProblem(f"{name}:{begun}: a table has at most {ROWS:,} rows")
+            yield begun, cells_of(name, begun, raw)
+    except csv.Error as error:
+        raise TableProblem(f"{name}:{line + 1}: {error}") from None
+
+
+def read_table(name: str, known: Sequence[str], needed: Sequence[str]) -> "Table":
     """The rows of a table whose first line names its columns. Commas, semicolons or tabs part the cells; rows without a word are skipped.
 
     Where semicolons or tabs do, numbers may have a comma for the point.
     """
     text = text_of(name)
-    first = text.partition("\n")[0]
-    sign = max(SIGNS, key=first.count)
-    reader = csv.reader(io.StringIO(text, newline=""), delimiter=sign, strict=True)
-    table, line = None, 0
-    try:
-        for cells in reader:
-            begun, line = line + 1, reader.line_num
-            cells = [" ".join(cell.split()) for cell in cells]
-            if table is None:
-                heads = head_of(name, cells, known, needed)
-                unread = tuple(cell for cell, head in zip(cells, heads) if head is None and cell)
-                table = Table(name, tuple(filter(None, heads)), unread)
-            elif any(cells):
-                table.rows.append(row_of(name, begun, heads, cells, "," if sign != "," else "."))
-    except csv.Error as error:
-        raise TableProblem(f"{name}:{line + 1}: {error}") from None
+    first = text[:LINE].partition("\n")[0]
+    sign, table = max(SIGNS, key=first.count), None
+    for line, cells in records_of(name, text, sign):
+        if table is None:
+            heads = head_of(name, cells, known, needed)
+            unread = tuple(cell for cell, head in zip(cells, heads) if head is None and cell)
+            table = Table(name, tuple(filter(None, heads)), unread)
+        elif any(cells):
+            table.rows.append(row_of(name, line, heads, cells, "," if sign != "," else "."))
     if table is None:
         raise TableProblem(f"{name}:1: the table is empty; its first line is to name the columns {', '.join(needed)}")
     return table

@@ -1,15 +1,17 @@
 """What sdhwhatif answers about a ring, case by case, as a table and as JSON; and whether the same cases run frame by frame show the same."""
 
-import csv
 import json
 import random
+from collections.abc import Iterator
 from dataclasses import dataclass
 
+from .cells import write_rows
 from .desktable import DEPTHS, IMPAIRED, LOST, OVER, RESULTS, WHOLE
 from .failures import Case
 from .model import arc
 from .origin import sum_of
 from .pathrings import PathRing
+from .writing import Folder
 
 OF_CASE = ("Failures", "Depth", "Kind", "Steps", "Applied", "Kept", "Impaired", "Over", "Lost", "Longest", "Impaired circuits", "Over circuits", "Lost circuits", "Besides ends")
 OF_PATHS = ("Path lost", "Path lost circuits")
@@ -114,21 +116,24 @@ class Told:
         path = [len(found["path_lost_circuits"]), joined("path_lost_circuits")]
         return [*begin, *counts, *map(joined, ("impaired_circuits", "over_circuits", "lost_circuits", "besides_ends")), *path]
 
-    def write_csv(self, path, question, found):
-        """A row for each case. `found` has the differences of those that were run too, by their failures."""
-        with open(path, "w", newline="", encoding="utf-8") as file:
-            writer = csv.writer(file, lineterminator="\n")
-            writer.writerow(COLUMNS)
-            for case in self.all():
-                run = "" if case.failures not in found else "differs" if found[case.failures] else "the same"
-                writer.writerow([*self.row(case), run, *question.cells()])
+    def rows(self, question: Question, found) -> Iterator[list]:
+        """A row for each case, after the names of the columns."""
+        yield list(COLUMNS)
+        for case in self.all():
+            run = "" if case.failures not in found else "differs" if found[case.failures] else "the same"
+            yield [*self.row(case), run, *question.cells()]
 
-    def write_json(self, path, question, program):
+    def write_csv(self, folder: Folder, name: str, question: Question, found) -> None:
+        """`found` has the differences of the cases that were run too, by their failures."""
+        with folder.writing_text(name) as file:
+            write_rows(file, self.rows(question, found))
+
+    def write_json(self, folder: Folder, name: str, question: Question, program) -> None:
         """One object: what was asked and who answered, the circuits, and the cases, one in a line."""
         table = self.table
         groups = {one.label: [member.label for member in one.members] for one in table.failures if one.members}
         head = {**question.record(), **program.lines(), "depth": table.depth, "part": list(table.part), "groups": groups, "circuits": self.names}
-        with open(path, "w", encoding="ascii") as file:
+        with folder.writing_text(name) as file:
             file.write(json.dumps(head)[:-1] + ', "cases": [\n')
             for place, case in enumerate(self.all()):
                 file.write((",\n" if place else "") + json.dumps(self.record(case)))

@@ -1,10 +1,12 @@
 """What becomes of each circuit in each case, read from the program's text; and the same by the restoration model."""
 
-import csv
+from collections.abc import Iterator
 from dataclasses import dataclass, field
 
+from .cells import write_rows
 from .model import arc, is_joined, owed, route, scenes
 from .report import ReportProblem, read_report
+from .writing import Folder
 
 UNSETTLED = 7
 STATUSES = {
@@ -188,9 +190,12 @@ def table_rows(asked, verdict):
         yield begin + [stage.round, applied, *counts, model, *source, *(stage.cells[circuit.name].short() for circuit in plan.circuits)]
 
 
-def write_table(path, asked, verdicts):
-    with open(path, "w", newline="", encoding="utf-8") as file:
-        writer = csv.writer(file, lineterminator="\n")
-        writer.writerow(table_head(asked.beforehand.plan))
-        for verdict in verdicts:
-            writer.writerows(table_rows(asked, verdict))
+def all_rows(asked, verdicts) -> Iterator[list]:
+    yield table_head(asked.beforehand.plan)
+    for verdict in verdicts:
+        yield from table_rows(asked, verdict)
+
+
+def write_table(folder: Folder, name: str, asked, verdicts) -> None:
+    with folder.writing_text(name) as file:
+        write_rows(file, all_rows(asked, verdicts))

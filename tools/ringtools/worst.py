@@ -1,10 +1,11 @@
 """For how long each failure of a plan's ring, and its repair, interrupt which ports, as sdhoutage counts it: a table, and the worst of all in words."""
 
-import csv
+from collections.abc import Iterator
 from dataclasses import dataclass
 
 from .answers import limit_advice
 from .asking import DIFFERS, INTERRUPTED, NOT_SETTLED, Stop, folder_of, say
+from .cells import write_rows
 from .failures import all_cases, shard_of
 from .framed import asked_of, check_room, counting_store_of, put_cases, read_kinds
 from .markup import count_of
@@ -12,7 +13,9 @@ from .outages import SWITCH_MAX, frames_words, milliseconds, names_words, read_o
 from .progress import Progress
 from .report import ReportProblem
 from .running import processors, run_here
+from .shown import shown
 from .verdicts import SOURCE, UNSETTLED, source_cells
+from .writing import Folder
 
 COLUMNS = ["Case", "Kind", "Failure", "Stage", "Longest", "Milliseconds", "Over", "None", "Still out", "Foreign", "Ports"]
 
@@ -75,13 +78,16 @@ def read_answers(store, beforehand, cases):
     return found, odd
 
 
-def write_interruptions(path, told, cases, found):
-    with open(path, "w", newline="", encoding="utf-8") as file:
-        writer = csv.writer(file, lineterminator="\n")
-        writer.writerow([*COLUMNS, *SOURCE])
-        for case in cases:
-            source = source_cells(told.store.answer(case.name), told)
-            writer.writerows([*row.cells(), *source] for row in found.get(case.name, ()))
+def all_rows(told, cases, found) -> Iterator[list]:
+    yield [*COLUMNS, *SOURCE]
+    for case in cases:
+        source = source_cells(told.store.answer(case.name), told)
+        yield from ([*row.cells(), *source] for row in found.get(case.name, ()))
+
+
+def write_interruptions(folder: Folder, name: str, told, cases, found) -> None:
+    with folder.writing_text(name) as file:
+        write_rows(file, all_rows(told, cases, found))
 
 
 def ended(subject, store, cases, odd):
@@ -110,7 +116,8 @@ def ask_outages(asked, subject):
         done = sum(store.is_done(case.name) for case in cases)
         raise Stop(f"stopped; {done} of {len(cases)} cases are kept, the same command goes on from there", INTERRUPTED) from None
     found, odd = read_answers(store, subject.beforehand, cases)
-    table = folder_of(asked, subject.name) / f"interruptions{'' if shards == 1 else f'-{shard}-of-{shards}'}.csv"
-    write_interruptions(table, asked_of(asked, subject, store), cases, found)
-    print("\n".join([str(table), *summary([row for case in cases for row in found.get(case.name, ())])]))
+    folder, table = folder_of(asked, subject.name), f"interruptions{'' if shards == 1 else f'-{shard}-of-{shards}'}.csv"
+    write_interruptions(folder, table, asked_of(asked, subject, store), cases, found)
+    told = [folder.path / table, *summary([row for case in cases for row in found.get(case.name, ())])]
+    print("\n".join(map(shown, told)))
     return ended(subject, store, cases, odd)

@@ -4,6 +4,8 @@ import os
 import pty
 import shutil
 import subprocess
+import tempfile
+from pathlib import Path
 
 from common import TOOLS
 
@@ -17,7 +19,7 @@ case $1 in
   all) sed 's/:.*//' crates.txt | while read -r name; do
       echo "== $name"
       [ -e "crates/$name/out" ] || { mkdir "crates/$name/out"; echo "$name" >>"$FAKE/proved"; }
-      sleep "${FAKE_SECONDS:-0}"
+      while [ -e "$FAKE_WAITS" ]; do sleep 0.1; done
     done
     echo "== summary"
     [ -z "$FAKE_FAILING" ] || { echo "low: ok"; echo "$FAKE_FAILING: failed (1)"; exit 1; } ;;
@@ -64,6 +66,20 @@ def release(top):
         sources = subprocess.run([top / name, "--sources"], capture_output=True, text=True, check=True).stdout.strip()
         lines.append(f"program {name} {sum_of((top / 'dist' / name).read_bytes())} {sources}")
     (top / "dist" / "BUILD").write_text("\n".join(lines) + "\n")
+
+
+def path_without(program, test):
+    """The PATH, where this program isn't found on it. A folder that has it is replaced by one of links to all else in it."""
+    folders = []
+    for folder in os.environ["PATH"].split(":"):
+        if (Path(folder) / program).exists():
+            made = tempfile.TemporaryDirectory()
+            test.addCleanup(made.cleanup)
+            for path in (path for path in Path(folder).iterdir() if path.name != program):
+                (Path(made.name) / path.name).symlink_to(path.absolute())
+            folder = made.name
+        folders.append(folder)
+    return ":".join(folders)
 
 
 def at_terminal(words, folder, environment, plan=None):

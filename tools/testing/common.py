@@ -1,19 +1,38 @@
 """What the tests share: where things are, and how the tools are called."""
 
+import atexit
 import html.parser
+import os
+import shutil
 import subprocess
 import sys
+import tempfile
 from pathlib import Path
 
+PATIENCE = 3600  # seconds after which a program is taken to hang, however slow the machine is
 TESTING = Path(__file__).resolve().parent
 TOOLS = TESTING.parent
 RINGS = TESTING / "rings"
 STANDIN = f"{sys.executable} {TESTING / 'standin'}"  # a command
 sys.path.insert(0, str(TOOLS))
+# What the tools keep of an account is kept apart, as long as a module of tests runs.
+if "SDHRING_TESTED" not in os.environ:
+    STATE = tempfile.mkdtemp(prefix="sdhring-state-")
+    atexit.register(shutil.rmtree, STATE, True)
+    os.environ |= {"XDG_STATE_HOME": STATE, "SDHRING_TESTED": "yes"}
 
 
 def call(tool, *words, **more):
     return subprocess.run([sys.executable, str(TOOLS / tool), *map(str, words)], capture_output=True, **more)
+
+
+def copied_tools(place):
+    """The folder of a copy of the tools, which stands for a release of its own at this place."""
+    shutil.copytree(TOOLS, place / "tools", ignore=shutil.ignore_patterns("__pycache__", "testing"))
+    (place / "docs").mkdir()
+    (place / "dist").mkdir()
+    shutil.copy(TOOLS.parent / "VERSION", place)
+    return place / "tools"
 
 
 def ring(name):

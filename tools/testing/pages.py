@@ -7,7 +7,7 @@ import subprocess
 import tempfile
 from pathlib import Path
 
-from common import Page
+from common import PATIENCE, Page
 
 BROWSER = shutil.which("chromium")
 PRINTS = BROWSER and shutil.which("pdftotext")
@@ -28,7 +28,7 @@ def browsed(markup, deeds):
         phone.write_text(PHONE)
         phone.with_name("page.html").write_text(markup.replace("</body>", script + "</body>"))
         words = [BROWSER, *WORDS, "--virtual-time-budget=5000", f"--user-data-dir={folder}/own", "--dump-dom", phone.as_uri()]
-        ended = subprocess.run(words, capture_output=True, text=True, timeout=60)
+        ended = subprocess.run(words, capture_output=True, text=True, timeout=PATIENCE)
     return html.unescape(re.search("<pre>(.*?)</pre>", ended.stdout, re.S)[1]).split("\n")
 
 
@@ -38,7 +38,7 @@ def printed(markup):
         page, sheets = Path(folder) / "page.html", Path(folder) / "page.pdf"
         page.write_text(markup, encoding="utf-8")
         words = [BROWSER, *WORDS, f"--user-data-dir={folder}/own", "--no-pdf-header-footer", f"--print-to-pdf={sheets}", page.as_uri()]
-        subprocess.run(words, capture_output=True, timeout=60)
+        subprocess.run(words, capture_output=True, timeout=PATIENCE)
         return subprocess.run([PRINTS, "-layout", sheets, "-"], capture_output=True, check=True).stdout.decode()
 
 

@@ -13,7 +13,7 @@ from importlib.machinery import SourceFileLoader
 from importlib.util import module_from_spec, spec_from_loader
 from pathlib import Path
 
-from common import TOOLS
+from common import PATIENCE, TOOLS
 
 from ringtools.benched import BenchProblem, first_difference, read_answers
 from ringtools.rows import read_rows
@@ -75,7 +75,7 @@ class Fed(unittest.TestCase):
     PLAN = (TOP / "examples" / "round-by-round.toml").read_bytes()
 
     def asked(self, program, *words, given):
-        done = subprocess.run([program, *words], input=given, capture_output=True, timeout=600)
+        done = subprocess.run([program, *words], input=given, capture_output=True, timeout=PATIENCE)
         self.assertEqual(done.returncode, 0, done.stderr)
         return done.stdout
 
@@ -118,7 +118,7 @@ class Comparing(unittest.TestCase):
     def setUp(self):
         self.folder = tempfile.TemporaryDirectory()
         self.addCleanup(self.folder.cleanup)
-        self.compare_node = module("compare_node", TOOLS / "compare-node")
+        self.compare_node = module("compare_node", TOOLS / "sdhring-compare-node")
         self.text = answer("told")[1]
 
     def compare(self, ours, theirs):

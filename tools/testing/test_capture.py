@@ -8,7 +8,7 @@ import tempfile
 import tomllib
 import unittest
 
-from common import TOOLS, call
+from common import PATIENCE, TOOLS, call
 
 from ringtools.erf import FrameProblem, capture, record
 
@@ -105,7 +105,7 @@ class Outside(unittest.TestCase):
             file.write(data)
             file.flush()
             words = [TSHARK, "-o", "sdh.data.rate:Attempt to guess", "-r", file.name, "-T", "fields", *(word for field in FIELDS for word in ("-e", field))]
-            ended = subprocess.run(words, capture_output=True, text=True, timeout=120)
+            ended = subprocess.run(words, capture_output=True, text=True, timeout=PATIENCE)
         self.assertEqual(ended.returncode, 0, ended.stderr)
         return [line.split("\t") for line in ended.stdout.splitlines()]
 

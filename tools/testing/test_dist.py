@@ -6,12 +6,11 @@ import signal
 import subprocess
 import sys
 import tempfile
-import time
 import unittest
 from pathlib import Path
 
 from checkouts import at_terminal
-from common import RINGS, TOOLS
+from common import PATIENCE, RINGS, TOOLS
 
 from ringtools.build import PROGRAMS, read_build, sum_of
 from ringtools.rows import FOLDERS, read_rows
@@ -19,6 +18,7 @@ from ringtools.rows import FOLDERS, read_rows
 TOP = TOOLS.parent
 DIST = TOP / "dist"
 EXAMPLE = TOP / "examples" / "span-cut.toml"
+MORE_THAN_A_PIPE = 1 << 17  # bytes, of which a pipe that nobody reads holds half
 HERE = ("dist", "docs", "examples", "tools", "crates", "crates.txt", "HANDLES", "VERSION", "README.md", "CHANGELOG.md", "sdh*")
 
 
@@ -37,7 +37,7 @@ def plain_environment():
 
 
 def run(words, folder, **more):
-    return subprocess.run(words, cwd=folder, env=plain_environment(), capture_output=True, timeout=60, **more)
+    return subprocess.run(words, cwd=folder, env=plain_environment(), capture_output=True, timeout=PATIENCE, **more)
 
 
 @unittest.skipUnless((DIST / "BUILD").is_file(), "there is no release yet")
@@ -51,9 +51,7 @@ class Dist(unittest.TestCase):
         copied(cls.top)
         cls.records = {record.name: record for record in read_build((DIST / "BUILD").read_text())}
         cls.prefix = Path(folder.name) / "prefix"
-        begun = time.monotonic()
         cls.installed = run([cls.top / "sdhring", "--install", cls.prefix], cls.top, input=b"")
-        cls.seconds = time.monotonic() - begun
 
     def test_the_programs_are_those_of_the_build(self):
         self.assertEqual(set(self.records), set(PROGRAMS))
@@ -62,9 +60,7 @@ class Dist(unittest.TestCase):
             self.assertTrue(os.access(DIST / name, os.X_OK))
 
     def test_the_first_answer(self):
-        begun = time.monotonic()
         ended = run([self.top / "sdhring", "run"], self.top, input=EXAMPLE.read_bytes())
-        self.assertLess(time.monotonic() - begun, 5)  # of which the machine's other work may take most
         self.assertEqual((ended.returncode, ended.stdout), (0, (RINGS / "span-cut.text").read_bytes()))
         changed = run([self.top / "sdhring", "--sources"], self.top).stdout.decode().strip() != self.records["sdhring"].sources
         self.assertEqual(b"the sources have changed since" in ended.stderr, changed)
@@ -104,21 +100,21 @@ class Dist(unittest.TestCase):
                 words = [self.top / "sdhring", "run"]
                 pipes = {"stdin": subprocess.PIPE, "stdout": subprocess.PIPE, "stderr": subprocess.PIPE}
                 with subprocess.Popen(words, cwd=self.top, env=plain_environment(), preexec_fn=hears, **pipes) as started:
-                    time.sleep(1)  # it waits for its plan by then, and the signal comes to it or to the launcher
+                    started.stdin.write(b"#" * MORE_THAN_A_PIPE)
+                    started.stdin.flush()  # it reads its plan by now, and the signal comes to it or to the launcher
                     started.send_signal(sent)
-                    self.assertIn(started.wait(20), (-sent, 128 + sent))
+                    self.assertIn(started.wait(PATIENCE), (-sent, 128 + sent))
 
     def test_starts_at_once_answer_the_same(self):
         words = [self.top / "sdhring", "run"]
         pipes = {"stdin": subprocess.PIPE, "stdout": subprocess.PIPE, "stderr": subprocess.DEVNULL}
         begun = [subprocess.Popen(words, cwd=self.top, env=plain_environment(), **pipes) for _ in range(4)]
         for started in begun:
-            said = started.communicate(EXAMPLE.read_bytes(), timeout=60)[0]
+            said = started.communicate(EXAMPLE.read_bytes(), timeout=PATIENCE)[0]
             self.assertEqual((said, started.returncode), ((RINGS / "span-cut.text").read_bytes(), 0))
 
     def test_the_install(self):
         self.assertEqual(self.installed.returncode, 0, self.installed.stderr)
-        self.assertLess(self.seconds, 30)
         for name in PROGRAMS:
             self.assertEqual((self.prefix / "lib" / "sdhring" / name).read_bytes(), (DIST / name).read_bytes())
             told = run([self.prefix / "bin" / name, "--version"], self.prefix).stdout.decode()

@@ -8,7 +8,7 @@ import unittest
 from functools import cache, reduce
 from operator import xor
 
-from common import RINGS, TOOLS
+from common import PATIENCE, RINGS, TOOLS
 
 from rules import Stream
 
@@ -202,7 +202,7 @@ class OnTheLine(unittest.TestCase):
 
     def told(self, plan, node, side, first, count):
         words = ["frames", str(node), side, str(first), str(count)]
-        return subprocess.run([SDHAPS, *words], input=plan.encode(), capture_output=True, timeout=60).stdout
+        return subprocess.run([SDHAPS, *words], input=plan.encode(), capture_output=True, timeout=PATIENCE).stdout
 
     def test_frames(self):
         """Among them a span that is cut, with the nodes that switch and one that passes, and a node that is cut off, at which two circuits of

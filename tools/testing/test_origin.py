@@ -7,14 +7,15 @@ import unittest
 from pathlib import Path
 
 from cases import Asking
-from common import STANDIN, bytes_of, call, ring
+from common import STANDIN, bytes_of, call, copied_tools, ring
 from pages import Seen
 
+from ringtools import build, origin
 from ringtools.build import BuildProblem, read_build, write_build
 from ringtools.kept import read_answer
 from ringtools.origin import CannotRun, find_program
 from ringtools.progress import Progress, duration
-from ringtools.running import run_program
+from ringtools.programs import ask, held
 
 LAUNCHER = """#!/bin/sh
 case "$*" in
@@ -42,18 +43,24 @@ def executable(path, text):
 
 
 class Launched(unittest.TestCase):
-    """A launcher, which runs the stand-in as a program which a BUILD names or not."""
+    """A launcher, which runs the stand-in as a program which the BUILD of the tools' own place names or not."""
 
     def setUp(self):
         folder = tempfile.TemporaryDirectory()
         self.addCleanup(folder.cleanup)
         self.top = Path(folder.name)
+        self.tools = copied_tools(self.top / "place")
+        for module in (build, origin):
+            self.addCleanup(setattr, module, "HOME", module.HOME)
+            module.HOME = self.top / "place"
+        self.addCleanup(setattr, origin, "LAUNCHER", origin.LAUNCHER)
+        origin.LAUNCHER = self.top / "place" / "sdhring"
 
-    def launcher(self, recorded=True, where="echo {runs}"):
+    def launcher(self, recorded=True, where="echo {runs}", place="place"):
         runs = Path(executable(self.top / "programs" / "sdhring", f'#!/bin/sh\nexec {STANDIN} "$@"\n'))
-        build = BUILD.format(sum=sum_of(runs.read_bytes()) if recorded else 64 * "0")
-        runs.with_name("BUILD").write_text(build)
-        return executable(self.top / "sdhring", LAUNCHER.format(where=where.format(runs=runs), runs=runs)), runs
+        named = BUILD.format(sum=sum_of(runs.read_bytes()) if recorded else 64 * "0")
+        (self.top / "place" / "dist" / "BUILD").write_text(named)
+        return executable(self.top / place / "sdhring", LAUNCHER.format(where=where.format(runs=runs), runs=runs)), runs
 
     def test_proved_and_not_known(self):
         for recorded, version, proof in ((True, VERSION, "proved"), (False, "", "not known to be proved")):
@@ -65,12 +72,29 @@ class Launched(unittest.TestCase):
                 self.assertEqual(find_program([str(runs)]), program)
 
     def test_a_record_of_its_own(self):
-        """As --prove writes it, beside one program."""
-        _, runs = self.launcher()
-        runs.with_name("BUILD").rename(runs.with_name("sdhring.BUILD"))
-        self.assertEqual(find_program([str(runs)]).proof, "proved")
-        runs.with_name("sdhring.BUILD").rename(runs.with_name("sdhpath.BUILD"))
+        """As --prove writes it, beside one program, where this place's own launcher chose that; and no other's."""
+        launcher, runs = self.launcher(recorded=False)
+        named = BUILD.format(sum=sum_of(runs.read_bytes()))
+        runs.with_name("sdhring.BUILD").write_text(named)
+        runs.with_name("BUILD").write_text(named)
+        self.assertEqual(find_program([launcher]).proof, "proved")
         self.assertEqual(find_program([str(runs)]).proof, "not known to be proved")
+        other, _ = self.launcher(recorded=False, place="elsewhere")
+        self.assertEqual(find_program([other]).proof, "not known to be proved")
+        runs.with_name("sdhring.BUILD").unlink()
+        self.assertEqual(find_program([launcher]).proof, "not known to be proved")
+
+    def test_what_was_summed_is_what_runs(self):
+        """A program that is replaced while it is asked isn't run, and one that has begun to be asked goes on."""
+        launcher, runs = self.launcher()
+        program, plan = find_program([launcher]), ring("span-cut")[0].read_bytes()
+        text, status = ask(program, ["run"], plan)
+        self.assertEqual(status, 0)
+        executable(runs, "#!/bin/sh\necho forged\n")
+        self.assertEqual(ask(program, ["run"], plan), (text, 0))
+        held.cache_clear()
+        with self.assertRaisesRegex(CannotRun, "has changed since this run began"):
+            ask(program, ["run"], plan)
 
     def test_a_changed_program_is_not_known(self):
         _, runs = self.launcher()
@@ -87,10 +111,10 @@ class Launched(unittest.TestCase):
         with self.assertRaisesRegex(CannotRun, "ended with status 83, and has no program"):
             find_program([launcher])
         with self.assertRaises(CannotRun):
-            run_program(find_program(["/nowhere/sdhring"]).words, b"")
+            ask(find_program(["/nowhere/sdhring"]), ["run"], b"")
 
     def page_of(self, launcher, *words, **more):
-        ended = call("sdhring-view", *words, "--program", launcher, **more)
+        ended = call(self.tools / "sdhring-view", *words, "--program", launcher, **more)
         self.assertEqual(ended.returncode, 0, ended.stderr.decode())
         return Seen(ended.stdout.decode()).text()
 
@@ -110,12 +134,12 @@ class Launched(unittest.TestCase):
     def test_a_page_and_a_table_of_cases(self):
         launcher, runs = self.launcher(recorded=False)
         words = [ring("two-nodes")[0], "--dir", self.top / "out", "--kinds", "span", "--program", launcher]
-        ended = call("sdhring-whatif", *words)
+        ended = call(self.tools / "sdhring-whatif", *words)
         self.assertEqual(ended.returncode, 0, ended.stderr.decode())
         self.assertIn(f"the program {runs} is not known to be proved".encode(), ended.stderr)
         self.assertIn("It isn't known whether", Seen((self.top / "out" / "page.html").read_text()).text())
         self.launcher()
-        self.assertNotIn(b"proved", call("sdhring-whatif", *words).stderr)
+        self.assertNotIn(b"proved", call(self.tools / "sdhring-whatif", *words).stderr)
         self.assertIn("Proved yes", Seen((self.top / "out" / "page.html").read_text()).text())
         self.assertIn(f'{runs},proved,"{VERSION}",', (self.top / "out" / "table.csv").read_text())
 

@@ -5,7 +5,7 @@ import subprocess
 import sys
 import unittest
 
-from common import TOOLS, bytes_of
+from common import PATIENCE, TOOLS, bytes_of
 
 SDHRING = TOOLS.parent / "dist" / "sdhring"
 sys.path.insert(0, str(TOOLS.parent / "bench" / "plans"))
@@ -226,7 +226,7 @@ TABLES = {
 
 def asked(word, plan):
     """The status and the text."""
-    ended = subprocess.run([SDHRING, *word.split()], input=plan, capture_output=True, timeout=60)
+    ended = subprocess.run([SDHRING, *word.split()], input=plan, capture_output=True, timeout=PATIENCE)
     return ended.returncode, ended.stdout
 
 

@@ -9,6 +9,7 @@ import unittest
 from pathlib import Path
 
 from checkouts import PROGRAM, RT, TOP, at_terminal, executable, make_checkout, release
+from common import PATIENCE
 
 from ringtools.build import PROGRAMS, read_build, sum_of
 from ringtools.installing import DOCUMENTS, TOOLS
@@ -25,7 +26,7 @@ VERSION = re.escape((TOP / "VERSION").read_text().strip())
 def run(words, folder, path="/usr/bin:/bin", **more):
     """As a user does who has no kit and no home."""
     environment = {"PATH": path, "HOME": ""}
-    return subprocess.run(words, cwd=folder, env=environment, capture_output=True, text=True, timeout=60, **{"input": "", **more})
+    return subprocess.run(words, cwd=folder, env=environment, capture_output=True, text=True, timeout=PATIENCE, **{"input": "", **more})
 
 
 def python_path():
@@ -96,7 +97,7 @@ class Installed(Released):
             self.assertRegex(self.start(name, "--version").stdout, rf"^{name} 9\.8\.7, commit 012345678901, sources [0-9a-f]{{12}}, proved with kit-of-the-release")
             told = self.start(name, "--help").stdout
             self.assertNotIn("./", told)
-            for example in re.findall(r"< (\S+\.toml)", told.replace(str(self.prefix), "PREFIX")):
+            for example in re.findall(r"< (\S+\.toml)", told.replace("\\ ", " ").replace(str(self.prefix), "PREFIX")):
                 self.assertTrue((Path(example.replace("PREFIX", str(self.prefix)))).is_file(), example)
 
     def test_tools(self):
@@ -243,7 +244,7 @@ class Packed(Released):
         self.assertEqual(sorted(first), sorted(again))
         for name, path in first.items():
             self.assertEqual(path.read_bytes(), again[name].read_bytes(), name)
-        self.assertEqual(len(first), 1 + bool(shutil.which("dpkg-deb")))
+        self.assertEqual(len(first), 2 + bool(shutil.which("dpkg-deb")))
 
     def test_the_tarball(self):
         """The first commands of README, as they stand there, in a root where nothing else is."""
@@ -269,7 +270,7 @@ class Packed(Released):
         commands = [line.strip() for line in readme.split("## Run it\n")[1].split("\n## ")[0].splitlines() if re.match(r"    (\./)?sdh\S* ", line) and "--" not in line]
         self.assertGreaterEqual(len(commands), 1)
         for command in [*commands, *(("sdhring --version", "sdhring --help") if path else ("./sdhring --version", "./sdhring --help"))]:
-            ended = run(["bash", "-c", command], folder, f"{path or ''}:{python_path()}")
+            ended = run(["bash", "-c", command.replace(" /usr/", f" {top}/usr/")], folder, f"{path or ''}:{python_path()}")
             with self.subTest(command=command):
                 self.assertEqual((ended.returncode, ended.stderr), (0, ""))
 

@@ -7,7 +7,7 @@ import random
 import subprocess
 import unittest
 
-from common import RINGS, TOOLS
+from common import PATIENCE, RINGS, TOOLS
 
 from rules import CHUNK, Stream
 
@@ -45,7 +45,7 @@ offset_a = 1
 
 def asked(program, words, plan):
     """The text of a call that answers Ok."""
-    ended = subprocess.run([DIST / program, *words.split()], input=plan, capture_output=True, timeout=60)
+    ended = subprocess.run([DIST / program, *words.split()], input=plan, capture_output=True, timeout=PATIENCE)
     if ended.returncode:
         raise AssertionError(f"{program} {words}: {ended.returncode}, {ended.stdout}")
     return ended.stdout.decode()
@@ -236,7 +236,7 @@ class Listed(unittest.TestCase):
         end there. Nothing is read: a folder can't be."""
         folder = os.open(".", os.O_RDONLY)
         self.addCleanup(os.close, folder)
-        ended = subprocess.run([DIST / "sdhring", "big", "0"], stdin=folder, capture_output=True, timeout=60)
+        ended = subprocess.run([DIST / "sdhring", "big", "0"], stdin=folder, capture_output=True, timeout=PATIENCE)
         *lines, done = ended.stdout.decode().splitlines()
         self.assertEqual((ended.returncode, done), (0, "done"))
         told = [line.split() for line in lines]

@@ -7,11 +7,10 @@ import shlex
 import shutil
 import subprocess
 import tempfile
-import time
 import unittest
 from pathlib import Path
 
-from common import TOOLS
+from common import PATIENCE, TOOLS
 from pages import BROWSER, Seen
 
 TOP = TOOLS.parent
@@ -53,15 +52,13 @@ class Trial(unittest.TestCase):
         write(cls.top / "nodes.csv", ["place", "failures", "hours"], [[place, 0.1, 4] for place in PLACES])
         cls.kilometres = [chance.randint(20, 200) for _ in PLACES]
         write(cls.top / "spans.csv", ["from", "to", "km", "hours"], [[*two, km, 8] for *two, km in zip(PLACES, PLACES[1:] + PLACES[:1], cls.kilometres)])
-        begun, cls.said = time.monotonic(), []
+        cls.said = []
         for line in commands():
             cls.said.append(subprocess.run(line.replace("./sdhring", f"{shlex.quote(str(TOP))}/sdhring"), shell=True, cwd=cls.top, capture_output=True, text=True))
-        cls.seconds = time.monotonic() - begun
         cls.page = Seen((cls.top / "ring.html").read_text(encoding="utf-8"))
 
     def test_three_commands(self):
         self.assertEqual([(ended.returncode, ended.stderr.count("Traceback")) for ended in self.said], [(0, 0)] * 3)
-        self.assertLess(self.seconds, 600)
 
     def test_each_circuit_leads_between_its_places(self):
         rows = {row["customer"]: row for row in self.page.table_named("Customers, and")}
@@ -101,7 +98,7 @@ class Trial(unittest.TestCase):
     def test_the_printed_page(self):
         pdf = self.top / "ring.pdf"
         words = [BROWSER, "--headless=new", "--no-sandbox", "--disable-gpu", f"--user-data-dir={self.top}/own", "--virtual-time-budget=5000", "--no-pdf-header-footer"]
-        subprocess.run([*words, f"--print-to-pdf={pdf}", (self.top / "ring.html").as_uri()], capture_output=True, timeout=60)
+        subprocess.run([*words, f"--print-to-pdf={pdf}", (self.top / "ring.html").as_uri()], capture_output=True, timeout=PATIENCE)
         text = subprocess.run(["pdftotext", "-layout", str(pdf), "-"], capture_output=True, text=True).stdout
         missing = [name for name, *_ in self.circuits if not re.search(rf"{name}\b", text)]
         self.assertEqual(missing, [])

@@ -178,18 +178,26 @@ class Whatif(Asking):
 
     def test_stopped_and_taken_up_again(self):
         self.small()
-        words = [sys.executable, TOOLS / "sdhring-whatif", self.plan, "--dir", self.top / "out", "--program", f"{STANDIN} slow 0.4", "--jobs", "2"]
+        turns = self.top / "turns"
+        turns.mkdir()
+        program = f"{STANDIN} takes {turns}"
+        give = lambda count: [(turns / str(number)).write_text("") for number in range(count)]
+        words = [sys.executable, TOOLS / "sdhring-whatif", self.plan, "--dir", self.top / "out", "--program", program, "--jobs", "2"]
+        give(4)
         running = subprocess.Popen(words, stderr=subprocess.PIPE, stdout=subprocess.PIPE)
-        until = time.monotonic() + 60
-        while len(self.times()) < 3 and time.monotonic() < until:
+        while len(self.times()) < 3:
             time.sleep(0.05)
         running.send_signal(signal.SIGTERM)
-        _, errors = running.communicate(timeout=30)
+        while running.poll() is None:  # the two that run come to their end
+            give(1)
+            time.sleep(0.05)
+        _, errors = running.communicate()
         self.assertEqual(running.returncode, 130)
         self.assertIn(b"cases are kept", errors)
         kept = self.times()
         self.assertTrue(3 <= len(kept) < 9, kept)
-        self.ask(program=f"{STANDIN} slow 0.4")
+        give(20)
+        self.ask(program=program)
         self.assertEqual({name: time for name, time in self.times().items() if name in kept}, kept)
         self.assertEqual(len(self.table()), 36)
 
