@@ -1,7 +1,16 @@
 # What the launcher needs in a checkout: checksums of sources, and proving. It is sourced by `sdhring`.
 
-# Where programs are built, and put where the checkout can't be written.
-apart=${XDG_CACHE_HOME:-${HOME:-/var/tmp}/.cache}/sdhring/$(printf '%s' "$top" | sha256sum | cut -c1-16)
+# The folder of the user's cache, which the environment names by a path from / on; nothing where it names none.
+cache() {
+  case ${XDG_CACHE_HOME-} in
+    /*) echo "$XDG_CACHE_HOME" ;;
+    *) case ${HOME-} in /*) echo "$HOME/.cache" ;; esac ;;
+  esac
+}
+
+# Where programs are built, and put where the checkout can't be written; nothing where the user has no cache.
+apart=$(cache)
+[ -z "$apart" ] || apart+=/sdhring/$(printf '%s' "$top" | sha256sum | cut -c1-16)
 child='' is_line_open=''
 
 say() {
@@ -63,12 +72,25 @@ beside() {
   return $status
 }
 
+# Whether nobody but this user and root can have changed what stands here: it and each folder on the way to it belong to
+# one of them, and nobody else may write there, or there each may take away his own alone.
+is_own() {
+  local path owner mode
+  path=$(readlink -e -- "$1") || return
+  while read -r owner mode; do
+    [ "$owner" = 0 ] || [ "$owner" = "$EUID" ] || return
+    (((8#$mode & 8#22) == 0 || (8#$mode & 8#1000) != 0)) || return
+  done < <(while stat -c '%u %a' -- "$path" && [ "$path" != / ]; do path=$(dirname -- "$path"); done)
+}
+
 # Chooses where the program is put, and makes that folder and the one to build in.
 make_places() {
   command -v rt >/dev/null || stop $no_kit "the command rt of the Rattle kit isn't on the PATH"
+  [ -n "$apart" ] || stop $no_room "no place to build in: neither XDG_CACHE_HOME nor HOME names a folder by a path from / on"
   out=$top/out
   { mkdir -p "$out" && [ -w "$out" ]; } 2>/dev/null || out=$apart
-  { mkdir -p "$apart" && [ -w "$apart" ]; } 2>/dev/null || stop $no_room "no place to build in: $apart can't be written, and XDG_CACHE_HOME names no other"
+  { (umask 077 && mkdir -p "$apart") && [ -w "$apart" ]; } 2>/dev/null || stop $no_room "no place to build in: $apart can't be written, and XDG_CACHE_HOME names no other"
+  is_own "$apart" || stop $no_room "no place to build in: others than you can write to $apart, or to a folder on the way to it"
 }
 
 # Waits until no other start of this checkout builds.

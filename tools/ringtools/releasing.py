@@ -21,7 +21,6 @@ SUMS = "SHA256SUMS"
 # What begins the first line of a script, and what stands there in the Debian package.
 INTERPRETERS = (
     (b"/usr/bin/env bash\n", b"/bin/bash\n"),
-    (b"/usr/bin/env python3\n", b"/usr/bin/python3\n"),
     (b"/usr/bin/env -S python3 -I\n", b"/usr/bin/python3 -I\n"),
 )
 PLATFORM = "x86_64-linux"
