@@ -8,12 +8,23 @@ from dataclasses import dataclass, field
 
 from .build import sum_of
 from .cells import read_cell
-from .files import TABLE, read_input
+from .files import TABLE, Limit, read_input
 from .shown import shown
 
 SIGNS = ",;\t"
 ROWS, COLUMNS, CELL, LINE = 4096, 256, 4096, 16_384  # the most of a table: rows, columns, characters of a cell, bytes of the first line
 QUOTED = 80  # characters of a cell that a message shows
+
+
+@dataclass(frozen=True)
+class Size:
+    """How large a table may be."""
+
+    file: Limit = TABLE
+    rows: int = ROWS
+
+
+USUAL = Size()
 
 
 class TableProblem(Exception):
@@ -77,9 +88,9 @@ PIPED: dict[str, bytes] = {}  # what came out of pipes, which can be read once
 SUMS: dict[str, str] = {}  # the checksum of each table as it was read last
 
 
-def table_bytes(name: str) -> bytes:
+def table_bytes(name: str, size: Size = USUAL) -> bytes:
     """Returns the bytes of a table, and notes their checksum."""
-    data = PIPED[name] if name in PIPED else read_input(name, TABLE)
+    data = PIPED[name] if name in PIPED else read_input(name, size.file)
     if name != "-" and not os.path.isfile(name):
         PIPED[name] = data
     SUMS[name] = sum_of(data)
@@ -91,8 +102,8 @@ def sum_of_table(name: str) -> str:
     return SUMS[name] if name in SUMS else sum_of(table_bytes(name))
 
 
-def text_of(name):
-    data = table_bytes(name)
+def text_of(name: str, size: Size = USUAL) -> str:
+    data = table_bytes(name, size)
     try:
         return data.decode("utf-8-sig")
     except UnicodeDecodeError as error:
@@ -120,28 +131,28 @@ def cells_of(name: str, line: int, raw: Sequence[str]) -> list[str]:
     return [read_cell(" ".join(cell.split())) for cell in raw]
 
 
-def records_of(name: str, text: str, sign: str) -> Iterator[tuple[int, list[str]]]:
+def records_of(name: str, text: str, sign: str, rows: int = ROWS) -> Iterator[tuple[int, list[str]]]:
     """Gives the first line of each record, and its cells."""
     reader, line, number = csv.reader(io.StringIO(text, newline=""), delimiter=sign, strict=True), 0, 0
     try:
         for raw in reader:
             begun, line, number = line + 1, reader.line_num, number + 1
-            if number > ROWS + 1:
-                raise TableProblem(f"{name}:{begun}: a table has at most {ROWS:,} rows")
+            if number > rows + 1:
+                raise TableProblem(f"{name}:{begun}: a table has at most {rows:,} rows")
             yield begun, cells_of(name, begun, raw)
     except csv.Error as error:
         raise TableProblem(f"{name}:{line + 1}: {error}") from None
 
 
-def read_table(name: str, known: Sequence[str], needed: Sequence[str]) -> "Table":
+def read_table(name: str, known: Sequence[str], needed: Sequence[str], size: Size = USUAL) -> "Table":
     """The rows of a table whose first line names its columns. Commas, semicolons or tabs part the cells; rows without a word are skipped.
 
     Where semicolons or tabs do, numbers may have a comma for the point.
     """
-    text = text_of(name)
+    text = text_of(name, size)
     first = text[:LINE].partition("\n")[0]
     sign, table = max(SIGNS, key=first.count), None
-    for line, cells in records_of(name, text, sign):
+    for line, cells in records_of(name, text, sign, size.rows):
         if table is None:
             heads = head_of(name, cells, known, needed)
             unread = tuple(cell for cell, head in zip(cells, heads) if head is None and cell)

@@ -1,15 +1,19 @@
 """Two networks beside each other, or one and an earlier answer: in which cases a customer survives in one of them and not in the other."""
 
 import csv
+import io
 from collections.abc import Iterator
 from dataclasses import dataclass, field
 from pathlib import Path
 
+from ..cells import read_cell, text_of_rows
+from ..files import MEBIBYTE, Limit, read_input
 from ..tables import TableProblem
 from .model import NetworkProblem
-from .telling import LOST, SINGLES, csv_of
+from .telling import CUSTOMERS, LOST, SINGLES
 
 COLUMNS = ("failure", "other", "customer", "before", "now", "change")
+ANSWER = Limit("a table of an answer", 1024 * MEBIBYTE)
 NEEDED = ("singles.csv", "lost.csv", "customers.csv")
 
 
@@ -32,13 +36,19 @@ class Answer:
 
 
 def rows_of(path: Path, columns: tuple[str, ...]) -> Iterator[dict[str, str]]:
-    with path.open(newline="", encoding="utf-8") as file:
-        reader = csv.DictReader(file)
-        if tuple(reader.fieldnames or ()) != columns:
+    """Yields the records of a table that `whatif` wrote, or raises a TableProblem."""
+    try:
+        rows = csv.reader(io.StringIO(read_input(str(path), ANSWER).decode("utf-8"), newline=""), strict=True)
+        if tuple(next(rows, ())) != columns:
             raise TableProblem(
                 f"{path}: the columns {', '.join(columns)} are wanted, as `sdhring-network whatif` writes them"
             )
-        yield from reader
+        for cells in rows:
+            if len(cells) != len(columns):
+                raise TableProblem(f"{path}:{rows.line_num}: {len(cells)} cells, and {len(columns)} columns")
+            yield dict(zip(columns, map(read_cell, cells)))
+    except (UnicodeDecodeError, csv.Error) as problem:
+        raise TableProblem(f"{path}: {problem}") from None
 
 
 def answer_in(folder: Path) -> Answer:
@@ -50,8 +60,7 @@ def answer_in(folder: Path) -> Answer:
             )
     answer = Answer()
     answer.failures = {row["failure"] for row in rows_of(folder / "singles.csv", SINGLES)}
-    with (folder / "customers.csv").open(newline="", encoding="utf-8") as file:
-        answer.customers = [row["customer"] for row in csv.DictReader(file)]
+    answer.customers = [row["customer"] for row in rows_of(folder / "customers.csv", CUSTOMERS)]
     for row in rows_of(folder / "lost.csv", LOST):
         fates = answer.fates.setdefault((row["failure"], row["other"]), {})
         if fates.get(row["customer"]) != "lost":
@@ -93,4 +102,4 @@ def compared(before: Answer, now: Answer) -> tuple[str, list[str]]:
                 words.append(
                     f"{len(only)} {what}{'s' if len(only) > 1 else ''} only in {name}, not compared: {shown}{' ..' if len(only) > 3 else ''}"
                 )
-    return csv_of(COLUMNS, changes(before, now)), words
+    return text_of_rows([COLUMNS, *changes(before, now)]), words

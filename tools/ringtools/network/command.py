@@ -3,18 +3,21 @@
 import argparse
 import shlex
 import sys
-from collections.abc import Callable
+from collections.abc import Callable, Iterable
 from dataclasses import replace
 from pathlib import Path
 
-from ..files import FileProblem, end_with_reader
+from ..cells import text_of_rows
+from ..files import FileProblem
 from ..making import MakingProblem
 from ..options import Options
-from ..origin import TELLER, CannotRun, Program, find_program
+from ..origin import TELLER, CannotRun, Program, program_of
 from ..places import PlaceProblem
-from ..required import NOT_ASKED, RuleProblem
+from ..required import HOLDS, NOT_ASKED, RuleProblem
 from ..running import Machines, processors
+from ..shown import say as say_of
 from ..tables import TableProblem
+from ..writing import Folder, named_folder, own_folder
 from .beside import answer_in, compared
 from .cases import CaseFate, Naming, fate_of
 from .components import DEFAULT
@@ -44,34 +47,38 @@ from .room import Room, head_words
 from .rules import COLUMNS as RULE_COLUMNS
 from .rules import Rule, read_rule, verdict_on
 from .tables import read_tables
-from .telling import Telling, csv_of
+from .telling import Telling
 
-PROBLEMS = (NetworkProblem, TableProblem, FileProblem, MakingProblem, PlaceProblem, CannotRun, OSError)
-FAILED, INTERRUPTED = 1, 130
+PROBLEMS = (NetworkProblem, TableProblem, FileProblem, MakingProblem, PlaceProblem, CannotRun)
+FAILED, MISUSED = 1, 2
+PARTS = 64  # where the number isn't given
 CASE_COLUMNS = ("case", "customer", "fate", "ring", "from", "to")
 TOOL = Path(__file__).resolve().parents[2] / "sdhring-network"
 
 
 def say(words: object) -> None:
-    sys.stderr.write(f"sdhring-network: {words}\n")
-    sys.stderr.flush()
+    say_of("sdhring-network", words)
 
 
-def write_new(folder: Path, files: dict[str, bytes]) -> None:
+def tell_table(columns: Iterable[object], rows: Iterable[Iterable[object]]) -> None:
+    """Writes a table to standard output."""
+    sys.stdout.write(text_of_rows([tuple(columns), *(tuple(row) for row in rows)]))
+
+
+def write_new(to: str, files: dict[str, bytes]) -> None:
     """Writes the files of a network into a folder; none of them may be there."""
-    if found := [name for name in files if (folder / name).exists()]:
-        raise NetworkProblem(f"{folder / found[0]} is there already; --to is to name a new folder")
-    folder.mkdir(parents=True, exist_ok=True)
+    folder = named_folder(to)
+    if found := sorted(set(folder.names()) & set(files)):
+        raise NetworkProblem(f"{folder.path / found[0]} is there already; --to is to name a new folder")
     for name, data in files.items():
-        with (folder / name).open("xb") as opened:
-            opened.write(data)
+        folder.write_new(name, data)
 
 
 def import_tables(asked: argparse.Namespace) -> int:
-    folder, to = Path(asked.folder), Path(asked.to)
+    folder = Path(asked.folder)
     service = service_of(folder_of(asked.keep)) if asked.keep else None
     made: Made = made_of(read_tables(folder), Settings(asked.threshold, asked.wait, asked.limit), service)
-    write_new(to, made.files)
+    write_new(asked.to, made.files)
     for note in made.notes:
         say(note)
     return 0
@@ -85,7 +92,7 @@ def rooms_of(folder: Path, network: Network) -> list[Room]:
 def tell_room(asked: argparse.Namespace) -> int:
     folder = folder_of(asked.network)
     rooms = rooms_of(folder, read_network(str(folder)))
-    sys.stdout.write(csv_of(ROOM_COLUMNS, (row for room in rooms for row in room.rows())))
+    tell_table(ROOM_COLUMNS, (row for room in rooms for row in room.rows()))
     say(head_words(rooms))
     return 0
 
@@ -95,7 +102,7 @@ def tell_added(asked: argparse.Namespace) -> int:
     service = service_of(folder_of(asked.network))
     wishes, notes = read_more(Path(asked.circuits), service.network)
     columns, rows, words, fits = added_to(service, wishes)
-    sys.stdout.write(csv_of(columns, rows))
+    tell_table(columns, rows)
     for note in [*notes, words]:
         say(note)
     return 0 if fits else FAILED
@@ -116,7 +123,7 @@ def kinds_of(words: str | None, rules: list[Rule]) -> tuple[Kind, ...]:
 
 
 def teller_of(asked: argparse.Namespace) -> Program:
-    program: Program = find_program(shlex.split(asked.teller) if asked.teller else [str(TELLER)])
+    program = program_of(asked.teller, TELLER)
     if not program.proved:
         say(f"warning: the program {shlex.join(program.words)} is {program.proof}")
     return program
@@ -136,11 +143,11 @@ def results_for(asked: argparse.Namespace, question: Question) -> list[dict[str,
         return in_memory(question, jobs)
     if not asked.dir:
         raise NetworkProblem("parts are kept in the folder of --dir, which is missing")
-    folder, count = Path(asked.dir) / "parts", asked.parts or 64
-    count = min(count, len(question.network.rings))
+    top = named_folder(asked.dir)
+    folder, count = top.inside("parts"), min(asked.parts or PARTS, len(question.network.rings))
     if asked.slurm is not None:
         run: Callable[[list[Part]], None] = lambda parts: run_with_slurm(
-            question, folder, parts, shlex.split(asked.slurm), TOOL
+            question, top, folder, parts, shlex.split(asked.slurm), TOOL
         )
     elif asked.sshlogin:
         machines = Machines(tuple(asked.sshlogin), asked.jobs, tuple(shlex.split(asked.parallel)))
@@ -180,7 +187,7 @@ def tell_cases(asked: argparse.Namespace, question: Question) -> int:
         say(
             f"{words}: {len(fate.lost)} lost, {len(fate.impaired)} impaired, {len(fate.over)} over protection, {kept} kept"
         )
-    sys.stdout.write(csv_of(CASE_COLUMNS, rows))
+    tell_table(CASE_COLUMNS, rows)
     return 0
 
 
@@ -203,9 +210,16 @@ def require(asked: argparse.Namespace, question: Question, rules: list[Rule]) ->
     base = base_of(asker, question.folder)
     joined = Joined(question.network, question.components(), base, question.measures, results_for(asked, question))
     who = lambda names, measure: lost_names(question, base, names, measure)
-    rows = [[asked.network, rule.text, *verdict_on(rule, joined, who)] for rule in rules]
-    sys.stdout.write(csv_of(RULE_COLUMNS, rows))
-    return int(any(row[2] != "holds" for row in rows))
+    rows = [
+        [asked.network, rule.text, *(not_asked(rule) if rule.problem else verdict_on(rule, joined, who))]
+        for rule in rules
+    ]
+    tell_table(RULE_COLUMNS, rows)
+    return int(any(row[2] != HOLDS for row in rows))
+
+
+def not_asked(rule: Rule) -> list[object]:
+    return [NOT_ASKED, "", "", "", "", "", rule.problem]
 
 
 def question_of(asked: argparse.Namespace, rules: list[Rule], network: Network) -> Question:
@@ -226,11 +240,8 @@ def whatif(asked: argparse.Namespace) -> int:
     try:
         rules = [read_rule(rule, network) for rule in asked.require or ()]
     except RuleProblem as problem:
-        if asked.require and len(asked.require) == 1:
-            sys.stdout.write(
-                csv_of(RULE_COLUMNS, [[asked.network, asked.require[0], NOT_ASKED, "", "", "", "", "", problem]])
-            )
-        raise NetworkProblem(f"--require: {problem}") from None
+        say(f"--require: {problem}")
+        return MISUSED
     question = question_of(asked, rules, network)
     if asked.against and asked.summary:
         raise NetworkProblem("--against compares records of failures, and --summary has none")
@@ -239,35 +250,36 @@ def whatif(asked: argparse.Namespace) -> int:
     if asked.part:
         part = read_part(asked.part)
         results = results_of(question, part.rings(len(network.rings)))
-        print(put_part(Path(asked.dir or ".") / "parts", question, part, results))
+        print(put_part(named_folder(asked.dir or ".").inside("parts"), question.sum(), part, results))
         return 0
     if rules:
         return require(asked, question, rules)
-    folder = Path(asked.dir or f"{folder_of(asked.network).resolve().name}.whatif")
+    folder = named_folder(asked.dir) if asked.dir else own_folder(f"{folder_of(asked.network).resolve().name}.whatif")
     write_tables(question, results_for(asked, question), folder)
     if asked.against:
         write_against(asked, question, folder)
     return 0
 
 
-def write_tables(question: Question, results: list[dict[str, object]], folder: Path) -> None:
+def write_tables(question: Question, results: list[dict[str, object]], folder: Folder) -> None:
     base = base_of(question.asker(), question.folder)
     joined = Joined(question.network, question.components(), base, question.measures, results)
     for path in Telling(joined).write(folder, question.rows):
         print(path)
 
 
-def write_against(asked: argparse.Namespace, question: Question, folder: Path) -> None:
+def write_against(asked: argparse.Namespace, question: Question, folder: Folder) -> None:
     """Compares with another network, which is asked the same, or with the tables of an earlier run."""
     other = Path(asked.against)
     if file_of(asked.against).is_file():
-        there, other = folder_of(asked.against), folder / "against"
+        there, beside_folder = folder_of(asked.against), folder.inside("against")
+        other = beside_folder.path
         network = read_network(str(there))
         beside = replace(question, folder=there, network=network)
-        write_tables(beside, in_memory(beside, asked.jobs or processors()), other)
-    table, words = compared(answer_in(other), answer_in(folder))
-    (folder / "against.csv").write_text(table, encoding="utf-8")
-    print(folder / "against.csv")
+        write_tables(beside, in_memory(beside, asked.jobs or processors()), beside_folder)
+    table, words = compared(answer_in(other), answer_in(folder.path))
+    folder.write("against.csv", table)
+    print(folder.path / "against.csv")
     for one in words:
         say(one)
 
@@ -279,7 +291,7 @@ def availability(asked: argparse.Namespace) -> int:
     columns: tuple[str, ...] = SAVINGS if asked.savings else CAUSES if asked.causes else SHARES
     records = {SAVINGS: minutes.saving_records, CAUSES: minutes.cause_records, SHARES: minutes.share_records}[columns]()
     if asked.csv:
-        sys.stdout.write(csv_of(columns, ([record[column] for column in columns] for record in records)))
+        tell_table(columns, ([record[column] for column in columns] for record in records))
     else:
         sys.stdout.write(as_json(columns, records) if asked.json else minutes.text())
     return 0
@@ -445,12 +457,8 @@ DEEDS: dict[str, Callable[[argparse.Namespace], int]] = {
 
 def main(words: list[str]) -> int:
     asked = options(words)
-    end_with_reader()
     try:
         return DEEDS[asked.does](asked)
     except PROBLEMS as problem:
         say(problem)
         return FAILED
-    except KeyboardInterrupt:
-        say("stopped; with --parts the same command goes on from there")
-        return INTERRUPTED

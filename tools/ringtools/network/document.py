@@ -5,7 +5,7 @@ from pathlib import Path
 from typing import Any
 
 from ..checks import is_name
-from ..files import FileProblem, read_input
+from ..files import MEBIBYTE, FileProblem, Limit, read_input
 from ..markup import count_of
 from ..plan import PlanProblem, read_document
 from .members import Members
@@ -18,6 +18,7 @@ KEYS = {
     "group": {"name", "members", "failures", "hours"},
 }
 MOST_NODES = 16
+DOCUMENT = Limit("a network's document", 64 * MEBIBYTE)
 
 
 def file_of(folder: str) -> Path:
@@ -182,7 +183,7 @@ def read_network(name: str) -> Network:
     """Returns the network of a folder or a document, or raises a NetworkProblem that names the file."""
     path = file_of(name)
     try:
-        return network_of(read_input(str(path)))
+        return network_of(read_input(str(path), DOCUMENT))
     except (FileProblem, NetworkProblem) as problem:
         words = str(problem)
         raise NetworkProblem(words if words.startswith(str(path)) else f"{path}: {words}") from None

@@ -14,7 +14,7 @@ from ..slots import Laid, Wanted
 from .document import read_network, written
 from .fitting import Fitted, Fitting, Placed, RingLoad
 from .model import Customer, Group, Network, NetworkProblem, Ring, Section, key_of
-from .tables import Tables, Wish
+from .tables import LARGE, Tables, Wish
 
 NAMED = 12  # of the circuits that don't fit, this many are reported one by one
 COPIED = ("spans.csv", "nodes.csv")
@@ -278,6 +278,8 @@ def made_of(tables: Tables, settings: Settings, service: Service | None = None) 
     if fitted.misfits:
         raise NetworkProblem(misfit_words(fitted, len(wishes)))
     made = maker.made(wishes, fitted, tables.groups, tables.notes)
-    made.files |= {name: (tables.folder / name).read_bytes() for name in COPIED if (tables.folder / name).is_file()}
+    made.files |= {
+        name: read_input(str(tables.folder / name), LARGE.file) for name in COPIED if (tables.folder / name).is_file()
+    }
     made.notes = [*summary(made, wishes), *tables.notes]
     return made

@@ -5,31 +5,36 @@ kept as files beside what they were asked; one that is missing, or of another qu
 """
 
 import hashlib
+import io
 import json
-import os
 import shlex
 import subprocess
 import tarfile
 import tempfile
 import time
 from collections.abc import Callable, Iterable, Iterator
+from contextlib import suppress
 from concurrent.futures import FIRST_COMPLETED, Future, ProcessPoolExecutor, wait
 from dataclasses import dataclass
 from multiprocessing import get_context
 from pathlib import Path
 from typing import Any
 
-from ..files import FileProblem
+from ..files import FileProblem, read_input
 from ..origin import CannotRun, Program
 from ..progress import Progress
+from ..kept import HERE
 from ..running import TICK, Machines
+from ..seals import is_sealed, seal_of
+from ..writing import Folder, part_name
 from .asking import Asker
 from .components import Components
-from .document import FILE, file_of
+from .document import DOCUMENT, FILE, file_of
 from .model import Kind, Network, NetworkProblem
 from .ringwork import Base, Ends, Measure, RingWork, base_of
 
 FORM = 1  # of the files of parts
+LONGEST = 1 << 30  # bytes of one
 
 
 @dataclass(frozen=True)
@@ -54,10 +59,14 @@ class Question:
             self.rows,
         ]
         found.update(json.dumps(asked).encode())
-        for name in (FILE, *(ring.file for ring in self.network.rings)):
-            path = self.folder / name
-            found.update(hashlib.sha256(path.read_bytes() if path.is_file() else b"").digest())
+        for _, data in self.files():
+            found.update(hashlib.sha256(data).digest())
         return found.hexdigest()
+
+    def files(self) -> Iterator[tuple[str, bytes]]:
+        """Yields the document and each plan, by their names."""
+        for name in (FILE, *(ring.file for ring in self.network.rings)):
+            yield name, read_input(str(self.folder / name), DOCUMENT)
 
     def components(self) -> Components:
         return Components(self.network, self.kinds)
@@ -92,38 +101,39 @@ def results_of(question: Question, rings: Iterable[int], base: Base | None = Non
     ]
 
 
-def written_part(question: Question, part: Part, results: list[dict[str, Any]]) -> str:
-    """A part as it is kept: what was asked, and a line for each ring."""
-    head = {"form": FORM, "asked": question.sum(), "part": [part.number, part.count], "rings": len(results)}
-    return "\n".join(json.dumps(one, separators=(",", ":"), ensure_ascii=False) for one in [head, *results]) + "\n"
+def written_part(asked: str, part: Part, results: list[dict[str, Any]]) -> str:
+    """A part as it is kept: what was asked, and a line for each ring; and the seal by which this account knows it again."""
+    head = {"form": FORM, "asked": asked, "part": [part.number, part.count], "rings": len(results)}
+    text = "".join(json.dumps(one, separators=(",", ":"), ensure_ascii=False) + "\n" for one in [head, *results])
+    return f"{text}seal {seal_of(text)}\n"
 
 
-def put_part(folder: Path, question: Question, part: Part, results: list[dict[str, Any]]) -> Path:
-    """Writes a part whole or not at all."""
-    folder.mkdir(parents=True, exist_ok=True)
-    path = folder / part.file
-    with tempfile.NamedTemporaryFile("w", dir=folder, prefix=".part-", delete=False, encoding="utf-8") as file:
-        file.write(written_part(question, part, results))
-    os.chmod(file.name, 0o644)
-    os.replace(file.name, path)
-    return path
+def put_part(folder: Folder, asked: str, part: Part, results: list[dict[str, Any]]) -> Path:
+    folder.write(part.file, written_part(asked, part, results))
+    return folder.path / part.file
 
 
-def kept_part(folder: Path, asked: str, part: Part, total: int) -> list[dict[str, Any]] | None:
-    """The results of a part that is kept, or None where it is missing, of another question, or not whole."""
-    try:
-        lines = (folder / part.file).read_text(encoding="utf-8").splitlines()
-        head, *found = [json.loads(line) for line in lines]
-        rings = [one["ring"] for one in found]
-        is_whole = head == {
-            "form": FORM,
-            "asked": asked,
-            "part": [part.number, part.count],
-            "rings": len(part.rings(total)),
-        }
-    except (OSError, ValueError, TypeError, KeyError):
+def read_part(data: bytes | None, asked: str, part: Part, total: int, sealed: bool) -> list[dict[str, Any]] | None:
+    """The results of a part, or None where it is missing, of another question, not whole, or, where that is asked, not sealed by this account."""
+    text, _, seal = (data or b"").decode("utf-8", "replace").rpartition("seal ")
+    if not text or sealed and not is_sealed(text, seal.removesuffix("\n")):
         return None
+    try:
+        head, *found = [json.loads(line) for line in text.splitlines()]
+        rings = [one["ring"] for one in found]
+    except (ValueError, TypeError, KeyError):
+        return None
+    is_whole = head == {
+        "form": FORM,
+        "asked": asked,
+        "part": [part.number, part.count],
+        "rings": len(part.rings(total)),
+    }
     return found if is_whole and rings == list(part.rings(total)) else None
+
+
+def kept_part(folder: Folder, asked: str, part: Part, total: int) -> list[dict[str, Any]] | None:
+    return read_part(folder.read(part.file, LONGEST), asked, part, total, sealed=True)
 
 
 # What a worker has in memory from the process that it was split off from.
@@ -180,37 +190,53 @@ def in_memory(question: Question, jobs: int) -> list[dict[str, Any]]:
     return [result for at in sorted(found) for result in found[at]]
 
 
-def run_here(question: Question, folder: Path, parts: list[Part], jobs: int) -> None:
+def run_here(question: Question, folder: Folder, parts: list[Part], jobs: int) -> None:
     """Runs parts on this machine, and keeps each as it is done."""
     total, progress = len(question.network.rings), progress_of(len(parts), 0, "parts")
     by_rings = {part.rings(total): part for part in parts}
     tell: Callable[[int], None] = progress.tell
+    asked = question.sum()
     for piece, results in here(question, list(by_rings), jobs, tell):
-        put_part(folder, question, by_rings[piece], results)
+        put_part(folder, asked, by_rings[piece], results)
 
 
-def run_watched(
-    words: list[str], folder: Path, asked: str, parts: list[Part], total: int, given: str | None = None
-) -> None:
-    """Starts a command that runs parts, and tells how many of them are there, until it ends."""
-    progress = progress_of(len(parts), 0, "parts")
-    folder.mkdir(parents=True, exist_ok=True)
-    try:
-        running = subprocess.Popen(words, cwd=folder, stdin=subprocess.PIPE, text=True, stdout=subprocess.DEVNULL)
-    except OSError as error:
-        package = {"parallel": "parallel", "sbatch": "slurm-wlm"}.get(words[0], words[0])
-        raise CannotRun(f"{words[0]}: {error.strerror}; it is Debian's package `{package}`") from None
-    try:
-        if running.stdin:
-            running.stdin.write(given or "")
-            running.stdin.close()
-        while running.poll() is None:
-            time.sleep(TICK)
-            progress.tell(sum((folder / part.file).is_file() for part in parts))
-    finally:
-        if running.poll() is None:
-            running.terminate()
-            running.wait()
+class Watched:
+    """A command that runs parts into a folder of its own, out of which whole parts are kept as they come."""
+
+    def __init__(self, question: Question, kept: Folder, parts: list[Part]):
+        self.asked, self.total, self.kept, self.parts = question.sum(), len(question.network.rings), kept, parts
+        self.left = list(parts)
+
+    def take(self, folder: Folder) -> int:
+        """Keeps what has come, and returns how many parts there are."""
+        for part in list(self.left):
+            found = read_part(folder.read(part.file, LONGEST), self.asked, part, self.total, sealed=False)
+            if found is not None:
+                put_part(self.kept, self.asked, part, found)
+                self.left.remove(part)
+        return len(self.parts) - len(self.left)
+
+    def run(self, words: list[str], cwd: Path, come: Folder, given: str = "") -> None:
+        """Starts the command, and tells how many parts are done, until it ends."""
+        progress = progress_of(len(self.parts), 0, "parts")
+        try:
+            running = subprocess.Popen(words, cwd=cwd, stdin=subprocess.PIPE, text=True, stdout=subprocess.DEVNULL)
+        except OSError as error:
+            package = {"parallel": "parallel", "sbatch": "slurm-wlm"}.get(words[0], words[0])
+            raise CannotRun(f"{words[0]}: {error.strerror}; it is Debian's package `{package}`") from None
+        try:
+            if running.stdin:
+                with suppress(BrokenPipeError):
+                    running.stdin.write(given)
+                    running.stdin.close()
+            while running.poll() is None:
+                time.sleep(TICK)
+                progress.tell(self.take(come))
+        finally:
+            if running.poll() is None:
+                running.terminate()
+                running.wait()
+            progress.tell(self.take(come), last=True)
 
 
 def command_of(question: Question, where: str, tool: Path) -> list[str]:
@@ -241,51 +267,85 @@ def counted_of(words: str) -> Measure:
         raise NetworkProblem(f"--counted {words}: it is for parts of an answer, whose command writes it") from None
 
 
-def run_with_parallel(question: Question, folder: Path, parts: list[Part], machines: Machines, tool: Path) -> None:
-    """Runs parts over machines by GNU parallel. The network's files go with each, and only the tools have to be there, at the same path."""
-    folder.mkdir(parents=True, exist_ok=True)
-    with tempfile.NamedTemporaryFile(dir=folder, prefix="network-", suffix=".tar") as packed:
-        with tarfile.open(packed.name, "w") as archive:
-            for name in (FILE, *(ring.file for ring in question.network.rings)):
-                archive.add(question.folder / name, arcname=name)
-        base, count = Path(packed.name).name, parts[0].count
-        asking = shlex.join([*command_of(question, ".", tool), "--dir", "."])
-        name = f"part-{{}}-of-{count}.json"
-        deed = f"d=$(mktemp -d) && tar -C $d -xf {base} && ( cd $d && {asking} --part {{}}/{count} ) && cp $d/parts/{name} {name}; s=$?; rm -rf $d; exit $s"
-        is_here = all(login.rpartition("/")[2] == ":" for login in machines.logins)
-        sent = [] if is_here else ["--basefile", base, "--return", name, "--cleanup"]
-        given = "".join(f"{part.number}\n" for part in parts)
-        run_watched([*machines.words(), *sent, deed], folder, question.sum(), parts, len(question.network.rings), given)
+def packed(question: Question) -> bytes:
+    """The files of a network as one archive."""
+    found = io.BytesIO()
+    with tarfile.open(fileobj=found, mode="w") as archive:
+        for name, data in question.files():
+            entry = tarfile.TarInfo(name)
+            entry.size = len(data)
+            archive.addfile(entry, io.BytesIO(data))
+    return found.getvalue()
 
 
-def run_with_slurm(question: Question, folder: Path, parts: list[Part], more: list[str], tool: Path) -> None:
-    """Runs parts as an array job of Slurm, whose machines see this folder at the same path."""
-    count, numbers = parts[0].count, ",".join(str(part.number) for part in parts)
-    where = folder.resolve().parent
+def run_with_parallel(question: Question, kept: Folder, parts: list[Part], machines: Machines, tool: Path) -> None:
+    """Runs parts over machines by GNU parallel. The network's files go with them; the tools have to be there, at the same path."""
+    with tempfile.TemporaryDirectory(prefix="sdhring-network-") as place:
+        folder, stem, count = Folder(Path(place)), Path(place).name, parts[0].count
+        folder.write(f"{stem}.tar", packed(question))
+        asking, name = shlex.join([*command_of(question, ".", tool), "--dir", "."]), f"part-$1-of-{count}.json"
+        deeds = [
+            f'tar -C "$d" -xf {stem}.tar',
+            f'( cd "$d" && {asking} --part "$1/{count}" )',
+            f'cp "$d/parts/{name}" "{name}"',
+        ]
+        folder.write(f"{stem}.sh", f"d=$(mktemp -d)\n{' && '.join(deeds)}\ns=$?\nrm -rf \"$d\"\nexit $s\n")
+        sent = [
+            "--basefile",
+            f"{stem}.sh",
+            "--basefile",
+            f"{stem}.tar",
+            "--return",
+            f"part-{{}}-of-{count}.json",
+            "--cleanup",
+        ]
+        words = [*machines.words(), *([] if machines.where == HERE else sent), f"sh {stem}.sh {{}}"]
+        Watched(question, kept, parts).run(words, folder.path, folder, "".join(f"{part.number}\n" for part in parts))
+
+
+def run_with_slurm(
+    question: Question, top: Folder, kept: Folder, parts: list[Part], more: list[str], tool: Path
+) -> None:
+    """Runs parts as an array job of Slurm, whose machines see the network's folder and that of the answer at the same paths."""
+    count, numbers, name = parts[0].count, ",".join(str(part.number) for part in parts), part_name()
+    come = top.inside(name)
+    where = come.path.resolve()
     asking = shlex.join([*command_of(question, str(question.folder.resolve()), tool), "--dir", str(where)])
     words = [
         "sbatch",
         "--wait",
         f"--array={numbers}",
         "--job-name=sdhring-network",
-        "--output=slurm-%a.log",
+        f"--output={where}/slurm-%a.log",
         *more,
-        "--wrap",
-        f"{asking} --part $SLURM_ARRAY_TASK_ID/{count}",
     ]
-    run_watched(words, folder, question.sum(), parts, len(question.network.rings))
+    try:
+        job = [*words, "--wrap", f"{asking} --part $SLURM_ARRAY_TASK_ID/{count}"]
+        Watched(question, kept, parts).run(job, where, come.inside("parts"))
+    finally:
+        emptied(come)
+        top.remove_folder(name)
+
+
+def emptied(folder: Folder) -> None:
+    """Takes away what an array job has left: its parts, which are kept elsewhere by now, and its logs."""
+    inner = folder.inside("parts")
+    for one in (inner, folder):
+        for name in one.names():
+            if name.endswith((".json", ".log")):
+                one.remove(name)
+    folder.remove_folder("parts")
 
 
 def in_parts(
-    question: Question, folder: Path, count: int, run: Callable[[list[Part]], None], say: Callable[[str], None]
+    question: Question, folder: Folder, count: int, run: Callable[[list[Part]], None], say: Callable[[str], None]
 ) -> list[dict[str, Any]]:
     """The results of all rings, of parts that are kept in this folder and of those that are run now."""
     total, asked = len(question.network.rings), question.sum()
     parts = [Part(number, count) for number in range(1, count + 1)]
-    kept = [part for part in parts if kept_part(folder, asked, part, total) is not None]
-    left = [part for part in parts if part not in kept]
-    if kept:
-        say(f"{len(kept)} of {count} parts are kept from an earlier run")
+    left = [part for part in parts if kept_part(folder, asked, part, total) is None]
+    if len(left) < count:
+        say(f"{count - len(left)} of {count} parts are kept from an earlier run")
     if left:
         run(left)
     found, failed = [], []

@@ -11,6 +11,7 @@ from functools import cached_property
 from pathlib import Path
 from typing import Any
 
+from ..files import read_input
 from .asking import NOTHING, Asker, Fate, RingCases
 from .components import Component
 from .model import Kind, Network, Ring, key_of
@@ -50,8 +51,7 @@ def base_of(asker: Asker, folder: Path) -> Base:
     """Returns what the scripts of all rings leave. Only rings whose script does something are asked about."""
     base = Base()
     for ring in asker.network.rings:
-        path = folder / ring.file
-        if path.is_file() and rests(path.read_bytes()):
+        if rests(read_input(str(folder / ring.file))):
             continue
         cases = asker.singles(ring)
         for mask, found in zip(

@@ -30,6 +30,7 @@ class Rule:
     kinds: frozenset[Kind]
     most: int = 0
     measure: Measure = Measure()
+    problem: str = ""  # why it can't be asked of this network
 
 
 def read_rule(text: str, network: Network) -> Rule:
@@ -48,22 +49,22 @@ def read_rule(text: str, network: Network) -> Rule:
     if unknown := [word for word in words if word not in NAMES]:
         raise RuleProblem(f"`{text}`: `{unknown[0]}` is none of {', '.join(kind.value for kind in Kind)}")
     kinds = frozenset(NAMES[word] for word in words) or frozenset(ALL_KINDS)
-    if Kind.GROUP in kinds and words and not network.groups:
-        raise RuleProblem(f"`{text}`: there are no groups in this network")
-    names = names_in(text, found["names"], network)
-    return Rule(text, DEPTHS[found["depth"]], kinds, int(found["most"] or 0), Measure(names, bool(found["besides"])))
+    names, problem = names_in(found["names"], network)
+    if words and kinds == {Kind.GROUP} and not network.groups:
+        problem = "there are no groups in this network"
+    return Rule(
+        text, DEPTHS[found["depth"]], kinds, int(found["most"] or 0), Measure(names, bool(found["besides"])), problem
+    )
 
 
-def names_in(text: str, words: str | None, network: Network) -> tuple[str, ...]:
-    """The customers that a rule names, as the network spells them."""
+def names_in(words: str | None, network: Network) -> tuple[tuple[str, ...], str]:
+    """The customers that a rule names, as the network spells them, and what is wrong where there is no such customer."""
     if not words:
-        return ()
-    known, found = {key_of(customer.name): customer.name for customer in network.customers}, []
-    for word in words.split(","):
-        if key_of(word) not in known:
-            raise RuleProblem(f"`{text}`: there is no customer {word.strip()}")
-        found.append(known[key_of(word)])
-    return tuple(found)
+        return (), ""
+    known = {key_of(customer.name): customer.name for customer in network.customers}
+    missing = [word.strip() for word in words.split(",") if key_of(word) not in known]
+    found = tuple(known[key_of(word)] for word in words.split(",") if key_of(word) in known)
+    return found, f"there is no customer {missing[0]}" if missing else ""
 
 
 def verdict_on(rule: Rule, joined: Joined, who: Callable[[tuple[str, ...], Measure], list[str]]) -> list[object]:

@@ -11,7 +11,8 @@ from ..checks import is_sent
 from ..importing import DIRECTIONS
 from ..markup import count_of
 from ..places import why_no_name
-from ..tables import Row, Table, TableProblem, read_table
+from ..files import MEBIBYTE, Limit
+from ..tables import Row, Size, Table, TableProblem, read_table
 from .members import Members
 from .model import Group, Network, NetworkProblem, Ring, key_of
 
@@ -37,7 +38,7 @@ NODE_COLUMNS = ("place", "failures", "hours")
 GROUP_COLUMNS = ("group", "members", "failures", "hours")
 MOST_BUNDLED = 128  # circuits of one row: no ring has more
 MOST_RINGS = 10_000
-NAME_LENGTH = 60
+LARGE = Size(Limit("a network's table", 32 * MEBIBYTE), 200_000)
 
 
 @dataclass(frozen=True)
@@ -128,7 +129,7 @@ def noted(table: Table) -> list[str]:
 
 
 def read_rings(file: Path, notes: list[str]) -> list[RingRow]:
-    table: Table = read_table(str(file), RING_COLUMNS, RING_COLUMNS)
+    table: Table = read_table(str(file), RING_COLUMNS, RING_COLUMNS, LARGE)
     found: list[RingRow] = []
     seen: dict[str, int] = {}
     notes += noted(table)
@@ -215,7 +216,7 @@ def wishes_in(row: Row, name: str, network: Network) -> list[Wish]:
 
 def read_wishes(file: Path, network: Network, notes: list[str]) -> list[Wish]:
     """Each circuit that a table wants. Names are given to those without: c1, c2 and so on."""
-    table: Table = read_table(str(file), CIRCUIT_COLUMNS, ("from", "to"))
+    table: Table = read_table(str(file), CIRCUIT_COLUMNS, ("from", "to"), LARGE)
     found: list[Wish] = []
     seen: dict[str, int] = {}
     notes += noted(table)
@@ -263,7 +264,7 @@ def complete(file: str, missing: list[str]) -> None:
 
 def span_rows(file: Path, network: Network) -> tuple[Table, dict[tuple[int, int], Row]]:
     """The row of each span of the network; a span without a row and one with two are refused."""
-    table: Table = read_table(str(file), SPAN_COLUMNS, ("ring", "from", "to"))
+    table: Table = read_table(str(file), SPAN_COLUMNS, ("ring", "from", "to"), LARGE)
     found: dict[tuple[int, int], Row] = {}
     for row in table.rows:
         span = span_of(row, network)
@@ -281,7 +282,7 @@ def span_rows(file: Path, network: Network) -> tuple[Table, dict[tuple[int, int]
 
 def place_rows(file: Path, network: Network) -> tuple[Table, dict[str, Row]]:
     """The row of each place, by the place's key."""
-    table: Table = read_table(str(file), NODE_COLUMNS, NODE_COLUMNS)
+    table: Table = read_table(str(file), NODE_COLUMNS, NODE_COLUMNS, LARGE)
     found: dict[str, Row] = {}
     for row in table.rows:
         key = key_of(place_in(row, "place", network))
@@ -314,7 +315,7 @@ def read_lengths(file: Path, network: Network, notes: list[str]) -> dict[tuple[i
 
 
 def read_groups(file: Path, network: Network, notes: list[str]) -> list[Group]:
-    table: Table = read_table(str(file), GROUP_COLUMNS, ("group", "members"))
+    table: Table = read_table(str(file), GROUP_COLUMNS, ("group", "members"), LARGE)
     found: list[Group] = []
     seen: dict[str, int] = {}
     notes += noted(table)

@@ -7,11 +7,11 @@
     customers.csv  for each customer, how many failures lose him
 """
 
-import csv
-import io
-from collections.abc import Iterable, Iterator
+from collections.abc import Iterable, Iterator, Sequence
 from pathlib import Path
 
+from ..cells import write_rows
+from ..writing import Folder
 from .joining import Joined, Single
 from .model import Kind, Network
 
@@ -29,14 +29,6 @@ CUSTOMERS = (
     "pairs",
     "pairs_together",
 )
-
-
-def csv_of(columns: Iterable[object], rows: Iterable[Iterable[object]]) -> str:
-    text = io.StringIO(newline="")
-    writer = csv.writer(text, lineterminator="\n")
-    writer.writerow(list(columns))
-    writer.writerows([list(row) for row in rows])
-    return text.getvalue()
 
 
 def ring_names(network: Network, numbers: Iterable[int]) -> str:
@@ -212,22 +204,20 @@ class Telling:
             counts = [alone.get(kind, 0) if self.joined.kinds[kind] else "" for kind in Kind]
             yield [customer.name, customer.start, customer.end, rings, *counts, besides, pairs, together]
 
-    def write(self, folder: Path, rows: bool) -> list[Path]:
+    def write(self, folder: Folder, rows: bool) -> list[Path]:
         """Writes the tables into a folder, and returns their paths."""
-        folder.mkdir(parents=True, exist_ok=True)
-        tables = {"summary": (SUMMARY, self.summary()), "customers": (CUSTOMERS, self.customers())}
+        tables: dict[str, tuple[Sequence[str], Iterator[list[object]]]] = {
+            "summary": (SUMMARY, self.summary()),
+            "customers": (CUSTOMERS, self.customers()),
+        }
         if rows:
             tables |= {
                 "singles": (SINGLES, self.singles()),
                 "doubles": (DOUBLES, self.doubles()),
                 "lost": (LOST, self.lost()),
             }
-        found = []
         for name, (columns, records) in tables.items():
-            path = folder / f"{name}.csv"
-            with path.open("w", newline="", encoding="utf-8") as file:
-                writer = csv.writer(file, lineterminator="\n")
-                writer.writerow(columns)
-                writer.writerows(records)
-            found.append(path)
-        return found
+            with folder.writing_text(f"{name}.csv") as file:
+                write_rows(file, [columns])
+                write_rows(file, records)
+        return [folder.path / f"{name}.csv" for name in tables]
