@@ -27,6 +27,7 @@ from .joining import Joined
 from .making import Made, Settings, kept_load, made_of, service_of
 from .minutes import CAUSES, SAVINGS, SHARES, Minutes, as_json
 from .model import Kind, Network, NetworkProblem
+from .paging import KINDS, Wanted, pages_of
 from .parting import (
     Part,
     Question,
@@ -40,7 +41,7 @@ from .parting import (
     run_with_parallel,
     run_with_slurm,
 )
-from .rates import read_rates
+from .rates import Rates, read_rates
 from .ringwork import ALL, Base, Ends, Measure, base_of
 from .room import COLUMNS as ROOM_COLUMNS
 from .room import Room, head_words
@@ -297,6 +298,35 @@ def availability(asked: argparse.Namespace) -> int:
     return 0
 
 
+def rates_of(asked: argparse.Namespace, folder: Path, network: Network) -> tuple[Rates | None, list[str]]:
+    """The rates of a network's tables where all are there, and what is to be said of them."""
+    if not (folder / "spans.csv").is_file():
+        return None, []
+    try:
+        rates = read_rates(folder, network, asked.cuts_per_1000_km)
+    except (TableProblem, NetworkProblem) as problem:
+        return None, [f"no availability: {problem}"]
+    return rates, rates.unread
+
+
+def page(asked: argparse.Namespace) -> int:
+    """Writes the page of a network and one for each of its rings."""
+    folder = folder_of(asked.network)
+    network = read_network(str(folder))
+    question = Question(folder, network, teller_of(asked), KINDS, (ALL,), True)
+    rates, notes = rates_of(asked, folder, network)
+    pages = pages_of(
+        question, asked.jobs or processors(), Wanted(asked.title or folder.resolve().name, rates, tuple(notes))
+    )
+    to = named_folder(asked.to)
+    for name, text in pages.items():
+        to.write(name, text)
+    for one in notes:
+        say(one)
+    print(to.path / "index.html")
+    return 0
+
+
 def asking_options(parser: argparse.ArgumentParser) -> None:
     """The words of `whatif`."""
     parser.add_argument("network", metavar="NETWORK", help="the folder of a network, or its network.toml")
@@ -437,6 +467,23 @@ def options(words: list[str]) -> argparse.Namespace:
         action="store_true",
         help="with --csv or --json: for each component, what would be saved if it never failed",
     )
+    drawn = does.add_parser(
+        "page",
+        help="a page of the network and of each ring",
+        description="Writes a page on which a click makes a span or a place fail, and one for each ring.",
+    )
+    drawn.add_argument(
+        "network", metavar="NETWORK", help="the folder of a network; with spans.csv the page has availability"
+    )
+    drawn.add_argument(
+        "--to", required=True, metavar="DIR", help="the folder of index.html and of a page for each ring"
+    )
+    drawn.add_argument("--title", metavar="WORDS", help="the page's title (the folder's name)")
+    drawn.add_argument(
+        "--cuts-per-1000-km", type=float, metavar="RATE", help="cuts a year of 1,000 km, for rows with a length alone"
+    )
+    drawn.add_argument("--jobs", type=int, metavar="N", help="N rings at a time (the number of processors)")
+    drawn.add_argument("--teller", metavar="CMD", help="the program that answers (sdhwhatif beside this one)")
     asked: argparse.Namespace = parser.parse_args(words)
     if asked.does == "availability" and (asked.causes or asked.savings) and not (asked.csv or asked.json):
         parser.error("--causes and --savings go with --csv or --json")
@@ -452,6 +499,7 @@ DEEDS: dict[str, Callable[[argparse.Namespace], int]] = {
     "room": tell_room,
     "whatif": whatif,
     "availability": availability,
+    "page": page,
 }
 
 

@@ -140,22 +140,25 @@ def kept_part(folder: Folder, asked: str, part: Part, total: int) -> list[dict[s
 WORK: dict[str, Any] = {}
 
 
+Work = Callable[[range], list[dict[str, Any]]]
+
+
 def work_on(numbers: range) -> list[dict[str, Any]]:
     return results_of(WORK["question"], numbers, WORK["base"])
 
 
 def here(
-    question: Question, pieces: list[range], jobs: int, done: Callable[[int], None]
+    question: Question, pieces: list[range], jobs: int, done: Callable[[int], None], work: Work = work_on
 ) -> Iterator[tuple[range, list[dict[str, Any]]]]:
     """Yields each piece with its results as it is done, `jobs` at a time."""
     WORK.update(question=question, base=base_of(question.asker(), question.folder))
     if jobs == 1:
         for count, piece in enumerate(pieces, 1):
-            yield piece, work_on(piece)
+            yield piece, work(piece)
             done(count)
         return
     with ProcessPoolExecutor(jobs, mp_context=get_context("fork")) as pool:
-        left: dict[Future[list[dict[str, Any]]], range] = {pool.submit(work_on, piece): piece for piece in pieces}
+        left: dict[Future[list[dict[str, Any]]], range] = {pool.submit(work, piece): piece for piece in pieces}
         count = 0
         try:
             while left:
@@ -175,7 +178,7 @@ def progress_of(total: int, done: int, what: str) -> Progress:
     return progress
 
 
-def in_memory(question: Question, jobs: int) -> list[dict[str, Any]]:
+def in_memory(question: Question, jobs: int, work: Work = work_on) -> list[dict[str, Any]]:
     """The results of all rings, asked here, with nothing kept."""
     total = len(question.network.rings)
     step = max(1, min(8, total // (jobs * 4) or 1))
@@ -185,7 +188,7 @@ def in_memory(question: Question, jobs: int) -> list[dict[str, Any]]:
     def tell(count: int) -> None:
         progress.tell(min(count * step, total))
 
-    for piece, results in here(question, pieces, jobs, tell):
+    for piece, results in here(question, pieces, jobs, tell, work):
         found[piece.start] = results
     return [result for at in sorted(found) for result in found[at]]
 
