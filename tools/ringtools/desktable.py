@@ -10,7 +10,7 @@ from itertools import chain, combinations
 from typing import NamedTuple
 
 from .failures import span_fibres
-from .model import CUT, DEGRADE, FAIL, FORCED, MANUAL, WAIT, applied_spans, arc, is_joined, route, scenes, span_requests
+from .model import CUT, DEGRADE, FAIL, FORCED, MANUAL, WAIT, applied_spans, arc, scenes, span_requests
 from .plan import SIDES
 from .reasons import REASONS
 from .report import BAD_PLAN
@@ -200,6 +200,7 @@ class Model:
         self.base = self.sets((span, request) for span, request in enumerate(span_requests(plan.size, self.last.requests)) if request)
         self.raised = [self.sets((span, self.RAISES[failure.kind]) for span in self.spans_of(failure)) for failure in failures]
         self.arcs = [frozenset(arc(plan, circuit)) for circuit in plan.circuits]
+        self.lanes = [(circuit.start, len(own), sum(1 << span for span in own)) for circuit, own in zip(plan.circuits, self.arcs)]
         self.known, self.outcomes, self.ways = {}, {}, {}
 
     def sets(self, asked):
@@ -249,13 +250,23 @@ class Model:
     def goes(self, applied):
         """Of each circuit, where these spans are applied, whether it is kept, over protection or lost, and over how many spans it goes."""
         if applied not in self.ways:
-            self.ways[applied] = [self.way(circuit, own, applied) for circuit, own in zip(self.plan.circuits, self.arcs)]
+            spans = sum(1 << span for span in applied)
+            self.ways[applied] = [self.way(*lane, spans) for lane in self.lanes]
         return self.ways[applied]
 
-    def way(self, circuit, own, applied):
-        if not is_joined(self.plan, circuit, applied):
+    def way(self, start, length, own, spans):
+        """Of an arc, by where it begins, its length and its spans as bits, whether it is kept, over protection or lost where these spans are applied, and over how many spans.
+
+        Over protection the way leads to the first applied span of the arc, all the way back to behind the last one, and on.
+        """
+        if not own & spans:
+            return KEPT, length
+        if spans & ~own:
             return LOST, 0
-        return OVER if applied & own else KEPT, len(route(self.plan, circuit, applied))
+        size = self.plan.size
+        struck = (spans >> start | spans << (size - start)) & ((1 << size) - 1)  # counted from the beginning of the arc
+        first, last = (struck & -struck).bit_length() - 1, struck.bit_length() - 1
+        return OVER, first + size - (last + 1 - first) + length - (last + 1)
 
 
 class Reading:
