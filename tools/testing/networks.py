@@ -113,8 +113,10 @@ class Network:
         kind, _, rest = member.partition(" ")
         if kind == "place":
             return [(ring, "place", at, "") for ring in range(len(self.rings)) if (at := self.at(ring, rest)) is not None]
-        words, _, ring = rest.rpartition(" in ")
-        return [(self.number[ring], "span", self.span(self.number[ring], *words.split("-")), "")]
+        words, _, ring = rest.partition(" in ")
+        one, other = words.split("-")
+        rings = [self.number[ring]] if ring else [at for at in range(len(self.rings)) if None not in (self.at(at, one), self.at(at, other))]
+        return [(rings[0], "span", self.span(rings[0], one, other), "")]
 
     def components(self, kinds=("fibre", "span", "place", "group")):
         """Each component by its name, as the tools write it, with its kind and parts."""

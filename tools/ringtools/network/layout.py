@@ -12,12 +12,18 @@ from .model import Network, key_of
 GAP = 46.0  # between rings that share no place
 SPACE = 60.0  # between neighbours on a ring
 LEAST = 62.0  # radius of a ring
-ROUNDS = 400
+ROUNDS = 600
+SMOOTHED = 30  # rounds after that, in which places move
+PULL = 0.06  # how much weaker rings that touch pull each other than others push
 Point = tuple[float, float]
 
 
 def radius_of(size: int) -> float:
     return max(LEAST, size * SPACE / (2 * math.pi))
+
+
+def middle_of(points: list[Point]) -> Point:
+    return sum(x for x, _ in points) / len(points), sum(y for _, y in points) / len(points)
 
 
 @dataclass(frozen=True)
@@ -60,34 +66,53 @@ class Layout:
             for at, place in enumerate(ring.places):
                 angle = turn + 2 * math.pi * at / ring.size
                 sums.setdefault(key_of(place), []).append((x + radius * math.sin(angle), y - radius * math.cos(angle)))
-        places = {
-            key: (sum(x for x, _ in points) / len(points), sum(y for _, y in points) / len(points))
-            for key, points in sums.items()
-        }
+        places = {key: middle_of(points) for key, points in sums.items()}
+        for _ in range(SMOOTHED):
+            self.smooth(places)
+        middles = [middle_of([places[key_of(place)] for place in ring.places]) for ring in self.network.rings]
         return Drawn(middles, self.radii, places)
 
+    def smooth(self, places: dict[str, Point]) -> None:
+        """Moves the places of one ring alone: half to between their neighbours, half onto a circle around the middle of the ring."""
+        for ring, radius in zip(self.network.rings, self.radii):
+            keys = [key_of(place) for place in ring.places]
+            x, y = middle_of([places[key] for key in keys])
+            for at, key in enumerate(keys):
+                if len(self.network.rings_at[key]) == 1:
+                    between = middle_of([places[keys[at - 1]], places[keys[(at + 1) % ring.size]]])
+                    dx, dy = places[key][0] - x, places[key][1] - y
+                    far = math.hypot(dx, dy) or 1.0
+                    places[key] = middle_of([between, (x + radius * dx / far, y + radius * dy / far)])
+
     def begun(self) -> list[Point]:
-        """Each ring beside one that is there already, those of the most neighbours first; rings that touch none further on."""
+        """Each ring outside one that is there already, where the place lies that they share; rings that touch none further on."""
         middles: dict[int, Point] = {}
         right = 0.0
         for first in sorted(range(len(self.radii)), key=lambda number: (-len(self.beside[number]), number)):
             if first in middles:
                 continue
             middles[first] = (right + self.radii[first], 0.0)
-            edge = [first]
+            edge = [(first, 0.0)]
             while edge:
-                number = edge.pop(0)
-                new = [other for other in self.beside[number] if other not in middles]
-                for place, other in enumerate(new):
-                    angle = 2 * math.pi * (place + 0.5) / len(new) + number
+                number, turn = edge.pop(0)
+                for at, other, there in self.touching(number):
+                    if other in middles:
+                        continue
+                    angle = turn + 2 * math.pi * at / self.network.rings[number].size
                     far = self.radii[number] + self.radii[other]
-                    middles[other] = (
-                        middles[number][0] + far * math.cos(angle),
-                        middles[number][1] + far * math.sin(angle),
-                    )
-                    edge.append(other)
+                    middles[other] = (middles[number][0] + far * math.sin(angle), middles[number][1] - far * math.cos(angle))
+                    edge.append((other, angle + math.pi - 2 * math.pi * there / self.network.rings[other].size))
             right = max(x + self.radii[number] for number, (x, _) in middles.items()) + GAP
         return [middles[number] for number in range(len(self.radii))]
+
+    def touching(self, number: int) -> list[tuple[int, int, int]]:
+        """The places that a ring shares, eastwards: its position here, the other ring, and the position there."""
+        ring, found = self.network.rings[number], []
+        for at, place in enumerate(ring.places):
+            for other in self.network.rings_at[key_of(place)]:
+                if other.number != number:
+                    found.append((at, other.number, other.positions[key_of(place)]))
+        return found
 
     def wanted(self, one: int, other: int) -> tuple[float, bool]:
         """How far apart two middles are to be, and whether exactly; rings that share two places or more overlap a little."""
@@ -109,7 +134,7 @@ class Layout:
                         continue
                     if now < 1e-6:
                         dx, dy, now = 1.0, 0.1 * (other - one), 1.0
-                    push = part * 0.5 * (far - now) / now
+                    push = part * (0.5 if now < far else PULL) * (far - now) / now
                     xs[one] -= push * dx
                     ys[one] -= push * dy
                     xs[other] += push * dx
