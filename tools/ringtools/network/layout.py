@@ -100,7 +100,10 @@ class Layout:
                         continue
                     angle = turn + 2 * math.pi * at / self.network.rings[number].size
                     far = self.radii[number] + self.radii[other]
-                    middles[other] = (middles[number][0] + far * math.sin(angle), middles[number][1] - far * math.cos(angle))
+                    middles[other] = (
+                        middles[number][0] + far * math.sin(angle),
+                        middles[number][1] - far * math.cos(angle),
+                    )
                     edge.append((other, angle + math.pi - 2 * math.pi * there / self.network.rings[other].size))
             right = max(x + self.radii[number] for number, (x, _) in middles.items()) + GAP
         return [middles[number] for number in range(len(self.radii))]

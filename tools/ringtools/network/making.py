@@ -9,7 +9,7 @@ from ..importing import apart, plain
 from ..making import Asked, Written, document_of, text_of
 from ..markup import count_of
 from ..places import PlaceProblem, read_places
-from ..plan import Circuit, Plan, PlanProblem, read_plan
+from ..plan import Circuit, Plan, PlanProblem, Port, read_plan
 from ..slots import Laid, Wanted
 from .document import read_network, written
 from .fitting import Fitted, Fitting, Placed, RingLoad
@@ -207,7 +207,7 @@ class Maker:
         called = one.customer if one.customer != name else ""
         if one.circuit:
             old = self.kept_circuit(load.ring, one.circuit)
-            ports = [(port.text.decode("ascii"), port.trace.decode("ascii"), port.offset) for port in (old.a, old.b)]
+            ports = [kept_port(port, old.name) for port in (old.a, old.b)]
             return Written(name, laid.start, laid.end, laid.slot, ports[0], ports[1], called)
         ends = "ab" if laid.start == one.wanted.start else "ba"
         ports = [wishes[one.customer].port(end, name, text_of) for end in ends]
@@ -243,6 +243,12 @@ class Maker:
         network = Network(self.network.rings, list(self.customers(wishes, fitted, names)), groups)
         files["network.toml"] = written(network).encode()
         return Made(files, notes, fitted, network)
+
+
+def kept_port(port: Port, name: str) -> tuple[str, str, int]:
+    """A port in service as it is written again; a trace that is the circuit's name stands there unwritten."""
+    trace = port.trace.decode("ascii")
+    return port.text.decode("ascii"), "" if trace == name else trace, port.offset
 
 
 def summary(made: Made, wishes: list[Wish]) -> Iterator[str]:
