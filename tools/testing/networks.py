@@ -92,6 +92,21 @@ class Network:
                 ring, _, circuit = words.rpartition(" ")
                 self.sections[-1].append((self.number[ring], circuit))
 
+        self.left = [part for ring in range(len(self.rings)) for part in self.left_in(ring)]
+
+    def left_in(self, ring):
+        """The fibres that a plan's script leaves cut, where it does nothing but cut."""
+        nodes = self.plans[ring]["nodes"]
+        return [(ring, "fibre", nodes.index(int(step.split()[1])), step.split()[2]) for step in self.plans[ring]["script"] if step.startswith("cut")]
+
+    def script(self, ring, steps):
+        """Puts these steps into a plan's script, before it settles."""
+        path = self.folder / self.rings[ring]["plan"]
+        text = path.read_text(encoding="utf-8")
+        begin, end = text.index("script = ["), text.index("\n]\n", text.index("script = [")) + 2
+        path.write_text(text[:begin] + f"script = {json.dumps([*steps, 'settle'])}" + text[end:], encoding="utf-8")
+        return Network(self.folder)
+
     def size(self, ring):
         return len(self.rings[ring]["places"])
 
@@ -145,8 +160,8 @@ class Network:
         return found
 
     def lost(self, parts):
-        """The customers that are lost, each with the rings in which a section of his is."""
-        cut, found = self.cut(parts), {}
+        """The customers that are lost beside what the scripts leave, each with the rings in which a section of his is."""
+        cut, found = self.cut([*parts, *self.left]), {}
         for number, sections in enumerate(self.sections):
             rings = []
             for ring, circuit in sections:

@@ -49,11 +49,15 @@ class Folder(unittest.TestCase):
 class SecondReading(Folder):
     """Everything that `whatif` says of random networks, against all cases one by one."""
 
-    def compare(self, seed):
+    def compare(self, seed, scripts=False):
+        """Compares all tables of one network. With scripts one ring or two have fibres cut already."""
         _, network = self.drawn(seed)
+        chance = random.Random(seed)
+        for ring in chance.sample(range(len(network.rings)), 2) if scripts else ():
+            network = network.script(ring, [f"cut {chance.choice(network.plans[ring]['nodes'])} {chance.choice(('east', 'west'))}" for _ in range(chance.randint(1, 3))])
         out = self.top / f"out-{seed}"
         self.network("whatif", network.folder, "--dir", out)
-        components = network.components()
+        components, self.before = network.components(), network.lost([])
         alone = {name: network.lost(parts) for name, (_, parts) in components.items()}
         pairs = {(one, other): lost for one, other, lost in network.pairs(components)}
         self.singles(out, network, components, alone)
@@ -91,6 +95,9 @@ class SecondReading(Folder):
 
     def customers(self, out, network, components, alone, pairs):
         for number, row in enumerate(self.rows(out / "customers.csv")):
+            if number in self.before:
+                self.assertEqual((int(row["pairs"]), int(row["pairs_together"])), (len(pairs), 0))
+                continue
             fatal = [name for name, lost in alone.items() if number in lost]
             counts = Counter(components[name][0] for name in fatal)
             self.assertEqual({kind: int(row[kind]) for kind in ("fibre", "span", "place")}, {kind: counts[kind] for kind in ("fibre", "span", "place")})
@@ -116,16 +123,25 @@ class SecondReading(Folder):
         found, wanted = set(), set()
         for row in self.rows(out / "lost.csv"):
             found.add((frozenset(filter(None, (row["failure"], row["other"]))), names.index(row["customer"]), ring[row["ring"]]))
+        wanted |= {(frozenset(), number, at) for number, rings in self.before.items() for at in rings}
         for name, lost in alone.items():
-            wanted |= {(frozenset([name]), number, at) for number, rings in lost.items() for at in rings}
+            wanted |= {(frozenset([name]), number, at) for number, rings in lost.items() if number not in self.before for at in rings}
         for (one, other), lost in pairs.items():
             beyond = set(lost) - set(alone[one]) - set(alone[other])
             wanted |= {(frozenset((one, other)), number, at) for number in beyond for at in lost[number]}
         self.assertEqual(found, wanted)
 
     def test_random_networks(self):
-        pairs = sum(self.compare(seed) for seed in range(1, 9))
-        self.assertGreater(pairs, 5_000)
+        pairs = sum(self.compare(seed) for seed in range(1, 8))
+        self.assertGreater(pairs, 4_000)
+
+    def test_after_what_scripts_leave(self):
+        """Also where a customer is lost by that alone."""
+        before = 0
+        for seed in range(11, 17):
+            self.compare(seed, scripts=True)
+            before += len(self.before)
+        self.assertGreater(before, 0)
 
 
 class Runs(Folder):

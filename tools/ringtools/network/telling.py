@@ -7,8 +7,9 @@
     customers.csv  for each customer, how many failures lose him
 """
 
-from collections.abc import Iterable, Iterator, Sequence
+from collections.abc import Container, Iterable, Iterator, Sequence
 from pathlib import Path
+from typing import Any
 
 from ..cells import write_rows
 from ..writing import Folder
@@ -113,7 +114,7 @@ class Telling:
             common = sorted(set(first.rings) & set(second.rings))
             beyond, impaired = lost - first.lost - second.lost - self.joined.base.lost, impaired_ones - lost
             if beyond or impaired:
-                kinds = "+".join(kind.value for kind in Kind for single in (first, second) if single.kind is kind)
+                kinds = self.kinds(first, second)
                 yield [
                     first.name,
                     second.name,
@@ -126,76 +127,62 @@ class Telling:
 
     def lost(self) -> Iterator[list[object]]:
         """Yields who is lost or impaired, case by case: with nothing more, with each failure alone, and with each two of `doubles`."""
-        nothing = [
-            (number, fate, result["ring"])
-            for result in self.joined.results
-            for fate, numbers in zip(("lost", "impaired"), result["nothing"])
-            for number in numbers
-        ]
-        yield from (self.record("nothing", "", "", "", number, fate, False, ring) for number, fate, ring in nothing)
         for result in self.joined.results:
-            for kind, name, _, lost, impaired, _, ends in result["singles"]:
-                for fate, numbers in (("lost", lost), ("impaired", impaired)):
-                    yield from (
-                        self.record("single", name, "", kind, number, fate, number in ends, result["ring"])
-                        for number in numbers
-                    )
+            yield from self.records(("nothing", "", "", ""), result["ring"], result["nothing"][0], result["nothing"][1])
+        for single in self.joined.own:
+            case = ("single", single.name, "", single.kind.value)
+            yield from self.records(case, single.rings[0], sorted(single.lost), sorted(single.impaired), single.ends)
         yield from self.lost_shared()
         for result in self.joined.results:
             for names, kinds, _, lost, impaired in result["rows"]:
-                for fate, numbers in (("lost", lost), ("impaired", impaired)):
-                    yield from (
-                        self.record("double", names[0], names[1], kinds, number, fate, False, result["ring"])
-                        for number in numbers
-                    )
-            for one, other, lost, impaired in result["between"]:
-                first, second = self.joined.shared[one], self.joined.shared[other]
-                known = first.lost | second.lost | self.joined.base.lost
-                kinds = "+".join(kind.value for kind in Kind for single in (first, second) if single.kind is kind)
-                for fate, numbers in (("lost", lost), ("impaired", impaired)):
-                    yield from (
-                        self.record("double", first.name, second.name, kinds, number, fate, False, result["ring"])
-                        for number in numbers
-                        if number not in known
-                    )
+                yield from self.records(("double", names[0], names[1], kinds), result["ring"], lost, impaired)
+        for result in self.joined.results:
+            yield from self.lost_between(result)
 
     def lost_shared(self) -> Iterator[list[object]]:
-        """The sections that break with each shared component alone, in each of its rings."""
+        """Yields the sections that break with each shared component alone, in each of its rings, of customers that aren't lost anyway."""
+        found: dict[int, list[tuple[int, list[int], list[int]]]] = {}
+        for result in self.joined.results:
+            for number, lost, impaired, _ in result["shared"]:
+                found.setdefault(number, []).append((result["ring"], lost, impaired))
         for number, single in enumerate(self.joined.shared):
-            for result in self.joined.results:
-                for shared, lost, impaired, _ in result["shared"]:
-                    if shared == number:
-                        for fate, numbers in (("lost", lost), ("impaired", impaired)):
-                            yield from (
-                                self.record(
-                                    "single",
-                                    single.name,
-                                    "",
-                                    single.kind.value,
-                                    one,
-                                    fate,
-                                    one in single.ends,
-                                    result["ring"],
-                                )
-                                for one in numbers
-                            )
+            case = ("single", single.name, "", single.kind.value)
+            for ring, lost, impaired in found.get(number, []):
+                those, ill = [one for one in lost if one in single.lost], [
+                    one for one in impaired if one in single.impaired
+                ]
+                yield from self.records(case, ring, those, ill, single.ends)
 
-    def record(
-        self, depth: str, failure: str, other: str, kinds: str, number: int, fate: str, is_end: bool, ring: int
-    ) -> list[object]:
-        customer = self.network.customers[number]
-        place = next(place for place, section in enumerate(customer.sections) if section.ring == ring)
-        return [
-            depth,
-            failure,
-            other,
-            kinds,
-            customer.name,
-            fate,
-            "end" if is_end else "",
-            self.network.rings[ring].name,
-            *customer.ends_of(place),
-        ]
+    def lost_between(self, result: dict[str, Any]) -> Iterator[list[object]]:
+        """Yields the sections of a ring that break with two shared components, neither of which is enough."""
+        for one, other, lost, impaired in result["between"]:
+            first, second = self.joined.shared[one], self.joined.shared[other]
+            known = first.lost | second.lost | self.joined.base.lost
+            case = ("double", first.name, second.name, self.kinds(first, second))
+            those, ill = [number for number in lost if number not in known], [
+                number for number in impaired if number not in known
+            ]
+            yield from self.records(case, result["ring"], those, ill)
+
+    def records(
+        self,
+        case: tuple[str, str, str, str],
+        ring: int,
+        lost: Iterable[int],
+        impaired: Iterable[int],
+        ends: Container[int] = (),
+    ) -> Iterator[list[object]]:
+        """Yields a record for each of these customers, with his section in this ring."""
+        for fate, numbers in (("lost", lost), ("impaired", impaired)):
+            for number in numbers:
+                customer = self.network.customers[number]
+                place = next(place for place, section in enumerate(customer.sections) if section.ring == ring)
+                end = "end" if number in ends else ""
+                yield [*case, customer.name, fate, end, self.network.rings[ring].name, *customer.ends_of(place)]
+
+    @staticmethod
+    def kinds(one: Single, other: Single) -> str:
+        return "+".join(kind.value for kind in Kind for single in (one, other) if single.kind is kind)
 
     def customers(self) -> Iterator[list[object]]:
         for number, alone, besides, pairs, together in self.joined.by_customer():
