@@ -154,7 +154,7 @@ def results_for(asked: argparse.Namespace, question: Question) -> list[dict[str,
         machines = Machines(tuple(asked.sshlogin), asked.jobs, tuple(shlex.split(asked.parallel)))
         run = lambda parts: run_with_parallel(question, folder, parts, machines, TOOL)
     else:
-        run = lambda parts: run_here(question, folder, parts, jobs)
+        run = lambda parts: run_here(question, folder, parts, jobs, say)
     return in_parts(question, folder, count, run, say)
 
 

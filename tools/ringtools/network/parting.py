@@ -147,6 +147,14 @@ def work_on(numbers: range) -> list[dict[str, Any]]:
     return results_of(WORK["question"], numbers, WORK["base"])
 
 
+def tried(numbers: range) -> list[dict[str, Any]]:
+    """What these rings add, or why they don't: so one part that fails doesn't stop the others."""
+    try:
+        return work_on(numbers)
+    except (NetworkProblem, FileProblem, CannotRun) as problem:
+        return [{"problem": str(problem)}]
+
+
 def here(
     question: Question, pieces: list[range], jobs: int, done: Callable[[int], None], work: Work = work_on
 ) -> Iterator[tuple[range, list[dict[str, Any]]]]:
@@ -193,14 +201,17 @@ def in_memory(question: Question, jobs: int, work: Work = work_on) -> list[dict[
     return [result for at in sorted(found) for result in found[at]]
 
 
-def run_here(question: Question, folder: Folder, parts: list[Part], jobs: int) -> None:
+def run_here(question: Question, folder: Folder, parts: list[Part], jobs: int, say: Callable[[str], None]) -> None:
     """Runs parts on this machine, and keeps each as it is done."""
-    total, progress = len(question.network.rings), progress_of(len(parts), 0, "parts")
+    total, progress, asked = len(question.network.rings), progress_of(len(parts), 0, "parts"), question.sum()
     by_rings = {part.rings(total): part for part in parts}
     tell: Callable[[int], None] = progress.tell
-    asked = question.sum()
-    for piece, results in here(question, list(by_rings), jobs, tell):
-        put_part(folder, asked, by_rings[piece], results)
+    for piece, results in here(question, list(by_rings), jobs, tell, tried):
+        part = by_rings[piece]
+        if "problem" in results[0]:
+            say(f"part {part.number} of {part.count}: {results[0]['problem']}")
+        else:
+            put_part(folder, asked, part, results)
 
 
 class Watched:
