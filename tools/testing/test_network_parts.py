@@ -70,7 +70,7 @@ class Parts(unittest.TestCase):
         self.check("p")
         _, said = self.call("whatif", "net", "--dir", "p", "--parts", 3, "--kinds", "span")
         self.assertNotIn("are kept", said)
-        plan = self.top / "net" / "south.toml"
+        plan = self.top / "net" / "rings" / "south.toml"
         plan.write_text(plan.read_text().replace("wait = 10", "wait = 11"))
         _, said = self.call("whatif", "net", "--dir", "p", "--parts", 3, "--kinds", "span")
         self.assertNotIn("are kept", said)
@@ -81,7 +81,7 @@ class Parts(unittest.TestCase):
         script.write_text(f'#!/bin/sh\nplan=$(mktemp)\ncat > "$plan"\nif [ ! -e "{self.top}/well" ] && grep -q "is N.*rnberg" "$plan"; then rm "$plan"; exit 3; fi\n{TELLER} "$@" < "$plan"\nstatus=$?\nrm "$plan"\nexit $status\n')
         script.chmod(0o755)
         _, said = self.call("whatif", "net", "--dir", "p", "--parts", 3, "--teller", script, wanted=1)
-        self.assertRegex(said, "part [23] of 3: south.toml: .* writes no table: status 3")
+        self.assertRegex(said, "part [23] of 3: rings/south.toml: .* writes no table: status 3")
         self.assertRegex(said, r"[12] of 3 parts failed: [23](, 3)?; the same command runs these alone again")
         before = self.times("p")
         (self.top / "well").touch()

@@ -60,10 +60,9 @@ def sections(document):
 def laid(folder):
     """Each circuit of each plan by its ring: ends, slot and texts."""
     found = {}
-    for file in sorted(folder.glob("*.toml")):
-        if file.name != "network.toml":
-            for circuit in tomllib.loads(file.read_text(encoding="utf-8")).get("circuit", []):
-                found[file.stem, circuit["name"]] = circuit
+    for file in sorted((folder / "rings").glob("*.toml")):
+        for circuit in tomllib.loads(file.read_text(encoding="utf-8")).get("circuit", []):
+            found[file.stem, circuit["name"]] = circuit
     return found
 
 
@@ -88,7 +87,7 @@ class Imported(Folder):
     def test_plans_are_good_ones(self):
         self.imported(self.tables())
         for name in ("north", "south"):
-            self.assertEqual(call("sdhring-explain", self.top / "net" / f"{name}.toml").returncode, 0)
+            self.assertEqual(call("sdhring-explain", self.top / "net" / "rings" / f"{name}.toml").returncode, 0)
 
     def test_a_bundle_is_as_many_circuits(self):
         document = self.imported(self.tables(circuits="name,from,to,via,count\nwide,Ahlen,Fulda,,2\n,Bonn,Dorf,,\n"))
@@ -185,7 +184,7 @@ class Growth(Folder):
         self.assertEqual({key: after[key] for key in before}, before)
         self.assertEqual(len(after), len(before) + 2)
         self.assertEqual(list(sections(document)), ["long", "short", "new", "beside"])
-        self.assertEqual((self.top / "old" / "south.toml").read_bytes(), (self.top / "new" / "south.toml").read_bytes())
+        self.assertEqual((self.top / "old" / "rings" / "south.toml").read_bytes(), (self.top / "new" / "rings" / "south.toml").read_bytes())
 
     def test_what_the_table_lacks_stays_and_is_named(self):
         self.imported(self.tables(), "old")
@@ -226,7 +225,8 @@ class Growth(Folder):
     def test_what_if_these_came_too(self):
         """Answered without touching a file."""
         self.imported(self.tables())
-        before = {file: file.read_bytes() for file in (self.top / "net").iterdir()}
+        read = lambda: {file: file.read_bytes() for file in (self.top / "net").rglob("*") if file.is_file()}
+        before = read()
         (self.top / "ten.csv").write_text("name,from,to,count\nten,Ahlen,Fulda,2\nmore,Emden,Fulda,3\n")
         found, said = self.call("add", self.top / "net", "ten.csv", wanted=1)
         rows = self.rows(found)
@@ -236,7 +236,7 @@ class Growth(Folder):
         self.assertEqual(len(missing), 2)  # South has six slots of spans; `long` takes one, and five more have no room beside it
         self.assertIn("is full, with 2 of 2 slots taken", missing[0]["problem"])
         self.assertIn("3 of 5 fit; then", said)
-        self.assertEqual({file: file.read_bytes() for file in (self.top / "net").iterdir()}, before)
+        self.assertEqual(read(), before)
         _, said = self.call("add", self.top / "net", self.put("name,from,to\nlong,Ahlen,Fulda\n"), wanted=1)
         self.assertIn("long is in service; another name is wanted for what is to come", said)
 
@@ -308,8 +308,9 @@ class Mistakes(Folder):
 
     def test_a_document_that_says_something_else(self):
         for old, new, words in (
-            ("plan = 'north.toml'", "plan = '../north.toml'", "`plan` is `../north.toml`, and the name of a file in the network's own folder is wanted"),
-            ("plan = 'north.toml'", "plan = 'nord.toml'", "nord.toml: No such file"),
+            ("'rings/north.toml'", "'../north.toml'", "`plan` is `../north.toml`, and a file in the network's own folder is wanted"),
+            ("'rings/north.toml'", "'/etc/passwd'", "`plan` is `/etc/passwd`, and a file in the network's own folder is wanted"),
+            ("'rings/north.toml'", "'rings/nord.toml'", "nord.toml: No such file"),
             ("[[ring]]", "[[rings]]", "the key `rings` isn't known; a network has [[ring]], [[customer]] and [[group]]"),
             ("from = 'Ahlen'", "start = 'Ahlen'", "customer 1: the key `start` isn't known; a customer has changes, from, name, sections, to"),
             ("'North long', 'South long'", "'North long'", "customer long: 1 section, and so 0 places where rings are changed; `changes` has 1"),
@@ -348,7 +349,7 @@ class Mistakes(Folder):
                 _, said = self.call("whatif", "net", *asked, wanted=status)
                 self.assertIn(words, said)
         _, said = self.call("import", self.top / "tables", "--to", "net", wanted=1)
-        self.assertIn("net/middle.toml" if (self.top / "net" / "middle.toml").exists() else "is there already; --to is to name a new folder", said)
+        self.assertIn("net/rings/north.toml is there already; --to is to name a new folder", said)
         _, said = self.call("availability", "nowhere", wanted=1)
         self.assertIn("there is no such file; `sdhring-network import` writes a network's folder", said)
 

@@ -1,6 +1,7 @@
 """The words of sdhring-network: what each asks for, and how it ends."""
 
 import argparse
+import os
 import shlex
 import sys
 from collections.abc import Callable, Iterable
@@ -31,7 +32,6 @@ from .paging import KINDS, Wanted, pages_of
 from .parting import (
     Part,
     Question,
-    counted_of,
     folder_of,
     in_memory,
     in_parts,
@@ -69,10 +69,11 @@ def tell_table(columns: Iterable[object], rows: Iterable[Iterable[object]]) -> N
 def write_new(to: str, files: dict[str, bytes]) -> None:
     """Writes the files of a network into a folder; none of them may be there."""
     folder = named_folder(to)
-    if found := sorted(set(folder.names()) & set(files)):
+    if found := [name for name in files if os.path.lexists(folder.path / name)]:
         raise NetworkProblem(f"{folder.path / found[0]} is there already; --to is to name a new folder")
     for name, data in files.items():
-        folder.write_new(name, data)
+        inner, _, own = name.rpartition("/")
+        (folder.inside(inner) if inner else folder).write_new(own, data)
 
 
 def import_tables(asked: argparse.Namespace) -> int:
@@ -224,15 +225,10 @@ def not_asked(rule: Rule) -> list[object]:
 
 
 def question_of(asked: argparse.Namespace, rules: list[Rule], network: Network) -> Question:
-    measures = [ALL, *(rule.measure for rule in rules), *map(counted_of, asked.counted or ())]
-    rows = not (asked.summary or asked.require)
+    measures = tuple(dict.fromkeys([ALL, *(rule.measure for rule in rules)]))
+    rows, texts = not (asked.summary or rules), tuple(rule.text for rule in rules)
     return Question(
-        folder_of(asked.network),
-        network,
-        teller_of(asked),
-        kinds_of(asked.kinds, rules),
-        tuple(dict.fromkeys(measures)),
-        rows,
+        folder_of(asked.network), network, teller_of(asked), kinds_of(asked.kinds, rules), measures, rows, texts
     )
 
 
@@ -376,7 +372,6 @@ def asking_options(parser: argparse.ArgumentParser) -> None:
         metavar="WORDS",
         help="parts as an array job of Slurm, with these words for sbatch",
     )
-    parser.add_argument("--counted", action="append", metavar="WORDS", help=argparse.SUPPRESS)
 
 
 def import_options(parser: argparse.ArgumentParser) -> None:

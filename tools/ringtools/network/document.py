@@ -75,10 +75,8 @@ def check_once(names: list[str], kind: str) -> None:
 
 def read_ring(number: int, where: str, table: dict[str, Any]) -> Ring:
     name, file, places = text_in(table, "name", where), text_in(table, "plan", where), texts_in(table, "places", where)
-    if Path(file).name != file or file in (".", ".."):
-        raise NetworkProblem(
-            f"{where}: `plan` is `{file}`, and the name of a file in the network's own folder is wanted"
-        )
+    if file.startswith("/") or not {".", ".."}.isdisjoint(file.split("/")) or not all(file.split("/")):
+        raise NetworkProblem(f"{where}: `plan` is `{file}`, and a file in the network's own folder is wanted")
     if not 2 <= len(places) <= MOST_NODES:
         raise NetworkProblem(f"{where}: {count_of(len(places), 'place')}, and a ring has 2 to {MOST_NODES}")
     check_once(list(places), f"place of ring {name}, so two place")
@@ -143,7 +141,7 @@ def network_of(data: bytes) -> Network:
     if not rings:
         raise NetworkProblem("there is no [[ring]]")
     check_once([ring.name for ring in rings], "ring")
-    check_once([ring.file for ring in rings], "plan")
+    check_once([ring.page for ring in rings], "plan")
     network = Network(rings, [])
     network.customers += [read_customer(where, table, network) for where, table in tables_in(document, "customer")]
     network.groups += [read_group(where, table) for where, table in tables_in(document, "group")]

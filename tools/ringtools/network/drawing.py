@@ -2,6 +2,7 @@
 
 import math
 import xml.etree.ElementTree as ElementTree
+from urllib.parse import quote
 
 from ..drawing import add
 from .layout import Drawn, Layout, Point
@@ -72,7 +73,7 @@ class NetworkDrawing:
         """A ring's name in its middle, as a link to its own page."""
         x = sum(self.point(ring, at)[0] for at in range(ring.size)) / ring.size
         y = sum(self.point(ring, at)[1] for at in range(ring.size)) / ring.size
-        link = add(self.root, "a", href=f"{ring.file.removesuffix('.toml')}.html")
+        link = add(self.root, "a", href=quote(ring.page))
         add(
             link, "text", shortened(ring.name), class_="ring-name", x=f"{x:.1f}", y=f"{y + 4:.1f}", text_anchor="middle"
         )

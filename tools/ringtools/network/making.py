@@ -191,7 +191,7 @@ class Maker:
             ids,
             (),
             steps,
-            load.ring.file,
+            Path(load.ring.file).name,
             settings.threshold,
             settings.wait,
             settings.limit,

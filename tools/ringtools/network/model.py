@@ -44,6 +44,11 @@ class Ring:
     def positions(self) -> dict[str, int]:
         return {key_of(place): at for at, place in enumerate(self.places)}
 
+    @property
+    def page(self) -> str:
+        """The name of the ring's own page."""
+        return f"{self.file.rpartition('/')[2].removesuffix('.toml')}.html"
+
     def at(self, place: str) -> int | None:
         """Returns the position of a place's node, or None where the ring doesn't come there."""
         return self.positions.get(key_of(place))

@@ -157,7 +157,7 @@ class NetworkPage:
     def rings(self) -> str:
         rows = []
         for ring, data in zip(self.network.rings, self.parts.rings):
-            page = quote(f"{ring.file.removesuffix('.toml')}.html")
+            page = quote(ring.page)
             name = (
                 f'<a href="{page}">{escape(ring.name)}</a>'
                 if ring.number not in self.parts.problems

@@ -1,7 +1,6 @@
 """Writes the pages of a network into a folder: its own, and the desk of each ring."""
 
 from dataclasses import dataclass
-from pathlib import Path
 from typing import Any
 
 from ..availability import left_by
@@ -148,12 +147,8 @@ def pages_of(question: Question, jobs: int, wanted: Wanted) -> dict[str, str]:
     pages = {"index.html": NetworkPage(wanted.title, network, parts, origin).page()}
     for ring, part in zip(network.rings, rings):
         if "desk" in part:
-            pages[page_name(ring)] = part["desk"]
+            pages[ring.page] = part["desk"]
     return pages
-
-
-def page_name(ring: Ring) -> str:
-    return f"{Path(ring.file).stem}.html"
 
 
 __all__ = ["KINDS", "Wanted", "pages_of"]

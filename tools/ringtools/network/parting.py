@@ -47,6 +47,7 @@ class Question:
     kinds: tuple[Kind, ...]
     measures: tuple[Measure, ...]
     rows: bool
+    rules: tuple[str, ...] = ()  # as `--require` has them, from which the measures come
 
     def sum(self) -> str:
         """Returns a checksum of all that the answer hangs on: the document, the plans, the program, and what is asked."""
@@ -264,21 +265,8 @@ def command_of(question: Question, where: str, tool: Path) -> list[str]:
         "--teller",
         shlex.join(question.program.words),
     ]
-    rules = [word for measure in question.measures[1:] for word in ("--counted", counted_words(measure))]
-    return [*words, *rules, *([] if question.rows else ["--summary"])]
-
-
-def counted_words(measure: Measure) -> str:
-    """A measure in one word, which `--counted` reads."""
-    return json.dumps([list(measure.names), measure.besides], ensure_ascii=False)
-
-
-def counted_of(words: str) -> Measure:
-    try:
-        names, besides = json.loads(words)
-        return Measure(tuple(map(str, names)), bool(besides))
-    except (ValueError, TypeError):
-        raise NetworkProblem(f"--counted {words}: it is for parts of an answer, whose command writes it") from None
+    rules = [word for rule in question.rules for word in ("--require", rule)]
+    return [*words, *rules, *([] if question.rows or rules else ["--summary"])]
 
 
 def packed(question: Question) -> bytes:

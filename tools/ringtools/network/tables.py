@@ -38,6 +38,7 @@ NODE_COLUMNS = ("place", "failures", "hours")
 GROUP_COLUMNS = ("group", "members", "failures", "hours")
 MOST_BUNDLED = 128  # circuits of one row: no ring has more
 MOST_RINGS = 10_000
+FOLDER = "rings"  # of the plans, in that of the network
 LARGE = Size(Limit("a network's table", 32 * MEBIBYTE), 200_000)
 
 
@@ -102,10 +103,10 @@ def files_of(names: list[str]) -> list[str]:
         kept = "".join(letter if letter.isalnum() and letter.isascii() else "-" for letter in name.casefold())
         stem = "-".join(filter(None, kept.split("-")))[:40] or "ring"
         number = 1
-        while f"{stem}.toml" in found or stem == "network":
+        while f"{FOLDER}/{stem}.toml" in found:
             number += 1
             stem = f"{stem[:36]}-{number}"
-        found.append(f"{stem}.toml")
+        found.append(f"{FOLDER}/{stem}.toml")
     return found
 
 
