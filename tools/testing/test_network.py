@@ -4,9 +4,12 @@ import csv
 import io
 import json
 import random
+import re
+import shlex
 import tempfile
 import unittest
 from collections import Counter
+from itertools import combinations
 from pathlib import Path
 
 from common import TOOLS, call
@@ -185,6 +188,111 @@ class Availability(Folder):
                 break
         self.assertEqual(done, 12)
         self.assertGreater(shared, 4)
+
+
+class Rules(Folder):
+    def test_verdicts_are_those_of_all_cases(self):
+        """Random rules about random networks, over kinds, customers, and besides ends."""
+        broken = 0
+        for seed in range(301, 305):
+            _, network = self.drawn(seed)
+            chance, components = random.Random(seed), network.components()
+            cases = {(name,): parts for name, (_, parts) in components.items()}
+            cases |= {(one, other): [*components[one][1], *components[other][1]] for one, other in combinations(components, 2)}
+            rules, wanted = [], []
+            for _ in range(6):
+                depth, kinds = chance.randint(1, 2), chance.sample(("fibre", "span", "place"), chance.randint(1, 3))
+                names, besides = chance.sample(range(len(network.customers)), chance.randint(0, 1)), chance.random() < 0.5
+                most = 0 if names else chance.randint(0, 2)
+                words = f"{network.customers[names[0]]['name']} not" if names else f"at most {most}"
+                rules.append(f"{('single', 'double')[depth - 1]} {', '.join(kinds)}: {words} lost{' besides ends' if besides else ''}")
+                about = [parts for names_, parts in cases.items() if len(names_) == depth and all(components[name][0] in kinds for name in names_)]
+                lost = [[number for number in network.lost(parts) if (not names or number in names) and not (besides and network.ends_at(number, parts))] for parts in about]
+                breaking = [one for one in lost if len(one) > most]
+                wanted.append((len(about), len(breaking), max(map(len, breaking), default=0)))
+            asked = [word for rule in rules for word in ("--require", rule)]
+            found = call("sdhring-network", "whatif", network.folder, *asked)
+            for row, (count, breaking, lost) in zip(self.rows(found.stdout.decode()), wanted, strict=True):
+                self.assertEqual((int(row["cases"]), int(row["breaking"]), int(row["lost"] or 0)), (count, breaking, lost), (seed, row))
+                self.assertEqual(row["verdict"], "broken" if breaking else "holds")
+                self.assertEqual(len(row["customers"].split("; ")) if breaking else 0, lost, row)
+                broken += breaking > 0
+        self.assertGreater(broken, 8)
+
+
+class Impaired(Folder):
+    def test_two_degraded_spans_of_one_ring(self):
+        """Then none is applied, and who has one of them on his own arc is kept but impaired; by name, and never where one is degraded alone."""
+        self.network("import", EXAMPLE, "--to", "net")
+        network = Network(self.top / "net")
+        self.network("whatif", "net", "--kinds", "degraded", "--dir", "out")
+        fibres = {name: (ring, at if side == "east" else (at - 1) % network.size(ring)) for name, (_, [(ring, _, at, side)]) in network.components(("fibre",)).items()}
+        wanted = set()
+        for (one, (ring, span)), (other, (beside, there)) in combinations(fibres.items(), 2):
+            if ring == beside and span != there:
+                for number, sections in enumerate(network.sections):
+                    if any(at == ring and {span, there} & network.arc(ring, circuit) for at, circuit in sections):
+                        wanted.add((frozenset(name.replace("fibre", "degraded", 1) for name in (one, other)), network.customers[number]["name"]))
+        rows = self.rows(self.top / "out" / "lost.csv")
+        self.assertEqual({(frozenset((row["failure"], row["other"])), row["customer"]) for row in rows}, wanted)
+        self.assertEqual({row["fate"] for row in rows}, {"impaired"})
+        summary = {(row["depth"], row["kinds"]): row for row in self.rows(self.top / "out" / "summary.csv")}
+        self.assertEqual(int(summary["double", "degraded+degraded"]["impairing"]), len({case for case, _ in wanted}))
+        self.assertEqual((summary["single", "degraded"]["impairing"], summary["double", "degraded+degraded"]["losing"]), ("0", "0"))
+
+
+class Against(Folder):
+    def test_who_gains_and_who_loses(self):
+        """The bridge with one span of North: nobody is lost with it alone. And an earlier answer in place of a network."""
+        self.network("import", EXAMPLE, "--to", "net")
+        self.network("whatif", "net", "--dir", "before")
+        document = self.top / "net" / "network.toml"
+        document.write_text(document.read_text(encoding="utf-8").replace("'span Hannover-Berlin', ", ""), encoding="utf-8")
+        self.network("whatif", "net", "--dir", "now", "--against", "before")
+        rows = self.rows(self.top / "now" / "against.csv")
+        alone = {(row["failure"], row["customer"], row["before"], row["now"], row["change"]) for row in rows if not row["other"]}
+        self.assertEqual(alone, {("group Leine bridge", name, "lost", "survives", "gains") for name in ("bank", "press-1", "press-2")})
+        self.assertEqual({row["change"] for row in rows}, {"gains"})
+        self.assertTrue(all("group Leine bridge" in (row["failure"], row["other"]) for row in rows))
+        self.assertNotIn("span Hannover–Berlin in North", {name for row in rows for name in (row["failure"], row["other"])})  # with it all three are cut as before
+        self.network("import", EXAMPLE, "--to", "other")
+        _, said = self.network("whatif", "net", "--dir", "again", "--against", "other")
+        self.assertEqual(self.rows(self.top / "again" / "against.csv"), rows)
+        self.assertNotIn("only in", said)
+
+
+class Example(Folder):
+    """The worked example of NETWORKS.md."""
+
+    def test_a_customer_that_each_ring_alone_calls_safe_is_lost_with_the_bridge(self):
+        self.network("import", EXAMPLE, "--to", "net")
+        rules = ("--require", "single span: none lost", "--require", "single fibre: none lost")
+        ended = call("sdhring-whatif", *rules, "net/rings", cwd=self.top)
+        self.assertEqual((ended.returncode, {row["verdict"] for row in self.rows(ended.stdout.decode())}), (0, {"holds"}))
+        found, _ = self.network("whatif", "net", *rules, "--require", "single group: none lost", wanted=1)
+        self.assertEqual([(row["verdict"], row["customers"]) for row in self.rows(found)], [("holds", ""), ("holds", ""), ("broken", "bank; press-1; press-2")])
+
+    def test_minutes_by_hand(self):
+        self.network("import", EXAMPLE, "--to", "net")
+        found, _ = self.network("availability", "net", "--cuts-per-1000-km", "2", "--json")
+        bank = json.loads(found)[0]
+        v, w, g = 0.2 / 8760.2, 0.08 / 8760.08, 0.96 / 8760.96
+        for part, wanted in (("ends", 1 - (1 - v) ** 2), ("changes", (1 - v) ** 2 * (1 - (1 - w) ** 2)), ("alone", (1 - v) ** 2 * (1 - w) ** 2 * g)):
+            self.assertAlmostEqual(bank[part], wanted * 525_600, delta=1e-6)
+
+    def test_the_page_has_what_the_tools_write(self):
+        blocks = re.findall(r"(?:^    .*\n|^\n(?=    ))+", (TOOLS.parent / "docs" / "NETWORKS.md").read_text(encoding="utf-8"), re.M)
+        lines = [line.strip() for block in blocks for line in block.splitlines() if line.strip()]
+        commands = [line for line in lines if line.startswith("./sdhring")]
+        self.network("import", EXAMPLE, "--to", "net")
+        said = ""
+        for command in commands:
+            tool, *words = shlex.split(command.removeprefix("./"))
+            if words[0] in ("whatif", "availability") and "--dir" not in words or tool == "sdhring-whatif":
+                said += call(tool, *words, cwd=self.top).stdout.decode()
+        shown = [line for line in lines if not line.startswith(("./sdhring", "sbatch", ".."))]
+        self.assertGreater(len(shown), 15)
+        self.assertEqual([line for line in shown if line not in said], [])
 
 
 if __name__ == "__main__":
