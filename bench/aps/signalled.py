@@ -12,9 +12,9 @@ import sys
 from pathlib import Path
 
 sys.path.insert(0, str(Path(__file__).resolve().parents[2] / "tools"))
+from ringtools.benching import good_plan, refuse
 from ringtools.starting import start
 
-import tomllib
 
 sys.path.insert(0, str(Path(__file__).resolve().parents[1] / "outage"))
 
@@ -88,17 +88,16 @@ def sent(plan, node, side, first, count):
 
 
 def main(words):
-    plan = tomllib.load(sys.stdin.buffer)
-    if len(words) == 5 and words[0] == "frames":
+    form = ["frames"] if len(words) == 5 else ["node"] if len(words) == 2 else ["run"]
+    numbers = [word for at, word in enumerate(words[1:]) if at != 1]
+    if words[:1] != form or len(words) > 5 or not all(word.isdecimal() for word in numbers):
+        refuse(__doc__, words)
+    plan = good_plan(sys.stdin.buffer.read())
+    if words[0] == "frames":
         status, made = sent(plan, int(words[1]), words[2], int(words[3]), int(words[4]))
         sys.stdout.buffer.write(made)
         return status
-    if words == ["run"]:
-        status, text = run(plan)
-    elif len(words) == 2 and words[0] == "node":
-        status, text = run(plan, int(words[1]))
-    else:
-        sys.exit(__doc__)
+    status, text = run(plan, *map(int, numbers))
     sys.stdout.write(text)
     return status
 

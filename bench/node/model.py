@@ -10,6 +10,7 @@ import sys
 from pathlib import Path
 
 sys.path.insert(0, str(Path(__file__).resolve().parents[2] / "tools"))
+from ringtools.benching import refuse
 from ringtools.starting import start
 
 import re
@@ -313,8 +314,8 @@ def answer(given, identifier, with_frames=False):
 
 
 def main(words):
-    if len(words) not in (1, 2):
-        sys.exit(__doc__)
+    if not (words and words[0].isdecimal() and words[1:] in ([], ["lines"], ["frames"])):
+        refuse(__doc__, words)
     status, text = answer(sys.stdin.buffer.read(), int(words[0]), words[1:] == ["frames"])
     sys.stdout.buffer.write(text)
     return status

@@ -15,9 +15,9 @@ import sys
 from pathlib import Path
 
 sys.path.insert(0, str(Path(__file__).resolve().parents[2] / "tools"))
+from ringtools.benching import good_plan, refuse
 from ringtools.starting import start
 
-import tomllib
 from collections import Counter
 from functools import lru_cache
 from itertools import groupby
@@ -456,11 +456,11 @@ def main(words):
 
     kinds = {"run": Looks, "tags": Outages, "report": Reports}
     if len(words) == 1 and words[0] in kinds:
-        status, text = run(tomllib.load(sys.stdin.buffer), kinds[words[0]])
+        status, text = run(good_plan(sys.stdin.buffer.read()), kinds[words[0]])
     elif len(words) == 3 and words[0] == "trace" and words[2] in ("a", "b"):
-        status, text = trace(tomllib.load(sys.stdin.buffer), *words[1:], Looks)
+        status, text = trace(good_plan(sys.stdin.buffer.read()), *words[1:], Looks)
     else:
-        sys.exit(__doc__)
+        refuse(__doc__, words)
     sys.stdout.write(text)
     return status
 

@@ -10,19 +10,20 @@ writes one such line for each. Prints each document on which the two differ, and
 Exits with 1 where a document differs, or where a reason 1 to 29 never came.
 """
 
+import sys
+from pathlib import Path
+
+sys.path.insert(0, str(Path(__file__).resolve().parents[2] / "tools"))
+from ringtools.starting import start
+
 import argparse
 import collections
 import concurrent.futures
 import random
 import re
 import subprocess
-import sys
-from pathlib import Path
 
 from plans import answer
-
-sys.path.insert(0, str(Path(__file__).resolve().parents[2] / "tools"))
-from ringtools.starting import start
 
 NUMBERS = (
     "0 1 -1 2 3 4 5 8 9 12 13 15 16 17 48 49 782 783 1000 65536 65537 1000000 1000001 1000000000 1000000001 4294967297 "

@@ -5,11 +5,11 @@ import sys
 from pathlib import Path
 
 sys.path.insert(0, str(Path(__file__).resolve().parents[2] / "tools"))
+from ringtools.benching import good_plan, refuse
 from ringtools.starting import start
 
 import itertools
 import json
-import tomllib
 from dataclasses import dataclass, field
 
 FORCED, FAIL, DEGRADE, MANUAL, WAIT = 13, 11, 8, 6, 5
@@ -287,7 +287,9 @@ def ring_of(document):
 def main(words):
     """What `sdhwhatif WORD.. < PLAN` has to write."""
     sys.stdout.reconfigure(newline="")
-    sys.stdout.write(table(ring_of(tomllib.load(sys.stdin.buffer)), asked_of(words)))
+    if words[:1] not in [[depth] for depth in DEPTHS]:
+        refuse(main.__doc__, words)
+    sys.stdout.write(table(ring_of(good_plan(sys.stdin.buffer.read())), asked_of(words)))
 
 
 if __name__ == "__main__":

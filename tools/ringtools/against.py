@@ -1,6 +1,7 @@
 """Two plans or tables beside each other: in which cases a circuit survives in one of them and is lost in the other."""
 
 import csv
+import io
 from collections import Counter
 from collections.abc import Iterator
 from dataclasses import dataclass, field
@@ -13,6 +14,8 @@ from .writing import Folder
 
 COLUMNS = ("Failures", "Depth", "Kind", "Circuit", "Other", "This", "Change")
 GAINS, LOSES, CHANGED = "gains", "loses", "other way"
+MOST_CASES = 100_000  # rows of a table
+MOST_CIRCUITS = 128
 WANTED = ("Failures", "Over circuits", "Lost circuits")
 
 
@@ -31,22 +34,40 @@ def cases_of_told(name, told):
     return Cases(name, tuple(told.names), cases, told.called)
 
 
-def cases_of_table(name):
+def columns_of(name: str, heads: list[str]) -> list[int]:
+    """Returns where the columns stand that are compared."""
+    if missing := [column for column in WANTED if column not in heads]:
+        raise TableProblem(f"{name}: a table of --all is wanted, with the columns {', '.join(WANTED)}; there is no {missing[0]}")
+    return [heads.index(column) for column in WANTED]
+
+
+def cases_of_rows(name: str, rows: Iterator[list[str]]) -> Cases:
+    """Returns the cases of a table's rows, of which the first names the columns."""
+    places = columns_of(name, next(rows, []))
+    cases, circuits, known = {}, {}, {}
+    for number, row in enumerate(rows, 2):
+        if number > MOST_CASES or len(row) <= max(places):
+            why = f"a table has at most {MOST_CASES:,} rows" if number > MOST_CASES else "the row is too short"
+            raise TableProblem(f"{name}: row {number}: {why}")
+        failures, over, lost = (read_cell(row[place]) for place in places)
+        for cell in (over, lost):
+            if cell not in known:
+                known[cell] = frozenset(cell.split())
+                circuits |= dict.fromkeys(cell.split())
+        if len(circuits) > MOST_CIRCUITS:
+            raise TableProblem(f"{name}: row {number}: with it there are more than {MOST_CIRCUITS} circuits, the most that a ring has")
+        cases[() if failures == "nothing" else tuple(failures.split("; "))] = known[over], known[lost]
+    if not cases:
+        raise TableProblem(f"{name}: a table of --all is wanted, and this one has no row")
+    return Cases(name, tuple(circuits), cases)
+
+
+def cases_of_table(name: str) -> Cases:
     """The table that an earlier run wrote: its circuits are those that it names in any case, as each is lost with its own node."""
     try:
-        rows = list(csv.DictReader(read_input(name, CASES).decode("utf-8").splitlines()))
+        return cases_of_rows(name, csv.reader(io.TextIOWrapper(io.BytesIO(read_input(name, CASES)), encoding="utf-8", newline="")))
     except (UnicodeDecodeError, csv.Error) as problem:
         raise TableProblem(f"{name}: {problem}") from None
-    if not rows or any(row.get(column) is None for row in rows for column in WANTED):
-        raise TableProblem(f"{name}: a table of --all is wanted, with the columns {', '.join(WANTED)}")
-    cases, circuits = {}, {}
-    for row in rows:
-        failures, *circuits_of = (read_cell(row[column]) for column in WANTED)
-        key = () if failures == "nothing" else tuple(failures.split("; "))
-        over, lost = (found.split() for found in circuits_of)
-        cases[key] = frozenset(over), frozenset(lost)
-        circuits |= dict.fromkeys(over + lost)
-    return Cases(name, tuple(circuits), cases)
 
 
 def change(before, now):

@@ -1,9 +1,7 @@
 """What the answers about all cases come to: who is lost in which failures, and the same in words."""
 
-from html import escape
-
 from .failures import KINDS
-from .markup import count_of, names
+from .markup import count_of, escape, names
 from .plan import enough
 
 KIND_WORDS = {"fibre": "fibre", "span": "span", "node": "node", "pair": "pair of spans"}

@@ -10,12 +10,12 @@ LETTERS = "(?:fs|sf|sd|ms|wtr|rr|nr)"
 WORD = "(?:[0-9a-f]{2} [0-9a-f]{2})"
 STATES = "(?:idle|pass|switch-west|switch-east|isolated)"
 FIRST = re.compile(
-    rf"round (?P<round>0|[1-9][0-9]*) node (?P<node>[0-9]|1[0-5]) (?P<state>{STATES}) far (?P<far>-|[0-9]|1[0-5])"
+    rf"round (?P<round>0|[1-9][0-9]{{0,17}}) node (?P<node>[0-9]|1[0-5]) (?P<state>{STATES}) far (?P<far>-|[0-9]|1[0-5])"
     rf" west (?P<west>{WORD}) east (?P<east>{WORD})"
     rf" heard (?P<heard_west>{WORD}|- -) (?P<heard_east>{WORD}|- -) asks (?P<asks_west>{LETTERS}) (?P<asks_east>{LETTERS})"
 )
-PORT = re.compile(r"port (?P<name>[a-z0-9_-]{1,16} [ab]) (?P<delivers>ais|norm (?:0|[1-9][0-9]*) (?:[0-9a-f]{2})*)")
-BYTES = re.compile(r"bytes (0|[1-9][0-9]*)")
+PORT = re.compile(r"port (?P<name>[a-z0-9_-]{1,16} [ab]) (?P<delivers>ais|norm (?:0|[1-9][0-9]{0,17}) (?:[0-9a-f]{2})*)")
+BYTES = re.compile(r"bytes (0|[1-9][0-9]{0,17})")
 # The rule of a node's round (docs/RING.md) that decides each field, in the order of the rules.
 RULES = (
     ("round", "the round's number", "the order of answers: one for each round"),

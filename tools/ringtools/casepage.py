@@ -4,13 +4,12 @@ import signal
 from concurrent.futures import ProcessPoolExecutor
 from dataclasses import dataclass
 from functools import partial
-from html import escape
 
 from .answers import Answers
 from .casetables import CaseTables
 from .failures import WORKS_STAGES
 from .look import looks
-from .markup import count_of, listing, origin_list, warning, whole
+from .markup import count_of, escape, listing, origin_list, warning, whole
 from .model import scenes
 from .origin import Origin
 from .page import in_short, run_page, source, tools
@@ -76,7 +75,18 @@ def draw_case(asked, case):
     store.folder.write(f"{case.name}.html", run_page(title, plan, report, shown, origin, beside))
 
 
+def made_pool(jobs: int) -> ProcessPoolExecutor | None:
+    """Returns processes that draw, or None where the system gives none, as one without a shared /dev/shm."""
+    try:
+        return ProcessPoolExecutor(jobs, initializer=signal.signal, initargs=(signal.SIGINT, signal.SIG_IGN))
+    except (OSError, ImportError):
+        return None
+
+
 def draw_cases(asked, cases, jobs):
-    done = [case for case in cases if asked.store.is_done(case.name)]
-    with ProcessPoolExecutor(jobs, initializer=signal.signal, initargs=(signal.SIGINT, signal.SIG_IGN)) as pool:
-        list(pool.map(partial(draw_case, asked), done, chunksize=4))
+    done, draw = [case for case in cases if asked.store.is_done(case.name)], partial(draw_case, asked)
+    if (pool := made_pool(jobs)) is None:
+        list(map(draw, done))
+        return
+    with pool:
+        list(pool.map(draw, done, chunksize=4))

@@ -1,10 +1,8 @@
 """The tables of sdhring-whatif: each customer, the failures kind by kind, and each customer in each failure."""
 
-from html import escape
-
 from .answers import KIND_PLURALS, SINGLE
 from .look import ends_words
-from .markup import folded, heads, unbroken
+from .markup import escape, folded, heads, unbroken
 
 COLUMNS = 40  # customers side by side, as many as fit a printed page
 KEY = (

@@ -5,6 +5,7 @@ Each refusal says where in the document it is, which word is wrong, and which wo
 
 from collections import Counter
 from dataclasses import dataclass
+from itertools import islice
 
 SIDES = ("west", "east")
 KEYS = ("rate", "nodes", "threshold", "wait", "limit", "script", "circuit")
@@ -29,6 +30,8 @@ CHOICES = {"side": SIDES, "end": ("a", "b"), "turn": ("up", "down")}
 ORDER = {"node": 24, "name": 30, "end": 30, "side": 25, "turn": 25, "number": 26}
 NAME_LETTERS = frozenset("abcdefghijklmnopqrstuvwxyz0123456789-_")
 SETTLES, SLIPS, STEPS = 64, 16, 1000
+RING = 128  # of the refusals of rate and nodes, which may be many more, these are given
+CIRCUITS = 128  # the most that a ring has: 16 spans of 8 slots
 LAST_MOMENT = 1_000_000_000
 
 
@@ -101,7 +104,7 @@ class Checks:
     def all(self):
         """Each check that fails, in the program's order, which answers the first of them."""
         yield from self.keys(self.document, KEYS, 0, ())
-        ring = [*self.rate_and_nodes()]
+        ring = [*islice(self.rate_and_nodes(), RING)]
         yield from ring
         yield from self.numbers()
         if not ring:
@@ -217,7 +220,7 @@ class Checks:
 
     def held_later(self, place):
         """The spans and slots of the circuits that stand after this place, as far as these can be read."""
-        for table in self.document["circuit"][place:]:
+        for table in self.document["circuit"][place : place + CIRCUITS]:
             ends = table.get("from"), table.get("to")
             if is_number(table.get("slot")) and all(is_number(node) and node in self.nodes for node in ends):
                 yield from ((span, table["slot"]) for span in arc_of(table, self.nodes))

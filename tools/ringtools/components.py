@@ -3,8 +3,9 @@
 from dataclasses import dataclass
 
 from .failures import cut_by, span_fibres, span_named
-from .tables import TableProblem, quoted, read_table
+from .tables import LARGEST, TableProblem, quoted, read_table
 
+SPANS, NODES, GROUPS = 64, 64, 64  # rows; a ring has 16 spans and 16 nodes, and whoever has more is told which row is wrong
 HOURS = 8760.0  # of a year of 365 days
 SPAN_COLUMNS = ("from", "to", "cuts", "km", "cuts_per_1000_km", "hours", "fibre_failures", "fibre_hours")
 NODE_COLUMNS = ("place", "node", "failures", "hours")
@@ -113,6 +114,8 @@ def cuts_of(row, per_1000_km):
         return cuts
     if km is None or rate is None:
         raise row.problem("`cuts` a year are wanted, or `km` and the cuts a year of 1,000 km: `cuts_per_1000_km`, or --cuts-per-1000-km")
+    if not km * rate / 1000 < LARGEST:
+        raise row.problem(f"that many cuts a year aren't computed with: {LARGEST:,} are the most")
     return km * rate / 1000
 
 
@@ -137,7 +140,7 @@ def complete(file, found, names):
 
 def read_spans(name, finder, per_1000_km=None):
     """Each span of the ring by its row, and its fibres where they fail by themselves too."""
-    table, found = read_table(name, SPAN_COLUMNS, ("from", "to", "hours")), {}
+    table, found = read_table(name, SPAN_COLUMNS, ("from", "to", "hours"), SPANS), {}
     for row in table.rows:
         span = finder.span(row)
         if span in found:
@@ -150,7 +153,7 @@ def read_spans(name, finder, per_1000_km=None):
 
 
 def read_nodes(name, finder):
-    table, found = read_table(name, NODE_COLUMNS, ("failures", "hours")), {}
+    table, found = read_table(name, NODE_COLUMNS, ("failures", "hours"), NODES), {}
     if not {"place", "node"} & set(table.columns):
         raise TableProblem(f"{name}:1: the first line is to name the column `node`, or `place`")
     for row in table.rows:
@@ -165,7 +168,7 @@ def read_nodes(name, finder):
 
 def groups_in(name, finder, wanted=("group", "members")):
     """Each group of a table, beside its row."""
-    table, found = read_table(name, GROUP_COLUMNS, wanted), {}
+    table, found = read_table(name, GROUP_COLUMNS, wanted, GROUPS), {}
     for row in table.rows:
         if not row["group"]:
             raise row.problem("`group` is empty, and a name is wanted")

@@ -1,9 +1,7 @@
 """What becomes of each customer, settle step by settle step, as markup."""
 
-from html import escape
-
 from .look import ends_words, longer_words
-from .markup import count_of, heads, names, table
+from .markup import count_of, escape, heads, names, table
 
 RESULTS = {
     "odd": "Not what they are owed",

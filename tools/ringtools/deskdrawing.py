@@ -19,7 +19,7 @@ class DeskDrawing:
         wide, high = self.m.wide + 60, self.m.high + 30
         box = f"{-wide / 2:.0f} {-high / 2:.0f} {wide:.0f} {high:.0f}"
         self.root = ElementTree.Element("svg", {"id": "ring", "viewBox": box, "role": "group", "aria-label": "the ring"})
-        self.root.set("style", f"--whole: {wide:.0f}px")
+        self.root.set("data-whole", f"{wide:.0f}")
 
     def draw(self):
         for span in range(self.plan.size):

@@ -1,12 +1,11 @@
 """The index of the desk pages of many rings: a line for each, with how many are lost with single failures and with pairs of spans."""
 
-from html import escape
 from urllib.parse import quote
 
 from .availability import Seen
 from .availabilitytable import minutes_words, nines_words
 from .desktable import LOST
-from .markup import listing, moment_words, table, whole
+from .markup import escape, listing, moment_words, table, whole
 from .origin import now
 
 HEADS = ["ring", "nodes", "customers", "lost with a fibre", "with a span", "with a node", "of these besides its ends", "with two spans", "pairs of spans with some lost", "least available", "min/year", "nines"]

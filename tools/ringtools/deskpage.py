@@ -5,7 +5,6 @@ import json
 import sys
 import zlib
 from array import array
-from html import escape
 from itertools import combinations
 
 from .availability import PROTECTIONS, Seen
@@ -13,7 +12,7 @@ from .availabilitytable import minutes_words, nines_words
 from .deskdrawing import DeskDrawing
 from .desktable import DEPTHS as TABLE_DEPTHS
 from .desktable import GROUP, KINDS, LOST, OVER
-from .markup import count_of, folded, heads, listing, names, origin_list, table, unbroken, warning, whole
+from .markup import count_of, escape, folded, heads, listing, names, origin_list, table, unbroken, warning, whole
 from .pathrings import PathRing
 
 WORST = 10

@@ -22,6 +22,12 @@ def add(parent, tag, text=None, **attributes):
     return element
 
 
+def set_limits(root: ElementTree.Element, least: float, most: float) -> None:
+    """Tells between which widths in pixels a page shows a drawing."""
+    root.set("data-least", f"{least:.0f}")
+    root.set("data-most", f"{most:.0f}")
+
+
 class Measures:
     """Radii and angles of a drawing; angle 0 is above, east is clockwise."""
 
@@ -116,7 +122,7 @@ class Drawing:
             self.root.set("height", f"{self.m.high:.0f}")
             add(self.root, "style", in_light(web("drawing.css")))
         else:
-            self.root.set("style", f"max-width: {self.m.wide:.0f}px; min-width: {0.6 * self.m.wide:.0f}px")
+            set_limits(self.root, 0.6 * self.m.wide, self.m.wide)
 
     def draw(self):
         add(self.root, "title", self.look.title())

@@ -4,20 +4,22 @@ import re
 from collections import defaultdict
 from dataclasses import dataclass
 from difflib import get_close_matches
+from itertools import islice
 from math import isinf
 
 from .checks import arc_of, refusals
 from .holding import held_while_passing
 from .markup import count_of
+from .files import PLAN
 from .places import PlaceProblem, read_places
-from .plan import PlanProblem, enough, read_document, read_plan
+from .plan import DEEPEST, LongKey, ManyKeys, PlanProblem, enough, parsed_document, read_plan
 from .reasons import REASONS
 from .shown import shown
-from .source import Place, Source
+from .source import SHOWN, Place, Source
 from .stream import TEXT_BYTES
 
-LONGEST = 1_048_576  # bytes of a document
-DEEPEST = 80  # levels of arrays and tables, and parts of a key
+MOST, COUNTED = 20, 100  # refusals that are shown, and counted
+MOST_WORDS = 400  # characters of what is said
 ELSEWHERE = (
     "the program reads TOML 1.1, Python's reader and these tools TOML 1.0: a newline or a last comma in `{ .. }`, the "
     "escapes \\e and \\xHH and a time without seconds are TOML 1.1"
@@ -35,18 +37,21 @@ class Finding:
 
     def lines(self, name):
         at = f"{name}:{self.place.line}:{self.place.column}: " if self.place else f"{name}: "
-        told = [at + self.head]
+        told = [at + cut(self.head)]
         if self.place:
             told += marked(self.place)
-        return [*map(shown, told + [f"  {note}" for note in self.notes])]
+        return [*map(shown, told + [f"  {cut(note)}" for note in self.notes])]
 
 
-def marked(place, width=100):
-    """The line with a mark below the place; of a long line the part around it."""
-    begin = max(0, min(place.column - 1 - width // 2, len(place.whole) - width))
-    part = place.whole[begin : begin + width].replace("\t", " ")
-    marks = "^" * max(1, min(place.width, width - (place.column - 1 - begin)))
-    return ["    " + part, "    " + " " * (place.column - 1 - begin) + marks]
+def cut(words: str) -> str:
+    """Returns the front of what is long."""
+    return words if len(words) <= MOST_WORDS else f"{words[:MOST_WORDS]}.."
+
+
+def marked(place: Place) -> list[str]:
+    """Returns the line with a mark below the place; of a long line the part around it."""
+    marks = "^" * max(1, min(place.width, SHOWN - place.at))
+    return ["    " + place.part.replace("\t", " "), "    " + " " * place.at + marks]
 
 
 def nearest(word, right):
@@ -113,9 +118,10 @@ def of_refusal(document, source, refusal, is_first):
     return Finding(head, place, notes_of(document, refusal))
 
 
-def of_refusals(document, source):
-    found = list(refusals(document))
-    return [of_refusal(document, source, refusal, i == 0) for i, refusal in enumerate(found)]
+def of_refusals(document: dict, source: Source) -> tuple[tuple[Finding, ...], int]:
+    """Returns the first findings, and how many refusals there are in all, as far as they are counted."""
+    found = list(islice(refusals(document), COUNTED))
+    return tuple(of_refusal(document, source, refusal, i == 0) for i, refusal in enumerate(found[:MOST])), len(found)
 
 
 # -- no document
@@ -266,18 +272,23 @@ class Explanation:
     good: tuple = ()  # what a good plan has
     document: dict | None = None
     source: Source | None = None
+    count: int = 0  # of refusals, which are counted up to COUNTED, where there are more than findings
 
 
 def explain(data):
-    if len(data) > LONGEST:
-        head = f"too long: {len(data):,} bytes, and a plan has at most {LONGEST:,}"
+    if len(data) > PLAN.bytes:
+        head = f"too long: more than {PLAN.bytes:,} bytes, which is the most that a plan has"
         return Explanation(9, (Finding(head),))
     try:
         text = data.decode("utf-8-sig")
     except UnicodeDecodeError as error:
         return Explanation(5, (of_no_utf8(data, error),))
     try:
-        document = read_document(data)
+        document = parsed_document(data)
+    except LongKey:
+        return Explanation(5, (Finding(f"not toml: a key has more than {DEEPEST} parts"),))
+    except ManyKeys as problem:
+        return Explanation(1, (Finding(str(problem)),))
     except PlanProblem as problem:
         finding = of_no_toml(text, str(problem).removeprefix("no TOML document: "))
         return Explanation(5 if finding.head.startswith("not toml") else 1, (finding,))
@@ -288,8 +299,9 @@ def explain(data):
         found = [Finding(f"not toml: keys or values lie in one another more than {DEEPEST} levels deep")]
     if found:
         return Explanation(5, tuple(found))
-    if found := of_refusals(document, source):
-        return Explanation(6, tuple(found))
+    found, count = of_refusals(document, source)
+    if found:
+        return Explanation(6, found, count=count)
     plan = read_plan(data)
     return Explanation(0, tuple(warnings(plan, document, source)), tuple(summary(plan, document)), document, source)
 

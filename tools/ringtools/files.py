@@ -24,7 +24,7 @@ class Limit:
 PLAN = Limit("a plan", MEBIBYTE)
 TABLE = Limit("a table", 4 * MEBIBYTE)
 TEXT = Limit("a program's text", 16 * MEBIBYTE)
-CASES = Limit("a table of all cases", 64 * MEBIBYTE)
+CASES = Limit("a table of all cases", 48 * MEBIBYTE)
 FRAMES = Limit("a file of frames", 64 * MEBIBYTE)
 
 

@@ -13,6 +13,7 @@ from .tables import read_table
 NODE_COLUMNS = ("place", "node")
 OF_OTHERS = ("failures", "hours")  # columns of the table of nodes that another tool reads
 CIRCUIT_COLUMNS = ("name", "from", "to", "direction", "slot", "text_a", "text_b", "trace", "trace_a", "trace_b", "offset_a", "offset_b")
+CIRCUITS, NODES = 512, 64  # rows; a ring has 128 circuits and 16 nodes, and of somewhat more it is said which don't fit
 NOTED = 3  # of the circuits that have another name in the plan, this many are reported one by one
 DIRECTIONS = {"east": "east", "eastwards": "east", "west": "west", "westwards": "west"}
 
@@ -48,7 +49,7 @@ def check_place(row, place, nodes):
 
 def read_nodes(name):
     """The nodes of a table, one in each row, eastwards round the ring. Those without a number get the lowest free ones, from 1 on."""
-    table, nodes = read_table(name, NODE_COLUMNS + OF_OTHERS, ()), []
+    table, nodes = read_table(name, NODE_COLUMNS + OF_OTHERS, (), NODES), []
     if not set(table.columns) & set(NODE_COLUMNS):
         raise ImportProblem(f"{name}:1: the first line is to name the column `place`, or `node`, or both")
     if not 2 <= len(table.rows) <= 16:
@@ -140,7 +141,7 @@ def check_sent(row):
 
 
 def read_circuits(name, ring, rate):
-    table, circuits = read_table(name, CIRCUIT_COLUMNS, ("from", "to")), []
+    table, circuits = read_table(name, CIRCUIT_COLUMNS, ("from", "to"), CIRCUITS), []
     for row, (made, called) in zip(table.rows, names_of(table.rows)):
         check_sent(row)
         circuits.append(Circuit(row, made, called, wanted_of(row, ring, rate)))

@@ -18,7 +18,7 @@ TOOLS = (
     *("sdhring-view", "sdhring-whatif"),
 )
 DOCUMENTS = (
-    *("AVAILABILITY.md", "BENCH.md", "DESK.md", "FORMATS.md", "LOOKING.md", "NETWORKS.md", "OUTAGES.md", "PATHS.md", "RETIMING.md", "RING.md", "TABLES.md", "WATCHING.md"),
+    *("AVAILABILITY.md", "BENCH.md", "DESK.md", "FORMATS.md", "LOOKING.md", "NETWORKS.md", "OUTAGES.md", "PATHS.md", "RETIMING.md", "RING.md", "SECURITY.md", "TABLES.md", "WATCHING.md"),
     *("ROUTES.md", "SIGNALLED.md", "SIGNALLING.md", "WHATIF.md"),
 )
 LIB, DOC, MAN = "lib/sdhring", "share/doc/sdhring", "share/man/man1"

@@ -2,12 +2,11 @@
 
 from collections.abc import Sequence
 from dataclasses import dataclass, field
-from html import escape
 
 from .cells import write_rows
 from .failures import WORKS_STAGES
 from .kept import Store
-from .markup import count_of
+from .markup import count_of, escape
 from .origin import LAUNCHER, Origin
 from .outages import frames_words, milliseconds, put_beside, read_outages
 from .report import ReportProblem, read_report

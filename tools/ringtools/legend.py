@@ -1,6 +1,7 @@
 """What the marks of a drawing mean."""
 
-from html import escape
+from .markup import escape
+
 
 # A sample's inside in a box of 46 by 18, and the words.
 LEGEND = [

@@ -1,6 +1,7 @@
 """A new plan from a few words: nodes, a rate, circuits as `1>3`, and steps."""
 
 import re
+import shlex
 from dataclasses import dataclass, field
 
 from .checks import arc_of
@@ -8,6 +9,7 @@ from .explaining import explain
 from .markup import count_of
 from .places import written as named
 from .plan import enough, quoted
+from .shown import shown
 
 # Lengths of texts that don't divide 2340, so that each report shows another front of them.
 LENGTHS = (11, 17, 19)
@@ -98,11 +100,12 @@ def slots_of(asked):
 def head_of(asked):
     rate = {4: "STM-4, with 2 working slots on each span", 16: "STM-16, with 8 working slots on each span"}[asked.rate]
     places = "".join(named("node", number, place) + "\n" for number, place in asked.places.items())
+    file = shlex.quote(shown(asked.name))
     return f"""# A ring of {count_of(len(asked.nodes), "node")}, made by `{asked.maker}`. Every key is in FORMATS.md.
 #
-#   sdhring run < {asked.name}     runs it
-#   sdhring-explain {asked.name}   says whether it is good, or what is wrong and where
-#   sdhring-whatif {asked.name}    asks what survives each failure
+#   sdhring run < {file}     runs it
+#   sdhring-explain {file}   says whether it is good, or what is wrong and where
+#   sdhring-whatif {file}    asks what survives each failure
 
 # {rate}.
 rate = {asked.rate}

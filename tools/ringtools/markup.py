@@ -1,13 +1,16 @@
 """What all pages share: their head, tables, lists and words. A page needs nothing besides itself."""
 
+import base64
+import hashlib
 import re
 from collections.abc import Sequence
 from functools import cache
-from html import escape
+from html import escape as escaped
 from pathlib import Path
 
 from .kept import ELSEWHERE, Answer
 from .origin import NOT_KNOWN, PROVED, now
+from .shown import shown
 
 WEB = Path(__file__).parent / "web"
 COMPARED = (
@@ -18,6 +21,11 @@ HITLESS = (
     "A report shows what holds once the ring is quiet. While a switch is made or cleared, and when what a switched span asks for changes, as by mending, "
     "its customers lose bytes: no switch is hitless. <code>sdhoutage</code> counts the frames."
 )
+
+
+def escape(text: object) -> str:
+    """Returns a text as markup that shows it, and does nothing else. Signs that can't be seen are shown as U+FFFD."""
+    return escaped(shown(text))
 
 
 @cache
@@ -38,17 +46,37 @@ def in_light(style):
 
 def foot_of_sheets(title):
     """The rule that prints a page's title at the foot of each sheet; in it nothing ends the string or the style."""
-    shown = re.sub(r'["\\<\n\r\f]', lambda found: f"\\{ord(found[0]):x} ", title)
-    return f'@page {{ @bottom-left {{ content: "{shown}"; }} }}'
+    inside = re.sub(r'["\\<\n\r\f]', lambda found: f"\\{ord(found[0]):x} ", shown(title))
+    return f'@page {{ @bottom-left {{ content: "{inside}"; }} }}'
+
+
+def hash_of(text: str) -> str:
+    """Returns a script or a style as a policy names it, by its checksum."""
+    return f"'sha256-{base64.b64encode(hashlib.sha256(text.encode()).digest()).decode()}'"
+
+
+def policy(style: str, scripts: Sequence[str]) -> str:
+    """Returns what a browser may do for a page: use this style and these scripts, which are in it, and ask nobody for anything."""
+    return f"default-src 'none'; style-src {hash_of(style)}; script-src {' '.join(map(hash_of, scripts))}; base-uri 'none'; form-action 'none'"
+
+
+def size_rules(body: str) -> str:
+    """Returns the rules for the sizes that drawings of a page tell by numbers. A policy that lists styles allows none in an element."""
+    limits = sorted({tuple(map(int, found)) for found in re.findall(r' data-least="([0-9]{1,5})" data-most="([0-9]{1,5})"', body)})
+    found = [f'[data-least="{least}"][data-most="{most}"] {{ min-width: {least}px; max-width: {most}px; }}' for least, most in limits]
+    wide = sorted(set(map(int, re.findall(r' data-whole="([0-9]{1,5})"', body))))
+    return "\n".join([*found, *(f'[data-whole="{size}"] {{ --whole: {size}px; }}' for size in wide)])
 
 
 def whole(title, body, style=(), script=()):
     """A page with these styles and scripts beside the common ones."""
-    head = '<meta charset="utf-8"><meta name="viewport" content="width=device-width, initial-scale=1">'
-    head += f'<meta name="color-scheme" content="light dark"><title>{escape(title)}</title>'
-    head += "<style>" + "".join(map(web, ("palette.css", "page.css", "drawing.css", *style))) + foot_of_sheets(title) + "</style>"
-    scripts = "".join(f"<script>{web(name)}</script>" for name in ("page.js", *script))
-    return f'<!DOCTYPE html>\n<html lang="en"><head>{head}</head>\n<body>\n<main>\n{body}\n</main>\n{scripts}</body></html>\n'
+    scripts = [web(name) for name in ("page.js", *script)]
+    styles = "".join(map(web, ("palette.css", "page.css", "drawing.css", *style))) + size_rules(body) + foot_of_sheets(title)
+    head = f'<meta charset="utf-8"><meta http-equiv="Content-Security-Policy" content="{policy(styles, scripts)}">'
+    head += '<meta name="viewport" content="width=device-width, initial-scale=1">'
+    head += f'<meta name="color-scheme" content="light dark"><title>{escape(title)}</title><style>{styles}</style>'
+    run = "".join(f"<script>{text}</script>" for text in scripts)
+    return f'<!DOCTYPE html>\n<html lang="en"><head>{head}</head>\n<body>\n<main>\n{body}\n</main>\n{run}</body></html>\n'
 
 
 def heads(cells):

@@ -35,4 +35,5 @@ class Options(argparse.ArgumentParser):
         self.add_argument("--version", action=ShowVersion, nargs=0, help="show the version, and whether the program beside is proved")
 
     def error(self, message: str) -> NoReturn:
-        super().error(shown(message))
+        """Says what is wrong with the words in one line, and ends with status 2."""
+        self.exit(2, f"{self.prog}: {shown(message)}; {self.prog} --help shows the words\n")

@@ -6,7 +6,7 @@ from dataclasses import dataclass
 from .markup import count_of
 from .report import NUMBER, SETTLE, UNSETTLED, Lines, ReportProblem, check_settle
 
-MS = r"(0|[1-9][0-9]*)\.([0-9]{3})"
+MS = r"(0|[1-9][0-9]{0,17})\.([0-9]{3})"
 KINDS = "ais", "ones", "jump", "torn", "strange", "foreign"
 PORT = re.compile(
     rf"port ([a-z0-9_-]+) ([ab]) out {NUMBER} runs {NUMBER} longest {NUMBER} ms {MS} from (-|{NUMBER}) to (-|{NUMBER}) "

@@ -1,12 +1,10 @@
 """The page of sdhring-view: every settle step of a run, customers first, or why there is none."""
 
-from html import escape
-
 from . import drawing
 from .customers import circuit_table, outcome, port_table, steps_table
 from .legend import legend
 from .look import condition_words
-from .markup import COMPARED, HITLESS, count_of, folded, listing, origin_list, table, warning, whole
+from .markup import COMPARED, HITLESS, count_of, escape, folded, listing, origin_list, table, warning, whole
 from .model import REQUEST_NAMES
 from .reasons import refusal, where
 from .report import STATES

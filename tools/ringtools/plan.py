@@ -1,14 +1,21 @@
 """The plan: a ring, its circuits and a script, read from the program's TOML document."""
 
+import re
 import tomllib
 from dataclasses import dataclass, field
 
 from .checks import SIDES, STEP_FORMS, Checks, refusals
+from .files import PLAN
 from .places import Places, shown_places, written
+from .source import STRINGS
 
 # Refusals of steps that can each be read even so; the program itself decides what it accepts, and why not.
 READABLE = {27, 28, 31}
 FEW = 16
+DEEPEST = 80  # levels of arrays and tables, and parts of a key
+POINTS = 20_000  # between the parts of keys, and in numbers
+# The points of keys, and what ends a key; strings and comments are passed over.
+KEY_SIGNS = re.compile("|".join([*(f"(?:{form.pattern})" for form in STRINGS), r"#[^\n]*", r"(?P<point>\.)", r"(?P<end>[=\[\],{}\n])"]), re.S)
 
 
 def enough(size):
@@ -18,6 +25,20 @@ def enough(size):
 
 class PlanProblem(Exception):
     """The document is no plan that these tools can read."""
+
+
+class LongKey(PlanProblem):
+    """A key of the document has more parts than the program's reader takes."""
+
+    def __init__(self) -> None:
+        super().__init__(f"no TOML document: a key has more than {DEEPEST} parts")
+
+
+class ManyKeys(PlanProblem):
+    """The parts of the document's keys are more than these tools read."""
+
+    def __init__(self) -> None:
+        super().__init__(f"its keys have more than {POINTS:,} points, which are read by no tool")
 
 
 @dataclass(frozen=True)
@@ -100,14 +121,47 @@ class Plan:
         return at if side == "east" else (at - 1) % self.size
 
 
-def read_document(data):
-    """The TOML document as it stands, or a PlanProblem."""
+def check_keys(text: str) -> None:
+    """Raises where a key has more parts than any that the program reads, or all have more than any plan's. A reader would take very long over them."""
+    parts = all = 0
+    for found in KEY_SIGNS.finditer(text) if text.count(".") >= DEEPEST else ():
+        parts = parts + 1 if found["point"] else 0 if found["end"] else parts
+        all += found["point"] is not None
+        if parts >= DEEPEST:
+            raise LongKey
+        if all > POINTS:
+            raise ManyKeys
+
+
+def parsed_document(data: bytes) -> dict:
+    """Returns the TOML document as it stands. Raises PlanProblem."""
+    if len(data) > PLAN.bytes:
+        raise PlanProblem(f"it is longer than {PLAN.bytes:,} bytes, the most that a plan has")
     try:
-        return tomllib.loads(data.decode("utf-8-sig"))
+        text = data.decode("utf-8-sig")
+        check_keys(text)
+        return tomllib.loads(text)
     except ValueError as error:  # of the text's bytes, of TOML, or of a number with thousands of digits
         raise PlanProblem(f"no TOML document: {error}") from None
     except RecursionError:
         raise PlanProblem("no TOML document: arrays and tables lie too deep in one another") from None
+
+
+def has_large_number(value: object) -> bool:
+    """Whether a whole number of more than 64 bits is in a document, which no plan has and no text can show."""
+    inner = value.values() if isinstance(value, dict) else value if isinstance(value, list) else ()
+    return isinstance(value, int) and not -(2**63) <= value < 2**63 or any(map(has_large_number, inner))
+
+
+def read_document(data: bytes) -> dict:
+    """Returns the TOML document of a plan, whose numbers have at most 64 bits. Raises PlanProblem."""
+    document = parsed_document(data)
+    try:
+        if has_large_number(document):
+            raise PlanProblem("no TOML document: an integer of more than 64 bits")
+    except RecursionError:
+        raise PlanProblem("no TOML document: arrays and tables lie too deep in one another") from None
+    return document
 
 
 def needs(found):
@@ -152,9 +206,9 @@ def read_step(text, place, ids):
     return parsed(text, ids)
 
 
-def read_plan(data):
-    """The plan of these bytes, or a PlanProblem."""
-    document = read_document(data)
+def read_plan(data: bytes, document: dict | None = None) -> Plan:
+    """Returns the plan of these bytes, whose document may have been read before. Raises PlanProblem."""
+    document = read_document(data) if document is None else document
     needs(refusals(document))
     ids = tuple(document["nodes"])
     circuits = tuple(read_circuit(table, ids) for table in document.get("circuit", []))

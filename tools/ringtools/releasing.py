@@ -5,6 +5,7 @@ import hashlib
 import io
 import lzma
 import os
+import re
 import shutil
 import subprocess
 import tarfile
@@ -13,11 +14,16 @@ from dataclasses import replace
 from pathlib import Path
 
 from .build import HOME, PROGRAMS, Record, read_build, sum_of, version, write_build
+from .files import read_path
 from .installing import DOC, MAN, TOOLS, Piece, is_run, modules, pieces, put, released, texts, words_of_the_field
 from .writing import Folder, named_folder
 
 DIST = HOME / "dist"
 SUMS = "SHA256SUMS"
+SUM_LINE = re.compile(r"([0-9a-f]{64})  ([A-Za-z0-9][A-Za-z0-9._+~-]*)")
+LONGEST_ARCHIVE = 1 << 30  # bytes
+LONGEST_SUMS = 65_536
+LIBC = "2.34"  # the C library's version that the programs need
 # What begins the first line of a script, and what stands there in the Debian package.
 INTERPRETERS = (
     (b"/usr/bin/env bash\n", b"/bin/bash\n"),
@@ -201,7 +207,7 @@ Priority: optional
 Architecture: amd64
 Maintainer: {MAINTAINER}
 Installed-Size: {size}
-Depends: libc6, python3 (>= 3.11)
+Depends: libc6 (>= {LIBC}), python3 (>= 3.11)
 Suggests: parallel
 Description: {SUMMARY}
 {ABOUT}
@@ -263,3 +269,19 @@ def pack_here(to: Path, moment: int) -> list[Path]:
             debian_package(to / names[1], Path(place), moment)
     folder.write(SUMS, "".join(f"{sum_of((to / name).read_bytes())}  {name}\n" for name in names))
     return [to / name for name in (*names, SUMS)]
+
+
+def verified(folder: Path) -> list[str]:
+    """Returns the names of a release's archives in a folder, all of which are what its SHA256SUMS says. Raises ReleaseProblem."""
+    lines = read_path(folder / SUMS, LONGEST_SUMS).decode("ascii", "replace").splitlines()
+    found = [SUM_LINE.fullmatch(line) for line in lines]
+    if not found or None in found:
+        raise ReleaseProblem(f"{folder / SUMS}: a checksum and a file's name are wanted in each line")
+    for line in found:
+        data = read_path(folder / line[2], LONGEST_ARCHIVE + 1)
+        if sum_of(data) != line[1]:
+            raise ReleaseProblem(f"{folder / line[2]}: isn't the file that {SUMS} names")
+    names = [line[2] for line in found]
+    if unnamed := sorted({path.name for path in folder.iterdir() if path.suffix in (".deb", ".xz")} - set(names)):
+        raise ReleaseProblem(f"{folder / unnamed[0]}: {SUMS} doesn't name it")
+    return names

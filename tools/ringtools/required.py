@@ -16,7 +16,7 @@ from .cells import text_of_rows
 from .desktable import ALL_KINDS, DEPTHS, GROUP
 
 COUNTS = {"nothing": 0, **DEPTHS}
-RULE = re.compile(r"(?P<depth>\w+)(?: (?P<kinds>[\w, ]+))?: ?(?:(?P<none>none)|at most (?P<most>[0-9]+)|(?P<names>.+) not) lost(?P<besides> besides ends)?")
+RULE = re.compile(r"(?P<depth>\w+)(?: (?P<kinds>[\w, ]+))?: ?(?:(?P<none>none)|at most (?P<most>[0-9]{1,9})|(?P<names>.+) not) lost(?P<besides> besides ends)?")
 COLUMNS = ("plan", "rule", "verdict", "cases", "breaking", "worst", "lost", "circuits", "problem")
 HOLDS, BROKEN, NOT_ASKED = "holds", "broken", "not asked"
 

@@ -72,6 +72,12 @@ def seal_of(text: str) -> str:
     return hmac.new(key(), text.encode("utf-8", "surrogateescape"), hashlib.sha256).hexdigest()
 
 
+def has_key() -> bool:
+    """Whether anything can have been sealed: in this run, or on this account. To look makes no key."""
+    place = state_folder()
+    return key.cache_info().currsize > 0 or place is not None and place.is_dir()
+
+
 def is_sealed(text: str, seal: str) -> bool:
     """Whether this is the seal of a text."""
-    return hmac.compare_digest(seal_of(text), seal)
+    return has_key() and hmac.compare_digest(seal_of(text), seal)

@@ -1,12 +1,11 @@
 """The page of a ring's signalling: for each settle step that changes anything its space-time diagram, and the ring round by round."""
 
 import json
-from html import escape
 
 from .drawing import written
 from .flights import flights
 from .kbytes import CODES
-from .markup import folded, listing, origin_list, table, warning, whole
+from .markup import escape, folded, listing, origin_list, table, warning, whole
 from .model import CUT, scenes
 from .outages import milliseconds
 from .page import about, in_short

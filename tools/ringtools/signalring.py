@@ -3,7 +3,7 @@
 import math
 import xml.etree.ElementTree as ElementTree
 
-from .drawing import NODE, add, anchor, arc_path, cross, point, zigzag
+from .drawing import NODE, add, anchor, arc_path, cross, point, set_limits, zigzag
 from .kbytes import CODES
 from .model import CLEAR, CUT
 from .plan import SIDES
@@ -34,7 +34,7 @@ class SignalRing:
         wide, high = 2 * (self.ring + 145), 2 * (self.ring + 58)
         self.root = ElementTree.Element("svg", {"class": "drawing signalring", "viewBox": f"{-wide / 2:.0f} {-high / 2:.0f} {wide:.0f} {high:.0f}"})
         self.root.set("role", "img")
-        self.root.set("style", f"max-width: {wide:.0f}px; min-width: {0.72 * wide:.0f}px")
+        set_limits(self.root, 0.72 * wide, wide)
 
     def draw(self):
         now = self.stretch.end()

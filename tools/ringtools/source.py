@@ -18,13 +18,17 @@ DOT = re.compile(r"[ \t]*\.[ \t]*")
 BARE_VALUE = re.compile(r"[^,\]}#\n]*")
 
 
+SHOWN = 100  # characters of a line
+
+
 @dataclass(frozen=True)
 class Place:
-    """A stretch of the text; lines and columns count from 1."""
+    """A stretch of the text; lines and columns count from 1. Of its line the part around it is kept, in which it begins at `at`."""
 
     line: int
     column: int
-    whole: str  # the line
+    part: str
+    at: int
     width: int
 
 
@@ -137,9 +141,11 @@ class Source:
 
     def place(self, first, end):
         line = self.text.count("\n", 0, first) + 1
-        begin = self.text.rfind("\n", 0, first) + 1
-        whole = self.text[begin:].split("\n", 1)[0].rstrip("\r")
-        return Place(line, first - begin + 1, whole, max(1, min(end, begin + len(whole)) - first))
+        begin, last = self.text.rfind("\n", 0, first) + 1, self.text.find("\n", first)
+        last = len(self.text) if last < 0 else last
+        last -= self.text[begin:last].endswith("\r")
+        front = max(begin, min(first - SHOWN // 2, last - SHOWN))
+        return Place(line, first - begin + 1, self.text[front : min(front + SHOWN, last)], first - front, max(1, min(end, last) - first))
 
     def of(self, path, word=None):
         """The place of a thing, or of a word in a step; where it isn't there, that of what should hold it, if any."""

@@ -4,7 +4,7 @@ import math
 import xml.etree.ElementTree as ElementTree
 from itertools import accumulate, pairwise
 
-from .drawing import add
+from .drawing import add, set_limits
 from .flights import flights
 from .kbytes import CODES, MARK_LETTERS
 from .markup import in_light, web
@@ -76,7 +76,7 @@ class SpaceTime:
         wide, high = self.scale.wide, self.scale.high
         self.root = ElementTree.Element("svg", {"class": "drawing spacetime", "viewBox": f"0 0 {wide} {high}", "role": "img"})
         if page:
-            self.root.set("style", f"max-width: {1.35 * wide:.0f}px; min-width: {0.8 * wide:.0f}px")
+            set_limits(self.root, 0.8 * wide, 1.35 * wide)
         else:
             self.root.set("xmlns", "http://www.w3.org/2000/svg")
             self.root.set("width", str(wide))

@@ -14,6 +14,7 @@ from collections.abc import Callable
 from pathlib import Path
 from typing import NoReturn
 
+from .files import FileProblem
 from .shown import say, shown_lines
 
 FAILED = 1
@@ -107,6 +108,8 @@ def told(error: BaseException, failed: int) -> tuple[str, int]:
         return "there is too little memory", NO_MEMORY
     if isinstance(error, OSError):
         return of_file(error), failed
+    if isinstance(error, FileProblem):
+        return str(error), failed
     if sys.flags.dev_mode:
         traceback.print_exception(error)
     return of_mistake(error), MISTAKE

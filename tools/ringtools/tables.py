@@ -13,18 +13,8 @@ from .shown import shown
 
 SIGNS = ",;\t"
 ROWS, COLUMNS, CELL, LINE = 4096, 256, 4096, 16_384  # the most of a table: rows, columns, characters of a cell, bytes of the first line
+LARGEST = 10**9  # numbers are below it: rates, hours, lengths
 QUOTED = 80  # characters of a cell that a message shows
-
-
-@dataclass(frozen=True)
-class Size:
-    """How large a table may be."""
-
-    file: Limit = TABLE
-    rows: int = ROWS
-
-
-USUAL = Size()
 
 
 class TableProblem(Exception):
@@ -64,7 +54,9 @@ class Row:
             value = float(text.replace(self.decimal, "."))
         except ValueError:
             value = float("nan")
-        if not low <= value < float("inf"):
+        if value >= LARGEST:
+            raise self.problem(f"`{column}` is `{quoted(text)}`, and a number below {LARGEST:,} is wanted")
+        if not low <= value:
             raise self.problem(f"`{column}` is `{quoted(text)}`, and {wanted} is wanted that isn't below {low}")
         return value
 
@@ -88,9 +80,9 @@ PIPED: dict[str, bytes] = {}  # what came out of pipes, which can be read once
 SUMS: dict[str, str] = {}  # the checksum of each table as it was read last
 
 
-def table_bytes(name: str, size: Size = USUAL) -> bytes:
+def table_bytes(name: str, limit: Limit = TABLE) -> bytes:
     """Returns the bytes of a table, and notes their checksum."""
-    data = PIPED[name] if name in PIPED else read_input(name, size.file)
+    data = PIPED[name] if name in PIPED else read_input(name, limit)
     if name != "-" and not os.path.isfile(name):
         PIPED[name] = data
     SUMS[name] = sum_of(data)
@@ -102,8 +94,8 @@ def sum_of_table(name: str) -> str:
     return SUMS[name] if name in SUMS else sum_of(table_bytes(name))
 
 
-def text_of(name: str, size: Size = USUAL) -> str:
-    data = table_bytes(name, size)
+def text_of(name: str, limit: Limit = TABLE) -> str:
+    data = table_bytes(name, limit)
     try:
         return data.decode("utf-8-sig")
     except UnicodeDecodeError as error:
@@ -144,19 +136,21 @@ def records_of(name: str, text: str, sign: str, rows: int = ROWS) -> Iterator[tu
         raise TableProblem(f"{name}:{line + 1}: {error}") from None
 
 
-def read_table(name: str, known: Sequence[str], needed: Sequence[str], size: Size = USUAL) -> "Table":
+def read_table(name: str, known: Sequence[str], needed: Sequence[str], most: int = ROWS, limit: Limit = TABLE) -> "Table":
     """The rows of a table whose first line names its columns. Commas, semicolons or tabs part the cells; rows without a word are skipped.
 
-    Where semicolons or tabs do, numbers may have a comma for the point.
+    Where semicolons or tabs do, numbers may have a comma for the point. Raises TableProblem where there are more rows than `most`.
     """
-    text = text_of(name, size)
+    text = text_of(name, limit)
     first = text[:LINE].partition("\n")[0]
     sign, table = max(SIGNS, key=first.count), None
-    for line, cells in records_of(name, text, sign, size.rows):
+    for line, cells in records_of(name, text, sign, max(ROWS, most)):
         if table is None:
             heads = head_of(name, cells, known, needed)
             unread = tuple(cell for cell, head in zip(cells, heads) if head is None and cell)
             table = Table(name, tuple(filter(None, heads)), unread)
+        elif any(cells) and len(table.rows) == most:
+            raise TableProblem(f"{name}:{line}: this table has at most {most:,} rows")
         elif any(cells):
             table.rows.append(row_of(name, line, heads, cells, "," if sign != "," else "."))
     if table is None:

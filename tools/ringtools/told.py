@@ -144,7 +144,7 @@ def drawn(told, wanted):
     """The cases to be run: a number of cases drawn at random, and those that are named. Then the words that name no case."""
     found, unknown, cases = {}, [], list(told.all())
     for word in wanted:
-        if word.isdecimal():
+        if word.isascii() and word.isdecimal() and len(word) <= 9:
             found |= {case.failures: case for case in random.SystemRandom().sample(cases, min(int(word), len(cases)))}
         elif case := told.find(word):
             found[case.failures] = case

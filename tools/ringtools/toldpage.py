@@ -1,11 +1,10 @@
 """The page of all failures: what sdhwhatif answers about them, the same circuits in a path ring, and which cases were run frame by frame too."""
 
 from collections import Counter
-from html import escape
 
 from .against import GAINS, LOSES
 from .desktable import ALL_KINDS, WHOLE
-from .markup import count_of, folded, listing, names, origin_list, table, unbroken, warning, whole
+from .markup import count_of, escape, folded, listing, names, origin_list, table, unbroken, warning, whole
 from .page import tools
 
 WORST = 60  # cases of several failures that are shown

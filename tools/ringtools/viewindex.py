@@ -1,9 +1,8 @@
 """The index of the pages of many runs: a line for each plan, with how its run ended and who is lost in its last report."""
 
-from html import escape
 from urllib.parse import quote
 
-from .markup import moment_words, names, table, whole
+from .markup import escape, moment_words, names, table, whole
 from .origin import now
 
 HEADS = ["plan", "reports", "customers", "lost in the last report", "which", "ended with"]

@@ -1,13 +1,11 @@
 """The view of a works order: customers before, during and after, and which second failures hurt meanwhile."""
 
-from html import escape
-
 from .answers import SINGLE
 from .casetables import links, takes
 from .failures import WORKS_STAGES
 from .interruptions import BEGINNINGS, note
 from .look import ends_words
-from .markup import HITLESS, count_of, heads, listing, names
+from .markup import HITLESS, count_of, escape, heads, listing, names
 
 GIVES_WAY = "while people work there. A forced switch doesn't give way to a failure."
 SECOND = (*SINGLE, "node")

@@ -3,6 +3,7 @@
 import atexit
 import html.parser
 import os
+import shlex
 import shutil
 import subprocess
 import sys
@@ -13,7 +14,14 @@ PATIENCE = 3600  # seconds after which a program is taken to hang, however slow 
 TESTING = Path(__file__).resolve().parent
 TOOLS = TESTING.parent
 RINGS = TESTING / "rings"
-STANDIN = f"{sys.executable} {TESTING / 'standin'}"  # a command
+
+
+def command(file):
+    """The words that run a Python file, as a shell reads them."""
+    return shlex.join([sys.executable, str(file)])
+
+
+STANDIN = command(TESTING / "standin")
 sys.path.insert(0, str(TOOLS))
 # What the tools keep of an account is kept apart, as long as a module of tests runs.
 if "SDHRING_TESTED" not in os.environ:

@@ -20,13 +20,18 @@ PHONE = """<body><script>addEventListener("message", (event) => {
 <iframe src="page.html" width="390" height="844"></iframe></body>"""
 
 
+def without_policy(markup):
+    """A page that allows what these tests put into it."""
+    return re.sub('<meta http-equiv="Content-Security-Policy" content="[^"]*">', "", markup)
+
+
 def browsed(markup, deeds):
     """What these lines of script, which may wait for something, put into their list `told`, at the end of the page in a browser."""
     script = f'<script>(async () => {{ {deeds}\nparent.postMessage(told.join("\\n"), "*"); }})();</script>'
     with tempfile.TemporaryDirectory() as folder:
         phone = Path(folder) / "phone.html"
         phone.write_text(PHONE)
-        phone.with_name("page.html").write_text(markup.replace("</body>", script + "</body>"))
+        phone.with_name("page.html").write_text(without_policy(markup).replace("</body>", script + "</body>"))
         words = [BROWSER, *WORDS, "--virtual-time-budget=5000", f"--user-data-dir={folder}/own", "--dump-dom", phone.as_uri()]
         ended = subprocess.run(words, capture_output=True, text=True, timeout=PATIENCE)
     return html.unescape(re.search("<pre>(.*?)</pre>", ended.stdout, re.S)[1]).split("\n")

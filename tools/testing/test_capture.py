@@ -8,13 +8,13 @@ import tempfile
 import tomllib
 import unittest
 
-from common import PATIENCE, TOOLS, call
+from common import PATIENCE, TOOLS, call, command
 
 from ringtools.erf import FrameProblem, capture, record
 
 ROOT = TOOLS.parent
 BENCH, CUT = ROOT / "bench" / "aps", ROOT / "examples" / "span-cut.toml"
-SIMULATION = f"{sys.executable} {BENCH / 'signalled.py'}"
+SIMULATION = command(BENCH / "signalled.py")
 sys.path.insert(0, str(BENCH))
 
 import frames  # noqa: E402

@@ -15,7 +15,7 @@ from itertools import combinations
 from pathlib import Path
 from runpy import run_path
 
-from common import RINGS, TOOLS, call
+from common import RINGS, TOOLS, call, command
 from pages import BROWSER, PRINTS, Seen, browsed, printed
 
 from ringtools.deskdrawing import DeskDrawing
@@ -27,7 +27,7 @@ from ringtools.places import Places
 from ringtools.plan import read_plan
 
 MODEL = TOOLS.parent / "bench" / "whatif" / "model.py"
-TELLER = f"{sys.executable} {MODEL}"
+TELLER = command(MODEL)
 PLAN = """rate = 4
 nodes = [5, 2, 9, 0]  # node 5 is Köln
 # node 2 is Bad <Ems>

@@ -217,7 +217,7 @@ class Good(unittest.TestCase):
         example = EXAMPLES.joinpath("held-controllers.toml").read_text()
         self.assertEqual(self.holds(example), ["warning: step 6 holds the controller of node 0"])
         place = next(found.place for found in explain(example.encode()).findings if " holds " in found.head)
-        self.assertEqual(place.whole[place.column - 1 :], '0 7", "hold 3 4",')
+        self.assertEqual(place.part[place.at :], '0 7", "hold 3 4",')
         ring = lambda script: example[: example.index("script = ")] + f"script = {json.dumps(script)}\n" + example[example.index("[[circuit]]") :]
         for script, wanted in (
             (["cut 1 east", "hold 0 7", "settle"], []),  # in a new ring none passes through

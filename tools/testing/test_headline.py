@@ -12,12 +12,23 @@ STRANGE = {"sdh_frame", "sdh_parity", "sdh_overhead", "sdh_plant", "sdh_kbytes",
 STRANGE |= {"sdh_squelch", "sdh_rounds", "sdh_terminal", "sdh_node", "sdh_world", "sdh_ring"}
 
 
-def quoted(page):
-    """The file and the words of each definition on a page: an indented block that begins with its file."""
+def blocks(page):
+    """The lines of each definition on a page: an indented block, whose first line is its file and how much of it is shown."""
     for block in re.split(r"\n(?! {4})", page):
-        lines = [line.strip() for line in block.split("\n") if line.startswith("    ")]
+        lines = [line.removeprefix("    ") for line in block.split("\n") if line.startswith("    ")]
         if lines:
-            yield lines[0], " ".join(lines[1:]).split()
+            yield lines
+
+
+def quoted(page):
+    """The file and the words of each definition on a page."""
+    for first, *lines in blocks(page):
+        yield first.split(",")[0], " ".join(lines).split()
+
+
+def equations(name, text):
+    """How many equations a definition has."""
+    return len(re.findall(rf"^{re.escape(name)}\b(?! *:)", text, re.M))
 
 
 def stands_in(words, text):
@@ -44,6 +55,32 @@ class Headline(unittest.TestCase):
             with self.subTest(file=file, words=words[:3]):
                 self.assertTrue(words)
                 self.assertTrue(stands_in(words, (ROOT / file).read_text()))
+
+    def test_what_is_shown_in_part_is_marked(self):
+        marked = []
+        for first, *lines in blocks(PAGE.read_text()):
+            file, _, part = first.partition(", ")
+            name = lines[0].split()[0]
+            if name in ("pub", "record", "data"):
+                continue
+            shown, all_of_it = equations(name, "\n".join(lines)), equations(name, (ROOT / file).read_text())
+            with self.subTest(name=name):
+                self.assertEqual(part, "" if shown == all_of_it else f"{shown} of {all_of_it} equations")
+            marked += [name] if part else []
+        self.assertEqual(marked, ["AreOwed", "IsLeftOff", "HoldsNonePassing"])
+
+    def test_witnesses_are_there(self):
+        """That the promise isn't empty is shown by functions, a clause and wrong bodies, which the page names with their files."""
+        section = PAGE.read_text().split("## That it isn't empty")[1].split("\n## ")[0]
+        for file in re.findall(r"`(crates/[a-z_/]+\.rt)`", section):
+            self.assertTrue((ROOT / file).is_file(), file)
+        for name, file in (("three_are_owed_soon", "sdh_owed/src/lib.rt"), ("three_meet_no_strangers", "sdh_owed/src/lib.rt"), ("a_ring_occurs", "sdh_laws/src/converging.rt"),
+                           ("reports_go_on", "sdh_promise/src/lib.rt"), ("reports_remember", "sdh_promise/src/lib.rt"), ("all_are_told", "sdh_promise/src/lib.rt")):
+            self.assertIn(f"`{name}`", section)
+            self.assertIn(f"pub fn {name}()", (ROOT / "crates" / file).read_text())
+        self.assertIn("ensures complete {", (ROOT / "crates" / "sdh_cli" / "src" / "top.rt").read_text())
+        wrong = {path.stem for path in (ROOT / "crates" / "sdh_cli" / "must-fail").glob("*.edit")}
+        self.assertEqual({name for name in wrong if f"`{name}`" not in section}, set())
 
     def test_another_word_is_told(self):
         file, words = next(quoted(PAGE.read_text()))

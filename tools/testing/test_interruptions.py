@@ -1,15 +1,16 @@
 """How long works interrupt customers: the page and the table of a works order, against the plain simulation and the rule of a forced switch."""
 
 import re
+import shlex
 import subprocess
 import sys
 import unittest
 
 from cases import CIRCUITS, IDS, Asking
-from common import TOOLS
+from common import TOOLS, command
 from pages import Seen
 
-SIMULATE = f"{sys.executable} {TOOLS.parent / 'bench' / 'outage' / 'simulate.py'}"  # a command
+SIMULATE = command(TOOLS.parent / "bench" / "outage" / "simulate.py")
 PORT = re.compile(r"port (\S+) ([ab]) out (\d+) runs \d+ longest \d+ ms \d+\.\d{3} from (\S+) to (\S+) ais \d+ ones \d+ jump (\d+) torn ")
 STAGES = ["before", "during", "after", "waited"]
 BEGIN, END = "interrupted as they begin", "interrupted as they end"
@@ -17,7 +18,7 @@ BEGIN, END = "interrupted as they begin", "interrupted as they end"
 
 def simulated(plan):
     """What the simulation says of each stage of this plan's script: by stage, circuit and port the frames, milliseconds, jumps and whether it is out to the end."""
-    text = subprocess.run([*SIMULATE.split(), "run"], input=plan, capture_output=True, check=True).stdout.decode()
+    text = subprocess.run([*shlex.split(SIMULATE), "run"], input=plan, capture_output=True, check=True).stdout.decode()
     found = {}
     for stage, part in zip(STAGES, text.split("settle ")[-len(STAGES) :]):
         last = part.split()[2]
@@ -100,7 +101,7 @@ class Interruptions(Asking):
     def another(self):
         """A program that runs the one beside."""
         program = self.top / "another"
-        program.write_text(f'#!/bin/sh\nexec {TOOLS.parent / "sdhoutage"} "$@"\n')
+        program.write_text(f'#!/bin/sh\nexec {shlex.quote(str(TOOLS.parent / "sdhoutage"))} "$@"\n')
         program.chmod(0o755)
         return str(program)
 

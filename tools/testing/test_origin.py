@@ -1,6 +1,7 @@
 """Which program answered, whether it is proved, and about which plan: what is said of it, and what is taken up again."""
 
 import hashlib
+import shlex
 import stat
 import tempfile
 import unittest
@@ -102,9 +103,9 @@ class Launched(unittest.TestCase):
         self.assertEqual(find_program([str(runs)]).proof, "not known to be proved")
 
     def test_a_command_of_which_nothing_is_known(self):
-        program = find_program(STANDIN.split())
+        program = find_program(shlex.split(STANDIN))
         self.assertEqual((program.proof, program.version), ("not known to be proved", ""))
-        self.assertNotEqual(program.sum, find_program([*STANDIN.split(), "unsettled"]).sum)
+        self.assertNotEqual(program.sum, find_program([*shlex.split(STANDIN), "unsettled"]).sum)
 
     def test_a_launcher_that_has_no_program(self):
         launcher, _ = self.launcher(where="exit 83")

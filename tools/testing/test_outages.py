@@ -16,7 +16,7 @@ from functools import cache
 from pathlib import Path
 from runpy import run_path
 
-from common import RINGS, TOOLS
+from common import RINGS, TOOLS, command
 
 from ringtools.rows import read_rows
 from rules import Rules, Stream
@@ -394,7 +394,7 @@ class Worst(unittest.TestCase):
     """The worst interruption over all failures of a plan, with the simulation as the program."""
 
     def ask(self, folder, *words):
-        program = f"{sys.executable} {BENCH / 'simulate.py'}"
+        program = command(BENCH / "simulate.py")
         asked = [TOOLS / "sdhring-whatif", "--outages", "--counter", program, "--dir", folder, "--without-script", *words, ROOT / "examples" / "waiting.toml"]
         return subprocess.run([sys.executable, *map(str, asked)], capture_output=True, text=True)
 

@@ -6,12 +6,12 @@ import sys
 import unittest
 
 from cases import CIRCUITS, IDS, Asking, document, failures
-from common import TOOLS, call
+from common import TOOLS, call, command
 
 from ringtools.required import RuleProblem, read_rule
 
 MODEL = TOOLS.parent / "bench" / "whatif" / "model.py"
-TELLER = f"{sys.executable} {MODEL}"
+TELLER = command(MODEL)
 
 
 class Rules(unittest.TestCase):

@@ -8,7 +8,7 @@ import unittest
 from functools import cache
 from pathlib import Path
 
-from common import TOOLS, call
+from common import TOOLS, call, command
 from pages import BROWSER, Seen, browsed
 
 from ringtools.flights import Flight, flights
@@ -250,7 +250,7 @@ class Pages(unittest.TestCase):
         self.assertEqual((none.returncode, none.stderr), (1, b"sdhring-view: there is no settle step 3 in the text\n"))
 
     def test_a_program_that_is_not_known_to_be_proved(self):
-        program = f"{sys.executable} {ROOT}/bench/aps/signalled.py"
+        program = command(ROOT / "bench" / "aps" / "signalled.py")
         with tempfile.TemporaryDirectory() as folder:
             outages = Path(folder) / "outages"
             outages.write_text(simulate.run(tomllib.loads(ROUNDS.read_text()), Looks)[1])

@@ -13,7 +13,7 @@ from collections import Counter
 
 from cases import CIRCUITS, Asking, document, expected, failures, script_of
 from common import STANDIN, TOOLS, ring
-from pages import BROWSER, browsed
+from pages import BROWSER, Seen, browsed
 from rules import Rules
 
 
@@ -175,6 +175,22 @@ class Whatif(Asking):
         rows = self.table()
         self.assertEqual({row["p"] for row in rows}, {"odd", "lost"})
         self.assertEqual({(row["p"] == "odd", row["Model"]) for row in rows}, {(True, "differs"), (False, "agrees")})
+
+    def test_pages_without_processes(self):
+        """Where no process can be had, as without a shared memory of one's own, pages are drawn one after the other, with the same tables."""
+        self.ask("--kinds", "span")
+        seen = lambda: {path.name: Seen(path.read_text()).tables for path in self.cases().glob("*.html")}
+        pages = seen()
+        self.assertEqual(len(pages), 4)
+        without = "import sys, runpy, concurrent.futures.process as p\n"
+        without += "def none(*_, **__): raise PermissionError(13, 'Permission denied')\np.ProcessPoolExecutor.__init__ = none\n"
+        without += f"sys.argv[0] = {str(TOOLS / 'sdhring-whatif')!r}; sys.path[0] = {str(TOOLS)!r}; runpy.run_path(sys.argv[0], run_name='__main__')"
+        for path in self.cases().glob("*.html"):
+            path.unlink()
+        words = [sys.executable, "-c", without, self.plan, "--dir", self.top / "out", "--program", STANDIN, "--kinds", "span"]
+        ended = subprocess.run(words, capture_output=True)
+        self.assertEqual(ended.returncode, 0, ended.stderr.decode())
+        self.assertEqual(seen(), pages)
 
     def test_stopped_and_taken_up_again(self):
         self.small()

@@ -9,13 +9,13 @@ import tomllib
 import unittest
 
 from cases import CIRCUITS, IDS, Asking, document, expected, failures, spans
-from common import STANDIN, TOOLS, ring
+from common import STANDIN, TOOLS, command, ring
 from rules import Rules
 
 from ringtools.origin import sum_of
 
 MODEL = TOOLS.parent / "bench" / "whatif" / "model.py"
-TELLER = f"{sys.executable} {MODEL}"
+TELLER = command(MODEL)
 SDHPATH = TOOLS.parent / "dist" / "sdhpath"
 
 

@@ -285,7 +285,7 @@ def made_of(tables: Tables, settings: Settings, service: Service | None = None) 
         raise NetworkProblem(misfit_words(fitted, len(wishes)))
     made = maker.made(wishes, fitted, tables.groups, tables.notes)
     made.files |= {
-        name: read_input(str(tables.folder / name), LARGE.file) for name in COPIED if (tables.folder / name).is_file()
+        name: read_input(str(tables.folder / name), LARGE) for name in COPIED if (tables.folder / name).is_file()
     }
     made.notes = [*summary(made, wishes), *tables.notes]
     return made

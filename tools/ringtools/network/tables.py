@@ -12,7 +12,7 @@ from ..importing import DIRECTIONS
 from ..markup import count_of
 from ..places import why_no_name
 from ..files import MEBIBYTE, Limit
-from ..tables import Row, Size, Table, TableProblem, read_table
+from ..tables import Row, Table, TableProblem, read_table
 from .members import Members
 from .model import Group, Network, NetworkProblem, Ring, key_of
 
@@ -39,7 +39,7 @@ GROUP_COLUMNS = ("group", "members", "failures", "hours")
 MOST_BUNDLED = 128  # circuits of one row: no ring has more
 MOST_RINGS = 10_000
 FOLDER = "rings"  # of the plans, in that of the network
-LARGE = Size(Limit("a network's table", 32 * MEBIBYTE), 200_000)
+ROWS, LARGE = 200_000, Limit("a network's table", 32 * MEBIBYTE)  # the most of a table
 
 
 @dataclass(frozen=True)
@@ -130,7 +130,7 @@ def noted(table: Table) -> list[str]:
 
 
 def read_rings(file: Path, notes: list[str]) -> list[RingRow]:
-    table: Table = read_table(str(file), RING_COLUMNS, RING_COLUMNS, LARGE)
+    table: Table = read_table(str(file), RING_COLUMNS, RING_COLUMNS, ROWS, LARGE)
     found: list[RingRow] = []
     seen: dict[str, int] = {}
     notes += noted(table)
@@ -217,7 +217,7 @@ def wishes_in(row: Row, name: str, network: Network) -> list[Wish]:
 
 def read_wishes(file: Path, network: Network, notes: list[str]) -> list[Wish]:
     """Each circuit that a table wants. Names are given to those without: c1, c2 and so on."""
-    table: Table = read_table(str(file), CIRCUIT_COLUMNS, ("from", "to"), LARGE)
+    table: Table = read_table(str(file), CIRCUIT_COLUMNS, ("from", "to"), ROWS, LARGE)
     found: list[Wish] = []
     seen: dict[str, int] = {}
     notes += noted(table)
@@ -265,7 +265,7 @@ def complete(file: str, missing: list[str]) -> None:
 
 def span_rows(file: Path, network: Network) -> tuple[Table, dict[tuple[int, int], Row]]:
     """The row of each span of the network; a span without a row and one with two are refused."""
-    table: Table = read_table(str(file), SPAN_COLUMNS, ("ring", "from", "to"), LARGE)
+    table: Table = read_table(str(file), SPAN_COLUMNS, ("ring", "from", "to"), ROWS, LARGE)
     found: dict[tuple[int, int], Row] = {}
     for row in table.rows:
         span = span_of(row, network)
@@ -283,7 +283,7 @@ def span_rows(file: Path, network: Network) -> tuple[Table, dict[tuple[int, int]
 
 def place_rows(file: Path, network: Network) -> tuple[Table, dict[str, Row]]:
     """The row of each place, by the place's key."""
-    table: Table = read_table(str(file), NODE_COLUMNS, NODE_COLUMNS, LARGE)
+    table: Table = read_table(str(file), NODE_COLUMNS, NODE_COLUMNS, ROWS, LARGE)
     found: dict[str, Row] = {}
     for row in table.rows:
         key = key_of(place_in(row, "place", network))
@@ -316,7 +316,7 @@ def read_lengths(file: Path, network: Network, notes: list[str]) -> dict[tuple[i
 
 
 def read_groups(file: Path, network: Network, notes: list[str]) -> list[Group]:
-    table: Table = read_table(str(file), GROUP_COLUMNS, ("group", "members"), LARGE)
+    table: Table = read_table(str(file), GROUP_COLUMNS, ("group", "members"), ROWS, LARGE)
     found: list[Group] = []
     seen: dict[str, int] = {}
     notes += noted(table)
