@@ -2,12 +2,12 @@
 
 import json
 from dataclasses import dataclass, field
-from html import escape
+
 from typing import Any
 from urllib.parse import quote
 
 from ..availabilitytable import minutes_words, nines_words
-from ..markup import count_of, listing, origin_list, table, unbroken, warning, whole
+from ..markup import count_of, escape, listing, origin_list, table, unbroken, warning, whole
 from ..origin import Origin
 from .availability import Share
 from .components import Component
