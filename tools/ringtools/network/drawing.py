@@ -11,7 +11,7 @@ from .model import Network, Ring, key_of
 NODE = 8.0
 LABEL = 15.0
 LETTERS = 18  # of a place's name
-MARGIN = 90.0
+MARGIN, LARGE = 80.0, 1.4  # around all, and how many pixels a unit has where there is room
 
 
 def shortened(name: str) -> str:
@@ -29,8 +29,8 @@ class NetworkDrawing:
         self.root = ElementTree.Element(
             "svg", {"id": "network", "viewBox": box, "role": "group", "aria-label": "the network"}
         )
-        self.root.set("width", f"{wide:.0f}")
-        self.root.set("height", f"{high:.0f}")
+        self.root.set("width", f"{wide * LARGE:.0f}")
+        self.root.set("height", f"{high * LARGE:.0f}")
 
     def draw(self) -> str:
         for ring in self.network.rings:

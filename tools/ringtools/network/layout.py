@@ -73,16 +73,19 @@ class Layout:
         return Drawn(middles, self.radii, places)
 
     def smooth(self, places: dict[str, Point]) -> None:
-        """Moves the places of one ring alone: half to between their neighbours, half onto a circle around the middle of the ring."""
+        """Moves each place of one ring alone halfway onto a circle around the middle of its ring, and there towards between its neighbours."""
         for ring, radius in zip(self.network.rings, self.radii):
             keys = [key_of(place) for place in ring.places]
             x, y = middle_of([places[key] for key in keys])
             for at, key in enumerate(keys):
-                if len(self.network.rings_at[key]) == 1:
-                    between = middle_of([places[keys[at - 1]], places[keys[(at + 1) % ring.size]]])
-                    dx, dy = places[key][0] - x, places[key][1] - y
-                    far = math.hypot(dx, dy) or 1.0
-                    places[key] = middle_of([between, (x + radius * dx / far, y + radius * dy / far)])
+                if len(self.network.rings_at[key]) > 1:
+                    continue
+                between = middle_of([places[keys[at - 1]], places[keys[(at + 1) % ring.size]]])
+                dx, dy = places[key][0] - x, places[key][1] - y
+                far = math.hypot(dx, dy) or 1.0
+                dx, dy = dx / far + (between[0] - x) / radius, dy / far + (between[1] - y) / radius
+                far = math.hypot(dx, dy) or 1.0
+                places[key] = middle_of([places[key], (x + radius * dx / far, y + radius * dy / far)])
 
     def begun(self) -> list[Point]:
         """Each ring outside one that is there already, where the place lies that they share; rings that touch none further on."""
