@@ -1,5 +1,6 @@
 """The page of a network: what it says after clicks, held against what sdhring-network says of the same failures; and what it needs."""
 
+import csv
 import json
 import random
 import re
@@ -132,6 +133,33 @@ told.push(String(document.querySelectorAll("#network .on-way").length));
         self.assertTrue(third.startswith("span Bremen–Hannover in North and span Hannover–Berlin in North. 3 lost: bank, press-1, press-2."), third)
         self.assertEqual(keys, "span Hannover–Berlin in North ✕span Hamburg–Bremen in North ✕")
         self.assertEqual((filtered, int(way) > 2), ("press-1,press-2", True))
+
+
+class Hostile(unittest.TestCase):
+    """Names that would be markup, script, style, or a spreadsheet's formula."""
+
+    NAMES = ("</script><img src=x onerror=alert(1)>", "\"><svg/onload=alert(2)>", "=HYPERLINK(0)", "x'+alert(3)+'", "</title></style><b>x", "{{7*7}}", "&lt<i>")
+
+    def test_names_are_texts(self):
+        names = self.NAMES
+        with tempfile.TemporaryDirectory() as place:
+            top = Path(place)
+            rows = lambda *lines: "".join(",".join('"' + cell.replace('"', '""') + '"' for cell in line) + "\n" for line in lines)
+            (top / "rings.csv").write_text(rows(("ring", "rate", "places"), (names[0], "4", "; ".join(names[:3])), (names[4], "4", f"{names[2]}; {names[3]}")))
+            (top / "circuits.csv").write_text(rows(("name", "from", "to"), (names[2], names[0], names[3]), (names[5], names[1], names[2])))
+            (top / "groups.csv").write_text(rows(("group", "members"), (names[6], f"place {names[1]}; place {names[3]}")))
+            for words in (("import", top, "--to", top / "net"), ("page", top / "net", "--to", top / "pages", "--title", names[4]), ("whatif", top / "net", "--dir", top / "out")):
+                ended = call("sdhring-network", *words)
+                self.assertEqual(ended.returncode, 0, ended.stderr.decode())
+            for page in (top / "pages").iterdir():
+                markup = page.read_text(encoding="utf-8")
+                seen = Seen(markup)
+                self.assertEqual(seen.all("img") + [one for one in seen.all("svg") if "onload" in one] + seen.all("b"), [], page.name)
+                self.assertEqual(sum(tag == "script" for tag, _ in seen.elements), 4)  # the common one, two of the page, and its data
+                self.assertEqual([key for _, found in seen.elements for key in found if key.startswith("on")], [])
+            for table in (top / "out").glob("*.csv"):
+                for row in csv.reader(table.read_text(encoding="utf-8").splitlines()):
+                    self.assertEqual([cell for cell in row if cell.startswith("=")], [], table.name)
 
 
 if __name__ == "__main__":

@@ -18,7 +18,7 @@ KEYS = {
     "group": {"name", "members", "failures", "hours"},
 }
 MOST_NODES = 16
-DOCUMENT = Limit("a network's document", 64 * MEBIBYTE)
+DOCUMENT = Limit("a network's document", 24 * MEBIBYTE)
 
 
 def file_of(folder: str) -> Path:
