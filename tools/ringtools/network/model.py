@@ -134,6 +134,22 @@ class Network:
                 found[section.ring][section.circuit] = number, place
         return found
 
+    @cached_property
+    def ending(self) -> dict[tuple[int, int], list[int]]:
+        """The customers that end at each node, by the ring's number and the position."""
+        found: dict[tuple[int, int], list[int]] = {}
+        for number, customer in enumerate(self.customers):
+            for section, place in ((customer.sections[0], customer.start), (customer.sections[-1], customer.end)):
+                at = self.rings[section.ring].positions[key_of(place)]
+                found.setdefault((section.ring, at), []).append(number)
+        return found
+
+    def prepare(self) -> "Network":
+        """Makes what is found by name before processes are split off, so that they share it."""
+        for found in (self.by_name, self.rings_at, self.place_names, self.sections_in, self.ending):
+            assert found is not None
+        return self
+
     def ring_of(self, name: str) -> Ring | None:
         return self.by_name.get(key_of(name))
 

@@ -160,6 +160,7 @@ def here(
     question: Question, pieces: list[range], jobs: int, done: Callable[[int], None], work: Work = work_on
 ) -> Iterator[tuple[range, list[dict[str, Any]]]]:
     """Yields each piece with its results as it is done, `jobs` at a time."""
+    question.network.prepare()
     WORK.update(question=question, base=base_of(question.asker(), question.folder))
     if jobs == 1:
         for count, piece in enumerate(pieces, 1):

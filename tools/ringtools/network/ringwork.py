@@ -7,14 +7,13 @@ rings is an end of two sections, so each of them is lost with it. Two failures i
 import re
 from collections.abc import Iterable, Iterator
 from dataclasses import dataclass, field
-from functools import cached_property
 from pathlib import Path
 from typing import Any
 
 from ..files import read_input
 from .asking import NOTHING, Asker, Fate, RingCases
 from .components import Component
-from .model import Kind, Network, Ring, key_of
+from .model import Kind, Network, Ring
 
 RESTS = re.compile(rb'^script = \[\s*(?:#[^\n]*\s*|"settle",?\s*)+\]', re.M)
 Hist = dict[
@@ -104,19 +103,10 @@ class Ends:
     def __init__(self, network: Network):
         self.network = network
 
-    @cached_property
-    def at(self) -> dict[tuple[int, int], list[int]]:
-        found: dict[tuple[int, int], list[int]] = {}
-        for number, customer in enumerate(self.network.customers):
-            for section, place in ((customer.sections[0], customer.start), (customer.sections[-1], customer.end)):
-                at = self.network.rings[section.ring].positions[key_of(place)]
-                found.setdefault((section.ring, at), []).append(number)
-        return found
-
     def of(self, component: Component) -> set[int]:
         """The customers that end at a node that is lost with a component."""
         nodes = ((part.ring, part.at) for part in component.parts if part.kind is Kind.PLACE)
-        return {number for node in nodes for number in self.at.get(node, ())}
+        return {number for node in nodes for number in self.network.ending.get(node, ())}
 
 
 class RingWork:
