@@ -36,6 +36,7 @@ _sdhring_tools() {
     sdhring-capture) words='--node --side --rounds --frames --program --version --help' ;;
     sdhring-compare-node) words='--version --help' ;;
     sdhring-desk) words='--to --title --depth --spans --nodes --groups --cuts-per-1000-km --teller --version --help' ;;
+    sdhring-network) words='import whatif availability page add room --to --keep --threshold --wait --limit --dir --kinds --case --require --against --summary --teller --jobs --parts --part --sshlogin --parallel --slurm --cuts-per-1000-km --csv --json --causes --savings --title --version --help' ;;
     sdhring-view) words='--to --svg --outages --signalling --program --version --help' ;;
     sdhring-whatif) words='--also --works --title --without-script --kinds --dir --program --jobs --shard --sshlogin --parallel --all --depth --frames --groups --against --outages --require --teller --counter --anew --version --help' ;;
   esac
@@ -44,7 +45,7 @@ _sdhring_tools() {
 }
 
 complete -F _sdhring {,./}sdh{ring,watch,outage,path,retime,whatif,aps,node}
-complete -F _sdhring_tools {,./}sdhring-{availability,capture,compare-node,desk,explain,plan,report,view,whatif}
+complete -F _sdhring_tools {,./}sdhring-{availability,capture,compare-node,desk,explain,network,plan,report,view,whatif}
 # repository
 complete -F _sdhring_tools {,./}tools/rows
 # end

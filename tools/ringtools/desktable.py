@@ -10,7 +10,7 @@ from itertools import chain, combinations
 from typing import NamedTuple
 
 from .failures import span_fibres
-from .model import CUT, DEGRADE, FAIL, FORCED, MANUAL, WAIT, applied_spans, arc, is_joined, route, scenes, span_requests
+from .model import CUT, DEGRADE, FAIL, FORCED, MANUAL, WAIT, applied_spans, arc, scenes, span_requests
 from .plan import SIDES
 from .reasons import REASONS
 from .report import BAD_PLAN
@@ -163,8 +163,8 @@ def group_failure(number, group, ring):
     return Failure(GROUP, None, "", shown, name, f"own {number}", steps, members)
 
 
-def failures_of(plan, places, groups=()):
-    """All failures by their numbers, as docs/WHATIF.md counts them from 1; here from 0. Groups are the user's own."""
+def failures_of(plan, places, groups=(), kinds=KINDS):
+    """All failures of these kinds by their numbers, as docs/WHATIF.md counts them from 1; here from 0. Groups are the user's own."""
     namer, found = Namer(plan, places), []
     for kind in KINDS:
         for at in range(plan.size):
@@ -172,6 +172,7 @@ def failures_of(plan, places, groups=()):
                 words = [name(kind, at, side) for name in (namer.name, namer.label, namer.called)]
                 found.append(Failure(kind, at, side, *words, steps_of(plan, kind, at, side)))
     ring = {(one.kind, one.at, one.side): one for one in found}
+    found = [one for one in found if one.kind in kinds]
     return (*found, *(group_failure(number, group, ring) for number, group in enumerate(groups, 1)))
 
 
@@ -199,6 +200,7 @@ class Model:
         self.base = self.sets((span, request) for span, request in enumerate(span_requests(plan.size, self.last.requests)) if request)
         self.raised = [self.sets((span, self.RAISES[failure.kind]) for span in self.spans_of(failure)) for failure in failures]
         self.arcs = [frozenset(arc(plan, circuit)) for circuit in plan.circuits]
+        self.lanes = [(circuit.start, len(own), sum(1 << span for span in own)) for circuit, own in zip(plan.circuits, self.arcs)]
         self.known, self.outcomes, self.ways = {}, {}, {}
 
     def sets(self, asked):
@@ -248,20 +250,30 @@ class Model:
     def goes(self, applied):
         """Of each circuit, where these spans are applied, whether it is kept, over protection or lost, and over how many spans it goes."""
         if applied not in self.ways:
-            self.ways[applied] = [self.way(circuit, own, applied) for circuit, own in zip(self.plan.circuits, self.arcs)]
+            spans = sum(1 << span for span in applied)
+            self.ways[applied] = [self.way(*lane, spans) for lane in self.lanes]
         return self.ways[applied]
 
-    def way(self, circuit, own, applied):
-        if not is_joined(self.plan, circuit, applied):
+    def way(self, start, length, own, spans):
+        """Of an arc, by where it begins, its length and its spans as bits, whether it is kept, over protection or lost where these spans are applied, and over how many spans.
+
+        Over protection the way leads to the first applied span of the arc, all the way back to behind the last one, and on.
+        """
+        if not own & spans:
+            return KEPT, length
+        if spans & ~own:
             return LOST, 0
-        return OVER if applied & own else KEPT, len(route(self.plan, circuit, applied))
+        size = self.plan.size
+        struck = (spans >> start | spans << (size - start)) & ((1 << size) - 1)  # counted from the beginning of the arc
+        first, last = (struck & -struck).bit_length() - 1, struck.bit_length() - 1
+        return OVER, first + size - (last + 1 - first) + length - (last + 1)
 
 
 class Reading:
     """Reads the text of one plan's table, whole or a part of it."""
 
-    def __init__(self, plan, places, groups=()):
-        self.plan, self.failures = plan, failures_of(plan, places, groups)
+    def __init__(self, plan, places, groups=(), kinds=KINDS):
+        self.plan, self.failures = plan, failures_of(plan, places, groups, kinds)
         self.model = Model(plan, self.failures)
         self.head = ",".join([*FIELDS, *(circuit.name for circuit in plan.circuits)])
         self.steps = ["".join(f'""{step}"", ' for step in failure.steps) for failure in self.failures]
@@ -328,7 +340,10 @@ def refused(text):
 def words_for(failures, depth, part=WHOLE):
     """The words that ask the program for a part of its table of these failures."""
     own = ["; ".join(member.called for member in failure.members) for failure in failures if failure.members]
-    kinds = KIND_WORDS if own else ()  # where `own` stands the others have to be named
+    there = {failure.kind for failure in failures}
+    kinds = [word for kind, word in zip(KINDS, KIND_WORDS) if kind in there]
+    if not own and len(kinds) == len(KINDS):
+        kinds = []  # without a word for a kind all are taken; where `own` stands they have to be named
     return [depth, "head", *kinds, *(word for text in own for word in ("own", text)), *(() if part == WHOLE else ("part", *map(str, part)))]
 
 

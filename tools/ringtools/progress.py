@@ -16,7 +16,7 @@ def duration(seconds):
 class Progress:
     """Shows how many cases are done, `jobs` at a time, from the first one on. `expected` is how many seconds all that are left may take, or None."""
 
-    what = "cases"
+    what, tool = "cases", "sdhring-whatif"
 
     def __init__(self, total, done, expected=None, jobs=1):
         self.total, self.done, self.at_begin = total, done, done
@@ -50,5 +50,5 @@ class Progress:
             return
         self.told = now
         end = "    \r" if sys.stderr.isatty() and not last else "\n"
-        sys.stderr.write(f"sdhring-whatif: {self.line(gone)}{end}")
+        sys.stderr.write(f"{self.tool}: {self.line(gone)}{end}")
         sys.stderr.flush()

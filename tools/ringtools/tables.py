@@ -12,7 +12,7 @@ from dataclasses import dataclass, field
 
 from .build import sum_of
 from .cells import read_cell
-from .files import TABLE, read_input
+from .files import TABLE, Limit, read_input
 from .places import composed
 from .shown import shown
 
@@ -129,9 +129,9 @@ PIPED: dict[str, bytes] = {}  # what came out of pipes, which can be read once
 SUMS: dict[str, str] = {}  # the checksum of each table as it was read last
 
 
-def table_bytes(name: str) -> bytes:
+def table_bytes(name: str, limit: Limit = TABLE) -> bytes:
     """Returns the bytes of a table, and notes their checksum."""
-    data = PIPED[name] if name in PIPED else read_input(name, TABLE)
+    data = PIPED[name] if name in PIPED else read_input(name, limit)
     if name != "-" and not os.path.isfile(name):
         PIPED[name] = data
     SUMS[name] = sum_of(data)
@@ -143,8 +143,8 @@ def sum_of_table(name: str) -> str:
     return SUMS[name] if name in SUMS else sum_of(table_bytes(name))
 
 
-def text_of(name):
-    data = table_bytes(name)
+def text_of(name: str, limit: Limit = TABLE) -> str:
+    data = table_bytes(name, limit)
     try:
         return composed(data.decode("utf-8-sig"))
     except UnicodeDecodeError as error:
@@ -195,35 +195,35 @@ def cells_of(name: str, line: int, raw: Sequence[str]) -> list[str]:
     return [read_cell(" ".join(cell.split())) for cell in raw]
 
 
-def records_of(name: str, text: str, sign: str, before: int) -> Iterator[tuple[int, list[str]]]:
+def records_of(name: str, text: str, sign: str, before: int, rows: int = ROWS) -> Iterator[tuple[int, list[str]]]:
     """Gives the first line of each record, and its cells. `before` is the number of lines above the text."""
     reader, line, number = csv.reader(io.StringIO(text, newline=""), delimiter=sign, strict=True), before, 0
     try:
         for raw in reader:
             begun, line, number = line + 1, before + reader.line_num, number + 1
-            if number > ROWS + 1:
-                raise TableProblem(f"{name}:{begun}: a table has at most {ROWS:,} rows")
+            if number > rows + 1:
+                raise TableProblem(f"{name}:{begun}: a table has at most {rows:,} rows")
             yield begun, cells_of(name, begun, raw)
     except csv.Error as error:
         raise TableProblem(f"{name}:{line + 1}: {error}") from None
 
 
-def read_table(name: str, known: tuple[str, ...], needed: tuple[str, ...], most: int = ROWS) -> Table:
+def read_table(name: str, known: Sequence[str], needed: Sequence[str], most: int = ROWS, limit: Limit = TABLE) -> Table:
     """The rows of a table whose first line with a word names its columns. Commas, semicolons or tabs separate the cells, or what a line `sep=;` says.
 
     Rows without a word are skipped. Where something else than commas separates the cells, numbers may have a comma for the point.
     Raises TableProblem where there are more rows than `most`.
     """
-    text = text_of(name)
+    text = text_of(name, limit)
     sign, begin = sign_of(text)
     form, table = Form(sign), None
-    for line, cells in records_of(name, text[begin:], sign, text.count("\n", 0, begin)):
+    for line, cells in records_of(name, text[begin:], sign, text.count("\n", 0, begin), max(ROWS, most)):
         if not any(cells):
             continue
         if table is None:
             heads = head_of(name, line, cells, known, needed, text[:LINE])
             unread = tuple(cell for cell, head in zip(cells, heads) if head is None and cell)
-            table = Table(name, tuple(filter(None, heads)), unread, known, form, tuple(cells))
+            table = Table(name, tuple(filter(None, heads)), unread, tuple(known), form, tuple(cells))
             continue
         if len(table.rows) == most:
             raise TableProblem(f"{name}:{line}: this table has at most {most:,} rows")

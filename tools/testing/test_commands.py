@@ -28,7 +28,7 @@ WITHIN = re.compile(r"`((?:\./)?sdh[a-z-]+ [^`]*|man -l [^`]*|\./sdhring --[^`]*
 # What stands for something that is no file.
 WORDS = {"ID": "2", "SIDE": "west", "A:B": "0:3", "RULE": "'single span: none lost'", "DIGITS": "0333", "FOLDER": "rings"}
 # Those that end otherwise than with 0, as they should.
-STATUSES = {"refused.toml": 6, "yes ": 141}
+STATUSES = {"refused.toml": 6, "yes ": 141, "--require 'single group: none lost'": 1, "--require 'single place: none lost besides ends'": 1}
 PLACES = {"Aachen": 1, "Bonn": 2, "Celle": 3, "Düren": 4, "Essen": 5, "Fulda": 7}
 # Of the package, whose pages are those that are installed elsewhere but for their places.
 OF_PACKAGE = {"README.md", "BENCH.md", "sdhnode.1", "sdhring.1", "sdhring-explain.1", "sdhring-report.1", "sdhring-capture.1"}

@@ -114,7 +114,9 @@ class Options(unittest.TestCase):
     def test_each_option_of_a_tool_is_in_its_man_page_and_in_completion(self):
         completed = (TOP / "tools" / "completion.bash").read_text()
         for tool in sorted(TOP.glob("tools/sdhring-*")):
-            options = set(re.findall(r'add_argument\("(--[a-z0-9-]+)"', tool.read_text())) | {"--help", "--version"}
+            module = TOP / "tools" / "ringtools" / tool.name.removeprefix("sdhring-") / "command.py"  # of a tool that is a package
+            text = tool.read_text() + (module.read_text(encoding="utf-8") if module.is_file() else "")
+            options = set(re.findall(r'add_argument\(\s*"(--[a-z0-9-]+)"', text)) | {"--help", "--version"}
             manual = (TOP / "docs" / f"{tool.name}.1").read_text().replace("\\-", "-")
             words = re.search(rf"{tool.name}\) words='([^']*)'", completed)[1].split()
             self.assertEqual({word for word in words if word.startswith("--")}, options, tool.name)
