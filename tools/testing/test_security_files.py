@@ -91,7 +91,7 @@ class Written(Folders):
         folder.write_new(name, b"a plan")
         self.assertEqual((self.top / "new.toml").read_bytes(), b"a plan")
         for taken in ("new.toml", "link", "victim"):
-            with self.assertRaisesRegex(WriteProblem, "File exists"):
+            with self.assertRaisesRegex(WriteProblem, "is there, and is left alone"):
                 folder.write_new(taken, b"other")
         self.assertEqual(self.inside(self.top), {"victim", "link", "new.toml"})
 
