@@ -67,7 +67,7 @@ ALL = (
     tool("sdhring-compare-node", "OURS", "OURS"),
     tool("sdhring-desk", "PLAN", "--depth", "double"),
     tool("sdhring-explain", "PLAN"),
-    tool("sdhring-network", "availability", "NETWORK"),
+    tool("sdhring-network", "availability", "NETWORK", "--cuts-per-1000-km", "2"),
     tool("sdhring-network", "import", str(TOP / "examples" / "network"), "--to", "made", writes=False),
     tool("sdhring-network", "room", "NETWORK"),
     tool("sdhring-network", "whatif", "NETWORK", "--dir", "made"),
