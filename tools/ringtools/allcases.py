@@ -1,11 +1,9 @@
 """Every failure of a plan alone, each two and each three, as sdhwhatif answers: tables and a page, rules, and some cases run frame by frame too."""
 
 import shlex
-import signal
 import sys
 import time
 from collections.abc import Iterator
-from concurrent.futures import ProcessPoolExecutor
 from functools import partial
 
 from .against import Against, cases_of_table, cases_of_told
@@ -18,7 +16,7 @@ from .framed import asked_of, machines_of, put_cases, run_cases, store_of
 from .groups import named_groups
 from .origin import TELLER, CannotRun, Origin, Program, program_of, sum_of
 from .required import BROKEN, COLUMNS, NOT_ASKED, Rule, depth_for, line_of, not_asked, records
-from .running import processors, tell_with_parallel
+from .running import made_pool, processors, tell_with_parallel
 from .shown import shown
 from .tables import TableProblem
 from .told import Question, Told, case_to_run, differences, drawn, part_name
@@ -180,10 +178,11 @@ def required(asked, rules: list[Rule], name: str) -> list[list]:
 def each_required(asked, plans: list[str], rules: list[Rule]) -> Iterator[list[list]]:
     """Yields the records of each plan, in the order of the plans; as many are asked about at a time as there are processors, or --jobs."""
     ask, jobs = partial(required, asked, rules), min(asked.jobs or processors(), len(plans))
-    if jobs < 2 or asked.sshlogin or "-" in plans:
+    one_by_one = jobs < 2 or asked.sshlogin or "-" in plans
+    if one_by_one or (pool := made_pool(jobs)) is None:
         yield from map(ask, plans)
         return
-    with ProcessPoolExecutor(jobs, initializer=signal.signal, initargs=(signal.SIGINT, signal.SIG_IGN)) as pool:
+    with pool:
         yield from pool.map(ask, plans)
 
 

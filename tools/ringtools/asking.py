@@ -18,7 +18,7 @@ from .writing import Folder, named_folder, own_folder
 
 FAILED, NOT_SETTLED, DIFFERS, INTERRUPTED = 1, 3, 4, 130
 QUESTION = "question"  # the file of a folder that says what its answers are about
-LONGEST_QUESTION = 65_536  # bytes of it
+LONGEST_QUESTION = 1 << 20  # bytes of it
 SLUG = 48  # characters of an order in the name of a folder
 
 
@@ -115,11 +115,12 @@ def question_of(asked, subject: Subject) -> str:
 def check_question(asked, subject: Subject) -> None:
     """Raises where the folder has answers to another question, which would be written over."""
     folder = place_of(asked, subject.name)
-    if not folder.path.is_dir() or (data := folder.read(QUESTION, LONGEST_QUESTION)) is None:
+    if not folder.path.is_dir() or QUESTION not in folder.names():
         return
-    kept = data.decode("utf-8", "replace")
-    if kept != question_of(asked, subject):
-        other = kept.strip() or "without --works, --also and --without-script"
+    kept = folder.read(QUESTION, LONGEST_QUESTION)
+    if kept != question_of(asked, subject).encode("utf-8", "replace"):
+        words = "which can't be read" if kept is None else kept.decode("utf-8", "replace").strip()
+        other = words or "without --works, --also and --without-script"
         raise Stop(f"{folder.path} has the answers to another question, {other}, and they would be written over: --dir names another folder, or remove this one")
 
 

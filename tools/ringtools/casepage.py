@@ -1,7 +1,5 @@
 """The page of sdhring-whatif: what the failures come to, customers first; and a page with the drawing of each case."""
 
-import signal
-from concurrent.futures import ProcessPoolExecutor
 from dataclasses import dataclass
 from functools import partial
 
@@ -14,6 +12,7 @@ from .model import scenes
 from .origin import Origin
 from .page import in_short, run_page, source, tools
 from .report import ReportProblem, read_report
+from .running import made_pool
 from .works import Works
 
 
@@ -74,14 +73,6 @@ def draw_case(asked, case):
     origin = Origin(store.program, f"{case.name}.toml", answer.plan, (answer.date,), answers=(answer,))
     title = f"{asked.title or asked.plan}: {case.words}"
     store.folder.write(f"{case.name}.html", run_page(title, plan, report, shown, origin, beside))
-
-
-def made_pool(jobs: int) -> ProcessPoolExecutor | None:
-    """Returns processes that draw, or None where the system gives none, as one without a shared /dev/shm."""
-    try:
-        return ProcessPoolExecutor(jobs, initializer=signal.signal, initargs=(signal.SIGINT, signal.SIG_IGN))
-    except (OSError, ImportError):
-        return None
 
 
 def draw_cases(asked, cases, jobs):

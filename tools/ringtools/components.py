@@ -124,7 +124,7 @@ def fibres_alone(row, finder, span):
     rate = row.number("fibre_failures")
     if rate is None:
         if row["fibre_hours"]:
-            raise row.problem(f"`fibre_hours` is `{row['fibre_hours']}`, and `fibre_failures`, the failures a year of each fibre, are missing")
+            raise row.problem(f"`fibre_hours` is `{row.quoted('fibre_hours')}`, and `fibre_failures`, the failures a year of each fibre, are missing")
         return
     hours = needed(row, "fibre_hours", REPAIR)
     for at, side in span_fibres(finder.plan, span):

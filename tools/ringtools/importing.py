@@ -10,7 +10,7 @@ from .keeping import Service, held, kept_words, positions_in
 from .making import Asked, Written, check_rate, document_of, text_of
 from .markup import count_of
 from .slots import ORDERS, Demand, Laid, Wanted, arcs_of, fitted, layout_of, loads_of, spans_of
-from .tables import Table, advice, read_table, spelled
+from .tables import SIGNS, Table, advice, read_table, spelled
 from .tables import text_of as text_in
 
 NODE_COLUMNS = ("place", "node")
@@ -150,18 +150,21 @@ def read_circuits(name: str, ring: Ring, rate: int, service: Service | None) -> 
 
 
 def with_choices(table: Table, circuits: list[Circuit], laid: tuple[Laid, ...]) -> str:
-    """Returns the table with the chosen directions and slots, and with the names of all circuits; other cells as they stand."""
+    """Returns the table with the chosen directions and slots, and with the names of all circuits; other cells as they stand.
+
+    What separates the cells is said in a line `sep=` where it is none of the usual signs.
+    """
     heads, columns = list(table.heads), [spelled(head) for head in table.heads]
     for column in ("name", "direction", "slot"):
         if column not in columns:
             heads, columns = heads + [column], columns + [column]
-    rows = [heads]
+    rows, sign = [heads], table.form.sign
     for circuit, one in zip(circuits, laid):
         way = "east" if one.start == circuit.wanted.start else "west"
         chosen = {"name": circuit.called, "direction": way, "slot": str(one.slot)}
         cells = [*circuit.row.given, *[""] * (len(columns) - len(circuit.row.given))]
         rows.append([chosen.get(column, cell) for column, cell in zip(columns, cells)])
-    return text_of_rows(rows, table.form.sign)
+    return ("" if sign in SIGNS else f"sep={sign}\n") + text_of_rows(rows, sign)
 
 
 def sides_of(ring, circuits, laid, circuit, slots):

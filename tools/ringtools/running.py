@@ -8,7 +8,7 @@ import subprocess
 import tempfile
 import time
 from collections.abc import Sequence
-from concurrent.futures import FIRST_COMPLETED, ThreadPoolExecutor, wait
+from concurrent.futures import FIRST_COMPLETED, ProcessPoolExecutor, ThreadPoolExecutor, wait
 from contextlib import suppress
 from dataclasses import dataclass
 from pathlib import Path
@@ -134,6 +134,14 @@ def started(words: Sequence[str], folder: Folder) -> subprocess.Popen:
         return subprocess.Popen(words, stdin=subprocess.PIPE, cwd=folder.path, text=True)
     except OSError as error:
         raise CannotRun(f"parallel: {error.strerror}; it is Debian's package `parallel`") from None
+
+
+def made_pool(jobs: int) -> ProcessPoolExecutor | None:
+    """Returns processes that leave an interruption to the tool, or None where the system gives none, as one without a shared /dev/shm."""
+    try:
+        return ProcessPoolExecutor(jobs, initializer=signal.signal, initargs=(signal.SIGINT, signal.SIG_IGN))
+    except (OSError, ImportError):
+        return None
 
 
 def processors() -> int:

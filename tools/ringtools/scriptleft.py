@@ -4,8 +4,8 @@ from __future__ import annotations
 
 from dataclasses import dataclass
 
-from .markup import escape
 from .desktable import Namer, last_scene
+from .markup import escape
 from .model import CLEAR, CUT, WAIT, Scene, span_requests
 from .places import Places
 from .plan import Plan

@@ -17,7 +17,7 @@ from .places import composed
 from .shown import shown
 
 SIGNS = ",;\t"
-TOLD_SIGN = re.compile(r"sep=(.)\r?\n", re.I)  # the first line by which a spreadsheet says what separates the cells
+TOLD_SIGN = re.compile(r"sep=([^\w\s\"']|\t)\r?\n", re.I)  # the first line by which a spreadsheet says what separates the cells
 GROUPED = {mark: re.compile(rf"[1-9][0-9]{{0,2}}({re.escape(mark)}[0-9]{{3}})+") for mark in ".,"}  # as 1.028, or 1,028,000
 FRACTION = {mark: re.compile(rf"[0-9]*{re.escape(mark)}[0-9]+") for mark in ".,"}
 LOOKED_AT = 20  # lines of a table in which the names of the columns are looked for
@@ -80,7 +80,8 @@ class Row:
             return None
         if mark := self.form.unclear(text):
             whole = text.replace(mark, "")
-            raise self.problem(f"`{column}` is `{text}`, which may be {whole} or {text.replace(mark, ',')}0: write one of these")
+            either = f"{quoted(whole)} or {quoted(text.replace(mark, ','))}0"
+            raise self.problem(f"`{column}` is `{quoted(text)}`, which may be {either}: write one of these")
         try:
             value = float(text.replace(",", ".") if self.form.sign != "," else text)
         except ValueError:
@@ -112,11 +113,11 @@ class Table:
     def nearest(self, column: str) -> str:
         """Returns the known name that a column may stand for, of those that the table lacks; empty where none is like it."""
         missing = [name for name in self.known if name not in self.columns]
-        return next(iter(difflib.get_close_matches(spelled(column), missing, 1, LIKENESS)), "")
+        return next(iter(difflib.get_close_matches(spelled(column[:QUOTED]), missing, 1, LIKENESS)), "")
 
     def notes(self) -> list[str]:
         """Returns a line on the columns that aren't read, each with the name that is nearest to it; none where all are."""
-        told = [column + (f" (nearest: {near})" if (near := self.nearest(column)) else "") for column in self.unread]
+        told = [quoted(column) + (f" (nearest: {near})" if (near := self.nearest(column)) else "") for column in self.unread]
         return [f"{self.file}: not read: {', '.join(told)}"] if told else []
 
 

@@ -28,6 +28,13 @@ class WriteProblem(FileProblem):
     """A file can't be written where it was to be, or isn't for safety."""
 
 
+class IsThere(WriteProblem):
+    """A new file was to be written, and one of this name is there already."""
+
+    def __init__(self, path: str | os.PathLike[str], why: str = "") -> None:
+        super().__init__(f"{os.fspath(path)} is there, and is left alone{why}: name another file, or remove this one")
+
+
 def part_name() -> str:
     """Returns a name that nobody can guess, for what isn't whole yet."""
     return f".{secrets.token_hex(12)}.part"
@@ -175,7 +182,7 @@ class Folder:
                 raise problem_of(self.path / name, error) from None
 
     def write_new(self, name: str, data: bytes, mode: int = 0o666) -> None:
-        """Writes a whole file that isn't there yet; one that is there, be it a link, stays. Raises WriteProblem then."""
+        """Writes a whole file that isn't there yet; one that is there, be it a link, stays. Raises IsThere then."""
         part = part_name()
         with self.opened() as folder:
             try:
@@ -186,6 +193,8 @@ class Folder:
                     if error.errno not in NO_LINKS:
                         raise
                     put_new(folder, name, data, mode)
+            except FileExistsError:
+                raise IsThere(self.path / name) from None
             except OSError as error:
                 raise problem_of(self.path / name, error) from None
             finally:

@@ -67,6 +67,10 @@ ALL = (
     tool("sdhring-compare-node", "OURS", "OURS"),
     tool("sdhring-desk", "PLAN", "--depth", "double"),
     tool("sdhring-explain", "PLAN"),
+    tool("sdhring-network", "availability", "NETWORK", "--cuts-per-1000-km", "2"),
+    tool("sdhring-network", "import", str(TOP / "examples" / "network"), "--to", "made", writes=False),
+    tool("sdhring-network", "room", "NETWORK"),
+    tool("sdhring-network", "whatif", "NETWORK", "--dir", "made"),
     tool("sdhring-plan", "new", "1>3"),
     tool("sdhring-plan", "import", "CIRCUITS.csv", "--nodes", "NODES.csv"),
     tool("sdhring-report", "--json", "TEXT"),
@@ -89,6 +93,10 @@ ALL = (
     bench("availability/compare", PROGRAM["sdhring"], PROGRAM["sdhpath"], "0"),
     bench("hostile/fuzz", "0"),
     bench("import/compare", "0"),
+    bench("network/compare", PROGRAM["sdhring"], "0"),
+    bench("network/made", "made", "2", "20"),
+    bench("network/opens", "--help"),
+    bench("network/scale", "--help"),
     bench("node/compare", PROGRAM["sdhnode"], "0"),
     bench("node/model.py", "2", given="STREAM"),
     bench("node/pipe", "--help"),
@@ -113,6 +121,10 @@ def files():
     found["SPANS.csv"] = b"from,to,cuts,hours\n1,2,0.1,8\n2,3,0.1,8\n3,4,0.1,8\n4,1,0.1,8\n"
     for name, program, words, given in (("TEXT", "sdhring", ["run"], PLAN), ("OURS", "sdhnode", ["2"], STREAM)):
         found[name] = subprocess.run([PROGRAM[program], *words], input=given, capture_output=True, check=True).stdout
+    with tempfile.TemporaryDirectory() as made:
+        network = Path(made) / "NETWORK"
+        subprocess.run([TOOLS / "sdhring-network", "import", TOP / "examples" / "network", "--to", network], capture_output=True, check=True)
+        found |= {str(path.relative_to(made)): path.read_bytes() for path in network.rglob("*") if path.is_file()}
     return found
 
 
@@ -149,6 +161,7 @@ class Ending(unittest.TestCase):
         """A new folder with all files."""
         folder = Path(tempfile.mkdtemp(dir=self.top))
         for name, data in files().items():
+            (folder / name).parent.mkdir(parents=True, exist_ok=True)
             (folder / name).write_bytes(data)
         return folder
 

@@ -2,6 +2,7 @@
 
 import csv
 import io
+import os
 import random
 import tempfile
 import tomllib
@@ -268,6 +269,8 @@ class Import(unittest.TestCase):
         for circuits in ("sep=;\r\nfrom;to\r\nKöln;9\r\n", "SEP=|\nfrom|to\nKöln|9\n", "\n\nfrom,to\nKöln,9\n", ";;\nfrom;to\nKöln;9\n"):
             self.assertEqual(self.made(circuits)[0], plain, circuits)
         self.refused("circuits.csv:4: `to` is `x`", "sep=;\n\nfrom;to\nKöln;x\n")
+        for sign in ('"', "\r", "f"):  # these separate no cells
+            self.refused("circuits.csv:", f"sep={sign}\nfrom,to\nKöln,9\n")
         there = "the first line is to name the columns, and `from` is missing; there are Circuits of 2026; line 3 has them: take away what stands above it"
         self.refused(there, "Circuits of 2026;;\n;;\nFrom;To;slot\nKöln;9;\n")
         self.refused("or `node`, or both; line 2 has them: take away what stands above it", "from,to\n", "Our nodes\nplace\nKöln\nBonn\n")
@@ -369,6 +372,30 @@ class Growth(unittest.TestCase):
         said, _ = self.plan(first, "c.toml", "--table", "chosen.csv", status=1)
         self.assertIn("chosen.csv is there, and is left alone", said)
         self.assertFalse((self.folder / "c.toml").exists())
+
+    def test_cells_like_formulas_are_written_back_as_texts(self):
+        """They are read as they were, and so is the line that says what separates the cells: the table of a table is the same."""
+        _, made = self.plan("SEP=|\nKunde|from|to\n=1+2|Köln|Bonn\n'+49 x|Mainz|Bonn\n", "a.toml", "--table", "one.csv")
+        text = (self.folder / "one.csv").read_text(encoding="utf-8")
+        self.assertEqual(text.splitlines()[:2], ["sep=|", "Kunde|from|to|name|direction|slot"])
+        self.assertEqual([line.split("|")[0] for line in text.splitlines()[2:]], ["'=1+2", "'+49 x"])
+        _, again = self.plan(text, "b.toml", "--table", "two.csv")
+        self.assertEqual((again, (self.folder / "two.csv").read_text(encoding="utf-8")), (made, text))
+
+    def test_a_table_that_is_a_link_is_left_alone(self):
+        (self.folder / "link.csv").symlink_to("nowhere")
+        said, _ = self.plan(self.FIRST, "a.toml", "--table", "link.csv", status=1)
+        self.assertIn("link.csv is there, and is left alone", said)
+        self.assertFalse((self.folder / "nowhere").exists() or (self.folder / "a.toml").exists())
+
+    def test_what_lies_beside_a_new_plan_is_read_within_limits(self):
+        """Neither a pipe nor very large files keep the tool from the plan, and a plan among them is found."""
+        self.plan(self.FIRST, "a.toml")
+        os.mkfifo(self.folder / "b.toml")
+        for number in range(9):
+            (self.folder / f"c{number}.toml").write_text("#" * (1 << 20))
+        said, _ = self.plan(self.FIRST + "neu,Köln,Bonn\n", "d.toml")
+        self.assertIn("circuits of a.toml that move", said)
 
     def test_several_tables_have_a_plan_each_in_the_folder_of_keep(self):
         rings = self.folder / "rings"

@@ -91,7 +91,7 @@ class Written(Folders):
         folder.write_new(name, b"a plan")
         self.assertEqual((self.top / "new.toml").read_bytes(), b"a plan")
         for taken in ("new.toml", "link", "victim"):
-            with self.assertRaisesRegex(WriteProblem, "File exists"):
+            with self.assertRaisesRegex(WriteProblem, "is there, and is left alone"):
                 folder.write_new(taken, b"other")
         self.assertEqual(self.inside(self.top), {"victim", "link", "new.toml"})
 
@@ -218,7 +218,7 @@ class House(unittest.TestCase):
     WRITING = {"write_text", "write_bytes", "mkdir", "makedirs", "unlink", "rename", "replace_file", "symlink_to", "symlink", "hardlink_to", "link", "touch", "rmtree", "rmdir", "chmod", "truncate"}
 
     def modules(self):
-        for path in sorted([*(TOOLS / "ringtools").glob("*.py"), *TOOLS.iterdir()]):
+        for path in sorted([*(TOOLS / "ringtools").rglob("*.py"), *TOOLS.iterdir()]):
             if path.is_file() and (path.suffix == ".py" or b"python3" in path.read_bytes()[:60]):
                 yield path, ast.parse(path.read_text(encoding="utf-8"))
 

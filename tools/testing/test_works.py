@@ -150,6 +150,12 @@ class Works(Asking):
             words = [word for word in ("plan.toml", *words, "--dir", "plan.span-2-9.whatif")]
             self.assertEqual(call("sdhring-whatif", *words, cwd=self.top).returncode, 1)
         self.assertEqual(whatif("--works", "span 9-2", "--dir", "plan.span-2-9.whatif").returncode, 0)  # the same order in other words
+        question = self.top / "plan.span-2-9.whatif" / "question"
+        question.rename(self.top / "kept")
+        question.symlink_to(self.top / "kept")
+        ended = whatif("--works", "span 2-9")
+        self.assertEqual((ended.returncode, "another question, which can't be read" in ended.stderr.decode()), (1, True))
+        self.assertTrue(question.is_symlink())
 
     def test_unknown_orders(self):
         self.assertIn(b"no span joins node 5 and node 9; the spans are 5-2, 2-9, 9-4, 4-5", self.ask("--works", "span 5-9", wanted=1).stderr)

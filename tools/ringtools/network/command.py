@@ -17,6 +17,7 @@ from ..places import PlaceProblem
 from ..required import HOLDS, NOT_ASKED, RuleProblem
 from ..running import Machines, processors
 from ..shown import say as say_of
+from ..shown import shown
 from ..tables import TableProblem
 from ..writing import Folder, named_folder, own_folder
 from .beside import answer_in, compared
@@ -247,7 +248,7 @@ def whatif(asked: argparse.Namespace) -> int:
     if asked.part:
         part = read_part(asked.part)
         results = results_of(question, part.rings(len(network.rings)))
-        print(put_part(named_folder(asked.dir or ".").inside("parts"), question.sum(), part, results))
+        print(shown(put_part(named_folder(asked.dir or ".").inside("parts"), question.sum(), part, results)))
         return 0
     if rules:
         return require(asked, question, rules)
@@ -262,7 +263,7 @@ def write_tables(question: Question, results: list[dict[str, object]], folder: F
     base = base_of(question.asker(), question.folder)
     joined = Joined(question.network, question.components(), base, question.measures, results)
     for path in Telling(joined).write(folder, question.rows):
-        print(path)
+        print(shown(path))
 
 
 def write_against(asked: argparse.Namespace, question: Question, folder: Folder) -> None:
@@ -276,7 +277,7 @@ def write_against(asked: argparse.Namespace, question: Question, folder: Folder)
         write_tables(beside, in_memory(beside, asked.jobs or processors()), beside_folder)
     table, words = compared(answer_in(other), answer_in(folder.path))
     folder.write("against.csv", table)
-    print(folder.path / "against.csv")
+    print(shown(folder.path / "against.csv"))
     for one in words:
         say(one)
 
@@ -319,7 +320,7 @@ def page(asked: argparse.Namespace) -> int:
         to.write(name, text)
     for one in notes:
         say(one)
-    print(to.path / "index.html")
+    print(shown(to.path / "index.html"))
     return 0
 
 
