@@ -38,7 +38,7 @@ class Whatif(Asking):
 
     def test_a_ring_of_four(self):
         said = self.ask().stderr.decode()
-        self.assertRegex(said, r"22 cases to run, \d+ at a time: about \d+ s; Ctrl-C stops")
+        self.assertRegex(said, r"22 cases to run, \d+ at a time: about \d+ (s|min); Ctrl-C stops")
         self.assertLess(said.index("22 cases to run"), said.index("0 of 22 cases, 0 s gone, about "))
         self.assertIn("22 of 22 cases, ", said)
         rows = self.table()
