@@ -11,6 +11,7 @@ from collections.abc import Sequence
 from concurrent.futures import FIRST_COMPLETED, ProcessPoolExecutor, ThreadPoolExecutor, wait
 from contextlib import suppress
 from dataclasses import dataclass
+from multiprocessing import get_context
 from pathlib import Path
 
 from .build import sum_of
@@ -137,9 +138,13 @@ def started(words: Sequence[str], folder: Folder) -> subprocess.Popen:
 
 
 def made_pool(jobs: int) -> ProcessPoolExecutor | None:
-    """Returns processes that leave an interruption to the tool, or None where the system gives none, as one without a shared /dev/shm."""
+    """Returns processes that are split off from this one, or None where the system gives none, as one without a shared /dev/shm.
+
+    They have what it has in memory by then, and leave an interruption to it.
+    """
     try:
-        return ProcessPoolExecutor(jobs, initializer=signal.signal, initargs=(signal.SIGINT, signal.SIG_IGN))
+        split = get_context("fork")
+        return ProcessPoolExecutor(jobs, mp_context=split, initializer=signal.signal, initargs=(signal.SIGINT, signal.SIG_IGN))
     except (OSError, ImportError):
         return None
 

@@ -34,6 +34,14 @@ def call(tool, *words, **more):
     return subprocess.run([sys.executable, str(TOOLS / tool), *map(str, words)], capture_output=True, **more)
 
 
+def call_without_processes(tool, *words, **more):
+    """The same where no process with shared memory can be had."""
+    without = "import sys, runpy, concurrent.futures.process as p\n"
+    without += "def none(*_, **__): raise PermissionError(13, 'Permission denied')\np.ProcessPoolExecutor.__init__ = none\n"
+    without += f"sys.argv[0] = {str(TOOLS / tool)!r}; sys.path[0] = {str(TOOLS)!r}; runpy.run_path(sys.argv[0], run_name='__main__')"
+    return subprocess.run([sys.executable, "-c", without, *map(str, words)], capture_output=True, **more)
+
+
 def copied_tools(place):
     """The folder of a copy of the tools, which stands for a release of its own at this place."""
     shutil.copytree(TOOLS, place / "tools", ignore=shutil.ignore_patterns("__pycache__", "testing"))

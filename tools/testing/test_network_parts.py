@@ -7,7 +7,7 @@ import unittest
 from pathlib import Path
 
 import slurm
-from common import TOOLS, call
+from common import TOOLS, call, call_without_processes
 
 EXAMPLE = TOOLS.parent / "examples" / "network"
 TABLES = ("summary.csv", "customers.csv", "singles.csv", "doubles.csv", "lost.csv")
@@ -41,6 +41,11 @@ class Parts(unittest.TestCase):
             self.check(f"p{parts}")
         self.call("whatif", "net", "--dir", "jobs", "--jobs", "3")
         self.check("jobs")
+
+    def test_without_processes_rings_are_asked_one_after_the_other(self):
+        ended = call_without_processes("sdhring-network", "whatif", "net", "--dir", "alone", "--jobs", "3", cwd=self.top)
+        self.assertEqual(ended.returncode, 0, ended.stderr.decode())
+        self.check("alone")
 
     def test_a_missing_part_is_run_alone(self):
         self.call("whatif", "net", "--dir", "p", "--parts", 3)

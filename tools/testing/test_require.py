@@ -9,7 +9,7 @@ import sys
 import unittest
 
 from cases import CIRCUITS, IDS, Asking, document, failures
-from common import TOOLS, call, command
+from common import TOOLS, call, call_without_processes, command
 
 from ringtools.required import RuleProblem, read_rule
 
@@ -65,6 +65,8 @@ class Required(Asking):
         whatif = lambda *words: call("sdhring-whatif", "--teller", TELLER, *words, cwd=self.top)
         one, two = (whatif("--require", "single span: none lost", "--jobs", jobs, "rings") for jobs in ("1", "2"))
         self.assertEqual((one.stdout, one.returncode), (two.stdout, 1))
+        alone = call_without_processes("sdhring-whatif", "--teller", TELLER, "--require", "single span: none lost", "--jobs", "2", "rings", cwd=self.top)
+        self.assertEqual((alone.stdout, alone.returncode, alone.stderr), (one.stdout, 1, one.stderr))
         rows = list(csv.DictReader(io.StringIO(one.stdout.decode())))
         self.assertEqual([row["plan"] for row in rows], [f"rings/ring{number}.toml" for number in (0, 1, 2, 3, 4, 9)])
         self.assertEqual([row["verdict"] for row in rows], ["holds"] * 5 + ["not asked"])

@@ -12,7 +12,7 @@ import unittest
 from collections import Counter
 
 from cases import CIRCUITS, Asking, document, expected, failures, script_of
-from common import STANDIN, TOOLS, ring
+from common import STANDIN, TOOLS, call_without_processes, ring
 from pages import BROWSER, Seen, browsed
 from rules import Rules
 
@@ -183,13 +183,9 @@ class Whatif(Asking):
         seen = lambda: {path.name: Seen(path.read_text()).tables for path in self.cases().glob("*.html")}
         pages = seen()
         self.assertEqual(len(pages), 4)
-        without = "import sys, runpy, concurrent.futures.process as p\n"
-        without += "def none(*_, **__): raise PermissionError(13, 'Permission denied')\np.ProcessPoolExecutor.__init__ = none\n"
-        without += f"sys.argv[0] = {str(TOOLS / 'sdhring-whatif')!r}; sys.path[0] = {str(TOOLS)!r}; runpy.run_path(sys.argv[0], run_name='__main__')"
         for path in self.cases().glob("*.html"):
             path.unlink()
-        words = [sys.executable, "-c", without, self.plan, "--dir", self.top / "out", "--program", STANDIN, "--kinds", "span"]
-        ended = subprocess.run(words, capture_output=True)
+        ended = call_without_processes("sdhring-whatif", self.plan, "--dir", self.top / "out", "--program", STANDIN, "--kinds", "span")
         self.assertEqual(ended.returncode, 0, ended.stderr.decode())
         self.assertEqual(seen(), pages)
 

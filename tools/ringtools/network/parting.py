@@ -14,9 +14,8 @@ import tempfile
 import time
 from collections.abc import Callable, Iterable, Iterator
 from contextlib import suppress
-from concurrent.futures import FIRST_COMPLETED, Future, ProcessPoolExecutor, wait
+from concurrent.futures import FIRST_COMPLETED, Future, wait
 from dataclasses import dataclass
-from multiprocessing import get_context
 from pathlib import Path
 from typing import Any
 
@@ -24,7 +23,7 @@ from ..files import FileProblem, read_input
 from ..origin import CannotRun, Program
 from ..progress import Progress
 from ..kept import HERE
-from ..running import TICK, Machines
+from ..running import TICK, Machines, made_pool
 from ..seals import is_sealed, seal_of
 from ..writing import Folder, part_name
 from .asking import Asker
@@ -162,12 +161,13 @@ def here(
     """Yields each piece with its results as it is done, `jobs` at a time."""
     question.network.prepare()
     WORK.update(question=question, base=base_of(question.asker(), question.folder))
-    if jobs == 1:
+    pool = made_pool(jobs) if jobs > 1 else None
+    if pool is None:
         for count, piece in enumerate(pieces, 1):
             yield piece, work(piece)
             done(count)
         return
-    with ProcessPoolExecutor(jobs, mp_context=get_context("fork")) as pool:
+    with pool:
         left: dict[Future[list[dict[str, Any]]], range] = {pool.submit(work, piece): piece for piece in pieces}
         count = 0
         try:
