@@ -14,9 +14,9 @@ from common import bytes_of, call, ring
 from hostile import DEEDS, TEXTS, Listener
 from pages import BROWSER, WORDS, Seen, without_policy
 
+from ringtools.checks import LONGEST
 from ringtools.kept import read_answer
 from ringtools.markup import foot_of_sheets, whole
-from ringtools.places import LONGEST
 
 NODES = 16
 
