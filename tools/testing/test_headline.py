@@ -9,7 +9,7 @@ from common import TOOLS
 ROOT = TOOLS.parent
 PAGE = ROOT / "docs" / "HEADLINE.md"
 STRANGE = {"sdh_frame", "sdh_parity", "sdh_overhead", "sdh_plant", "sdh_kbytes", "sdh_pointer", "sdh_nodestate"}
-STRANGE |= {"sdh_squelch", "sdh_rounds", "sdh_terminal", "sdh_node", "sdh_world", "sdh_ring"}
+STRANGE |= {"sdh_squelch", "sdh_rounds", "sdh_terminal", "sdh_node", "sdh_ring"}
 
 
 def blocks(page):
@@ -78,7 +78,8 @@ class Headline(unittest.TestCase):
                            ("reports_go_on", "sdh_promise/src/lib.rt"), ("reports_remember", "sdh_promise/src/lib.rt"), ("all_are_told", "sdh_promise/src/lib.rt")):
             self.assertIn(f"`{name}`", section)
             self.assertIn(f"pub fn {name}()", (ROOT / "crates" / file).read_text())
-        self.assertIn("ensures complete {", (ROOT / "crates" / "sdh_cli" / "src" / "top.rt").read_text())
+        self.assertIn("ensures kept { KeepsCall ", (ROOT / "crates" / "sdh_cli" / "src" / "top.rt").read_text())
+        self.assertIn("pub complete : ", (ROOT / "crates" / "sdh_shell" / "specs" / "Kept.antt").read_text())
         wrong = {path.stem for path in (ROOT / "crates" / "sdh_cli" / "must-fail").glob("*.edit")}
         self.assertEqual({name for name in wrong if f"`{name}`" not in section}, set())
 

@@ -134,6 +134,30 @@ class Trusted(unittest.TestCase):
 
 
 
+def below(crates: dict[str, list[str]], crate: str) -> set[str]:
+    """Returns the crates on which a crate stands, directly or by others."""
+    found: set[str] = set()
+    left = [crate]
+    while left:
+        for name in crates.get(left.pop(), []):
+            if name not in found:
+                found.add(name)
+                left.append(name)
+    return found
+
+
+class Layers(unittest.TestCase):
+    def test_a_ring_stands_on_no_plan_report_or_program(self) -> None:
+        above = {"sdh_plan", "sdh_report", "sdh_promise", "sdh_outside", "sdh_shell", "sdh_scripts", "sdh_programs"}
+        self.assertEqual(below(crate_lines(), "sdh_ring") & above, set())
+
+    def test_scripts_stand_on_no_call_of_a_program(self) -> None:
+        self.assertEqual(below(crate_lines(), "sdh_scripts") & {"sdh_shell", "sdh_programs"}, set())
+
+    def test_an_edge_by_another_crate_is_seen(self) -> None:
+        self.assertEqual(below({"a": ["b"], "b": ["c"], "c": []}, "a"), {"b", "c"})
+
+
 class Words(unittest.TestCase):
     """Words of a private vocabulary, which no page has: an engineer reads the field's."""
 

@@ -10,9 +10,9 @@ use sdh_circuits::CircuitMap;
 use sdh_kbytes::encode;
 use sdh_node::Settings;
 use sdh_plant::{Failed, Plant, PrepareError, RecordingPlant};
-use sdh_ring::{Ring, SettleError};
+use sdh_ring::{Observer, Ring, Running, SettleError};
 use sdh_ringmap::{Condition, FibreEvent, MapError, Pos, Rate, RingMap, Side};
-use sdh_rounds::Observer;
+use sdh_rounds::{Nowhere, Stopped};
 use std::alloc::{AllocError, Global};
 use std::io;
 use thiserror::Error;
@@ -33,6 +33,8 @@ enum Stop {
     Plant(#[from] Failed),
     #[error("{0}")]
     Settle(#[from] SettleError),
+    #[error("{0}")]
+    Stopped(#[from] Stopped),
     #[error("no output")]
     Output(#[from] io::Error),
 }
@@ -77,7 +79,7 @@ fn cut<P: Plant>(ring: &Ring, plant: &mut P) -> Result<(), Stop>
 }
 
 // Prints what each node sent in the last round.
-fn print_words(rt: &HostRuntime, ring: &Ring) -> io::Result<()> {
+fn print_words(rt: &HostRuntime, ring: &Running) -> io::Result<()> {
     println!(rt; "after {} rounds", ring.rounds())?;
     for at in 0..ring.map().len() {
         let at = Pos(at as u8);
@@ -97,10 +99,10 @@ struct Printer<'a> {
     left: u32,
 }
 
-impl Observer<Ring> for Printer<'_> {
+impl Observer<Running> for Printer<'_> {
     ghost Heard = { λ at k o. Unit {0} };
 
-    fn look(&mut self, ring: &Ring) {
+    fn look(&mut self, ring: &Running) {
         if let Some(left) = self.left.checked_sub(1) {
             self.left = left;
             let _ = print_words(self.rt, ring);
@@ -115,7 +117,7 @@ fn main(rt: HostRuntime) -> Result<(), Stop> {
     let mut ring = laid(rt.alloc(), &mut plant)?;
     cut(&ring, &mut plant)?;
     let mut printer = Printer { rt: &rt, left: 20 };
-    ring.settle_with(&mut plant, ROUNDS, &mut printer)?;
+    ring.settle_recording(&mut plant, ROUNDS, &mut printer, &mut Nowhere)??;
     if let Some(frame) = plant.sent().get(0) {
         println!(rt;
             "bytes 24 to 39 of the first frame: {:?}",

@@ -4,7 +4,7 @@ use Rattle.std.specs.Prelude.{Option, Some, None}
 use Rattle.std.proofs.lemmas.List.{length-append}
 use Rattle.sdh_ringmap.specs.declared.terms.Code.{Code}
 use Rattle.sdh_ringmap.specs.declared.terms.Code.TheVariants.{Nr, Rr, Wtr, Ms, Sd, Sf, Fs}
-use Rattle.sdh_report.specs.declared.node_line.WordBytes.{WordBytes}
+use Rattle.sdh_kbytes.specs.declared.K.{K}
 use Rattle.sdh_report.specs.Lines.{state_text, word_text}
 use Rattle.sdh_report.proofs.Short.{digits_8, digits_64, short-state_text}
 use Rattle.sdh_aps.specs.declared.shown.Shown.{Shown}
@@ -23,7 +23,7 @@ short-far : (far : Option ℕ) → ((id : ℕ) → far ≡ Some id → id < 2 ^ 
 short-far None small = omega arith
 short-far (Some id) small = digits_8 id (small id refl)
 
-short-heard : (w : Option WordBytes) → length (heard_text w) ≤ 5
+short-heard : (w : Option K) → length (heard_text w) ≤ 5
 short-heard None = omega arith
 short-heard (Some w) = omega arith
 

@@ -1,4 +1,3 @@
-pub mod Told
 pub mod Shown
 pub mod Showing
 pub mod Lines

@@ -3,7 +3,7 @@
 use Rattle.std.specs.Prelude.{ℕ, List, ◌++◌, codes, decimal, Option, Some, None}
 use Rattle.sdh_ringmap.specs.declared.terms.Code.{Code}
 use Rattle.sdh_ringmap.specs.declared.terms.Code.TheVariants.{Nr, Rr, Wtr, Ms, Sd, Sf, Fs}
-use Rattle.sdh_report.specs.declared.node_line.WordBytes.{WordBytes}
+use Rattle.sdh_kbytes.specs.declared.K.{K}
 use Rattle.sdh_report.specs.Lines.{state_text, word_text}
 use Rattle.sdh_aps.specs.declared.shown.Shown.{Shown}
 
@@ -23,7 +23,7 @@ far_text None = codes "-"
 far_text (Some id) = decimal id
 
 -- the two bytes of the word that is heard, or `- -` where none is
-abbrev pub heard_text : Option WordBytes → List ℕ
+abbrev pub heard_text : Option K → List ℕ
 heard_text None = codes "- -"
 heard_text (Some w) = word_text w
 

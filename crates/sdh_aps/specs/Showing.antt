@@ -7,7 +7,7 @@ use Rattle.sdh_nodestate.specs.declared.Heard.{Heard}
 use Rattle.sdh_nodestate.specs.declared.Sent.{Sent}
 use Rattle.sdh_nodestate.specs.declared.NodeState.{NodeState}
 use Rattle.sdh_node.specs.Node.{Node, sent_of, heard_by, needed}
-use Rattle.sdh_aps.specs.Told.{state_word, bytes_told}
+use Rattle.sdh_report.specs.Lines.{state_word}
 use Rattle.sdh_aps.specs.declared.shown.Shown.{Shown}
 
 -- in a ring of these identifiers: the node's state and the identifier of its far end, the words that it sent, the words
@@ -16,9 +16,9 @@ abbrev pub shown_by : List ℕ → NodeState → Sent → Heard → Needs → Sh
 shown_by ids state sent heard needs = record {
   state = state_word state;
   far = option_map (λ (p : Pos). get_or ids p.0 0) (far_of state);
-  sent = record { west = bytes_told sent.west; east = bytes_told sent.east };
-  heard_west = option_map bytes_told heard.west;
-  heard_east = option_map bytes_told heard.east;
+  sent = record { west = sent.west; east = sent.east };
+  heard_west = heard.west;
+  heard_east = heard.east;
   asks_west = needs.west;
   asks_east = needs.east;
 }

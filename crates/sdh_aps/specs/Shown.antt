@@ -1,19 +1,18 @@
--- Whether what a node shows is equal in two rounds.
-use Rattle.std.specs.Prelude.{ℕ, Bool, true, false, ◌==◌, ◌&&◌, Option, Some, None}
+-- What a node shows: that its words have bytes, and whether it shows the same in two rounds.
+use Rattle.std.specs.Prelude.{ℕ, Bool, true, false, ◌==◌, ◌&&◌, Option, Some, None, IfSome}
 use Rattle.sdh_ringmap.specs.Requests.{code_number}
+use Rattle.sdh_kbytes.specs.KBytes.{IsSpellable}
+use Rattle.sdh_kbytes.specs.Same.{same_word, same_heard}
 use Rattle.sdh_report.specs.declared.node_line.StateWord.{StateWord}
 use Rattle.sdh_report.specs.declared.node_line.StateWord.TheVariants as word
-use Rattle.sdh_report.specs.declared.node_line.WordBytes.{WordBytes}
 use Rattle.sdh_aps.specs.declared.shown.Shown.{Shown}
 
-abbrev pub same_bytes : WordBytes → WordBytes → Bool
-same_bytes v w = (v.first == w.first) && (v.second == w.second)
-
--- the same word is heard in both rounds, or none in both
-abbrev pub same_heard : Option WordBytes → Option WordBytes → Bool
-same_heard None None = true
-same_heard (Some v) (Some w) = same_bytes v w
-same_heard v w = false
+-- the words that are shown have bytes: their identifiers have four bits each
+pub record HasWords (s : Shown) : Type 0 where
+  pub west : IsSpellable s.sent.west
+  pub east : IsSpellable s.sent.east
+  pub heard_west : IfSome s.heard_west IsSpellable
+  pub heard_east : IfSome s.heard_east IsSpellable
 
 -- the far end is the same in both rounds, or there is none in both
 abbrev pub same_far : Option ℕ → Option ℕ → Bool
@@ -32,7 +31,7 @@ same_state s t = false
 -- the words sent, those heard, and the requests are equal
 abbrev pub same_words : Shown → Shown → Bool
 same_words a b =
-    same_bytes a.sent.west b.sent.west && (same_bytes a.sent.east b.sent.east && (same_heard a.heard_west b.heard_west
+    same_word a.sent.west b.sent.west && (same_word a.sent.east b.sent.east && (same_heard a.heard_west b.heard_west
     && (same_heard a.heard_east b.heard_east && ((code_number a.asks_west == code_number b.asks_west)
     && (code_number a.asks_east == code_number b.asks_east)))))
 

@@ -1,10 +1,13 @@
 //! The line of a node in a round.
-ghost use Rattle.std.specs.Prelude.{◌≡◌, ℕ, ◌+◌, ◌^◌, ◌<◌, ◌≤◌, ◌++◌, Some, length};
+ghost use Rattle.std.specs.Prelude.{◌≡◌, ℕ, ◌+◌, ◌^◌, ◌<◌, ◌≤◌, ◌++◌, Some, IfSome, length};
+ghost use Rattle.sdh_kbytes.specs.KBytes.{IsSpellable};
 ghost use Rattle.sdh_report.specs.Written.{with_part};
+ghost use Rattle.sdh_aps.specs.Shown.{HasWords};
 ghost use Rattle.sdh_aps.specs.Lines.{code_text, far_text, heard_text, sent_text, heard_and_asked_text, place_text, signal_line};
 
 use crate::shown::Shown;
-use sdh_report::{Text, WordBytes};
+use sdh_kbytes::K;
+use sdh_report::Text;
 use sdh_ringmap::Code;
 
 /// Room for any line of a node in a round, in bytes.
@@ -37,8 +40,9 @@ fn put_far(text: &mut Text, far: Option<u8>)
 }
 
 // Appends a word that is heard, or none.
-fn put_heard(text: &mut Text, word: Option<WordBytes>)
-    requires { length (heard_text word) ≤ text.old.room }
+fn put_heard(text: &mut Text, word: Option<K>)
+    requires room { length (heard_text word) ≤ text.old.room }
+    requires word { IfSome word IsSpellable }
     ensures { text.new ≡ with_part text.old (heard_text word) }
 {
     match word {
@@ -49,7 +53,8 @@ fn put_heard(text: &mut Text, word: Option<WordBytes>)
 
 // Appends the state, the far end and the words sent.
 fn put_sent(text: &mut Text, shown: &Shown)
-    requires { length (sent_text shown.now) ≤ text.old.room }
+    requires room { length (sent_text shown.now) ≤ text.old.room }
+    requires words { HasWords shown.now }
     ensures { text.new ≡ with_part text.old (sent_text shown.now) }
 {
     text.put(shown.state.letters());
@@ -63,7 +68,8 @@ fn put_sent(text: &mut Text, shown: &Shown)
 
 // Appends the words heard and the requests.
 fn put_heard_and_asked(text: &mut Text, shown: &Shown)
-    requires { length (heard_and_asked_text shown.now) ≤ text.old.room }
+    requires room { length (heard_and_asked_text shown.now) ≤ text.old.room }
+    requires words { HasWords shown.now }
     ensures { text.new ≡ with_part text.old (heard_and_asked_text shown.now) }
 {
     text.put(b" heard ");
@@ -90,7 +96,8 @@ fn put_place(text: &mut Text, round: u64, id: u8)
 
 // Appends the line, where there is room for it.
 fn put_line(text: &mut Text, round: u64, id: u8, shown: &Shown)
-    requires { length (signal_line round id shown.now) ≤ text.old.room }
+    requires room { length (signal_line round id shown.now) ≤ text.old.room }
+    requires words { HasWords shown.now }
     ensures { text.new ≡ with_part text.old (signal_line round id shown.now) }
 {
     put_place(text, round, id);
@@ -117,7 +124,8 @@ fn far_is_small(far: Option<u8>)
 
 /// Appends the line of the node with identifier `id` in round `round`. It has at most 128 bytes.
 pub fn signal_line(text: &mut Text, round: u64, id: u8, shown: &Shown)
-    requires { 128 ≤ text.old.room }
+    requires room { 128 ≤ text.old.room }
+    requires words { HasWords shown.now }
     ensures bytes { text.new.bytes ≡ text.old.bytes ++ signal_line round id shown.now }
     ensures room { text.old.room ≤ text.new.room + 128 }
     ensures kept { text.new.room + length text.new.bytes ≡ text.old.room + length text.old.bytes }

@@ -1,15 +1,16 @@
 //! What a node shows in a round.
 ghost use Rattle.std.specs.Prelude.{◌≡◌};
-ghost use Rattle.sdh_aps.specs.Shown.{same_bytes, same_heard, same_far, same_state, same_words, same_shown};
+ghost use Rattle.sdh_aps.specs.Shown.{same_far, same_state, same_words, same_shown};
 
-use sdh_report::{StateWord, WordBytes};
+use sdh_kbytes::{K, same_heard, same_word};
+use sdh_report::StateWord;
 use sdh_ringmap::Code;
 
 /// Two words: one for the west side, one for the east side.
 #[derive(Clone, Copy, Debug, PartialEq, Eq)]
 pub struct WordPair {
-    pub west: WordBytes,
-    pub east: WordBytes,
+    pub west: K,
+    pub east: K,
 }
 
 /// What a node shows in a round: its state, the identifier of its far end, the words that it sent, the words that it
@@ -19,28 +20,10 @@ pub struct Shown {
     pub state: StateWord,
     pub far: Option<u8>,
     pub sent: WordPair,
-    pub heard_west: Option<WordBytes>,
-    pub heard_east: Option<WordBytes>,
+    pub heard_west: Option<K>,
+    pub heard_east: Option<K>,
     pub asks_west: Code,
     pub asks_east: Code,
-}
-
-// Returns whether two words have the same bytes.
-fn same_bytes(left: WordBytes, right: WordBytes) -> bool
-    ensures { result ≡ same_bytes left right }
-{
-    left.first == right.first && left.second == right.second
-}
-
-// Returns whether `left` and `right` are the same word, or both are none.
-fn same_heard(left: Option<WordBytes>, right: Option<WordBytes>) -> bool
-    ensures { result ≡ same_heard left right }
-{
-    match (left, right) {
-        (None, None) => true,
-        (Some(left), Some(right)) => same_bytes(left, right),
-        _ => false,
-    }
 }
 
 // Returns whether `left` and `right` are the same far end, or both are none.
@@ -72,8 +55,8 @@ fn same_state(left: StateWord, right: StateWord) -> bool
 fn same_words(left: &Shown, right: &Shown) -> bool
     ensures { result ≡ same_words left.now right.now }
 {
-    same_bytes(left.sent.west, right.sent.west)
-        && same_bytes(left.sent.east, right.sent.east)
+    same_word(left.sent.west, right.sent.west)
+        && same_word(left.sent.east, right.sent.east)
         && same_heard(left.heard_west, right.heard_west)
         && same_heard(left.heard_east, right.heard_east)
         && left.asks_west.number() == right.asks_west.number()

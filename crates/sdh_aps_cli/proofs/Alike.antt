@@ -7,13 +7,13 @@ use Rattle.sdh_ringmap.specs.declared.Side.TheVariants.{West, East}
 use Rattle.sdh_request.specs.declared.Command.{Command}
 use Rattle.sdh_node.specs.Receiving.{commanded_by}
 use Rattle.sdh_node.specs.Node.{Node, at_receiving, held_for, slips_at, sent_of, needed}
-use Rattle.sdh_world.specs.Held.{place_of_port}
-use Rattle.sdh_world.specs.Rounds.{World, round}
-use Rattle.sdh_world.specs.Runs.{run}
-use Rattle.sdh_world.specs.Changes.{changed, all_changed, after_stretch}
-use Rattle.sdh_world.specs.Sides.{world_in}
-use Rattle.sdh_world.proofs.Keeping.{all_placed}
-use Rattle.sdh_promise.specs.Changes.{Change, Fibre, Order, Hold, Slip, Now, Stretch, rounds_in}
+use Rattle.sdh_node.specs.Rings.Held.{place_of_port}
+use Rattle.sdh_node.specs.Rings.Rounds.{World, round}
+use Rattle.sdh_node.specs.Rings.Runs.{run}
+use Rattle.sdh_node.specs.Rings.Changes.{changed, all_changed, after_stretch}
+use Rattle.sdh_node.specs.Rings.Sides.{world_in}
+use Rattle.sdh_node.proofs.RingLaws.Keeping.{all_placed}
+use Rattle.sdh_restoration.specs.Changes.{Change, Fibre, Order, Hold, Slip, Now, Stretch, rounds_in}
 use Rattle.sdh_laws.specs.Hearing.Signalling.{filters_of, signals_of, needs_in}
 use Rattle.sdh_laws.proofs.hearing.Changes.{with_node}
 use Rattle.sdh_laws.proofs.hearing.Signalling.{one_run}

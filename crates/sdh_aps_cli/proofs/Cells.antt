@@ -7,7 +7,7 @@ use Rattle.std.proofs.lemmas.List.{length-map, get_or-map}
 use Rattle.sdh_basics.specs.Cells.{cells}
 use Rattle.sdh_basics.proofs.CellsLaws.{cells-zero, cells-more, cells-from}
 use Rattle.sdh_node.specs.Node.{Node}
-use Rattle.sdh_world.specs.Held.{nowhere, node_at}
+use Rattle.sdh_node.specs.Rings.Held.{nowhere, node_at}
 
 -- a list made of each node is one made by position
 pub as_cells : {Y : Type 0} (f : Node → Y) (g : ℕ → Y) (d : Y) (ns : List Node) (n : ℕ) → length ns ≡ n

@@ -5,13 +5,13 @@ use Rattle.sdh_plant.specs.Fibres.{Arrival}
 use Rattle.sdh_node.specs.Stations.{adm}
 use Rattle.sdh_rounds.specs.Runs.{run_with, course_with}
 use Rattle.sdh_rounds.proofs.Runs.{course_whole, held_run}
-use Rattle.sdh_world.specs.Held.{HeldRing}
-use Rattle.sdh_world.specs.Rounds.{World}
-use Rattle.sdh_world.specs.Steps.{after_step}
+use Rattle.sdh_node.specs.Rings.Held.{HeldRing}
+use Rattle.sdh_node.specs.Rings.Rounds.{World}
+use Rattle.sdh_owed.specs.Steps.{after_step}
 use Rattle.sdh_plan.specs.declared.step.Step.{Step}
 use Rattle.sdh_plan.specs.declared.step.Step.TheVariants as step
-use Rattle.sdh_report.specs.declared.status.Status.{Status}
-use Rattle.sdh_report.specs.declared.status.Status.TheVariants as status
+use Rattle.sdh_status.specs.declared.Status.{Status}
+use Rattle.sdh_status.specs.declared.Status.TheVariants as status
 use Rattle.sdh_scripts.specs.Scripts.{Ended, Runs}
 use Rattle.sdh_scripts.specs.Tellers.{SoFar}
 use Rattle.sdh_scripts.specs.Streams.{LastTold, StoppedTold}

@@ -7,14 +7,14 @@ use Rattle.std.specs.Io.KnownBytes.{Appends}
 use Rattle.std.proofs.KnownBytes.{Appends-trans}
 use Rattle.std.proofs.lemmas.Grind.{flat_map-append}
 use Rattle.sdh_outside.specs.Writing.{AppendsFewer}
-use Rattle.sdh_shell.proofs.Pieces.{fewer_behind}
+use Rattle.sdh_outside.proofs.Pieces.{fewer_behind}
 use Rattle.sdh_ringmap.specs.Fibres.{fibre}
 use Rattle.sdh_plant.specs.Fibres.{Arrival, Fibres}
 use Rattle.sdh_plant.specs.Arrivals.{carried_on}
 use Rattle.sdh_node.specs.Stations.{adm}
 use Rattle.sdh_rounds.specs.Rounds.{sent_all, after_given, round_with}
-use Rattle.sdh_world.specs.Held.{HeldRing}
-use Rattle.sdh_world.specs.Rounds.{World}
+use Rattle.sdh_node.specs.Rings.Held.{HeldRing}
+use Rattle.sdh_node.specs.Rings.Rounds.{World}
 use Rattle.sdh_ring.specs.Observed.{RanOne}
 use Rattle.sdh_aps_cli.specs.Frames.{Sent, sent_last, sent_in, is_wanted, frame_of, frames_of, frames_bytes, FramesAreSent}
 use Rattle.sdh_aps_cli.specs.FrameRecording.{HasPlace, AreWritten, AreCut}

@@ -6,16 +6,16 @@ use Rattle.sdh_ringmap.specs.declared.Pos.{Pos}
 use Rattle.sdh_ringmap.specs.Places.{found_at}
 use Rattle.sdh_plant.specs.Fibres.{Fibres}
 use Rattle.sdh_plan.specs.Planned.{Planned}
-use Rattle.sdh_report.specs.declared.status.Status.{Status}
-use Rattle.sdh_report.specs.declared.status.Status.TheVariants as status
+use Rattle.sdh_status.specs.declared.Status.{Status}
+use Rattle.sdh_status.specs.declared.Status.TheVariants as status
 use Rattle.sdh_shell.specs.Calls.{HasRun}
 use Rattle.sdh_shell.specs.Writing.{WroteEnding}
 use Rattle.sdh_shell.proofs.Endings.{one_status}
 use Rattle.sdh_shell.proofs.Failing.{counted_none, counted_as}
-use Rattle.sdh_shell.proofs.Pieces.{fewer_behind}
-use Rattle.sdh_scripts.specs.Programs.{Refuses, Runs}
-use Rattle.sdh_scripts.specs.Headline.{may_do}
-use Rattle.sdh_scripts.specs.Calls.{Goes}
+use Rattle.sdh_outside.proofs.Pieces.{fewer_behind}
+use Rattle.sdh_programs.specs.Programs.{Refuses, Runs}
+use Rattle.sdh_programs.specs.Headline.{may_do}
+use Rattle.sdh_programs.specs.Calls.{Goes}
 use Rattle.sdh_aps_cli.specs.Endings.{line_of, signalling_endings, frames_end}
 use Rattle.sdh_aps_cli.specs.Words.{has_node, window_at, listing_of}
 use Rattle.sdh_aps_cli.specs.Plans.{Piece, pieces_text, rounds_in, IsCutRun, ends_by, line_after, has_rounds}

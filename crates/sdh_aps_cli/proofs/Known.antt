@@ -1,6 +1,6 @@
 -- What is shown of a settle step depends only on its rounds.
 use Rattle.std.proofs.Common.{◌≡◌, ℕ, ◌+◌, ◌≤◌, refl, arith}
-use Rattle.sdh_world.specs.Rounds.{World}
+use Rattle.sdh_node.specs.Rings.Rounds.{World}
 use Rattle.sdh_scripts.specs.Laws.{KeepsRounds}
 use Rattle.sdh_owed.proofs.Known.{no_round}
 use Rattle.sdh_aps_cli.specs.Signalled.{signalled_in}

@@ -5,7 +5,7 @@ use Rattle.std.specs.List.{flat_map}
 use Rattle.std.proofs.lemmas.Grind.{flat_map-append}
 use Rattle.sdh_basics.specs.Cells.{cells}
 use Rattle.sdh_basics.proofs.CellsLaws.{cells-zero, cells-more}
-use Rattle.sdh_world.specs.Held.{HeldRing}
+use Rattle.sdh_node.specs.Rings.Held.{HeldRing}
 use Rattle.sdh_aps.specs.declared.shown.Shown.{Shown}
 use Rattle.sdh_aps_cli.specs.Signalled.{Change, is_told, change_of, change_at, changes_to}
 use Rattle.sdh_aps_cli.specs.Listing.{change_text, changes_text}

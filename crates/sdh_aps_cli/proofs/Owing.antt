@@ -10,20 +10,21 @@ use Rattle.sdh_signal.specs.Signals.{Signals}
 use Rattle.sdh_signal.specs.Settled.{settled_states}
 use Rattle.sdh_node.specs.Stations.{adm}
 use Rattle.sdh_rounds.proofs.Runs.{course_whole, known_course, held_run}
-use Rattle.sdh_world.specs.Held.{HeldRing}
-use Rattle.sdh_world.specs.Rounds.{World}
-use Rattle.sdh_world.specs.Runs.{run, run_with, ArriveIn, course_with}
-use Rattle.sdh_world.specs.Quiet.{Settles}
-use Rattle.sdh_world.specs.Changes.{all_changed, after_stretches, new_world}
-use Rattle.sdh_world.specs.Laws.{MayHappen}
-use Rattle.sdh_world.specs.Sides.{world_in}
+use Rattle.sdh_node.specs.Rings.Held.{HeldRing}
+use Rattle.sdh_node.specs.Rings.Rounds.{World}
+use Rattle.sdh_node.specs.Rings.Runs.{run, run_with, ArriveIn, course_with}
+use Rattle.sdh_node.specs.Rings.Quiet.{Settles}
+use Rattle.sdh_node.specs.Rings.Changes.{all_changed, after_stretches, new_world}
+use Rattle.sdh_node.specs.Rings.Laws.{MayHappen}
+use Rattle.sdh_node.specs.Rings.Sides.{world_in}
 use Rattle.sdh_plan.specs.declared.step.Step.{Step}
 use Rattle.sdh_plan.specs.declared.step.Step.TheVariants as step
 use Rattle.sdh_plan.specs.Steps.{Past, after}
 use Rattle.sdh_plan.specs.Scripts.{AreSteps}
-use Rattle.sdh_report.specs.declared.status.Status.{Status}
-use Rattle.sdh_report.specs.declared.status.Status.TheVariants as status
-use Rattle.sdh_promise.specs.Changes.{Change, Stretch, rounds_in, changes_of, scenes}
+use Rattle.sdh_status.specs.declared.Status.{Status}
+use Rattle.sdh_status.specs.declared.Status.TheVariants as status
+use Rattle.sdh_restoration.specs.Changes.{Change, Stretch, rounds_in}
+use Rattle.sdh_promise.specs.Scenes.{changes_of, scenes}
 use Rattle.sdh_promise.specs.Owed.{Ring, requests_by, IsLast}
 use Rattle.sdh_laws.specs.Hearing.Signalling.{signals_of}
 use Rattle.sdh_laws.specs.Hearing.Laws.{MayStart, StretchesSettle}

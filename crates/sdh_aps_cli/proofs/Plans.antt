@@ -10,20 +10,20 @@ use Rattle.sdh_outside.specs.Writing.{AppendsFewer}
 use Rattle.sdh_plant.specs.Fibres.{Fibres, IsHonest}
 use Rattle.sdh_plant.specs.Arrivals.{Knows}
 use Rattle.sdh_ringmap.specs.declared.terms.Rate.{Rate}
-use Rattle.sdh_world.specs.Held.{HeldRing}
-use Rattle.sdh_world.specs.Rounds.{World}
-use Rattle.sdh_world.specs.Steps.{after_step}
+use Rattle.sdh_node.specs.Rings.Held.{HeldRing}
+use Rattle.sdh_node.specs.Rings.Rounds.{World}
+use Rattle.sdh_owed.specs.Steps.{after_step}
 use Rattle.sdh_plan.specs.Planned.{Planned, IsPlanned, provisioning_of}
 use Rattle.sdh_plan.specs.Steps.{Past, new_past, after}
 use Rattle.sdh_plan.specs.declared.step.Step.{Step}
 use Rattle.sdh_plan.specs.declared.step.Step.TheVariants as step
 use Rattle.sdh_plan.specs.Scripts.{AreSteps}
-use Rattle.sdh_report.specs.declared.status.Status.{Status}
-use Rattle.sdh_report.specs.declared.status.Status.TheVariants as status
+use Rattle.sdh_status.specs.declared.Status.{Status}
+use Rattle.sdh_status.specs.declared.Status.TheVariants as status
 use Rattle.sdh_shell.specs.Calls.{HasRun}
 use Rattle.sdh_shell.specs.Failing.{HaveFailed}
 use Rattle.sdh_shell.proofs.Endings.{has_run}
-use Rattle.sdh_promise.specs.Changes.{scenes}
+use Rattle.sdh_promise.specs.Scenes.{scenes}
 use Rattle.sdh_promise.specs.Plans.{ring_of}
 use Rattle.sdh_scripts.specs.Scripts.{Runs}
 use Rattle.sdh_scripts.specs.Scripts as scripts

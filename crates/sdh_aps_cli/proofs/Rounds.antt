@@ -5,14 +5,14 @@ use Rattle.std.proofs.KnownBytes.{Appends-nil, Appends-trans}
 use Rattle.std.proofs.lemmas.Grind.{flat_map-append}
 use Rattle.sdh_basics.specs.Causes.{Rose, one_more}
 use Rattle.sdh_outside.specs.Writing.{AppendsFewer}
-use Rattle.sdh_shell.proofs.Pieces.{fewer_behind}
+use Rattle.sdh_outside.proofs.Pieces.{fewer_behind}
 use Rattle.sdh_node.specs.Stations.{adm}
 use Rattle.sdh_rounds.proofs.Runs.{held_round}
-use Rattle.sdh_world.specs.Held.{HeldRing}
-use Rattle.sdh_world.specs.Rounds.{World}
+use Rattle.sdh_node.specs.Rings.Held.{HeldRing}
+use Rattle.sdh_node.specs.Rings.Rounds.{World}
 use Rattle.sdh_ring.specs.Observed.{RanOne}
 use Rattle.sdh_report.specs.Written.{Written}
-use Rattle.sdh_shell.specs.Writing.{room_in}
+use Rattle.sdh_report.specs.Written.{room_in}
 use Rattle.sdh_aps.specs.declared.shown.Shown.{Shown}
 use Rattle.sdh_aps_cli.specs.Signalled.{shown_at, changes_to, changes_of, changes_in}
 use Rattle.sdh_aps_cli.specs.Listing.{change_text, changes_text}

@@ -22,16 +22,17 @@ use Rattle.sdh_signal.specs.Signals.{Signals, no_filters, no_needs, unsaid, stat
 use Rattle.sdh_signal.specs.SignalRing as signal_ring
 use Rattle.sdh_node.specs.Crossing.{is_failed}
 use Rattle.sdh_node.specs.Node.{Node, new_node, receiving_on, is_held, sent_of, needed}
-use Rattle.sdh_world.specs.Held.{nowhere, node_at}
-use Rattle.sdh_world.specs.Rounds.{World, round}
-use Rattle.sdh_world.specs.Changes.{all_changed, after_stretch, new_world}
-use Rattle.sdh_world.specs.Laws.{MayHappen}
-use Rattle.sdh_world.specs.Sides.{holding_of, world_in, condition_to}
-use Rattle.sdh_world.proofs.Keeping.{length-new}
-use Rattle.sdh_world.proofs.Histories.{holding_is, new_holds}
-use Rattle.sdh_promise.specs.Changes.{Stretch, rounds_in}
-use Rattle.sdh_promise.specs.Sides.{Holding, holding_in, side_history}
-use Rattle.sdh_promise.specs.Owed.{Ring, asked_in}
+use Rattle.sdh_node.specs.Rings.Held.{nowhere, node_at}
+use Rattle.sdh_node.specs.Rings.Rounds.{World, round}
+use Rattle.sdh_node.specs.Rings.Changes.{all_changed, after_stretch, new_world}
+use Rattle.sdh_node.specs.Rings.Laws.{MayHappen}
+use Rattle.sdh_node.specs.Rings.Sides.{holding_of, world_in, condition_to}
+use Rattle.sdh_node.proofs.RingLaws.Keeping.{length-new}
+use Rattle.sdh_node.proofs.RingLaws.Histories.{holding_is, new_holds}
+use Rattle.sdh_restoration.specs.Changes.{Stretch, rounds_in}
+use Rattle.sdh_restoration.specs.Sides.{Holding, holding_in, side_history}
+use Rattle.sdh_promise.specs.Owed.{Ring}
+use Rattle.sdh_restoration.specs.Sides.{asked_in}
 use Rattle.sdh_laws.specs.Hearing.Signalling.{filters_of, signals_of, needs_in, held_in}
 use Rattle.sdh_laws.specs.Hearing.Laws.{IsWhole, SidesBring, RoundsAreSignalRounds, MayStart, RequestsAreTheHistorys}
 use Rattle.sdh_laws.proofs.hearing.Changes.{each_new, new_worlds_are_whole, whole_all, whole_run}

@@ -4,13 +4,13 @@ use Rattle.std.specs.Prelude.{Result, Ok, Err, OnOk, OnErr}
 use Rattle.std.specs.Io.KnownBytes.{Appends}
 use Rattle.std.proofs.KnownBytes.{Appends-trans}
 use Rattle.sdh_outside.specs.Writing.{AppendsFewer}
-use Rattle.sdh_shell.proofs.Pieces.{fewer_behind}
+use Rattle.sdh_outside.proofs.Pieces.{fewer_behind}
 use Rattle.sdh_node.specs.Stations.{adm}
 use Rattle.sdh_rounds.proofs.Runs.{course_whole}
-use Rattle.sdh_world.specs.Held.{HeldRing}
-use Rattle.sdh_world.specs.Rounds.{World}
-use Rattle.sdh_world.specs.Runs.{course_with}
-use Rattle.sdh_world.specs.Quiet.{Settles}
+use Rattle.sdh_node.specs.Rings.Held.{HeldRing}
+use Rattle.sdh_node.specs.Rings.Rounds.{World}
+use Rattle.sdh_node.specs.Rings.Runs.{course_with}
+use Rattle.sdh_node.specs.Rings.Quiet.{Settles}
 use Rattle.sdh_rounds.specs.Observed.{Hears, RanSome, HearsSome}
 use Rattle.sdh_report.specs.Lines.{settle_line}
 use Rattle.sdh_report.specs.Written.{Written}
@@ -18,7 +18,7 @@ use Rattle.sdh_scripts.specs.Runners.{WroteStep}
 use Rattle.sdh_scripts.specs.Tellers.{Begun, InStep, WasToWrite}
 use Rattle.sdh_scripts.proofs.Reporting.{ended_with}
 use Rattle.sdh_owed.proofs.Steps.{settled_held}
-use Rattle.sdh_shell.specs.Writing.{room_in}
+use Rattle.sdh_report.specs.Written.{room_in}
 use Rattle.sdh_aps.specs.declared.shown.Shown.{Shown}
 use Rattle.sdh_aps_cli.specs.Signalled.{Signalled, signalled_in, changes_in}
 use Rattle.sdh_aps_cli.specs.Scripts.{signalling_walk}

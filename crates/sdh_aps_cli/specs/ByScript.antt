@@ -7,9 +7,10 @@ use Rattle.sdh_ringmap.specs.declared.Side.TheVariants.{West, East}
 use Rattle.sdh_nodestate.specs.declared.Needs.{Needs}
 use Rattle.sdh_signal.specs.Signals.{Signals, round}
 use Rattle.sdh_signal.specs.SignalRing.{new_ring}
-use Rattle.sdh_promise.specs.Changes.{Change, Hold, Stretch}
-use Rattle.sdh_promise.specs.Sides.{side_history}
-use Rattle.sdh_promise.specs.Owed.{Ring, asked_in}
+use Rattle.sdh_restoration.specs.Changes.{Change, Hold, Stretch}
+use Rattle.sdh_restoration.specs.Sides.{side_history}
+use Rattle.sdh_promise.specs.Owed.{Ring}
+use Rattle.sdh_restoration.specs.Sides.{asked_in}
 
 -- Rounds are counted from 0. Stretches say before which rounds which changes come.
 

@@ -1,13 +1,14 @@
 -- How the program ends. The numbers and the lines are this project's own.
 use Rattle.std.specs.Prelude.{ℕ, Bool, true, false, List, [], codes, Option, Some, None}
 use mathlib.Core.Logic.{inl, inr}
-use Rattle.sdh_report.specs.declared.status.Status.{Status}
-use Rattle.sdh_report.specs.declared.status.Status.TheVariants as how
+use Rattle.sdh_status.specs.declared.Status.{Status}
+use Rattle.sdh_status.specs.declared.Status.TheVariants as how
 use Rattle.sdh_report.specs.Statuses as status
+use Rattle.sdh_status.specs.Numbers as numbers
 use Rattle.sdh_report.specs.Lines.{own_line}
 use Rattle.sdh_shell.specs.Calls.{HasRun}
 use Rattle.sdh_shell.specs.Endings.{Endings}
-use Rattle.sdh_scripts.specs.Programs.{IsRunEnd}
+use Rattle.sdh_programs.specs.Programs.{IsRunEnd}
 use Rattle.sdh_aps_cli.specs.declared.ending.Ending.{Ending}
 use Rattle.sdh_aps_cli.specs.declared.ending.Ending.TheVariants as ending
 
@@ -15,7 +16,7 @@ use Rattle.sdh_aps_cli.specs.declared.ending.Ending.TheVariants as ending
 abbrev pub number_of : Ending → ℕ
 number_of ending.NoSuchNode = 15
 number_of ending.NoSuchRound = 16
-number_of (ending.Shared s) = status.number_of s
+number_of (ending.Shared s) = numbers.number_of s
 
 -- the last line of the text that goes with an ending
 abbrev pub line_of : Ending → List ℕ

@@ -3,7 +3,7 @@ use Rattle.std.specs.Prelude.{◌≡◌, ℕ, zero, suc, ◌≤◌, [], ◌∷�
 use Rattle.std.specs.Io.KnownBytes.{Appends}
 use mathlib.Core.Path.{refl, subst}
 use native.Mathlib.Nat.{le_refl, le_step}
-use Rattle.sdh_world.specs.Rounds.{World}
+use Rattle.sdh_node.specs.Rings.Rounds.{World}
 use Rattle.sdh_aps_cli.specs.Frames.{Sent, sent_last, sent_in, frames_bytes}
 use Rattle.sdh_aps_cli.specs.FrameRecording.{HasPlace, AreWritten}
 use Rattle.sdh_aps_cli.specs.declared.window.FrameWindow.{FrameWindow}

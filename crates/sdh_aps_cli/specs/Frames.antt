@@ -8,7 +8,7 @@ use Rattle.sdh_ringmap.specs.Fibres.{fibre}
 use Rattle.sdh_plant.specs.Fibres.{Arrival}
 use Rattle.sdh_node.specs.Stations.{adm}
 use Rattle.sdh_rounds.specs.Rounds.{frames_with, round_with}
-use Rattle.sdh_world.specs.Rounds.{World}
+use Rattle.sdh_node.specs.Rings.Rounds.{World}
 use Rattle.sdh_aps_cli.specs.declared.window.FrameWindow.{FrameWindow}
 
 -- ---- a settle step

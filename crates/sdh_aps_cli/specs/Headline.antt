@@ -1,6 +1,6 @@
 -- The program: how it is called, and what it reports of plans.
 use Rattle.std.specs.Prelude.{ℕ, ◌≡◌, codes, List, Option, Some, None}
-use Rattle.sdh_scripts.specs.Programs.{Deed, Refuses, Runs, Program}
+use Rattle.sdh_programs.specs.Programs.{Deed, Refuses, Runs, Program}
 use Rattle.sdh_aps_cli.specs.Endings.{signalling_endings}
 use Rattle.sdh_aps_cli.specs.Words.{asked, listing_of}
 use Rattle.sdh_aps_cli.specs.Plans.{Piece, pieces_text, IsSignalledRun, closing, MaySettle}

@@ -3,7 +3,7 @@ use Rattle.std.specs.Prelude.{◌≡◌, ℕ, zero, suc, ◌≤◌, List, ◌++�
 use Rattle.std.specs.Io.KnownBytes.{Appends}
 use mathlib.Core.Path.{refl, subst}
 use native.Mathlib.Nat.{le_refl, le_step}
-use Rattle.sdh_world.specs.Rounds.{World}
+use Rattle.sdh_node.specs.Rings.Rounds.{World}
 use Rattle.sdh_report.specs.Written.{Written}
 use Rattle.sdh_aps.specs.declared.shown.Shown.{Shown}
 use Rattle.sdh_aps_cli.specs.Signalled.{shown_at, changes_of, changes_in}

@@ -5,10 +5,10 @@ use Rattle.std.specs.List.{flat_map}
 use Rattle.sdh_basics.specs.Cells.{cells}
 use Rattle.sdh_signal.specs.Signals.{no_filters, heard_through, state_in, words_in}
 use Rattle.sdh_signal.specs.Settled.{settled_states}
-use Rattle.sdh_report.specs.declared.status.Status.{Status}
-use Rattle.sdh_report.specs.declared.status.Status.TheVariants as status
-use Rattle.sdh_promise.specs.Changes as script
-use Rattle.sdh_promise.specs.Changes.{Stretch, rounds_in}
+use Rattle.sdh_status.specs.declared.Status.{Status}
+use Rattle.sdh_status.specs.declared.Status.TheVariants as status
+use Rattle.sdh_restoration.specs.Changes as script
+use Rattle.sdh_restoration.specs.Changes.{Stretch, rounds_in}
 use Rattle.sdh_promise.specs.Owed.{Ring, requests_by, IsLast}
 use Rattle.sdh_aps.specs.declared.shown.Shown.{Shown}
 use Rattle.sdh_aps.specs.Shown.{same_shown}

@@ -8,16 +8,16 @@ use Rattle.sdh_outside.specs.Writing.{AppendsFewer}
 use Rattle.sdh_plant.specs.Fibres.{Fibres}
 use Rattle.sdh_plant.specs.Arrivals.{Knows}
 use Rattle.sdh_node.specs.Node.{Node}
-use Rattle.sdh_world.specs.Rounds.{World}
+use Rattle.sdh_node.specs.Rings.Rounds.{World}
 use Rattle.sdh_plan.specs.Planned.{Planned}
 use Rattle.sdh_plan.specs.declared.step.Step.{Step}
-use Rattle.sdh_report.specs.declared.status.Status.{Status}
-use Rattle.sdh_report.specs.declared.status.Status.TheVariants as status
-use Rattle.sdh_promise.specs.Changes.{scenes}
+use Rattle.sdh_status.specs.declared.Status.{Status}
+use Rattle.sdh_status.specs.declared.Status.TheVariants as status
+use Rattle.sdh_promise.specs.Scenes.{scenes}
 use Rattle.sdh_promise.specs.Plans.{ring_of}
 use Rattle.sdh_shell.specs.Calls.{HasRun}
 use Rattle.sdh_shell.specs.Failing.{Counts, HaveFailed}
-use Rattle.sdh_scripts.specs.Programs.{IsRunEnd, Closing}
+use Rattle.sdh_programs.specs.Programs.{IsRunEnd, Closing}
 use Rattle.sdh_scripts.specs.Plans.{Account, ReportsOwe}
 use Rattle.sdh_scripts.specs.Plans as plans
 use Rattle.sdh_scripts.specs.Streams.{StoppedTold, CutTold}

@@ -3,10 +3,10 @@ use Rattle.std.specs.Prelude.{ℕ, ◌≡◌, ◌*◌, ◌≤◌, Bool, true, Li
 use Rattle.std.specs.Io.KnownBytes.{Appends}
 use Rattle.sdh_basics.specs.Causes.{Rose, one_more}
 use Rattle.sdh_outside.specs.Writing.{AppendsFewer}
-use Rattle.sdh_world.specs.Held.{HeldRing}
-use Rattle.sdh_world.specs.Rounds.{World}
+use Rattle.sdh_node.specs.Rings.Held.{HeldRing}
+use Rattle.sdh_node.specs.Rings.Rounds.{World}
 use Rattle.sdh_report.specs.Written.{Written}
-use Rattle.sdh_shell.specs.Writing.{room_in}
+use Rattle.sdh_report.specs.Written.{room_in}
 use Rattle.sdh_aps.specs.declared.shown.Shown.{Shown}
 use Rattle.sdh_aps_cli.specs.Signalled.{shown_at, changes_in}
 use Rattle.sdh_aps_cli.specs.Listing.{changes_text}

@@ -3,7 +3,7 @@ use Rattle.std.specs.Prelude.{◌-◌}
 use Rattle.sdh_node.specs.Node.{Node}
 use Rattle.sdh_node.specs.Stations.{adm}
 use Rattle.sdh_scripts.specs.Walks.{Walk}
-use Rattle.sdh_world.specs.Steps.{after_step}
+use Rattle.sdh_owed.specs.Steps.{after_step}
 use Rattle.sdh_aps_cli.specs.Signalled.{Signalled, signalled_in}
 
 abbrev pub signalling_walk : Walk Node Signalled

@@ -7,7 +7,7 @@ ghost use Rattle.sdh_aps_cli.specs.Recording.{NoneFailed, OneFailed};
 
 use crate::window::FrameWindow;
 use sdh_outside::{Sink, write_text};
-use sdh_plant::Plant;
+use sdh_plant::LendingPlant;
 use sdh_ring::Running;
 use sdh_rounds::{Recorder, Stopped};
 
@@ -25,14 +25,14 @@ fn is_wanted(ask: &FrameWindow, round: u64) -> bool
     first <= round && round < first + u64::from(ask.count)
 }
 
-impl<W: Sink> Recorder<Running, W> for FrameRecorder {
+impl<W: Sink, P: LendingPlant> Recorder<Running, P, W> for FrameRecorder {
     ghost Records = { λ first begun at k r w. (r.ask ≡ first.ask) × AreWritten first.ask at k (W.written begun) (W.written w)
         × NoneFailed W.exact (W.faults begun) (W.faults w) };
 
     ghost Stops = { λ first begun at k r w. AreCut first.ask at k (W.written begun) (W.written w)
         × OneFailed W.exact (W.faults begun) (W.faults w) };
 
-    fn note<P: Plant>(&mut self, ring: &Running, plant: &P, log: &mut W) -> Result<(), Stopped> {
+    fn note(&mut self, ring: &Running, plant: &P, log: &mut W) -> Result<(), Stopped> {
         let round = ring.rounds() - 1;
         if !is_wanted(&self.ask, round) {
             return Ok(());

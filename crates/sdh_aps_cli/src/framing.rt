@@ -9,9 +9,9 @@ ghost use Rattle.sdh_aps_cli.specs.Scripts.{signalling_walk};
 use crate::frames::FrameRecorder;
 use sdh_outside::Sink;
 use sdh_plan::Step;
-use sdh_plant::Plant;
-use sdh_ring::{PlantFault, Ring, SettleError, change};
-use sdh_scripts::{StepError, Teller};
+use sdh_plant::LendingPlant;
+use sdh_ring::{PlantFault, Ring, SettleError};
+use sdh_scripts::{StepError, Teller, change};
 
 /// A ring, and the recorder that writes its frames.
 #[derive(Drop)]
@@ -20,7 +20,7 @@ pub struct FrameRun {
     pub recorder: FrameRecorder,
 }
 
-impl<W: Sink> Teller<W> for FrameRun {
+impl<W: Sink, P: LendingPlant> Teller<W, P> for FrameRun {
     ghost Node = { AddDrop };
 
     ghost Told = { Signalled };
@@ -37,12 +37,12 @@ impl<W: Sink> Teller<W> for FrameRun {
 
     ghost MayRun = { λ number steps r f. MayRunRing 65536 number steps r.ring f × (r.recorder.ask.at.0 < length r.ring.ids) };
 
-    fn change<P: Plant>(&mut self, plant: &mut P, step: Step) -> Result<(), PlantFault> {
+    fn change(&mut self, plant: &mut P, step: Step) -> Result<(), PlantFault> {
         change(&mut self.ring, plant, step)?;
         Ok(())
     }
 
-    fn settle<P: Plant>(
+    fn settle(
         &mut self,
         plant: &mut P,
         limit: u32,

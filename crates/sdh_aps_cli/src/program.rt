@@ -13,9 +13,9 @@ use crate::window::FrameWindow;
 use crate::words::{asked, listing_of};
 use sdh_outside::Sink;
 use sdh_plan::Plan;
-use sdh_plant::Plant;
+use sdh_plant::LendingPlant;
+use sdh_programs::StreamsPlans;
 use sdh_report::{LINE_MAX, Status, Text};
-use sdh_scripts::StreamsPlans;
 use sdh_shell::{EndedText, ended, write_ended};
 use std::alloc::{AllocError, Global};
 
@@ -72,7 +72,7 @@ fn said_after(listing: &PlanListing, ending: Ending, line: Text) -> EndedText<En
     }
 }
 
-impl<'a, W: Sink> StreamsPlans<'a, W> for SignalAsk {
+impl<'a, W: Sink, P: LendingPlant> StreamsPlans<'a, W, P> for SignalAsk {
     type Ending = Ending;
 
     ghost Ask = { Asked };
@@ -102,7 +102,7 @@ impl<'a, W: Sink> StreamsPlans<'a, W> for SignalAsk {
         Ok(None)
     }
 
-    fn run<P: Plant>(
+    fn run(
         self,
         alloc: Global,
         plan: Plan,

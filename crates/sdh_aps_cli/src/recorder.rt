@@ -1,8 +1,9 @@
 //! The recorder, which looks at the ring after each round and makes a line for each node that shows something new.
 ghost use Rattle.std.specs.Prelude.{◌≡◌, ℕ, ◌-◌, ◌+◌, ◌*◌, ◌≤◌, ◌<◌, [], ◌++◌, if◌then◌else◌, IfOk, length};
 ghost use Rattle.sdh_report.specs.Lines.{settle_line};
-ghost use Rattle.sdh_shell.specs.Writing.{room_in};
+ghost use Rattle.sdh_report.specs.Written.{room_in};
 ghost use Rattle.sdh_aps.specs.declared.shown.Shown.{Shown};
+ghost use Rattle.sdh_aps.specs.Shown.{HasWords};
 ghost use Rattle.sdh_aps_cli.specs.Signalled.{shown_at, is_told, change_of, changes_to};
 ghost use Rattle.sdh_aps_cli.specs.Listing.{lists, change_text, changes_text};
 ghost use Rattle.sdh_aps_cli.specs.Recording.{AreShown};
@@ -10,7 +11,8 @@ ghost use Rattle.sdh_aps_cli.specs.Recording.{AreShown};
 use crate::listing::SignalListing;
 use crate::showing::shown_at;
 use sdh_aps::{LINE_MAX, Shown, WordPair, same_shown, signal_line};
-use sdh_report::{StateWord, Text, WordBytes};
+use sdh_kbytes::{K, Mark, Path};
+use sdh_report::{StateWord, Text};
 use sdh_ring::{Ring, Running, ShowsNodes};
 use sdh_ringmap::{Code, Pos};
 use std::alloc::{AllocError, Global};
@@ -38,6 +40,7 @@ fn put_change(text: &mut Text, ring: &Running, at: Pos, now: &Shown, listing: Si
     requires at { at.0 < length ring.now.ids }
     requires ran { 1 ≤ ring.now.rounds }
     requires now { now.now ≡ shown_at ring.now at.0 }
+    requires words { HasWords now.now }
     requires room { 128 ≤ text.old.room }
     ensures bytes { text.new.bytes ≡ text.old.bytes ++ change_text listing (change_of ring.now at.0) }
     ensures room { text.old.room ≤ text.new.room + 128 }
@@ -94,9 +97,12 @@ fn keep_all<R: ShowsNodes>(before: &mut Vec<Shown>, ring: &R)
 
 // Returns a filler that no node ever shows, for the time before the first settle step begins.
 fn nothing_shown() -> Shown {
-    let none = WordBytes {
-        first: 0,
-        second: 0,
+    let none = K {
+        code: Code::Nr,
+        to: 0,
+        from: 0,
+        path: Path::Short,
+        mark: Mark::Idle,
     };
     Shown {
         state: StateWord::Idle,

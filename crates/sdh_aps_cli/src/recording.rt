@@ -9,14 +9,14 @@ use sdh_plant::Plant;
 use sdh_ring::Running;
 use sdh_rounds::{Recorder, Stopped};
 
-impl<W: Sink> Recorder<Running, W> for SignalRecorder {
+impl<W: Sink, P: Plant> Recorder<Running, P, W> for SignalRecorder {
     ghost Records = { λ first begun at k r w. (r.listing ≡ first.listing)
         × IsRecorded first.listing at k r.before.items r.text (W.written begun) (W.written w) × NoneFailed W.exact (W.faults begun) (W.faults w) };
 
     ghost Stops = { λ first begun at k r w. IsCut first.listing at k (W.written begun) (W.written w)
         × OneFailed W.exact (W.faults begun) (W.faults w) };
 
-    fn note<P: Plant>(&mut self, ring: &Running, _plant: &P, log: &mut W) -> Result<(), Stopped> {
+    fn note(&mut self, ring: &Running, _plant: &P, log: &mut W) -> Result<(), Stopped> {
         self.look(ring);
         match write_text(log, self.text.bytes()) {
             Ok(()) => Ok(()),

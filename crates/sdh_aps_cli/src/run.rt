@@ -16,7 +16,7 @@ use crate::script::SignalRun;
 use crate::window::FrameWindow;
 use sdh_outside::Sink;
 use sdh_plan::Plan;
-use sdh_plant::Plant;
+use sdh_plant::{LendingPlant, Plant};
 use sdh_report::Status;
 use sdh_scripts::{NewScript, start_over};
 use std::alloc::{AllocError, Global};
@@ -80,7 +80,7 @@ fn run_lines<W: Sink, P: Plant>(
 }
 
 // Runs a plan, and writes the frames that are asked for, each whole and as it was sent.
-fn run_frames<W: Sink, P: Plant>(
+fn run_frames<W: Sink, P: LendingPlant>(
     alloc: Global,
     plan: Plan,
     ask: FrameWindow,
@@ -118,7 +118,7 @@ fn run_frames<W: Sink, P: Plant>(
 
 /// Runs the script of a plan over new fibres, and writes how its ring signals, round by round, or the frames that are
 /// asked for. All memory is taken before the first round.
-pub fn run_plan<W: Sink, P: Plant>(
+pub fn run_plan<W: Sink, P: LendingPlant>(
     alloc: Global,
     plan: Plan,
     listing: PlanListing,

@@ -10,8 +10,8 @@ use crate::recorder::SignalRecorder;
 use sdh_outside::{Sink, write_text};
 use sdh_plan::Step;
 use sdh_plant::Plant;
-use sdh_ring::{PlantFault, Ring, SettleError, change};
-use sdh_scripts::{StepError, Teller};
+use sdh_ring::{PlantFault, Ring, SettleError};
+use sdh_scripts::{StepError, Teller, change};
 
 /// A ring, and what records its rounds.
 #[derive(Drop)]
@@ -20,7 +20,7 @@ pub struct SignalRun {
     pub recorder: SignalRecorder,
 }
 
-impl<W: Sink> Teller<W> for SignalRun {
+impl<W: Sink, P: Plant> Teller<W, P> for SignalRun {
     ghost Node = { AddDrop };
 
     ghost Told = { Signalled };
@@ -37,12 +37,12 @@ impl<W: Sink> Teller<W> for SignalRun {
 
     ghost MayRun = { λ number steps r f. MayRunRing 65536 number steps r.ring f × IsReady r.ring r.recorder.before.items r.recorder.text };
 
-    fn change<P: Plant>(&mut self, plant: &mut P, step: Step) -> Result<(), PlantFault> {
+    fn change(&mut self, plant: &mut P, step: Step) -> Result<(), PlantFault> {
         change(&mut self.ring, plant, step)?;
         Ok(())
     }
 
-    fn settle<P: Plant>(
+    fn settle(
         &mut self,
         plant: &mut P,
         limit: u32,

@@ -1,27 +1,25 @@
 //! The program's call.
-ghost use Rattle.std.specs.Prelude.{◌≡◌, ◌⊎◌, ◌≤◌, None, Some, IfSome};
-ghost use Rattle.sdh_basics.specs.Causes.{Rose, IsCounted};
+ghost use Rattle.std.specs.Prelude.{IfSome};
 ghost use Rattle.sdh_plant.specs.Fibres.{HasNoFibres};
-ghost use Rattle.sdh_report.specs.declared.status.Status.{Status};
 ghost use Rattle.sdh_shell.specs.Calls.{words_of};
-ghost use Rattle.sdh_shell.specs.Failing.{Counts, CameToEnding};
+ghost use Rattle.sdh_shell.specs.Failing.{Counts};
 ghost use Rattle.sdh_shell.specs.Writing.{TellsWith};
-ghost use Rattle.sdh_scripts.specs.Outcome.{HasRead, MayEnd, reads_source, told};
-ghost use Rattle.sdh_scripts.specs.Headline.{MayBeDone};
-ghost use Rattle.sdh_scripts.specs.Calls.{IsCutShort};
+ghost use Rattle.sdh_programs.specs.Outcome.{MayEnd, told};
+ghost use Rattle.sdh_programs.specs.Calls.{IsCutShort};
 ghost use Rattle.sdh_aps_cli.specs.Endings.{signalling_endings};
 ghost use Rattle.sdh_aps_cli.specs.Words.{asked};
 ghost use Rattle.sdh_aps_cli.specs.Plans.{IsCutRun};
 ghost use Rattle.sdh_aps_cli.specs.Headline.{signalling};
 ghost use Rattle.sdh_aps_cli.specs.declared.ending.Ending.{Ending};
-ghost use Rattle.sdh_aps_cli.specs.declared.listing.SignalAsk.{SignalAsk as Asked};
+ghost use Rattle.sdh_shell.specs.Kept.{around};
+ghost use Rattle.sdh_programs.specs.Calls.{KeepsCall};
 
 use crate::ending::Ending;
 use crate::listing::SignalAsk;
 use sdh_outside::{Sink, Source};
-use sdh_plant::Plant;
+use sdh_plant::LendingPlant;
+use sdh_programs::call_over;
 use sdh_report::Status;
-use sdh_scripts::call_over;
 use std::alloc::Global;
 
 /// Does all that the program does, and returns how it ended. With the word `run` it reads a plan from the source and
@@ -31,8 +29,9 @@ use std::alloc::Global;
 /// the next one runs. A settle step that ends with a quiet window has a line after its rounds, and the last line says
 /// how it ended. With `frames`, an identifier, a side, a first round and a number of rounds it writes the frames that
 /// the node sent on that side in these rounds, scrambled as on the line, and nothing else. There is a last line then
-/// only where the ending isn't `Ok`.
-pub fn sdhaps<R: Source, W: Sink, P: Plant>(
+/// only where the ending isn't `Ok`. The frames are lent by the plant; a plant that lends none can be put into a
+/// `KeepingPlant`.
+pub fn sdhaps<R: Source, W: Sink, P: LendingPlant>(
     alloc: Global,
     words: &[String],
     source: &mut R,
@@ -52,35 +51,12 @@ pub fn sdhaps<R: Source, W: Sink, P: Plant>(
         (IsCutShort signalling IsCutRun ask bytes (P.fibres plant.old) (W.written sink.old) (W.written sink.new) (P.fibres plant.new))
         result (W.written sink.old) (W.written sink.new)) }
 
-    // These clauses hold over every source, sink and plant.
-    ensures usage { result ≡ Ending.Shared Status.Usage → asked (words_of words.now) ≡ None }
-    ensures usage_only { asked (words_of words.now) ≡ None → (result ≡ Ending.Shared Status.Usage)
-        ⊎ (result ≡ Ending.Shared Status.WriteFault) ⊎ (result ≡ Ending.Shared Status.Memory) }
-    ensures unasked { asked (words_of words.now) ≡ None → (source.new ≡ source.old) × (plant.new ≡ plant.old) }
-    ensures read_fault { result ≡ Ending.Shared Status.ReadFault → Rose (R.faults source.old) (R.faults source.new) }
-    ensures plant_fault { result ≡ Ending.Shared Status.PlantFault → Rose (P.faults plant.old) (P.faults plant.new) }
-    ensures write_fault { result ≡ Ending.Shared Status.WriteFault → Rose (W.faults sink.old) (W.faults sink.new) }
-
-    // Where the count of faults of a source, sink or plant is exact, each of its calls that failed is reported by its
-    // fault, and none is tried again. A write fault may stand in place of what was to be reported. With TooLong, one
-    // byte more was taken from the source than a plan may have.
-    ensures came { let reads : Counts = record { before = R.faults source.old; after = R.faults source.new } in
-        let calls : Counts = record { before = P.faults plant.old; after = P.faults plant.new } in
-        (how : Ending) × ((result ≡ how) ⊎ (result ≡ Ending.Shared Status.WriteFault))
-        × CameToEnding signalling_endings R.exact P.exact reads calls (R.left source.old) (R.left source.new) how }
-    ensures writes { IsCounted W.exact (result ≡ Ending.Shared Status.WriteFault) (W.faults sink.old) (W.faults sink.new) }
-    ensures memory { result ≡ Ending.Shared Status.Memory → (sink.new ≡ sink.old) × (P.fibres plant.new ≡ P.fibres plant.old) }
-    ensures read_whole { result ≡ Ending.Shared Status.Ok → HasRead (reads_source signalling (asked (words_of words.now))) (R.left source.new) }
-    ensures later { (R.faults source.old ≤ R.faults source.new) × (W.faults sink.old ≤ W.faults sink.new)
-        × (P.faults plant.old ≤ P.faults plant.new) }
-
-    // Where the plan has the node and settles, and no call fails, everything is done, or memory runs out. For frames
-    // the run has to have all rounds that are asked for.
-    ensures complete { (ask : Asked) → asked (words_of words.now) ≡ Some ask
-        → MayBeDone signalling ask (told signalling (Some ask) (R.left source.old)) (P.fibres plant.old)
-        → ¬ (Rose (R.faults source.old) (R.faults source.new)) → ¬ (Rose (W.faults sink.old) (W.faults sink.new))
-        → ¬ (Rose (P.faults plant.old) (P.faults plant.new))
-        → (result ≡ Ending.Shared Status.Ok) ⊎ (result ≡ Ending.Shared Status.Memory) }
+    // What the call keeps, over every source, sink and plant (`KeepsAll` in `sdh_shell/specs/Kept`): each fault has its
+    // cause, what isn't asked for stays as it was, and where all that a run needs is given, and no call fails, all is
+    // done.
+    ensures kept { KeepsCall signalling IsCutRun (asked (words_of words.now))
+        (around R.faults R.exact R.left source.old source.new)
+        (around W.faults W.exact W.written sink.old sink.new) (around P.faults P.exact P.fibres plant.old plant.new) result }
 {
-    call_over::<W, SignalAsk, R, P>(alloc, words, source, sink, plant)
+    call_over::<W, P, SignalAsk, R>(alloc, words, source, sink, plant)
 }

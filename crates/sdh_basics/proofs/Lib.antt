@@ -3,3 +3,4 @@ pub mod CellsLaws
 pub mod Parts
 pub mod ParityLaws
 pub mod HexadecimalLaws
+pub mod Answered

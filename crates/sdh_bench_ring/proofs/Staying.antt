@@ -8,8 +8,8 @@ use Rattle.sdh_rounds.specs.declared.faults.SettleError.TheVariants.{Unsettled, 
 use Rattle.sdh_rounds.specs.Runs.{run_with}
 use Rattle.sdh_rounds.proofs.Runs.{held_run}
 use Rattle.sdh_node.specs.Stations.{adm}
-use Rattle.sdh_world.specs.Held.{HeldRing}
-use Rattle.sdh_world.specs.Rounds.{World}
+use Rattle.sdh_node.specs.Rings.Held.{HeldRing}
+use Rattle.sdh_node.specs.Rings.Rounds.{World}
 
 pub record Stays (r s : HeldRing) : Type 0 where
   pub settings : s.settings ≡ r.settings

@@ -3,13 +3,13 @@ use Rattle.std.proofs.Common.{◌≡◌, ℕ, Some, List, ◌++◌, refl, ap, sy
 use Rattle.sdh_plant.specs.Fibres.{Fibres}
 use Rattle.sdh_plan.specs.Planned.{Planned}
 use Rattle.sdh_report.specs.declared.listing.Listing.{Listing}
-use Rattle.sdh_report.specs.declared.status.Status.{Status}
+use Rattle.sdh_status.specs.declared.Status.{Status}
 use Rattle.sdh_report.specs.Reports.{listed}
 use Rattle.sdh_report.specs.Statuses.{last_line}
-use Rattle.sdh_scripts.specs.Programs.{Deed, Runs, deed_listing}
-use Rattle.sdh_scripts.specs.Outcome.{IsRunOutcome}
-use Rattle.sdh_scripts.proofs.Promises.{RunsAlone}
-use Rattle.sdh_scripts.proofs.Deeds.{run_outcome}
+use Rattle.sdh_programs.specs.Programs.{Deed, Runs, deed_listing}
+use Rattle.sdh_programs.specs.Outcome.{IsRunOutcome}
+use Rattle.sdh_programs.proofs.Promises.{RunsAlone}
+use Rattle.sdh_programs.proofs.Deeds.{run_outcome}
 use Rattle.sdh_cli.specs.Plans.{adm_account, Tells}
 use Rattle.sdh_cli.specs.Words.{Ask, Run, Check, Drop, Big, listing_of}
 use Rattle.sdh_cli.specs.Outcome.{deed_of, ringing}

@@ -1,6 +1,3 @@
-mod Worked
-pub mod Laid
-pub mod Filling
 pub mod Told
 pub mod Plans
 pub mod TableLines

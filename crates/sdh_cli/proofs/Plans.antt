@@ -1,12 +1,12 @@
 -- What comes of a plan.
-use Rattle.std.proofs.Common.{◌≡◌, true, ℕ, List, [], refl, ap, sym, subst, inl, inr}
+use Rattle.std.proofs.Common.{◌≡◌, true, ℕ, List, [], map, refl, ap, sym, subst, inl, inr}
 use Rattle.sdh_plant.specs.Fibres.{Fibres, HasNoFibres, IsHonest}
 use Rattle.sdh_plan.specs.Planned.{Planned, IsPlanned, provisioning_of}
 use Rattle.sdh_plan.specs.Steps.{new_past}
 use Rattle.sdh_report.specs.Reports.{Report, listed}
 use Rattle.sdh_report.specs.declared.listing.Listing.{Listing}
-use Rattle.sdh_report.specs.declared.status.Status.{Status}
-use Rattle.sdh_promise.specs.Changes.{scenes}
+use Rattle.sdh_status.specs.declared.Status.{Status}
+use Rattle.sdh_promise.specs.Scenes.{scenes}
 use Rattle.sdh_owed.specs.Healthy.{AllSettle}
 use Rattle.sdh_owed.specs.Laws.{ReportsAreOwed, ScriptsSettle, HealthyScripts}
 use Rattle.sdh_owed.specs.Course.{CoursesAreTold}
@@ -21,13 +21,14 @@ use Rattle.sdh_owed.specs.Plans.{world_of}
 use Rattle.sdh_owed.proofs.Plans.{adm_new, may_start, circuits_fit}
 use Rattle.sdh_cli.specs.Plans.{ShowsHealth, RunsWell, AreAsPromised, adm_account, Tells}
 use Rattle.sdh_promise.specs.Plans.{ring_of, OwesAll}
+use Rattle.sdh_owed.specs.Reports.{ports_of}
 
 -- ---- over honest fibres
 
 module _ (plan : Planned) (f left : Fibres) (reports : List Report) (end : Status) (fits : IsPlanned plan) (honest : IsHonest f) where
-  owed_comes : ReportsAreOwed → Comes adm_account plan f reports end left → OwesAll plan reports end
+  owed_comes : ReportsAreOwed → Comes adm_account plan f reports end left → OwesAll plan (map ports_of reports) end
   owed_comes law (inl x) =
-      subst (λ rs. OwesAll plan rs end) (sym x.1) (owed_none (ring_of plan) plan.limit [] 0 (scenes [] plan.steps) end x.0)
+      subst (λ rs. OwesAll plan (map ports_of rs) end) (sym x.1) (owed_none (ring_of plan) plan.limit [] 0 (scenes [] plan.steps) end x.0)
   owed_comes law (inr x) =
       law plan.settings plan.nodes (provisioning_of plan) f (may_start plan f fits honest)
       (circuits_fit plan fits) plan.limit new_past plan.steps fits.steps_fit reports end x.0 x.2

@@ -6,15 +6,15 @@ use Rattle.sdh_plant.specs.Fibres.{Fibres}
 use Rattle.sdh_plant.specs.Arrivals.{Knows}
 use Rattle.sdh_plan.specs.Planned.{Planned}
 use Rattle.sdh_report.specs.declared.listing.Listing.{Listing}
-use Rattle.sdh_report.specs.declared.status.Status.{Status}
+use Rattle.sdh_status.specs.declared.Status.{Status}
 use Rattle.sdh_report.specs.Reports.{Report, text_of}
 use Rattle.sdh_report.specs.Statuses.{last_line}
 use Rattle.sdh_shell.specs.Calls.{HasRun}
 use Rattle.sdh_shell.specs.Failing.{Counts}
 use Rattle.sdh_shell.specs.Writing.{Writes}
-use Rattle.sdh_scripts.specs.Outcome as outcome
-use Rattle.sdh_scripts.specs.Headline as headline
-use Rattle.sdh_scripts.proofs.Promises.{SettlesLarge, EndsKnown, shows}
+use Rattle.sdh_programs.specs.Outcome as outcome
+use Rattle.sdh_programs.specs.Headline as headline
+use Rattle.sdh_programs.proofs.Promises.{SettlesLarge, EndsKnown, shows}
 use Rattle.sdh_owed.specs.Plans.{world_of}
 use Rattle.sdh_cli.specs.Plans.{IsRunOf, ran_of, AreAsPromised}
 use Rattle.sdh_cli.specs.Words.{Ask}

@@ -13,9 +13,10 @@ use Rattle.sdh_circuits.specs.Ends.{end_number}
 use Rattle.sdh_payload.specs.declared.delivered.Delivered.{Delivered}
 use Rattle.sdh_payload.specs.declared.delivered.Delivered.TheVariants.{Ais, Chunk}
 use Rattle.sdh_payload.specs.Outlet.{Outlet}
-use Rattle.sdh_world.specs.Held.{HeldRing}
+use Rattle.sdh_node.specs.Rings.Held.{HeldRing}
 use Rattle.sdh_report.specs.Lines.{node_line}
-use Rattle.sdh_report.specs.Reports.{PortLine, delivered_in, chunks_of, silences_of, chunks_in, silences_in}
+use Rattle.sdh_status.specs.PortLine.{PortLine}
+use Rattle.sdh_report.specs.Reports.{delivered_in, chunks_of, silences_of, chunks_in, silences_in}
 use Rattle.sdh_scripts.specs.Ports.{end_outlet, port_line_at, lines_from, port_lines}
 use Rattle.sdh_scripts.proofs.Ports.{length-ports, ports_next}
 use Rattle.sdh_scripts.proofs.Lists.{some_at}

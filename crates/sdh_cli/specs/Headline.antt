@@ -5,8 +5,8 @@ use Rattle.std.specs.Io.KnownBytes.{Appends}
 use Rattle.sdh_plant.specs.Fibres.{Fibres}
 use Rattle.sdh_plant.specs.Arrivals.{Knows}
 use Rattle.sdh_plan.specs.Planned.{Planned}
-use Rattle.sdh_report.specs.declared.status.Status.{Status}
-use Rattle.sdh_report.specs.declared.status.Status.TheVariants as status
+use Rattle.sdh_status.specs.declared.Status.{Status}
+use Rattle.sdh_status.specs.declared.Status.TheVariants as status
 use Rattle.sdh_report.specs.declared.listing.Listing.{Listing}
 use Rattle.sdh_report.specs.Reports.{Report, text_of}
 use Rattle.sdh_report.specs.Statuses.{last_line}
@@ -15,7 +15,7 @@ use Rattle.sdh_owed.specs.Plans.{world_of}
 use Rattle.sdh_cli.specs.Plans.{ran_of, MaySettle, AreAsPromised}
 use Rattle.sdh_cli.specs.Words.{Ask, listing_of}
 use Rattle.sdh_cli.specs.Outcome.{own_plan, Does}
-use Rattle.sdh_scripts.specs.Headline as headline
+use Rattle.sdh_programs.specs.Headline as headline
 use Rattle.sdh_shell.specs.Calls.{HasRun}
 
 -- the plan of what is asked: that of the source's bytes, or for `big` the large plan of the number

@@ -1,5 +1,3 @@
-pub mod Big
-pub mod Laid
 pub mod Room
 pub mod Plans
 pub mod Tables

@@ -1,15 +1,17 @@
 -- What the program does with a plan, and how a call of it ends.
-use Rattle.std.specs.Prelude.{◌≡◌, ℕ, false, List, codes, Option, Some, None}
+use Rattle.std.specs.Prelude.{◌≡◌, ℕ, false, List, Option, Some, None}
 use Rattle.sdh_plant.specs.Fibres.{Fibres}
 use Rattle.sdh_plan.specs.Planned.{Planned}
 use Rattle.sdh_report.specs.declared.listing.Listing.{Listing}
-use Rattle.sdh_report.specs.declared.status.Status.{Status}
+use Rattle.sdh_status.specs.declared.Status.{Status}
 use Rattle.sdh_report.specs.Reports.{Report, text_of}
+use Rattle.sdh_report.specs.Statuses.{usage}
 use Rattle.sdh_shell.specs.Endings.{statuses}
 use Rattle.sdh_shell.specs.Failing.{Counts}
-use Rattle.sdh_scripts.specs.Programs.{Deed, Writes, deed_listing, as_script, Program}
-use Rattle.sdh_scripts.specs.Outcome as outcome
-use Rattle.sdh_cli.specs.Big.{big_planned}
+use Rattle.sdh_shell.specs.Reading as reading
+use Rattle.sdh_programs.specs.Programs.{Deed, Writes, deed_listing, as_script, Program}
+use Rattle.sdh_programs.specs.Outcome as outcome
+use Rattle.sdh_plan.specs.Big.{big_planned}
 use Rattle.sdh_cli.specs.Tables.{tables_of}
 use Rattle.sdh_cli.specs.Plans.{IsRunOf, MaySettle}
 use Rattle.sdh_cli.specs.Words.{Ask, Check, Big, asked, listing_of}
@@ -30,7 +32,7 @@ Does ask plan deed = deed ≡ deed_of ask plan
 -- the program: it runs a plan over a ring of add-drop multiplexers, and lists the report of each settle step
 abbrev pub ringing : Program Ask Listing Report Status
 ringing = record {
-  usage = codes "usage: sdhring run, check, drop NAME END, big NUMBER";
+  usage = usage;
   asked = asked;
   endings = statuses;
   closing = as_script Listing Report statuses;
@@ -44,18 +46,6 @@ ringing = record {
 -- what must be known of a source: its bytes, or nothing where it isn't read
 abbrev pub told : Option Ask → Option (List ℕ) → Option (List ℕ)
 told = outcome.told_by own_plan
-
--- the source isn't read
-abbrev pub LeavesSource : Option Ask → Type 0
-LeavesSource ask = outcome.reads_by own_plan ask ≡ false
-
--- what is asked, if anything, runs no plan
-abbrev pub LeavesPlant : Option Ask → Type 0
-LeavesPlant = outcome.LeavesPlant ringing
-
--- a source that is read was read to its end
-abbrev pub HasRead : Option Ask → Option (List ℕ) → Type 0
-HasRead ask left = outcome.HasRead (outcome.reads_by own_plan ask) left
 
 -- an outcome that, if it is a read fault or a plant fault, has its cause in a call that failed
 abbrev pub MayEnd : Option Ask → List ℕ → Fibres → Counts → Counts → Status → List ℕ → Fibres → Type 0

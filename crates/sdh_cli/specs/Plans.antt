@@ -1,16 +1,17 @@
 -- What comes of a plan, over every plant, where arrivals are known, and over honest fibres.
-use Rattle.std.specs.Prelude.{ℕ, List, length}
+use Rattle.std.specs.Prelude.{ℕ, List, length, map}
 use Rattle.sdh_plant.specs.Fibres.{Fibres}
 use Rattle.sdh_node.specs.Node.{Node}
 use Rattle.sdh_plan.specs.Planned.{Planned}
 use Rattle.sdh_report.specs.Reports.{Report, listed}
 use Rattle.sdh_report.specs.declared.listing.Listing.{Listing}
-use Rattle.sdh_report.specs.declared.status.Status.{Status}
+use Rattle.sdh_status.specs.declared.Status.{Status}
 use Rattle.sdh_scripts.specs.Plans.{Account}
 use Rattle.sdh_scripts.specs.Plans as plans
 use Rattle.sdh_owed.specs.Scripts.{adm_walk, Ran}
 use Rattle.sdh_owed.specs.Plans.{new_ring_of, world_of}
 use Rattle.sdh_promise.specs.Plans.{ring_of, OwesAll}
+use Rattle.sdh_owed.specs.Reports.{ports_of}
 use Rattle.sdh_owed.specs.Healthy.{AllSettle, IsHealthy}
 use Rattle.sdh_owed.specs.Course.{HasCourse}
 
@@ -27,7 +28,7 @@ RunsWell plan f reports end left = HasCourse (world_of plan f) (ring_of plan) pl
 -- What is promised of one list of reports. They show what is owed, and, where all steps are settle steps, a healthy
 -- ring. It is also promised what holds in every round that gave them.
 pub record AreAsPromised (plan : Planned) (f : Fibres) (reports : List Report) (end : Status) (left : Fibres) : Type 0 where
-  pub owed : OwesAll plan reports end
+  pub owed : OwesAll plan (map ports_of reports) end
   pub healthy : AllSettle plan.steps → ShowsHealth plan reports end
   pub rounds : RunsWell plan f reports end left
 

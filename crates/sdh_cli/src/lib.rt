@@ -4,8 +4,6 @@
 //! What comes of a script is `Runs` in `sdh_owed`, and what its reports owe to each port is `AreOwed` in `sdh_promise`.
 #![tactic(auto)]
 
-mod big;
-mod draws;
 mod program;
 mod reports;
 mod run;
@@ -14,7 +12,6 @@ mod tables;
 mod top;
 mod words;
 
-pub use big::big_plan;
 pub use sdh_report::Status;
 pub use tables::table_text;
 pub use top::sdhring;

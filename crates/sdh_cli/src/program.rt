@@ -5,22 +5,21 @@ ghost use Rattle.sdh_plant.specs.Fibres.{HasNoFibres};
 ghost use Rattle.sdh_report.specs.Reports.{Report};
 ghost use Rattle.sdh_report.specs.Statuses.{last_line};
 ghost use Rattle.sdh_report.specs.declared.listing.Listing.{Listing as Listed};
-ghost use Rattle.sdh_scripts.specs.Outcome.{IsRunOutcome};
+ghost use Rattle.sdh_programs.specs.Outcome.{IsRunOutcome};
 ghost use Rattle.sdh_cli.specs.Tables.{tables_of};
 ghost use Rattle.sdh_cli.specs.Room.{MayList};
 ghost use Rattle.sdh_cli.specs.Plans.{MaySettle};
 ghost use Rattle.sdh_cli.specs.Words.{Ask as Asked, ask_of as what_is_asked, listing_of};
 ghost use Rattle.sdh_cli.specs.Outcome.{ringing};
 
-use crate::big::big_plan;
 use crate::run::run_plan;
 use crate::tables::table_text;
 use crate::words::{Command, command_of};
 use sdh_circuits::PortId;
-use sdh_plan::Plan;
+use sdh_plan::{Plan, big_plan};
 use sdh_plant::Plant;
+use sdh_programs::RunsPlans;
 use sdh_report::{Listing, Status};
-use sdh_scripts::RunsPlans;
 use sdh_shell::{EndedText, ended, ended_line};
 use std::alloc::{AllocError, Global};
 
@@ -90,7 +89,7 @@ impl<'a> RunsPlans<'a> for Command<'a> {
         ensures line { result.now ≡ ringing.usage }
         ensures short { length result.now ≤ 95 }
     {
-        b"usage: sdhring run, check, drop NAME END, big NUMBER"
+        sdh_report::usage()
     }
 
     fn asked(words: &'a [String]) -> Option<Command<'a>> {

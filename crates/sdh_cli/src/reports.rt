@@ -2,16 +2,16 @@
 ghost use Rattle.std.specs.Prelude.{◌≡◌, ◌+◌, ◌-◌, ◌*◌, ◌≤◌, ◌<◌, ◌++◌, false, length};
 ghost use Rattle.std.specs.List.{flat_map};
 ghost use Rattle.sdh_circuits.specs.declared.End.TheVariants.{A, B};
+ghost use Rattle.sdh_kbytes.specs.KBytes.{IsSpellable};
 ghost use Rattle.sdh_report.specs.Lines.{node_line, drop_lines, count_line};
 ghost use Rattle.sdh_report.specs.Reports.{report_text, delivered_in, chunks_of, chunks_in, silences_in, listed};
 ghost use Rattle.sdh_owed.specs.Reports.{nodes_told, told_at, ports_told, report_of};
-ghost use Rattle.sdh_world.specs.Held.{outlet_at};
+ghost use Rattle.sdh_node.specs.Rings.Held.{outlet_at};
 ghost use Rattle.sdh_cli.specs.Room.{report_room, MayList};
 
-use sdh_aps::{bytes_told, state_told};
 use sdh_circuits::{End, PortId};
 use sdh_node::Delivered;
-use sdh_report::{Listing, NodeLine, Text};
+use sdh_report::{Listing, NodeLine, StateWord, Text};
 use sdh_ring::Ring;
 use sdh_ringmap::{Pos, Side};
 use sdh_scripts::{put_ports, put_settle};
@@ -21,13 +21,15 @@ fn node_told(ring: &Ring, at: u8) -> NodeLine
     requires at { at < length ring.now.ids }
     requires whole { ring.now.broken ≡ false }
     ensures line { result ≡ told_at ring.now at }
+    ensures west { IsSpellable result.west }
+    ensures east { IsSpellable result.east }
 {
     let node = ring.node(Pos(at));
     NodeLine {
         id: ring.map().id(Pos(at)),
-        state: state_told(node.state()),
-        west: bytes_told(node.sent_k(Side::West)),
-        east: bytes_told(node.sent_k(Side::East)),
+        state: StateWord::of(node.state()),
+        west: node.sent_k(Side::West),
+        east: node.sent_k(Side::East),
     }
 }
 

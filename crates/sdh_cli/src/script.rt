@@ -10,8 +10,8 @@ use crate::reports::put_report;
 use sdh_plan::Step;
 use sdh_plant::Plant;
 use sdh_report::{Listing, Text};
-use sdh_ring::{PlantFault, Ring, SettleError, change};
-use sdh_scripts::Runner;
+use sdh_ring::{PlantFault, Ring, SettleError};
+use sdh_scripts::{Runner, change};
 
 /// A ring, and what is listed of the report of each settle step.
 #[derive(Drop)]

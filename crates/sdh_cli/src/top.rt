@@ -1,20 +1,22 @@
 //! The program's call.
-ghost use Rattle.std.specs.Prelude.{◌≡◌, ◌⊎◌, ◌≤◌, None, IfSome, true};
-ghost use Rattle.sdh_basics.specs.Causes.{Rose, IsCounted};
+ghost use Rattle.std.specs.Prelude.{◌≡◌, IfSome, true};
 ghost use Rattle.sdh_plant.specs.Fibres.{HasNoFibres};
-ghost use Rattle.sdh_report.specs.declared.status.Status.{Status};
+ghost use Rattle.sdh_status.specs.declared.Status.{Status};
 ghost use Rattle.sdh_shell.specs.Calls.{words_of};
-ghost use Rattle.sdh_shell.specs.Failing.{Counts, CameTo};
+ghost use Rattle.sdh_shell.specs.Failing.{Counts};
 ghost use Rattle.sdh_shell.specs.Writing.{Writes};
 ghost use Rattle.sdh_cli.specs.Words.{asked};
-ghost use Rattle.sdh_cli.specs.Outcome.{told, LeavesSource, LeavesPlant, HasRead, MayEnd};
-ghost use Rattle.sdh_cli.specs.Headline.{IsAsPromised, EndsAsItRuns, AlwaysSettles, MayBeDone};
+ghost use Rattle.sdh_cli.specs.Outcome.{told, MayEnd};
+ghost use Rattle.sdh_cli.specs.Headline.{IsAsPromised, EndsAsItRuns, AlwaysSettles};
+ghost use Rattle.sdh_shell.specs.Kept.{around};
+ghost use Rattle.sdh_programs.specs.Calls.{KeepsCall, never_cut};
+ghost use Rattle.sdh_cli.specs.Outcome.{ringing};
 
 use crate::words::Command;
 use sdh_outside::{Sink, Source};
 use sdh_plant::Plant;
+use sdh_programs::call;
 use sdh_report::Status;
-use sdh_scripts::call;
 use std::alloc::Global;
 
 /// Does all that the program does, and returns how it ended. With the word `run` it reads a plan from the source, runs
@@ -59,34 +61,12 @@ pub fn sdhring<R: Source, W: Sink, P: Plant>(
     ensures unsettled { IfSome (told (asked (words_of words.now)) (R.left source.old))
         (λ bytes. EndsAsItRuns (asked (words_of words.now)) bytes (P.fibres plant.old) result) }
 
-    // These clauses hold over every source, sink and plant.
-    ensures usage { result ≡ Status.Usage → asked (words_of words.now) ≡ None }
-    ensures usage_only { asked (words_of words.now) ≡ None
-        → (result ≡ Status.Usage) ⊎ (result ≡ Status.WriteFault) ⊎ (result ≡ Status.Memory) }
-    ensures unread { LeavesSource (asked (words_of words.now)) → source.new ≡ source.old }
-    ensures alone { LeavesPlant (asked (words_of words.now)) → plant.new ≡ plant.old }
-    ensures read_fault { result ≡ Status.ReadFault → Rose (R.faults source.old) (R.faults source.new) }
-    ensures plant_fault { result ≡ Status.PlantFault → Rose (P.faults plant.old) (P.faults plant.new) }
-    ensures write_fault { result ≡ Status.WriteFault → Rose (W.faults sink.old) (W.faults sink.new) }
-
-    // Where the count of faults of a source, sink or plant is exact, each of its calls that failed is reported by its
-    // fault, and none is tried again. A write fault may stand in place of what was to be reported. With TooLong, one
-    // byte more was taken from the source than a plan may have.
-    ensures came { let reads : Counts = record { before = R.faults source.old; after = R.faults source.new } in
-        let calls : Counts = record { before = P.faults plant.old; after = P.faults plant.new } in
-        (how : Status) × ((result ≡ how) ⊎ (result ≡ Status.WriteFault))
-        × CameTo R.exact P.exact reads calls (R.left source.old) (R.left source.new) how }
-    ensures writes { IsCounted W.exact (result ≡ Status.WriteFault) (W.faults sink.old) (W.faults sink.new) }
-
-    ensures memory { result ≡ Status.Memory → (sink.new ≡ sink.old) × (P.fibres plant.new ≡ P.fibres plant.old) }
-    ensures read_whole { result ≡ Status.Ok → HasRead (asked (words_of words.now)) (R.left source.new) }
-    ensures later { (R.faults source.old ≤ R.faults source.new) × (W.faults sink.old ≤ W.faults sink.new)
-        × (P.faults plant.old ≤ P.faults plant.new) }
-
-    // Where all that a run needs is given and no call fails, everything is done, or memory runs out.
-    ensures complete { MayBeDone (asked (words_of words.now)) (told (asked (words_of words.now)) (R.left source.old)) (P.fibres plant.old)
-        → ¬ (Rose (R.faults source.old) (R.faults source.new)) → ¬ (Rose (W.faults sink.old) (W.faults sink.new))
-        → ¬ (Rose (P.faults plant.old) (P.faults plant.new)) → (result ≡ Status.Ok) ⊎ (result ≡ Status.Memory) }
+    // What the call keeps, over every source, sink and plant (`KeepsAll` in `sdh_shell/specs/Kept`): each fault has its
+    // cause, what isn't asked for stays as it was, and where all that a run needs is given, and no call fails, all is
+    // done.
+    ensures kept { KeepsCall ringing never_cut (asked (words_of words.now))
+        (around R.faults R.exact R.left source.old source.new)
+        (around W.faults W.exact W.written sink.old sink.new) (around P.faults P.exact P.fibres plant.old plant.new) result }
 {
     call::<Command<'_>, R, W, P>(alloc, words, source, sink, plant)
 }

@@ -1,5 +1,5 @@
 -- What an elastic store keeps of its history, which is enough for all later turns, and how a turn changes it.
-use Rattle.std.specs.Prelude.{◌≡◌, ℕ, ◌+◌, ◌-◌, ◌≤◌, Bool, true, ◌&&◌, if◌then◌else◌, List, [], ◌∷◌, ◌++◌, length, take, drop}
+use Rattle.std.specs.Prelude.{◌≡◌, ℕ, ◌+◌, ◌-◌, ◌*◌, ◌≤◌, Bool, true, ◌&&◌, if◌then◌else◌, List, [], ◌∷◌, ◌++◌, length, take, drop}
 use Rattle.sdh_pointer.specs.declared.reading.Reading.{Reading}
 use Rattle.sdh_pointer.specs.declared.reading.Mode.TheVariants as mode
 use Rattle.sdh_pointer.specs.declared.reading.Action.{Action}
@@ -30,6 +30,10 @@ pub record Store : Type 0 where
 -- a store that took nothing in
 abbrev pub empty : ℕ → Store
 empty value = record { held = []; stage = First; value = value; word = 0xFFFF; lengths = Empty; steady = true }
+
+-- how many bytes a store has room for, whatever it holds: those of three chunks
+abbrev pub room_of : Store → ℕ
+room_of s = 3 * 2352
 
 -- ---- stages
 

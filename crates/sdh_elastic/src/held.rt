@@ -1,5 +1,5 @@
 //! The bytes that a store holds.
-ghost use Rattle.std.specs.Prelude.{◌≡◌, ◌+◌, ◌-◌, ◌<◌, ◌≤◌, [], ◌∷◌, ◌++◌, length, take, drop, get_or, IfOk};
+ghost use Rattle.std.specs.Prelude.{◌≡◌, ◌+◌, ◌-◌, ◌*◌, ◌<◌, ◌≤◌, [], ◌∷◌, ◌++◌, length, take, drop, get_or, IfOk};
 ghost use Rattle.std.specs.List.{flat_map};
 ghost use Rattle.circular_buffer.specs.Buffer.{buffer};
 
@@ -106,6 +106,13 @@ impl Held {
             given: 0,
             len: 0,
         })
+    }
+
+    /// Returns how many bytes there is room for, those of the next chunk among them.
+    pub(crate) fn room(&self) -> usize
+        ensures { result ≡ 3 * 2352 }
+    {
+        self.chunks.capacity() * 2352
     }
 
     /// Returns how many bytes are held.

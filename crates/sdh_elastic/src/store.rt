@@ -5,7 +5,7 @@ ghost use Rattle.sdh_pointer.specs.Reading.{action_on, after_word};
 ghost use Rattle.sdh_elastic.specs.Turns.{value_after, word_for, IsChunk};
 ghost use Rattle.sdh_elastic.specs.Lengths.{is_steady, with_length, keeps_steady};
 ghost use Rattle.sdh_elastic.specs.History.{actions, fill, lasts, lengths, last_word};
-ghost use Rattle.sdh_elastic.specs.Store.{empty, action_at, fill_after, given_at, after_turn, stage_after, reading_of, AreChunks, CameBy};
+ghost use Rattle.sdh_elastic.specs.Store.{empty, room_of, action_at, fill_after, given_at, after_turn, stage_after, reading_of, AreChunks, CameBy};
 ghost use Rattle.sdh_elastic.specs.Store.{GoesOn};
 
 use crate::held::Held;
@@ -79,10 +79,12 @@ impl Model for Elastic {
 }
 
 impl Elastic {
-    /// Returns an empty store with this pointer value. It takes all its memory here.
+    /// Returns an empty store with this pointer value. It takes all its memory here. There is room for 4,710 bytes: the
+    /// most that are held after a turn, 2358, and a chunk of 2352.
     pub fn try_new(alloc: Global, value: u16) -> Result<Elastic, AllocError>
         requires { value ≤ 782 }
         ensures empty { IfOk result (λ store. store ≡ empty value) }
+        ensures room { IfOk result (λ store. 4710 ≤ room_of store) }
         ensures history { IfOk result (λ store. CameBy value [] store) }
     {
         let course = Course {
@@ -127,6 +129,13 @@ impl Elastic {
         self.held.take_and_give(input, given(action), out);
         self.course = self.course.after(action, input.len() as u16);
         Ok(action)
+    }
+
+    /// Returns how many bytes the store has room for, those of the chunk of a turn among them.
+    pub fn room(&self) -> usize
+        ensures { result ≡ room_of self.now }
+    {
+        self.held.room()
     }
 
     /// Returns the pointer word of the last turn, and all ones before the first.

@@ -4,3 +4,4 @@ pub mod Moves
 pub mod AllAus
 pub mod Single
 pub mod ByColumns
+pub mod Across

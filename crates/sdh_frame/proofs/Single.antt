@@ -119,7 +119,7 @@ module _ (rate : Rate) (au j v : ℕ) (s : List ℕ) (whole : length s ≡ size_
       ]))
 
   -- a list of an AU-4 that is written where it stands
-  payload_again : with_payload (n_of rate) au (payload_of (n_of rate) au s) s ≡ s
+  pub payload_again : with_payload (n_of rate) au (payload_of (n_of rate) au s) s ≡ s
   payload_again =
       let n = n_of rate in
       sym (stored rate au s s high whole refl (payload_of n au s) (λ i lt.

@@ -6,6 +6,7 @@ ghost use Rattle.sdh_frame.specs.Columns.{HasWritten};
 ghost use Rattle.sdh_frame.specs.Aus.{payload_of, with_payload, with_pointers, with_au, ones, is_payload, is_pointer};
 
 use crate::places::byte_of;
+use crate::view::copy_across;
 use crate::{FrameBuf, Rate};
 
 // Copies row r of the payload of an AU-4 of another frame to an AU-4 of this frame.
@@ -131,24 +132,28 @@ fn point(rate: Rate, bytes: &mut [u8], au: usize, pointers: &[u8])
 }
 
 impl FrameBuf {
-    /// Copies the payload of AU-4 `au` of another frame of the same rate to AU-4 `to`, both 1 to N.
+    /// Copies the payload of AU-4 `au` of another frame to AU-4 `to`, each 1 to the N of its frame. The frames may
+    /// have different rates.
     pub fn copy_payload(&mut self, to: u16, from: &FrameBuf, au: u16)
-        requires rate { self.old.rate ≡ from.now.rate }
         requires to_first { 1 ≤ to }
         requires to_last { to ≤ n_of self.old.rate }
         requires first { 1 ≤ au }
-        requires last { au ≤ n_of self.old.rate }
+        requires last { au ≤ n_of from.now.rate }
         ensures { self.new ≡ record self.old {
-          bytes = with_payload (n_of self.old.rate) to (payload_of (n_of self.old.rate) au from.now.bytes) self.old.bytes;
+          bytes = with_payload (n_of self.old.rate) to (payload_of (n_of from.now.rate) au from.now.bytes) self.old.bytes;
         } }
     {
-        copy(
-            self.rate,
-            self.bytes.as_mut_slice(),
-            to as usize,
-            from.bytes.as_slice(),
-            au as usize,
-        );
+        if self.rate == from.rate {
+            copy(
+                self.rate,
+                self.bytes.as_mut_slice(),
+                to as usize,
+                from.bytes.as_slice(),
+                au as usize,
+            );
+        } else {
+            copy_across(self, to, from, au);
+        }
     }
 
     /// Writes the nine pointer bytes of an AU-4.

@@ -69,6 +69,24 @@ fn put_pointer_byte(rate: Rate, bytes: &mut [u8], au: u16, index: u16, value: u8
     bytes[pointer_index(rate, au, index)] = value;
 }
 
+// Copies the payload of AU-4 `au` of a frame to AU-4 `to` of another one, byte by byte: the frames may have different
+// rates.
+pub(crate) fn copy_across(frame: &mut FrameBuf, to: u16, from: &FrameBuf, au: u16)
+    requires to_first { 1 ≤ to }
+    requires to_last { to ≤ n_of frame.old.rate }
+    requires first { 1 ≤ au }
+    requires last { au ≤ n_of from.now.rate }
+    ensures { frame.new ≡ record frame.old {
+      bytes = with_payload (n_of frame.old.rate) to (payload_of (n_of from.now.rate) au from.now.bytes) frame.old.bytes;
+    } }
+{
+    prove!(frame.bytes().len() == 2430 * frame.rate().n());
+    for index in 0..2349 {
+        let value = from.payload_at(au, index);
+        frame.set_payload_at(to, index, value);
+    }
+}
+
 impl FrameBuf {
     /// Returns a pointer byte of an AU-4, by its index 0 to 8.
     pub fn pointer(&self, au: u16, index: u16) -> u8
@@ -219,13 +237,12 @@ impl<'a> AuViewMut<'a> {
         self.frame.set_pointer_at(au, index, value);
     }
 
-    /// Copies the payload of another AU-4, of a frame of the same rate.
+    /// Copies the payload of another AU-4. Its frame may have another rate.
     pub fn copy_payload(&mut self, from: &AuView<'_>)
-        requires { self.old.frame.now.rate ≡ from.now.frame.now.rate }
         ensures same_reference { self.new.frame.ghost_name ≡ self.old.frame.ghost_name }
         ensures au { self.new.au ≡ self.old.au }
         ensures frame { let f = self.old.frame.now in let n = n_of f.rate in self.new.frame.now ≡ record f {
-          bytes = with_payload n self.old.au (payload_of n from.now.au from.now.frame.now.bytes) f.bytes;
+          bytes = with_payload n self.old.au (payload_of (n_of from.now.frame.now.rate) from.now.au from.now.frame.now.bytes) f.bytes;
         } }
     {
         let au = self.au;

@@ -17,7 +17,7 @@ use Rattle.sdh_terminal.specs.Tributaries.{Tributary, tributaries_at, is_port, H
 use Rattle.sdh_terminal.proofs.Waiting.{place-waiting, has-under, waiting-under, slips-waiting, silent-lines, new-waiting}
 use Rattle.sdh_node.specs.Receiving.{commanded_by, arrived_on}
 use Rattle.sdh_node.specs.Crossing.{Cross, at_side, lines_of, drops, dropped_to, delivered_to, all_delivered}
-use Rattle.sdh_node.specs.Node.{new_cross, at_receiving}
+use Rattle.sdh_node.specs.Node.{new_cross, at_receiving, IsNode}
 use Rattle.sdh_terminal.specs.Sending.{Sending}
 use Rattle.sdh_node.proofs.Turning.{node_of}
 
@@ -90,3 +90,45 @@ unfolding all_delivered
 new_waits s ids circuits at =
     let x = new_cross s ids circuits at in
     new-waiting (dropped_to x) (λ t. silent-lines (lines_of x) (n_of s.rate) (n_of s.rate) refl refl (drops x t.side t.slot.0)) at circuits
+
+-- what is true of every node stays
+pub commanded_stays : (side : Side) (c : Command) (s : Settings) (rounds turns : ℕ) (x : Cross) (kept : List Tributary) (wo eo : Sending)
+    (calm : Bool) → IsNode (node_of s rounds turns x kept wo eo calm)
+    → IsNode (node_of s rounds turns (at_side side (commanded_by c) x) kept wo eo calm)
+commanded_stays West c s rounds turns x kept wo eo calm is = record {
+  west_rate = is.west_rate;
+  west_out_rate = is.west_out_rate;
+  east_out_rate = is.east_out_rate;
+  moments = is.moments;
+  held = is.held;
+  ports = is.ports;
+}
+commanded_stays East c s rounds turns x kept wo eo calm is = record {
+  west_rate = is.west_rate;
+  west_out_rate = is.west_out_rate;
+  east_out_rate = is.east_out_rate;
+  moments = is.moments;
+  held = is.held;
+  ports = is.ports;
+}
+
+-- what is true of every node stays
+pub arrived_stays : (side : Side) (a : Arrival) (s : Settings) (rounds turns : ℕ) (x : Cross) (kept : List Tributary) (wo eo : Sending)
+    (calm : Bool) → IsNode (node_of s rounds turns x kept wo eo calm)
+    → IsNode (node_of s rounds turns (at_side side (arrived_on a) x) kept wo eo calm)
+arrived_stays West a s rounds turns x kept wo eo calm is = record {
+  west_rate = is.west_rate;
+  west_out_rate = is.west_out_rate;
+  east_out_rate = is.east_out_rate;
+  moments = is.moments;
+  held = is.held;
+  ports = is.ports;
+}
+arrived_stays East a s rounds turns x kept wo eo calm is = record {
+  west_rate = is.west_rate;
+  west_out_rate = is.west_out_rate;
+  east_out_rate = is.east_out_rate;
+  moments = is.moments;
+  held = is.held;
+  ports = is.ports;
+}

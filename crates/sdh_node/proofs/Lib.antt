@@ -6,3 +6,4 @@ pub mod Steps
 pub mod Itself
 pub mod Calm
 pub mod Decided
+pub mod RingLaws

@@ -17,9 +17,9 @@ use Rattle.sdh_nodestate.specs.FarEnds.{far_of, IsElsewhere}
 use Rattle.sdh_circuits.specs.declared.PortId.{PortId}
 use Rattle.sdh_circuits.specs.Provisioned.{Provisioned}
 use Rattle.sdh_squelch.specs.Table.{OnSpan, circuits_at}
-use Rattle.sdh_squelch.specs.declared.connecting.Origin.{Origin}
-use Rattle.sdh_squelch.specs.declared.connecting.Origin.TheVariants as origin
-use Rattle.sdh_squelch.specs.Connections.{stands_for, leaves_working, leaves_protection}
+use Rattle.sdh_bridge.specs.declared.Origin.{Origin}
+use Rattle.sdh_bridge.specs.declared.Origin.TheVariants as origin
+use Rattle.sdh_bridge.specs.Connections.{stands_for, leaves_working, leaves_protection}
 use Rattle.sdh_terminal.specs.Receiving.{Intake}
 use Rattle.sdh_node.specs.Receiving.{Receiving, after_intake, intake_of, if_west, if_east}
 use Rattle.sdh_terminal.specs.Passing.{Input}

@@ -3,3 +3,4 @@ pub mod Receiving
 pub mod Crossing
 pub mod Node
 pub mod Stations
+pub mod Rings

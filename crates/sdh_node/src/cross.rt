@@ -21,6 +21,8 @@ ghost use Rattle.sdh_payload.specs.Outlet.{front_of};
 ghost use Rattle.sdh_terminal.specs.Tributaries.{HasPort, outlet_of, outlets_of};
 
 use crate::receiver::Receiver;
+use crate::taking::Taking;
+use sdh_bridge::{Origin, drop_origin, protection_origin, working_origin};
 use sdh_circuits::{CircuitMap, PortId, Slot};
 use sdh_frame::FrameBuf;
 use sdh_nodestate::{Heard, Needs, NodeState, Sent, same_shape, shape_of, start, step};
@@ -29,7 +31,7 @@ use sdh_payload::Front;
 use sdh_plant::Arrived;
 use sdh_request::{Command, Moment, Settings};
 use sdh_ringmap::{Pos, Rate, RingMap, Side};
-use sdh_squelch::{Origin, Table, drop_origin, protection_origin, working_origin};
+use sdh_squelch::Table;
 use sdh_terminal::{Feeder, Intake, Matrix, Outlets, TakenPair, Tributaries};
 use std::alloc::{AllocError, Global};
 use std::marker::Model;
@@ -348,4 +350,21 @@ pub fn front_at(cross: &CrossConnect, ports: &Tributaries, port: PortId) -> Fron
     ensures { result ≡ front_of (outlet_of port (all_delivered cross.now ports.now)) }
 {
     ports.front(cross, port)
+}
+
+/// Does what `deliver_ports` does where `S` says that a round ends with it, and nothing otherwise.
+pub fn take_out<S: Taking>(
+    cross: &CrossConnect,
+    ports: &Tributaries,
+    taken: &mut TakenPair,
+    outlets: &mut Outlets,
+)
+    requires ports { All (λ t. (1 ≤ t.slot.0) × (t.slot.0 ≤ half_of cross.now)) ports.now }
+    requires many { length outlets.old ≡ length ports.now }
+    ensures room { length outlets.new ≡ length ports.now }
+    ensures taken { S.EACH_ROUND ≡ true → outlets.new ≡ outlets_of (all_delivered cross.now ports.now) }
+{
+    if S::EACH_ROUND {
+        deliver_ports(cross, ports, taken, outlets);
+    }
 }

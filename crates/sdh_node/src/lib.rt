@@ -7,13 +7,13 @@
 
 mod adm;
 mod cross;
-mod multiplexer;
 mod receiver;
+pub mod rings;
+mod signs;
 mod station;
-mod waiting;
+mod taking;
 
 pub use adm::Adm;
-pub use multiplexer::Multiplexer;
 pub use sdh_payload::{Delivered, Turn};
 pub use sdh_request::Settings;
-pub use waiting::Waiting;
+pub use taking::{EachRound, Taking, WhenAsked};

@@ -3,7 +3,7 @@ use Rattle.std.proofs.Common.{◌≡◌, ◌≢◌, ◌≤◌, ℕ, List, Bool, 
 use Rattle.std.specs.Prelude.{Option, Result, Ok, Err, IsErr}
 use native.Mathlib.Nat.{le_refl}
 use Rattle.sdh_basics.specs.Causes.{IsCounted, HasCause, one_more}
-use Rattle.sdh_report.specs.declared.status.Status.TheVariants as status
+use Rattle.sdh_status.specs.declared.Status.TheVariants as status
 use Rattle.sdh_shell.specs.Writing.{WroteEnding}
 use Rattle.sdh_node_cli.specs.declared.ending.Ending.{Ending}
 use Rattle.sdh_node_cli.specs.declared.ending.Ending.TheVariants as ending

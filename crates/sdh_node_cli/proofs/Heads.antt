@@ -5,7 +5,7 @@ use Rattle.std.specs.Io.KnownBytes.{Consumes}
 use Rattle.std.proofs.lemmas.List.{length-append}
 use Rattle.sdh_plan.specs.Planned.{Planned}
 use Rattle.sdh_shell.specs.Reading.{TellsPlan}
-use Rattle.sdh_report.specs.declared.status.Status.TheVariants as status
+use Rattle.sdh_status.specs.declared.Status.TheVariants as status
 use Rattle.sdh_node_cli.specs.declared.head.NoHead.{NoHead}
 use Rattle.sdh_node_cli.specs.declared.head.NoHead.TheVariants as none
 use Rattle.sdh_node_cli.specs.declared.head.HeadEnd.{HeadEnd}

@@ -7,10 +7,10 @@ use Rattle.sdh_ringmap.specs.declared.Pos.{Pos}
 use Rattle.sdh_ringmap.specs.Places.{found_at}
 use Rattle.sdh_node.specs.Node.{new_node}
 use Rattle.sdh_plan.specs.Planned.{Planned}
-use Rattle.sdh_report.specs.declared.status.Status.TheVariants as status
+use Rattle.sdh_status.specs.declared.Status.TheVariants as status
 use Rattle.sdh_report.specs.Lines.{own_line}
 use Rattle.sdh_shell.specs.Writing.{Telling, Whole, Front, Nothing, TellsAs, TellsWith, IsShown, WroteEnding, telling_in}
-use Rattle.sdh_shell.proofs.Pieces.{fewer_behind}
+use Rattle.sdh_outside.proofs.Pieces.{fewer_behind}
 use Rattle.sdh_node_cli.specs.declared.words.Ask.{Ask}
 use Rattle.sdh_node_cli.specs.declared.ending.Ending.{Ending}
 use Rattle.sdh_node_cli.specs.declared.ending.Ending.TheVariants as ending

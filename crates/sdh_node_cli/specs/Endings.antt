@@ -1,8 +1,9 @@
 -- How the program ends. The numbers and the lines are this project's own.
 use Rattle.std.specs.Prelude.{ℕ, List, ◌++◌, codes, decimal, Option, Some, None}
 use Rattle.sdh_plan.specs.Reasons.{reason_number}
-use Rattle.sdh_report.specs.declared.status.Status.{Status}
+use Rattle.sdh_status.specs.declared.Status.{Status}
 use Rattle.sdh_report.specs.Statuses as status
+use Rattle.sdh_status.specs.Numbers as numbers
 use Rattle.sdh_report.specs.Lines.{own_line}
 use Rattle.sdh_shell.specs.Endings.{Endings}
 use Rattle.sdh_node_cli.specs.declared.ending.Ending.{Ending}
@@ -22,7 +23,7 @@ flaw_number flaw.Many = 34
 abbrev pub number_of : Ending → ℕ
 number_of ending.NoSuchNode = 15
 number_of (ending.BadRecord f number) = 17
-number_of (ending.Shared how) = status.number_of how
+number_of (ending.Shared how) = numbers.number_of how
 
 -- the last line for a record that can't be done: `why` is the number of the reason, and `number` that of the record
 abbrev pub bad_record_text : ℕ → ℕ → List ℕ

@@ -6,8 +6,8 @@ use Rattle.sdh_outside.specs.Writing.{AppendsFewer}
 use Rattle.sdh_ringmap.specs.declared.Pos.{Pos}
 use Rattle.sdh_ringmap.specs.Places.{found_at}
 use Rattle.sdh_plan.specs.Planned.{Planned}
-use Rattle.sdh_report.specs.declared.status.Status.{Status}
-use Rattle.sdh_report.specs.declared.status.Status.TheVariants as status
+use Rattle.sdh_status.specs.declared.Status.{Status}
+use Rattle.sdh_status.specs.declared.Status.TheVariants as status
 use Rattle.sdh_report.specs.Lines.{own_line}
 use Rattle.sdh_shell.specs.Reading.{HasNoPlan, TellsPlan}
 use Rattle.sdh_shell.specs.Writing.{TellsWith}

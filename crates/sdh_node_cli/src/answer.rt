@@ -3,7 +3,7 @@ ghost use Rattle.std.specs.Prelude.{◌≡◌, ◌+◌, ◌*◌, ◌≤◌, ◌+
 ghost use Rattle.sdh_circuits.specs.declared.PortId.{PortId};
 ghost use Rattle.sdh_terminal.specs.Tributaries.{HasPort};
 ghost use Rattle.sdh_report.specs.Written.{with_part};
-ghost use Rattle.sdh_shell.specs.Writing.{room_in};
+ghost use Rattle.sdh_report.specs.Written.{room_in};
 ghost use Rattle.sdh_aps.specs.Lines.{signal_line};
 ghost use Rattle.sdh_aps.specs.Showing.{shown_of};
 ghost use Rattle.sdh_node_cli.specs.Records.{IsOwn};
@@ -15,14 +15,14 @@ use crate::record::port_here;
 use crate::words::Mode;
 use sdh_aps::{shown_of, signal_line};
 use sdh_circuits::{Circuit, CircuitMap, PortId};
-use sdh_node::Multiplexer;
+use sdh_node::{Adm, WhenAsked};
 use sdh_report::Text;
 use sdh_report::laws::front_line_is_short;
 use sdh_ringmap::{Pos, Rate};
 use std::alloc::{AllocError, Global};
 
 // Appends the line of the port of a circuit, if it has one at the node.
-fn put_port(text: &mut Text, node: &Multiplexer, circuit: &Circuit, port: Option<PortId>)
+fn put_port(text: &mut Text, node: &Adm<WhenAsked>, circuit: &Circuit, port: Option<PortId>)
     requires there { IfSome port (HasPort node.now.ports) }
     requires room { 96 ≤ text.old.room }
     ensures bytes { text.new.bytes ≡ text.old.bytes ++ text_of node.now circuit.now.name port }
@@ -39,7 +39,7 @@ fn put_port(text: &mut Text, node: &Multiplexer, circuit: &Circuit, port: Option
 }
 
 /// Appends the lines of the ports that are at the node, in the order of the circuits, each at most 96 bytes.
-pub fn put_ports(text: &mut Text, node: &Multiplexer, at: Pos, circuits: &CircuitMap)
+pub fn put_ports(text: &mut Text, node: &Adm<WhenAsked>, at: Pos, circuits: &CircuitMap)
     requires there { (port : PortId) → IsOwn circuits.now.circuits at port → HasPort node.now.ports port }
     requires room { 96 * length circuits.now.circuits ≤ text.old.room }
     ensures bytes { text.new.bytes ≡ text.old.bytes ++ ports_from node.now at 0 circuits.now.circuits }
@@ -54,7 +54,7 @@ pub fn put_ports(text: &mut Text, node: &Multiplexer, at: Pos, circuits: &Circui
 }
 
 /// Appends the line of what the node shows after a round.
-pub fn put_shown(text: &mut Text, node: &Multiplexer, round: u64, id: u8)
+pub fn put_shown(text: &mut Text, node: &Adm<WhenAsked>, round: u64, id: u8)
     requires room { 128 ≤ text.old.room }
     ensures bytes { text.new.bytes ≡ text.old.bytes ++ signal_line round id (shown_of node.now) }
     ensures room { text.old.room ≤ text.new.room + 128 }

@@ -12,7 +12,7 @@ use crate::record::{Record, Told, record_of};
 use crate::words::{Ask, Mode};
 use sdh_circuits::CircuitMap;
 use sdh_frame::FrameBuf;
-use sdh_node::Multiplexer;
+use sdh_node::{Adm, WhenAsked};
 use sdh_overhead::Landed;
 use sdh_plan::{Plan, Reason};
 use sdh_plant::Arrived;
@@ -31,7 +31,7 @@ pub struct Bench {
     circuits: CircuitMap,
     moment: Moment,
     rounds: u64,
-    node: Multiplexer,
+    node: Adm<WhenAsked>,
     west: FrameBuf,
     east: FrameBuf,
 }
@@ -59,7 +59,7 @@ impl Bench {
         let (map, circuits, _) = plan.into_parts();
         prove!(circuits.len() <= 128);
         let (west, east) = room_for(alloc, settings.rate)?;
-        let node = Multiplexer::try_new(alloc, settings, &map, &circuits, at)?;
+        let node = Adm::try_new(alloc, settings, &map, &circuits, at)?;
         Ok(Bench {
             mode: ask.mode,
             id: ask.id,
@@ -156,7 +156,7 @@ impl Bench {
     {
         let frames = &mut answer.frames;
         self.node
-            .send(self.moment, &mut self.west, &mut self.east, frames);
+            .send_through(self.moment, &mut self.west, &mut self.east, frames);
         put_shown(&mut answer.lines, &self.node, self.rounds, self.id);
         self.rounds += 1;
         put_ports(&mut answer.lines, &self.node, self.at, &self.circuits);

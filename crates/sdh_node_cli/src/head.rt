@@ -1,7 +1,7 @@
 //! The plan of a stream, up to the line that ends it.
 ghost use Rattle.std.specs.Prelude.{◌≡◌, ◌≤◌, ◌+◌, ◌++◌, ◌↔◌, List, ℕ, [], IsTrue, Ok, Err, IfOk, IfErr, OnErr, length};
 ghost use Rattle.sdh_basics.specs.Causes.{Rose, IsCounted, HasCause};
-ghost use Rattle.sdh_report.specs.declared.status.Status.{Status};
+ghost use Rattle.sdh_status.specs.declared.Status.{Status};
 ghost use Rattle.sdh_shell.specs.Reading.{TellsPlan};
 ghost use Rattle.sdh_node_cli.specs.Streams.{end_of_plan, EndsPlan};
 ghost use Rattle.sdh_node_cli.specs.Outcome.{HasHead, HasNoHead, TakesHead, TellsNone, IsNoPlan};
@@ -88,10 +88,9 @@ fn plan_of(alloc: Global, document: &[u8]) -> Result<Plan, NoHead>
         Ok(plan) => Ok(plan),
         Err(PlanError::Memory) => Err(NoHead::Memory),
         Err(PlanError::NotToml) => Err(NoHead::Refused(Status::NotToml)),
-        Err(PlanError::BadPlan { reason, place }) => Err(NoHead::Refused(Status::BadPlan {
-            reason: reason.number(),
-            place,
-        })),
+        Err(PlanError::BadPlan { reason, place }) => {
+            Err(NoHead::Refused(Status::BadPlan { reason, place }))
+        }
     }
 }
 

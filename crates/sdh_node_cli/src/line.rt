@@ -4,7 +4,7 @@ ghost use Rattle.std.specs.Io.KnownBytes.{Consumes, Keeps};
 ghost use Rattle.sdh_basics.specs.Causes.{HasCause};
 ghost use Rattle.sdh_report.specs.Written.{with_part};
 ghost use Rattle.sdh_node_cli.specs.Lines.{IsOneLine, whole_line};
-ghost use Rattle.sdh_shell.specs.Writing.{room_in};
+ghost use Rattle.sdh_report.specs.Written.{room_in};
 ghost use Rattle.sdh_node_cli.specs.Faults.{CountsFault};
 ghost use Rattle.sdh_node_cli.specs.Bench.{Bench};
 ghost use Rattle.sdh_node_cli.specs.Streams.{fewest};

@@ -1,6 +1,6 @@
 //! Room for what is read and written for one record.
 ghost use Rattle.std.specs.Prelude.{◌≡◌, IfOk};
-ghost use Rattle.sdh_shell.specs.Writing.{room_in};
+ghost use Rattle.sdh_report.specs.Written.{room_in};
 
 use crate::answer::Answer;
 use sdh_overhead::Landed;

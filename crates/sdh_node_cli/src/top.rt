@@ -5,7 +5,7 @@ ghost use Rattle.sdh_ringmap.specs.declared.Pos.{Pos};
 ghost use Rattle.sdh_ringmap.specs.Places.{found_at};
 ghost use Rattle.sdh_plan.specs.Planned.{Planned};
 ghost use Rattle.sdh_report.specs.Lines.{own_line};
-ghost use Rattle.sdh_report.specs.declared.status.Status.{Status};
+ghost use Rattle.sdh_status.specs.declared.Status.{Status};
 ghost use Rattle.sdh_shell.specs.Calls.{words_of};
 ghost use Rattle.sdh_shell.specs.Writing.{IsShown, WroteEnding};
 ghost use Rattle.sdh_node_cli.specs.Endings.{line_of, bench_endings};

@@ -2,7 +2,7 @@
 ghost use Rattle.std.specs.Prelude.{◌≡◌, ◌^◌, ◌<◌, [], Err, IfOk, IfErr, OnOk, OnErr};
 ghost use Rattle.std.specs.Io.KnownBytes.{Appends};
 ghost use Rattle.sdh_outside.specs.Writing.{AppendsFewer};
-ghost use Rattle.sdh_shell.specs.Writing.{room_in};
+ghost use Rattle.sdh_report.specs.Written.{room_in};
 ghost use Rattle.sdh_node_cli.specs.Faults.{CountsFault};
 ghost use Rattle.sdh_node_cli.specs.Records.{IsRecord};
 ghost use Rattle.sdh_node_cli.specs.Bench.{after_round, answer_to};

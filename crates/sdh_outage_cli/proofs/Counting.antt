@@ -20,13 +20,13 @@ use Rattle.sdh_node.specs.Node.{Node, new_node}
 use Rattle.sdh_node.specs.Stations.{adm}
 use Rattle.sdh_rounds.proofs.Keeping.{keeps_round}
 use Rattle.sdh_request.specs.declared.settings.Settings.{Settings}
-use Rattle.sdh_world.specs.Held.{HeldRing, new_nodes, node_at, nowhere}
-use Rattle.sdh_world.specs.Rounds.{World}
-use Rattle.sdh_world.specs.Runs.{IsRound}
-use Rattle.sdh_world.specs.Steps.{after_step}
-use Rattle.sdh_world.specs.Changes.{changed}
-use Rattle.sdh_world.specs.Fixed.{Fixed, fixed}
-use Rattle.sdh_world.proofs.Keeping.{fixed_with, fixed_next, all_commanded, all_held, all_slipped}
+use Rattle.sdh_node.specs.Rings.Held.{HeldRing, new_nodes, node_at, nowhere}
+use Rattle.sdh_node.specs.Rings.Rounds.{World}
+use Rattle.sdh_node.specs.Rings.Runs.{IsRound}
+use Rattle.sdh_owed.specs.Steps.{after_step}
+use Rattle.sdh_node.specs.Rings.Changes.{changed}
+use Rattle.sdh_node.specs.Rings.Fixed.{Fixed, fixed}
+use Rattle.sdh_node.proofs.RingLaws.Keeping.{fixed_with, fixed_next, all_commanded, all_held, all_slipped}
 use Rattle.sdh_ring.specs.Observed.{RanOne}
 use Rattle.sdh_outage_cli.specs.Ports.{ports_in}
 use Rattle.sdh_outage_cli.specs.Rooms.{ports_at}

@@ -12,9 +12,9 @@ use Rattle.sdh_circuits.specs.Provisioning.{Provisioning}
 use Rattle.sdh_payload.specs.Customer.{Customer}
 use Rattle.sdh_node.specs.Stations.{adm}
 use Rattle.sdh_rounds.proofs.Laws.{rounds_keep}
-use Rattle.sdh_world.specs.Held.{HeldRing}
-use Rattle.sdh_world.specs.Rounds.{World}
-use Rattle.sdh_world.specs.Runs.{IsRound}
+use Rattle.sdh_node.specs.Rings.Held.{HeldRing}
+use Rattle.sdh_node.specs.Rings.Rounds.{World}
+use Rattle.sdh_node.specs.Rings.Runs.{IsRound}
 use Rattle.sdh_ring.specs.Observed.{RanOne}
 use Rattle.sdh_outage.specs.Kinds.{Whose, kind_of, kinds_of, last_heard}
 use Rattle.sdh_outage.specs.Outages.{outage_of}

@@ -9,7 +9,7 @@ use Rattle.sdh_circuits.specs.declared.End.TheVariants.{A, B}
 use Rattle.sdh_circuits.specs.Ends.{port_id}
 use Rattle.sdh_circuits.specs.Provisioned.{Provisioned, end_of}
 use Rattle.sdh_circuits.specs.Provisioning.{IsInRing, AreCircuits}
-use Rattle.sdh_world.specs.Held.{HeldRing, place_of_port}
+use Rattle.sdh_node.specs.Rings.Held.{HeldRing, place_of_port}
 use Rattle.sdh_outage.specs.Kept.{Heard}
 use Rattle.sdh_scripts.proofs.Lists.{some_at}
 use Rattle.sdh_outage_cli.specs.Ports.{Listens, HeardAt, LookedAt, Looked, AreFewAt}

@@ -3,7 +3,7 @@ use Rattle.std.proofs.Common.{◌≡◌, true, ℕ, List, refl}
 use Rattle.sdh_plant.specs.Fibres.{Fibres, IsHonest}
 use Rattle.sdh_plan.specs.Planned.{Planned, IsPlanned, provisioning_of}
 use Rattle.sdh_plan.specs.Steps.{new_past}
-use Rattle.sdh_report.specs.declared.status.Status.{Status}
+use Rattle.sdh_status.specs.declared.Status.{Status}
 use Rattle.sdh_scripts.specs.Outcomes.{Came}
 use Rattle.sdh_scripts.proofs.Plans.{tells_all}
 use Rattle.sdh_scripts.proofs.Reporting.{reported}

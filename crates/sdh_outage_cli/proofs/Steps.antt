@@ -7,15 +7,15 @@ use Rattle.sdh_circuits.specs.declared.PortId.{PortId}
 use Rattle.sdh_circuits.specs.Provisioning.{Provisioning}
 use Rattle.sdh_node.specs.Stations.{adm}
 use Rattle.sdh_rounds.proofs.Runs.{held_run, course_whole}
-use Rattle.sdh_world.specs.Clocks.{waiting_at}
-use Rattle.sdh_world.specs.Held.{HeldRing}
-use Rattle.sdh_world.specs.Rounds.{World}
-use Rattle.sdh_world.specs.Runs.{course_with}
+use Rattle.sdh_node.specs.Rings.Clocks.{waiting_at}
+use Rattle.sdh_node.specs.Rings.Held.{HeldRing}
+use Rattle.sdh_node.specs.Rings.Rounds.{World}
+use Rattle.sdh_node.specs.Rings.Runs.{course_with}
 use Rattle.sdh_ring.specs.Observed.{Hears}
 use Rattle.sdh_report.specs.Lines.{settle_line}
 use Rattle.sdh_plan.specs.declared.step.Step.{Step}
 use Rattle.sdh_plan.specs.declared.step.Step.TheVariants as step
-use Rattle.sdh_world.specs.Steps.{after_step}
+use Rattle.sdh_owed.specs.Steps.{after_step}
 use Rattle.sdh_owed.proofs.Known.{no_round}
 use Rattle.sdh_owed.specs.Running as ring
 use Rattle.sdh_owed.specs.Running.{BeginsAtAMultiple}

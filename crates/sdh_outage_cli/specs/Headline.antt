@@ -2,11 +2,11 @@
 use Rattle.std.specs.Prelude.{ℕ, ◌≡◌, List, codes, None}
 use Rattle.sdh_plant.specs.Fibres.{Fibres}
 use Rattle.sdh_plant.specs.Arrivals.{Knows}
-use Rattle.sdh_report.specs.declared.status.Status.{Status}
+use Rattle.sdh_status.specs.declared.Status.{Status}
 use Rattle.sdh_owed.specs.Plans.{world_of}
 use Rattle.sdh_shell.specs.Endings.{statuses}
-use Rattle.sdh_scripts.specs.Programs.{deed_listing, as_script, Program}
-use Rattle.sdh_scripts.specs.Headline.{EndsAs}
+use Rattle.sdh_programs.specs.Programs.{deed_listing, as_script, Program}
+use Rattle.sdh_programs.specs.Headline.{EndsAs}
 use Rattle.sdh_outage_cli.specs.Outages.{Outaged}
 use Rattle.sdh_outage_cli.specs.declared.listing.OutageListing.{OutageListing}
 use Rattle.sdh_outage_cli.specs.Lines.{text_of}

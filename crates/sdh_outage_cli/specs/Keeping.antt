@@ -7,7 +7,7 @@ use Rattle.sdh_circuits.specs.declared.End.TheVariants.{A, B}
 use Rattle.sdh_circuits.specs.declared.PortId.{PortId}
 use Rattle.sdh_circuits.specs.Ends.{port_id}
 use Rattle.sdh_payload.specs.Customer.{Customer}
-use Rattle.sdh_world.specs.Rounds.{World}
+use Rattle.sdh_node.specs.Rings.Rounds.{World}
 use Rattle.sdh_outage.specs.Kept.{heard}
 use Rattle.sdh_outage_cli.specs.Outages.{delivered_at, whose_in}
 use Rattle.sdh_outage_cli.specs.Streams.{holder_of, AreNear}

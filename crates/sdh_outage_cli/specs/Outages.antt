@@ -6,8 +6,8 @@ use Rattle.sdh_circuits.specs.Ends.{other_end, port_id}
 use Rattle.sdh_circuits.specs.Provisioned.{Provisioned, customer_at}
 use Rattle.sdh_payload.specs.Customer.{Customer}
 use Rattle.sdh_payload.specs.declared.delivered.Delivered.{Delivered}
-use Rattle.sdh_world.specs.Held.{HeldRing, outlet_at}
-use Rattle.sdh_world.specs.Rounds.{World}
+use Rattle.sdh_node.specs.Rings.Held.{HeldRing, outlet_at}
+use Rattle.sdh_node.specs.Rings.Rounds.{World}
 use Rattle.sdh_scripts.specs.Ports.{of_ports}
 use Rattle.sdh_outage.specs.declared.kind.Kind.{Kind}
 use Rattle.sdh_outage.specs.declared.change.Change.{Change}

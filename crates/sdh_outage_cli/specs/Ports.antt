@@ -7,11 +7,11 @@ use Rattle.sdh_circuits.specs.Provisioned.{Provisioned, customer_at}
 use Rattle.sdh_circuits.specs.Ends.{other_end, port_id}
 use Rattle.sdh_payload.specs.Customer.{Customer}
 use Rattle.sdh_payload.specs.declared.delivered.Delivered.{Delivered}
-use Rattle.sdh_world.specs.Held.{HeldRing}
-use Rattle.sdh_world.specs.Rounds.{World}
+use Rattle.sdh_node.specs.Rings.Held.{HeldRing}
+use Rattle.sdh_node.specs.Rings.Rounds.{World}
 use Rattle.sdh_report.specs.Lines.{settle_line}
 use Rattle.sdh_node.specs.Node.{Node}
-use Rattle.sdh_world.specs.Held.{place_of_port}
+use Rattle.sdh_node.specs.Rings.Held.{place_of_port}
 use Rattle.sdh_outage.specs.Kinds.{Whose}
 use Rattle.sdh_outage.specs.Kept.{Heard, heard}
 use Rattle.sdh_outage_cli.specs.Outages.{delivered_at, whose_in, PortOutage}

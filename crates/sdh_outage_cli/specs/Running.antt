@@ -1,7 +1,7 @@
 -- When a script may be run whose outages are listed.
 use Rattle.std.specs.Prelude.{ℕ, ◌+◌, ◌*◌, ◌<◌, List}
 use Rattle.sdh_plant.specs.Fibres.{Fibres}
-use Rattle.sdh_world.specs.Held.{HeldRing}
+use Rattle.sdh_node.specs.Rings.Held.{HeldRing}
 use Rattle.sdh_plan.specs.declared.step.Step.{Step}
 use Rattle.sdh_owed.specs.Running as ring
 use Rattle.sdh_outage_cli.specs.Ports.{AreReady}

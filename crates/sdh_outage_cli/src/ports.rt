@@ -7,7 +7,7 @@ ghost use Rattle.sdh_outage.specs.Kinds.{Whose, kind_of};
 ghost use Rattle.sdh_outage.specs.Kept.{heard};
 ghost use Rattle.sdh_outage_cli.specs.Outages.{delivered_at};
 ghost use Rattle.sdh_terminal.specs.Tributaries.{outlets_of};
-ghost use Rattle.sdh_world.specs.Held.{node_at, place_of_port};
+ghost use Rattle.sdh_node.specs.Rings.Held.{node_at, place_of_port};
 ghost use Rattle.sdh_outage_cli.specs.Ports.{AreAt, AreFew, HaveBegun, Listens, Looked, listener_at};
 ghost use Rattle.sdh_outage_cli.specs.Ports.{ListensTo, HeardAt, LookedAt, AreFewAt, ports_in};
 ghost use Rattle.sdh_outage_cli.specs.Streams.{holder_of, AreNear, AreEarly};
@@ -178,7 +178,7 @@ fn look_here(listener: &mut Listener, node: &NodePorts<'_>, streams: &mut Stream
     ensures streams { streams.new.pairs.items ≡ streams.old.pairs.items }
 {
     let place = node.ring.place_of(port);
-    let there = node.ring.nodes()[place].node();
+    let there = &node.ring.nodes()[place];
     let now = there.outlet(port, node.outlets).delivered();
     let circuits = node.ring.stations().circuits();
     look(listener, circuits, streams, port, now);

@@ -2,7 +2,7 @@
 ghost use Rattle.std.specs.Prelude.{◌≡◌, ◌≤◌, true, refl, length, IfOk, OnErr};
 ghost use Rattle.sdh_basics.specs.Causes.{Rose, IsCounted};
 ghost use Rattle.sdh_plant.specs.Fibres.{HasNoFibres};
-ghost use Rattle.sdh_scripts.specs.Outcome.{IsRunOutcome};
+ghost use Rattle.sdh_programs.specs.Outcome.{IsRunOutcome};
 ghost use Rattle.sdh_outage_cli.specs.Outages.{Outaged};
 ghost use Rattle.sdh_outage_cli.specs.Running.{MayList};
 ghost use Rattle.sdh_outage_cli.specs.Plans.{MaySettle};
@@ -15,8 +15,8 @@ use crate::run::run_plan;
 use crate::words::{Command, command_of, listing_of};
 use sdh_plan::Plan;
 use sdh_plant::Plant;
+use sdh_programs::RunsPlans;
 use sdh_report::Status;
-use sdh_scripts::RunsPlans;
 use sdh_shell::{EndedText, ended, ended_line};
 use std::alloc::{AllocError, Global};
 

@@ -3,7 +3,7 @@ ghost use Rattle.std.specs.Prelude.{◌≡◌, ℕ, ◌+◌, ◌<◌, ◌≤◌,
 ghost use Rattle.sdh_basics.specs.Cells.{cells};
 ghost use Rattle.sdh_ringmap.specs.Places.{position_of};
 ghost use Rattle.sdh_terminal.specs.Tributaries.{outlets_of, tributaries_of};
-ghost use Rattle.sdh_world.specs.Held.{node_at};
+ghost use Rattle.sdh_node.specs.Rings.Held.{node_at};
 ghost use Rattle.sdh_outage_cli.specs.Rooms.{ports_at};
 ghost use Rattle.sdh_outage_cli.specs.Ports.{ports_in};
 

@@ -2,7 +2,7 @@
 ghost use Rattle.std.specs.Prelude.{ℕ, ◌≡◌, ◌+◌, ◌^◌, ◌≤◌, false, OnOk, length};
 ghost use Rattle.sdh_plant.specs.Fibres.{IsPrepared};
 ghost use Rattle.sdh_rounds.specs.Outcome.{IsStep};
-ghost use Rattle.sdh_world.specs.Rounds.{World, world};
+ghost use Rattle.sdh_node.specs.Rings.Rounds.{World, world};
 ghost use Rattle.sdh_node.specs.Stations.{adm};
 ghost use Rattle.sdh_ring.specs.Observed.{Hears};
 ghost use Rattle.sdh_ring.specs.Promises.{KeepsPromises};
@@ -20,9 +20,9 @@ use crate::ports::begin_all;
 use sdh_plan::Step;
 use sdh_plant::Plant;
 use sdh_report::Text;
-use sdh_ring::{PlantFault, Ring, SettleError, change};
+use sdh_ring::{PlantFault, Ring, SettleError};
 use sdh_rounds::{Nowhere, Stopped};
-use sdh_scripts::Runner;
+use sdh_scripts::{Runner, change};
 
 /// A ring, the listeners on its ports, and what is listed of each settle step.
 #[derive(Drop)]

@@ -8,16 +8,16 @@ use Rattle.sdh_rounds.specs.Rounds as any_round
 use Rattle.sdh_rounds.specs.Runs as any_run
 use Rattle.sdh_rounds.proofs.Runs.{length-heard, length-frames}
 use Rattle.sdh_node.specs.Stations.{adm}
-use Rattle.sdh_world.specs.Held.{place_of_port}
-use Rattle.sdh_world.specs.Rounds.{World, round}
-use Rattle.sdh_world.specs.Runs.{run}
-use Rattle.sdh_world.specs.Changes.{changed, all_changed, after_stretch, after_stretches, new_world}
-use Rattle.sdh_world.proofs.Keeping.{length-new}
-use Rattle.sdh_world.proofs.Histories.{length-placed}
+use Rattle.sdh_node.specs.Rings.Held.{place_of_port}
+use Rattle.sdh_node.specs.Rings.Rounds.{World, round}
+use Rattle.sdh_node.specs.Rings.Runs.{run}
+use Rattle.sdh_node.specs.Rings.Changes.{changed, all_changed, after_stretch, after_stretches, new_world}
+use Rattle.sdh_node.proofs.RingLaws.Keeping.{length-new}
+use Rattle.sdh_node.proofs.RingLaws.Histories.{length-placed}
 use Rattle.sdh_laws.proofs.converging.Runs.{length_run}
-use Rattle.sdh_promise.specs.Changes as change
-use Rattle.sdh_promise.specs.Changes.{Change, Stretch, rounds_in}
-use Rattle.sdh_report.specs.declared.status.Status.TheVariants as status
+use Rattle.sdh_restoration.specs.Changes as change
+use Rattle.sdh_restoration.specs.Changes.{Change, Stretch, rounds_in}
+use Rattle.sdh_status.specs.declared.Status.TheVariants as status
 use Rattle.sdh_report.specs.Reports.{Report}
 use Rattle.sdh_owed.specs.Course.{WentThrough, HasSent}
 use Rattle.sdh_owed.specs.Counting.{ran_by, CoursesCountFrames}

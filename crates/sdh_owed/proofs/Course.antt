@@ -10,12 +10,12 @@ use Rattle.sdh_ringmap.specs.declared.Side.{Side}
 use Rattle.sdh_ringmap.specs.declared.terms.Condition.{Condition}
 use Rattle.sdh_rounds.proofs.Runs.{course_whole, known_course, known_unsettles}
 use Rattle.sdh_node.specs.Stations.{adm}
-use Rattle.sdh_world.specs.Held.{new_ring}
-use Rattle.sdh_world.specs.Rounds.{World}
-use Rattle.sdh_world.specs.Runs.{run, run_with, course, IsBrokenOff}
-use Rattle.sdh_world.specs.Quiet.{EndsWindow, Unsettles, BreaksOff}
-use Rattle.sdh_world.specs.Changes.{changed, all_changed, after_stretch, after_stretches, new_world}
-use Rattle.sdh_world.specs.Laws.{MayHappen}
+use Rattle.sdh_node.specs.Rings.Held.{new_ring}
+use Rattle.sdh_node.specs.Rings.Rounds.{World}
+use Rattle.sdh_node.specs.Rings.Runs.{run, run_with, course, IsBrokenOff}
+use Rattle.sdh_node.specs.Rings.Quiet.{EndsWindow, Unsettles, BreaksOff}
+use Rattle.sdh_node.specs.Rings.Changes.{changed, all_changed, after_stretch, after_stretches, new_world}
+use Rattle.sdh_node.specs.Rings.Laws.{MayHappen}
 use Rattle.sdh_laws.specs.Hearing.Laws.{MayStart}
 use Rattle.sdh_laws.proofs.hearing.Requests.{after_last}
 use Rattle.sdh_laws.specs.Carrying.Windows.{layout_in, HasCircuits}
@@ -24,17 +24,18 @@ use Rattle.sdh_plan.specs.declared.step.Step.{Step}
 use Rattle.sdh_plan.specs.declared.step.Step.TheVariants as step
 use Rattle.sdh_plan.specs.Steps.{Past, after}
 use Rattle.sdh_plan.specs.Scripts.{AreSteps}
-use Rattle.sdh_report.specs.declared.status.Status.{Status}
-use Rattle.sdh_report.specs.declared.status.Status.TheVariants as status
+use Rattle.sdh_status.specs.declared.Status.{Status}
+use Rattle.sdh_status.specs.declared.Status.TheVariants as status
 use Rattle.sdh_report.specs.Reports.{Report}
-use Rattle.sdh_promise.specs.Changes.{Change, Stretch, rounds_in, changes_of, scenes}
-use Rattle.sdh_promise.specs.Changes as change
+use Rattle.sdh_restoration.specs.Changes.{Change, Stretch, rounds_in}
+use Rattle.sdh_promise.specs.Scenes.{changes_of, scenes}
+use Rattle.sdh_restoration.specs.Changes as change
 use Rattle.sdh_promise.specs.Owed.{Ring, IsLast}
 use Rattle.sdh_owed.specs.Reports.{report_of}
 use Rattle.sdh_scripts.specs.Scripts.{Refuses}
 use Rattle.sdh_scripts.proofs.Outcomes.{refused_ends}
 use Rattle.sdh_scripts.proofs.Reporting.{settles_by, reports_by, breaks_by}
-use Rattle.sdh_world.specs.Steps.{after_step}
+use Rattle.sdh_owed.specs.Steps.{after_step}
 use Rattle.sdh_owed.specs.Scripts.{Runs}
 use Rattle.sdh_owed.specs.Laws.{ring_by}
 use Rattle.sdh_owed.proofs.Strangers.{none_old_unheld, none_old_then, none_old}

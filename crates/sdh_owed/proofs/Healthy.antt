@@ -10,12 +10,12 @@ use Rattle.sdh_plant.specs.Fibres.{Fibres}
 use Rattle.sdh_plant.specs.Arrivals.{Knows}
 use Rattle.sdh_plant.proofs.Calling.{stay_honest}
 use Rattle.sdh_request.specs.declared.settings.Settings.{Settings}
-use Rattle.sdh_world.specs.Held.{outlet_at}
-use Rattle.sdh_promise.specs.Happened.{happened}
-use Rattle.sdh_world.specs.Rounds.{World}
-use Rattle.sdh_world.specs.Runs.{run}
-use Rattle.sdh_world.specs.Quiet.{settles_in}
-use Rattle.sdh_world.specs.Changes.{after_stretches, new_world}
+use Rattle.sdh_node.specs.Rings.Held.{outlet_at}
+use Rattle.sdh_restoration.specs.Happened.{happened}
+use Rattle.sdh_node.specs.Rings.Rounds.{World}
+use Rattle.sdh_node.specs.Rings.Runs.{run}
+use Rattle.sdh_node.specs.Rings.Quiet.{settles_in}
+use Rattle.sdh_node.specs.Rings.Changes.{after_stretches, new_world}
 use Rattle.sdh_rounds.proofs.Runs.{known_settles, known_unsettles}
 use Rattle.sdh_rounds.proofs.Laws.{steps_are_computed}
 use Rattle.sdh_laws.specs.Hearing.Laws.{MayStart}
@@ -25,8 +25,8 @@ use Rattle.sdh_laws.specs.Converging.Healthy.{healthy_steps, HealthySteps, Healt
 use Rattle.sdh_laws.proofs.converging.Runs.{run_more}
 use Rattle.sdh_plan.specs.declared.step.Step.{Step}
 use Rattle.sdh_plan.specs.declared.step.Step.TheVariants as step
-use Rattle.sdh_report.specs.declared.status.Status.{Status}
-use Rattle.sdh_report.specs.declared.status.Status.TheVariants as status
+use Rattle.sdh_status.specs.declared.Status.{Status}
+use Rattle.sdh_status.specs.declared.Status.TheVariants as status
 use Rattle.sdh_report.specs.Reports.{Report}
 use Rattle.sdh_scripts.specs.Ports.{port_lines}
 use Rattle.sdh_owed.specs.Reports.{report_of}
@@ -34,7 +34,7 @@ use Rattle.sdh_owed.specs.Scripts.{Runs}
 use Rattle.sdh_promise.specs.Owed.{owed_ports}
 use Rattle.sdh_owed.specs.Healthy.{AllSettle, AreHealthy}
 use Rattle.sdh_owed.specs.Laws.{HealthyScripts}
-use Rattle.sdh_world.specs.Steps.{after_step}
+use Rattle.sdh_owed.specs.Steps.{after_step}
 use Rattle.sdh_scripts.proofs.Frames.{knows_after}
 use Rattle.sdh_scripts.proofs.Reporting.{settles_by, reports_by}
 use Rattle.sdh_owed.proofs.Ports.{due_told, ports_are}

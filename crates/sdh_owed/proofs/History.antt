@@ -3,12 +3,13 @@ use Rattle.std.proofs.Common.{◌≡◌, ℕ, ◌+◌, ◌-◌, List, [], ◌∷
 use Rattle.sdh_circuits.specs.Provisioning.{Provisioning}
 use Rattle.sdh_plant.specs.Fibres.{Fibres}
 use Rattle.sdh_request.specs.declared.settings.Settings.{Settings}
-use Rattle.sdh_world.specs.Held.{new_ring}
-use Rattle.sdh_world.specs.Rounds.{World}
-use Rattle.sdh_promise.specs.Changes.{Change, Stretch, rounds_in, changes_of, scenes}
-use Rattle.sdh_world.specs.Changes.{new_world}
-use Rattle.sdh_world.specs.Clocks.{clocks_by}
-use Rattle.sdh_promise.specs.Happened.{happened}
+use Rattle.sdh_node.specs.Rings.Held.{new_ring}
+use Rattle.sdh_node.specs.Rings.Rounds.{World}
+use Rattle.sdh_restoration.specs.Changes.{Change, Stretch, rounds_in}
+use Rattle.sdh_promise.specs.Scenes.{changes_of, scenes}
+use Rattle.sdh_node.specs.Rings.Changes.{new_world}
+use Rattle.sdh_node.specs.Rings.Clocks.{clocks_by}
+use Rattle.sdh_restoration.specs.Happened.{happened}
 use Rattle.sdh_laws.specs.Hearing.Laws.{MayStart}
 use Rattle.sdh_laws.specs.Carrying.Windows.{Layout, layout_in, layout_of, size_of, HasCircuits}
 use Rattle.sdh_laws.specs.Carrying.Laws.{IsRestored, SettledRingsRestore}
@@ -16,16 +17,15 @@ use Rattle.sdh_plan.specs.declared.step.Step.{Step}
 use Rattle.sdh_plan.specs.declared.step.Step.TheVariants as step
 use Rattle.sdh_plan.specs.Steps.{Past, after}
 use Rattle.sdh_plan.specs.Scripts.{AreSteps}
-use Rattle.sdh_report.specs.declared.status.Status.{Status}
-use Rattle.sdh_report.specs.declared.status.Status.TheVariants as status
+use Rattle.sdh_status.specs.declared.Status.{Status}
+use Rattle.sdh_status.specs.declared.Status.TheVariants as status
 use Rattle.sdh_report.specs.Reports.{Report}
-use Rattle.sdh_owed.specs.Reports.{report_of}
+use Rattle.sdh_owed.specs.Reports.{ports_of, report_of}
 use Rattle.sdh_scripts.proofs.Outcomes.{refused_ends}
 use Rattle.sdh_scripts.proofs.Reporting.{settles_by, reports_by}
 use Rattle.sdh_node.specs.Stations.{adm}
-use Rattle.sdh_world.specs.Steps.{after_step}
+use Rattle.sdh_owed.specs.Steps.{after_step}
 use Rattle.sdh_owed.specs.Scripts.{Runs}
-use Rattle.sdh_promise.specs.Plans.{ports_of}
 use Rattle.sdh_promise.specs.Owed.{Ring, requests_by, IsOwed, AreOwed}
 use Rattle.sdh_owed.specs.Laws.{ring_by, ReportsAreOwed}
 use Rattle.sdh_owed.proofs.Standing.{Stands, layout_is, changed_then, stretch_to, Ended, settled_then, stands_new}

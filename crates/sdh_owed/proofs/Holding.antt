@@ -10,15 +10,15 @@ use Rattle.sdh_signal.specs.Laws.{StillRingsAreSettled}
 use Rattle.sdh_signal.specs.Settled.{settled}
 use Rattle.sdh_node.specs.Receiving.{commanded_by}
 use Rattle.sdh_node.specs.Node.{at_receiving, held_for, slips_at}
-use Rattle.sdh_world.specs.Held.{node_at, AtEach, place_of_port}
-use Rattle.sdh_world.specs.Rounds.{World}
-use Rattle.sdh_world.specs.Runs.{run, course}
-use Rattle.sdh_world.specs.Quiet.{EndsWindow}
-use Rattle.sdh_world.specs.Changes.{changed, all_changed, after_stretches, new_world}
-use Rattle.sdh_world.specs.Laws.{MayHappen}
-use Rattle.sdh_promise.specs.Changes.{Change, Stretch, rounds_in}
-use Rattle.sdh_promise.specs.Changes as change
-use Rattle.sdh_promise.specs.Owed.{asked_in}
+use Rattle.sdh_node.specs.Rings.Held.{node_at, AtEach, place_of_port}
+use Rattle.sdh_node.specs.Rings.Rounds.{World}
+use Rattle.sdh_node.specs.Rings.Runs.{run, course}
+use Rattle.sdh_node.specs.Rings.Quiet.{EndsWindow}
+use Rattle.sdh_node.specs.Rings.Changes.{changed, all_changed, after_stretches, new_world}
+use Rattle.sdh_node.specs.Rings.Laws.{MayHappen}
+use Rattle.sdh_restoration.specs.Changes.{Change, Stretch, rounds_in}
+use Rattle.sdh_restoration.specs.Changes as change
+use Rattle.sdh_restoration.specs.Sides.{asked_in}
 use Rattle.sdh_laws.specs.Hearing.Laws.{MayStart}
 use Rattle.sdh_laws.specs.Strangers.Laws.{EachMay, IsNoPass, HoldsNoPass, last_requests, HoldsNonePassing, HoldNonePassing}
 use Rattle.sdh_laws.proofs.hearing.Changes.{each_at_place, whole_run}

@@ -2,15 +2,15 @@
 use Rattle.std.proofs.Common.{◌≡◌, length, refl}
 use Rattle.sdh_plant.specs.Arrivals.{Knows}
 use Rattle.sdh_node.specs.Stations.{adm}
-use Rattle.sdh_world.specs.Held.{place_of_port}
-use Rattle.sdh_world.specs.Rounds.{World}
-use Rattle.sdh_world.specs.Changes.{changed}
+use Rattle.sdh_node.specs.Rings.Held.{place_of_port}
+use Rattle.sdh_node.specs.Rings.Rounds.{World}
+use Rattle.sdh_node.specs.Rings.Changes.{changed}
 use Rattle.sdh_plan.specs.declared.step.Step.{Step}
 use Rattle.sdh_plan.specs.declared.step.Step.TheVariants as step
 use Rattle.sdh_scripts.specs.Laws.{DoesNoRound, KeepsRounds}
 use Rattle.sdh_scripts.proofs.Reporting.{keeps_by}
-use Rattle.sdh_world.specs.Steps.{after_step}
-use Rattle.sdh_world.proofs.Histories.{length-placed}
+use Rattle.sdh_owed.specs.Steps.{after_step}
+use Rattle.sdh_node.proofs.RingLaws.Histories.{length-placed}
 use Rattle.sdh_owed.specs.Reports.{report_of}
 use Rattle.sdh_owed.specs.Scripts.{adm_walk}
 

@@ -17,14 +17,14 @@ use Rattle.sdh_restoration.proofs.Asked.{length-requests, asked_is_applied}
 use Rattle.sdh_signal.specs.Laws.{StillRingsAreSettled}
 use Rattle.sdh_signal.specs.Settled.{far_end, is_outranked, settled_by, settled}
 use Rattle.sdh_plant.specs.Fibres.{Fibres, IsHonest}
-use Rattle.sdh_world.specs.Rounds.{World}
-use Rattle.sdh_world.specs.Runs.{run, course}
-use Rattle.sdh_world.specs.Quiet.{EndsWindow}
-use Rattle.sdh_world.specs.Changes.{all_changed}
-use Rattle.sdh_world.specs.Laws.{MayHappen}
-use Rattle.sdh_promise.specs.Changes.{Change, Stretch, rounds_in}
-use Rattle.sdh_promise.specs.Sides.{Holding, new_holding, all_holding, side_history}
-use Rattle.sdh_promise.specs.Owed.{asked_in}
+use Rattle.sdh_node.specs.Rings.Rounds.{World}
+use Rattle.sdh_node.specs.Rings.Runs.{run, course}
+use Rattle.sdh_node.specs.Rings.Quiet.{EndsWindow}
+use Rattle.sdh_node.specs.Rings.Changes.{all_changed}
+use Rattle.sdh_node.specs.Rings.Laws.{MayHappen}
+use Rattle.sdh_restoration.specs.Changes.{Change, Stretch, rounds_in}
+use Rattle.sdh_restoration.specs.Sides.{Holding, new_holding, all_holding, side_history}
+use Rattle.sdh_restoration.specs.Sides.{asked_in}
 use Rattle.sdh_laws.specs.Hearing.Laws.{IsWhole}
 use Rattle.sdh_laws.specs.Carrying.Windows.{layout_of, HasCircuits}
 use Rattle.sdh_laws.specs.Converging.Laws.{WindowsComeSoon}

@@ -1,7 +1,7 @@
 -- The ring of a plan is new, and its circuits fit it.
 use Rattle.std.proofs.Common.{length, refl}
 use Rattle.sdh_plant.specs.Fibres.{Fibres, IsHonest}
-use Rattle.sdh_world.proofs.Keeping.{length-new}
+use Rattle.sdh_node.proofs.RingLaws.Keeping.{length-new}
 use Rattle.sdh_circuits.proofs.Rings.{circuits_are}
 use Rattle.sdh_laws.specs.Carrying.Windows.{layout_in, HasCircuits}
 use Rattle.sdh_laws.specs.Hearing.Laws.{MayStart}

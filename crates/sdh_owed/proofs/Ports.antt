@@ -16,21 +16,20 @@ use Rattle.sdh_payload.specs.Laws.{clock_by, GoesBy}
 use Rattle.sdh_payload.proofs.Histories.{clocks_go_by_history}
 use Rattle.sdh_payload.specs.Outlet.{Outlet, delivering}
 use Rattle.sdh_payload.specs.Stream.{stream_from}
-use Rattle.sdh_promise.specs.Changes.{Stretch}
-use Rattle.sdh_promise.specs.Happened.{happened}
-use Rattle.sdh_promise.specs.Plans.{ports_of}
+use Rattle.sdh_restoration.specs.Changes.{Stretch}
+use Rattle.sdh_restoration.specs.Happened.{happened}
+use Rattle.sdh_owed.specs.Reports.{ports_of, report_of}
 use Rattle.sdh_promise.specs.Owed.{owed_port, owed_ports, IsOwed}
 use Rattle.sdh_spans.specs.Brought.{plainly}
-use Rattle.sdh_world.specs.Clocks.{offset_of, clocks_by}
-use Rattle.sdh_world.proofs.Happened.{clocks_tell}
-use Rattle.sdh_world.specs.Held.{HeldRing, outlet_at}
-use Rattle.sdh_world.specs.Rounds.{World}
+use Rattle.sdh_node.specs.Rings.Clocks.{offset_of, clocks_by}
+use Rattle.sdh_node.proofs.RingLaws.Happened.{clocks_tell}
+use Rattle.sdh_node.specs.Rings.Held.{HeldRing, outlet_at}
+use Rattle.sdh_node.specs.Rings.Rounds.{World}
 use Rattle.sdh_laws.specs.Carrying.Laws.{due_by_clocks, IsRestored}
 use Rattle.sdh_laws.specs.Carrying.Windows.{layout_of, HasCircuits}
 use Rattle.sdh_laws.proofs.carrying.Owed.{offset_small}
-use Rattle.sdh_report.specs.Reports.{PortLine}
+use Rattle.sdh_status.specs.PortLine.{PortLine}
 use Rattle.sdh_scripts.specs.Ports.{end_outlet, port_line_at, lines_from}
-use Rattle.sdh_owed.specs.Reports.{report_of}
 
 -- ---- clocks and what happened
 

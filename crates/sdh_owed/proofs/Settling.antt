@@ -3,11 +3,12 @@ use Rattle.std.proofs.Common.{◌≡◌, ℕ, ◌+◌, ◌≤◌, List, [], ◌�
 use Rattle.sdh_circuits.specs.Provisioning.{Provisioning}
 use Rattle.sdh_plant.specs.Fibres.{Fibres}
 use Rattle.sdh_request.specs.declared.settings.Settings.{Settings}
-use Rattle.sdh_world.specs.Held.{new_ring}
-use Rattle.sdh_world.specs.Rounds.{World}
-use Rattle.sdh_world.specs.Quiet.{Unsettles}
-use Rattle.sdh_promise.specs.Changes.{Change, Stretch, changes_of}
-use Rattle.sdh_world.specs.Changes.{after_stretches, new_world}
+use Rattle.sdh_node.specs.Rings.Held.{new_ring}
+use Rattle.sdh_node.specs.Rings.Rounds.{World}
+use Rattle.sdh_node.specs.Rings.Quiet.{Unsettles}
+use Rattle.sdh_restoration.specs.Changes.{Change, Stretch}
+use Rattle.sdh_promise.specs.Scenes.{changes_of}
+use Rattle.sdh_node.specs.Rings.Changes.{after_stretches, new_world}
 use Rattle.sdh_rounds.proofs.Runs.{known_unsettles}
 use Rattle.sdh_laws.specs.Hearing.Laws.{MayStart}
 use Rattle.sdh_laws.proofs.hearing.Requests.{after_last}
@@ -18,12 +19,12 @@ use Rattle.sdh_plan.specs.declared.step.Step.{Step}
 use Rattle.sdh_plan.specs.declared.step.Step.TheVariants as step
 use Rattle.sdh_plan.specs.Steps.{Past, after}
 use Rattle.sdh_plan.specs.Scripts.{AreSteps}
-use Rattle.sdh_report.specs.declared.status.Status.{Status}
-use Rattle.sdh_report.specs.declared.status.Status.TheVariants as status
+use Rattle.sdh_status.specs.declared.Status.{Status}
+use Rattle.sdh_status.specs.declared.Status.TheVariants as status
 use Rattle.sdh_report.specs.Reports.{Report}
 use Rattle.sdh_owed.specs.Scripts.{Runs}
 use Rattle.sdh_scripts.specs.Outcomes.{IsSettled}
-use Rattle.sdh_world.specs.Steps.{after_step}
+use Rattle.sdh_owed.specs.Steps.{after_step}
 use Rattle.sdh_owed.specs.Reports.{report_of}
 use Rattle.sdh_owed.specs.Laws.{ScriptsSettle}
 use Rattle.sdh_scripts.proofs.Outcomes.{refused_ends, settled_by, ok_settles, fault_settles}

@@ -17,19 +17,20 @@ use Rattle.sdh_terminal.specs.Tributaries.{Tributary}
 use Rattle.sdh_terminal.proofs.Slips.{waiting_more}
 use Rattle.sdh_node.specs.Receiving.{commanded_by}
 use Rattle.sdh_node.specs.Node.{new_node, is_held, at_receiving, held_for, slips_at}
-use Rattle.sdh_world.specs.Held.{new_ring, place_of_port, outlet_at}
-use Rattle.sdh_world.specs.Rounds.{World}
-use Rattle.sdh_world.specs.Runs.{run, course}
-use Rattle.sdh_world.specs.Quiet.{EndsWindow}
-use Rattle.sdh_world.specs.Changes.{changed, all_changed, after_stretch, after_stretches, new_world}
-use Rattle.sdh_world.specs.Clocks.{clocks_from, clocks_by}
-use Rattle.sdh_world.specs.Laws.{MayHappen}
-use Rattle.sdh_world.proofs.Clocks.{slips_keep}
-use Rattle.sdh_promise.specs.Changes as change
-use Rattle.sdh_promise.specs.Changes.{Change, Stretch, rounds_in}
-use Rattle.sdh_promise.specs.Happened.{happened}
-use Rattle.sdh_promise.specs.Plans.{ports_of}
-use Rattle.sdh_promise.specs.Owed.{Ring, asked_in, owed_port, IsOwed}
+use Rattle.sdh_node.specs.Rings.Held.{new_ring, place_of_port, outlet_at}
+use Rattle.sdh_node.specs.Rings.Rounds.{World}
+use Rattle.sdh_node.specs.Rings.Runs.{run, course}
+use Rattle.sdh_node.specs.Rings.Quiet.{EndsWindow}
+use Rattle.sdh_node.specs.Rings.Changes.{changed, all_changed, after_stretch, after_stretches, new_world}
+use Rattle.sdh_node.specs.Rings.Clocks.{clocks_from, clocks_by}
+use Rattle.sdh_node.specs.Rings.Laws.{MayHappen}
+use Rattle.sdh_node.proofs.RingLaws.Clocks.{slips_keep}
+use Rattle.sdh_restoration.specs.Changes as change
+use Rattle.sdh_restoration.specs.Changes.{Change, Stretch, rounds_in}
+use Rattle.sdh_restoration.specs.Happened.{happened}
+use Rattle.sdh_owed.specs.Reports.{ports_of, report_of}
+use Rattle.sdh_promise.specs.Owed.{Ring, owed_port, IsOwed}
+use Rattle.sdh_restoration.specs.Sides.{asked_in}
 use Rattle.sdh_laws.specs.Hearing.Laws.{IsWhole, MayStart, NoneWait}
 use Rattle.sdh_laws.specs.Carrying.Laws.{due_by_clocks, DeliversItsDue, IsRestored}
 use Rattle.sdh_laws.specs.Carrying.Windows.{Layout, layout_in, layout_of, size_of, HasCircuits, requests_of}
@@ -46,7 +47,6 @@ use Rattle.sdh_laws.proofs.hearing.Steady.{AllHeldFor, free_at, none_wait, held_
 use Rattle.sdh_laws.proofs.carrying.Owed.{offset_small}
 use Rattle.sdh_laws.proofs.carrying.Settles.{layout_all, layout_stretches, whole_v, restored_by_history, port_by_history}
 use Rattle.sdh_laws.proofs.carrying.Ways.{layout_run}
-use Rattle.sdh_owed.specs.Reports.{report_of}
 use Rattle.sdh_owed.specs.Laws.{ring_by}
 use Rattle.sdh_owed.specs.Course.{stretch, SlipsNone, SlipNone, IsLate, ShowsWhatIsOwed}
 use Rattle.sdh_owed.proofs.Holding.{held_by_all}

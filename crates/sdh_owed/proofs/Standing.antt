@@ -15,19 +15,20 @@ use Rattle.sdh_ringmap.specs.Fibres.{IsConditionAt}
 use Rattle.sdh_request.specs.declared.settings.Settings.{Settings}
 use Rattle.sdh_terminal.specs.Tributaries.{Tributary, port_of}
 use Rattle.sdh_node.specs.Node.{Node}
-use Rattle.sdh_world.specs.Held.{HeldRing, new_ring, place_of_port, nowhere, node_at, AtEach}
-use Rattle.sdh_world.specs.Rounds.{World}
-use Rattle.sdh_world.specs.Runs.{run, course}
-use Rattle.sdh_world.specs.Quiet.{EndsWindow, Settles}
-use Rattle.sdh_promise.specs.Changes as change
-use Rattle.sdh_promise.specs.Changes.{Change, Stretch, rounds_in, changes_of}
-use Rattle.sdh_world.specs.Changes.{changed, all_changed, after_stretch, after_stretches, new_world}
-use Rattle.sdh_world.specs.Clocks.{clock_after, clock_at, waiting_at}
-use Rattle.sdh_world.specs.Laws.{AreChangesOf, MayHappen}
+use Rattle.sdh_node.specs.Rings.Held.{HeldRing, new_ring, place_of_port, nowhere, node_at, AtEach}
+use Rattle.sdh_node.specs.Rings.Rounds.{World}
+use Rattle.sdh_node.specs.Rings.Runs.{run, course}
+use Rattle.sdh_node.specs.Rings.Quiet.{EndsWindow, Settles}
+use Rattle.sdh_restoration.specs.Changes as change
+use Rattle.sdh_restoration.specs.Changes.{Change, Stretch, rounds_in}
+use Rattle.sdh_promise.specs.Scenes.{changes_of}
+use Rattle.sdh_node.specs.Rings.Changes.{changed, all_changed, after_stretch, after_stretches, new_world}
+use Rattle.sdh_node.specs.Rings.Clocks.{clock_after, clock_at, waiting_at}
+use Rattle.sdh_node.specs.Rings.Laws.{AreChangesOf, MayHappen}
 use Rattle.sdh_rounds.specs.Laws.{EndsAtAMultiple}
 use Rattle.sdh_terminal.proofs.Found.{found_has}
 use Rattle.sdh_terminal.proofs.Slips.{waiting_more}
-use Rattle.sdh_world.proofs.Waiting.{waits_changed, waits_new}
+use Rattle.sdh_node.proofs.RingLaws.Waiting.{waits_changed, waits_new}
 use Rattle.sdh_rounds.proofs.Laws.{settled_numbers}
 use Rattle.sdh_rounds.proofs.Runs.{known_settles}
 use Rattle.sdh_laws.specs.Hearing.Laws.{IsWhole, MayStart, NoneWait}
@@ -42,7 +43,7 @@ use Rattle.sdh_plan.specs.declared.step.Step.TheVariants as step
 use Rattle.sdh_plan.specs.Steps.{Past, after, more_slips, is_settle}
 use Rattle.sdh_plan.specs.Scripts as plan
 use Rattle.sdh_promise.specs.Owed.{IsLast}
-use Rattle.sdh_world.specs.Steps.{after_step}
+use Rattle.sdh_owed.specs.Steps.{after_step}
 use Rattle.sdh_node.specs.Stations.{adm}
 use Rattle.sdh_promise.proofs.Rounds.{rounds_last}
 use Rattle.sdh_owed.specs.Running.{BeginsAtAMultiple}

@@ -8,23 +8,24 @@ use Rattle.sdh_plant.proofs.Calling.{stay_prepared}
 use Rattle.sdh_circuits.specs.declared.PortId.{PortId}
 use Rattle.sdh_circuits.specs.Provisioned.{same_port}
 use Rattle.sdh_ringmap.specs.declared.terms.Rate.{Rate}
-use Rattle.sdh_world.specs.Clocks.{waiting_at}
+use Rattle.sdh_node.specs.Rings.Clocks.{waiting_at}
 use Rattle.sdh_node.specs.Node.{Node}
 use Rattle.sdh_circuits.specs.Provisioning.{Provisioning}
 use Rattle.sdh_request.specs.declared.settings.Settings.{Settings}
-use Rattle.sdh_world.specs.Held.{HeldRing, new_ring}
-use Rattle.sdh_world.proofs.Waiting.{waits_new}
-use Rattle.sdh_world.specs.Rounds.{World}
-use Rattle.sdh_world.specs.Changes.{changed}
-use Rattle.sdh_world.specs.Quiet.{Settles}
+use Rattle.sdh_node.specs.Rings.Held.{HeldRing, new_ring}
+use Rattle.sdh_node.proofs.RingLaws.Waiting.{waits_new}
+use Rattle.sdh_node.specs.Rings.Rounds.{World}
+use Rattle.sdh_node.specs.Rings.Changes.{changed, adm_changes}
+use Rattle.sdh_node.specs.Rings.Quiet.{Settles}
 use Rattle.sdh_rounds.proofs.Runs.{held_run}
 use Rattle.sdh_plan.specs.declared.step.Step.{Step}
 use Rattle.sdh_plan.specs.declared.step.Step.TheVariants as step
 use Rattle.sdh_plan.specs.Planned.{Planned, IsPlanned, provisioning_of}
 use Rattle.sdh_plan.specs.Steps.{Past, new_past, after, is_settle}
 use Rattle.sdh_plan.specs.Scripts.{HasRoom, AreSteps}
+use Rattle.sdh_scripts.specs.Steps.{stepped}
 use Rattle.sdh_scripts.proofs.Plans.{as_planned}
-use Rattle.sdh_world.specs.Steps.{after_step, past_of}
+use Rattle.sdh_owed.specs.Steps.{after_step, past_of}
 use Rattle.sdh_owed.proofs.Standing.{WaitAtMost, few_after}
 use Rattle.sdh_owed.proofs.Known.{no_round}
 use Rattle.sdh_owed.specs.Running.{BeginsAtAMultiple, MayRun}
@@ -253,3 +254,13 @@ changed_circuits s w left is = ap (λ (v : World). v.ring.circuits) is ∙ circu
 
 pub changed_ids : (s : Step) (w left : World) → left ≡ after_step s w → left.ring.ids ≡ w.ring.ids
 changed_ids s w left is = ap (λ (v : World). v.ring.ids) is ∙ no_round.ids s w
+
+-- a step of a script over a ring of add-drop multiplexers makes the changes that it says
+pub stepped_is : (s : Step) (w : World) → stepped adm_changes s w ≡ after_step s w
+unfolding changed
+stepped_is (step.Fibre e) w = refl
+stepped_is (step.Order at side command) w = refl
+stepped_is (step.Moment now) w = refl
+stepped_is (step.Hold at turns) w = refl
+stepped_is (step.Slip port turn count) w = refl
+stepped_is step.Settle w = refl

@@ -3,9 +3,9 @@ use Rattle.std.specs.Prelude.{ℕ, ◌≡◌, ◌+◌, ◌*◌, Some, List, [], 
 use Rattle.sdh_circuits.specs.Provisioning.{Provisioning}
 use Rattle.sdh_plant.specs.Fibres.{Fibres}
 use Rattle.sdh_request.specs.declared.settings.Settings.{Settings}
-use Rattle.sdh_world.specs.Changes.{new_world}
+use Rattle.sdh_node.specs.Rings.Changes.{new_world}
 use Rattle.sdh_plan.specs.declared.step.Step.{Step}
-use Rattle.sdh_report.specs.declared.status.Status.TheVariants as status
+use Rattle.sdh_status.specs.declared.Status.TheVariants as status
 use Rattle.sdh_report.specs.Reports.{Report}
 use Rattle.sdh_promise.specs.Owed.{Ring}
 use Rattle.sdh_owed.specs.Course.{HasCourse}

@@ -4,12 +4,12 @@ use Rattle.std.specs.Prelude.{ℕ, ◌≡◌, ◌⊎◌, ◌+◌, ◌-◌, ◌*�
 use Rattle.sdh_circuits.specs.Provisioning.{Provisioning}
 use Rattle.sdh_plant.specs.Fibres.{Fibres, HasNoFibres}
 use Rattle.sdh_request.specs.declared.settings.Settings.{Settings}
-use Rattle.sdh_world.specs.Held.{new_ring, outlet_at}
-use Rattle.sdh_world.specs.Rounds.{World, round}
-use Rattle.sdh_world.specs.Runs.{IsBrokenOff}
-use Rattle.sdh_world.specs.Sides.{world_in}
-use Rattle.sdh_world.specs.Changes.{after_stretches, new_world}
-use Rattle.sdh_world.specs.Clocks.{clocks_by}
+use Rattle.sdh_node.specs.Rings.Held.{new_ring, outlet_at}
+use Rattle.sdh_node.specs.Rings.Rounds.{World, round}
+use Rattle.sdh_node.specs.Rings.Runs.{IsBrokenOff}
+use Rattle.sdh_node.specs.Rings.Sides.{world_in}
+use Rattle.sdh_node.specs.Rings.Changes.{after_stretches, new_world}
+use Rattle.sdh_node.specs.Rings.Clocks.{clocks_by}
 use Rattle.sdh_laws.specs.Hearing.Laws.{MayStart}
 use Rattle.sdh_laws.specs.Carrying.Windows.{layout_in, HasCircuits}
 use Rattle.sdh_laws.specs.Strangers.Owners.{NoneMeetsAStranger}
@@ -17,11 +17,12 @@ use Rattle.sdh_laws.specs.Strangers.Laws.{HoldNone, HoldNonePassing}
 use Rattle.sdh_plan.specs.declared.step.Step.{Step}
 use Rattle.sdh_plan.specs.Steps.{Past}
 use Rattle.sdh_plan.specs.Scripts.{AreSteps}
-use Rattle.sdh_report.specs.declared.status.Status.{Status}
-use Rattle.sdh_report.specs.declared.status.Status.TheVariants as status
+use Rattle.sdh_status.specs.declared.Status.{Status}
+use Rattle.sdh_status.specs.declared.Status.TheVariants as status
 use Rattle.sdh_report.specs.Reports.{Report}
-use Rattle.sdh_promise.specs.Changes.{Change, Fibre, Order, Hold, Slip, Now, Stretch, rounds_in, scenes}
-use Rattle.sdh_promise.specs.Happened.{happened}
+use Rattle.sdh_restoration.specs.Changes.{Change, Fibre, Order, Hold, Slip, Now, Stretch, rounds_in}
+use Rattle.sdh_promise.specs.Scenes.{scenes}
+use Rattle.sdh_restoration.specs.Happened.{happened}
 use Rattle.sdh_promise.specs.Owed.{Ring, requests_by, owed_port, IsOwed, IsLast}
 use Rattle.sdh_restoration.specs.Applied.{is_applied}
 use Rattle.sdh_restoration.specs.Routes.{hops}
@@ -29,8 +30,7 @@ use Rattle.sdh_ringmap.specs.Arcs.{is_joined}
 use Rattle.sdh_circuits.specs.Ends.{port_id}
 use Rattle.sdh_circuits.specs.Provisioned.{Provisioned, arc_of}
 use Rattle.sdh_circuits.specs.declared.End.{End}
-use Rattle.sdh_promise.specs.Plans.{ports_of}
-use Rattle.sdh_owed.specs.Reports.{report_of}
+use Rattle.sdh_owed.specs.Reports.{ports_of, report_of}
 use Rattle.sdh_owed.specs.Scripts.{Runs}
 use Rattle.sdh_owed.specs.Laws.{ring_by}
 use Rattle.sdh_owed.specs.Strangers.{NoneEverMeetsOldBytes, longest_hold}

@@ -4,22 +4,22 @@ use Rattle.sdh_circuits.specs.Provisioned.{Provisioned}
 use Rattle.sdh_circuits.specs.Provisioning.{Provisioning}
 use Rattle.sdh_plant.specs.Fibres.{Fibres}
 use Rattle.sdh_request.specs.declared.settings.Settings.{Settings}
-use Rattle.sdh_world.specs.Held.{new_ring}
-use Rattle.sdh_world.specs.Rounds.{World}
-use Rattle.sdh_world.specs.Changes.{new_world}
+use Rattle.sdh_node.specs.Rings.Held.{new_ring}
+use Rattle.sdh_node.specs.Rings.Rounds.{World}
+use Rattle.sdh_node.specs.Rings.Changes.{new_world}
 use Rattle.sdh_laws.specs.Hearing.Laws.{MayStart}
 use Rattle.sdh_laws.specs.Carrying.Windows.{layout_in, HasCircuits}
 use Rattle.sdh_rounds.specs.Quiet.{enough_for}
 use Rattle.sdh_plan.specs.declared.step.Step.{Step}
 use Rattle.sdh_plan.specs.Steps.{Past}
 use Rattle.sdh_plan.specs.Scripts.{AreSteps}
-use Rattle.sdh_report.specs.declared.status.Status.{Status}
+use Rattle.sdh_status.specs.declared.Status.{Status}
 use Rattle.sdh_report.specs.Reports.{Report}
-use Rattle.sdh_promise.specs.Changes.{scenes}
+use Rattle.sdh_promise.specs.Scenes.{scenes}
 use Rattle.sdh_scripts.specs.Outcomes.{IsSettled}
 use Rattle.sdh_owed.specs.Scripts.{Runs}
 use Rattle.sdh_promise.specs.Owed.{Ring, AreOwed}
-use Rattle.sdh_promise.specs.Plans.{ports_of}
+use Rattle.sdh_owed.specs.Reports.{ports_of}
 use Rattle.sdh_owed.specs.Healthy.{AllSettle, IsHealthy}
 
 -- the part of a ring of n, with these settings and circuits, that decides what its reports owe

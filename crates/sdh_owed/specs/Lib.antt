@@ -8,3 +8,4 @@ pub mod Plans
 pub mod Running
 pub mod Counting
 pub mod Occurring
+pub mod Steps

@@ -5,16 +5,16 @@ use Rattle.sdh_ringmap.specs.declared.terms.Condition.TheVariants.{Clear, Cut}
 use Rattle.sdh_circuits.specs.declared.End.TheVariants.{A}
 use Rattle.sdh_payload.specs.declared.clock.Turn.TheVariants.{Up}
 use Rattle.sdh_plant.specs.Fibres.{Fibres, IsHonest}
-use Rattle.sdh_world.specs.Rounds.{World, round}
-use Rattle.sdh_world.specs.Changes.{new_world}
-use Rattle.sdh_world.specs.Clocks.{clocks_by}
-use Rattle.sdh_world.specs.Laws.{MayHappen}
-use Rattle.sdh_world.specs.Sides.{world_in}
+use Rattle.sdh_node.specs.Rings.Rounds.{World, round}
+use Rattle.sdh_node.specs.Rings.Changes.{new_world}
+use Rattle.sdh_node.specs.Rings.Clocks.{clocks_by}
+use Rattle.sdh_node.specs.Rings.Laws.{MayHappen}
+use Rattle.sdh_node.specs.Rings.Sides.{world_in}
 use Rattle.sdh_laws.specs.Converging.Rings.{settings, three, one_circuit}
 use Rattle.sdh_laws.specs.Strangers.Owners.{NoneMeetsAStranger}
 use Rattle.sdh_laws.specs.Strangers.Ages.{NoneMeetsAStrangerSince}
 use Rattle.sdh_laws.specs.Strangers.Laws.{HoldNonePassing, EndQuietly}
-use Rattle.sdh_promise.specs.Changes.{Change, Fibre, Hold, Slip, Stretch, rounds_in}
+use Rattle.sdh_restoration.specs.Changes.{Change, Fibre, Hold, Slip, Stretch, rounds_in}
 use Rattle.sdh_promise.specs.Owed.{Ring}
 use Rattle.sdh_owed.specs.Laws.{ring_by}
 use Rattle.sdh_owed.specs.Course.{stretch, IsLate, ShowsWhatIsOwed}

@@ -1,8 +1,8 @@
 -- The ring of a plan, and what it becomes over fibres.
 use Rattle.sdh_plant.specs.Fibres.{Fibres}
-use Rattle.sdh_world.specs.Held.{HeldRing, new_ring}
-use Rattle.sdh_world.specs.Rounds.{World}
-use Rattle.sdh_world.specs.Changes.{new_world}
+use Rattle.sdh_node.specs.Rings.Held.{HeldRing, new_ring}
+use Rattle.sdh_node.specs.Rings.Rounds.{World}
+use Rattle.sdh_node.specs.Rings.Changes.{new_world}
 use Rattle.sdh_plan.specs.Planned.{Planned, provisioning_of}
 
 -- the ring of a plan, in which no round has run

@@ -1,8 +1,8 @@
 -- When a script may be run over a ring of add-drop multiplexers.
 use Rattle.std.specs.Prelude.{ℕ, ◌≡◌, ◌⊎◌, ◌-◌, ◌*◌, ◌%◌, ◌≤◌, false, List, length}
 use Rattle.sdh_plant.specs.Fibres.{Fibres, IsPrepared}
-use Rattle.sdh_world.specs.Held.{HeldRing}
-use Rattle.sdh_world.specs.Steps.{past_of}
+use Rattle.sdh_node.specs.Rings.Held.{HeldRing}
+use Rattle.sdh_owed.specs.Steps.{past_of}
 use Rattle.sdh_plan.specs.declared.step.Step.{Step}
 use Rattle.sdh_plan.specs.Scripts.{AreSteps}
 

@@ -2,13 +2,13 @@
 use Rattle.std.specs.Prelude.{ℕ, List}
 use Rattle.sdh_node.specs.Node.{Node}
 use Rattle.sdh_node.specs.Stations.{adm}
-use Rattle.sdh_world.specs.Rounds.{World}
+use Rattle.sdh_node.specs.Rings.Rounds.{World}
 use Rattle.sdh_plan.specs.declared.step.Step.{Step}
-use Rattle.sdh_report.specs.declared.status.Status.{Status}
+use Rattle.sdh_status.specs.declared.Status.{Status}
 use Rattle.sdh_report.specs.Reports.{Report}
 use Rattle.sdh_scripts.specs.Walks.{Walk, reporting}
 use Rattle.sdh_scripts.specs.Scripts as scripts
-use Rattle.sdh_world.specs.Steps.{after_step}
+use Rattle.sdh_owed.specs.Steps.{after_step}
 use Rattle.sdh_owed.specs.Reports.{report_of}
 
 abbrev pub adm_walk : Walk Node Report

@@ -1,11 +1,11 @@
 -- How old the bytes are that a port delivers.
 use Rattle.std.specs.Prelude.{ℕ, ◌≡◌, ◌⊎◌, ◌+◌, ◌-◌, ◌*◌, ◌<◌, ◌≤◌, max, List, [], ◌∷◌, ◌++◌}
-use Rattle.sdh_world.specs.Rounds.{World, round}
-use Rattle.sdh_world.specs.Sides.{world_in}
-use Rattle.sdh_world.specs.Clocks.{clocks_by}
+use Rattle.sdh_node.specs.Rings.Rounds.{World, round}
+use Rattle.sdh_node.specs.Rings.Sides.{world_in}
+use Rattle.sdh_node.specs.Rings.Clocks.{clocks_by}
 use Rattle.sdh_laws.specs.Strangers.Ages.{NoneMeetsAStrangerSince}
 use Rattle.sdh_laws.specs.Strangers.Laws.{HoldNone, HoldNonePassing}
-use Rattle.sdh_promise.specs.Changes.{Change, Hold, Stretch, rounds_in}
+use Rattle.sdh_restoration.specs.Changes.{Change, Hold, Stretch, rounds_in}
 use Rattle.sdh_promise.specs.Owed.{Ring}
 
 -- the number of rounds of the longest hold among these changes, 0 where they hold no controller

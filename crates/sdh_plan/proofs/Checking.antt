@@ -1,7 +1,7 @@
 -- Checks one after the other.
 use Rattle.std.proofs.Common.{◌≡◌, ℕ, List, [], ◌∷◌, ◌++◌, Bool, true, false, cond, Option, Some, None, Ok, Err, refl, ap, sym, ◌∙◌}
-use Rattle.sdh_plan.specs.declared.error.PlanError.{PlanError}
-use Rattle.sdh_plan.specs.declared.error.PlanError.TheVariants as error
+use Rattle.sdh_plan.specs.declared.check_error.CheckError.{CheckError}
+use Rattle.sdh_plan.specs.declared.check_error.CheckError.TheVariants as error
 use Rattle.sdh_plan.specs.declared.reason.Reason.{Reason}
 use Rattle.sdh_plan.specs.Refusals.{IsRefused}
 use Rattle.sdh_plan.specs.Check.{Check, Refusal, Fault, answer, checks_at_place, first_fault, unless}
@@ -104,13 +104,11 @@ answer_before (check ∷ later) more r e = before check.fails (answer_before lat
     before false rest h = rest h
 
 -- a refusal by the first of two parts, and by the second
-pub refused_before : (checks more : List Check) (why : PlanError) → IsRefused (answer checks) why → IsRefused (answer (checks ++ more)) why
+pub refused_before : (checks more : List Check) (why : CheckError) → IsRefused (answer checks) why → IsRefused (answer (checks ++ more)) why
 refused_before checks more error.Memory e = tt
-refused_before checks more error.NotToml e = e
 refused_before checks more (error.BadPlan reason place) e = answer_before checks more (record { reason = reason; place = place }) e
 
-pub refused_behind : (checks more : List Check) (why : PlanError) → answer checks ≡ None → IsRefused (answer more) why
+pub refused_behind : (checks more : List Check) (why : CheckError) → answer checks ≡ None → IsRefused (answer more) why
     → IsRefused (answer (checks ++ more)) why
 refused_behind checks more error.Memory none e = tt
-refused_behind checks more error.NotToml none e = e
 refused_behind checks more (error.BadPlan reason place) none e = answer_behind checks more none ∙ e

@@ -7,7 +7,7 @@ use Rattle.sdh_request.specs.declared.settings.Settings.{Settings}
 use Rattle.sdh_circuits.specs.Provisioned.{Provisioned}
 use Rattle.sdh_circuits.specs.Provisioning.{Provisioning}
 use Rattle.sdh_plan.specs.declared.step.Step.{Step}
-use Rattle.sdh_plan.specs.declared.error.PlanError.{PlanError}
+use Rattle.sdh_plan.specs.declared.check_error.CheckError.{CheckError}
 use Rattle.sdh_plan.specs.Check.{Check, answer}
 use Rattle.sdh_plan.specs.Refusals.{IsRefused}
 use Rattle.sdh_plan.specs.Document.{elements_in, string_of}
@@ -67,14 +67,14 @@ module _ (ms : Members) (rate : Rate) (nodes : List ℕ) (told : Told ms rate no
       ∙ ap (λ l. ring_checks ms ++ (settings_checks (n_of rate) ms
       ++ (provision_checks (n_of rate) l ms ++ script_checks (n_of rate) l (circuits_in l ms) ms))) (sym told.nodes_are)
 
-  pub settings_refuse : (why : PlanError) → answer (ring_checks ms) ≡ None → IsRefused (answer (settings_checks (n_of rate) ms)) why
+  pub settings_refuse : (why : CheckError) → answer (ring_checks ms) ≡ None → IsRefused (answer (settings_checks (n_of rate) ms)) why
       → IsRefused (answer (checks ms)) why
   settings_refuse why ring e =
       subst (λ (l : List Check). IsRefused (answer l) why) (sym same)
       (refused_behind (ring_checks ms) later why ring (refused_before (settings_checks (n_of rate) ms)
       (provision_checks (n_of rate) nodes ms ++ script_checks (n_of rate) nodes (circuits_in nodes ms) ms) why e))
 
-  pub circuits_refuse : (why : PlanError) → answer (ring_checks ms) ≡ None → answer (settings_checks (n_of rate) ms) ≡ None
+  pub circuits_refuse : (why : CheckError) → answer (ring_checks ms) ≡ None → answer (settings_checks (n_of rate) ms) ≡ None
       → IsRefused (answer (provision_checks (n_of rate) nodes ms)) why → IsRefused (answer (checks ms)) why
   circuits_refuse why ring settings e =
       subst (λ (l : List Check). IsRefused (answer l) why) (sym same)
@@ -83,7 +83,7 @@ module _ (ms : Members) (rate : Rate) (nodes : List ℕ) (told : Told ms rate no
       ++ script_checks (n_of rate) nodes (circuits_in nodes ms) ms) why settings
       (refused_before (provision_checks (n_of rate) nodes ms) (script_checks (n_of rate) nodes (circuits_in nodes ms) ms) why e)))
 
-  pub script_refuses : (why : PlanError) (cs : List Provisioned) → cs ≡ circuits_in nodes ms → answer (ring_checks ms) ≡ None
+  pub script_refuses : (why : CheckError) (cs : List Provisioned) → cs ≡ circuits_in nodes ms → answer (ring_checks ms) ≡ None
       → answer (settings_checks (n_of rate) ms) ≡ None → answer (provision_checks (n_of rate) nodes ms) ≡ None
       → IsRefused (answer (script_checks (n_of rate) nodes cs ms)) why → IsRefused (answer (checks ms)) why
   script_refuses why cs made ring settings circuits e =

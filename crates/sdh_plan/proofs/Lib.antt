@@ -12,3 +12,6 @@ pub mod Nodes
 pub mod Composed
 pub mod Facts
 pub mod Following
+pub mod Laid
+pub mod Filling
+mod Worked

@@ -7,8 +7,8 @@ use Rattle.toml.specs.View.{view}
 use Rattle.sdh_circuits.specs.Provisioned.{Provisioned}
 use Rattle.sdh_circuits.specs.Provisioning.{Provisioning}
 use Rattle.sdh_circuits.specs.Checks.{with_circuit}
-use Rattle.sdh_plan.specs.declared.error.PlanError.{PlanError}
-use Rattle.sdh_plan.specs.declared.error.PlanError.TheVariants as error
+use Rattle.sdh_plan.specs.declared.check_error.CheckError.{CheckError}
+use Rattle.sdh_plan.specs.declared.check_error.CheckError.TheVariants as error
 use Rattle.sdh_plan.specs.declared.reason.Reason.{Reason}
 use Rattle.sdh_plan.specs.Check.{Refusal, answer, first_fault}
 use Rattle.sdh_plan.specs.Refusals.{IsRefused, refusal_at}
@@ -68,17 +68,15 @@ module _ (slots : ℕ) (nodes : List ℕ) (values : List Value) where
         ∙ ap (provisioned slots nodes) (grown i v h e);
   }
 
-  refused_there : (i : ℕ) (o : Option Reason) (why : PlanError) (all : Option Refusal)
+  refused_there : (i : ℕ) (o : Option Reason) (why : CheckError) (all : Option Refusal)
       → ((reason : Reason) → o ≡ Some reason → all ≡ Some (record { reason = reason; place = i + 1 }))
       → IsRefused (refusal_at (i + 1) o) why → IsRefused all why
   refused_there i None error.Memory all fails e = tt
-  refused_there i None error.NotToml all fails e = e
   refused_there i None (error.BadPlan r p) all fails e = cc
   refused_there i (Some reason) error.Memory all fails e = tt
-  refused_there i (Some reason) error.NotToml all fails e = e
   refused_there i (Some reason) (error.BadPlan r p) all fails e = fails reason refl ∙ e
 
-  pub added_fails : (p : Provisioning) (i place : ℕ) (v : Value) (why : PlanError) → Added p i → i < length values → v ≡ get_or values i v
+  pub added_fails : (p : Provisioning) (i place : ℕ) (v : Value) (why : CheckError) → Added p i → i < length values → v ≡ get_or values i v
       → place ≡ i + 1
       → IsRefused (refusal_at place (first_fault (circuit_faults p.slots nodes p.circuits (members_of (view v))))) why
       → IsRefused (answer (circuits_checks slots nodes [] 1 (map view values))) why

@@ -5,8 +5,8 @@ use Rattle.std.proofs.lemmas.List.{drop_more, drop_all, take_more, take_all, map
 use Rattle.toml.specs.declared.value.Value.{Value}
 use Rattle.toml.specs.View.{view}
 use Rattle.sdh_circuits.specs.Provisioned.{Provisioned}
-use Rattle.sdh_plan.specs.declared.error.PlanError.{PlanError}
-use Rattle.sdh_plan.specs.declared.error.PlanError.TheVariants as error
+use Rattle.sdh_plan.specs.declared.check_error.CheckError.{CheckError}
+use Rattle.sdh_plan.specs.declared.check_error.CheckError.TheVariants as error
 use Rattle.sdh_plan.specs.declared.step.Step.{Step}
 use Rattle.sdh_plan.specs.declared.reason.Reason.{Reason}
 use Rattle.sdh_plan.specs.declared.reason.Reason.TheVariants as reason
@@ -18,14 +18,14 @@ use Rattle.sdh_plan.proofs.Checking.{answer_behind, passes, refuses, place_passe
 
 -- the answer to a step's text, from the answer in which its reason has a place
 pub placed_step : (told : Result Step Reason) (s : Step) (Q : Reason → Type 0)
-    → MatchResult told (λ t. ◌≡◌ {A = Result Step PlanError} (Ok s) (Ok t)) Q → ((why : Reason) → Q why → ⊥) → told ≡ Ok s
-placed_step (Ok t) s Q h never = let e : ◌≡◌ {A = Result Step PlanError} (Ok s) (Ok t) = h in let same : t ≡ s = cc in ap Ok same
+    → MatchResult told (λ t. ◌≡◌ {A = Result Step CheckError} (Ok s) (Ok t)) Q → ((why : Reason) → Q why → ⊥) → told ≡ Ok s
+placed_step (Ok t) s Q h never = let e : ◌≡◌ {A = Result Step CheckError} (Ok s) (Ok t) = h in let same : t ≡ s = cc in ap Ok same
 placed_step (Err why) s Q h never = absurd (never why h)
 
-pub placed_reason : (told : Result Step Reason) (place : ℕ) (why : PlanError) (Q : Reason → Type 0)
-    → MatchResult told (λ t. ◌≡◌ {A = Result Step PlanError} (Err why) (Ok t)) Q
+pub placed_reason : (told : Result Step Reason) (place : ℕ) (why : CheckError) (Q : Reason → Type 0)
+    → MatchResult told (λ t. ◌≡◌ {A = Result Step CheckError} (Err why) (Ok t)) Q
     → ((r : Reason) → Q r → why ≡ error.BadPlan r place) → (r : Reason) × (told ≡ Err r) × (why ≡ error.BadPlan r place)
-placed_reason (Ok t) place why Q h is = let e : ◌≡◌ {A = Result Step PlanError} (Err why) (Ok t) = h in cc
+placed_reason (Ok t) place why Q h is = let e : ◌≡◌ {A = Result Step CheckError} (Err why) (Ok t) = h in cc
 placed_reason (Err r) place why Q h is = (r, refl, is r h)
 
 module _ (n : ℕ) (nodes : List ℕ) (circuits : List Provisioned) (values : List Value) where

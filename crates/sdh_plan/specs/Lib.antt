@@ -12,3 +12,5 @@ pub mod Wishes
 pub mod Planned
 pub mod Plans
 pub mod Answers
+pub mod Big
+pub mod Laid

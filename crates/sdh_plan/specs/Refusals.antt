@@ -3,15 +3,14 @@ use Rattle.std.specs.Prelude.{◌≡◌, ℕ, Option, Some, None, option_map}
 use Rattle.sdh_circuits.specs.declared.AddError.{AddError}
 use Rattle.sdh_circuits.specs.declared.AddError.TheVariants as refused
 use Rattle.sdh_plan.specs.Check.{Refusal}
-use Rattle.sdh_plan.specs.declared.error.PlanError.{PlanError}
-use Rattle.sdh_plan.specs.declared.error.PlanError.TheVariants as error
+use Rattle.sdh_plan.specs.declared.check_error.CheckError.{CheckError}
+use Rattle.sdh_plan.specs.declared.check_error.CheckError.TheVariants as error
 use Rattle.sdh_plan.specs.declared.reason.Reason.{Reason}
 use Rattle.sdh_plan.specs.declared.reason.Reason.TheVariants as reason
 
 -- the reason and the place are these; memory can run out at any time
-abbrev pub IsRefused : Option Refusal → PlanError → Type 0
+abbrev pub IsRefused : Option Refusal → CheckError → Type 0
 IsRefused refusal error.Memory = Unit {0}
-IsRefused refusal error.NotToml = ⊥
 IsRefused refusal (error.BadPlan reason place) = refusal ≡ Some (record { reason = reason; place = place })
 
 -- a reason, where there is one, at this place

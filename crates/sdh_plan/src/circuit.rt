@@ -14,8 +14,8 @@ ghost use Rattle.sdh_plan.specs.Circuits.{members_of, provisioned};
 ghost use Rattle.sdh_plan.specs.Wishes.{way_in, texts_in, traces_in, offsets_in};
 ghost use Rattle.sdh_plan.specs.Refusals.{IsRefused, refusal_at, reason_of};
 
+use crate::check_error::{CheckError, of_document};
 use crate::document::{integer_under, is_text, text_under, value_under};
-use crate::error::{PlanError, of_document};
 use crate::reason::Reason;
 use sdh_circuits::{AddError, Asked, CircuitMap};
 use sdh_ringmap::{Rate, RingMap};
@@ -118,11 +118,11 @@ fn asked_under<'a>(table: &'a Table) -> Option<Asked<'a>>
 }
 
 // Returns why the circuit at a place is refused.
-fn refused_at(place: u32, why: AddError) -> PlanError
+fn refused_at(place: u32, why: AddError) -> CheckError
     ensures { IsRefused (refusal_at place (reason_of why)) result }
 {
     let reason = match why {
-        AddError::Memory => return PlanError::Memory,
+        AddError::Memory => return CheckError::Memory,
         AddError::Slot => Reason::Slot,
         AddError::End => Reason::End,
         AddError::SameEnds => Reason::SameEnds,
@@ -132,7 +132,7 @@ fn refused_at(place: u32, why: AddError) -> PlanError
         AddError::Name => Reason::Name,
         AddError::Overlap => Reason::Overlap,
     };
-    PlanError::BadPlan { reason, place }
+    CheckError::BadPlan { reason, place }
 }
 
 // Adds the circuit that a table asks for.
@@ -142,7 +142,7 @@ fn add_table(
     ring: &RingMap,
     table: &Table,
     place: u32,
-) -> Result<(), PlanError>
+) -> Result<(), CheckError>
     requires { IfSome circuits.old.ring (λ kept. kept ≡ ring.now) }
     ensures added { OnOk result (circuits.new ≡ with_circuit circuits.old ring.now (circuit_of_table ring.now (table_view table.now))) }
     ensures passed { OnOk result
@@ -151,13 +151,13 @@ fn add_table(
         (refusal_at place (first_fault (circuit_faults circuits.old.slots ring.now circuits.old.circuits (table_view table.now))))) }
 {
     if !has_circuit_keys(table) {
-        return Err(PlanError::BadPlan {
+        return Err(CheckError::BadPlan {
             reason: Reason::UnknownKey,
             place,
         });
     }
     let Some(asked) = asked_under(table) else {
-        return Err(PlanError::BadPlan {
+        return Err(CheckError::BadPlan {
             reason: Reason::CircuitField,
             place,
         });
@@ -175,7 +175,7 @@ fn add_circuit(
     ring: &RingMap,
     value: &Value,
     place: u32,
-) -> Result<(), PlanError>
+) -> Result<(), CheckError>
     requires { IfSome circuits.old.ring (λ kept. kept ≡ ring.now) }
     ensures added { OnOk result
         (circuits.new ≡ with_circuit circuits.old ring.now (circuit_of_table ring.now (members_of (view value.now)))) }
@@ -186,7 +186,7 @@ fn add_circuit(
 {
     match value.as_table() {
         Some(table) => add_table(circuits, ring, table, place),
-        None => Err(PlanError::BadPlan {
+        None => Err(CheckError::BadPlan {
             reason: Reason::CircuitField,
             place,
         }),
@@ -206,7 +206,7 @@ pub fn circuits_of(
     ring: &RingMap,
     rate: Rate,
     values: &[Value],
-) -> Result<CircuitMap, PlanError>
+) -> Result<CircuitMap, CheckError>
     ensures circuits { IfOk result (λ circuits. circuits ≡ provisioned (n_of rate / 2) ring.now
         (map (λ d. circuit_of_table ring.now (members_of d)) (map view values.now))) }
     ensures passed { OnOk result (answer (circuits_checks (n_of rate / 2) ring.now [] 1 (map view values.now)) ≡ None) }
@@ -242,7 +242,7 @@ pub fn circuits_under(
     table: &Table,
     ring: &RingMap,
     rate: Rate,
-) -> Result<CircuitMap, PlanError>
+) -> Result<CircuitMap, CheckError>
     ensures circuits { IfOk result
         (λ circuits. circuits ≡ provisioned (n_of rate / 2) ring.now (circuits_in ring.now (table_view table.now))) }
     ensures passed { OnOk result (answer (provision_checks (n_of rate) ring.now (table_view table.now)) ≡ None) }

@@ -1,8 +1,8 @@
 //! Why there is no plan.
 ghost use Rattle.std.specs.Prelude.{◌≡◌};
+ghost use Rattle.sdh_plan.specs.Answers.{plan_error};
 
-use crate::reason::Reason;
-use std::alloc::AllocFailed;
+use crate::check_error::CheckError;
 use thiserror::Error;
 
 /// Why there is no plan.
@@ -14,24 +14,21 @@ pub enum PlanError {
     /// The bytes are no TOML document in UTF-8.
     #[error("not a TOML document")]
     NotToml,
-    /// A check of the plan fails. Places of nodes, circuits and steps count from 1, and 0 is the document.
-    #[error("the plan fails by reason {} at {place}", .reason.number())]
-    BadPlan { reason: Reason, place: u32 },
+    /// A check of the plan fails. `reason` is its number, 1 to 31. Places of nodes, circuits and steps count from 1, and
+    /// 0 is the document.
+    #[error("the plan fails by reason {reason} at {place}")]
+    BadPlan { reason: u8, place: u32 },
 }
 
-impl<T: Drop> From<AllocFailed<T>> for PlanError {
-    ghost use Rattle.sdh_plan.specs.declared.error.PlanError.TheVariants.{Memory};
-
-    ghost from_gives = { λ _ error. error ≡ Memory };
-
-    fn from(_failed: AllocFailed<T>) -> PlanError {
-        PlanError::Memory
-    }
-}
-
-/// Returns the error of a check of the whole document.
-pub fn of_document(reason: Reason) -> PlanError
-    ensures { result ≡ PlanError.BadPlan reason 0 }
+/// Returns why there is no plan where a part of a document gives none.
+pub fn plan_error(why: CheckError) -> PlanError
+    ensures { result ≡ plan_error why }
 {
-    PlanError::BadPlan { reason, place: 0 }
+    match why {
+        CheckError::Memory => PlanError::Memory,
+        CheckError::BadPlan { reason, place } => PlanError::BadPlan {
+            reason: reason.number(),
+            place,
+        },
+    }
 }

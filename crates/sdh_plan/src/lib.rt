@@ -1,8 +1,11 @@
-//! The plan of a run, read from a TOML document.
+//! The plan of a run: read from a TOML document, or the large plan of a number.
 #![tactic(auto)]
 
+mod big;
+mod check_error;
 mod circuit;
 mod document;
+mod draws;
 mod error;
 mod form;
 mod past;
@@ -15,6 +18,7 @@ mod slips;
 mod step;
 mod words;
 
+pub use big::big_plan;
 pub use error::PlanError;
 pub use form::{circuit_named, side_at, turn_at};
 pub use plan::Plan;

@@ -11,8 +11,8 @@ ghost use Rattle.sdh_plan.specs.Plans.{document_keys, rate_at, rate_in, nodes_in
 ghost use Rattle.sdh_plan.specs.Plans.{ring_checks, settings_checks};
 ghost use Rattle.sdh_plan.specs.Refusals.{IsRefused};
 
+use crate::check_error::{CheckError, of_document};
 use crate::document::{array_under, is_text, number_under};
-use crate::error::{PlanError, of_document};
 use crate::reason::Reason;
 use arrayvec::ArrayVec;
 use sdh_request::Settings;
@@ -79,28 +79,28 @@ fn integers_of(values: &[Value]) -> ArrayVec<i64, 16>
 
 // Returns the ring whose nodes have these identifiers, or the first check that fails.
 #[tactic(auto, using(crate::proofs::Nodes::count_fails, crate::proofs::Nodes::node_fails, crate::proofs::Nodes::repeat_fails, crate::proofs::Nodes::nodes_pass, crate::proofs::Nodes::nodes_made, crate::proofs::Nodes::too_many))]
-fn ring_of(values: &[Value]) -> Result<RingMap, PlanError>
+fn ring_of(values: &[Value]) -> Result<RingMap, CheckError>
     ensures ring { IfOk result (λ ring. ring ≡ map magnitude (map integer_of (map view values.now))) }
     ensures passed { OnOk result (answer (number_checks (map integer_of (map view values.now))) ≡ None) }
     ensures refused { IfErr result (IsRefused (answer (number_checks (map integer_of (map view values.now))))) }
 {
     if values.len() > 16 {
-        return Err(PlanError::BadPlan {
+        return Err(CheckError::BadPlan {
             reason: Reason::NodeCount,
             place: 0,
         });
     }
     match RingMap::new(&integers_of(values)) {
         Ok(ring) => Ok(ring),
-        Err(MapError::NodeCount) => Err(PlanError::BadPlan {
+        Err(MapError::NodeCount) => Err(CheckError::BadPlan {
             reason: Reason::NodeCount,
             place: 0,
         }),
-        Err(MapError::NodeId(place)) => Err(PlanError::BadPlan {
+        Err(MapError::NodeId(place)) => Err(CheckError::BadPlan {
             reason: Reason::NodeId,
             place,
         }),
-        Err(MapError::Repeat(place)) => Err(PlanError::BadPlan {
+        Err(MapError::Repeat(place)) => Err(CheckError::BadPlan {
             reason: Reason::Repeat,
             place,
         }),
@@ -109,7 +109,7 @@ fn ring_of(values: &[Value]) -> Result<RingMap, PlanError>
 
 /// Returns the rate and the ring of a document, or the first check that fails.
 #[tactic(auto, using(crate::proofs::Elements::all_keys_view, crate::proofs::Elements::all_integers_view), unfolding(crate::specs::Plans::ring_checks, crate::specs::Document::has_only))]
-pub fn ring_under(table: &Table) -> Result<(Rate, RingMap), PlanError>
+pub fn ring_under(table: &Table) -> Result<(Rate, RingMap), CheckError>
     ensures rate { IfOk result (λ both. both.0 ≡ rate_in (table_view table.now)) }
     ensures ring { IfOk result (λ both. both.1 ≡ nodes_in (table_view table.now)) }
     ensures passed { OnOk result (answer (ring_checks (table_view table.now)) ≡ None) }
@@ -133,7 +133,7 @@ pub fn ring_under(table: &Table) -> Result<(Rate, RingMap), PlanError>
 
 /// Returns the settings and the limit of a document, or the first check that fails.
 #[tactic(auto, unfolding(crate::specs::Plans::settings_checks))]
-pub fn settings_under(table: &Table, rate: Rate) -> Result<(Settings, u32), PlanError>
+pub fn settings_under(table: &Table, rate: Rate) -> Result<(Settings, u32), CheckError>
     ensures threshold { IfOk result (λ both. threshold_at (n_of rate) (table_view table.now) ≡ Some both.0.threshold) }
     ensures wait { IfOk result (λ both. wait_at (table_view table.now) ≡ Some both.0.wait) }
     ensures limit { IfOk result (λ both. limit_at (table_view table.now) ≡ Some both.1) }

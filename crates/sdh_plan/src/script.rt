@@ -10,8 +10,8 @@ ghost use Rattle.sdh_plan.specs.Document.{is_string, string_of, elements_in};
 ghost use Rattle.sdh_plan.specs.Refusals.{IsRefused};
 ghost use Rattle.sdh_plan.specs.Plans.{texts_checks, script_checks};
 
+use crate::check_error::{CheckError, of_document};
 use crate::document::{array_under, text_of};
-use crate::error::{PlanError, of_document};
 use crate::form::step_of;
 use crate::past::Past;
 use crate::reason::Reason;
@@ -46,7 +46,7 @@ pub fn steps_of(
     circuits: &CircuitMap,
     rate: Rate,
     values: &[Value],
-) -> Result<Vec<Step>, PlanError>
+) -> Result<Vec<Step>, CheckError>
     requires { length values.now ≤ 1000 }
     ensures steps { IfOk result
         (λ steps. steps.items ≡ map (λ d. step_of (n_of rate) ring.now circuits.now.circuits (string_of d)) (map view values.now)) }
@@ -61,7 +61,7 @@ pub fn steps_of(
         let text = text_of(value);
         let place = i as u32 + 1;
         let told = next_step(ring, circuits, rate, &mut past, text.as_bytes());
-        let step = told.map_err(|reason| PlanError::BadPlan { reason, place })?;
+        let step = told.map_err(|reason| CheckError::BadPlan { reason, place })?;
         steps.push(step)?;
     }
     Ok(steps)
@@ -100,7 +100,7 @@ fn settled_steps(
     circuits: &CircuitMap,
     rate: Rate,
     values: &[Value],
-) -> Result<Vec<Step>, PlanError>
+) -> Result<Vec<Step>, CheckError>
     requires { length values.now ≤ 1000 }
     ensures steps { IfOk result
         (λ steps. steps.items ≡ map (λ d. step_of (n_of rate) ring.now circuits.now.circuits (string_of d)) (map view values.now)) }
@@ -110,7 +110,7 @@ fn settled_steps(
 {
     let steps = steps_of(alloc, ring, circuits, rate, values)?;
     if !ends_settled(&steps) {
-        return Err(PlanError::BadPlan {
+        return Err(CheckError::BadPlan {
             reason: Reason::LastStep,
             place: values.len() as u32,
         });
@@ -126,7 +126,7 @@ pub fn script_under(
     ring: &RingMap,
     circuits: &CircuitMap,
     rate: Rate,
-) -> Result<Vec<Step>, PlanError>
+) -> Result<Vec<Step>, CheckError>
     ensures steps { IfOk result (λ steps. steps.items ≡ map (λ d. step_of (n_of rate) ring.now circuits.now.circuits (string_of d))
         (elements_in (codes "script") (table_view table.now))) }
     ensures count { IfOk result (λ steps. (1 ≤ length steps.items) × (length steps.items ≤ 1000)) }

@@ -9,7 +9,7 @@ use Rattle.sdh_ringmap.specs.declared.terms.Condition.{Condition}
 use Rattle.sdh_plant.specs.declared.fibre_plant.Fibre.{Fibre}
 use Rattle.sdh_plant.specs.declared.told_plant.Told.{Told}
 use Rattle.sdh_plant.specs.declared.told_plant.Told.TheVariants as told
-use Rattle.sdh_plant.specs.Fibres.{Arrival}
+use Rattle.sdh_plant.specs.Fibres.{Arrival, Fibres}
 use Rattle.sdh_ringmap.specs.Fibres.{IsConditionAt}
 use Rattle.sdh_plant.specs.Calls.{is_at}
 use Rattle.sdh_plant.specs.InMemory.{HeldFibres}
@@ -68,3 +68,9 @@ IsToldAt rate (told.Frame frame) = frame.rate ≡ rate
 pub record AreTold (fibres : HeldFibres) (next : ℕ) (arrivals : List Told) : Type 0 where
   pub within : next ≤ length arrivals
   pub rates : 0 < fibres.nodes → list_all (is_at fibres.rate) (map arrival_of (drop next arrivals)) ≡ true
+
+-- These are the frames that a plant's fibres carry. Before there are fibres nothing is kept.
+pub record AreKept (kept : HeldFibres) (fibres : Fibres) : Type 0 where
+  pub nodes : kept.nodes ≡ fibres.nodes
+  pub rate : 0 < fibres.nodes → kept.rate ≡ fibres.rate
+  pub carried : 0 < fibres.nodes → kept.carried ≡ fibres.carried

@@ -5,12 +5,12 @@ ghost use Rattle.sdh_basics.specs.Causes.{Rose, IsCounted, HasCause, one_more};
 ghost use Rattle.sdh_plant.specs.declared.failing_plant.PlantCall.TheVariants.{Prepare, Apply, Send, Receive};
 ghost use Rattle.sdh_plant.specs.Fibres.{HasNoFibres};
 ghost use Rattle.sdh_ringmap.specs.Fibres.{IsConditionAt, fibre};
-ghost use Rattle.sdh_plant.specs.Arrivals.{Knows, arrival, arrived_in, carried_on};
+ghost use Rattle.sdh_plant.specs.Arrivals.{Knows, arrival, as_arrival, arrived_in, carried_on};
 ghost use Rattle.sdh_plant.specs.Calls.{prepared, after_apply, after_send, after_receive, IsExchanged};
 ghost use Rattle.sdh_plant.specs.InMemory.{fibres_of, clear_fibres, made, IsFailing, called, refused};
 
 use crate::fibre_plant::FibrePlant;
-use crate::plant::{Arrived, Failed, Plant, PrepareError};
+use crate::plant::{Arrived, Failed, LendingPlant, Plant, PrepareError};
 use sdh_frame::{FrameBuf, Landing};
 use sdh_ringmap::{FibreEvent, Pos, Rate, Side};
 use std::alloc::{AllocError, Global};
@@ -23,6 +23,7 @@ pub enum PlantCall {
     Apply,
     /// `send` and `exchange`.
     Send,
+    /// `receive` and `receive_into`.
     Receive,
 }
 
@@ -211,19 +212,43 @@ impl Plant for FailingPlant {
         self.send(at, side, frame)
     }
 
-    fn carried(&self, at: Pos, side: Side) -> Option<&FrameBuf> {
-        self.plant.lend(at, side)
+    fn receive(&mut self, at: Pos, side: Side, frame: &mut FrameBuf) -> Result<Arrived, Failed>
+        requires at { at.0 < (fibres_of self.old.fibres).nodes }
+        requires rate { frame.old.rate ≡ (fibres_of self.old.fibres).rate }
+        ensures ok { OnOk result (fibres_of self.new.fibres ≡ after_receive (fibres_of self.old.fibres)) }
+        ensures arrival { IfOk result
+            (λ a. Knows (fibres_of self.old.fibres) → as_arrival a frame.new.bytes ≡ arrival (fibres_of self.old.fibres) at.0 side) }
+        ensures dark { result ≡ Ok Arrived.Dark → frame.new ≡ frame.old }
+        ensures rate { frame.new.rate ≡ frame.old.rate }
+        ensures err { OnErr result (fibres_of self.new.fibres ≡ fibres_of self.old.fibres) }
+        ensures cause { HasCause true self.old.faults self.new.faults result }
+
+        ensures fails { IsErr result ↔ IsFailing Receive self.old }
+        ensures kept { OnOk result (self.new ≡ called Receive self.old) }
+        ensures refused { OnErr result (self.new ≡ refused Receive self.old) }
+        ensures untouched { OnErr result (frame.new ≡ frame.old) }
+    {
+        self.call(PlantCall::Receive)?;
+        Ok(self.plant.give(at, side, frame))
     }
 
-    fn receive<L: Landing>(&mut self, at: Pos, side: Side, into: &mut L) -> Result<Arrived, Failed>
+    fn receive_into<L: Landing>(
+        &mut self,
+        at: Pos,
+        side: Side,
+        into: &mut L,
+        spare: &mut FrameBuf,
+    ) -> Result<Arrived, Failed>
         requires at { at.0 < (fibres_of self.old.fibres).nodes }
         requires rate { L.rate into.old ≡ (fibres_of self.old.fibres).rate }
+        requires spare { spare.old.rate ≡ (fibres_of self.old.fibres).rate }
         ensures ok { OnOk result (fibres_of self.new.fibres ≡ after_receive (fibres_of self.old.fibres)) }
         ensures arrival { IfOk result
             (λ a. Knows (fibres_of self.old.fibres) → arrived_in a (L.landed into.new) ≡ arrival (fibres_of self.old.fibres) at.0 side) }
         ensures landed { result ≡ Ok Arrived.Frame → L.landed into.new ≢ None }
         ensures dark { result ≡ Ok Arrived.Dark → into.new ≡ into.old }
         ensures rate { L.rate into.new ≡ L.rate into.old }
+        ensures spare { spare.new.rate ≡ spare.old.rate }
         ensures err { OnErr result (fibres_of self.new.fibres ≡ fibres_of self.old.fibres) }
         ensures cause { HasCause true self.old.faults self.new.faults result }
 
@@ -237,4 +262,10 @@ impl Plant for FailingPlant {
     }
 
     ghost honest_tells_none = { λ p honest. refl };
+}
+
+impl LendingPlant for FailingPlant {
+    fn carried(&self, at: Pos, side: Side) -> Option<&FrameBuf> {
+        self.plant.lend(at, side)
+    }
 }

@@ -6,13 +6,13 @@ ghost use Rattle.sdh_ringmap.specs.Rates.{n_of};
 ghost use Rattle.sdh_ringmap.specs.declared.terms.Condition.TheVariants.{Clear};
 ghost use Rattle.sdh_plant.specs.Fibres.{HasNoFibres};
 ghost use Rattle.sdh_ringmap.specs.Fibres.{IsConditionAt, fibre, fibre_to};
-ghost use Rattle.sdh_plant.specs.Arrivals.{Knows, arrival, arrived_in, through, carried_on, honest_arrival};
+ghost use Rattle.sdh_plant.specs.Arrivals.{Knows, arrival, as_arrival, arrived_in, through, carried_on, honest_arrival};
 ghost use Rattle.sdh_plant.specs.Calls.{prepared, after_apply, after_send, after_receive, carried_or_zeros, IsExchanged};
 ghost use Rattle.sdh_plant.specs.InMemory.{fibres_of, clear_fibres};
 ghost use Rattle.sdh_plant.specs.Kept.{IsFibre, carried_by, conditions, carried};
 
 use crate::frames::land_degraded;
-use crate::plant::{Arrived, Failed, Plant, PrepareError};
+use crate::plant::{Arrived, Failed, LendingPlant, Plant, PrepareError};
 use sdh_frame::{FrameBuf, Landing};
 use sdh_ringmap::{Condition, FibreEvent, Pos, Rate, Side, neighbour};
 use std::alloc::{AllocError, Global};
@@ -332,19 +332,39 @@ impl Plant for FibrePlant {
         Ok(())
     }
 
-    fn carried(&self, at: Pos, side: Side) -> Option<&FrameBuf> {
-        self.lend(at, side)
+    fn receive(&mut self, at: Pos, side: Side, frame: &mut FrameBuf) -> Result<Arrived, Failed>
+        requires at { at.0 < (fibres_of self.old).nodes }
+        requires rate { frame.old.rate ≡ (fibres_of self.old).rate }
+        ensures ok { OnOk result (fibres_of self.new ≡ after_receive (fibres_of self.old)) }
+        ensures arrival { IfOk result
+            (λ a. Knows (fibres_of self.old) → as_arrival a frame.new.bytes ≡ arrival (fibres_of self.old) at.0 side) }
+        ensures dark { result ≡ Ok Arrived.Dark → frame.new ≡ frame.old }
+        ensures rate { frame.new.rate ≡ frame.old.rate }
+        ensures err { OnErr result (fibres_of self.new ≡ fibres_of self.old) }
+        ensures cause { HasCause true 0 0 result }
+
+        ensures never_fails { IsOk result }
+    {
+        Ok(self.give(at, side, frame))
     }
 
-    fn receive<L: Landing>(&mut self, at: Pos, side: Side, into: &mut L) -> Result<Arrived, Failed>
+    fn receive_into<L: Landing>(
+        &mut self,
+        at: Pos,
+        side: Side,
+        into: &mut L,
+        spare: &mut FrameBuf,
+    ) -> Result<Arrived, Failed>
         requires at { at.0 < (fibres_of self.old).nodes }
         requires rate { L.rate into.old ≡ (fibres_of self.old).rate }
+        requires spare { spare.old.rate ≡ (fibres_of self.old).rate }
         ensures ok { OnOk result (fibres_of self.new ≡ after_receive (fibres_of self.old)) }
         ensures arrival { IfOk result
             (λ a. Knows (fibres_of self.old) → arrived_in a (L.landed into.new) ≡ arrival (fibres_of self.old) at.0 side) }
         ensures landed { result ≡ Ok Arrived.Frame → L.landed into.new ≢ None }
         ensures dark { result ≡ Ok Arrived.Dark → into.new ≡ into.old }
         ensures rate { L.rate into.new ≡ L.rate into.old }
+        ensures spare { spare.new.rate ≡ spare.old.rate }
         ensures err { OnErr result (fibres_of self.new ≡ fibres_of self.old) }
         ensures cause { HasCause true 0 0 result }
 
@@ -354,4 +374,10 @@ impl Plant for FibrePlant {
     }
 
     ghost honest_tells_none = { λ p honest. refl };
+}
+
+impl LendingPlant for FibrePlant {
+    fn carried(&self, at: Pos, side: Side) -> Option<&FrameBuf> {
+        self.lend(at, side)
+    }
 }

@@ -3,7 +3,7 @@ ghost use Rattle.std.specs.Prelude.{◌≡◌, ◌≢◌, ◌<◌, ◌≤◌, �
 ghost use Rattle.sdh_basics.specs.Causes.{Rose, IsCounted, HasCause};
 ghost use Rattle.sdh_plant.specs.Fibres.{Fibres, HasNoFibres};
 ghost use Rattle.sdh_ringmap.specs.Fibres.{IsConditionAt, fibre};
-ghost use Rattle.sdh_plant.specs.Arrivals.{Knows, arrival, arrived_in, carried_on};
+ghost use Rattle.sdh_plant.specs.Arrivals.{Knows, arrival, as_arrival, arrived_in, carried_on};
 ghost use Rattle.sdh_plant.specs.Calls.{prepared, after_apply, after_send, after_receive, IsExchanged};
 
 use sdh_frame::{FrameBuf, Landing};
@@ -45,7 +45,8 @@ impl From<AllocError> for PrepareError {
 }
 
 /// The fibres of a ring. Before `prepare` has ended with Ok a plant has no positions, so all other calls come after
-/// that.
+/// that. A plant has to have the four calls `prepare`, `apply`, `send` and `receive`. `exchange` and `receive_into` have
+/// bodies, which a plant may replace by ones that copy less.
 pub trait Plant {
     /// The fibres, with the arrivals to come and the frames sent, as far as the plant shows them.
     ghost fibres: { Self → Fibres };
@@ -99,26 +100,58 @@ pub trait Plant {
         self.send(at, side, frame)
     }
 
-    /// Returns the frame on the fibre that leaves a position on a side, or `None` where that fibre carries none.
-    fn carried(&self, at: Pos, side: Side) -> Option<&FrameBuf>
-        requires at { at.0 < (fibres self.now).nodes }
-        ensures some { IfSome result (λ frame. carried_on (fibres self.now) (fibre at.0 side) ≡ Some frame.now.bytes) }
-        ensures none { IfNone result (carried_on (fibres self.now) (fibre at.0 side) ≡ None) };
-
     /// Receives at a position on a side what comes out of the fibre that ends there. The fibre still carries it
-    /// afterwards.
-    fn receive<L: Landing>(&mut self, at: Pos, side: Side, into: &mut L) -> Result<Arrived, Failed>
+    /// afterwards. Where nothing comes out, `frame` stays as it was.
+    fn receive(&mut self, at: Pos, side: Side, frame: &mut FrameBuf) -> Result<Arrived, Failed>
+        requires at { at.0 < (fibres self.old).nodes }
+        requires rate { frame.old.rate ≡ (fibres self.old).rate }
+        ensures ok { OnOk result (fibres self.new ≡ after_receive (fibres self.old)) }
+        ensures arrival { IfOk result
+            (λ a. Knows (fibres self.old) → as_arrival a frame.new.bytes ≡ arrival (fibres self.old) at.0 side) }
+        ensures dark { result ≡ Ok Arrived.Dark → frame.new ≡ frame.old }
+        ensures rate { frame.new.rate ≡ frame.old.rate }
+        ensures err { OnErr result (fibres self.new ≡ fibres self.old) }
+        ensures cause { HasCause exact (faults self.old) (faults self.new) result };
+
+    /// Receives as `receive` does, and lands the frame where it is to go. `spare` may be written to, and keeps its rate.
+    fn receive_into<L: Landing>(
+        &mut self,
+        at: Pos,
+        side: Side,
+        into: &mut L,
+        spare: &mut FrameBuf,
+    ) -> Result<Arrived, Failed>
         requires at { at.0 < (fibres self.old).nodes }
         requires rate { L.rate into.old ≡ (fibres self.old).rate }
+        requires spare { spare.old.rate ≡ (fibres self.old).rate }
         ensures ok { OnOk result (fibres self.new ≡ after_receive (fibres self.old)) }
         ensures arrival { IfOk result
             (λ a. Knows (fibres self.old) → arrived_in a (L.landed into.new) ≡ arrival (fibres self.old) at.0 side) }
         ensures landed { result ≡ Ok Arrived.Frame → L.landed into.new ≢ None }
         ensures dark { result ≡ Ok Arrived.Dark → into.new ≡ into.old }
         ensures rate { L.rate into.new ≡ L.rate into.old }
+        ensures spare { spare.new.rate ≡ spare.old.rate }
         ensures err { OnErr result (fibres self.new ≡ fibres self.old) }
-        ensures cause { HasCause exact (faults self.old) (faults self.new) result };
+        ensures cause { HasCause exact (faults self.old) (faults self.new) result }
+    {
+        match self.receive(at, side, spare)? {
+            Arrived::Frame => {
+                into.land(spare);
+                Ok(Arrived::Frame)
+            }
+            Arrived::Dark => Ok(Arrived::Dark),
+        }
+    }
 
     /// An honest plant has no told arrivals, none that are given in advance: what arrives is what was sent.
     ghost honest_tells_none: { (p : Self) → (fibres p).honest ≡ true → (fibres p).told ≡ None };
+}
+
+/// A plant that lends the frames that its fibres carry.
+pub trait LendingPlant: Plant {
+    /// Returns the frame on the fibre that leaves a position on a side, or `None` where that fibre carries none.
+    fn carried(&self, at: Pos, side: Side) -> Option<&FrameBuf>
+        requires at { at.0 < (Self.fibres self.now).nodes }
+        ensures some { IfSome result (λ frame. carried_on (Self.fibres self.now) (fibre at.0 side) ≡ Some frame.now.bytes) }
+        ensures none { IfNone result (carried_on (Self.fibres self.now) (fibre at.0 side) ≡ None) };
 }

@@ -4,12 +4,12 @@ ghost use Rattle.std.specs.Prelude.{OnErr, IsOkUnless, IsErrOf, All, length, sli
 ghost use Rattle.sdh_basics.specs.Causes.{Rose, IsCounted, HasCause, one_more};
 ghost use Rattle.sdh_plant.specs.Fibres.{HasNoFibres};
 ghost use Rattle.sdh_ringmap.specs.Fibres.{IsConditionAt, fibre};
-ghost use Rattle.sdh_plant.specs.Arrivals.{Knows, arrival, arrived_in, carried_on};
+ghost use Rattle.sdh_plant.specs.Arrivals.{Knows, arrival, as_arrival, arrived_in, carried_on};
 ghost use Rattle.sdh_plant.specs.Calls.{prepared, after_apply, after_send, after_receive, IsExchanged};
 ghost use Rattle.sdh_plant.specs.InMemory.{clear_fibres, recorded_of};
 
 use crate::fibre_plant::FibrePlant;
-use crate::plant::{Arrived, Failed, Plant, PrepareError};
+use crate::plant::{Arrived, Failed, LendingPlant, Plant, PrepareError};
 use sdh_frame::{FrameBuf, Landing};
 use sdh_ringmap::{FibreEvent, Pos, Rate, Side};
 use std::alloc::{AllocError, Global};
@@ -178,19 +178,40 @@ impl Plant for RecordingPlant {
         self.send(at, side, frame)
     }
 
-    fn carried(&self, at: Pos, side: Side) -> Option<&FrameBuf> {
-        self.plant.lend(at, side)
+    fn receive(&mut self, at: Pos, side: Side, frame: &mut FrameBuf) -> Result<Arrived, Failed>
+        requires at { at.0 < (recorded_of self.old).nodes }
+        requires rate { frame.old.rate ≡ (recorded_of self.old).rate }
+        ensures ok { OnOk result (recorded_of self.new ≡ after_receive (recorded_of self.old)) }
+        ensures arrival { IfOk result
+            (λ a. Knows (recorded_of self.old) → as_arrival a frame.new.bytes ≡ arrival (recorded_of self.old) at.0 side) }
+        ensures dark { result ≡ Ok Arrived.Dark → frame.new ≡ frame.old }
+        ensures rate { frame.new.rate ≡ frame.old.rate }
+        ensures err { OnErr result (recorded_of self.new ≡ recorded_of self.old) }
+        ensures cause { HasCause true self.old.faults self.new.faults result }
+
+        ensures never_fails { IsOk result }
+        ensures kept { self.new ≡ self.old }
+    {
+        Ok(self.plant.give(at, side, frame))
     }
 
-    fn receive<L: Landing>(&mut self, at: Pos, side: Side, into: &mut L) -> Result<Arrived, Failed>
+    fn receive_into<L: Landing>(
+        &mut self,
+        at: Pos,
+        side: Side,
+        into: &mut L,
+        spare: &mut FrameBuf,
+    ) -> Result<Arrived, Failed>
         requires at { at.0 < (recorded_of self.old).nodes }
         requires rate { L.rate into.old ≡ (recorded_of self.old).rate }
+        requires spare { spare.old.rate ≡ (recorded_of self.old).rate }
         ensures ok { OnOk result (recorded_of self.new ≡ after_receive (recorded_of self.old)) }
         ensures arrival { IfOk result
             (λ a. Knows (recorded_of self.old) → arrived_in a (L.landed into.new) ≡ arrival (recorded_of self.old) at.0 side) }
         ensures landed { result ≡ Ok Arrived.Frame → L.landed into.new ≢ None }
         ensures dark { result ≡ Ok Arrived.Dark → into.new ≡ into.old }
         ensures rate { L.rate into.new ≡ L.rate into.old }
+        ensures spare { spare.new.rate ≡ spare.old.rate }
         ensures err { OnErr result (recorded_of self.new ≡ recorded_of self.old) }
         ensures cause { HasCause true self.old.faults self.new.faults result }
 
@@ -201,4 +222,10 @@ impl Plant for RecordingPlant {
     }
 
     ghost honest_tells_none = { λ p honest. refl };
+}
+
+impl LendingPlant for RecordingPlant {
+    fn carried(&self, at: Pos, side: Side) -> Option<&FrameBuf> {
+        self.plant.lend(at, side)
+    }
 }

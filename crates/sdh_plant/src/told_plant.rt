@@ -6,13 +6,13 @@ ghost use Rattle.std.proofs.lemmas.Bool.{false≢true};
 ghost use Rattle.sdh_basics.specs.Causes.{Rose, IsCounted, HasCause};
 ghost use Rattle.sdh_plant.specs.Fibres.{HasNoFibres};
 ghost use Rattle.sdh_ringmap.specs.Fibres.{IsConditionAt, fibre};
-ghost use Rattle.sdh_plant.specs.Arrivals.{Knows, arrival, arrived_in, carried_on, next_told};
+ghost use Rattle.sdh_plant.specs.Arrivals.{Knows, arrival, as_arrival, arrived_in, carried_on, next_told};
 ghost use Rattle.sdh_plant.specs.Calls.{is_at, prepared, after_apply, after_send, after_receive, IsExchanged};
 ghost use Rattle.sdh_plant.specs.InMemory.{clear_fibres, told_of};
 ghost use Rattle.sdh_plant.specs.Kept.{arrival_of, IsToldAt};
 
 use crate::fibre_plant::FibrePlant;
-use crate::plant::{Arrived, Failed, Plant, PrepareError};
+use crate::plant::{Arrived, Failed, LendingPlant, Plant, PrepareError};
 use sdh_frame::{FrameBuf, Landing};
 use sdh_ringmap::{FibreEvent, Pos, Rate, Side};
 use std::alloc::Global;
@@ -185,19 +185,39 @@ impl Plant for ToldPlant {
         self.send(at, side, frame)
     }
 
-    fn carried(&self, at: Pos, side: Side) -> Option<&FrameBuf> {
-        self.plant.lend(at, side)
+    fn receive(&mut self, at: Pos, side: Side, frame: &mut FrameBuf) -> Result<Arrived, Failed>
+        requires at { at.0 < (told_of self.old).nodes }
+        requires rate { frame.old.rate ≡ (told_of self.old).rate }
+        ensures ok { OnOk result (told_of self.new ≡ after_receive (told_of self.old)) }
+        ensures arrival { IfOk result
+            (λ a. Knows (told_of self.old) → as_arrival a frame.new.bytes ≡ arrival (told_of self.old) at.0 side) }
+        ensures dark { result ≡ Ok Arrived.Dark → frame.new ≡ frame.old }
+        ensures rate { frame.new.rate ≡ frame.old.rate }
+        ensures err { OnErr result (told_of self.new ≡ told_of self.old) }
+        ensures cause { HasCause true 0 0 result }
+
+        ensures never_fails { IsOk result }
+    {
+        Ok(self.give_next(frame))
     }
 
-    fn receive<L: Landing>(&mut self, at: Pos, side: Side, into: &mut L) -> Result<Arrived, Failed>
+    fn receive_into<L: Landing>(
+        &mut self,
+        at: Pos,
+        side: Side,
+        into: &mut L,
+        spare: &mut FrameBuf,
+    ) -> Result<Arrived, Failed>
         requires at { at.0 < (told_of self.old).nodes }
         requires rate { L.rate into.old ≡ (told_of self.old).rate }
+        requires spare { spare.old.rate ≡ (told_of self.old).rate }
         ensures ok { OnOk result (told_of self.new ≡ after_receive (told_of self.old)) }
         ensures arrival { IfOk result
             (λ a. Knows (told_of self.old) → arrived_in a (L.landed into.new) ≡ arrival (told_of self.old) at.0 side) }
         ensures landed { result ≡ Ok Arrived.Frame → L.landed into.new ≢ None }
         ensures dark { result ≡ Ok Arrived.Dark → into.new ≡ into.old }
         ensures rate { L.rate into.new ≡ L.rate into.old }
+        ensures spare { spare.new.rate ≡ spare.old.rate }
         ensures err { OnErr result (told_of self.new ≡ told_of self.old) }
         ensures cause { HasCause true 0 0 result }
 
@@ -207,4 +227,10 @@ impl Plant for ToldPlant {
     }
 
     ghost honest_tells_none = { λ p honest. absurd (false≢true honest) };
+}
+
+impl LendingPlant for ToldPlant {
+    fn carried(&self, at: Pos, side: Side) -> Option<&FrameBuf> {
+        self.plant.lend(at, side)
+    }
 }

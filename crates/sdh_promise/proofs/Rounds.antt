@@ -1,7 +1,7 @@
 -- The rounds of reports that are owed.
 use Rattle.std.proofs.Common.{◌≡◌, ℕ, ◌+◌, ◌-◌, List, [], ◌∷◌, ◌++◌, subst, arith}
-use Rattle.sdh_promise.specs.Changes.{Change, Stretch, rounds_in}
-use Rattle.sdh_promise.specs.Happened.{happened}
+use Rattle.sdh_restoration.specs.Changes.{Change, Stretch, rounds_in}
+use Rattle.sdh_restoration.specs.Happened.{happened}
 use Rattle.sdh_promise.specs.Owed.{Ring, PortReport, requests_by, IsLast, IsOwed}
 use Rattle.sdh_promise.specs.Laws.{GoOn, ReportsGoOn, ReportsRemember}
 

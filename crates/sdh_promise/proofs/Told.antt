@@ -4,7 +4,7 @@ use Rattle.std.specs.Prelude.{◌==◌, if◌then◌else◌}
 use Rattle.std.proofs.lemmas.Bool.Decides.{nat_tests}
 use Rattle.sdh_ringmap.specs.Fibres.{fibre, fibre_to}
 use Rattle.sdh_payload.specs.History.{told}
-use Rattle.sdh_promise.specs.Sides.{Holding}
+use Rattle.sdh_restoration.specs.Sides.{Holding}
 use Rattle.sdh_promise.specs.Laws.{SidesAreTold, PortsAreTold, OwedByTheOther}
 
 pub sides_are_told : SidesAreTold

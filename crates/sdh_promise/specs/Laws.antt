@@ -10,10 +10,10 @@ use Rattle.sdh_circuits.specs.declared.PortId.{PortId}
 use Rattle.sdh_circuits.specs.Provisioned.{Provisioned, customer_at, same_port}
 use Rattle.sdh_restoration.specs.Due.{due, sends_by}
 use Rattle.sdh_circuits.specs.Ends.{other_end}
-use Rattle.sdh_report.specs.declared.status.Status.{Status}
-use Rattle.sdh_promise.specs.Changes.{Change, Fibre, Slip, Stretch, rounds_in}
-use Rattle.sdh_promise.specs.Sides.{Holding, holding_after}
-use Rattle.sdh_promise.specs.Happened.{told_by, happened}
+use Rattle.sdh_status.specs.declared.Status.{Status}
+use Rattle.sdh_restoration.specs.Changes.{Change, Fibre, Slip, Stretch, rounds_in}
+use Rattle.sdh_restoration.specs.Sides.{Holding, holding_after}
+use Rattle.sdh_restoration.specs.Happened.{told_by, happened}
 use Rattle.sdh_promise.specs.Owed.{Ring, PortReport, requests_by, owed_port, IsOwed, AreOwed}
 
 -- the rounds of these reports go on after `ran` rounds: each lies after the round of the report before it, within the

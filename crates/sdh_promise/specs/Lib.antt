@@ -1,6 +1,4 @@
-pub mod Changes
-pub mod Sides
-pub mod Happened
+pub mod Scenes
 pub mod Owed
 pub mod Plans
 pub mod Laws

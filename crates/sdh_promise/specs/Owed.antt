@@ -5,16 +5,15 @@ use Rattle.sdh_circuits.specs.declared.End.TheVariants.{A, B}
 use Rattle.sdh_circuits.specs.declared.PortId.{PortId}
 use Rattle.sdh_circuits.specs.Provisioned.{Provisioned, customer_at}
 use Rattle.sdh_payload.specs.History.{Happening}
-use Rattle.sdh_restoration.specs.History.{Asking, local_request}
 use Rattle.sdh_restoration.specs.Applied.{span_requests, is_applied}
 use Rattle.sdh_restoration.specs.Due.{due, sends_by}
 use Rattle.sdh_circuits.specs.Ends.{other_end}
-use Rattle.sdh_report.specs.declared.status.Status.{Status}
-use Rattle.sdh_report.specs.declared.status.Status.TheVariants as status
-use Rattle.sdh_report.specs.Reports.{PortLine}
-use Rattle.sdh_promise.specs.Changes.{Change, Stretch, rounds_in}
-use Rattle.sdh_promise.specs.Sides.{side_history}
-use Rattle.sdh_promise.specs.Happened.{happened}
+use Rattle.sdh_status.specs.declared.Status.{Status}
+use Rattle.sdh_status.specs.declared.Status.TheVariants as status
+use Rattle.sdh_status.specs.PortLine.{PortLine}
+use Rattle.sdh_restoration.specs.Changes.{Change, Stretch, rounds_in}
+use Rattle.sdh_restoration.specs.Sides.{asked_in}
+use Rattle.sdh_restoration.specs.Happened.{happened}
 
 -- the part of a report that is compared with what is owed: its settle step, counted from 1; the last round of that
 -- step; and the line of each port in the order of the circuits, a before b
@@ -30,11 +29,6 @@ pub record Ring : Type 0 where
   pub threshold : ℕ
   pub wait : ℕ
   pub circuits : List Provisioned
-
--- what each side asks for in round t of the stretches, by its history, in a ring of n with this threshold and this
--- waiting time
-abbrev pub asked_in : ℕ → ℕ → ℕ → List Stretch → ℕ → Asking
-asked_in threshold wait n stretches t p d = local_request threshold wait (side_history n p d stretches) t
 
 -- the requests of all spans in round t of the stretches
 abbrev pub requests_by : Ring → List Stretch → ℕ → List ℕ

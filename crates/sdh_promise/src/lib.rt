@@ -1,7 +1,7 @@
 //! What a plan's reports have to show to its customers, in short what they owe. This crate has definitions of it, and
-//! no code that runs. `specs/Changes.antt` has what a script says of a ring. `specs/Sides.antt` and
-//! `specs/Happened.antt` have what happened at its sides and ports. `specs/Owed.antt` says what each report owes, and
-//! `specs/Plans.antt` says it of a plan. Each function here has a law as its contract and no work to do.
+//! no code that runs. What a script changes in a ring, and what happened at its sides and ports by then, is defined in
+//! `sdh_restoration`. `specs/Owed.antt` says what each report owes, and `specs/Plans.antt` says it of a plan. Each
+//! function here has a law as its contract and no work to do.
 #![tactic(auto)]
 
 ghost use Rattle.sdh_promise.specs.Laws.{ReportsGoOn, ReportsRemember, SidesAreTold, PortsAreTold, OwedByTheOther};

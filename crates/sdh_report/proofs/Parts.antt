@@ -1,11 +1,11 @@
 -- Texts with reserved room.
-use Rattle.std.proofs.Common.{◌≡◌, ℕ, List, ◌+◌, ◌-◌, ◌*◌, ◌++◌, length, take, codes, decimal, arith, ap, ap₂, ◌∙◌, append_assoc}
+use Rattle.std.proofs.Common.{◌≡◌, ℕ, List, ◌+◌, ◌-◌, ◌*◌, ◌++◌, length, take, codes, decimal, arith, ap, ap₂, ◌∙◌, append_assoc, ◌≤◌}
 use Rattle.std.proofs.lemmas.List.{length-append}
 use Rattle.sdh_basics.specs.Hexadecimal.{hex_of}
 use Rattle.sdh_basics.proofs.HexadecimalLaws.{length-hex_of}
 use Rattle.sdh_circuits.specs.declared.End.{End}
 use Rattle.sdh_report.specs.Lines.{port_named, chunk_line}
-use Rattle.sdh_report.specs.Written.{Written, with_part}
+use Rattle.sdh_report.specs.Written.{Written, with_part, room_in}
 
 -- texts with equal bytes and equal room are equal
 pub same_text : (w : Written) (bytes : List ℕ) (room : ℕ) → w.bytes ≡ bytes → w.room ≡ room → w ≡ record { bytes = bytes; room = room }
@@ -37,3 +37,7 @@ length-chunk_line name end value chunk =
       length-append p norm,
       length-hex_of (take 16 chunk),
     )
+
+-- a part takes its room, and no more
+pub kept_part : (w : Written) (part : List ℕ) → length part ≤ w.room → room_in (with_part w part) ≡ room_in w
+kept_part w part fits = omega (arith, fits, length-append w.bytes part)

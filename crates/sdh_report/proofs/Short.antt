@@ -15,8 +15,8 @@ use Rattle.sdh_report.specs.declared.node_line.StateWord.{StateWord}
 use Rattle.sdh_report.specs.declared.node_line.StateWord.TheVariants as word
 use Rattle.sdh_report.specs.declared.node_line.NodeLine.{NodeLine}
 use Rattle.sdh_report.specs.declared.text.TheConstants.{LINE_MAX, CHUNK_MAX}
-use Rattle.sdh_report.specs.declared.status.Status.{Status}
-use Rattle.sdh_report.specs.declared.status.Status.TheVariants as status
+use Rattle.sdh_status.specs.declared.Status.{Status}
+use Rattle.sdh_status.specs.declared.Status.TheVariants as status
 use Rattle.sdh_report.specs.Lines.{step_ended, settle_line, state_text, word_text, node_line, end_letter, port_named, port_line, row}
 use Rattle.sdh_report.specs.Lines.{row_line, chunk_rows, drop_lines, side_text, table_place, table_ends, table_line, count_line}
 use Rattle.sdh_report.specs.Statuses.{last_line}

@@ -6,6 +6,10 @@ use Rattle.sdh_basics.specs.Cells.{cells}
 use Rattle.sdh_basics.specs.Hexadecimal.{hex_of}
 use Rattle.sdh_ringmap.specs.declared.Side.{Side}
 use Rattle.sdh_ringmap.specs.declared.Side.TheVariants.{West, East}
+use Rattle.sdh_kbytes.specs.declared.K.{K}
+use Rattle.sdh_kbytes.specs.KBytes.{first_byte, second_byte}
+use Rattle.sdh_nodestate.specs.declared.NodeState.{NodeState}
+use Rattle.sdh_nodestate.specs.declared.NodeState.TheVariants as state
 use Rattle.sdh_circuits.specs.declared.End.{End}
 use Rattle.sdh_circuits.specs.declared.End.TheVariants.{A, B}
 use Rattle.sdh_circuits.specs.declared.Slot.{Slot}
@@ -15,7 +19,6 @@ use Rattle.sdh_payload.specs.declared.delivered.Front.{Front}
 use Rattle.sdh_payload.specs.declared.delivered.Front.TheVariants as front
 use Rattle.sdh_report.specs.declared.node_line.StateWord.{StateWord}
 use Rattle.sdh_report.specs.declared.node_line.StateWord.TheVariants as word
-use Rattle.sdh_report.specs.declared.node_line.WordBytes.{WordBytes}
 use Rattle.sdh_report.specs.declared.node_line.NodeLine.{NodeLine}
 
 -- a line of the caller's own
@@ -40,9 +43,17 @@ state_text word.SwitchWest = codes "switch-west"
 state_text word.SwitchEast = codes "switch-east"
 state_text word.Isolated = codes "isolated"
 
+-- the name of a node's state
+abbrev pub state_word : NodeState → StateWord
+state_word (state.Idle x) = word.Idle
+state_word (state.PassThrough x) = word.Pass
+state_word (state.SwitchWest far) = word.SwitchWest
+state_word (state.SwitchEast far) = word.SwitchEast
+state_word (state.Isolated x) = word.Isolated
+
 -- the bytes K1 and K2 of a K word, two hexadecimal digits each
-abbrev pub word_text : WordBytes → List ℕ
-word_text w = hex_of (w.first ∷ []) ++ codes " " ++ hex_of (w.second ∷ [])
+abbrev pub word_text : K → List ℕ
+word_text k = hex_of (first_byte k ∷ []) ++ codes " " ++ hex_of (second_byte k ∷ [])
 
 -- the line of a node: its identifier, the name of its state, and the K words that it sent last
 abbrev pub node_line : NodeLine → List ℕ

@@ -7,19 +7,14 @@ use Rattle.sdh_circuits.specs.declared.PortId.{PortId}
 use Rattle.sdh_circuits.specs.Ends.{port_number}
 use Rattle.sdh_payload.specs.declared.delivered.Delivered.{Delivered}
 use Rattle.sdh_payload.specs.declared.delivered.Delivered.TheVariants.{Ais, Chunk}
-use Rattle.sdh_payload.specs.Outlet.{Outlet, silent}
+use Rattle.sdh_payload.specs.Outlet.{silent}
+use Rattle.sdh_status.specs.PortLine.{PortLine}
 use Rattle.sdh_report.specs.declared.node_line.NodeLine.{NodeLine}
 use Rattle.sdh_report.specs.declared.listing.Listing.{Listing}
 use Rattle.sdh_report.specs.declared.listing.Listing.TheVariants as listing
 use Rattle.sdh_report.specs.Lines.{settle_line, node_line, port_line, drop_lines, count_line}
 
 -- ---- what is reported
-
--- what the port at an end of the circuit of this name delivered, with the pointer value that it came with
-pub record PortLine : Type 0 where
-  pub name : List ℕ
-  pub end : End
-  pub outlet : Outlet
 
 -- a report: the settle step, counted from 1; its last round; the line of each node by position; and that of each port
 -- in the order of the circuits, a before b

@@ -9,10 +9,10 @@ ghost use Rattle.sdh_report.specs.Lines.{table_line, count_line};
 ghost use Rattle.sdh_report.specs.Statuses.{last_line};
 ghost use Rattle.sdh_ringmap.specs.declared.Side.{Side};
 
-use crate::status::Status;
 use crate::text::{CHUNK_MAX, LINE_MAX};
 use sdh_circuits::{End, Name};
 use sdh_payload::Front;
+use sdh_status::Status;
 
 /// Each line, except those of a chunk and a line of the caller's own, has at most `LINE_MAX` bytes, whatever numbers
 /// its call takes and whatever name of at most 16 bytes. The lines of a chunk have at most `CHUNK_MAX` bytes together.

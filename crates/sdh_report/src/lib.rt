@@ -5,10 +5,12 @@ pub mod laws;
 mod lines;
 mod listing;
 mod node_line;
-mod status;
+mod output;
 mod text;
+mod usage_line;
 
 pub use listing::Listing;
-pub use node_line::{NodeLine, StateWord, WordBytes};
-pub use status::Status;
+pub use node_line::{NodeLine, StateWord};
+pub use sdh_status::Status;
 pub use text::{CHUNK_MAX, LINE_MAX, Text};
+pub use usage_line::usage;

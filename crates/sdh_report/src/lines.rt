@@ -1,17 +1,20 @@
 //! The lines of the program's texts. Each method appends one, or a part of one.
 ghost use Rattle.std.specs.Prelude.{◌≡◌, ◌+◌, ◌*◌, ◌≤◌, ◌<◌, length, take, drop};
+ghost use Rattle.sdh_kbytes.specs.KBytes.{IsSpellable};
 ghost use Rattle.sdh_report.specs.Written.{with_part};
 ghost use Rattle.sdh_report.specs.Lines.{own_line, step_ended, settle_line, end_letter, side_text, word_text, node_line, port_named};
 ghost use Rattle.sdh_report.specs.Lines.{chunk_line, ais_line, port_line, front_line, row, row_line, drop_lines, table_place};
 ghost use Rattle.sdh_report.specs.Lines.{table_ends, table_line, count_line};
 ghost use Rattle.sdh_report.specs.Statuses.{last_line};
 
-use crate::node_line::{NodeLine, WordBytes};
-use crate::status::Status;
+use crate::node_line::NodeLine;
 use crate::text::Text;
+use crate::usage_line::usage;
 use sdh_circuits::{End, Name, Slot};
+use sdh_kbytes::{K, encode};
 use sdh_payload::{Delivered, Front};
 use sdh_ringmap::Side;
+use sdh_status::Status;
 
 // Returns the first 16 bytes, or all where there are fewer.
 fn first_bytes(chunk: &[u8]) -> &[u8]
@@ -74,18 +77,23 @@ impl Text {
     }
 
     /// Appends the bytes K1 and K2 of a K word, two hexadecimal digits each.
-    pub fn put_word(&mut self, word: WordBytes)
-        requires { 5 ≤ self.old.room }
+    pub fn put_word(&mut self, word: K)
+        requires room { 5 ≤ self.old.room }
+        requires to { word.to ≤ 15 }
+        requires from { word.from ≤ 15 }
         ensures { self.new ≡ with_part self.old (word_text word) }
     {
-        self.put_hex(&[word.first]);
+        let (first, second) = encode(word);
+        self.put_hex(&[first]);
         self.put(b" ");
-        self.put_hex(&[word.second]);
+        self.put_hex(&[second]);
     }
 
     /// Appends the line of a node.
     pub fn node_line(&mut self, line: &NodeLine)
         requires room { length (node_line line.now) ≤ self.old.room }
+        requires west { IsSpellable line.now.west }
+        requires east { IsSpellable line.now.east }
         ensures { self.new ≡ with_part self.old (node_line line.now) }
     {
         self.put(b"node ");
@@ -291,13 +299,14 @@ impl Text {
     }
 
     /// Appends the last line of a text, by how the program ends. Nothing is appended after a write fault and where
-    /// memory ran out, nor after wrong words, for which each program has a line of its own.
+    /// memory ran out. After wrong words it is the line of `sdhring`; other programs have lines of their own for those.
     pub fn last_line(&mut self, status: &Status)
         requires { length (last_line status.now) ≤ self.old.room }
         ensures { self.new ≡ with_part self.old (last_line status.now) }
     {
         match *status {
             Status::Ok => self.own_line(b"done"),
+            Status::Usage => self.own_line(usage()),
             Status::ReadFault => self.own_line(b"read fault"),
             Status::NotToml => self.own_line(b"not toml"),
             Status::BadPlan { reason, place } => self.bad_plan_line(reason, place),
@@ -305,7 +314,7 @@ impl Text {
             Status::PlantFault => self.own_line(b"plant fault"),
             Status::TooLong => self.own_line(b"too long"),
             Status::NoSuchPort => self.own_line(b"no such port"),
-            Status::Usage | Status::WriteFault | Status::Memory => (),
+            Status::WriteFault | Status::Memory => (),
         }
     }
 }

@@ -1,6 +1,9 @@
 //! The line of a node.
 ghost use Rattle.std.specs.Prelude.{◌≡◌};
-ghost use Rattle.sdh_report.specs.Lines.{state_text};
+ghost use Rattle.sdh_report.specs.Lines.{state_text, state_word};
+
+use sdh_kbytes::K;
+use sdh_nodestate::NodeState;
 
 /// The name that a report gives to the state of a node.
 #[derive(Clone, Copy, Debug, PartialEq, Eq)]
@@ -12,24 +15,29 @@ pub enum StateWord {
     Isolated,
 }
 
-/// The two bytes K1 and K2 of a K word.
-#[derive(Clone, Copy, Debug, PartialEq, Eq)]
-pub struct WordBytes {
-    pub first: u8,
-    pub second: u8,
-}
-
-/// The line of a node: its identifier, the name of its state, and the bytes of the K words that it sent last on each
-/// side.
+/// The line of a node: its identifier, the name of its state, and the K words that it sent last on each side.
 #[derive(Clone, Copy, Debug, PartialEq, Eq)]
 pub struct NodeLine {
     pub id: u8,
     pub state: StateWord,
-    pub west: WordBytes,
-    pub east: WordBytes,
+    pub west: K,
+    pub east: K,
 }
 
 impl StateWord {
+    /// Returns the name of a node's state.
+    pub fn of(state: &NodeState) -> StateWord
+        ensures { result ≡ state_word state.now }
+    {
+        match state {
+            NodeState::Idle(_) => StateWord::Idle,
+            NodeState::PassThrough(_) => StateWord::Pass,
+            NodeState::SwitchWest(_) => StateWord::SwitchWest,
+            NodeState::SwitchEast(_) => StateWord::SwitchEast,
+            NodeState::Isolated(_) => StateWord::Isolated,
+        }
+    }
+
     /// Returns the name as bytes.
     pub fn letters(self) -> &'static [u8]
         ensures { result.now ≡ state_text self }

@@ -1,5 +1,5 @@
 //! A text with reserved room.
-ghost use Rattle.std.specs.Prelude.{◌≡◌, ◌+◌, ◌-◌, ◌*◌, ◌<◌, ◌≤◌, [], length, decimal, false, IfOk};
+ghost use Rattle.std.specs.Prelude.{◌≡◌, ◌+◌, ◌-◌, ◌*◌, ◌<◌, ◌≤◌, [], length, decimal, false, IfOk, OnOk, OnErr};
 ghost use Rattle.std.specs.Fmt.{digit_glyph};
 ghost use Rattle.sdh_basics.specs.Hexadecimal.{hex_of};
 ghost use Rattle.sdh_report.specs.Written.{Written, with_part};
@@ -66,6 +66,19 @@ impl Text {
             bytes: Vec::with_capacity(alloc, room)?,
             room,
         })
+    }
+
+    /// Makes room for at least `room` bytes after those of the text. An error leaves the text as it was.
+    pub fn make_room(&mut self, room: usize) -> Result<(), AllocError>
+        ensures bytes { self.new.bytes ≡ self.old.bytes }
+        ensures room { OnOk result (room ≤ self.new.room) }
+        ensures err { OnErr result (self.new ≡ self.old) }
+    {
+        if self.room < room {
+            self.bytes.reserve_exact(room)?;
+            self.room = room;
+        }
+        Ok(())
     }
 
     /// Returns the number of bytes for which there is room left.

@@ -4,3 +4,6 @@ pub mod Routes
 pub mod History
 pub mod Rounds
 pub mod Due
+pub mod Changes
+pub mod Sides
+pub mod Happened

@@ -3,6 +3,8 @@ use Rattle.std.specs.Prelude.{◌≡◌, ℕ, suc, ◌+◌, ◌-◌, ◌<◌, �
 use Rattle.sdh_report.specs.Lines.{own_line}
 use Rattle.sdh_elastic.specs.History.{lasts, lengths}
 use Rattle.std.specs.Io.KnownBytes.{Appends}
+use Rattle.sdh_outside.specs.Reading.{TellsAtMost}
+use Rattle.sdh_shell.specs.Kept.{Around, Common, Keeps}
 use Rattle.sdh_shell.specs.Failing.{Counts, HaveFailed, CameOfSource}
 use Rattle.sdh_shell.specs.Writing.{Telling, Whole, Front, Nothing, WritesAs}
 use Rattle.sdh_retime_cli.specs.declared.status.Status.{Status}
@@ -134,3 +136,22 @@ WritesUnsteady words turn old new = (text : List ℕ) × AreUnsteady words turn 
 abbrev pub DriftsAreUnsteady : Type 0
 DriftsAreUnsteady =
     (digits bytes : List ℕ) (k turn : ℕ) (text : List ℕ) → IsDigits digits → IsDrift digits bytes k turn text → UnsteadyBy digits turn
+
+-- ---- what a call keeps
+
+abbrev pub common : Common Status
+common = record {
+  IsDone = HasRun;
+  usage = status.Usage;
+  read_fault = status.ReadFault;
+  too_long = status.TooLong;
+  write_fault = status.WriteFault;
+  memory = status.Memory;
+}
+
+-- What a call keeps of its source and its sink when it ends with a status. With digits and at most 1,048,576 bytes, and
+-- no call that fails, the run comes to its end, or memory runs out.
+abbrev pub KeepsCall : {R W : Type 0} → List (List ℕ) → Around R (Option (List ℕ)) → Around W (Option (List ℕ)) → Status → Type 0
+KeepsCall words source sink end =
+    Keeps common (AreDigits words → ⊥) (AreDigits words → ⊥) (AreDigits words × TellsAtMost (source.shows source.before) 1048576)
+    (λ how. Unit {0}) source sink end

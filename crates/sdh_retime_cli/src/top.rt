@@ -6,10 +6,11 @@ ghost use Rattle.sdh_outside.specs.Reading.{TakesCount, TellsAtMost};
 ghost use Rattle.sdh_report.specs.Lines.{own_line};
 ghost use Rattle.sdh_shell.specs.Calls.{words_of};
 ghost use Rattle.sdh_shell.specs.Failing.{Counts};
+ghost use Rattle.sdh_shell.specs.Kept.{around};
 ghost use Rattle.sdh_retime_cli.specs.Digits.{AreDigits};
 ghost use Rattle.sdh_retime_cli.specs.declared.status.Status.{Status};
 ghost use Rattle.sdh_retime_cli.specs.Front.{TellsFront, WritesFront};
-ghost use Rattle.sdh_retime_cli.specs.Outcome.{number_of, IsOutcome, Writes, Answers, CameTo, HasRun, AreUnsteady, WritesUnsteady};
+ghost use Rattle.sdh_retime_cli.specs.Outcome.{number_of, IsOutcome, Writes, Answers, CameTo, HasRun, AreUnsteady, WritesUnsteady, KeepsCall};
 
 use crate::digits::digits_of;
 use crate::retiming::{Outcome, run};
@@ -142,27 +143,10 @@ pub fn retime<R: Source, W: Sink>(
     ensures unsteady { result ≡ 12
         → (turn : ℕ) × WritesUnsteady (words_of words.now) turn (W.written sink.old) (W.written sink.new) }
 
-    // These clauses hold over every source and sink.
-    ensures usage { result ≡ 2 → ¬ AreDigits (words_of words.now) }
-    ensures usage_only { (¬ AreDigits (words_of words.now)) → (result ≡ 2) ⊎ (result ≡ 4) ⊎ (result ≡ 70) }
-    ensures read_fault { result ≡ 3 → Rose (R.faults source.old) (R.faults source.new) }
-    ensures write_fault { result ≡ 4 → Rose (W.faults sink.old) (W.faults sink.new) }
-    ensures memory { result ≡ 70 → sink.new ≡ sink.old }
-
-    // Where the count of faults of the source or the sink is exact, a read that failed is reported as a read fault and
-    // a write that failed as a write fault, and no call that failed is tried again. A write fault may stand in place of
-    // what was to be reported. Where `TooLong` was to be reported, 1,048,577 bytes were taken from the source: one more
-    // than the program accepts.
-    ensures came { (how : Status) × ((result ≡ number_of how) ⊎ (result ≡ 4))
-        × CameTo R.exact (R.faults source.old) (R.faults source.new) (R.left source.old) (R.left source.new) how }
-    ensures writes { IsCounted W.exact (result ≡ 4) (W.faults sink.old) (W.faults sink.new) }
-    ensures read_whole { (result ≡ 0) ⊎ (result ≡ 12) → IsAtEnd (R.left source.new) }
-    ensures later { (R.faults source.old ≤ R.faults source.new) × (W.faults sink.old ≤ W.faults sink.new) }
-
-    // With digits, at most 1,048,576 bytes, and no call that fails, the run comes to its end, or memory runs out.
-    ensures complete { AreDigits (words_of words.now) → TellsAtMost (R.left source.old) 1048576
-        → ¬ (Rose (R.faults source.old) (R.faults source.new)) → ¬ (Rose (W.faults sink.old) (W.faults sink.new))
-        → (result ≡ 0) ⊎ (result ≡ 12) ⊎ (result ≡ 70) }
+    // What the call keeps, over every source and sink (`Keeps` in `sdh_shell/specs/Kept`): each fault has its cause, what
+    // isn't asked for stays as it was, and with digits, at most 1,048,576 bytes and no call that fails all is done.
+    ensures kept { (how : Status) × (result ≡ number_of how) × KeepsCall (words_of words.now)
+        (around R.faults R.exact R.left source.old source.new) (around W.faults W.exact W.written sink.old sink.new) how }
 {
     answer(alloc, words, source, sink).number()
 }

@@ -14,14 +14,14 @@ use Rattle.sdh_payload.specs.Clock.{Clock, ticks}
 use Rattle.sdh_plant.specs.Fibres.{Arrival}
 use Rattle.sdh_terminal.specs.Tributaries.{Tributary, port_of}
 use Rattle.sdh_node.specs.Node.{Node}
-use Rattle.sdh_world.specs.Held.{HeldRing, place_of_port}
-use Rattle.sdh_world.specs.Clocks.{HasPortIn, clock_at, clocks_from}
-use Rattle.sdh_world.specs.Rounds.{World}
-use Rattle.sdh_world.specs.Runs.{ArriveIn, run_with, course_with}
-use Rattle.sdh_world.specs.Quiet.{NeverSettles}
+use Rattle.sdh_node.specs.Rings.Held.{HeldRing, place_of_port}
+use Rattle.sdh_node.specs.Rings.Clocks.{HasPortIn, clock_at, clocks_from}
+use Rattle.sdh_node.specs.Rings.Rounds.{World}
+use Rattle.sdh_node.specs.Rings.Runs.{ArriveIn, run_with, course_with}
+use Rattle.sdh_node.specs.Rings.Quiet.{NeverSettles}
 use Rattle.sdh_rounds.proofs.Runs.{held_run}
 use Rattle.sdh_rounds.proofs.Laws.{runs_keep}
-use Rattle.sdh_world.proofs.Clocks.{clock_of, Follows, node_next, goes_rounds}
+use Rattle.sdh_node.proofs.RingLaws.Clocks.{clock_of, Follows, node_next, goes_rounds}
 use Rattle.sdh_rounds.specs.Calls.{told_some, first_after}
 use Rattle.sdh_rounds.specs.Faults as breaking
 use Rattle.sdh_rounds.specs.Faults.{had_round}
@@ -29,8 +29,8 @@ use Rattle.sdh_rounds.proofs.Rings.{some_keep}
 use Rattle.sdh_rounds.proofs.Keeping.{keeps_broken}
 use Rattle.sdh_ring.specs.Faults.{ClocksWentOn, BreaksRound, BreaksStep}
 use Rattle.sdh_ring.proofs.Nodes.{length_fixed}
-use Rattle.sdh_world.specs.Fixed.{fixed}
-use Rattle.sdh_world.proofs.Keeping.{fixed_with, fixed_next}
+use Rattle.sdh_node.specs.Rings.Fixed.{fixed}
+use Rattle.sdh_node.proofs.RingLaws.Keeping.{fixed_with, fixed_next}
 use Rattle.sdh_node.specs.Stations.{adm}
 
 -- ---- the ports of circuits at a node, with their clocks: no receive changes them

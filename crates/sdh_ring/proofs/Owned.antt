@@ -9,14 +9,14 @@ use Rattle.sdh_payload.specs.Clock.{Clock, waiting}
 use Rattle.sdh_terminal.specs.Tributaries.{Tributary, port_of, HasPort, outlet_of, waiting_of, tributaries_at}
 use Rattle.sdh_node.specs.Node.{Node, new_node}
 use Rattle.sdh_rounds.specs.Held.{IsPlaceOf, IsNodeOf}
-use Rattle.sdh_world.specs.Clocks.{port_in, HasPortIn, clock_at, waiting_at}
-use Rattle.sdh_world.specs.Fixed.{IsRested, IsRing}
-use Rattle.sdh_world.proofs.Clocks.{clock_of}
+use Rattle.sdh_node.specs.Rings.Clocks.{port_in, HasPortIn, clock_at, waiting_at}
+use Rattle.sdh_node.specs.Rings.Fixed.{IsRested, IsRing}
+use Rattle.sdh_node.proofs.RingLaws.Clocks.{clock_of}
 use Rattle.sdh_terminal.proofs.Found.{found_has}
-use Rattle.sdh_world.proofs.Keeping.{has_fixed, node_is, new_has}
+use Rattle.sdh_node.proofs.RingLaws.Keeping.{has_fixed, node_is, new_has}
 use Rattle.sdh_ring.proofs.Rings.{count_of}
 use Rattle.sdh_payload.specs.Outlet.{silent}
-use Rattle.sdh_world.specs.Held.{HeldRing, nowhere, node_at, place_of_port, outlet_at}
+use Rattle.sdh_node.specs.Rings.Held.{HeldRing, nowhere, node_at, place_of_port, outlet_at}
 use Rattle.sdh_ringmap.specs.Places.{position_of}
 use Rattle.sdh_terminal.proofs.Found.{has_own}
 

@@ -16,11 +16,11 @@ use Rattle.sdh_rounds.specs.Faults.{BreaksRound}
 use Rattle.sdh_rounds.specs.Outcome.{IsOneRound}
 use Rattle.sdh_rounds.specs.declared.faults.PlantFault.{PlantFault as Fault}
 use Rattle.sdh_rounds.proofs.Keeping.{keeps_with, keeps_broken}
-use Rattle.sdh_world.specs.Held.{HeldRing, new_nodes, new_ring}
-use Rattle.sdh_world.specs.Rounds.{World, world, nodes_with, node_after}
-use Rattle.sdh_world.specs.Runs.{IsRound}
-use Rattle.sdh_world.specs.Fixed.{fixed, IsOn, IsRing}
-use Rattle.sdh_world.proofs.Keeping.{fixed_with, fixed_next, all_settings, length-fixed, all_on_heard, all_on_next, all_new}
+use Rattle.sdh_node.specs.Rings.Held.{HeldRing, new_nodes, new_ring}
+use Rattle.sdh_node.specs.Rings.Rounds.{World, world, nodes_with, node_after}
+use Rattle.sdh_node.specs.Rings.Runs.{IsRound}
+use Rattle.sdh_node.specs.Rings.Fixed.{fixed, IsOn, IsRing}
+use Rattle.sdh_node.proofs.RingLaws.Keeping.{fixed_with, fixed_next, all_settings, length-fixed, all_on_heard, all_on_next, all_new}
 
 -- ---- a ring and its nodes
 
@@ -39,6 +39,13 @@ ring_with r ns m rounds broken h same small going = record {
   nodes = same ∙ h.nodes;
   going = going;
 }
+
+-- a place of a ring, which is seen as `now`, is the place of a node
+pub place_in : (r now : HeldRing) (i : ℕ) → r ≡ now → IsRing r → i < length now.ids → i < length r.nodes
+place_in r now i seen h low =
+    let low : i < length r.ids = subst (λ (x : HeldRing). i < length x.ids) (sym seen) low in
+    let size = count_of r h in
+    omega (arith, low, size)
 
 true_is_not_false : {P : Type 0} → true ≡ false → P
 true_is_not_false e = cc

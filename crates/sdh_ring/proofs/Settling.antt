@@ -8,12 +8,12 @@ use Rattle.sdh_rounds.specs.Outcome.{Outcome}
 use Rattle.sdh_rounds.specs.declared.faults.SettleError.{SettleError}
 use Rattle.sdh_rounds.specs.declared.faults.SettleError.TheVariants.{Unsettled, PlantFault}
 use Rattle.sdh_rounds.proofs.Runs.{held_run}
-use Rattle.sdh_world.specs.Held.{HeldRing}
-use Rattle.sdh_world.specs.Rounds.{World}
-use Rattle.sdh_world.specs.Quiet.{Settles}
-use Rattle.sdh_world.specs.Clocks.{HasPortIn, clock_at, waiting_at}
-use Rattle.sdh_world.specs.Fixed.{IsRested}
-use Rattle.sdh_world.proofs.Waiting.{waits_run_out}
+use Rattle.sdh_node.specs.Rings.Held.{HeldRing}
+use Rattle.sdh_node.specs.Rings.Rounds.{World}
+use Rattle.sdh_node.specs.Rings.Quiet.{Settles}
+use Rattle.sdh_node.specs.Rings.Clocks.{HasPortIn, clock_at, waiting_at}
+use Rattle.sdh_node.specs.Rings.Fixed.{IsRested}
+use Rattle.sdh_node.proofs.RingLaws.Waiting.{waits_run_out}
 use Rattle.sdh_laws.specs.Hearing.Laws.{StepsStayWhole}
 use Rattle.sdh_laws.specs.Carrying.Windows.{layout_in, HasCircuits}
 use Rattle.sdh_laws.specs.Carrying.Laws.{SettledRingsAreRestored}

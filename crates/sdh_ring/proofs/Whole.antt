@@ -5,14 +5,14 @@ use Rattle.sdh_request.specs.declared.Command.{Command}
 use Rattle.sdh_plant.specs.Fibres.{Fibres}
 use Rattle.sdh_node.specs.Receiving.{commanded_by}
 use Rattle.sdh_node.specs.Node.{at_receiving, held_for, slips_at}
-use Rattle.sdh_world.specs.Held.{HeldRing, at_place, node_at, place_of_port}
-use Rattle.sdh_world.specs.Rounds.{world}
-use Rattle.sdh_promise.specs.Changes.{Order, Hold, Slip, Now}
+use Rattle.sdh_node.specs.Rings.Held.{HeldRing, at_place, node_at, place_of_port}
+use Rattle.sdh_node.specs.Rings.Rounds.{world}
+use Rattle.sdh_restoration.specs.Changes.{Order, Hold, Slip, Now}
 use Rattle.sdh_circuits.specs.declared.PortId.{PortId}
 use Rattle.sdh_payload.specs.declared.clock.Turn.{Turn}
 use Rattle.sdh_payload.specs.Clock.{Clock}
-use Rattle.sdh_world.specs.Clocks.{waiting_at}
-use Rattle.sdh_world.proofs.Histories.{calls_change}
+use Rattle.sdh_node.specs.Rings.Clocks.{waiting_at}
+use Rattle.sdh_node.proofs.RingLaws.Histories.{calls_change}
 use Rattle.sdh_laws.specs.Hearing.Laws.{IsWhole, StayWhole}
 use Rattle.sdh_laws.specs.Strangers.Vouched.{IsVouched, IsAside}
 use Rattle.sdh_laws.specs.Strangers.Laws.{VouchedRingsStay}

@@ -3,11 +3,11 @@ use Rattle.std.specs.Prelude.{ℕ, ◌≡◌, ◌+◌, nat_lt, true, if◌then�
 use Rattle.sdh_circuits.specs.declared.PortId.{PortId}
 use Rattle.sdh_payload.specs.Clock.{ticks}
 use Rattle.sdh_rounds.specs.Faults.{had_round}
-use Rattle.sdh_world.specs.Held.{HeldRing, place_of_port}
-use Rattle.sdh_world.specs.Clocks.{HasPortIn, clock_at}
-use Rattle.sdh_world.specs.Rounds.{World}
-use Rattle.sdh_world.specs.Runs.{IsBrokenOff}
-use Rattle.sdh_world.specs.Quiet.{BreaksOff}
+use Rattle.sdh_node.specs.Rings.Held.{HeldRing, place_of_port}
+use Rattle.sdh_node.specs.Rings.Clocks.{HasPortIn, clock_at}
+use Rattle.sdh_node.specs.Rings.Rounds.{World}
+use Rattle.sdh_node.specs.Rings.Runs.{IsBrokenOff}
+use Rattle.sdh_node.specs.Rings.Quiet.{BreaksOff}
 
 -- each port is still there, and its clock has gone on by t rounds, at the first k positions by one more
 abbrev pub ClocksWentOn : ℕ → ℕ → HeldRing → HeldRing → Type 0

@@ -3,8 +3,8 @@
 use Rattle.std.specs.Prelude.{ℕ, Bool}
 use Rattle.sdh_node.specs.Stations.{adm}
 use Rattle.sdh_rounds.specs.Observed as observed
-use Rattle.sdh_world.specs.Held.{HeldRing}
-use Rattle.sdh_world.specs.Rounds.{World}
+use Rattle.sdh_node.specs.Rings.Held.{HeldRing}
+use Rattle.sdh_node.specs.Rings.Rounds.{World}
 
 -- `RanOne at k ring`: `at` is a course, in which `at k` is the world after k rounds. After the first k rounds one more
 -- ran, and it left `ring`.

@@ -4,8 +4,8 @@ use Rattle.sdh_circuits.specs.declared.PortId.{PortId}
 use Rattle.sdh_rounds.specs.Quiet.{enough_for}
 use Rattle.sdh_rounds.specs.declared.faults.SettleError.{SettleError}
 use Rattle.sdh_rounds.specs.declared.faults.SettleError.TheVariants.{Unsettled, PlantFault}
-use Rattle.sdh_world.specs.Clocks.{HasPortIn, clock_at, waiting_at, clocks_from}
-use Rattle.sdh_world.specs.Rounds.{World}
+use Rattle.sdh_node.specs.Rings.Clocks.{HasPortIn, clock_at, waiting_at, clocks_from}
+use Rattle.sdh_node.specs.Rings.Rounds.{World}
 use Rattle.sdh_laws.specs.Hearing.Laws.{IsWhole}
 use Rattle.sdh_laws.specs.Carrying.Laws.{Restores}
 use Rattle.sdh_laws.specs.Resting.Laws.{LeavesAtRest}

@@ -4,14 +4,12 @@
 //! Its round is `round_with` in `sdh_rounds/specs/Rounds.antt`. Where a step ends is in `sdh_rounds/specs/Quiet.antt`.
 #![tactic(auto)]
 
+mod adm_ring;
 mod changing;
-mod resting;
 mod ring;
-mod running;
 mod showing;
 
-pub use changing::change;
+pub use adm_ring::{AdmRing, Running};
 pub use ring::Ring;
-pub use running::Running;
 pub use sdh_rounds::{Observer, PlantFault, SettleError};
 pub use showing::ShowsNodes;

@@ -11,10 +11,10 @@ ghost use Rattle.sdh_node.specs.Receiving.{commanded_by};
 ghost use Rattle.sdh_node.specs.Stations.{adm};
 ghost use Rattle.sdh_node.specs.Node.{at_receiving, held_for, slips_at};
 ghost use Rattle.sdh_circuits.specs.declared.PortId.{PortId};
-ghost use Rattle.sdh_world.specs.Held.{new_ring, at_place, node_at, place_of_port, outlet_at};
-ghost use Rattle.sdh_world.specs.Clocks.{waiting_at};
-ghost use Rattle.sdh_world.specs.Rounds.{World, world};
-ghost use Rattle.sdh_world.specs.Runs.{IsRound, IsBrokenOff};
+ghost use Rattle.sdh_node.specs.Rings.Held.{new_ring, at_place, node_at, place_of_port, outlet_at};
+ghost use Rattle.sdh_node.specs.Rings.Clocks.{waiting_at};
+ghost use Rattle.sdh_node.specs.Rings.Rounds.{World, world};
+ghost use Rattle.sdh_node.specs.Rings.Runs.{IsRound, IsBrokenOff};
 ghost use Rattle.sdh_rounds.specs.Faults.{BreaksRound as BreaksOne};
 ghost use Rattle.sdh_rounds.specs.Outcome.{IsStep};
 ghost use Rattle.sdh_laws.specs.Hearing.Laws.{IsWhole, GoesAsSignals};
@@ -25,15 +25,14 @@ ghost use Rattle.sdh_ring.specs.Faults.{BreaksRound};
 ghost use Rattle.sdh_ring.specs.Observed.{Hears, RanSome, HearsSome, IsStopped};
 ghost use Rattle.sdh_ring.specs.Promises.{KeepsPromises};
 
-use crate::resting::Resting;
-use crate::running::Running;
+use crate::adm_ring::{AdmRing, Running};
 use sdh_circuits::{CircuitMap, PortId};
-use sdh_node::{Adm, Delivered, Settings, Turn};
+use sdh_node::{Adm, Delivered, EachRound, Settings, Turn, WhenAsked};
 use sdh_plant::Plant;
 use sdh_request::{Command, Moment};
 use sdh_ringmap::{Pos, RingMap, Side};
 use sdh_rounds::{
-    Nobody, Observer, PlantFault, Recorder, RunsRounds, SettleError, StationRing, Stopped,
+    Nobody, Nowhere, PlantFault, Recorder, RunsRounds, SettleError, StationRing, Stopped,
 };
 use std::alloc::{AllocError, Global};
 use std::marker::Model;
@@ -41,27 +40,27 @@ use std::marker::Model;
 /// The nodes of a ring, which run in rounds, and what their ports delivered in the last one.
 #[derive(Debug, Drop)]
 pub struct Ring {
-    // `Some`, except while `settle` or `settle_recording` runs: for that time the nodes are taken out.
-    resting: Option<Resting>,
+    // `Some`, except while `settle_recording` runs: for that time the nodes are taken out.
+    nodes: Option<AdmRing<EachRound, WhenAsked>>,
 }
 
 impl Model for Ring {
     ghost use Rattle.std.specs.Prelude.{[], None, IsSome, unwrap_or};
     ghost use Rattle.sdh_ringmap.specs.declared.terms.Rate.TheVariants.{Four};
     ghost use Rattle.sdh_rounds.specs.Held.{ring_of};
-    ghost use Rattle.sdh_world.specs.Held.{HeldRing};
+    ghost use Rattle.sdh_node.specs.Rings.Held.{HeldRing};
 
     ghost Value = { HeldRing };
 
     // By the invariant no caller sees the ring without nodes, which stands here as the default.
-    ghost view = { λ a. unwrap_or a.resting (ring_of (record { rate = Four; threshold = 0; wait = 0 }) [] (record { slots = 0; ring = None; circuits = [] }) []) };
+    ghost view = { λ a. unwrap_or a.nodes (ring_of (record { rate = Four; threshold = 0; wait = 0 }) [] (record { slots = 0; ring = None; circuits = [] }) []) };
 
-    ghost invariant = { λ a. IsSome a.resting };
+    ghost invariant = { λ a. IsSome a.nodes };
 }
 
 impl Ring {
     /// Returns a ring of new nodes, in which no round has run, at moment 0. All its memory is taken here.
-    #[tactic(auto, unfolding(sdh_world::specs::Held::new_nodes))]
+    #[tactic(auto, unfolding(sdh_node::specs::Rings::Held::new_nodes))]
     pub fn try_new(
         alloc: Global,
         settings: Settings,
@@ -90,10 +89,8 @@ impl Ring {
 
         prove!(map.len() <= 16);
         prove!(circuits.len() <= 128);
-        let resting = Resting::try_new(alloc, settings, map, circuits)?;
-        Ok(Ring {
-            resting: Some(resting),
-        })
+        let nodes = AdmRing::try_new(alloc, settings, map, circuits)?;
+        Ok(Ring { nodes: Some(nodes) })
     }
 
     /// Gives one side of a node a command.
@@ -106,10 +103,10 @@ impl Ring {
     {
         sdh_laws::hearing::stay_whole();
         sdh_laws::strangers::vouched_rings_stay();
-        let Some(resting) = &mut self.resting else {
+        let Some(nodes) = &mut self.nodes else {
             unreachable!()
         };
-        resting.command(at, side, command);
+        nodes.command(at, side, command);
     }
 
     /// Holds the controller of a node for the next `turns` rounds. Rounds that remain from an earlier call no longer
@@ -125,10 +122,10 @@ impl Ring {
     {
         sdh_laws::hearing::stay_whole();
         sdh_laws::strangers::vouched_rings_stay();
-        let Some(resting) = &mut self.resting else {
+        let Some(nodes) = &mut self.nodes else {
             unreachable!()
         };
-        resting.hold(at, turns);
+        nodes.hold(at, turns);
     }
 
     /// Adds `count` pending slips to the clock of the customer who sends at a port: ups or downs, as `turn` says. For
@@ -145,10 +142,10 @@ impl Ring {
     {
         sdh_laws::hearing::stay_whole();
         sdh_laws::strangers::vouched_rings_stay();
-        let Some(resting) = &mut self.resting else {
+        let Some(nodes) = &mut self.nodes else {
             unreachable!()
         };
-        resting.slip(port, turn, count);
+        nodes.slip(port, turn, count);
     }
 
     /// Returns the number of slips that wait at a port of a circuit, 0 to 16.
@@ -157,7 +154,7 @@ impl Ring {
         ensures waiting { result ≡ waiting_at self.now port }
         ensures few { result ≤ 16 }
     {
-        self.resting().node_of(port).waiting(port)
+        self.nodes().node_of(port).waiting(port)
     }
 
     /// Sets the present moment, at which the next rounds run.
@@ -171,10 +168,10 @@ impl Ring {
     {
         sdh_laws::hearing::stay_whole();
         sdh_laws::strangers::vouched_rings_stay();
-        let Some(resting) = &mut self.resting else {
+        let Some(nodes) = &mut self.nodes else {
             unreachable!()
         };
-        resting.moment(now);
+        nodes.moment(now);
     }
 
     /// Runs one round: all nodes receive, except in round 0, and then all send. It takes no memory. After a fault of
@@ -218,11 +215,11 @@ impl Ring {
         sdh_laws::hearing::whole_rounds_go_as_signals();
         sdh_laws::resting::rest_goes_on();
         sdh_laws::strangers::rounds_keep_strangers_out();
-        let Some(resting) = &mut self.resting else {
+        let Some(nodes) = &mut self.nodes else {
             unreachable!()
         };
-        resting.circuits_fit();
-        resting.round(plant)
+        nodes.circuits_fit();
+        nodes.round(plant)
     }
 }
 
@@ -243,67 +240,17 @@ impl Ring {
         // delivers recent bytes alone, and when it has to end with a window.
         ensures laws { KeepsPromises (world self.old (P.fibres plant.old)) limit result (world self.new (P.fibres plant.new)) }
     {
-        self.resting().circuits_fit();
-        self.resting().few_slips_wait();
-        sdh_laws::hearing::steps_stay_whole();
-        sdh_laws::carrying::settled_rings_are_restored();
-        sdh_laws::resting::steps_leave_at_rest();
-        sdh_laws::restoring::unsettled_rings_are_restored();
-        sdh_laws::restoring::unsettled_followed_rings_are_restored();
-        sdh_laws::restoring::steps_leave_followed();
-        sdh_laws::converging::steps_answer();
-        sdh_laws::strangers::steps_keep_strangers_out();
-        sdh_laws::strangers::steps_deliver_recent_bytes();
-        let Some(resting) = self.resting.take() else {
-            unreachable!()
-        };
-        let mut running = resting.wait();
-        let result = sdh_rounds::settle(&mut running, plant, limit, &mut Nobody);
-        self.resting = Some(running.deliver());
-        result
-    }
-
-    /// Runs rounds as `settle` does, and lets an observer look at the ring after each round.
-    pub fn settle_with<P: Plant, O: Observer<Ring>>(
-        &mut self,
-        plant: &mut P,
-        limit: u32,
-        observer: &mut O,
-    ) -> Result<(), SettleError>
-        requires prepared { IsPrepared self.old.settings.rate (length self.old.ids) (P.fibres plant.old) }
-        requires whole { self.old.broken ≡ false }
-        requires some { 1 ≤ limit }
-        requires few { limit ≤ 65536 }
-        requires room { self.old.rounds + limit ≤ 2 ^ 32 }
-        requires ready { (at : ℕ → World) → at 0 ≡ world self.old (P.fibres plant.old) → O.Heard at 0 observer.old }
-        ensures step { IsStep adm P.exact (world self.old (P.fibres plant.old)) limit result (world self.new (P.fibres plant.new))
-            (P.faults plant.old) (P.faults plant.new) }
-        ensures laws { KeepsPromises (world self.old (P.fibres plant.old)) limit result (world self.new (P.fibres plant.new)) }
-
-        // The observer's predicate `Heard` says what it keeps of the rounds that it was shown. After a step that ended
-        // with a quiet window it holds for exactly the rounds of that step.
-        ensures heard { OnOk result
-            (Hears (λ at k. O.Heard at k observer.new) (world self.old (P.fibres plant.old)) limit (world self.new (P.fibres plant.new))) }
-    {
-        self.resting().circuits_fit();
-        self.resting().few_slips_wait();
-        sdh_laws::hearing::steps_stay_whole();
-        sdh_laws::carrying::settled_rings_are_restored();
-        sdh_laws::resting::steps_leave_at_rest();
-        sdh_laws::restoring::unsettled_rings_are_restored();
-        sdh_laws::restoring::unsettled_followed_rings_are_restored();
-        sdh_laws::restoring::steps_leave_followed();
-        sdh_laws::converging::steps_answer();
-        sdh_laws::strangers::steps_keep_strangers_out();
-        sdh_laws::strangers::steps_deliver_recent_bytes();
-        sdh_rounds::settle(self, plant, limit, observer)
+        match self.settle_recording(plant, limit, &mut Nobody, &mut Nowhere) {
+            Ok(ended) => ended,
+            Err(Stopped) => Err(SettleError::Unsettled),
+        }
     }
 
     /// Runs rounds as `settle` does, with a recorder that looks at the nodes after each round and may stop the step
     /// then. What the ports deliver stays in the frames that the nodes received, and is taken out of them when the step
     /// has ended. Returns `Err` if the recorder stopped the step, and otherwise `Ok` with how the step ended, as
     /// `settle` returns it.
-    pub fn settle_recording<P: Plant, L, O: Recorder<Running, L>>(
+    pub fn settle_recording<P: Plant, L, O: Recorder<Running, P, L>>(
         &mut self,
         plant: &mut P,
         limit: u32,
@@ -334,8 +281,8 @@ impl Ring {
         ensures stopped { OnErr result (IsStopped P.exact (λ at k. O.Stops recorder.old log.old at k recorder.new log.new)
             (world self.old (P.fibres plant.old)) limit (world self.new (P.fibres plant.new)) (P.faults plant.old) (P.faults plant.new)) }
     {
-        self.resting().circuits_fit();
-        self.resting().few_slips_wait();
+        self.nodes().circuits_fit();
+        self.nodes().few_slips_wait();
         sdh_laws::hearing::steps_stay_whole();
         sdh_laws::carrying::settled_rings_are_restored();
         sdh_laws::resting::steps_leave_at_rest();
@@ -345,12 +292,12 @@ impl Ring {
         sdh_laws::converging::steps_answer();
         sdh_laws::strangers::steps_keep_strangers_out();
         sdh_laws::strangers::steps_deliver_recent_bytes();
-        let Some(resting) = self.resting.take() else {
+        let Some(nodes) = self.nodes.take() else {
             unreachable!()
         };
-        let mut running = resting.wait();
+        let mut running = nodes.into_form();
         let ended = sdh_rounds::settle_recording(&mut running, plant, limit, recorder, log);
-        self.resting = Some(running.deliver());
+        self.nodes = Some(running.into_form());
         ended
     }
 }
@@ -361,7 +308,7 @@ impl RunsRounds for Ring {
     ghost held = { λ ring. ring };
 
     fn stations(&self) -> &StationRing<Adm> {
-        self.resting().stations()
+        self.nodes().stations()
     }
 
     fn round<P: Plant>(&mut self, plant: &mut P) -> Result<(), PlantFault> {
@@ -372,13 +319,13 @@ impl RunsRounds for Ring {
 // What can be read of the ring's ports and nodes.
 impl Ring {
     // Returns the nodes.
-    fn resting(&self) -> &Resting
+    fn nodes(&self) -> &AdmRing<EachRound, WhenAsked>
         ensures { result.now ≡ self.now }
     {
-        let Some(resting) = &self.resting else {
+        let Some(nodes) = &self.nodes else {
             unreachable!()
         };
-        resting
+        nodes
     }
 
     /// Returns what a port of a circuit delivered in the last round, and AIS before the first.
@@ -386,7 +333,7 @@ impl Ring {
         requires { port.circuit < length self.now.circuits.circuits }
         ensures { result.now ≡ (outlet_at self.now port).delivered }
     {
-        self.resting().node_of(port).delivered(port)
+        self.nodes().node_of(port).delivered(port)
     }
 
     /// Returns the pointer value of the interpreter through which a port's bytes came, and 0 where the port delivers
@@ -396,28 +343,28 @@ impl Ring {
         ensures value { result ≡ (outlet_at self.now port).value }
         ensures small { result ≤ 782 }
     {
-        self.resting().node_of(port).value(port)
+        self.nodes().node_of(port).value(port)
     }
 
     /// Returns how many rounds have run. They are numbered from 0, so the number of the last one is less by one.
     pub fn rounds(&self) -> u64
         ensures { result ≡ self.now.rounds }
     {
-        self.resting().stations().rounds()
+        self.nodes().stations().rounds()
     }
 
     /// Returns the nodes' identifiers.
     pub fn map(&self) -> &RingMap
         ensures { result.now ≡ self.now.ids }
     {
-        self.resting().stations().map()
+        self.nodes().stations().map()
     }
 
     /// Returns the circuits.
     pub fn circuits(&self) -> &CircuitMap
         ensures { result.now ≡ self.now.circuits }
     {
-        self.resting().stations().circuits()
+        self.nodes().stations().circuits()
     }
 
     /// Returns the node at a position.
@@ -425,13 +372,13 @@ impl Ring {
         requires { at.0 < length self.now.ids }
         ensures { slice_get self.now.nodes at.0 ≡ Some result.now }
     {
-        self.resting().stations().node(at)
+        self.nodes().stations().node(at)
     }
 
     /// Returns whether a fault of the plant broke a round off.
     pub fn is_broken(&self) -> bool
         ensures { result ≡ self.now.broken }
     {
-        self.resting().stations().is_broken()
+        self.nodes().stations().is_broken()
     }
 }

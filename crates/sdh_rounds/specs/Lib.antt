@@ -1,5 +1,6 @@
 pub mod Stations
 pub mod Held
+pub mod Changing
 pub mod Rounds
 pub mod Runs
 pub mod Quiet

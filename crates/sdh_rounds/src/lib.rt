@@ -6,6 +6,7 @@
 ghost use Rattle.sdh_rounds.specs.Laws.{KnownRounds, RoundsKeep, FaultsKeep, HonestRounds, RunsKeep, SettledNumbers, BrokenStepsSend};
 ghost use Rattle.sdh_rounds.specs.Laws.{KnownSteps, StepsAreComputed};
 
+mod changing;
 mod faults;
 mod receiving;
 mod ring;
@@ -14,6 +15,7 @@ mod showing;
 mod station;
 mod steps;
 
+pub use changing::TakesChanges;
 pub use faults::{PlantFault, SettleError, Stopped};
 pub use ring::StationRing;
 pub use showing::ShowsPorts;

@@ -1,5 +1,5 @@
 //! All receives of a round.
-ghost use Rattle.std.specs.Prelude.{◌≡◌, ◌⊎◌, ◌<◌, OnOk, OnErr, All, length};
+ghost use Rattle.std.specs.Prelude.{◌≡◌, ◌⊎◌, ◌<◌, IfOk, OnOk, OnErr, All, length};
 ghost use Rattle.sdh_basics.specs.Causes.{HasCause};
 ghost use Rattle.sdh_ringmap.specs.declared.Side.TheVariants.{West};
 ghost use Rattle.sdh_plant.specs.Fibres.{IsPrepared};
@@ -9,16 +9,49 @@ ghost use Rattle.sdh_rounds.specs.Calls.{ReceivesOne, ReceivesBoth, FirstReceive
 
 use crate::faults::PlantFault;
 use crate::station::Station;
+use sdh_frame::FrameBuf;
 use sdh_overhead::Landed;
 use sdh_plant::Plant;
-use sdh_ringmap::{Pos, Side};
+use sdh_ringmap::{Pos, Rate, Side};
+use std::alloc::{AllocError, Global};
+use std::marker::Model;
+
+/// Room for a frame that a node receives: where it lands, and a frame into which plants may write meanwhile. In
+/// contracts it stands for where the frame lands.
+#[derive(Debug, Drop)]
+pub struct Inbox {
+    landed: Landed,
+    spare: FrameBuf,
+}
+
+impl Model for Inbox {
+    ghost use Rattle.std.specs.Prelude.{◌≡◌};
+    ghost use Rattle.sdh_overhead.specs.Landing.{LandedFrame};
+
+    ghost Value = { LandedFrame };
+
+    ghost view = { λ a. a.landed };
+
+    ghost invariant = { λ a. a.spare.rate ≡ a.landed.rate };
+}
+
+impl Inbox {
+    /// Returns room for a frame of this rate. All memory is taken here: frames that are received take none.
+    pub fn try_new(alloc: Global, rate: Rate) -> Result<Inbox, AllocError>
+        ensures { IfOk result (λ inbox. inbox.rate ≡ rate) }
+    {
+        let landed = Landed::try_new(alloc, rate)?;
+        let spare = FrameBuf::try_new(alloc, rate)?;
+        Ok(Inbox { landed, spare })
+    }
+}
 
 // Receives what arrived on a side of a node, and keeps it for the node's next round.
 fn receive_one<S: Station, P: Plant>(
     node: &mut S,
     at: Pos,
     side: Side,
-    inbox: &mut Landed,
+    inbox: &mut Inbox,
     plant: &mut P,
 ) -> Result<(), PlantFault>
     requires at { at.0 < (P.fibres plant.old).nodes }
@@ -32,8 +65,8 @@ fn receive_one<S: Station, P: Plant>(
     ensures rate { inbox.new.rate ≡ inbox.old.rate }
     ensures cause { HasCause P.exact (P.faults plant.old) (P.faults plant.new) result }
 {
-    let arrived = plant.receive(at, side, inbox)?;
-    node.receive_landed(side, arrived, inbox);
+    let arrived = plant.receive_into(at, side, &mut inbox.landed, &mut inbox.spare)?;
+    node.receive_landed(side, arrived, &mut inbox.landed);
     Ok(())
 }
 
@@ -41,7 +74,7 @@ fn receive_one<S: Station, P: Plant>(
 fn receive_both<S: Station, P: Plant>(
     node: &mut S,
     at: Pos,
-    inbox: &mut Landed,
+    inbox: &mut Inbox,
     plant: &mut P,
 ) -> Result<(), PlantFault>
     requires at { at.0 < (P.fibres plant.old).nodes }
@@ -62,7 +95,7 @@ fn receive_both<S: Station, P: Plant>(
 // Receives on both sides of all nodes, by position, west before east.
 fn receive_all<S: Station, P: Plant>(
     nodes: &mut Vec<S>,
-    inbox: &mut Landed,
+    inbox: &mut Inbox,
     plant: &mut P,
 ) -> Result<(), PlantFault>
     requires prepared { IsPrepared inbox.old.rate (length nodes.old.items) (P.fibres plant.old) }
@@ -87,7 +120,7 @@ fn receive_all<S: Station, P: Plant>(
 pub fn hear<S: Station, P: Plant>(
     rounds: u64,
     nodes: &mut Vec<S>,
-    inbox: &mut Landed,
+    inbox: &mut Inbox,
     plant: &mut P,
 ) -> Result<(), PlantFault>
     requires prepared { IsPrepared inbox.old.rate (length nodes.old.items) (P.fibres plant.old) }

@@ -10,12 +10,11 @@ ghost use Rattle.sdh_rounds.specs.Quiet.{is_calm};
 ghost use Rattle.sdh_rounds.specs.Outcome.{IsOneRound};
 
 use crate::faults::PlantFault;
-use crate::receiving::hear;
+use crate::receiving::{Inbox, hear};
 use crate::sending::send_all;
 use crate::station::{IntoForm, Station, all_calm};
 use sdh_circuits::{Circuit, CircuitMap, End, PortId};
 use sdh_frame::FrameBuf;
-use sdh_overhead::Landed;
 use sdh_plant::Plant;
 use sdh_request::{Moment, Settings};
 use sdh_ringmap::{Pos, RingMap};
@@ -31,7 +30,7 @@ pub struct StationRing<N: Station> {
     /// The nodes, by position.
     pub nodes: Vec<N>,
     // Room for the frame that a node receives, and for the frames that it sends on its two sides.
-    arrived: Landed,
+    arrived: Inbox,
     west: FrameBuf,
     east: FrameBuf,
     present: Moment,
@@ -111,7 +110,7 @@ impl<N: Station> StationRing<N> {
         ensures { IfOk result (λ ring. ring ≡ new_ring N.kind settings map circuits) }
     {
         let nodes = new_nodes(alloc, settings, &map, &circuits)?;
-        let arrived = Landed::try_new(alloc, settings.rate)?;
+        let arrived = Inbox::try_new(alloc, settings.rate)?;
         let west = FrameBuf::try_new(alloc, settings.rate)?;
         let east = FrameBuf::try_new(alloc, settings.rate)?;
         Ok(StationRing::of_nodes(settings, map, circuits, nodes, arrived, west, east))
@@ -123,7 +122,7 @@ impl<N: Station> StationRing<N> {
         map: RingMap,
         circuits: CircuitMap,
         nodes: Vec<N>,
-        arrived: Landed,
+        arrived: Inbox,
         west: FrameBuf,
         east: FrameBuf,
     ) -> StationRing<N>

@@ -62,7 +62,7 @@ impl<R: RunsRounds> Observer<R> for Nobody {
 
 /// A recorder: it looks at a ring and its plant after each round of a settle step, writes what it saw to a log that is
 /// passed along, and may stop the step.
-pub trait Recorder<R: RunsRounds, L> {
+pub trait Recorder<R: RunsRounds, P: Plant, L> {
     /// Says what recorder and log are once a number of rounds of a course have run, by what they were before the step.
     /// A course gives the world, which is a ring and its fibres, after each number of rounds.
     ghost Records: { Self → L → (ℕ → World R.Node) → ℕ → Self → L → Type 0 };
@@ -72,7 +72,7 @@ pub trait Recorder<R: RunsRounds, L> {
 
     /// Looks at the ring and the plant after one more round, and writes to the log. Whatever course led there, recorder
     /// and log are then what `Records` says of that round; or what `Stops` says, where an error stops the step.
-    fn note<P: Plant>(&mut self, ring: &R, plant: &P, log: &mut L) -> Result<(), Stopped>
+    fn note(&mut self, ring: &R, plant: &P, log: &mut L) -> Result<(), Stopped>
         requires { (first : Self) × (begun : L) × (at : ℕ → World R.Node) × (k : ℕ) × RanOne R.Node.kind at k (R.held ring.now)
             × (P.fibres plant.now ≡ (at (suc k)).fibres) × Records first begun at k self.old log.old }
         ensures goes { OnOk result ((first : Self) (begun : L) (at : ℕ → World R.Node) (k : ℕ) → RanOne R.Node.kind at k (R.held ring.now)
@@ -92,12 +92,12 @@ pub trait Recorder<R: RunsRounds, L> {
 pub struct Nowhere;
 
 // Each observer is a recorder that writes nowhere, and never stops a step.
-impl<R: RunsRounds, O: Observer<R>> Recorder<R, Nowhere> for O {
+impl<R: RunsRounds, P: Plant, O: Observer<R>> Recorder<R, P, Nowhere> for O {
     ghost Records = { λ first begun at k o l. O.Heard at k o };
 
     ghost Stops = { λ first begun at k o l. ⊥ };
 
-    fn note<P: Plant>(&mut self, ring: &R, _plant: &P, _log: &mut Nowhere) -> Result<(), Stopped> {
+    fn note(&mut self, ring: &R, _plant: &P, _log: &mut Nowhere) -> Result<(), Stopped> {
         <O as Observer<R>>::look(self, ring);
         Ok(())
     }
@@ -117,7 +117,7 @@ fn calm_rounds(was_calm: bool, calm: u32) -> u32
 /// the last is a multiple of 128. The recorder looks at the ring after each round, and may stop the step then. Takes no
 /// memory. The outer result is an error only where the recorder stopped the step. The inner one says how the step
 /// ended.
-pub fn settle_recording<R: RunsRounds, P: Plant, L, O: Recorder<R, L>>(
+pub fn settle_recording<R: RunsRounds, P: Plant, L, O: Recorder<R, P, L>>(
     ring: &mut R,
     plant: &mut P,
     limit: u32,

@@ -19,8 +19,8 @@ use Rattle.sdh_rounds.proofs.Windows.{never_same}
 use Rattle.sdh_rounds.proofs.Laws.{steps_are_computed, appended_twice, appended_none}
 use Rattle.sdh_plan.specs.declared.step.Step.{Step}
 use Rattle.sdh_plan.specs.declared.step.Step.TheVariants as step
-use Rattle.sdh_report.specs.declared.status.Status.{Status}
-use Rattle.sdh_report.specs.declared.status.Status.TheVariants as status
+use Rattle.sdh_status.specs.declared.Status.{Status}
+use Rattle.sdh_status.specs.declared.Status.TheVariants as status
 use Rattle.sdh_scripts.specs.Walks.{Walk}
 use Rattle.sdh_scripts.specs.Scripts.{Ended, Breaks, Refuses, Runs, Ran, ran_unsettled, ran_settled, script, IsRan, reports_within}
 use Rattle.sdh_scripts.specs.Scripts.{IsCutShort, ComesTo}

@@ -1,6 +1,3 @@
-pub mod Stages
-pub mod Promises
-pub mod Deeds
 pub mod Frames
 pub mod Known
 pub mod Reporting
@@ -8,8 +5,6 @@ pub mod Outcomes
 pub mod Texts
 pub mod Tellers
 pub mod Ports
-pub mod Answered
 pub mod Lists
 pub mod Plans
-pub mod Calls
 pub mod Streams

@@ -7,8 +7,8 @@ use Rattle.sdh_rounds.specs.Held.{World}
 use Rattle.sdh_rounds.proofs.Laws.{appended_none}
 use Rattle.sdh_plan.specs.declared.step.Step.{Step}
 use Rattle.sdh_plan.specs.declared.step.Step.TheVariants as step
-use Rattle.sdh_report.specs.declared.status.Status.{Status}
-use Rattle.sdh_report.specs.declared.status.Status.TheVariants as status
+use Rattle.sdh_status.specs.declared.Status.{Status}
+use Rattle.sdh_status.specs.declared.Status.TheVariants as status
 use Rattle.sdh_scripts.specs.Walks.{Walk}
 use Rattle.sdh_scripts.specs.Scripts.{Stops, Refuses, Runs, Ran, script, reports_within, IsRan, IsCutShort}
 use Rattle.sdh_scripts.specs.Outcomes.{ComesOfSteps, ComesOfKnownRun, IsSettled}

@@ -9,7 +9,7 @@ use Rattle.sdh_rounds.proofs.Runs.{course_whole}
 use Rattle.sdh_plan.specs.declared.step.Step.{Step}
 use Rattle.sdh_plan.specs.declared.step.Step.TheVariants as step
 use Rattle.sdh_report.specs.Reports.{Report}
-use Rattle.sdh_report.specs.declared.status.Status.{Status}
+use Rattle.sdh_status.specs.declared.Status.{Status}
 use Rattle.sdh_scripts.specs.Walks.{Walk, reporting}
 use Rattle.sdh_scripts.specs.Scripts.{Ended, Breaks, Refuses, Runs}
 use Rattle.sdh_scripts.specs.Laws.{DoesNoRound, KeepsRounds}

@@ -11,9 +11,9 @@ use Rattle.sdh_rounds.specs.Held.{World}
 use Rattle.sdh_rounds.specs.Quiet.{Unsettles}
 use Rattle.sdh_plan.specs.declared.step.Step.{Step}
 use Rattle.sdh_plan.specs.declared.step.Step.TheVariants as step
-use Rattle.sdh_report.specs.declared.status.Status.{Status}
-use Rattle.sdh_report.specs.declared.status.Status.TheVariants as status
-use Rattle.sdh_shell.proofs.Pieces.{fewer_behind}
+use Rattle.sdh_status.specs.declared.Status.{Status}
+use Rattle.sdh_status.specs.declared.Status.TheVariants as status
+use Rattle.sdh_outside.proofs.Pieces.{fewer_behind}
 use Rattle.sdh_scripts.specs.Walks.{Walk}
 use Rattle.sdh_scripts.specs.Scripts.{Breaks, Runs}
 use Rattle.sdh_scripts.specs.Texts.{room_for, HasRoom, Went, WritesLast, StopsAt, FailsAt, Lists, WriteFailed}

@@ -1,9 +1,7 @@
-pub mod Programs
-pub mod Outcome
-pub mod Headline
 pub mod Walks
 pub mod Scripts
 pub mod Ports
+pub mod Steps
 pub mod Texts
 pub mod Runners
 pub mod Tellers
@@ -12,4 +10,3 @@ pub mod Laws
 pub mod Plans
 pub mod NewRuns
 pub mod Streams
-pub mod Calls

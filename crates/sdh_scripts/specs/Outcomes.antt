@@ -6,8 +6,8 @@ use Rattle.sdh_plant.specs.Calls.{prepared}
 use Rattle.sdh_rounds.specs.Held.{HeldRing, World, world}
 use Rattle.sdh_rounds.specs.Laws.{Appends}
 use Rattle.sdh_plan.specs.declared.step.Step.{Step}
-use Rattle.sdh_report.specs.declared.status.Status.{Status}
-use Rattle.sdh_report.specs.declared.status.Status.TheVariants as status
+use Rattle.sdh_status.specs.declared.Status.{Status}
+use Rattle.sdh_status.specs.declared.Status.TheVariants as status
 use Rattle.sdh_scripts.specs.Walks.{Walk}
 use Rattle.sdh_scripts.specs.Scripts.{Runs, Ran, reports_within}
 

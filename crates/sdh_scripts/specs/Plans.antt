@@ -6,8 +6,8 @@ use Rattle.sdh_plant.specs.Arrivals.{Knows}
 use Rattle.sdh_rounds.specs.Held.{HeldRing, World}
 use Rattle.sdh_rounds.specs.Quiet.{enough_for}
 use Rattle.sdh_plan.specs.Planned.{Planned}
-use Rattle.sdh_report.specs.declared.status.Status.{Status}
-use Rattle.sdh_report.specs.declared.status.Status.TheVariants as status
+use Rattle.sdh_status.specs.declared.Status.{Status}
+use Rattle.sdh_status.specs.declared.Status.TheVariants as status
 use Rattle.sdh_scripts.specs.Walks.{Walk}
 use Rattle.sdh_scripts.specs.Scripts.{Ran, script}
 use Rattle.sdh_scripts.specs.Outcomes.{with_fibres, IsSettled, ComesOfSteps, ComesOfKnownRun}

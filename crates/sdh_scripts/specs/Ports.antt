@@ -5,7 +5,7 @@ use Rattle.sdh_circuits.specs.declared.End.{End}
 use Rattle.sdh_circuits.specs.declared.End.TheVariants.{A, B}
 use Rattle.sdh_circuits.specs.declared.PortId.{PortId}
 use Rattle.sdh_circuits.specs.Provisioned.{Provisioned}
-use Rattle.sdh_report.specs.Reports.{PortLine}
+use Rattle.sdh_status.specs.PortLine.{PortLine}
 
 -- the reports of the ports of these circuits, which are counted from `index`; `tells` gives that of one port
 abbrev pub of_ports : {L : Type 0} → (ℕ → Provisioned → End → L) → ℕ → List Provisioned → List L

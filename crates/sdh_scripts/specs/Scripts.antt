@@ -9,8 +9,8 @@ use Rattle.sdh_rounds.specs.Quiet.{Settles, Unsettles, BreaksOff, settles_in}
 use Rattle.sdh_rounds.specs.Laws.{frames_in, Appends}
 use Rattle.sdh_plan.specs.declared.step.Step.{Step}
 use Rattle.sdh_plan.specs.declared.step.Step.TheVariants as step
-use Rattle.sdh_report.specs.declared.status.Status.{Status}
-use Rattle.sdh_report.specs.declared.status.Status.TheVariants as status
+use Rattle.sdh_status.specs.declared.Status.{Status}
+use Rattle.sdh_status.specs.declared.Status.TheVariants as status
 use Rattle.sdh_scripts.specs.Walks.{Walk}
 
 -- ---- a settle step, over any fibres

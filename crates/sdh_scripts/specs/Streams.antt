@@ -6,8 +6,8 @@ use Rattle.sdh_plant.specs.Fibres.{Fibres}
 use Rattle.sdh_rounds.specs.Held.{World}
 use Rattle.sdh_plan.specs.declared.step.Step.{Step}
 use Rattle.sdh_plan.specs.declared.step.Step.TheVariants as step
-use Rattle.sdh_report.specs.declared.status.Status.{Status}
-use Rattle.sdh_report.specs.declared.status.Status.TheVariants as status
+use Rattle.sdh_status.specs.declared.Status.{Status}
+use Rattle.sdh_status.specs.declared.Status.TheVariants as status
 use Rattle.sdh_scripts.specs.Walks.{Walk}
 use Rattle.sdh_scripts.specs.Scripts.{Ended, Refuses, Runs}
 use Rattle.sdh_scripts.specs.Tellers.{Begun}

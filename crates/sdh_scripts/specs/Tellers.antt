@@ -6,8 +6,8 @@ use Rattle.sdh_plant.specs.Fibres.{Arrival}
 use Rattle.sdh_rounds.specs.Held.{World}
 use Rattle.sdh_rounds.specs.Runs.{run_with, ArriveIn, course_with, IsBrokenOff}
 use Rattle.sdh_rounds.specs.Quiet.{EndsWindow, Settles, Unsettles}
-use Rattle.sdh_report.specs.declared.status.Status.{Status}
-use Rattle.sdh_report.specs.declared.status.Status.TheVariants as status
+use Rattle.sdh_status.specs.declared.Status.{Status}
+use Rattle.sdh_status.specs.declared.Status.TheVariants as status
 use Rattle.sdh_scripts.specs.Walks.{Walk}
 use Rattle.sdh_scripts.specs.Scripts.{Ended, Breaks}
 use Rattle.sdh_scripts.specs.declared.teller.StepError.{StepError}

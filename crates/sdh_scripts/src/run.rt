@@ -2,7 +2,7 @@
 ghost use Rattle.std.specs.Prelude.{◌≡◌, ◌≢◌, ◌+◌, ◌*◌, ◌≤◌, ◌^◌, true, [], IfOk, OnOk, OnErr};
 ghost use Rattle.sdh_basics.specs.Causes.{Rose, IsCounted};
 ghost use Rattle.sdh_plant.specs.Fibres.{HasNoFibres};
-ghost use Rattle.sdh_report.specs.declared.status.Status.{Status};
+ghost use Rattle.sdh_status.specs.declared.Status.{Status};
 ghost use Rattle.sdh_rounds.specs.Held.{world};
 ghost use Rattle.sdh_scripts.specs.Texts.{HasRoom, room_for, WriteFailed};
 ghost use Rattle.sdh_scripts.specs.Outcomes.{with_fibres, Came};
@@ -12,11 +12,11 @@ ghost use Rattle.sdh_scripts.specs.NewRuns.{MayBegin, MayStart};
 use crate::runner::Runner;
 use crate::script::run_script;
 use crate::teller::Teller;
+use sdh_outside::Output;
 use sdh_plan::Step;
 use sdh_plant::{Plant, PrepareError};
 use sdh_report::{LINE_MAX, Status, Text};
 use sdh_ringmap::Rate;
-use sdh_shell::{Kept, Output};
 use std::alloc::{AllocError, Global};
 
 /// The largest number of settle steps in a script.
@@ -65,7 +65,7 @@ pub struct NewScript {
 /// Makes the fibres of a script, runs it over them, and writes what is reported of each settle step as it comes.
 /// Returns how the script ended: `Ok`, `Unsettled` or `PlantFault`; or `WriteFault`, where a write failed, and nothing
 /// more was run. The plant's memory is taken before the first round.
-pub fn start_over<O: Output, R: Teller<O>, P: Plant>(
+pub fn start_over<O: Output, P: Plant, R: Teller<O, P>>(
     alloc: Global,
     plant: &mut P,
     runner: &mut R,
@@ -138,7 +138,7 @@ pub fn start<R: Runner + Drop, P: Plant>(
         nodes,
         steps,
         limit,
-        text,
+        mut text,
     } = new_run;
     let script = NewScript {
         rate,
@@ -146,8 +146,6 @@ pub fn start<R: Runner + Drop, P: Plant>(
         steps,
         limit,
     };
-    let mut kept = Kept { text };
-    let status = start_over(alloc, plant, &mut runner, script, &mut kept)?;
-    let Kept { text } = kept;
+    let status = start_over(alloc, plant, &mut runner, script, &mut text)?;
     Ok(Run { status, text })
 }

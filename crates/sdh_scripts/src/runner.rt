@@ -1,5 +1,5 @@
 //! What runs a script and reports a settle step once it has ended.
-ghost use Rattle.std.specs.Prelude.{◌≡◌, ℕ, ◌+◌, ◌≤◌, List, ◌∷◌, OnOk, OnErr, IfErr, Err, Some};
+ghost use Rattle.std.specs.Prelude.{◌≡◌, ℕ, ◌+◌, ◌≤◌, List, [], ◌∷◌, OnOk, OnErr, IfErr, Err, Some};
 ghost use Rattle.sdh_basics.specs.Causes.{HasCause, Rose, IsCounted};
 ghost use Rattle.sdh_plant.specs.Fibres.{Fibres};
 ghost use Rattle.sdh_rounds.specs.Held.{HeldRing, world};
@@ -7,6 +7,7 @@ ghost use Rattle.sdh_plan.specs.declared.step.Step.{Step};
 ghost use Rattle.sdh_scripts.specs.Walks.{Walk};
 ghost use Rattle.sdh_scripts.specs.Runners.{Refused, WroteStep, EndsBy};
 
+use crate::teller::{StepError, Teller};
 use sdh_plan::Step;
 use sdh_plant::Plant;
 use sdh_report::Text;
@@ -77,4 +78,43 @@ pub trait Runner {
 
     /// At most 64 settle steps end.
     ghost few: { (number : ℕ) (later : List Step) (r : Self) (f : Fibres) → MayRun number (Step.Settle ∷ later) r f → number + 1 ≤ 64 };
+}
+
+// A `Runner` writes to memory alone, and writes nothing of a settle step that didn't end.
+impl<R: Runner, P: Plant> Teller<Text, P> for R {
+    ghost Node = { R.Node };
+
+    ghost Told = { R.Told };
+
+    ghost walk = { R.walk };
+
+    ghost ring = { R.ring };
+
+    ghost text_of = { R.text_of };
+
+    ghost begun_of = { λ r told. [] };
+
+    ghost room = { R.room };
+
+    ghost MayRun = { R.MayRun };
+
+    fn change(&mut self, plant: &mut P, step: Step) -> Result<(), PlantFault> {
+        <R as Runner>::change(self, plant, step)
+    }
+
+    fn settle(
+        &mut self,
+        plant: &mut P,
+        limit: u32,
+        number: u32,
+        output: &mut Text,
+    ) -> Result<(), StepError> {
+        match <R as Runner>::settle(self, plant, limit, number, output) {
+            Ok(()) => Ok(()),
+            Err(SettleError::Unsettled) => Err(StepError::Unsettled),
+            Err(SettleError::PlantFault) => Err(StepError::PlantFault),
+        }
+    }
+
+    ghost few = { R.few };
 }

@@ -3,15 +3,15 @@ ghost use Rattle.std.specs.Prelude.{◌≡◌, ◌≢◌, ◌+◌, ◌≤◌, []
 ghost use Rattle.sdh_basics.specs.Causes.{Rose, IsCounted};
 ghost use Rattle.sdh_rounds.specs.Held.{world};
 ghost use Rattle.sdh_plan.specs.declared.step.Step.{Step};
-ghost use Rattle.sdh_report.specs.declared.status.Status.{Status};
+ghost use Rattle.sdh_status.specs.declared.Status.{Status};
 ghost use Rattle.sdh_scripts.specs.Tellers.{ended_by};
 ghost use Rattle.sdh_scripts.specs.Texts.{room_for, Went, StopsAt, FailsAt, Lists, WriteFailed};
 
 use crate::teller::{StepError, Teller};
+use sdh_outside::Output;
 use sdh_plan::Step;
 use sdh_plant::Plant;
 use sdh_report::Status;
-use sdh_shell::Output;
 
 // Returns how a script ends with settle step `number`, by why the step did not end.
 fn ended_by(why: StepError, number: u32) -> Status
@@ -26,7 +26,7 @@ fn ended_by(why: StepError, number: u32) -> Status
 
 // Runs one step, before which `number` settle steps have ended. Returns the number that have ended after it, or how
 // the script ended.
-fn run_step<O: Output, R: Teller<O>, P: Plant>(
+fn run_step<O: Output, P: Plant, R: Teller<O, P>>(
     runner: &mut R,
     plant: &mut P,
     step: Step,
@@ -75,7 +75,7 @@ fn run_step<O: Output, R: Teller<O>, P: Plant>(
 /// Runs a script over a ring and its fibres, and writes what is reported of each settle step as it comes. Returns how
 /// the script ended: `Ok`, `Unsettled` or `PlantFault`; or `WriteFault`, where a write failed, and nothing more was
 /// run.
-pub fn run_script<O: Output, R: Teller<O>, P: Plant>(
+pub fn run_script<O: Output, P: Plant, R: Teller<O, P>>(
     runner: &mut R,
     plant: &mut P,
     steps: &[Step],

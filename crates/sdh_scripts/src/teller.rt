@@ -7,10 +7,10 @@ ghost use Rattle.sdh_plan.specs.declared.step.Step.{Step};
 ghost use Rattle.sdh_scripts.specs.Walks.{Walk};
 ghost use Rattle.sdh_scripts.specs.Runners.{Refused, WroteStep};
 
+use sdh_outside::Output;
 use sdh_plan::Step;
 use sdh_plant::Plant;
 use sdh_rounds::PlantFault;
-use sdh_shell::Output;
 
 /// Why a settle step, with the rounds after it, didn't end.
 #[derive(Clone, Copy, Debug, PartialEq, Eq)]
@@ -23,8 +23,8 @@ pub enum StepError {
     WriteFault,
 }
 
-/// A ring over which the steps of a script run. All that is reported of it is written to an output as it comes.
-pub trait Teller<O: Output> {
+/// A ring over which the steps of a script run, with fibres of this kind of plant. All that is reported of it is written to an output as it comes.
+pub trait Teller<O: Output, P: Plant> {
     ghost use Rattle.sdh_scripts.specs.Tellers.{StopsBy, WroteBegun};
 
     /// What its nodes are.
@@ -52,7 +52,7 @@ pub trait Teller<O: Output> {
     ghost MayRun: { ℕ → List Step → Self → Fibres → Type 0 };
 
     /// Does a step that runs no round. A fault leaves the fibres as they were.
-    fn change<P: Plant>(&mut self, plant: &mut P, step: Step) -> Result<(), PlantFault>
+    fn change(&mut self, plant: &mut P, step: Step) -> Result<(), PlantFault>
         requires may { (number : ℕ) × (later : List Step) × MayRun number (step ∷ later) self.old (P.fibres plant.old) }
         requires other { step ≡ Step.Settle → ⊥ }
         ensures ok { OnOk result
@@ -67,7 +67,7 @@ pub trait Teller<O: Output> {
 
     /// Runs a settle step, and then the rounds that `walk` has after it, where `number` settle steps have ended before.
     /// What is reported of them is written as it comes, and after a write that fails nothing more is run.
-    fn settle<P: Plant>(
+    fn settle(
         &mut self,
         plant: &mut P,
         limit: u32,

@@ -5,4 +5,3 @@ pub mod Told
 pub mod Refused
 pub mod Writing
 pub mod Asked
-pub mod Pieces

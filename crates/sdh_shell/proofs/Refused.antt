@@ -1,7 +1,7 @@
 -- What cannot be where a source has no plan.
 use Rattle.std.proofs.Common.{ℕ, List}
-use Rattle.sdh_report.specs.declared.status.Status.{Status}
-use Rattle.sdh_report.specs.declared.status.Status.TheVariants as status
+use Rattle.sdh_status.specs.declared.Status.{Status}
+use Rattle.sdh_status.specs.declared.Status.TheVariants as status
 use Rattle.sdh_shell.specs.Calls.{HasRun}
 use Rattle.sdh_shell.specs.Reading.{HasNoPlan}
 

@@ -5,8 +5,8 @@ use Rattle.std.specs.Str.{bytes_eq}
 use Rattle.std.specs.declared.alloc.Global.{Global}
 -- the end of a circuit that a letter names
 pub use Rattle.sdh_plan.specs.Steps.{end_at as end_lettered}
-use Rattle.sdh_report.specs.declared.status.Status.{Status}
-use Rattle.sdh_report.specs.declared.status.Status.TheVariants as status
+use Rattle.sdh_status.specs.declared.Status.{Status}
+use Rattle.sdh_status.specs.declared.Status.TheVariants as status
 
 -- the words of a command line, as bytes
 abbrev pub words_of : List (String Global) → List (List ℕ)

@@ -1,8 +1,9 @@
 -- How a program may end: with a status that all programs share, or with an ending of its own.
 use Rattle.std.specs.Prelude.{◌≡◌, ℕ, List, Option, Some, None}
-use Rattle.sdh_report.specs.declared.status.Status.{Status}
-use Rattle.sdh_report.specs.declared.status.Status.TheVariants as status
-use Rattle.sdh_report.specs.Statuses.{number_of, last_line}
+use Rattle.sdh_status.specs.declared.Status.{Status}
+use Rattle.sdh_status.specs.declared.Status.TheVariants as status
+use Rattle.sdh_report.specs.Statuses.{last_line}
+use Rattle.sdh_status.specs.Numbers.{number_of}
 
 -- the endings of a program
 pub record Endings (E : Type 0) : Type 0 where

@@ -2,8 +2,8 @@
 use Rattle.std.specs.Prelude.{◌≡◌, ℕ, Bool, List, Option, Some, None}
 use Rattle.sdh_basics.specs.Causes.{Rose, IsCounted}
 use Rattle.sdh_outside.specs.Reading.{TakesCount}
-use Rattle.sdh_report.specs.declared.status.Status.{Status}
-use Rattle.sdh_report.specs.declared.status.Status.TheVariants as status
+use Rattle.sdh_status.specs.declared.Status.{Status}
+use Rattle.sdh_status.specs.declared.Status.TheVariants as status
 use Rattle.sdh_shell.specs.Endings.{Endings, statuses}
 
 -- the count of failed calls of a source or a plant, before and after a call of the program
@@ -49,7 +49,3 @@ abbrev pub CameToEnding : {E : Type 0} → Endings E → Bool → Bool → Count
 CameToEnding endings source_exact plant_exact reads calls left now how =
     CameToFaults source_exact plant_exact reads calls left now (how ≡ endings.of status.ReadFault) (how ≡ endings.of status.PlantFault)
     (how ≡ endings.of status.TooLong)
-
--- what had happened at source and plant by the time that this status was to be reported
-abbrev pub CameTo : Bool → Bool → Counts → Counts → Option (List ℕ) → Option (List ℕ) → Status → Type 0
-CameTo = CameToEnding statuses

@@ -3,3 +3,4 @@ pub mod Endings
 pub mod Reading
 pub mod Failing
 pub mod Writing
+pub mod Kept

@@ -1,13 +1,12 @@
 -- What the bytes of a source are: a plan, or the reason why they are none.
 use Rattle.std.specs.Prelude.{◌≡◌, ℕ, Bool, true, false, ◌<◌, ◌≤◌, List, [], length, Option, Some, None}
+use Rattle.std.specs.Io.KnownBytes.{IsAtEnd}
 use Rattle.sdh_plan.specs.declared.error.PlanError.TheVariants as error
-use Rattle.sdh_plan.specs.declared.reason.Reason.{Reason}
-use Rattle.sdh_plan.specs.Reasons.{reason_number}
 use Rattle.sdh_plan.specs.Planned.{Planned}
 use Rattle.sdh_plan.specs.Document.{IsNoDocument}
 use Rattle.sdh_plan.specs.Answers.{IsPlanOf, IsWhy}
-use Rattle.sdh_report.specs.declared.status.Status.{Status}
-use Rattle.sdh_report.specs.declared.status.Status.TheVariants as status
+use Rattle.sdh_status.specs.declared.Status.{Status}
+use Rattle.sdh_status.specs.declared.Status.TheVariants as status
 use Rattle.sdh_shell.specs.declared.reading.NoPlan.{NoPlan}
 use Rattle.sdh_shell.specs.declared.reading.NoPlan.TheVariants as none
 
@@ -21,8 +20,7 @@ abbrev pub HasNoPlan : List ℕ → Status → Type 0
 HasNoPlan bytes status.ReadFault = Unit {0}
 HasNoPlan bytes status.TooLong = 1048576 < length bytes
 HasNoPlan bytes status.NotToml = IsShort bytes × IsNoDocument bytes
-HasNoPlan bytes (status.BadPlan number place) =
-    IsShort bytes × ((reason : Reason) × IsWhy bytes (error.BadPlan reason place) × (number ≡ reason_number reason))
+HasNoPlan bytes (status.BadPlan number place) = IsShort bytes × IsWhy bytes (error.BadPlan number place)
 HasNoPlan bytes status.Ok = ⊥
 HasNoPlan bytes status.Usage = ⊥
 HasNoPlan bytes status.WriteFault = ⊥
@@ -62,3 +60,8 @@ IsRefusal (none.Refused how) = Refuses how
 abbrev pub told_if : Bool → Option (List ℕ) → Option (List ℕ)
 told_if true left = left
 told_if false left = Some []
+
+-- a source that is read was read to its end
+abbrev pub HasRead : Bool → Option (List ℕ) → Type 0
+HasRead false left = Unit {0}
+HasRead true left = IsAtEnd left

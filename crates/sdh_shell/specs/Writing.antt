@@ -1,28 +1,10 @@
--- What is written: of a text in pieces, and with each ending of a program's call.
-use Rattle.std.specs.Prelude.{◌≡◌, ◌⊎◌, ℕ, ◌+◌, ◌≤◌, Bool, List, length, Option, Some, None, Result, IsErr, OnOk, OnErr}
+-- What is written with each ending of a program's call.
+use Rattle.std.specs.Prelude.{◌≡◌, ◌⊎◌, ℕ, List, Option, Some, None}
 use Rattle.std.specs.Io.KnownBytes.{Appends, Keeps}
-use Rattle.sdh_basics.specs.Causes.{Rose, IsCounted}
 use Rattle.sdh_outside.specs.Writing.{AppendsFewer}
-use Rattle.sdh_report.specs.declared.status.Status.{Status}
-use Rattle.sdh_report.specs.declared.status.Status.TheVariants as status
-use Rattle.sdh_report.specs.Written.{Written}
+use Rattle.sdh_status.specs.declared.Status.{Status}
+use Rattle.sdh_status.specs.declared.Status.TheVariants as status
 use Rattle.sdh_shell.specs.Endings.{Endings}
-
--- ---- a text, in pieces
-
--- The whole text was appended; or a write failed, which the count of faults shows, and only a beginning of the text was
--- appended. Where the count is exact, one write failed if the result is an error, and none if it is Ok.
-pub record Wrote {T E : Type 0} (exact : Bool) (old new : Option (List ℕ)) (before after : ℕ) (text : List ℕ)
-    (result : Result T E) : Type 0 where
-  pub ok : OnOk result (Appends old new text)
-  pub front : OnErr result (AppendsFewer old new text)
-  pub fault : OnErr result (Rose before after)
-  pub later : before ≤ after
-  pub counted : IsCounted exact (IsErr result) before after
-
--- how many bytes a text has room for in all
-abbrev pub room_in : Written → ℕ
-room_in t = t.room + length t.bytes
 
 -- ---- an outcome
 

@@ -1,7 +1,7 @@
 //! What is to be written, with its last line.
 ghost use Rattle.std.specs.Prelude.{◌≡◌, ◌≤◌, ◌++◌, IfOk};
 ghost use Rattle.sdh_basics.specs.Causes.{Rose, IsCounted};
-ghost use Rattle.sdh_report.specs.declared.status.Status.{Status};
+ghost use Rattle.sdh_status.specs.declared.Status.{Status};
 ghost use Rattle.sdh_shell.specs.Writing.{IsShown, WroteEnding};
 
 use crate::ending::Ends;

@@ -1,21 +1,18 @@
 //! What the programs' calls share: whether the words are the one word `run`, which end of a circuit a letter names, a
-//! plan that is read or refused, the endings of a program, and counts of calls that failed. Texts are written to a sink
-//! as they come, or to memory.
+//! plan that is read or refused, the endings of a program, and counts of calls that failed.
 //!
 //! How a plan is refused is `HasNoPlan` in `specs/Reading.antt`. How a script that was run may end is `HasRun` in
 //! `specs/Calls.antt`. The endings of a program are `Endings` in `specs/Endings.antt`, and the failures that an ending
-//! shows are `CameToEnding` in `specs/Failing.antt`. What is written is in `specs/Writing.antt`: `WritesAs` has the
-//! texts that go with an ending, and `Wrote` what was written of a text in pieces.
+//! shows are `CameToEnding` in `specs/Failing.antt`. The texts that go with an ending are
+//! `WritesAs` in `specs/Writing.antt`.
 #![tactic(auto)]
 
 mod ended_text;
 mod ending;
-mod output;
 mod reading;
 mod words;
 
 pub use ended_text::{EndedText, ended, ended_line, write_ended};
 pub use ending::Ends;
-pub use output::{Kept, Output};
 pub use reading::{NoPlan, plan_in};
 pub use words::{end_lettered, is_run};

@@ -46,9 +46,8 @@ pub fn plan_in<R: Source>(alloc: Global, source: &mut R) -> Result<Plan, NoPlan>
         Ok(plan) => Ok(plan),
         Err(PlanError::Memory) => Err(NoPlan::Memory),
         Err(PlanError::NotToml) => Err(NoPlan::Refused(Status::NotToml)),
-        Err(PlanError::BadPlan { reason, place }) => Err(NoPlan::Refused(Status::BadPlan {
-            reason: reason.number(),
-            place,
-        })),
+        Err(PlanError::BadPlan { reason, place }) => {
+            Err(NoPlan::Refused(Status::BadPlan { reason, place }))
+        }
     }
 }

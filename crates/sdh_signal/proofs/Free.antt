@@ -9,9 +9,9 @@ use Rattle.sdh_circuits.specs.Provisioned.{Provisioned}
 use Rattle.sdh_circuits.specs.declared.End.TheVariants.{A, B}
 use Rattle.sdh_squelch.specs.declared.Row.{Row}
 use Rattle.sdh_squelch.specs.Table.{circuits_at}
-use Rattle.sdh_squelch.specs.declared.connecting.Origin.{Origin}
-use Rattle.sdh_squelch.specs.declared.connecting.Origin.TheVariants.{Protection, Ais}
-use Rattle.sdh_squelch.specs.Connections.{sent_of, stands_for, leaves_working, leaves_protection}
+use Rattle.sdh_bridge.specs.declared.Origin.{Origin}
+use Rattle.sdh_bridge.specs.declared.Origin.TheVariants.{Protection, Ais}
+use Rattle.sdh_bridge.specs.Connections.{sent_of, stands_for, leaves_working, leaves_protection}
 use Rattle.sdh_restoration.specs.Applied.{is_applied, is_any_applied}
 use Rattle.sdh_signal.specs.Settled.{settled, settled_by, is_outranked, far_end}
 use Rattle.sdh_signal.specs.Walks.{port, carries_in, stands_in, working_in, protection_in}

@@ -9,7 +9,7 @@ use Rattle.sdh_circuits.specs.Provisioned.{Provisioned}
 use Rattle.sdh_circuits.specs.declared.End.{End}
 use Rattle.sdh_squelch.specs.Table.{circuit_from}
 use Rattle.sdh_squelch.specs.declared.Row.{Row}
-use Rattle.sdh_squelch.specs.declared.connecting.Origin.TheVariants.{Ais}
+use Rattle.sdh_bridge.specs.declared.Origin.TheVariants.{Ais}
 use Rattle.sdh_circuits.specs.Ends.{other_end}
 use Rattle.sdh_signal.specs.Law.{Ends, all_idle}
 use Rattle.sdh_signal.specs.Walks.{stand, working_in}

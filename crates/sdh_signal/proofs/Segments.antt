@@ -2,7 +2,7 @@
 use Rattle.std.proofs.lemmas.Bool.{cases_lt, le-leb, lt-leb, lt-ltb, le-ltb}
 use Rattle.std.specs.Prelude.{nat_lt, nat_le}
 use Rattle.std.proofs.Common.{inl, inr, ◌≡◌, ℕ, ◌+◌, ◌-◌, ◌<◌, ◌≤◌, suc, zero, true, false, List, ap, sym, ◌∙◌, subst, arith}
-use Rattle.sdh_squelch.specs.declared.connecting.Origin.TheVariants.{Protection, Working}
+use Rattle.sdh_bridge.specs.declared.Origin.TheVariants.{Protection, Working}
 use Rattle.sdh_circuits.specs.Provisioned.{Provisioned}
 use Rattle.sdh_circuits.specs.declared.End.{End}
 use Rattle.sdh_ringmap.specs.Places.{eastwards, neighbour, opposite}

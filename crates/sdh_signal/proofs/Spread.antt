@@ -1,6 +1,6 @@
 -- Steadiness spreads from the ports span by span, and so reaches every AU-4 of the ring.
 use Rattle.std.proofs.Common.{ℕ, ◌+◌, ◌*◌, ◌<◌, ◌≤◌, suc, zero, List, length, sym, subst, arith}
-use Rattle.sdh_squelch.specs.declared.connecting.Origin.{Origin}
+use Rattle.sdh_bridge.specs.declared.Origin.{Origin}
 use Rattle.sdh_circuits.specs.Provisioned.{Provisioned}
 use Rattle.sdh_circuits.specs.Provisioning.{AreCircuits}
 use Rattle.sdh_signal.specs.Settled.{settled}

@@ -3,7 +3,7 @@ use Rattle.std.proofs.Common.{◌≡◌, ℕ, ◌+◌, ◌-◌, ◌*◌, ◌<◌
 use Rattle.std.proofs.Common.{inr, ◌⊎◌, ap₂}
 use Rattle.std.specs.Prelude.{◌&&◌, nat_le}
 use Rattle.std.proofs.lemmas.Bool.{and_from, and_left, le-leb, lt-leb, cases_lt}
-use Rattle.sdh_squelch.specs.declared.connecting.Origin.TheVariants.{Ais, Protection}
+use Rattle.sdh_bridge.specs.declared.Origin.TheVariants.{Ais, Protection}
 use Rattle.sdh_circuits.specs.Provisioned.{Provisioned}
 use Rattle.sdh_circuits.specs.declared.End.{End}
 use Rattle.sdh_circuits.specs.declared.End.TheVariants.{A, B}

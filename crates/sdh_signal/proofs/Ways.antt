@@ -17,8 +17,8 @@ use Rattle.sdh_restoration.specs.Applied.{is_applied}
 use Rattle.sdh_signal.specs.Settled.{settled}
 use Rattle.sdh_restoration.specs.Routes.{hops}
 use Rattle.sdh_circuits.specs.Ends.{other_end}
-use Rattle.sdh_squelch.specs.declared.connecting.Origin.{Origin}
-use Rattle.sdh_squelch.specs.declared.connecting.Origin.TheVariants.{Add, Working, Protection, Ais}
+use Rattle.sdh_bridge.specs.declared.Origin.{Origin}
+use Rattle.sdh_bridge.specs.declared.Origin.TheVariants.{Add, Working, Protection, Ais}
 use Rattle.sdh_signal.specs.Walks.{Stand, stand, port, port_at, IsArrival, back_from, Leads, delivery}
 use Rattle.sdh_circuits.specs.Ends.{inward}
 use Rattle.sdh_signal.specs.Law.{IsRouted, IsShort, IsFree, ConnectsFree}

@@ -8,7 +8,7 @@ use Rattle.sdh_nodestate.specs.declared.NodeState.TheVariants as state
 use Rattle.sdh_restoration.specs.Applied.{is_applied}
 use Rattle.sdh_restoration.specs.Routes.{hops}
 use Rattle.sdh_signal.specs.Settled.{settled}
-use Rattle.sdh_squelch.specs.declared.connecting.Origin.TheVariants.{Ais}
+use Rattle.sdh_bridge.specs.declared.Origin.TheVariants.{Ais}
 use Rattle.sdh_signal.specs.Walks.{Stand, port, back_from, delivery}
 use Rattle.std.specs.Prelude.{Some}
 use Rattle.sdh_ringmap.specs.Places.{position_of}

@@ -2,7 +2,7 @@
 use Rattle.std.specs.Prelude.{ℕ, ◌+◌, ◌<◌, ◌≤◌, List}
 use Rattle.sdh_circuits.specs.Provisioned.{Provisioned}
 use Rattle.sdh_nodestate.specs.declared.NodeState.{NodeState}
-use Rattle.sdh_squelch.specs.declared.connecting.Origin.{Origin}
+use Rattle.sdh_bridge.specs.declared.Origin.{Origin}
 use Rattle.sdh_signal.specs.Walks.{IsArrival, IsOver, back_from}
 
 -- `steady t p o` says that from round t on what the origin o brings at p is steady. What ports send, and AIS, is steady

@@ -12,7 +12,7 @@ use Rattle.sdh_nodestate.specs.declared.NodeState.{NodeState}
 use Rattle.sdh_nodestate.specs.declared.NodeState.TheVariants as state
 use Rattle.sdh_restoration.specs.Applied.{is_applied}
 use Rattle.sdh_signal.specs.Settled.{settled}
-use Rattle.sdh_squelch.specs.declared.connecting.Origin.{Origin}
+use Rattle.sdh_bridge.specs.declared.Origin.{Origin}
 use Rattle.sdh_ringmap.specs.Steps.{going}
 use Rattle.sdh_circuits.specs.Ends.{other_end}
 use Rattle.sdh_signal.specs.Walks.{Stand, stand, port, IsOver, Leads, working_in, carries_in, delivery}

@@ -8,9 +8,9 @@ use Rattle.sdh_circuits.specs.Provisioned.{Provisioned, end_of}
 use Rattle.sdh_circuits.specs.declared.End.{End}
 use Rattle.sdh_squelch.specs.Table.{circuits_at}
 use Rattle.sdh_nodestate.specs.declared.NodeState.{NodeState}
-use Rattle.sdh_squelch.specs.Connections.{may_carry, stands_for, leaves_working, leaves_protection}
-use Rattle.sdh_squelch.specs.declared.connecting.Origin.{Origin}
-use Rattle.sdh_squelch.specs.declared.connecting.Origin.TheVariants.{Add, Working, Protection, Ais}
+use Rattle.sdh_bridge.specs.Connections.{may_carry, stands_for, leaves_working, leaves_protection}
+use Rattle.sdh_bridge.specs.declared.Origin.{Origin}
+use Rattle.sdh_bridge.specs.declared.Origin.TheVariants.{Add, Working, Protection, Ais}
 use Rattle.sdh_circuits.specs.Ends.{inward}
 
 -- where a walk stands: at a position, with what is to be followed from there

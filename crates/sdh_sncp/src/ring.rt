@@ -9,9 +9,8 @@ ghost use Rattle.sdh_plant.specs.Calls.{prepared};
 ghost use Rattle.sdh_payload.specs.Outlet.{silent};
 ghost use Rattle.sdh_circuits.specs.declared.PortId.{PortId};
 ghost use Rattle.sdh_rounds.specs.Faults.{BreaksRound};
-ghost use Rattle.sdh_rounds.specs.Observed.{Hears};
 ghost use Rattle.sdh_rounds.specs.Outcome.{IsStep};
-ghost use Rattle.sdh_sncp.specs.Ring.{World, new_ring, outlet_at, world, IsRound, IsBrokenOff};
+ghost use Rattle.sdh_sncp.specs.Ring.{new_ring, outlet_at, world, IsRound, IsBrokenOff};
 ghost use Rattle.sdh_sncp.specs.Placed.{IsPlacedRing};
 ghost use Rattle.sdh_sncp.specs.Fixed.{AreAlone};
 ghost use Rattle.sdh_sncp.specs.Laws.{IsPaired, HasCircuits, KeepsPromises};
@@ -25,7 +24,7 @@ use sdh_payload::Delivered;
 use sdh_plant::Plant;
 use sdh_request::Settings;
 use sdh_ringmap::RingMap;
-use sdh_rounds::{Nobody, Observer, PlantFault, RunsRounds, SettleError, ShowsPorts, StationRing};
+use sdh_rounds::{Nobody, PlantFault, RunsRounds, SettleError, ShowsPorts, StationRing};
 use sdh_terminal::{Deliveries, Outlet};
 use std::alloc::{AllocError, Global};
 use std::marker::Model;
@@ -173,34 +172,9 @@ impl PathRing {
         // All ports deliver what they are owed, and a step whose limit is large enough ends with a window.
         ensures laws { KeepsPromises (world self.old (P.fibres plant.old)) limit result (world self.new (P.fibres plant.new)) }
     {
-        self.settle_with(plant, limit, &mut Nobody)
-    }
-
-    /// Runs rounds as `settle` does, and lets an observer look at the ring after each round.
-    pub fn settle_with<P: Plant, O: Observer<PathRing>>(
-        &mut self,
-        plant: &mut P,
-        limit: u32,
-        observer: &mut O,
-    ) -> Result<(), SettleError>
-        requires prepared { IsPrepared self.old.settings.rate (length self.old.ids) (P.fibres plant.old) }
-        requires whole { self.old.broken ≡ false }
-        requires some { 1 ≤ limit }
-        requires few { limit ≤ 65536 }
-        requires room { self.old.rounds + limit ≤ 2 ^ 32 }
-        requires ready { (at : ℕ → World) → at 0 ≡ world self.old (P.fibres plant.old) → O.Heard at 0 observer.old }
-        ensures step { IsStep path_node P.exact (world self.old (P.fibres plant.old)) limit result (world self.new (P.fibres plant.new))
-            (P.faults plant.old) (P.faults plant.new) }
-        ensures laws { KeepsPromises (world self.old (P.fibres plant.old)) limit result (world self.new (P.fibres plant.new)) }
-
-        // What the observer keeps after a step that ended is what it should keep of all rounds of that step, and of no
-        // others.
-        ensures heard { OnOk result (Hears path_node (λ at k. O.Heard at k observer.new) (world self.old (P.fibres plant.old)) limit
-            (world self.new (P.fibres plant.new))) }
-    {
         self.circuits_fit();
         self.nodes_are_placed();
-        sdh_rounds::settle(self, plant, limit, observer)
+        sdh_rounds::settle(self, plant, limit, &mut Nobody)
     }
 }
 

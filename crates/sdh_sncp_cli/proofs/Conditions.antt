@@ -11,8 +11,8 @@ use Rattle.sdh_ringmap.specs.declared.Side.TheVariants.{West, East}
 use Rattle.sdh_ringmap.specs.declared.terms.Condition.{Condition}
 use Rattle.sdh_ringmap.specs.declared.terms.Condition.TheVariants.{Clear}
 use Rattle.sdh_ringmap.specs.Fibres.{fibre, fibre_to}
-use Rattle.sdh_promise.specs.Changes.{Change, Fibre}
-use Rattle.sdh_promise.specs.Sides.{Holding, new_holding, holding_after, all_holding}
+use Rattle.sdh_restoration.specs.Changes.{Change, Fibre}
+use Rattle.sdh_restoration.specs.Sides.{Holding, new_holding, holding_after, all_holding}
 
 ends_inside : (n p : ℕ) (d : Side) → 0 < n → fibre_to n p d < 2 * n
 ends_inside n p West some = let h : (p + (n - 1)) % n < n = mod-lt (p + (n - 1)) some in omega arith

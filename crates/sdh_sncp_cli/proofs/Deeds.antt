@@ -4,14 +4,14 @@ use Rattle.std.specs.Prelude.{Result, Err}
 use Rattle.sdh_plant.specs.Fibres.{Fibres}
 use Rattle.sdh_plan.specs.Planned.{Planned}
 use Rattle.sdh_report.specs.Reports.{report_text}
-use Rattle.sdh_report.specs.declared.status.Status.{Status}
+use Rattle.sdh_status.specs.declared.Status.{Status}
 use Rattle.sdh_report.specs.Statuses.{last_line}
 use Rattle.sdh_shell.specs.Endings.{RefusesPlan}
-use Rattle.sdh_scripts.specs.Programs.{Deed, Refuses, Writes, Runs}
-use Rattle.sdh_scripts.specs.Outcome.{OfPlan}
-use Rattle.sdh_scripts.specs.Headline.{MayGo, may_do}
-use Rattle.sdh_scripts.proofs.Promises.{RunsAlone}
-use Rattle.sdh_scripts.proofs.Deeds.{run_outcome}
+use Rattle.sdh_programs.specs.Programs.{Deed, Refuses, Writes, Runs}
+use Rattle.sdh_programs.specs.Outcome.{OfPlan}
+use Rattle.sdh_programs.specs.Headline.{MayGo, may_do}
+use Rattle.sdh_programs.proofs.Promises.{RunsAlone}
+use Rattle.sdh_programs.proofs.Deeds.{run_outcome}
 use Rattle.sdh_sncp.specs.Fixed.{AreAlone}
 use Rattle.sdh_sncp.specs.Sharing.{AreFirstToShare}
 use Rattle.sdh_sncp.specs.declared.ring.PathError.{PathError}

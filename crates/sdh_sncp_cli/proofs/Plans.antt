@@ -8,8 +8,8 @@ use Rattle.sdh_plan.proofs.Following.{circuits_keep_the_ring}
 use Rattle.sdh_plan.specs.declared.step.Step.{Step}
 use Rattle.sdh_plan.specs.declared.step.Step.TheVariants as step
 use Rattle.sdh_report.specs.Reports.{Report, report_text}
-use Rattle.sdh_report.specs.declared.status.Status.{Status}
-use Rattle.sdh_promise.specs.Changes.{scenes}
+use Rattle.sdh_status.specs.declared.Status.{Status}
+use Rattle.sdh_promise.specs.Scenes.{scenes}
 use Rattle.sdh_scripts.specs.Laws.{DoesNoRound, KeepsRounds}
 use Rattle.sdh_scripts.specs.Outcomes.{Came}
 use Rattle.sdh_scripts.specs.Plans.{Comes}

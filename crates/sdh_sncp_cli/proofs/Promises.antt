@@ -7,19 +7,19 @@ use Rattle.sdh_plant.specs.Arrivals.{Knows}
 use Rattle.sdh_plan.specs.Planned.{Planned}
 use Rattle.sdh_report.specs.Reports.{Report, text_of}
 use Rattle.sdh_report.specs.declared.listing.Listing.TheVariants as listing
-use Rattle.sdh_report.specs.declared.status.Status.{Status}
-use Rattle.sdh_report.specs.declared.status.Status.TheVariants as status
+use Rattle.sdh_status.specs.declared.Status.{Status}
+use Rattle.sdh_status.specs.declared.Status.TheVariants as status
 use Rattle.sdh_report.specs.Statuses.{last_line}
 use Rattle.sdh_shell.specs.Calls.{AreRun, asked_to_run}
 use Rattle.sdh_shell.specs.Calls as shell
 use Rattle.sdh_shell.specs.Failing.{Counts}
 use Rattle.sdh_shell.specs.Writing.{WritesWith}
 use Rattle.sdh_shell.proofs.Asked.{is_asked}
-use Rattle.sdh_scripts.specs.Programs.{Runs}
-use Rattle.sdh_scripts.specs.Outcome.{MayEnd}
-use Rattle.sdh_scripts.specs.Outcome as outcome
-use Rattle.sdh_scripts.specs.Headline as headline
-use Rattle.sdh_scripts.proofs.Promises.{SettlesLarge, EndsKnown, shows}
+use Rattle.sdh_programs.specs.Programs.{Runs}
+use Rattle.sdh_programs.specs.Outcome.{MayEnd}
+use Rattle.sdh_programs.specs.Outcome as outcome
+use Rattle.sdh_programs.specs.Headline as headline
+use Rattle.sdh_programs.proofs.Promises.{SettlesLarge, EndsKnown, shows}
 use Rattle.sdh_sncp_cli.specs.Plans.{world_of, ran_of}
 use Rattle.sdh_sncp_cli.specs.Promise.{OwesAll}
 use Rattle.sdh_sncp_cli.specs.Endings.{number_of, line_of, path_endings}

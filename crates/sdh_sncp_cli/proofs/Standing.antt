@@ -12,7 +12,7 @@ use Rattle.sdh_ringmap.specs.Ids.{AreIds}
 use Rattle.sdh_plant.specs.Fibres.{Fibres, IsHonest}
 use Rattle.sdh_plant.specs.Calls.{prepared, after_apply}
 use Rattle.sdh_rounds.proofs.Runs.{known_settles}
-use Rattle.sdh_promise.specs.Changes.{Change, Fibre}
+use Rattle.sdh_restoration.specs.Changes.{Change, Fibre}
 use Rattle.sdh_promise.specs.Owed.{IsLast}
 use Rattle.sdh_sncp.specs.Stations.{path_node}
 use Rattle.sdh_sncp.specs.Ring.{HeldPath, World, world, new_ring, run, Settles}

@@ -1,7 +1,8 @@
 -- How the program ends. The numbers and lines are this project's own.
 use Rattle.std.specs.Prelude.{ℕ, ◌+◌, List, ◌++◌, codes, decimal, Option, Some, None}
-use Rattle.sdh_report.specs.declared.status.Status.{Status}
+use Rattle.sdh_status.specs.declared.Status.{Status}
 use Rattle.sdh_report.specs.Statuses as status
+use Rattle.sdh_status.specs.Numbers as numbers
 use Rattle.sdh_shell.specs.Endings.{Endings}
 use Rattle.sdh_sncp_cli.specs.declared.ending.Ending.{Ending}
 use Rattle.sdh_sncp_cli.specs.declared.ending.Ending.TheVariants as ending
@@ -10,7 +11,7 @@ use Rattle.sdh_sncp_cli.specs.declared.ending.Ending.TheVariants as ending
 abbrev pub number_of : Ending → ℕ
 number_of (ending.NoSuchStep step) = 14
 number_of (ending.SameSlot first second) = 13
-number_of (ending.Shared how) = status.number_of how
+number_of (ending.Shared how) = numbers.number_of how
 
 -- the last line for two circuits that share a slot; the text counts circuits from 1
 abbrev pub same_slot_line : ℕ → ℕ → List ℕ

@@ -8,8 +8,8 @@ use Rattle.sdh_ringmap.specs.Ids.{AreIds}
 use Rattle.sdh_rounds.specs.Quiet.{enough_for}
 use Rattle.sdh_plan.specs.declared.step.Step.{Step}
 use Rattle.sdh_report.specs.Reports.{Report}
-use Rattle.sdh_report.specs.declared.status.Status.{Status}
-use Rattle.sdh_promise.specs.Changes.{scenes}
+use Rattle.sdh_status.specs.declared.Status.{Status}
+use Rattle.sdh_promise.specs.Scenes.{scenes}
 use Rattle.sdh_scripts.specs.Scripts.{Runs}
 use Rattle.sdh_scripts.specs.Outcomes.{IsSettled}
 use Rattle.sdh_sncp.specs.Ring.{World, world, new_ring}

@@ -6,8 +6,8 @@ use Rattle.sdh_report.specs.Reports.{Report, text_of}
 use Rattle.sdh_report.specs.declared.listing.Listing.TheVariants as listing
 use Rattle.sdh_shell.specs.Calls.{asked_to_run}
 use Rattle.sdh_shell.specs.Failing.{Counts, CameToEnding}
-use Rattle.sdh_scripts.specs.Programs.{Deed, Refuses, Writes, Runs, as_script, Program}
-use Rattle.sdh_scripts.specs.Outcome as outcome
+use Rattle.sdh_programs.specs.Programs.{Deed, Refuses, Writes, Runs, as_script, Program}
+use Rattle.sdh_programs.specs.Outcome as outcome
 use Rattle.sdh_sncp.specs.Fixed.{AreAlone}
 use Rattle.sdh_sncp.specs.Sharing.{AreFirstToShare}
 use Rattle.sdh_sncp_cli.specs.Steps.{first_strange, AreKnown}
@@ -46,7 +46,3 @@ told words left = outcome.told pathing (asked_to_run words) left
 -- what was written when a call returned this number
 abbrev pub Answers : List (List ℕ) → List ℕ → Fibres → Fibres → Counts → Counts → ℕ → Option (List ℕ) → Option (List ℕ) → Type 0
 Answers words = outcome.Answers pathing (asked_to_run words)
-
--- How many calls of source and plant failed, and how many bytes were taken, where this ending was to be reported.
-abbrev pub CameTo : Bool → Bool → Counts → Counts → Option (List ℕ) → Option (List ℕ) → Ending → Type 0
-CameTo = CameToEnding path_endings

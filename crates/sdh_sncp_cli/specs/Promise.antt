@@ -5,11 +5,13 @@ use Rattle.sdh_ringmap.specs.declared.Side.{Side}
 use Rattle.sdh_ringmap.specs.Fibres.{is_cut}
 use Rattle.sdh_circuits.specs.Provisioned.{Provisioned}
 use Rattle.sdh_plan.specs.Planned.{Planned}
-use Rattle.sdh_report.specs.Reports.{PortLine, Report}
-use Rattle.sdh_report.specs.declared.status.Status.{Status}
-use Rattle.sdh_report.specs.declared.status.Status.TheVariants as status
-use Rattle.sdh_promise.specs.Changes.{Change, scenes}
-use Rattle.sdh_promise.specs.Sides.{new_holding, all_holding}
+use Rattle.sdh_status.specs.PortLine.{PortLine}
+use Rattle.sdh_report.specs.Reports.{Report}
+use Rattle.sdh_status.specs.declared.Status.{Status}
+use Rattle.sdh_status.specs.declared.Status.TheVariants as status
+use Rattle.sdh_restoration.specs.Changes.{Change}
+use Rattle.sdh_promise.specs.Scenes.{scenes}
+use Rattle.sdh_restoration.specs.Sides.{new_holding, all_holding}
 use Rattle.sdh_promise.specs.Owed.{IsLast}
 use Rattle.sdh_scripts.specs.Ports.{lines_from}
 use Rattle.sdh_sncp.specs.Due.{due_path}

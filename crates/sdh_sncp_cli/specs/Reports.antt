@@ -1,6 +1,7 @@
 -- What the report of a settle step shows of the path ring that it left. No node has a line in it.
 use Rattle.std.specs.Prelude.{ℕ, ◌-◌, List, []}
-use Rattle.sdh_report.specs.Reports.{PortLine, Report}
+use Rattle.sdh_status.specs.PortLine.{PortLine}
+use Rattle.sdh_report.specs.Reports.{Report}
 use Rattle.sdh_scripts.specs.Ports.{port_lines}
 use Rattle.sdh_sncp.specs.Ring.{HeldPath, outlet_at}
 

@@ -10,9 +10,6 @@ ghost use Rattle.sdh_circuits.specs.Provisioning.{IsProvisioning};
 ghost use Rattle.sdh_squelch.specs.Table.{circuit_on, circuits_at, table_of, rows_of, HasEnds, is_carried};
 ghost use Rattle.sdh_circuits.specs.Kept.{KeepsRing};
 
-mod connecting;
-
-pub use crate::connecting::{Origin, drop_origin, protection_origin, working_origin};
 use sdh_circuits::{CircuitMap, Slot};
 use sdh_ringmap::{Chain, Pos, RingMap, Side, Span};
 use std::alloc::{AllocError, Global};

@@ -4,7 +4,7 @@ ghost use Rattle.std.proofs.lemmas.Bool.{false≢true};
 ghost use Rattle.sdh_basics.specs.Causes.{Rose, IsCounted, HasCause};
 ghost use Rattle.sdh_plant.specs.Fibres.{HasNoFibres};
 ghost use Rattle.sdh_ringmap.specs.Fibres.{IsConditionAt};
-ghost use Rattle.sdh_plant.specs.Arrivals.{Knows, arrival, arrived_in};
+ghost use Rattle.sdh_plant.specs.Arrivals.{Knows, arrival, as_arrival, arrived_in};
 ghost use Rattle.sdh_plant.specs.Calls.{prepared, after_apply, after_send, after_receive};
 ghost use Rattle.sdh_plant.specs.InMemory.{clear_fibres, told_of};
 ghost use Rattle.sdh_plant.specs.Kept.{arrival_of, IsToldAt};
@@ -95,23 +95,41 @@ impl Plant for Watched {
         self.plant.send(at, side, frame)
     }
 
-    fn carried(&self, at: Pos, side: Side) -> Option<&FrameBuf> {
-        self.plant.carried(at, side)
+    fn receive(&mut self, at: Pos, side: Side, frame: &mut FrameBuf) -> Result<Arrived, Failed>
+        requires at { at.0 < (told_of self.old).nodes }
+        requires rate { frame.old.rate ≡ (told_of self.old).rate }
+        ensures ok { OnOk result (told_of self.new ≡ after_receive (told_of self.old)) }
+        ensures arrival { IfOk result
+            (λ a. Knows (told_of self.old) → as_arrival a frame.new.bytes ≡ arrival (told_of self.old) at.0 side) }
+        ensures dark { result ≡ Ok Arrived.Dark → frame.new ≡ frame.old }
+        ensures rate { frame.new.rate ≡ frame.old.rate }
+        ensures err { OnErr result (told_of self.new ≡ told_of self.old) }
+        ensures cause { HasCause true 0 0 result }
+    {
+        self.plant.receive(at, side, frame)
     }
 
-    fn receive<L: Landing>(&mut self, at: Pos, side: Side, into: &mut L) -> Result<Arrived, Failed>
+    fn receive_into<L: Landing>(
+        &mut self,
+        at: Pos,
+        side: Side,
+        into: &mut L,
+        spare: &mut FrameBuf,
+    ) -> Result<Arrived, Failed>
         requires at { at.0 < (told_of self.old).nodes }
         requires rate { L.rate into.old ≡ (told_of self.old).rate }
+        requires spare { spare.old.rate ≡ (told_of self.old).rate }
         ensures ok { OnOk result (told_of self.new ≡ after_receive (told_of self.old)) }
         ensures arrival { IfOk result
             (λ a. Knows (told_of self.old) → arrived_in a (L.landed into.new) ≡ arrival (told_of self.old) at.0 side) }
         ensures landed { result ≡ Ok Arrived.Frame → L.landed into.new ≢ None }
         ensures dark { result ≡ Ok Arrived.Dark → into.new ≡ into.old }
         ensures rate { L.rate into.new ≡ L.rate into.old }
+        ensures spare { spare.new.rate ≡ spare.old.rate }
         ensures err { OnErr result (told_of self.new ≡ told_of self.old) }
         ensures cause { HasCause true 0 0 result }
     {
-        self.plant.receive(at, side, into)
+        self.plant.receive_into(at, side, into, spare)
     }
 
     ghost honest_tells_none = { λ p honest. absurd (false≢true honest) };

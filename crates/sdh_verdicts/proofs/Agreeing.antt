@@ -1,5 +1,5 @@
 -- The verdicts in a case, and the last report of the longer script.
-use Rattle.std.proofs.Common.{◌≡◌, ℕ, ◌+◌, ◌-◌, ◌≤◌, Bool, true, false, List, [], ◌∷◌, ◌++◌, length, map, refl, sym, ap, ◌∙◌, arith}
+use Rattle.std.proofs.Common.{◌≡◌, ℕ, ◌+◌, ◌-◌, ◌≤◌, Bool, true, false, List, [], ◌∷◌, ◌++◌, length, refl, sym, ap, ◌∙◌, arith}
 use Rattle.std.proofs.Common.{append_assoc}
 use Rattle.std.specs.Prelude.{◌||◌, if◌then◌else◌}
 use Rattle.sdh_ringmap.specs.Arcs.{is_clear, is_joined, opposite_arc}
@@ -15,11 +15,11 @@ use Rattle.sdh_restoration.specs.Due.{due, sends_by}
 use Rattle.sdh_restoration.specs.Routes.{hops}
 use Rattle.sdh_plan.specs.Planned.{Planned}
 use Rattle.sdh_plan.specs.declared.step.Step.TheVariants as step
-use Rattle.sdh_report.specs.Reports.{PortLine}
-use Rattle.sdh_promise.specs.Changes.{scenes}
-use Rattle.sdh_promise.specs.Happened.{happened}
+use Rattle.sdh_status.specs.PortLine.{PortLine}
+use Rattle.sdh_promise.specs.Scenes.{scenes}
+use Rattle.sdh_restoration.specs.Happened.{happened}
 use Rattle.sdh_promise.specs.Owed.{owed_port, owed_ports}
-use Rattle.sdh_promise.specs.Plans.{ring_of, ports_of}
+use Rattle.sdh_promise.specs.Plans.{ring_of}
 use Rattle.sdh_verdicts.specs.Resting.{requests_after}
 use Rattle.sdh_verdicts.specs.Foretold.{changes_in, stretches_by, IsLastForetold, LastReportsAreForetold}
 use Rattle.sdh_verdicts.specs.declared.failure.Failure.{Failure}
@@ -79,10 +79,10 @@ cases_are_shown law plan case fits limit reports owed =
     let parts : longer_steps plan case ≡ (plan.steps ++ steps) ++ step.Settle ∷ [] =
     sym (append_assoc plan.steps steps (step.Settle ∷ [])) in
     let enough : 1 ≤ length plan.nodes = omega (arith, fits.nodes_fit.enough) in
-    let foretold : IsLastForetold (ring_of plan) (scenes_with plan case) (map ports_of reports) =
-    law (ring_of plan) limit (scenes_with plan case) (map ports_of reports) fits.threshold_from_1 enough
+    let foretold : IsLastForetold (ring_of plan) (scenes_with plan case) reports =
+    law (ring_of plan) limit (scenes_with plan case) reports fits.threshold_from_1 enough
     (λ none. some_scene [] (plan.steps ++ steps) (ap (scenes []) (sym parts) ∙ none)) owed in
-    let ss = stretches_by [] (scenes_with plan case) (map ports_of reports) in
+    let ss = stretches_by [] (scenes_with plan case) reports in
     let same : requests_after (ring_of plan) (changes_in ss) ≡ requests_with plan case =
     ap (requests_after (ring_of plan)) foretold.changes in
     record {

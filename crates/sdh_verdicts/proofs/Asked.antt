@@ -9,7 +9,7 @@ use Rattle.sdh_ringmap.specs.declared.Side.TheVariants.{West, East}
 use Rattle.sdh_ringmap.specs.Fibres.{fibre}
 use Rattle.sdh_plan.specs.Planned.{Planned}
 use Rattle.sdh_plan.specs.declared.step.Step.TheVariants.{Settle}
-use Rattle.sdh_promise.specs.Changes.{scenes}
+use Rattle.sdh_promise.specs.Scenes.{scenes}
 use Rattle.sdh_verdicts.specs.Resting as model
 use Rattle.sdh_verdicts.specs.Sides as walk
 use Rattle.sdh_verdicts.specs.declared.resting.Resting.{Resting}

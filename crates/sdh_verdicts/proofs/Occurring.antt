@@ -17,12 +17,12 @@ use Rattle.sdh_payload.specs.declared.clock.Turn.TheVariants.{Up}
 use Rattle.sdh_restoration.specs.Applied.{span_requests, applies, is_applied}
 use Rattle.sdh_restoration.specs.Routes.{hops}
 use Rattle.sdh_plan.specs.Planned.{IsPlanned, provisioning_of}
-use Rattle.sdh_report.specs.declared.status.Status.TheVariants as status
-use Rattle.sdh_report.specs.Reports.{Report}
-use Rattle.sdh_promise.specs.Changes.{Fibre, Hold, Slip, Stretch}
-use Rattle.sdh_promise.specs.Happened.{happened}
+use Rattle.sdh_status.specs.declared.Status.TheVariants as status
+use Rattle.sdh_restoration.specs.Changes.{Fibre, Hold, Slip, Stretch}
+use Rattle.sdh_restoration.specs.Happened.{happened}
 use Rattle.sdh_promise.specs.Owed.{requests_by, owed_ports}
 use Rattle.sdh_promise.specs.Plans.{ring_of, OwesAll}
+use Rattle.sdh_promise.specs.Owed.{PortReport}
 use Rattle.sdh_verdicts.specs.declared.failure.Failure.TheVariants.{Span}
 use Rattle.sdh_verdicts.specs.declared.judging.Verdict.TheVariants.{Over}
 use Rattle.sdh_verdicts.specs.Failures.{IsFailureIn}
@@ -109,15 +109,14 @@ abbrev failing : Stretch
 failing = record { changes = Fibre 0 East Cut ∷ Fibre 1 West Cut ∷ []; rounds = 128 }
 
 -- the report of a settle step that shows what is owed after these stretches
-abbrev report : ℕ → ℕ → List Stretch → Report
+abbrev report : ℕ → ℕ → List Stretch → PortReport
 report number t ss = record {
   number = number;
   round = t;
-  nodes = [];
   ports = owed_ports 3 (is_applied (requests_by (ring_of three) ss t)) (happened ss) t 0 (c1 ∷ []);
 }
 
-abbrev reports : List Report
+abbrev reports : List PortReport
 reports = report 1 128 (scene ∷ []) ∷ report 2 256 (scene ∷ failing ∷ []) ∷ []
 
 are_owed : OwesAll (longer_plan three cut 1000) reports status.Ok

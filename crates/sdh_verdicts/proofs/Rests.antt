@@ -8,8 +8,9 @@ use Rattle.std.proofs.lemmas.Option.{slice_get_past, slice_get-get_or, same_Some
 use Rattle.sdh_ringmap.specs.declared.Side.{Side}
 use Rattle.sdh_plan.specs.declared.step.Step.{Step}
 use Rattle.sdh_plan.specs.declared.step.Step.TheVariants as step
-use Rattle.sdh_promise.specs.Changes.{Change, changes_of, scenes}
-use Rattle.sdh_promise.specs.Sides.{Holding, holding_after, all_holding}
+use Rattle.sdh_restoration.specs.Changes.{Change}
+use Rattle.sdh_promise.specs.Scenes.{changes_of, scenes}
+use Rattle.sdh_restoration.specs.Sides.{Holding, holding_after, all_holding}
 use Rattle.sdh_verdicts.specs.Resting.{fresh, rest_after_changes}
 use Rattle.sdh_verdicts.specs.Resting.{Resting, rest_in}
 use Rattle.sdh_verdicts.specs.Sides.{rest_after, rests}

@@ -11,7 +11,7 @@ use Rattle.sdh_ringmap.specs.declared.terms.Condition.{Condition}
 use Rattle.sdh_ringmap.specs.declared.terms.Condition.TheVariants.{Clear, Cut, Degraded}
 use Rattle.sdh_ringmap.specs.Fibres.{is_cut, degraded_by}
 use Rattle.sdh_restoration.specs.History.{SideHistory, defect_at, ends_at, last_end, local_request}
-use Rattle.sdh_promise.specs.Sides.{Holding}
+use Rattle.sdh_restoration.specs.Sides.{Holding}
 use Rattle.sdh_verdicts.specs.Resting.{Resting, fresh, defect_of, at_rest, asks}
 
 module _ (threshold : ℕ) (least : 1 ≤ threshold) (g : SideHistory) where

@@ -4,9 +4,10 @@ use Rattle.std.specs.Prelude.{if◌then◌else◌, nat_lt}
 use Rattle.std.proofs.lemmas.Bool.Decides.{nat_tests}
 use Rattle.sdh_ringmap.specs.declared.Side.{Side}
 use Rattle.sdh_restoration.specs.History.{SideHistory}
-use Rattle.sdh_promise.specs.Changes.{Stretch, rounds_in}
-use Rattle.sdh_promise.specs.Sides.{Holding, new_holding, all_holding, holding_in, side_history}
-use Rattle.sdh_promise.specs.Owed.{Ring, asked_in}
+use Rattle.sdh_restoration.specs.Changes.{Stretch, rounds_in}
+use Rattle.sdh_restoration.specs.Sides.{Holding, new_holding, all_holding, holding_in, side_history}
+use Rattle.sdh_promise.specs.Owed.{Ring}
+use Rattle.sdh_restoration.specs.Sides.{asked_in}
 use Rattle.sdh_verdicts.specs.Resting.{Resting, fresh, rest_after_changes, rest_in, asks}
 use Rattle.sdh_verdicts.specs.Foretold.{AreLong, changes_in, RequestsRest}
 use Rattle.sdh_verdicts.proofs.Spans.{spans_same}

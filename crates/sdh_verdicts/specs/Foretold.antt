@@ -1,9 +1,9 @@
 -- The laws: the requests that decide what a script's reports show follow from its changes alone.
 use Rattle.std.specs.Prelude.{ℕ, ◌≡◌, ◌≢◌, ◌≤◌, ◌+◌, ◌-◌, List, [], ◌∷◌, ◌++◌, map}
-use Rattle.sdh_report.specs.declared.status.Status.{Status}
-use Rattle.sdh_report.specs.declared.status.Status.TheVariants as status
-use Rattle.sdh_promise.specs.Changes.{Change, Stretch, rounds_in}
-use Rattle.sdh_promise.specs.Happened.{happened}
+use Rattle.sdh_status.specs.declared.Status.{Status}
+use Rattle.sdh_status.specs.declared.Status.TheVariants as status
+use Rattle.sdh_restoration.specs.Changes.{Change, Stretch, rounds_in}
+use Rattle.sdh_restoration.specs.Happened.{happened}
 use Rattle.sdh_promise.specs.Owed.{Ring, PortReport, requests_by, IsOwed, AreOwed}
 use Rattle.sdh_verdicts.specs.Resting.{requests_after}
 

@@ -1,5 +1,5 @@
 -- How verdicts on circuits agree with what a ring reports.
-use Rattle.std.specs.Prelude.{ℕ, ◌≡◌, ◌↔◌, ◌+◌, ◌-◌, ◌≤◌, List, [], ◌∷◌, length, map, count_by, All}
+use Rattle.std.specs.Prelude.{ℕ, ◌≡◌, ◌↔◌, ◌+◌, ◌-◌, ◌≤◌, List, [], ◌∷◌, length, count_by, All}
 use Rattle.sdh_circuits.specs.declared.End.{End}
 use Rattle.sdh_circuits.specs.declared.End.TheVariants.{A, B}
 use Rattle.sdh_circuits.specs.declared.PortId.{PortId}
@@ -11,11 +11,11 @@ use Rattle.sdh_restoration.specs.Applied.{is_applied}
 use Rattle.sdh_restoration.specs.Due.{sends_by}
 use Rattle.sdh_plan.specs.Planned.{Planned, IsPlanned}
 use Rattle.sdh_plan.specs.Steps.{is_settle}
-use Rattle.sdh_report.specs.declared.status.Status.TheVariants as status
-use Rattle.sdh_report.specs.Reports.{PortLine, Report}
-use Rattle.sdh_promise.specs.Happened.{happened}
+use Rattle.sdh_status.specs.declared.Status.TheVariants as status
+use Rattle.sdh_status.specs.PortLine.{PortLine}
+use Rattle.sdh_restoration.specs.Happened.{happened}
 use Rattle.sdh_promise.specs.Owed.{PortReport, requests_by}
-use Rattle.sdh_promise.specs.Plans.{ring_of, ports_of, OwesAll}
+use Rattle.sdh_promise.specs.Plans.{ring_of, OwesAll}
 use Rattle.sdh_verdicts.specs.Foretold.{stretches_by, IsLastForetold}
 use Rattle.sdh_verdicts.specs.declared.failure.Failure.{Failure}
 use Rattle.sdh_verdicts.specs.declared.judging.Verdict.{Verdict}
@@ -84,8 +84,8 @@ pub record IsShown (plan : Planned) (case : List Failure) (reports : List PortRe
 -- Take reports of the longer plan, which has the case after its script. If they come to the script's end and show what
 -- they owe, the last of them shows each port as its circuit's verdict in the case says.
 abbrev pub CaseIsShown : Planned → List Failure → Type 0
-CaseIsShown plan case = (limit : ℕ) (reports : List Report) → OwesAll (longer_plan plan case limit) reports status.Ok
-    → IsShown plan case (map ports_of reports)
+CaseIsShown plan case = (limit : ℕ) (reports : List PortReport) → OwesAll (longer_plan plan case limit) reports status.Ok
+    → IsShown plan case reports
 
 -- the last report shows what the verdicts say, for every plan and every case
 abbrev pub CasesAreShown : Type 0

@@ -1,6 +1,6 @@
 -- A plan of three nodes and a case, for which the laws of `specs/Laws.antt` are worked out. A clock slips and a
 -- controller is held before the plan's settle step, and then a span is cut.
-use Rattle.std.specs.Prelude.{ℕ, ◌≡◌, List, [], ◌∷◌, length, map, replicate, All}
+use Rattle.std.specs.Prelude.{ℕ, ◌≡◌, List, [], ◌∷◌, length, replicate, All}
 use Rattle.sdh_ringmap.specs.declared.terms.Rate.TheVariants.{Four}
 use Rattle.sdh_ringmap.specs.Places.{position_of}
 use Rattle.sdh_circuits.specs.declared.End.TheVariants.{A}
@@ -9,9 +9,9 @@ use Rattle.sdh_payload.specs.Customer.{Customer}
 use Rattle.sdh_payload.specs.declared.clock.Turn.TheVariants.{Up}
 use Rattle.sdh_plan.specs.Planned.{Planned, IsPlanned}
 use Rattle.sdh_plan.specs.declared.step.Step.TheVariants as step
-use Rattle.sdh_report.specs.declared.status.Status.TheVariants as status
-use Rattle.sdh_report.specs.Reports.{Report}
-use Rattle.sdh_promise.specs.Plans.{ports_of, OwesAll}
+use Rattle.sdh_status.specs.declared.Status.TheVariants as status
+use Rattle.sdh_promise.specs.Owed.{PortReport}
+use Rattle.sdh_promise.specs.Plans.{OwesAll}
 use Rattle.sdh_verdicts.specs.declared.failure.Failure.{Failure}
 use Rattle.sdh_verdicts.specs.declared.failure.Failure.TheVariants.{Span}
 use Rattle.sdh_verdicts.specs.declared.judging.Verdict.TheVariants.{Over}
@@ -47,8 +47,8 @@ pub record CaseOccurs : Type 0 where
   pub case : All (IsFailureIn (length three.nodes)) cut
   pub room : HasRoom three cut 1000
   pub longer : IsPlanned (longer_plan three cut 1000)
-  pub reports : List Report
+  pub reports : List PortReport
   pub owe : OwesAll (longer_plan three cut 1000) reports status.Ok
-  pub shown : IsShown three cut (map ports_of reports)
+  pub shown : IsShown three cut reports
   pub over : verdict_of three cut c1 ≡ Over
   pub hops : hops_of three cut c1 ≡ 3

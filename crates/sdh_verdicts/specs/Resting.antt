@@ -9,8 +9,8 @@ use Rattle.sdh_request.specs.declared.Defect.{Defect}
 use Rattle.sdh_request.specs.declared.Defect.TheVariants as defect
 use Rattle.sdh_request.specs.Requests.{is_defect_free, waits, highest_code}
 use Rattle.sdh_restoration.specs.Applied.{span_requests}
-use Rattle.sdh_promise.specs.Changes.{Change}
-use Rattle.sdh_promise.specs.Sides.{Holding, new_holding, all_holding}
+use Rattle.sdh_restoration.specs.Changes.{Change}
+use Rattle.sdh_restoration.specs.Sides.{Holding, new_holding, all_holding}
 use Rattle.sdh_promise.specs.Owed.{Ring}
 
 -- the state of a side: the condition of the fibre that comes in, the command and the moment (`Holding`), the defect

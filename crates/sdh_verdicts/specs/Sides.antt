@@ -3,8 +3,8 @@ use Rattle.std.specs.Prelude.{ℕ, option_map, List, [], ◌∷◌}
 use Rattle.sdh_ringmap.specs.declared.Side.{Side}
 use Rattle.sdh_plan.specs.declared.step.Step.{Step}
 use Rattle.sdh_plan.specs.declared.step.Step.TheVariants as step
-use Rattle.sdh_promise.specs.Changes.{changes_of}
-use Rattle.sdh_promise.specs.Sides.{all_holding}
+use Rattle.sdh_promise.specs.Scenes.{changes_of}
+use Rattle.sdh_restoration.specs.Sides.{all_holding}
 use Rattle.sdh_verdicts.specs.Resting as rest
 use Rattle.sdh_verdicts.specs.declared.resting.Resting.{Resting}
 

@@ -20,7 +20,8 @@ use Rattle.sdh_restoration.specs.Routes.{hops}
 use Rattle.sdh_plan.specs.Planned.{Planned}
 use Rattle.sdh_plan.specs.declared.step.Step.{Step}
 use Rattle.sdh_plan.specs.declared.step.Step.TheVariants as step
-use Rattle.sdh_promise.specs.Changes.{Change, scenes}
+use Rattle.sdh_restoration.specs.Changes.{Change}
+use Rattle.sdh_promise.specs.Scenes.{scenes}
 use Rattle.sdh_promise.specs.Plans.{ring_of}
 use Rattle.sdh_verdicts.specs.Resting as rest
 use Rattle.sdh_verdicts.specs.declared.failure.Failure.{Failure}

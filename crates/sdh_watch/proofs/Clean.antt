@@ -18,10 +18,10 @@ use Rattle.sdh_restoration.specs.Routes.{hops}
 use Rattle.sdh_restoration.specs.Due.{due}
 use Rattle.sdh_circuits.specs.Ends.{other_end}
 use Rattle.sdh_signal.proofs.Ways.{short, few_hops}
-use Rattle.sdh_world.specs.Held.{outlet_at}
-use Rattle.sdh_world.specs.Rounds.{World, round}
-use Rattle.sdh_world.specs.Runs.{IsRound}
-use Rattle.sdh_world.specs.Quiet.{is_calm}
+use Rattle.sdh_node.specs.Rings.Held.{outlet_at}
+use Rattle.sdh_node.specs.Rings.Rounds.{World, round}
+use Rattle.sdh_node.specs.Rings.Runs.{IsRound}
+use Rattle.sdh_node.specs.Rings.Quiet.{is_calm}
 use Rattle.sdh_laws.proofs.hearing.Signalling.{calm_rounds_are_still}
 use Rattle.sdh_laws.specs.Carrying.Windows.{Layout, layout_of, size_of, slots_of, HasCircuits, requests_of}
 use Rattle.sdh_laws.specs.Carrying.Laws.{due_by_clocks, DeliversWhatIsDue}

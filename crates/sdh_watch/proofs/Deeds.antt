@@ -2,12 +2,12 @@
 use Rattle.std.proofs.Common.{◌≡◌, ℕ, Some, List, ◌++◌, refl, ap, sym, ◌∙◌}
 use Rattle.sdh_plant.specs.Fibres.{Fibres}
 use Rattle.sdh_plan.specs.Planned.{Planned}
-use Rattle.sdh_report.specs.declared.status.Status.{Status}
+use Rattle.sdh_status.specs.declared.Status.{Status}
 use Rattle.sdh_report.specs.Statuses.{last_line}
-use Rattle.sdh_scripts.specs.Programs.{Runs}
-use Rattle.sdh_scripts.specs.Outcome.{OfPlan}
-use Rattle.sdh_scripts.proofs.Promises.{RunsAlone, NeverWrites}
-use Rattle.sdh_scripts.proofs.Deeds.{run_outcome, listing_writes}
+use Rattle.sdh_programs.specs.Programs.{Runs}
+use Rattle.sdh_programs.specs.Outcome.{OfPlan}
+use Rattle.sdh_programs.proofs.Promises.{RunsAlone, NeverWrites}
+use Rattle.sdh_programs.proofs.Deeds.{run_outcome, listing_writes}
 use Rattle.sdh_watch.specs.Lines.{watched_text}
 use Rattle.sdh_watch.specs.Plans.{watch_account, Tells}
 use Rattle.sdh_watch.specs.Headline.{watching}

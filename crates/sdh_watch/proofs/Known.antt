@@ -1,7 +1,7 @@
 -- What is reported with watches follows from the rounds of a settle step and the 128 after it.
 use Rattle.std.proofs.Common.{◌≡◌, ℕ, zero, suc, ◌+◌, ◌≤◌, ◌∷◌, refl, ap₂, arith}
 use Rattle.sdh_circuits.specs.declared.PortId.{PortId}
-use Rattle.sdh_world.specs.Rounds.{World}
+use Rattle.sdh_node.specs.Rings.Rounds.{World}
 use Rattle.sdh_scripts.specs.Laws.{KeepsRounds}
 use Rattle.sdh_owed.proofs.Known.{no_round}
 use Rattle.sdh_watch.specs.Watching.{given_at, heard_in, watched, watched_in}

@@ -5,10 +5,10 @@ use Rattle.std.proofs.lemmas.Option.{slice_get_within}
 use Rattle.sdh_circuits.specs.declared.PortId.{PortId}
 use Rattle.sdh_circuits.specs.declared.End.TheVariants.{A, B}
 use Rattle.sdh_circuits.specs.Ends.{port_id}
-use Rattle.sdh_world.specs.Held.{HeldRing}
-use Rattle.sdh_world.specs.Rounds.{World}
-use Rattle.sdh_world.specs.Runs.{IsRound}
-use Rattle.sdh_world.specs.Clocks.{waiting_at}
+use Rattle.sdh_node.specs.Rings.Held.{HeldRing}
+use Rattle.sdh_node.specs.Rings.Rounds.{World}
+use Rattle.sdh_node.specs.Rings.Runs.{IsRound}
+use Rattle.sdh_node.specs.Rings.Clocks.{waiting_at}
 use Rattle.sdh_node.specs.Stations.{adm}
 use Rattle.sdh_rounds.proofs.Runs.{held_round}
 use Rattle.sdh_rounds.proofs.Settling.{held_none}
@@ -17,7 +17,7 @@ use Rattle.sdh_scripts.proofs.Lists.{some_at}
 use Rattle.sdh_watch.specs.declared.ports.WatchPair.{WatchPair}
 use Rattle.sdh_watch.specs.Watching.{Lead, given_at}
 use Rattle.sdh_watch.specs.Ports.{AreWatching, AreFew, Looked, Shown}
-use Rattle.sdh_world.proofs.Waiting.{none_round}
+use Rattle.sdh_node.proofs.RingLaws.Waiting.{none_round}
 
 -- ---- the ring
 

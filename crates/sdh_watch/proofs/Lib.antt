@@ -9,4 +9,3 @@ pub mod Known
 pub mod Rounds
 pub mod Owing
 pub mod Settling
-pub mod Numbers

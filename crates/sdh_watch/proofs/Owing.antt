@@ -18,18 +18,19 @@ use Rattle.sdh_node.specs.Stations.{adm}
 use Rattle.sdh_rounds.specs.Runs as any_run
 use Rattle.sdh_rounds.proofs.Laws.{settled_numbers}
 use Rattle.sdh_rounds.proofs.Runs.{known_settles}
-use Rattle.sdh_world.specs.Held.{HeldRing, new_ring}
-use Rattle.sdh_world.specs.Rounds.{World, round}
-use Rattle.sdh_world.specs.Runs.{run, course}
-use Rattle.sdh_world.specs.Quiet.{is_calm, IsCalm, EndsWindow, Settles}
-use Rattle.sdh_promise.specs.Changes.{Change, Stretch, rounds_in, changes_of, scenes}
-use Rattle.sdh_promise.specs.Happened.{happened}
+use Rattle.sdh_node.specs.Rings.Held.{HeldRing, new_ring}
+use Rattle.sdh_node.specs.Rings.Rounds.{World, round}
+use Rattle.sdh_node.specs.Rings.Runs.{run, course}
+use Rattle.sdh_node.specs.Rings.Quiet.{is_calm, IsCalm, EndsWindow, Settles}
+use Rattle.sdh_restoration.specs.Changes.{Change, Stretch, rounds_in}
+use Rattle.sdh_promise.specs.Scenes.{changes_of, scenes}
+use Rattle.sdh_restoration.specs.Happened.{happened}
 use Rattle.sdh_promise.specs.Owed.{Ring, requests_by, owed_port, owed_ports, IsLast}
 use Rattle.sdh_promise.proofs.Rounds.{rounds_last}
-use Rattle.sdh_world.specs.Changes.{all_changed, after_stretches, new_world}
-use Rattle.sdh_world.specs.Clocks.{HasPortIn, clock_at, waiting_at, clock_in, first_clock, clocks_from, clocks_by}
-use Rattle.sdh_world.specs.Laws.{MayHappen}
-use Rattle.sdh_world.proofs.Clocks.{clocks_go_on, goes_run}
+use Rattle.sdh_node.specs.Rings.Changes.{all_changed, after_stretches, new_world}
+use Rattle.sdh_node.specs.Rings.Clocks.{HasPortIn, clock_at, waiting_at, clock_in, first_clock, clocks_from, clocks_by}
+use Rattle.sdh_node.specs.Rings.Laws.{MayHappen}
+use Rattle.sdh_node.proofs.RingLaws.Clocks.{clocks_go_on, goes_run}
 use Rattle.sdh_laws.specs.Hearing.Laws.{IsWhole, MayStart}
 use Rattle.sdh_laws.proofs.hearing.Changes.{new_worlds_are_whole}
 use Rattle.sdh_laws.proofs.hearing.Requests.{after_last}
@@ -49,8 +50,8 @@ use Rattle.sdh_plan.specs.declared.step.Step.{Step}
 use Rattle.sdh_plan.specs.declared.step.Step.TheVariants as step
 use Rattle.sdh_plan.specs.Steps.{Past, after}
 use Rattle.sdh_plan.specs.Scripts.{AreSteps}
-use Rattle.sdh_report.specs.declared.status.Status.{Status}
-use Rattle.sdh_report.specs.declared.status.Status.TheVariants as status
+use Rattle.sdh_status.specs.declared.Status.{Status}
+use Rattle.sdh_status.specs.declared.Status.TheVariants as status
 use Rattle.sdh_owed.specs.Laws.{ring_by}
 use Rattle.sdh_scripts.proofs.Outcomes.{refused_ends}
 use Rattle.sdh_owed.proofs.Ports.{due_told}

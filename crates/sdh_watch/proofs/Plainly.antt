@@ -7,10 +7,10 @@ use Rattle.sdh_payload.specs.declared.clock.Turn.{Turn}
 use Rattle.sdh_payload.specs.declared.clock.Turn.TheVariants.{Up, Down}
 use Rattle.sdh_payload.specs.Clock.{Clock, new_clock, waiting, with_waiting, ticked, ticks}
 use Rattle.sdh_payload.proofs.Clocking.{goes_on}
-use Rattle.sdh_promise.specs.Changes as change
-use Rattle.sdh_promise.specs.Changes.{Change, Stretch}
-use Rattle.sdh_world.specs.Clocks.{clock_after, clock_changed, clock_in, clocks_from, clock_at}
-use Rattle.sdh_world.specs.Rounds.{World}
+use Rattle.sdh_restoration.specs.Changes as change
+use Rattle.sdh_restoration.specs.Changes.{Change, Stretch}
+use Rattle.sdh_node.specs.Rings.Clocks.{clock_after, clock_changed, clock_in, clocks_from, clock_at}
+use Rattle.sdh_node.specs.Rings.Rounds.{World}
 use Rattle.sdh_path.specs.Laws.{BeginsAt}
 use Rattle.sdh_path.proofs.Clean.{clocks_are_in_step}
 use Rattle.sdh_laws.proofs.strangers.Straight.{small_ticked}

@@ -4,9 +4,9 @@ use Rattle.std.proofs.lemmas.List.{length_push}
 use Rattle.sdh_plant.specs.Fibres.{Arrival, Fibres}
 use Rattle.sdh_circuits.specs.declared.PortId.{PortId}
 use Rattle.sdh_node.specs.Stations.{adm}
-use Rattle.sdh_world.specs.Rounds.{World, round_with}
-use Rattle.sdh_world.specs.Runs.{run_with, course_with, ArriveIn, IsRound, IsBrokenOff}
-use Rattle.sdh_world.specs.Quiet.{Settles}
+use Rattle.sdh_node.specs.Rings.Rounds.{World, round_with}
+use Rattle.sdh_node.specs.Rings.Runs.{run_with, course_with, ArriveIn, IsRound, IsBrokenOff}
+use Rattle.sdh_node.specs.Rings.Quiet.{Settles}
 use Rattle.sdh_rounds.specs.Runs.{Arrive}
 use Rattle.sdh_rounds.proofs.Runs.{run_with_more, arrive_more, course_more, course_whole}
 use Rattle.sdh_scripts.specs.Scripts.{Ended, BreaksBehind}

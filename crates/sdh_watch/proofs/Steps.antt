@@ -3,10 +3,10 @@ use Rattle.std.proofs.Common.{◌≡◌, ◌≤◌, ℕ, ◌+◌, length, List, 
 use Rattle.sdh_plant.specs.Fibres.{IsPrepared}
 use Rattle.sdh_circuits.specs.declared.PortId.{PortId}
 use Rattle.sdh_rounds.specs.Laws.{EndsAtAMultiple}
-use Rattle.sdh_world.specs.Clocks.{waiting_at}
-use Rattle.sdh_world.specs.Held.{HeldRing}
-use Rattle.sdh_world.specs.Rounds.{World}
-use Rattle.sdh_world.specs.Quiet.{Settles}
+use Rattle.sdh_node.specs.Rings.Clocks.{waiting_at}
+use Rattle.sdh_node.specs.Rings.Held.{HeldRing}
+use Rattle.sdh_node.specs.Rings.Rounds.{World}
+use Rattle.sdh_node.specs.Rings.Quiet.{Settles}
 use Rattle.sdh_plan.specs.declared.step.Step.{Step}
 use Rattle.sdh_plan.specs.declared.step.Step.TheVariants as step
 use Rattle.sdh_path.specs.History.{Given}

@@ -2,13 +2,13 @@
 use Rattle.std.specs.Prelude.{ℕ, ◌≡◌, List, codes, Option, None}
 use Rattle.sdh_plant.specs.Fibres.{Fibres}
 use Rattle.sdh_plant.specs.Arrivals.{Knows}
-use Rattle.sdh_report.specs.declared.status.Status.{Status}
-use Rattle.sdh_report.specs.Statuses.{number_of}
+use Rattle.sdh_status.specs.declared.Status.{Status}
+use Rattle.sdh_status.specs.Numbers.{number_of}
 use Rattle.sdh_owed.specs.Plans.{world_of}
 use Rattle.sdh_shell.specs.Calls.{asked_to_run}
 use Rattle.sdh_shell.specs.Endings.{statuses}
-use Rattle.sdh_scripts.specs.Programs.{Runs, as_script, Program}
-use Rattle.sdh_scripts.specs.Headline.{EndsAs}
+use Rattle.sdh_programs.specs.Programs.{Runs, as_script, Program}
+use Rattle.sdh_programs.specs.Headline.{EndsAs}
 use Rattle.sdh_watch.specs.Shows.{Watched}
 use Rattle.sdh_watch.specs.Lines.{text_of}
 use Rattle.sdh_watch.specs.Plans.{IsRunOf, ran_of, MaySettle}

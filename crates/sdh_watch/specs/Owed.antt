@@ -4,11 +4,11 @@ use Rattle.std.specs.Prelude.{ℕ, ◌≡◌, ◌⊎◌, ◌+◌, ◌-◌, List,
 use Rattle.sdh_circuits.specs.declared.End.{End}
 use Rattle.sdh_payload.specs.Outlet.{Outlet}
 use Rattle.sdh_restoration.specs.Applied.{is_applied}
-use Rattle.sdh_report.specs.declared.status.Status.{Status}
-use Rattle.sdh_report.specs.declared.status.Status.TheVariants as status
-use Rattle.sdh_report.specs.Reports.{PortLine}
-use Rattle.sdh_promise.specs.Changes.{Change, Stretch, rounds_in}
-use Rattle.sdh_promise.specs.Happened.{happened}
+use Rattle.sdh_status.specs.declared.Status.{Status}
+use Rattle.sdh_status.specs.declared.Status.TheVariants as status
+use Rattle.sdh_status.specs.PortLine.{PortLine}
+use Rattle.sdh_restoration.specs.Changes.{Change, Stretch, rounds_in}
+use Rattle.sdh_restoration.specs.Happened.{happened}
 use Rattle.sdh_promise.specs.Owed.{Ring, requests_by, owed_ports, IsLast}
 use Rattle.sdh_path.specs.Laws.{clean_report}
 use Rattle.sdh_watch.specs.Shows.{shown, WatchLine, Watched}

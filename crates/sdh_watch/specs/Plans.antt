@@ -3,8 +3,8 @@ use Rattle.std.specs.Prelude.{ℕ, List, []}
 use Rattle.sdh_plant.specs.Fibres.{Fibres}
 use Rattle.sdh_node.specs.Node.{Node}
 use Rattle.sdh_plan.specs.Planned.{Planned}
-use Rattle.sdh_report.specs.declared.status.Status.{Status}
-use Rattle.sdh_promise.specs.Changes.{scenes}
+use Rattle.sdh_status.specs.declared.Status.{Status}
+use Rattle.sdh_promise.specs.Scenes.{scenes}
 use Rattle.sdh_promise.specs.Plans.{ring_of}
 use Rattle.sdh_scripts.specs.Plans.{Account, ReportsOwe}
 use Rattle.sdh_scripts.specs.Plans as plans

@@ -4,8 +4,8 @@ use Rattle.sdh_circuits.specs.declared.End.TheVariants.{A, B}
 use Rattle.sdh_circuits.specs.declared.PortId.{PortId}
 use Rattle.sdh_circuits.specs.Provisioned.{Provisioned}
 use Rattle.sdh_circuits.specs.Ends.{port_id}
-use Rattle.sdh_world.specs.Held.{HeldRing}
-use Rattle.sdh_world.specs.Rounds.{World}
+use Rattle.sdh_node.specs.Rings.Held.{HeldRing}
+use Rattle.sdh_node.specs.Rings.Rounds.{World}
 use Rattle.sdh_path.specs.History.{Given}
 use Rattle.sdh_path.specs.Kept.{CameBy}
 use Rattle.sdh_watch.specs.Watching.{given_at, Lead}

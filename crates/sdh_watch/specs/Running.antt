@@ -1,7 +1,7 @@
 -- When a script may be run with watches.
 use Rattle.std.specs.Prelude.{ℕ, ◌≡◌, List, length}
 use Rattle.sdh_plant.specs.Fibres.{Fibres}
-use Rattle.sdh_world.specs.Held.{HeldRing}
+use Rattle.sdh_node.specs.Rings.Held.{HeldRing}
 use Rattle.sdh_plan.specs.declared.step.Step.{Step}
 use Rattle.sdh_owed.specs.Running as ring
 use Rattle.sdh_watch.specs.declared.ports.WatchPair.{WatchPair}

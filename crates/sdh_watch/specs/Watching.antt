@@ -7,9 +7,9 @@ use Rattle.sdh_circuits.specs.Provisioned.{Provisioned, customer_at}
 use Rattle.sdh_payload.specs.declared.delivered.Delivered.{Delivered}
 use Rattle.sdh_payload.specs.declared.delivered.Delivered.TheVariants as delivered
 use Rattle.sdh_plant.specs.Fibres.{Fibres}
-use Rattle.sdh_world.specs.Held.{HeldRing, outlet_at}
-use Rattle.sdh_world.specs.Rounds.{World}
-use Rattle.sdh_world.specs.Runs.{IsRound, IsBrokenOff}
+use Rattle.sdh_node.specs.Rings.Held.{HeldRing, outlet_at}
+use Rattle.sdh_node.specs.Rings.Rounds.{World}
+use Rattle.sdh_node.specs.Rings.Runs.{IsRound, IsBrokenOff}
 use Rattle.sdh_path.specs.History.{Given, Chunk, Ais}
 use Rattle.sdh_path.specs.PathReports.{path_report_of}
 use Rattle.sdh_scripts.specs.Ports.{of_ports}

@@ -8,7 +8,7 @@ ghost use Rattle.sdh_circuits.specs.declared.End.TheVariants.{A, B};
 ghost use Rattle.sdh_circuits.specs.Provisioned.{customer_at};
 ghost use Rattle.sdh_plant.specs.Fibres.{IsPrepared};
 ghost use Rattle.sdh_circuits.specs.Ends.{other_end};
-ghost use Rattle.sdh_world.specs.Rounds.{world};
+ghost use Rattle.sdh_node.specs.Rings.Rounds.{world};
 ghost use Rattle.sdh_path.specs.History.{Given};
 ghost use Rattle.sdh_path.specs.Kept.{CameBy};
 ghost use Rattle.sdh_watch.specs.Watching.{given_at, port_watched, ports_watched, BreaksAmong};

@@ -6,8 +6,8 @@ ghost use Rattle.sdh_watch.specs.Headline.{watching};
 use crate::run::run_plan;
 use sdh_plan::Plan;
 use sdh_plant::Plant;
+use sdh_programs::RunsPlans;
 use sdh_report::Status;
-use sdh_scripts::RunsPlans;
 use sdh_shell::{EndedText, ended, is_run};
 use std::alloc::{AllocError, Global};
 

@@ -2,7 +2,7 @@
 ghost use Rattle.std.specs.Prelude.{◌≡◌, ◌+◌, ◌≤◌, ◌++◌, List, length};
 ghost use Rattle.sdh_circuits.specs.declared.PortId.{PortId};
 ghost use Rattle.sdh_node.specs.Node.{Node as AddDrop};
-ghost use Rattle.sdh_world.specs.Held.{HeldRing};
+ghost use Rattle.sdh_node.specs.Rings.Held.{HeldRing};
 ghost use Rattle.sdh_path.specs.History.{Given};
 ghost use Rattle.sdh_watch.specs.Shows.{Watched};
 ghost use Rattle.sdh_watch.specs.Watching.{watched};
@@ -16,8 +16,8 @@ use crate::ports::{WatchPair, put_watches, watch_rounds};
 use sdh_plan::Step;
 use sdh_plant::Plant;
 use sdh_report::Text;
-use sdh_ring::{PlantFault, Ring, SettleError, change};
-use sdh_scripts::{Runner, put_settle};
+use sdh_ring::{PlantFault, Ring, SettleError};
+use sdh_scripts::{Runner, change, put_settle};
 
 /// A ring, and the watches on its ports.
 #[derive(Drop)]

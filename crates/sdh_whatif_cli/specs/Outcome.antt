@@ -6,12 +6,12 @@ use Rattle.sdh_outside.specs.Reading.{TakesCount}
 use Rattle.sdh_plan.specs.Reasons.{reason_number}
 use Rattle.sdh_plan.specs.declared.reason.Reason.TheVariants as reason
 use Rattle.sdh_plan.specs.Planned.{Planned}
-use Rattle.sdh_report.specs.declared.status.Status.{Status}
-use Rattle.sdh_report.specs.declared.status.Status.TheVariants as status
+use Rattle.sdh_status.specs.declared.Status.{Status}
+use Rattle.sdh_status.specs.declared.Status.TheVariants as status
 use Rattle.sdh_report.specs.Lines.{own_line}
 use Rattle.sdh_report.specs.Statuses.{last_line}
 use Rattle.sdh_shell.specs.Reading.{HasNoPlan, TellsPlan}
-use Rattle.sdh_shell.specs.Writing.{Wrote}
+use Rattle.sdh_outside.specs.Writing.{Wrote}
 use Rattle.sdh_whatif_cli.specs.declared.ask.Ask.{Ask}
 use Rattle.sdh_whatif_cli.specs.Lines.{table_text}
 use Rattle.sdh_whatif_cli.specs.Own.{own_failures, first_unknown}

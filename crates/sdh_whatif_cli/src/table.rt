@@ -10,7 +10,7 @@ ghost use Rattle.sdh_whatif_cli.specs.Cases.{is_taken, are_told, entry_of, AreSm
 ghost use Rattle.sdh_whatif_cli.specs.Lines.{line_text, cases_text, head_record, table_text};
 ghost use Rattle.sdh_whatif_cli.specs.Singles.{singles_text};
 ghost use Rattle.sdh_whatif_cli.specs.Scenes.{IsScene};
-ghost use Rattle.sdh_shell.specs.Writing.{Wrote};
+ghost use Rattle.sdh_outside.specs.Writing.{Wrote};
 
 use crate::ask::{Ask, Depth, Form, Kind};
 use crate::forms::{Digits, Entry};
@@ -20,9 +20,8 @@ use crate::lines::{Case, put_head, put_line};
 use crate::own::OwnFailures;
 use crate::scene::Scene;
 use crate::singles::put_singles;
-use sdh_outside::{Sink, WriteFault};
+use sdh_outside::{Output, Sink, WriteFault};
 use sdh_plan::Plan;
-use sdh_shell::Output;
 use sdh_verdicts::{Failure, Sides, failure_at};
 
 // Returns the base of the numbers of cases, with `own` failures of the user's own.

@@ -3,7 +3,8 @@ ghost use Rattle.std.specs.Prelude.{◌≡◌, ◌≢◌, ◌⊎◌, ◌≤◌, 
 ghost use Rattle.std.specs.Io.KnownBytes.{IsAtEnd};
 ghost use Rattle.sdh_basics.specs.Causes.{Rose, IsCounted};
 ghost use Rattle.sdh_outside.specs.Reading.{TakesCount};
-ghost use Rattle.sdh_shell.specs.Writing.{Writes, Wrote};
+ghost use Rattle.sdh_shell.specs.Writing.{Writes};
+ghost use Rattle.sdh_outside.specs.Writing.{Wrote};
 ghost use Rattle.sdh_shell.specs.Calls.{words_of};
 ghost use Rattle.sdh_whatif_cli.specs.Words.{asked, own_texts, IsPart};
 ghost use Rattle.sdh_whatif_cli.specs.Laws.{LinesAreTrue};
@@ -15,11 +16,11 @@ use crate::line::Line;
 use crate::own::{OwnError, own_failures};
 use crate::scene::Scene;
 use crate::table::write_table;
-use sdh_outside::{Sink, Source, WriteFault};
+use sdh_outside::{Output, Sink, Source, WriteFault};
 use sdh_plan::{Plan, Reason};
 use sdh_report::laws::last_line_is_short;
 use sdh_report::{LINE_MAX, Status, Text};
-use sdh_shell::{NoPlan, Output, plan_in};
+use sdh_shell::{NoPlan, plan_in};
 use sdh_verdicts::Sides;
 use std::alloc::{AllocError, Global};
 

@@ -4,7 +4,10 @@ ghost use Rattle.sdh_plant.specs.Fibres.{HasNoFibres};
 use sdh_aps_cli::sdhaps;
 use sdh_cli::sdhring;
 use sdh_outside::{MemSink, MemSource};
-use sdh_plant::{FailingPlant, FibrePlant, Plant, PlantCall, RecordingPlant, ToldPlant};
+use sdh_plant::{
+    FailingPlant, FibrePlant, KeepingPlant, LendingPlant, Plant, PlantCall, RecordingPlant,
+    ToldPlant,
+};
 use sdh_retime_cli::retime;
 use sdh_ringmap::Rate;
 use sdh_sncp_cli::sdhpath;
@@ -42,6 +45,8 @@ pub(crate) enum Fibres {
     Recording(usize),
     /// Nothing comes out of them.
     Dark,
+    /// Honest, with what they carry kept beside them.
+    Kept,
 }
 
 /// What a call is given: its words, what its source has, its fibres, which reads and writes fail, counted from 1, how
@@ -135,7 +140,7 @@ fn watch<P: Plant>(
     sdhwatch(alloc, words, source, sink, plant)
 }
 
-fn signals<P: Plant>(
+fn signals<P: LendingPlant>(
     alloc: Global,
     words: &[String],
     source: &mut MemSource,
@@ -156,7 +161,7 @@ fn retiming(alloc: Global, words: &[String], source: &mut MemSource, sink: &mut 
 }
 
 // Returns the number, and the sink with what was written.
-fn call_over<P: Plant>(
+fn call_over<P: LendingPlant>(
     alloc: Global,
     given: Given<'_>,
     plant: &mut P,
@@ -182,6 +187,7 @@ fn call_over<P: Plant>(
 pub(crate) fn call(alloc: Global, given: Given<'_>) -> Result<(u8, MemSink), AllocError> {
     match given.fibres {
         Fibres::Honest => call_over(alloc, given, &mut FibrePlant::new()),
+        Fibres::Kept => call_over(alloc, given, &mut KeepingPlant::new(FibrePlant::new())),
         Fibres::Recording(room) => call_over(alloc, given, &mut RecordingPlant::new(room)),
         Fibres::Failing(call, number) => {
             let mut plant = FailingPlant::new(alloc, &[(call, number)])?;

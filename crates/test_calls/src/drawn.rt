@@ -2,9 +2,8 @@
 
 use crate::calls::all_right;
 use sdh_circuits::{Circuit, End, Slot};
-use sdh_cli::big_plan;
 use sdh_payload::Port;
-use sdh_plan::{Plan, Step};
+use sdh_plan::{Plan, Step, big_plan};
 use sdh_request::Moment;
 use sdh_ringmap::{Condition, FibreEvent, Pos, Rate, Side, Span};
 use std::alloc::{AllocError, Global};

@@ -11,6 +11,8 @@ mod faults;
 #[cfg(test)]
 mod losses;
 #[cfg(test)]
+mod rows;
+#[cfg(test)]
 mod streams;
 #[cfg(test)]
 mod sweeps;

@@ -3,6 +3,8 @@
 #![tactic(auto)]
 
 #[cfg(test)]
+mod plants;
+#[cfg(test)]
 mod rings;
 #[cfg(test)]
 mod scripts;

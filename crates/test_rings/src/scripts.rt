@@ -22,8 +22,8 @@ pub(crate) enum Step {
     Settle,
 }
 
-// Returns the letter that a port delivers, and a dash for AIS.
-fn letter(ring: &Ring, circuit: u8, end: End) -> u8 {
+/// Returns the letter that a port delivers, and a dash for AIS.
+pub(crate) fn letter(ring: &Ring, circuit: u8, end: End) -> u8 {
     if circuit as usize >= ring.circuits().len() {
         return b'?';
     }

@@ -1,7 +1,7 @@
 use Rattle.std.proofs.Common.{length, refl, subst}
 use Rattle.sdh_plant.specs.Fibres.{IsPrepared}
-use Rattle.sdh_world.specs.Held.{HeldRing}
-use Rattle.sdh_world.specs.Rounds.{world}
+use Rattle.sdh_node.specs.Rings.Held.{HeldRing}
+use Rattle.sdh_node.specs.Rings.Rounds.{world}
 use Rattle.sdh_ring.proofs.Turns.{held_more}
 use Rattle.sdh_bench_ring.proofs.run.Goals as goal
 

@@ -1,7 +1,7 @@
 use Rattle.std.proofs.Common.{◌≡◌, false, length, sym, subst, rules}
 use Rattle.sdh_request.specs.declared.settings.Settings.{Settings}
 use Rattle.sdh_plant.specs.Fibres.{IsPrepared}
-use Rattle.sdh_world.specs.Rounds.{world}
+use Rattle.sdh_node.specs.Rings.Rounds.{world}
 use Rattle.sdh_bench_ring.proofs.Staying.{stays_step}
 use Rattle.sdh_bench_ring.proofs.settle_often.Goals as goal
 

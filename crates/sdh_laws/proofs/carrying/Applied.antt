@@ -18,14 +18,14 @@ use Rattle.sdh_request.specs.Kept.{kept_request}
 use Rattle.sdh_signal.specs.Signals.{request_on, no_needs}
 use Rattle.sdh_node.specs.Crossing.{is_failed}
 use Rattle.sdh_node.specs.Node.{receiving_on, needed}
-use Rattle.sdh_world.specs.Rounds.{World, round}
+use Rattle.sdh_node.specs.Rings.Rounds.{World, round}
 use Rattle.sdh_laws.specs.Hearing.Signalling.{needs_in}
 use Rattle.sdh_laws.specs.Hearing.Laws.{IsWhole}
 use Rattle.sdh_laws.proofs.hearing.Nodes.{count, length-after}
 use Rattle.sdh_laws.proofs.hearing.Signalling.{needs_at, request_is}
 use Rattle.sdh_laws.specs.Carrying.Windows.{requests_of}
 use Rattle.sdh_laws.specs.Carrying.Laws.{FailuresAreApplied}
-use Rattle.sdh_world.specs.Held.{node_at}
+use Rattle.sdh_node.specs.Rings.Held.{node_at}
 
 -- ---- the request of a side that fails
 

@@ -10,14 +10,14 @@ use Rattle.sdh_payload.specs.Clock.{Clock, next_form, after_form, ticked}
 use Rattle.sdh_pointer.specs.Laws.{lasting_state}
 use Rattle.sdh_pointer.specs.Sending.{next_sending}
 use Rattle.sdh_pointer.proofs.Sent.{next_by_action}
-use Rattle.sdh_squelch.specs.declared.connecting.Origin.TheVariants.{Add}
+use Rattle.sdh_bridge.specs.declared.Origin.TheVariants.{Add}
 use Rattle.sdh_terminal.specs.Passing.{Input, no_input}
 use Rattle.sdh_terminal.specs.Tributaries.{Tributary, action_of, sent_by, sent_in, input_by, port_of}
 use Rattle.sdh_node.specs.Node.{Node, sending_on}
-use Rattle.sdh_world.specs.Held.{node_at}
-use Rattle.sdh_world.specs.Rounds.{World, round}
-use Rattle.sdh_world.specs.Quiet.{is_calm}
-use Rattle.sdh_world.proofs.Clocks.{clock_of, Follows, node_next}
+use Rattle.sdh_node.specs.Rings.Held.{node_at}
+use Rattle.sdh_node.specs.Rings.Rounds.{World, round}
+use Rattle.sdh_node.specs.Rings.Quiet.{is_calm}
+use Rattle.sdh_node.proofs.RingLaws.Clocks.{clock_of, Follows, node_next}
 use Rattle.sdh_laws.specs.Hearing.Laws.{IsWhole}
 use Rattle.sdh_laws.proofs.hearing.Nodes.{informed, nodes_after, length-after}
 use Rattle.sdh_laws.proofs.hearing.Rounds.{whole_round}

@@ -8,8 +8,8 @@ use Rattle.sdh_ringmap.specs.declared.Side.TheVariants.{West}
 use Rattle.sdh_circuits.specs.Provisioned.{Provisioned}
 use Rattle.sdh_squelch.specs.Table.{circuits_at}
 use Rattle.sdh_nodestate.specs.declared.NodeState.{NodeState}
-use Rattle.sdh_squelch.specs.declared.connecting.Origin.TheVariants.{Protection}
-use Rattle.sdh_squelch.specs.Connections.{stands_for, leaves_working, leaves_protection}
+use Rattle.sdh_bridge.specs.declared.Origin.TheVariants.{Protection}
+use Rattle.sdh_bridge.specs.Connections.{stands_for, leaves_working, leaves_protection}
 use Rattle.sdh_signal.specs.Walks.{stands_in, working_in, protection_in}
 use Rattle.sdh_request.specs.declared.settings.Settings.{Settings}
 use Rattle.sdh_node.specs.Receiving.{after_intake, after_overhead}
@@ -17,11 +17,11 @@ use Rattle.sdh_terminal.specs.Lines.{received}
 use Rattle.sdh_terminal.specs.Tributaries.{tributaries_at}
 use Rattle.sdh_node.specs.Crossing.{Cross, after_decision, half_of, circuit_in, slot_of, leaving, feeder_of, leads, drops}
 use Rattle.sdh_node.specs.Node.{Node, new_node, crossing, after_crossing, with_calm, node_round}
-use Rattle.sdh_world.specs.Held.{nowhere, node_at}
-use Rattle.sdh_world.specs.Fixed.{Fixed, fixed}
+use Rattle.sdh_node.specs.Rings.Held.{nowhere, node_at}
+use Rattle.sdh_node.specs.Rings.Fixed.{Fixed, fixed}
 use Rattle.sdh_terminal.specs.Fixed.{fixed_port}
-use Rattle.sdh_world.specs.Rounds.{World, round, node_after}
-use Rattle.sdh_world.proofs.Keeping.{node_is}
+use Rattle.sdh_node.specs.Rings.Rounds.{World, round, node_after}
+use Rattle.sdh_node.proofs.RingLaws.Keeping.{node_is}
 use Rattle.sdh_laws.specs.Hearing.Signalling.{crossing_at, lines_at}
 use Rattle.sdh_laws.specs.Hearing.Laws.{IsWhole}
 use Rattle.sdh_laws.proofs.hearing.Nodes.{informed, count, listening_at, nodes_after}

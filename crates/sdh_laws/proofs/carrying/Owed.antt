@@ -19,9 +19,9 @@ use Rattle.sdh_payload.proofs.Clocking.{goes_plain}
 use Rattle.sdh_payload.specs.Clock.{Clock, IsClock, waiting, next_form, ticks}
 use Rattle.sdh_nodestate.specs.declared.NodeState.{NodeState}
 use Rattle.sdh_nodestate.specs.declared.NodeState.TheVariants as state
-use Rattle.sdh_squelch.specs.declared.connecting.Origin.{Origin}
-use Rattle.sdh_squelch.specs.declared.connecting.Origin.TheVariants.{Add, Working, Protection, Ais}
-use Rattle.sdh_squelch.specs.Connections.{stands_for}
+use Rattle.sdh_bridge.specs.declared.Origin.{Origin}
+use Rattle.sdh_bridge.specs.declared.Origin.TheVariants.{Add, Working, Protection, Ais}
+use Rattle.sdh_bridge.specs.Connections.{stands_for}
 use Rattle.sdh_restoration.specs.Applied.{is_applied}
 use Rattle.sdh_signal.specs.Settled.{settled}
 use Rattle.sdh_restoration.specs.Routes.{hops}
@@ -37,12 +37,12 @@ use Rattle.sdh_terminal.specs.Tributaries.{Tributary, sent_in, input_by, added_b
 use Rattle.sdh_terminal.specs.Lines.{fed_by, dropped_by}
 use Rattle.sdh_node.specs.Crossing.{Cross, feeder_of, lines_of, dropped_at}
 use Rattle.sdh_node.specs.Node.{Node, crossing, ports_after, after_crossing, with_calm, node_round}
-use Rattle.sdh_world.specs.Held.{outlet_at, place_of_port, nowhere, node_at}
-use Rattle.sdh_world.specs.Clocks.{port_in, HasPortIn, clock_at, clocks_from}
-use Rattle.sdh_world.proofs.Clocks.{clock_of, goes_run}
+use Rattle.sdh_node.specs.Rings.Held.{outlet_at, place_of_port, nowhere, node_at}
+use Rattle.sdh_node.specs.Rings.Clocks.{port_in, HasPortIn, clock_at, clocks_from}
+use Rattle.sdh_node.proofs.RingLaws.Clocks.{clock_of, goes_run}
 use Rattle.sdh_terminal.proofs.Found.{found_has}
-use Rattle.sdh_world.specs.Rounds.{World, round, node_after}
-use Rattle.sdh_world.specs.Runs.{run}
+use Rattle.sdh_node.specs.Rings.Rounds.{World, round, node_after}
+use Rattle.sdh_node.specs.Rings.Runs.{run}
 use Rattle.sdh_laws.specs.Hearing.Signalling.{crossing_at}
 use Rattle.sdh_laws.specs.Hearing.Laws.{IsWhole, NoneWait}
 use Rattle.sdh_laws.proofs.hearing.Nodes.{informed, count, length-after, listening_at, nodes_after}

@@ -10,11 +10,11 @@ use Rattle.sdh_nodestate.specs.declared.NodeState.{NodeState}
 use Rattle.sdh_restoration.specs.Applied.{span_requests, is_applied}
 use Rattle.sdh_signal.specs.Settled.{settled, settled_states}
 use Rattle.sdh_signal.specs.Laws.{StillRingsAreSettled}
-use Rattle.sdh_world.specs.Rounds.{World, round}
-use Rattle.sdh_world.specs.Runs.{run, course}
-use Rattle.sdh_world.specs.Quiet.{IsCalm, EndsWindow}
-use Rattle.sdh_promise.specs.Changes.{Change, Fibre, Order, Hold, Slip, Now, Stretch, rounds_in}
-use Rattle.sdh_world.specs.Changes.{changed, all_changed, after_stretch, after_stretches, new_world}
+use Rattle.sdh_node.specs.Rings.Rounds.{World, round}
+use Rattle.sdh_node.specs.Rings.Runs.{run, course}
+use Rattle.sdh_node.specs.Rings.Quiet.{IsCalm, EndsWindow}
+use Rattle.sdh_restoration.specs.Changes.{Change, Fibre, Order, Hold, Slip, Now, Stretch, rounds_in}
+use Rattle.sdh_node.specs.Rings.Changes.{changed, all_changed, after_stretch, after_stretches, new_world}
 use Rattle.sdh_rounds.proofs.Runs.{known_settles}
 use Rattle.sdh_laws.specs.Hearing.Signalling.{signals_of}
 use Rattle.sdh_payload.specs.Clock.{Clock, ticks}
@@ -31,11 +31,11 @@ use Rattle.sdh_plant.specs.Fibres.{Fibres}
 use Rattle.sdh_request.specs.declared.settings.Settings.{Settings}
 use Rattle.sdh_signal.specs.Walks.{port_at}
 use Rattle.sdh_signal.proofs.Ways.{short, few_hops, end_inside}
-use Rattle.sdh_world.specs.Sides.{world_in}
-use Rattle.sdh_world.specs.Laws.{MayHappen}
-use Rattle.sdh_world.specs.Clocks.{clock_in, clocks_by, HasPortIn, clock_at, clocks_from}
-use Rattle.sdh_world.proofs.Clocks.{goes_run, goes_in, clocks_go_on}
-use Rattle.sdh_promise.specs.Owed.{asked_in}
+use Rattle.sdh_node.specs.Rings.Sides.{world_in}
+use Rattle.sdh_node.specs.Rings.Laws.{MayHappen}
+use Rattle.sdh_node.specs.Rings.Clocks.{clock_in, clocks_by, HasPortIn, clock_at, clocks_from}
+use Rattle.sdh_node.proofs.RingLaws.Clocks.{goes_run, goes_in, clocks_go_on}
+use Rattle.sdh_restoration.specs.Sides.{asked_in}
 use Rattle.sdh_laws.specs.Hearing.Laws.{IsWhole, MayStart}
 use Rattle.sdh_laws.proofs.hearing.Staying.{left_all, left_run, left_stretches, world_low, world_high}
 use Rattle.sdh_laws.proofs.hearing.Changes.{whole_run, new_worlds_are_whole}
@@ -48,7 +48,7 @@ use Rattle.sdh_laws.proofs.carrying.Applied.{failures_applied, length-requests_o
 use Rattle.sdh_laws.proofs.carrying.Owed.{quiet_delivers, port_is_there}
 use Rattle.sdh_laws.proofs.carrying.Ways.{layout_run}
 use Rattle.sdh_laws.proofs.converging.Runs.{nodes_run}
-use Rattle.sdh_world.specs.Held.{nowhere}
+use Rattle.sdh_node.specs.Rings.Held.{nowhere}
 use Rattle.sdh_node.specs.Stations.{adm}
 use Rattle.sdh_rounds.specs.Runs as any_run
 use Rattle.sdh_circuits.proofs.Rings.{circuits_are}

@@ -29,10 +29,10 @@ use Rattle.sdh_spans.proofs.Spans.{spans_take_words, spans_bring}
 use Rattle.sdh_node.specs.Same.{Compared}
 use Rattle.sdh_node.specs.Crossing.{lines_of, leads, input_at, is_failed}
 use Rattle.sdh_node.specs.Node.{Node, receiving_on, sending_on, crossing, word_of, compared}
-use Rattle.sdh_world.specs.Held.{node_at}
-use Rattle.sdh_world.specs.Rounds.{World, round}
-use Rattle.sdh_world.specs.Quiet.{is_calm}
-use Rattle.sdh_world.specs.Sides.{condition_to}
+use Rattle.sdh_node.specs.Rings.Held.{node_at}
+use Rattle.sdh_node.specs.Rings.Rounds.{World, round}
+use Rattle.sdh_node.specs.Rings.Quiet.{is_calm}
+use Rattle.sdh_node.specs.Rings.Sides.{condition_to}
 use Rattle.sdh_laws.specs.Hearing.Signalling.{lines_at}
 use Rattle.sdh_laws.specs.Hearing.Laws.{IsWhole}
 use Rattle.sdh_laws.proofs.hearing.OneNode.{puts, said_on, frame_is, sending_after, said_is, said_sender, node_sends}

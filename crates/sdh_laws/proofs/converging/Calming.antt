@@ -4,11 +4,11 @@ use Rattle.sdh_ringmap.specs.declared.Side.{Side}
 use Rattle.sdh_ringmap.specs.declared.Side.TheVariants.{West, East}
 use Rattle.sdh_nodestate.specs.Filtering.{hears}
 use Rattle.sdh_node.specs.Node.{Node, receiving_on, sending_on, is_held, compared, word_of}
-use Rattle.sdh_world.specs.Rounds.{World, round}
-use Rattle.sdh_world.specs.Quiet.{is_calm}
+use Rattle.sdh_node.specs.Rings.Rounds.{World, round}
+use Rattle.sdh_node.specs.Rings.Quiet.{is_calm}
 use Rattle.sdh_laws.specs.Hearing.Laws.{IsWhole}
 use Rattle.sdh_laws.proofs.hearing.Signalling.{calm_where_same}
-use Rattle.sdh_world.specs.Held.{node_at, AtEach}
+use Rattle.sdh_node.specs.Rings.Held.{node_at, AtEach}
 
 -- all that is compared of two nodes is equal, side by side
 pub record AreSame (a b : Node) : Type 0 where

@@ -12,10 +12,10 @@ use Rattle.sdh_nodestate.specs.declared.Sent.{Sent}
 use Rattle.sdh_nodestate.specs.Filtering.{Brought, with_brought}
 use Rattle.sdh_node.specs.Node.{Node, receiving_on, sent_of, word_of}
 use Rattle.sdh_rounds.specs.Runs as any_run
-use Rattle.sdh_world.specs.Held.{node_at}
-use Rattle.sdh_world.specs.Rounds.{World, round}
-use Rattle.sdh_world.specs.Runs.{run}
-use Rattle.sdh_world.specs.Sides.{condition_to}
+use Rattle.sdh_node.specs.Rings.Held.{node_at}
+use Rattle.sdh_node.specs.Rings.Rounds.{World, round}
+use Rattle.sdh_node.specs.Rings.Runs.{run}
+use Rattle.sdh_node.specs.Rings.Sides.{condition_to}
 use Rattle.sdh_laws.specs.Hearing.Signalling.{word_to}
 use Rattle.sdh_laws.specs.Hearing.Laws.{IsWhole}
 use Rattle.sdh_laws.proofs.hearing.Changes.{whole_run}

@@ -9,9 +9,9 @@ use Rattle.sdh_signal.specs.Signals.{requests_in, request_on, no_needs}
 use Rattle.sdh_signal.specs.Laws.{RingsSettle}
 use Rattle.sdh_nodestate.specs.Filtering.{Brought, hears, heard_of}
 use Rattle.sdh_node.specs.Node.{receiving_on, sending_on, word_of, sent_of}
-use Rattle.sdh_world.specs.Rounds.{World, round}
-use Rattle.sdh_world.specs.Runs.{run, course}
-use Rattle.sdh_world.specs.Quiet.{IsCalm}
+use Rattle.sdh_node.specs.Rings.Rounds.{World, round}
+use Rattle.sdh_node.specs.Rings.Runs.{run, course}
+use Rattle.sdh_node.specs.Rings.Quiet.{IsCalm}
 use Rattle.sdh_rounds.proofs.Runs.{known_unsettles}
 use Rattle.sdh_laws.specs.Hearing.Signalling.{word_to, signals_of, needs_in}
 use Rattle.sdh_laws.specs.Hearing.Laws.{IsWhole, GetsStill}
@@ -32,8 +32,8 @@ use Rattle.sdh_laws.proofs.converging.Runs.{length_run, condition_run, run_more,
 use Rattle.sdh_laws.proofs.converging.Spreading.{pointers_rest}
 use Rattle.sdh_laws.proofs.converging.Windows.{calm_ends_windows, answers_by}
 use Rattle.sdh_laws.proofs.converging.Calming.{AreSame, calm_round}
-use Rattle.sdh_world.specs.Held.{node_at}
-use Rattle.sdh_world.specs.Sides.{condition_to}
+use Rattle.sdh_node.specs.Rings.Held.{node_at}
+use Rattle.sdh_node.specs.Rings.Sides.{condition_to}
 use Rattle.sdh_node.specs.Stations.{adm}
 use Rattle.sdh_rounds.specs.Runs as any_run
 use Rattle.sdh_laws.proofs.resting.Signals.{same_at}

@@ -10,8 +10,8 @@ use Rattle.sdh_ringmap.specs.declared.Side.TheVariants.{West, East}
 use Rattle.sdh_ringmap.specs.Places.{neighbour, opposite, position_of}
 use Rattle.sdh_circuits.specs.Provisioned.{Provisioned}
 use Rattle.sdh_circuits.specs.Provisioning.{Provisioning}
-use Rattle.sdh_squelch.specs.declared.connecting.Origin.{Origin}
-use Rattle.sdh_squelch.specs.declared.connecting.Origin.TheVariants.{Add, Working, Protection, Ais}
+use Rattle.sdh_bridge.specs.declared.Origin.{Origin}
+use Rattle.sdh_bridge.specs.declared.Origin.TheVariants.{Add, Working, Protection, Ais}
 use Rattle.sdh_signal.specs.Law.{Ends, all_idle}
 use Rattle.sdh_signal.specs.Walks.{Stand, stand, IsOver, IsArrival, Leads, back_from, working_in, protection_in}
 use Rattle.sdh_signal.proofs.Idle.{idle_walks_are_short}
@@ -30,8 +30,8 @@ use Rattle.sdh_ringmap.specs.Fibres.{is_cut}
 use Rattle.sdh_request.specs.declared.settings.Settings.{Settings}
 use Rattle.sdh_terminal.specs.Passing.{Input}
 use Rattle.sdh_node.specs.Node.{Node, receiving_on, sending_on, new_node}
-use Rattle.sdh_world.specs.Rounds.{World}
-use Rattle.sdh_world.specs.Runs.{run}
+use Rattle.sdh_node.specs.Rings.Rounds.{World}
+use Rattle.sdh_node.specs.Rings.Runs.{run}
 use Rattle.sdh_laws.specs.Hearing.Laws.{IsWhole, MayStart}
 use Rattle.sdh_laws.proofs.hearing.Rounds.{reads}
 use Rattle.sdh_laws.specs.Carrying.Windows.{layout_of, HasCircuits}
@@ -42,9 +42,9 @@ use Rattle.sdh_laws.proofs.converging.Ports.{IsSent, source_at, source_small, so
 use Rattle.sdh_laws.proofs.converging.Spreading.{two_halves, working_goes, protection_goes, protection_comes, inside_of, beside}
 use Rattle.sdh_laws.proofs.converging.Spreading.{generators_many, readings_many}
 use Rattle.sdh_laws.proofs.converging.HealthySignals.{begin_whole, size, new_is, new_unslipped, clear_begin, healthy}
-use Rattle.sdh_world.specs.Held.{node_at}
-use Rattle.sdh_world.specs.Sides.{condition_to}
-use Rattle.sdh_world.specs.Changes.{new_world}
+use Rattle.sdh_node.specs.Rings.Held.{node_at}
+use Rattle.sdh_node.specs.Rings.Sides.{condition_to}
+use Rattle.sdh_node.specs.Rings.Changes.{new_world}
 use Rattle.sdh_rounds.specs.Runs as any_run
 
 -- ---- what comes over h spans from a source

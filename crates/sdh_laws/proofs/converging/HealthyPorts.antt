@@ -8,18 +8,18 @@ use Rattle.sdh_payload.specs.Clock.{ticks}
 use Rattle.sdh_plant.specs.Fibres.{Fibres}
 use Rattle.sdh_signal.proofs.Ways.{end_inside}
 use Rattle.sdh_request.specs.declared.settings.Settings.{Settings}
-use Rattle.sdh_world.specs.Clocks.{first_clock, clocks_by, HasPortIn, clocks_from}
-use Rattle.sdh_world.proofs.Clocks.{clocks_go_on}
+use Rattle.sdh_node.specs.Rings.Clocks.{first_clock, clocks_by, HasPortIn, clocks_from}
+use Rattle.sdh_node.proofs.RingLaws.Clocks.{clocks_go_on}
 use Rattle.sdh_laws.proofs.carrying.Owed.{port_is_there}
 use Rattle.sdh_restoration.specs.Applied.{is_applied}
 use Rattle.sdh_circuits.specs.Ends.{other_end, port_id}
 use Rattle.sdh_laws.specs.Carrying.Laws.{due_by_clocks}
 use Rattle.sdh_signal.specs.Laws.{StillRingsAreSettled}
-use Rattle.sdh_world.specs.Held.{outlet_at}
-use Rattle.sdh_world.specs.Rounds.{World}
-use Rattle.sdh_world.specs.Runs.{run, course}
-use Rattle.sdh_world.specs.Quiet.{EndsWindow}
-use Rattle.sdh_world.specs.Changes.{new_world}
+use Rattle.sdh_node.specs.Rings.Held.{outlet_at}
+use Rattle.sdh_node.specs.Rings.Rounds.{World}
+use Rattle.sdh_node.specs.Rings.Runs.{run, course}
+use Rattle.sdh_node.specs.Rings.Quiet.{EndsWindow}
+use Rattle.sdh_node.specs.Rings.Changes.{new_world}
 use Rattle.sdh_laws.proofs.hearing.Staying.{left_run}
 use Rattle.sdh_laws.specs.Carrying.Windows.{requests_of}
 use Rattle.sdh_laws.proofs.carrying.Settles.{window_restores, due_by}

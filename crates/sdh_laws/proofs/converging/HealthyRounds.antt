@@ -9,10 +9,10 @@ use Rattle.sdh_restoration.specs.Applied.{span_requests, highest, applies, is_ap
 use Rattle.sdh_circuits.specs.Provisioning.{Provisioning}
 use Rattle.sdh_plant.specs.Fibres.{Fibres}
 use Rattle.sdh_request.specs.declared.settings.Settings.{Settings}
-use Rattle.sdh_world.specs.Rounds.{World}
-use Rattle.sdh_world.specs.Runs.{run, course}
-use Rattle.sdh_world.specs.Quiet.{is_calm, IsCalm, EndsWindow, SettlesAt, settles_in}
-use Rattle.sdh_world.specs.Changes.{after_stretches, new_world}
+use Rattle.sdh_node.specs.Rings.Rounds.{World}
+use Rattle.sdh_node.specs.Rings.Runs.{run, course}
+use Rattle.sdh_node.specs.Rings.Quiet.{is_calm, IsCalm, EndsWindow, SettlesAt, settles_in}
+use Rattle.sdh_node.specs.Rings.Changes.{after_stretches, new_world}
 use Rattle.sdh_rounds.proofs.FirstWindows.{settles_only, never_only}
 use Rattle.sdh_laws.specs.Hearing.Laws.{MayStart}
 use Rattle.sdh_laws.proofs.hearing.Changes.{whole_run}
@@ -24,7 +24,7 @@ use Rattle.sdh_laws.proofs.converging.Runs.{length_run, run_more}
 use Rattle.sdh_laws.proofs.converging.Calming.{AreSame, calm_round}
 use Rattle.sdh_laws.proofs.converging.HealthySignals.{begin_whole, size, healthy, request_none, heard_first, free_in}
 use Rattle.sdh_laws.proofs.converging.HealthyPointers.{still_pointers}
-use Rattle.sdh_world.specs.Held.{node_at}
+use Rattle.sdh_node.specs.Rings.Held.{node_at}
 use Rattle.sdh_node.specs.Stations.{adm}
 use Rattle.sdh_rounds.specs.Runs as any_run
 

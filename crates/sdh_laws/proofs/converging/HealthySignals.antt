@@ -26,14 +26,14 @@ use Rattle.sdh_nodestate.proofs.Filtering.{heard_last}
 use Rattle.sdh_kbytes.proofs.SameWords.{agrees_itself}
 use Rattle.sdh_node.specs.Crossing.{is_failed}
 use Rattle.sdh_node.specs.Node.{Node, receiving_on, new_node, is_held, word_of, needed}
-use Rattle.sdh_world.specs.Held.{new_nodes, nowhere, node_at}
-use Rattle.sdh_world.specs.Rounds.{World, node_after}
-use Rattle.sdh_world.specs.Runs.{run}
-use Rattle.sdh_promise.specs.Changes.{Stretch}
-use Rattle.sdh_world.specs.Changes.{new_world}
-use Rattle.sdh_world.specs.Laws.{MayHappen}
-use Rattle.sdh_promise.specs.Sides.{new_holding, holding_in, side_history}
-use Rattle.sdh_world.specs.Sides.{condition_to}
+use Rattle.sdh_node.specs.Rings.Held.{new_nodes, nowhere, node_at}
+use Rattle.sdh_node.specs.Rings.Rounds.{World, node_after}
+use Rattle.sdh_node.specs.Rings.Runs.{run}
+use Rattle.sdh_restoration.specs.Changes.{Stretch}
+use Rattle.sdh_node.specs.Rings.Changes.{new_world}
+use Rattle.sdh_node.specs.Rings.Laws.{MayHappen}
+use Rattle.sdh_restoration.specs.Sides.{new_holding, holding_in, side_history}
+use Rattle.sdh_node.specs.Rings.Sides.{condition_to}
 use Rattle.sdh_laws.specs.Hearing.Signalling.{word_to}
 use Rattle.sdh_laws.specs.Hearing.Laws.{IsWhole, MayStart, NoneWait}
 use Rattle.sdh_laws.proofs.hearing.Clocks.{new_none}

@@ -13,8 +13,8 @@ use Rattle.sdh_circuits.specs.Provisioned.{Provisioned}
 use Rattle.sdh_circuits.specs.Provisioning.{HasOffsets}
 use Rattle.sdh_payload.specs.Clock.{Clock, IsClock, waiting, ticked, ticks}
 use Rattle.sdh_payload.proofs.Clocking.{form_ticked, goes_plain, plain_tick, goes_on}
-use Rattle.sdh_squelch.specs.declared.connecting.Origin.{Origin}
-use Rattle.sdh_squelch.specs.declared.connecting.Origin.TheVariants.{Add, Working, Protection, Ais}
+use Rattle.sdh_bridge.specs.declared.Origin.{Origin}
+use Rattle.sdh_bridge.specs.declared.Origin.TheVariants.{Add, Working, Protection, Ais}
 use Rattle.sdh_pointer.specs.declared.reading.Action.{Action}
 use Rattle.sdh_pointer.specs.declared.reading.Action.TheVariants as action
 use Rattle.sdh_pointer.specs.Spreading.{IsSmall}
@@ -27,9 +27,9 @@ use Rattle.sdh_node.specs.Node.{Node, crossing, ports_after, after_crossing, wit
 use Rattle.sdh_terminal.proofs.Ports.{clock-next}
 use Rattle.sdh_node.specs.Crossing.{dropped_to, all_delivered}
 use Rattle.sdh_terminal.specs.Fixed.{FixedPort, fixed_port}
-use Rattle.sdh_world.specs.Held.{node_at}
-use Rattle.sdh_world.specs.Rounds.{World, round}
-use Rattle.sdh_world.specs.Runs.{run}
+use Rattle.sdh_node.specs.Rings.Held.{node_at}
+use Rattle.sdh_node.specs.Rings.Rounds.{World, round}
+use Rattle.sdh_node.specs.Rings.Runs.{run}
 use Rattle.sdh_terminal.proofs.Found.{found_has}
 use Rattle.sdh_laws.specs.Hearing.Laws.{IsWhole, NoneWait}
 use Rattle.sdh_laws.proofs.hearing.Nodes.{informed, count, nodes_after}

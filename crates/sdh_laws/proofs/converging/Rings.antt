@@ -16,11 +16,11 @@ use Rattle.sdh_payload.specs.Clock.{Clock, waiting}
 use Rattle.sdh_plant.specs.Fibres.{Fibres, IsHonest}
 use Rattle.sdh_ringmap.specs.Fibres.{IsConditionAt}
 use Rattle.sdh_request.specs.declared.settings.Settings.{Settings}
-use Rattle.sdh_world.specs.Clocks.{first_clock, waiting_at}
-use Rattle.sdh_promise.specs.Changes.{Fibre, Slip, Stretch}
-use Rattle.sdh_world.specs.Changes.{after_stretch, new_world}
-use Rattle.sdh_world.specs.Laws.{MayHappen}
-use Rattle.sdh_world.proofs.Clocks.{clocks_go_on}
+use Rattle.sdh_node.specs.Rings.Clocks.{first_clock, waiting_at}
+use Rattle.sdh_restoration.specs.Changes.{Fibre, Slip, Stretch}
+use Rattle.sdh_node.specs.Rings.Changes.{after_stretch, new_world}
+use Rattle.sdh_node.specs.Rings.Laws.{MayHappen}
+use Rattle.sdh_node.proofs.RingLaws.Clocks.{clocks_go_on}
 use Rattle.sdh_laws.specs.Hearing.Laws.{MayStart}
 use Rattle.sdh_laws.proofs.hearing.Changes.{new_worlds_are_whole}
 use Rattle.sdh_laws.proofs.hearing.Staying.{left_stretch}

@@ -8,8 +8,8 @@ use Rattle.sdh_pointer.specs.Reading.{start}
 use Rattle.sdh_pointer.specs.Sending.{word_sent, next_sending}
 use Rattle.sdh_pointer.specs.Laws.{lasting_state}
 use Rattle.sdh_node.specs.Node.{receiving_on, sending_on}
-use Rattle.sdh_world.specs.Rounds.{World}
-use Rattle.sdh_world.specs.Runs.{run}
+use Rattle.sdh_node.specs.Rings.Rounds.{World}
+use Rattle.sdh_node.specs.Rings.Runs.{run}
 use Rattle.sdh_laws.specs.Hearing.Laws.{IsWhole}
 use Rattle.sdh_laws.proofs.hearing.Changes.{whole_run}
 use Rattle.sdh_laws.proofs.hearing.Nodes.{count}
@@ -23,8 +23,8 @@ use Rattle.sdh_laws.specs.Converging.Steady.{went, came}
 use Rattle.sdh_laws.specs.Converging.Laws.{ASpanIsSteady}
 use Rattle.sdh_laws.proofs.converging.Runs.{length_run, rate_run, condition_run}
 use Rattle.sdh_ringmap.specs.Fibres.{is_cut}
-use Rattle.sdh_world.specs.Held.{node_at}
-use Rattle.sdh_world.specs.Sides.{condition_to}
+use Rattle.sdh_node.specs.Rings.Held.{node_at}
+use Rattle.sdh_node.specs.Rings.Sides.{condition_to}
 use Rattle.sdh_rounds.specs.Runs as any_run
 
 -- of AU-4 number i + 1: the state of its generator and what its interpreter keeps after k rounds, and the word that is

@@ -11,8 +11,8 @@ use Rattle.sdh_ringmap.specs.Places.{neighbour, opposite}
 use Rattle.sdh_ringmap.proofs.Sides.{neighbour_below}
 use Rattle.sdh_circuits.specs.Provisioned.{Provisioned}
 use Rattle.sdh_circuits.specs.Provisioning.{AreCircuits}
-use Rattle.sdh_squelch.specs.declared.connecting.Origin.{Origin}
-use Rattle.sdh_squelch.specs.declared.connecting.Origin.TheVariants.{Add, Working, Protection, Ais}
+use Rattle.sdh_bridge.specs.declared.Origin.{Origin}
+use Rattle.sdh_bridge.specs.declared.Origin.TheVariants.{Add, Working, Protection, Ais}
 use Rattle.sdh_nodestate.specs.declared.NodeState.{NodeState}
 use Rattle.sdh_signal.specs.Settled.{settled}
 use Rattle.sdh_signal.specs.Walks.{IsOver, IsArrival, back_from, working_in, protection_in}
@@ -20,8 +20,8 @@ use Rattle.sdh_signal.specs.Rounds.{Spreads}
 use Rattle.sdh_signal.proofs.Spread.{steadiness_spreads}
 use Rattle.sdh_pointer.specs.Reading.{start}
 use Rattle.sdh_node.specs.Node.{receiving_on, sending_on}
-use Rattle.sdh_world.specs.Rounds.{World}
-use Rattle.sdh_world.specs.Runs.{run}
+use Rattle.sdh_node.specs.Rings.Rounds.{World}
+use Rattle.sdh_node.specs.Rings.Runs.{run}
 use Rattle.sdh_laws.specs.Hearing.Laws.{IsWhole}
 use Rattle.sdh_laws.proofs.hearing.Changes.{whole_run}
 use Rattle.sdh_laws.proofs.hearing.Nodes.{count}
@@ -36,7 +36,7 @@ use Rattle.sdh_laws.specs.Converging.Laws.{PointersRest}
 use Rattle.sdh_laws.proofs.converging.Runs.{length_run, rate_run}
 use Rattle.sdh_laws.proofs.converging.Spans.{a_span_is_steady, sending_rests, reading_rests}
 use Rattle.sdh_laws.proofs.converging.Ports.{does_by, value_by, sound_by, source_at, source_small, sources_send}
-use Rattle.sdh_world.specs.Held.{node_at}
+use Rattle.sdh_node.specs.Rings.Held.{node_at}
 use Rattle.sdh_rounds.specs.Runs as any_run
 
 pub two_halves : (rate : Rate) → n_of rate / 2 + n_of rate / 2 ≡ n_of rate

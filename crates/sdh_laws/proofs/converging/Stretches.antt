@@ -5,7 +5,7 @@ use Rattle.sdh_laws.proofs.hearing.Changes.{new_worlds_are_whole}
 use Rattle.sdh_laws.proofs.hearing.Requests.{whole_stretches}
 use Rattle.sdh_laws.specs.Carrying.Windows.{HasCircuits}
 use Rattle.sdh_laws.proofs.carrying.Settles.{layout_stretches}
-use Rattle.sdh_world.specs.Changes.{after_stretches, new_world}
+use Rattle.sdh_node.specs.Rings.Changes.{after_stretches, new_world}
 use Rattle.sdh_laws.specs.Converging.Laws.{StretchesConverge}
 use Rattle.sdh_laws.proofs.converging.Converging.{rings_converge}
 

@@ -1,8 +1,8 @@
 -- Where windows end.
 use Rattle.std.proofs.Common.{◌≡◌, ℕ, ◌+◌, ◌-◌, ◌*◌, ◌%◌, ◌<◌, ◌≤◌, Option, Some, None, length, refl, ap, arith}
-use Rattle.sdh_world.specs.Rounds.{World}
-use Rattle.sdh_world.specs.Runs.{run}
-use Rattle.sdh_world.specs.Quiet.{settles_in}
+use Rattle.sdh_node.specs.Rings.Rounds.{World}
+use Rattle.sdh_node.specs.Rings.Runs.{run}
+use Rattle.sdh_node.specs.Rings.Quiet.{settles_in}
 use Rattle.sdh_rounds.proofs.FirstWindows.{never_if}
 use Rattle.sdh_laws.proofs.hearing.Staying.{left_run}
 use Rattle.sdh_laws.specs.Converging.Laws.{WindowBy, CalmEndsWindows}

@@ -21,24 +21,24 @@ use Rattle.sdh_plant.specs.Arrivals.{carried_on}
 use Rattle.sdh_plant.specs.Calls.{prepared}
 use Rattle.sdh_plant.proofs.Calling.{stay_prepared, none_at}
 use Rattle.sdh_plant.proofs.Calling as plant
-use Rattle.sdh_world.specs.Laws.{IsChangeOf, AreChangesOf}
-use Rattle.sdh_world.proofs.Honest.{changes_keep_honest, changes_keep_prepared}
+use Rattle.sdh_node.specs.Rings.Laws.{IsChangeOf, AreChangesOf}
+use Rattle.sdh_node.proofs.RingLaws.Honest.{changes_keep_honest, changes_keep_prepared}
 use Rattle.sdh_request.specs.declared.settings.Settings.{Settings}
 use Rattle.sdh_node.specs.Receiving.{Receiving, commanded_by, inlet_of}
 use Rattle.sdh_ringmap.specs.declared.terms.Rate.{Rate}
 use Rattle.sdh_spans.specs.Frames.{CarriesWord, AreCarried}
 use Rattle.sdh_spans.specs.Sides.{IsInletAt, IsSenderAt}
 use Rattle.sdh_node.specs.Node.{Node, new_node, at_receiving, held_for, slips_at, receiving_on, sending_on, word_of}
-use Rattle.sdh_world.specs.Held.{new_nodes, at_place, place_of_port, new_ring, nowhere, AtEach}
-use Rattle.sdh_world.specs.Rounds.{World, world}
-use Rattle.sdh_world.specs.Runs.{run}
-use Rattle.sdh_promise.specs.Changes.{Change, Fibre, Order, Hold, Slip, Now}
-use Rattle.sdh_world.specs.Changes.{changed, all_changed}
-use Rattle.sdh_world.proofs.Keeping.{length-new, new_at, all_commanded, all_held, all_slipped}
+use Rattle.sdh_node.specs.Rings.Held.{new_nodes, at_place, place_of_port, new_ring, nowhere, AtEach}
+use Rattle.sdh_node.specs.Rings.Rounds.{World, world}
+use Rattle.sdh_node.specs.Rings.Runs.{run}
+use Rattle.sdh_restoration.specs.Changes.{Change, Fibre, Order, Hold, Slip, Now}
+use Rattle.sdh_node.specs.Rings.Changes.{changed, all_changed}
+use Rattle.sdh_node.proofs.RingLaws.Keeping.{length-new, new_at, all_commanded, all_held, all_slipped}
 use Rattle.sdh_laws.specs.Hearing.Placed.{HasSides, IsBetween, IsPlaced}
 use Rattle.sdh_laws.specs.Hearing.Paired.{IsSourcedIn, KeepsSourced, IsSpelled, NeverAis, FewWait, IsPaired}
 use Rattle.sdh_laws.specs.Hearing.Laws.{IsWhole, NewWorldsAreWhole, StayWhole, StayPlaced}
-use Rattle.sdh_world.specs.Fixed.{fixed}
+use Rattle.sdh_node.specs.Rings.Fixed.{fixed}
 use Rattle.sdh_payload.specs.declared.clock.Turn.{Turn}
 use Rattle.sdh_circuits.specs.declared.PortId.{PortId}
 use Rattle.sdh_laws.proofs.hearing.Clocks.{new_gone, new_few, gone_slipped, few_slipped}

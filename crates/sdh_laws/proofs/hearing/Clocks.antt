@@ -11,11 +11,11 @@ use Rattle.sdh_payload.specs.Clock.{Clock, IsClock, waiting, with_waiting, ticke
 use Rattle.sdh_payload.proofs.Clocking.{next_few, slips_run_out}
 use Rattle.sdh_terminal.specs.Tributaries.{Tributary, tributaries_at, with_slips}
 use Rattle.sdh_node.specs.Node.{Node}
-use Rattle.sdh_world.specs.Held.{HeldRing, place_of_port, AtEach}
-use Rattle.sdh_world.specs.Rounds.{World, round}
-use Rattle.sdh_world.specs.Clocks.{waiting_at}
+use Rattle.sdh_node.specs.Rings.Held.{HeldRing, place_of_port, AtEach}
+use Rattle.sdh_node.specs.Rings.Rounds.{World, round}
+use Rattle.sdh_node.specs.Rings.Clocks.{waiting_at}
 use Rattle.sdh_terminal.proofs.Found.{new_ports}
-use Rattle.sdh_world.proofs.Clocks.{slips_keep, few_waits, waiting_found}
+use Rattle.sdh_node.proofs.RingLaws.Clocks.{slips_keep, few_waits, waiting_found}
 use Rattle.sdh_laws.specs.Hearing.Placed.{HaveGone, IsPlaced}
 use Rattle.sdh_laws.specs.Hearing.Paired.{FewWait}
 use Rattle.sdh_laws.specs.Hearing.Laws.{NoneWait}

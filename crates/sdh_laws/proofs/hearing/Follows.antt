@@ -18,9 +18,9 @@ use Rattle.sdh_request.specs.declared.settings.Settings.{Settings}
 use Rattle.sdh_terminal.specs.Receiving.{Reception}
 use Rattle.sdh_node.specs.Receiving.{Receiving, local_after}
 use Rattle.sdh_node.specs.Node.{receiving_on, sending_on}
-use Rattle.sdh_world.specs.Rounds.{World, round, round_with}
-use Rattle.sdh_promise.specs.Sides.{Holding}
-use Rattle.sdh_world.specs.Sides.{command_on, holding_of, condition_to}
+use Rattle.sdh_node.specs.Rings.Rounds.{World, round, round_with}
+use Rattle.sdh_restoration.specs.Sides.{Holding}
+use Rattle.sdh_node.specs.Rings.Sides.{command_on, holding_of, condition_to}
 use Rattle.sdh_rounds.proofs.Runs.{conditions_round}
 use Rattle.sdh_spans.specs.Frames.{shown_by}
 use Rattle.sdh_laws.specs.Hearing.Laws.{IsWhole}
@@ -28,7 +28,7 @@ use Rattle.sdh_laws.proofs.hearing.Nodes.{count, length-after}
 use Rattle.sdh_laws.proofs.hearing.Rounds.{neighbour_inside, made, nothing_found, defect_cut, took_is, whole_round}
 use Rattle.sdh_laws.proofs.hearing.Violations.{KeepsParities, ShowsSo, defect_shown, shows_first, shows_later, keeps_after}
 use Rattle.sdh_laws.proofs.hearing.Histories.{KeepsHistory, keeps_more, request_more, shown, shows_defect, cut_defect, first_defect}
-use Rattle.sdh_world.specs.Held.{nowhere, node_at, AtEach}
+use Rattle.sdh_node.specs.Rings.Held.{nowhere, node_at, AtEach}
 use Rattle.sdh_node.specs.Stations.{adm}
 use Rattle.sdh_rounds.specs.Rounds as any_round
 

@@ -1,6 +1,6 @@
 -- Rounds and steps that a plant ran over a whole world.
 use Rattle.std.proofs.Common.{◌≡◌, inl, sym, subst}
-use Rattle.sdh_world.specs.Rounds.{round}
+use Rattle.sdh_node.specs.Rings.Rounds.{round}
 use Rattle.sdh_rounds.proofs.Laws.{known_rounds_are, known_steps}
 use Rattle.sdh_laws.specs.Hearing.Laws.{IsWhole, GoesAsSignals, WholeRoundsGoAsSignals, StepsStayWhole}
 use Rattle.sdh_laws.proofs.hearing.Rounds.{whole_round}

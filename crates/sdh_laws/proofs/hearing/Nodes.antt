@@ -16,11 +16,11 @@ use Rattle.sdh_node.specs.Receiving.{Receiving, inlet_of}
 use Rattle.sdh_spans.specs.Sides.{IsInletAt, IsSenderAt}
 use Rattle.sdh_terminal.specs.Tributaries.{Tributary}
 use Rattle.sdh_node.specs.Node.{Node, new_node, receiving_on, sending_on}
-use Rattle.sdh_world.specs.Held.{nowhere, node_at, AtEach}
-use Rattle.sdh_world.specs.Fixed.{Fixed, fixed}
-use Rattle.sdh_world.specs.Rounds.{World, arrivals_of, all_with_arrivals, with_arrivals, node_after, nodes_with, round_with, round}
+use Rattle.sdh_node.specs.Rings.Held.{nowhere, node_at, AtEach}
+use Rattle.sdh_node.specs.Rings.Fixed.{Fixed, fixed}
+use Rattle.sdh_node.specs.Rings.Rounds.{World, arrivals_of, all_with_arrivals, with_arrivals, node_after, nodes_with, round_with, round}
 use Rattle.sdh_rounds.specs.Rounds.{arrival_at, arrivals_from, receivers_in}
-use Rattle.sdh_world.proofs.Keeping.{all_heard, all_next, length-fixed, node_is, feeds_next}
+use Rattle.sdh_node.proofs.RingLaws.Keeping.{all_heard, all_next, length-fixed, node_is, feeds_next}
 use Rattle.sdh_rounds.proofs.Runs.{length-heard, count_round}
 use Rattle.sdh_laws.specs.Hearing.Placed.{HasSides, HaveGone, IsBetween, IsPlaced}
 use Rattle.sdh_laws.proofs.hearing.OneNode.{receiving_after, rounds_after, fresh_after, receiver_after, sender_after}

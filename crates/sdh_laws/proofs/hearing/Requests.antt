@@ -11,20 +11,20 @@ use Rattle.sdh_circuits.specs.Provisioning.{Provisioning}
 use Rattle.sdh_plant.specs.Fibres.{Fibres}
 use Rattle.sdh_request.specs.declared.settings.Settings.{Settings}
 use Rattle.sdh_node.specs.Node.{receiving_on, needed}
-use Rattle.sdh_world.specs.Rounds.{World}
-use Rattle.sdh_world.specs.Runs.{run}
-use Rattle.sdh_promise.specs.Changes.{Stretch, rounds_in}
-use Rattle.sdh_world.specs.Changes.{all_changed, after_stretch, after_stretches, new_world}
-use Rattle.sdh_world.specs.Laws.{AreChangesOf, MayHappen}
+use Rattle.sdh_node.specs.Rings.Rounds.{World}
+use Rattle.sdh_node.specs.Rings.Runs.{run}
+use Rattle.sdh_restoration.specs.Changes.{Stretch, rounds_in}
+use Rattle.sdh_node.specs.Rings.Changes.{all_changed, after_stretch, after_stretches, new_world}
+use Rattle.sdh_node.specs.Rings.Laws.{AreChangesOf, MayHappen}
 use Rattle.sdh_laws.specs.Hearing.Signalling.{needs_in}
-use Rattle.sdh_promise.specs.Owed.{asked_in}
+use Rattle.sdh_restoration.specs.Sides.{asked_in}
 use Rattle.sdh_laws.specs.Hearing.Laws.{IsWhole, MayStart, StretchesSettle}
 use Rattle.sdh_laws.proofs.hearing.Staying.{left_all, left_run, left_stretches}
 use Rattle.sdh_laws.proofs.hearing.Nodes.{count}
 use Rattle.sdh_laws.proofs.hearing.Changes.{new_worlds_are_whole, whole_all, whole_run}
 use Rattle.sdh_laws.proofs.hearing.Signalling.{spans_same, needs_at, windows_are_settled}
 use Rattle.sdh_laws.proofs.hearing.Stretches.{requests_are}
-use Rattle.sdh_world.specs.Held.{node_at}
+use Rattle.sdh_node.specs.Rings.Held.{node_at}
 
 -- requests of spans by those of sides
 pub requests_by : (v : World) (n : ℕ) → length v.ring.nodes ≡ n → (g : ℕ → Side → Code)

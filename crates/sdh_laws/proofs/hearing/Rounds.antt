@@ -38,7 +38,7 @@ use Rattle.sdh_terminal.specs.Sending.{Sending}
 use Rattle.sdh_terminal.specs.Lines.{Line, line_on}
 use Rattle.sdh_node.specs.Crossing.{is_failed, lines_of}
 use Rattle.sdh_node.specs.Node.{Node, receiving_on, sending_on, is_held, crossing, word_of}
-use Rattle.sdh_world.specs.Rounds.{World, round, round_with, arrivals_of, nodes_with, node_after, frames_of}
+use Rattle.sdh_node.specs.Rings.Rounds.{World, round, round_with, arrivals_of, nodes_with, node_after, frames_of}
 use Rattle.sdh_rounds.specs.Rounds.{arrival_at, sent_all}
 use Rattle.sdh_rounds.proofs.Runs.{length-heard, prepared_round}
 use Rattle.sdh_rounds.proofs.Honest.{honest_rounds}
@@ -53,11 +53,11 @@ use Rattle.sdh_laws.specs.Hearing.Laws.{IsWhole, SidesBring, SidesRead, NoneSays
 use Rattle.sdh_node.proofs.Decided.{scene_in, word_is, turns_left}
 use Rattle.sdh_laws.proofs.hearing.OneNode.{told_inlet, Took, side_took, receiving_after, line_taken, word_has, own_no_ais, own_spellable}
 use Rattle.sdh_laws.proofs.hearing.OneNode.{own_member, frame_on, frame_says, spelled, node_same}
-use Rattle.sdh_world.specs.Held.{AtEach, node_at}
+use Rattle.sdh_node.specs.Rings.Held.{AtEach, node_at}
 use Rattle.sdh_laws.proofs.hearing.Clocks.{few_round}
 use Rattle.sdh_laws.proofs.hearing.Nodes.{told_to, told_first, told_later, informed, informed_on, informed_out, count, listening_at}
 use Rattle.sdh_laws.proofs.hearing.Nodes.{nodes_after, length-after, placed_round, is_at}
-use Rattle.sdh_world.specs.Sides.{condition_to}
+use Rattle.sdh_node.specs.Rings.Sides.{condition_to}
 use Rattle.sdh_node.specs.Stations.{adm}
 use Rattle.sdh_rounds.specs.Rounds as any_round
 

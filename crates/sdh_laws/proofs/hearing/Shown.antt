@@ -12,11 +12,11 @@ use Rattle.sdh_ringmap.specs.Fibres.{fibre, fibre_to, is_cut}
 use Rattle.sdh_plant.specs.Arrivals.{carried_on}
 use Rattle.sdh_node.specs.Receiving.{Receiving, commanded_by}
 use Rattle.sdh_node.specs.Node.{Node, receiving_on, sending_on, at_receiving, held_for, slips_at}
-use Rattle.sdh_world.specs.Held.{node_at, AtEach, place_of_port}
-use Rattle.sdh_world.specs.Rounds.{World, round}
-use Rattle.sdh_promise.specs.Changes.{Change, Fibre, Order, Hold, Slip, Now}
-use Rattle.sdh_world.specs.Changes.{changed, all_changed}
-use Rattle.sdh_world.specs.Sides.{condition_to}
+use Rattle.sdh_node.specs.Rings.Held.{node_at, AtEach, place_of_port}
+use Rattle.sdh_node.specs.Rings.Rounds.{World, round}
+use Rattle.sdh_restoration.specs.Changes.{Change, Fibre, Order, Hold, Slip, Now}
+use Rattle.sdh_node.specs.Rings.Changes.{changed, all_changed}
+use Rattle.sdh_node.specs.Rings.Sides.{condition_to}
 use Rattle.sdh_laws.specs.Hearing.Signalling.{CountsViolations}
 use Rattle.sdh_spans.specs.Frames.{shown_by}
 use Rattle.sdh_spans.proofs.Finding.{b2_by}

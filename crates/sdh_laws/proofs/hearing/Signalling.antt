@@ -36,13 +36,13 @@ use Rattle.std.proofs.lemmas.Option.{slice_get-get_or, slice_get-map}
 use Rattle.sdh_node.specs.Same.{Compared}
 use Rattle.sdh_node.specs.Crossing.{is_failed}
 use Rattle.sdh_node.specs.Node.{Node, receiving_on, is_held, compared, sent_of, needed, heard_by, word_of}
-use Rattle.sdh_world.specs.Rounds.{World, round, node_after}
-use Rattle.sdh_world.specs.Runs.{run, course}
-use Rattle.sdh_world.specs.Quiet.{is_calm, IsCalm}
+use Rattle.sdh_node.specs.Rings.Rounds.{World, round, node_after}
+use Rattle.sdh_node.specs.Rings.Runs.{run, course}
+use Rattle.sdh_node.specs.Rings.Quiet.{is_calm, IsCalm}
 use Rattle.sdh_rounds.proofs.Runs.{known_settles}
 use Rattle.sdh_laws.specs.Hearing.Placed.{IsPlaced}
 use Rattle.sdh_ringmap.specs.Fibres.{is_cut}
-use Rattle.sdh_world.specs.Sides.{condition_to}
+use Rattle.sdh_node.specs.Rings.Sides.{condition_to}
 use Rattle.sdh_laws.specs.Hearing.Signalling.{filters_of, signals_of, needs_in, held_in}
 use Rattle.sdh_laws.specs.Hearing.Laws.{IsWhole, RoundsAreSignalRounds, IsStill, CalmRoundsAreStill, ThreeCalmRoundsAreSettled}
 use Rattle.sdh_laws.specs.Hearing.Laws.{WindowsAreSettled, IsSettled, StepsSettle}
@@ -53,7 +53,7 @@ use Rattle.sdh_laws.proofs.hearing.Staying.{left_run}
 use Rattle.sdh_laws.proofs.hearing.Nodes.{at_any, informed, informed_out, count, nodes_after, length-after, one_more, is_at}
 use Rattle.sdh_laws.proofs.hearing.Rounds.{neighbour_inside, brings, took_is, whole_round}
 use Rattle.sdh_laws.proofs.hearing.Changes.{whole_run}
-use Rattle.sdh_world.specs.Held.{nowhere, node_at, AtEach}
+use Rattle.sdh_node.specs.Rings.Held.{nowhere, node_at, AtEach}
 use Rattle.sdh_node.specs.Stations.{adm}
 use Rattle.sdh_rounds.specs.Rounds as any_round
 use Rattle.sdh_rounds.specs.Runs as any_run

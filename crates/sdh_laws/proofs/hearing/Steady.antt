@@ -24,8 +24,8 @@ use Rattle.std.proofs.lemmas.Bool.Decides.{nat_tests}
 use Rattle.sdh_node.specs.Receiving.{local_after}
 use Rattle.sdh_node.specs.Crossing.{is_failed}
 use Rattle.sdh_node.specs.Node.{Node, receiving_on, is_held, needed}
-use Rattle.sdh_world.specs.Rounds.{World, round, arrivals_of}
-use Rattle.sdh_world.specs.Runs.{run}
+use Rattle.sdh_node.specs.Rings.Rounds.{World, round, arrivals_of}
+use Rattle.sdh_node.specs.Rings.Runs.{run}
 use Rattle.sdh_laws.specs.Hearing.Signalling.{signals_of, needs_in}
 use Rattle.sdh_spans.specs.Frames.{shown_by}
 use Rattle.sdh_laws.specs.Hearing.Laws.{IsWhole, NoneWait, StillFrom, FreeRunsGetStill, RunsGetStill}
@@ -41,8 +41,8 @@ use Rattle.sdh_laws.proofs.hearing.Follows.{Keeps, keeps_one, condition_after}
 use Rattle.sdh_laws.proofs.hearing.Signalling.{mapped_same, goes_free, may_go, one_run}
 use Rattle.sdh_laws.specs.Restoring.Laws.{NoneHeld}
 use Rattle.sdh_node.proofs.Decided.{turns_left}
-use Rattle.sdh_world.specs.Held.{node_at, AtEach}
-use Rattle.sdh_world.specs.Sides.{condition_to}
+use Rattle.sdh_node.specs.Rings.Held.{node_at, AtEach}
+use Rattle.sdh_node.specs.Rings.Sides.{condition_to}
 use Rattle.sdh_rounds.specs.Rounds as any_round
 use Rattle.sdh_rounds.specs.Runs as any_run
 

@@ -12,17 +12,17 @@ use Rattle.sdh_plant.specs.Fibres.{Fibres}
 use Rattle.sdh_request.specs.declared.settings.Settings.{Settings}
 use Rattle.sdh_node.specs.Receiving.{commanded_by}
 use Rattle.sdh_node.specs.Node.{Node, new_node, at_receiving, held_for, slips_at, receiving_on}
-use Rattle.sdh_world.specs.Held.{place_of_port, node_at}
-use Rattle.sdh_world.specs.Rounds.{World, round}
-use Rattle.sdh_world.specs.Runs.{run}
-use Rattle.sdh_promise.specs.Changes.{Change, Fibre, Order, Hold, Slip, Now, Stretch, rounds_in}
-use Rattle.sdh_world.specs.Changes.{changed, all_changed, after_stretch, after_stretches, new_world}
-use Rattle.sdh_world.specs.Laws.{IsChangeOf, AreChangesOf, MayHappen}
-use Rattle.sdh_promise.specs.Sides.{holding_in, new_holding, side_history}
-use Rattle.sdh_world.specs.Sides.{holding_of, world_in, Fits}
-use Rattle.sdh_world.proofs.Keeping.{length-new}
-use Rattle.sdh_world.proofs.Histories.{holding_is, new_holds}
-use Rattle.sdh_promise.specs.Owed.{asked_in}
+use Rattle.sdh_node.specs.Rings.Held.{place_of_port, node_at}
+use Rattle.sdh_node.specs.Rings.Rounds.{World, round}
+use Rattle.sdh_node.specs.Rings.Runs.{run}
+use Rattle.sdh_restoration.specs.Changes.{Change, Fibre, Order, Hold, Slip, Now, Stretch, rounds_in}
+use Rattle.sdh_node.specs.Rings.Changes.{changed, all_changed, after_stretch, after_stretches, new_world}
+use Rattle.sdh_node.specs.Rings.Laws.{IsChangeOf, AreChangesOf, MayHappen}
+use Rattle.sdh_restoration.specs.Sides.{holding_in, new_holding, side_history}
+use Rattle.sdh_node.specs.Rings.Sides.{holding_of, world_in, Fits}
+use Rattle.sdh_node.proofs.RingLaws.Keeping.{length-new}
+use Rattle.sdh_node.proofs.RingLaws.Histories.{holding_is, new_holds}
+use Rattle.sdh_restoration.specs.Sides.{asked_in}
 use Rattle.sdh_laws.specs.Hearing.Laws.{MayStart, AreTheHistorys, RequestsAreTheHistorys, IsWhole}
 use Rattle.sdh_laws.proofs.hearing.Nodes.{count, one_more}
 use Rattle.sdh_laws.proofs.hearing.Shown.{keeps_changed, keeps_left, shows_changed, shows_left}

@@ -17,15 +17,15 @@ use Rattle.sdh_terminal.specs.Receiving.{Inlet, after_taking}
 use Rattle.sdh_terminal.specs.Sending.{Sending}
 use Rattle.sdh_node.specs.Receiving.{Receiving}
 use Rattle.sdh_node.specs.Node.{Node, receiving_on, sending_on}
-use Rattle.sdh_world.specs.Rounds.{World, round}
+use Rattle.sdh_node.specs.Rings.Rounds.{World, round}
 use Rattle.sdh_spans.specs.Frames.{shown_by}
 use Rattle.sdh_laws.specs.Hearing.Laws.{IsWhole}
 use Rattle.sdh_laws.proofs.hearing.OneNode.{frame_on, frame_is, sending_after, node_sends}
 use Rattle.sdh_laws.proofs.hearing.Nodes.{informed, informed_out, nodes_after}
 use Rattle.sdh_laws.proofs.hearing.Rounds.{same_line, neighbour_inside, sent_to, inlet_at, made, nothing_found, side_finds, defect_clear}
 use Rattle.sdh_laws.proofs.hearing.Rounds.{took_is, sends_at, carried_after}
-use Rattle.sdh_world.specs.Held.{node_at}
-use Rattle.sdh_world.specs.Sides.{condition_to}
+use Rattle.sdh_node.specs.Rings.Held.{node_at}
+use Rattle.sdh_node.specs.Rings.Sides.{condition_to}
 
 -- the sending section keeps the parities of the frame on its fibre
 abbrev pub KeepsParities : Rate → ℕ → Arrival → Option Parities → Type 0

@@ -14,8 +14,8 @@ use Rattle.sdh_circuits.specs.Provisioning.{AreCircuits, HasOffsets}
 use Rattle.sdh_payload.specs.declared.chunk.ChunkForm.TheVariants.{Plain}
 use Rattle.sdh_payload.specs.Clock.{Clock, next_form, ticked, ticks}
 use Rattle.sdh_payload.proofs.Clocking.{goes_plain, plain_tick}
-use Rattle.sdh_squelch.specs.declared.connecting.Origin.{Origin}
-use Rattle.sdh_squelch.specs.declared.connecting.Origin.TheVariants.{Add, Working, Protection, Ais}
+use Rattle.sdh_bridge.specs.declared.Origin.{Origin}
+use Rattle.sdh_bridge.specs.declared.Origin.TheVariants.{Add, Working, Protection, Ais}
 use Rattle.sdh_nodestate.specs.declared.NodeState.{NodeState}
 use Rattle.sdh_signal.specs.Settled.{settled}
 use Rattle.sdh_signal.specs.Laws.{StillRingsAreSettled}
@@ -30,11 +30,11 @@ use Rattle.sdh_ringmap.specs.Fibres.{is_cut}
 use Rattle.sdh_terminal.specs.Passing.{Input}
 use Rattle.sdh_terminal.specs.Tributaries.{action_of}
 use Rattle.sdh_node.specs.Node.{is_held}
-use Rattle.sdh_world.specs.Held.{node_at, AtEach}
-use Rattle.sdh_world.specs.Rounds.{World, round}
-use Rattle.sdh_world.specs.Runs.{run, course}
-use Rattle.sdh_world.specs.Quiet.{is_calm, IsCalm}
-use Rattle.sdh_world.specs.Sides.{condition_to}
+use Rattle.sdh_node.specs.Rings.Held.{node_at, AtEach}
+use Rattle.sdh_node.specs.Rings.Rounds.{World, round}
+use Rattle.sdh_node.specs.Rings.Runs.{run, course}
+use Rattle.sdh_node.specs.Rings.Quiet.{is_calm, IsCalm}
+use Rattle.sdh_node.specs.Rings.Sides.{condition_to}
 use Rattle.sdh_laws.specs.Hearing.Laws.{IsWhole}
 use Rattle.sdh_laws.proofs.hearing.Changes.{whole_run}
 use Rattle.sdh_laws.proofs.hearing.Nodes.{count}

@@ -9,14 +9,14 @@ use Rattle.sdh_circuits.specs.Provisioning.{HasOffsets}
 use Rattle.sdh_payload.specs.declared.chunk.ChunkForm.TheVariants.{Plain, Short, Long}
 use Rattle.sdh_payload.specs.Clock.{Clock, IsClock, waiting, next_form, after_form, ticked, ticks}
 use Rattle.sdh_payload.proofs.Clocking.{form_ticked}
-use Rattle.sdh_squelch.specs.declared.connecting.Origin.TheVariants.{Add}
+use Rattle.sdh_bridge.specs.declared.Origin.TheVariants.{Add}
 use Rattle.sdh_terminal.specs.Passing.{Input, no_input}
 use Rattle.sdh_terminal.specs.Tributaries.{Tributary, port_of, sent_in, input_by}
 use Rattle.sdh_terminal.specs.Tributaries.{action_of, sent_by}
-use Rattle.sdh_world.specs.Held.{node_at}
-use Rattle.sdh_world.specs.Rounds.{World}
+use Rattle.sdh_node.specs.Rings.Held.{node_at}
+use Rattle.sdh_node.specs.Rings.Rounds.{World}
 use Rattle.sdh_terminal.proofs.Found.{found_has}
-use Rattle.sdh_world.proofs.Clocks.{clock_of}
+use Rattle.sdh_node.proofs.RingLaws.Clocks.{clock_of}
 use Rattle.sdh_laws.specs.Hearing.Laws.{IsWhole}
 use Rattle.sdh_laws.specs.Carrying.Windows.{value_at}
 use Rattle.sdh_laws.proofs.carrying.Clocks.{form_there}

@@ -7,11 +7,11 @@ use Rattle.sdh_signal.specs.Settled.{settled_states}
 use Rattle.sdh_signal.specs.Laws.{StillRingsAreSettled}
 use Rattle.sdh_node.specs.Node.{Node, is_held}
 use Rattle.sdh_node.specs.Stations.{adm}
-use Rattle.sdh_world.specs.Held.{node_at, AtEach}
-use Rattle.sdh_world.specs.Rounds.{World, round, round_with}
-use Rattle.sdh_world.specs.Runs.{run, course, IsRound}
-use Rattle.sdh_world.specs.Quiet.{is_calm, IsCalm, EndsWindow}
-use Rattle.sdh_world.specs.Clocks.{clocks_from}
+use Rattle.sdh_node.specs.Rings.Held.{node_at, AtEach}
+use Rattle.sdh_node.specs.Rings.Rounds.{World, round, round_with}
+use Rattle.sdh_node.specs.Rings.Runs.{run, course, IsRound}
+use Rattle.sdh_node.specs.Rings.Quiet.{is_calm, IsCalm, EndsWindow}
+use Rattle.sdh_node.specs.Rings.Clocks.{clocks_from}
 use Rattle.sdh_rounds.proofs.Runs.{known_settles}
 use Rattle.sdh_laws.specs.Hearing.Signalling.{signals_of}
 use Rattle.sdh_laws.specs.Hearing.Laws.{IsWhole, IsStill}

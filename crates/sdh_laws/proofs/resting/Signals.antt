@@ -13,11 +13,11 @@ use Rattle.sdh_signal.specs.Signals.{Signals, free_round, request_on, no_needs}
 use Rattle.sdh_signal.specs.Laws.{StillRingsAreSettled}
 use Rattle.sdh_node.specs.Same.{Compared}
 use Rattle.sdh_node.specs.Node.{Node, receiving_on, compared, sent_of, word_of}
-use Rattle.sdh_world.specs.Held.{nowhere, node_at}
-use Rattle.sdh_world.specs.Rounds.{World, round}
-use Rattle.sdh_world.specs.Runs.{run, course}
-use Rattle.sdh_world.specs.Quiet.{is_calm, IsCalm}
-use Rattle.sdh_world.specs.Sides.{condition_to}
+use Rattle.sdh_node.specs.Rings.Held.{nowhere, node_at}
+use Rattle.sdh_node.specs.Rings.Rounds.{World, round}
+use Rattle.sdh_node.specs.Rings.Runs.{run, course}
+use Rattle.sdh_node.specs.Rings.Quiet.{is_calm, IsCalm}
+use Rattle.sdh_node.specs.Rings.Sides.{condition_to}
 use Rattle.sdh_laws.specs.Hearing.Signalling.{word_to, filters_of, signals_of, needs_in}
 use Rattle.sdh_laws.specs.Hearing.Laws.{IsWhole, IsStill}
 use Rattle.sdh_laws.proofs.hearing.Changes.{whole_run}

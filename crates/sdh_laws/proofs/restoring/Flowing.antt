@@ -27,10 +27,10 @@ use Rattle.sdh_terminal.specs.Passing.{Input, au_for, au_sent}
 use Rattle.sdh_terminal.specs.Lines.{received}
 use Rattle.sdh_node.specs.Node.{sending_on}
 use Rattle.sdh_ringmap.specs.Fibres.{is_cut}
-use Rattle.sdh_world.specs.Held.{node_at}
-use Rattle.sdh_world.specs.Rounds.{World, round}
-use Rattle.sdh_world.specs.Runs.{run}
-use Rattle.sdh_world.specs.Sides.{condition_to}
+use Rattle.sdh_node.specs.Rings.Held.{node_at}
+use Rattle.sdh_node.specs.Rings.Rounds.{World, round}
+use Rattle.sdh_node.specs.Rings.Runs.{run}
+use Rattle.sdh_node.specs.Rings.Sides.{condition_to}
 use Rattle.sdh_laws.specs.Hearing.Signalling.{lines_at}
 use Rattle.sdh_laws.specs.Hearing.Laws.{IsWhole}
 use Rattle.sdh_laws.proofs.hearing.Changes.{whole_run}

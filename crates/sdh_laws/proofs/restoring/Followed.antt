@@ -27,16 +27,16 @@ use Rattle.sdh_terminal.specs.Receiving.{pointer_word, pointer_word_at, actions_
 use Rattle.sdh_terminal.specs.Lines.{line_on, received}
 use Rattle.sdh_terminal.specs.declared.matrix.Feeder.{Feeder}
 use Rattle.sdh_terminal.specs.declared.matrix.Feeder.TheVariants as feeder
-use Rattle.sdh_squelch.specs.declared.connecting.Origin.TheVariants.{Add}
+use Rattle.sdh_bridge.specs.declared.Origin.TheVariants.{Add}
 use Rattle.sdh_spans.specs.Spans.{TakesWord, word_behind}
 use Rattle.sdh_spans.proofs.Reading.{word_of_ones}
 use Rattle.sdh_spans.proofs.Sends.{word_in_au}
 use Rattle.sdh_node.specs.Crossing.{leads}
 use Rattle.sdh_node.specs.Node.{receiving_on, sending_on}
-use Rattle.sdh_world.specs.Held.{node_at}
-use Rattle.sdh_world.specs.Rounds.{World, round, arrivals_of}
-use Rattle.sdh_world.specs.Runs.{run}
-use Rattle.sdh_world.specs.Sides.{condition_to}
+use Rattle.sdh_node.specs.Rings.Held.{node_at}
+use Rattle.sdh_node.specs.Rings.Rounds.{World, round, arrivals_of}
+use Rattle.sdh_node.specs.Rings.Runs.{run}
+use Rattle.sdh_node.specs.Rings.Sides.{condition_to}
 use Rattle.sdh_laws.specs.Hearing.Signalling.{lines_at, crossing_at}
 use Rattle.sdh_laws.specs.Hearing.Laws.{IsWhole}
 use Rattle.sdh_laws.proofs.hearing.Changes.{whole_run}

@@ -17,8 +17,8 @@ use Rattle.sdh_payload.specs.Stream.{stream_from}
 use Rattle.sdh_payload.specs.Outlet.{Outlet, silent, delivering}
 use Rattle.sdh_payload.proofs.Clocking.{goes_on}
 use Rattle.sdh_pointer.specs.Laws.{is_ais_action}
-use Rattle.sdh_squelch.specs.declared.connecting.Origin.{Origin}
-use Rattle.sdh_squelch.specs.declared.connecting.Origin.TheVariants.{Add, Working, Protection, Ais}
+use Rattle.sdh_bridge.specs.declared.Origin.{Origin}
+use Rattle.sdh_bridge.specs.declared.Origin.TheVariants.{Add, Working, Protection, Ais}
 use Rattle.sdh_restoration.specs.Applied.{is_applied}
 use Rattle.sdh_signal.specs.Settled.{settled}
 use Rattle.sdh_restoration.specs.Routes.{hops}
@@ -30,12 +30,12 @@ use Rattle.sdh_signal.specs.Law as routes
 use Rattle.sdh_signal.proofs.Ways.{IsKeptOver, end_inside, short}
 use Rattle.sdh_ringmap.specs.Fibres.{is_cut}
 use Rattle.sdh_terminal.specs.Passing.{Input}
-use Rattle.sdh_world.specs.Held.{outlet_at}
-use Rattle.sdh_world.specs.Clocks.{clock_at}
-use Rattle.sdh_world.specs.Rounds.{World}
-use Rattle.sdh_world.specs.Runs.{run}
-use Rattle.sdh_world.specs.Sides.{condition_to}
-use Rattle.sdh_world.proofs.Clocks.{goes_run}
+use Rattle.sdh_node.specs.Rings.Held.{outlet_at}
+use Rattle.sdh_node.specs.Rings.Clocks.{clock_at}
+use Rattle.sdh_node.specs.Rings.Rounds.{World}
+use Rattle.sdh_node.specs.Rings.Runs.{run}
+use Rattle.sdh_node.specs.Rings.Sides.{condition_to}
+use Rattle.sdh_node.proofs.RingLaws.Clocks.{goes_run}
 use Rattle.sdh_laws.specs.Hearing.Laws.{IsWhole}
 use Rattle.sdh_laws.proofs.hearing.Changes.{whole_run}
 use Rattle.sdh_laws.proofs.hearing.Nodes.{count}

@@ -20,12 +20,12 @@ use Rattle.sdh_node.specs.Crossing.{is_failed}
 use Rattle.sdh_node.specs.Stations.{adm}
 use Rattle.sdh_node.specs.Node.{receiving_on, is_held}
 use Rattle.sdh_signal.proofs.Ways.{end_inside}
-use Rattle.sdh_world.specs.Held.{node_at, outlet_at, AtEach}
+use Rattle.sdh_node.specs.Rings.Held.{node_at, outlet_at, AtEach}
 use Rattle.sdh_rounds.proofs.Runs.{known_unsettles}
-use Rattle.sdh_world.specs.Clocks.{clock_at, clocks_from}
-use Rattle.sdh_world.specs.Rounds.{World, round}
-use Rattle.sdh_world.specs.Runs.{run}
-use Rattle.sdh_world.proofs.Clocks.{goes_run}
+use Rattle.sdh_node.specs.Rings.Clocks.{clock_at, clocks_from}
+use Rattle.sdh_node.specs.Rings.Rounds.{World, round}
+use Rattle.sdh_node.specs.Rings.Runs.{run}
+use Rattle.sdh_node.proofs.RingLaws.Clocks.{goes_run}
 use Rattle.sdh_laws.specs.Hearing.Signalling.{signals_of}
 use Rattle.sdh_laws.specs.Hearing.Laws.{IsWhole, NoneWait, StillFrom}
 use Rattle.sdh_laws.proofs.hearing.Changes.{whole_run}

@@ -14,10 +14,10 @@ use Rattle.sdh_signal.proofs.Ways.{short}
 use Rattle.sdh_node.specs.Node.{is_held}
 use Rattle.sdh_node.specs.Stations.{adm}
 use Rattle.sdh_rounds.proofs.Runs.{known_unsettles}
-use Rattle.sdh_world.specs.Held.{node_at, AtEach}
-use Rattle.sdh_world.specs.Clocks.{clocks_from}
-use Rattle.sdh_world.specs.Rounds.{World}
-use Rattle.sdh_world.specs.Runs.{run}
+use Rattle.sdh_node.specs.Rings.Held.{node_at, AtEach}
+use Rattle.sdh_node.specs.Rings.Clocks.{clocks_from}
+use Rattle.sdh_node.specs.Rings.Rounds.{World}
+use Rattle.sdh_node.specs.Rings.Runs.{run}
 use Rattle.sdh_laws.specs.Hearing.Laws.{IsWhole}
 use Rattle.sdh_laws.proofs.hearing.Steady.{AllHeldFor, held_after, free_stays, none_waits_later}
 use Rattle.sdh_laws.specs.Restoring.Laws.{NoneHeld}

@@ -6,8 +6,8 @@ use Rattle.sdh_ringmap.specs.declared.Side.{Side}
 use Rattle.sdh_circuits.specs.Provisioned.{Provisioned, arc_of}
 use Rattle.sdh_circuits.specs.Provisioning.{AreCircuits}
 use Rattle.sdh_circuits.specs.declared.End.{End}
-use Rattle.sdh_squelch.specs.declared.connecting.Origin.{Origin}
-use Rattle.sdh_squelch.specs.declared.connecting.Origin.TheVariants.{Ais}
+use Rattle.sdh_bridge.specs.declared.Origin.{Origin}
+use Rattle.sdh_bridge.specs.declared.Origin.TheVariants.{Ais}
 use Rattle.sdh_restoration.specs.Applied.{is_applied}
 use Rattle.sdh_signal.specs.Settled.{settled}
 use Rattle.sdh_restoration.specs.Routes.{hops}

@@ -25,7 +25,7 @@ use Rattle.sdh_squelch.specs.Table.{circuit_from}
 use Rattle.sdh_squelch.proofs.LookUps.{entry}
 use Rattle.sdh_nodestate.specs.declared.NodeState.{NodeState}
 use Rattle.sdh_nodestate.specs.Rules.{Scene, word_on, local, word, state_after}
-use Rattle.sdh_squelch.specs.declared.connecting.Origin.TheVariants.{Working}
+use Rattle.sdh_bridge.specs.declared.Origin.TheVariants.{Working}
 use Rattle.sdh_pointer.specs.declared.reading.Action.{Action}
 use Rattle.sdh_pointer.specs.declared.reading.Action.TheVariants as action
 use Rattle.sdh_pointer.specs.declared.reading.Reading.{Reading}
@@ -43,8 +43,8 @@ use Rattle.sdh_terminal.specs.Receiving.{pointer_word, pointer_word_at}
 use Rattle.sdh_terminal.specs.Lines.{line_on, received}
 use Rattle.sdh_node.specs.Node.{Node, receiving_on, sending_on, is_held, word_of}
 use Rattle.sdh_node.proofs.Decided.{scene_in, state_is, word_is}
-use Rattle.sdh_world.specs.Held.{node_at, AtEach}
-use Rattle.sdh_world.specs.Rounds.{World, round}
+use Rattle.sdh_node.specs.Rings.Held.{node_at, AtEach}
+use Rattle.sdh_node.specs.Rings.Rounds.{World, round}
 use Rattle.sdh_rounds.specs.Rounds as any_round
 use Rattle.sdh_laws.specs.Hearing.Signalling.{lines_at}
 use Rattle.sdh_laws.specs.Hearing.Laws.{IsWhole}

@@ -23,14 +23,14 @@ use Rattle.sdh_payload.specs.Outlet.{Outlet}
 use Rattle.sdh_pointer.specs.declared.word.Form.{Form}
 use Rattle.sdh_terminal.specs.Passing.{Input, au_with}
 use Rattle.sdh_node.specs.Node.{is_held, word_of}
-use Rattle.sdh_world.specs.Held.{node_at, AtEach, outlet_at}
-use Rattle.sdh_world.specs.Rounds.{World, round}
+use Rattle.sdh_node.specs.Rings.Held.{node_at, AtEach, outlet_at}
+use Rattle.sdh_node.specs.Rings.Rounds.{World, round}
 use Rattle.sdh_rounds.specs.Rounds as any_round
-use Rattle.sdh_world.specs.Sides.{world_in}
-use Rattle.sdh_world.specs.Laws.{IsChangeOf, MayHappen}
-use Rattle.sdh_promise.specs.Changes.{Change, Stretch, rounds_in}
-use Rattle.sdh_promise.specs.Changes.{Fibre, Order, Hold, Slip, Now}
-use Rattle.sdh_world.specs.Changes.{changed}
+use Rattle.sdh_node.specs.Rings.Sides.{world_in}
+use Rattle.sdh_node.specs.Rings.Laws.{IsChangeOf, MayHappen}
+use Rattle.sdh_restoration.specs.Changes.{Change, Stretch, rounds_in}
+use Rattle.sdh_restoration.specs.Changes.{Fibre, Order, Hold, Slip, Now}
+use Rattle.sdh_node.specs.Rings.Changes.{changed}
 use Rattle.sdh_laws.specs.Hearing.Laws.{IsWhole}
 use Rattle.sdh_laws.specs.Hearing.Signalling.{word_to}
 use Rattle.sdh_laws.proofs.hearing.Nodes.{count, one_more}

@@ -3,13 +3,13 @@ use Rattle.std.proofs.Common.{◌≡◌, ℕ, zero, suc, ◌+◌, ◌-◌, ◌<�
 use Rattle.std.proofs.lemmas.Bool.{cases_lt}
 use Rattle.sdh_circuits.specs.declared.PortId.{PortId}
 use Rattle.sdh_payload.specs.Clock.{Clock}
-use Rattle.sdh_world.specs.Rounds.{World, round}
-use Rattle.sdh_world.specs.Runs.{run}
-use Rattle.sdh_promise.specs.Changes.{Change, Stretch, rounds_in}
-use Rattle.sdh_promise.specs.Changes.{Fibre, Order, Hold, Slip, Now}
-use Rattle.sdh_world.specs.Changes.{changed, all_changed, after_stretch, after_stretches}
-use Rattle.sdh_world.specs.Laws.{IsChangeOf, AreChangesOf, MayHappen}
-use Rattle.sdh_world.specs.Sides.{world_in}
+use Rattle.sdh_node.specs.Rings.Rounds.{World, round}
+use Rattle.sdh_node.specs.Rings.Runs.{run}
+use Rattle.sdh_restoration.specs.Changes.{Change, Stretch, rounds_in}
+use Rattle.sdh_restoration.specs.Changes.{Fibre, Order, Hold, Slip, Now}
+use Rattle.sdh_node.specs.Rings.Changes.{changed, all_changed, after_stretch, after_stretches}
+use Rattle.sdh_node.specs.Rings.Laws.{IsChangeOf, AreChangesOf, MayHappen}
+use Rattle.sdh_node.specs.Rings.Sides.{world_in}
 use Rattle.sdh_rounds.specs.Runs as any_run
 use Rattle.sdh_laws.proofs.hearing.Staying.{world_low, world_high, world_later}
 use Rattle.sdh_laws.specs.Carrying.Windows.{layout_of, HasCircuits}

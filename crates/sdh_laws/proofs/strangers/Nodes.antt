@@ -25,9 +25,9 @@ use Rattle.sdh_nodestate.specs.declared.NodeState.{NodeState}
 use Rattle.sdh_nodestate.specs.declared.NodeState.TheVariants as state
 use Rattle.sdh_nodestate.specs.Rules.{Scene, own_id, long, relayed, word, state_after}
 use Rattle.sdh_nodestate.specs.Words.{IsMember}
-use Rattle.sdh_squelch.specs.declared.connecting.Origin.{Origin}
-use Rattle.sdh_squelch.specs.declared.connecting.Origin.TheVariants.{Working, Protection, Ais}
-use Rattle.sdh_squelch.specs.Connections.{may_carry}
+use Rattle.sdh_bridge.specs.declared.Origin.{Origin}
+use Rattle.sdh_bridge.specs.declared.Origin.TheVariants.{Working, Protection, Ais}
+use Rattle.sdh_bridge.specs.Connections.{may_carry}
 use Rattle.sdh_frame.specs.Aus.{Au}
 use Rattle.sdh_pointer.specs.declared.reading.Action.TheVariants as action
 use Rattle.sdh_terminal.specs.Passing.{Input}

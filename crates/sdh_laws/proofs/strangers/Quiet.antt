@@ -12,16 +12,16 @@ use Rattle.sdh_signal.specs.Laws.{StillRingsAreSettled}
 use Rattle.sdh_payload.specs.Clock.{Clock}
 use Rattle.sdh_node.specs.Receiving.{commanded_by}
 use Rattle.sdh_node.specs.Node.{Node, new_node, at_receiving, held_for, slips_at, word_of}
-use Rattle.sdh_world.specs.Held.{nowhere, node_at, AtEach, at_place, place_of_port}
-use Rattle.sdh_world.specs.Rounds.{World}
-use Rattle.sdh_world.specs.Runs.{run, course}
-use Rattle.sdh_world.specs.Quiet.{EndsWindow}
-use Rattle.sdh_world.specs.Sides.{world_in}
-use Rattle.sdh_promise.specs.Changes.{Change, Stretch, rounds_in}
-use Rattle.sdh_promise.specs.Changes.{Fibre, Order, Hold, Slip, Now}
-use Rattle.sdh_world.specs.Changes.{changed, all_changed, after_stretch}
-use Rattle.sdh_world.specs.Laws.{IsChangeOf, AreChangesOf, MayHappen}
-use Rattle.sdh_world.proofs.Histories.{length-placed}
+use Rattle.sdh_node.specs.Rings.Held.{nowhere, node_at, AtEach, at_place, place_of_port}
+use Rattle.sdh_node.specs.Rings.Rounds.{World}
+use Rattle.sdh_node.specs.Rings.Runs.{run, course}
+use Rattle.sdh_node.specs.Rings.Quiet.{EndsWindow}
+use Rattle.sdh_node.specs.Rings.Sides.{world_in}
+use Rattle.sdh_restoration.specs.Changes.{Change, Stretch, rounds_in}
+use Rattle.sdh_restoration.specs.Changes.{Fibre, Order, Hold, Slip, Now}
+use Rattle.sdh_node.specs.Rings.Changes.{changed, all_changed, after_stretch}
+use Rattle.sdh_node.specs.Rings.Laws.{IsChangeOf, AreChangesOf, MayHappen}
+use Rattle.sdh_node.proofs.RingLaws.Histories.{length-placed}
 use Rattle.sdh_rounds.specs.Runs as any_run
 use Rattle.sdh_laws.proofs.hearing.Staying.{world_low, world_high, world_later}
 use Rattle.sdh_laws.proofs.hearing.Changes.{each_at_place, held_leaves, slips_leave, with_node, whole_changed}

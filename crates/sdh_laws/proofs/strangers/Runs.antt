@@ -16,16 +16,16 @@ use Rattle.sdh_payload.specs.Outlet.{Outlet}
 use Rattle.sdh_plant.specs.Fibres.{Fibres, IsHonest}
 use Rattle.sdh_request.specs.declared.settings.Settings.{Settings}
 use Rattle.sdh_node.specs.Stations.{adm}
-use Rattle.sdh_world.specs.Held.{HeldRing}
-use Rattle.sdh_world.specs.Rounds.{World, round}
-use Rattle.sdh_world.specs.Runs.{run}
-use Rattle.sdh_promise.specs.Changes.{Stretch, rounds_in}
-use Rattle.sdh_world.specs.Changes.{new_world}
-use Rattle.sdh_world.specs.Clocks.{clocks_by, clock_in}
-use Rattle.sdh_world.specs.Clocks.{HasPortIn, clock_at}
-use Rattle.sdh_world.specs.Laws.{MayHappen}
-use Rattle.sdh_world.specs.Sides.{world_in}
-use Rattle.sdh_world.proofs.Clocks.{clocks_go_on, goes_run}
+use Rattle.sdh_node.specs.Rings.Held.{HeldRing}
+use Rattle.sdh_node.specs.Rings.Rounds.{World, round}
+use Rattle.sdh_node.specs.Rings.Runs.{run}
+use Rattle.sdh_restoration.specs.Changes.{Stretch, rounds_in}
+use Rattle.sdh_node.specs.Rings.Changes.{new_world}
+use Rattle.sdh_node.specs.Rings.Clocks.{clocks_by, clock_in}
+use Rattle.sdh_node.specs.Rings.Clocks.{HasPortIn, clock_at}
+use Rattle.sdh_node.specs.Rings.Laws.{MayHappen}
+use Rattle.sdh_node.specs.Rings.Sides.{world_in}
+use Rattle.sdh_node.proofs.RingLaws.Clocks.{clocks_go_on, goes_run}
 use Rattle.sdh_rounds.specs.Runs as any_run
 use Rattle.sdh_rounds.proofs.Laws.{known_rounds_are, known_steps}
 use Rattle.sdh_laws.proofs.hearing.Staying.{left_run, left_in, world_low}

@@ -13,14 +13,14 @@ use Rattle.sdh_circuits.specs.declared.PortId.{PortId}
 use Rattle.sdh_circuits.specs.Ends.{port_id}
 use Rattle.sdh_squelch.specs.Table.{circuits_at}
 use Rattle.sdh_nodestate.specs.declared.NodeState.{NodeState}
-use Rattle.sdh_squelch.specs.declared.connecting.Origin.TheVariants.{Protection, Ais}
+use Rattle.sdh_bridge.specs.declared.Origin.TheVariants.{Protection, Ais}
 use Rattle.sdh_payload.specs.Clock.{Clock}
 use Rattle.sdh_terminal.specs.Passing.{Input}
 use Rattle.sdh_terminal.specs.Tributaries.{added_by}
 use Rattle.sdh_node.specs.Node.{Node, is_held, word_of}
 use Rattle.sdh_node.proofs.Decided.{turns_left}
-use Rattle.sdh_world.specs.Held.{node_at, AtEach}
-use Rattle.sdh_world.specs.Rounds.{World, round}
+use Rattle.sdh_node.specs.Rings.Held.{node_at, AtEach}
+use Rattle.sdh_node.specs.Rings.Rounds.{World, round}
 use Rattle.sdh_rounds.specs.Rounds as any_round
 use Rattle.sdh_signal.specs.Walks.{carries_in, stands_in, working_in, protection_in}
 use Rattle.sdh_signal.proofs.Views.{AreOnRing, Switch, on-ring}

@@ -16,18 +16,18 @@ use Rattle.sdh_signal.specs.Laws.{StillRingsAreSettled}
 use Rattle.sdh_signal.specs.Settled.{settled}
 use Rattle.sdh_node.specs.Node.{Node, new_node, at_receiving, held_for, slips_at}
 use Rattle.sdh_node.specs.Receiving.{commanded_by}
-use Rattle.sdh_world.specs.Held.{node_at, at_place, place_of_port}
+use Rattle.sdh_node.specs.Rings.Held.{node_at, at_place, place_of_port}
 use Rattle.sdh_payload.specs.Clock.{Clock}
-use Rattle.sdh_world.specs.Rounds.{World, round}
-use Rattle.sdh_world.specs.Runs.{run, course}
-use Rattle.sdh_world.specs.Quiet.{EndsWindow}
-use Rattle.sdh_promise.specs.Changes.{Change, Stretch, rounds_in}
-use Rattle.sdh_promise.specs.Changes.{Fibre, Order, Hold, Slip, Now}
-use Rattle.sdh_promise.specs.Owed.{asked_in}
-use Rattle.sdh_world.specs.Changes.{changed, all_changed, after_stretch, after_stretches, new_world}
-use Rattle.sdh_world.specs.Laws.{MayHappen}
-use Rattle.sdh_world.specs.Clocks.{clocks_by}
-use Rattle.sdh_world.specs.Sides.{world_in}
+use Rattle.sdh_node.specs.Rings.Rounds.{World, round}
+use Rattle.sdh_node.specs.Rings.Runs.{run, course}
+use Rattle.sdh_node.specs.Rings.Quiet.{EndsWindow}
+use Rattle.sdh_restoration.specs.Changes.{Change, Stretch, rounds_in}
+use Rattle.sdh_restoration.specs.Changes.{Fibre, Order, Hold, Slip, Now}
+use Rattle.sdh_restoration.specs.Sides.{asked_in}
+use Rattle.sdh_node.specs.Rings.Changes.{changed, all_changed, after_stretch, after_stretches, new_world}
+use Rattle.sdh_node.specs.Rings.Laws.{MayHappen}
+use Rattle.sdh_node.specs.Rings.Clocks.{clocks_by}
+use Rattle.sdh_node.specs.Rings.Sides.{world_in}
 use Rattle.sdh_laws.specs.Hearing.Laws.{IsWhole, MayStart}
 use Rattle.sdh_laws.proofs.hearing.Nodes.{count}
 use Rattle.sdh_laws.proofs.hearing.Staying.{left_all, left_run, left_stretches, world_low, world_later}

@@ -18,8 +18,8 @@ use Rattle.sdh_payload.specs.Clock.{Clock}
 use Rattle.sdh_ringmap.specs.Fibres.{fibre}
 use Rattle.sdh_plant.specs.Arrivals.{carried_on}
 use Rattle.sdh_node.specs.Node.{word_of}
-use Rattle.sdh_world.specs.Held.{node_at}
-use Rattle.sdh_world.specs.Rounds.{World}
+use Rattle.sdh_node.specs.Rings.Held.{node_at}
+use Rattle.sdh_node.specs.Rings.Rounds.{World}
 use Rattle.sdh_signal.specs.Walks.{carries_in}
 use Rattle.sdh_signal.proofs.Views.{AreOnRing, Switch}
 use Rattle.sdh_signal.proofs.OnArcs.{near_at, seen-on}

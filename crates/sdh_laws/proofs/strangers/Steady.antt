@@ -9,15 +9,15 @@ use Rattle.sdh_ringmap.proofs.Sides.{opposite_twice}
 use Rattle.sdh_circuits.specs.Provisioned.{Provisioned}
 use Rattle.sdh_circuits.specs.declared.PortId.{PortId}
 use Rattle.sdh_squelch.specs.Table.{circuits_at}
-use Rattle.sdh_squelch.specs.declared.connecting.Origin.{Origin}
-use Rattle.sdh_squelch.specs.declared.connecting.Origin.TheVariants.{Working, Protection}
+use Rattle.sdh_bridge.specs.declared.Origin.{Origin}
+use Rattle.sdh_bridge.specs.declared.Origin.TheVariants.{Working, Protection}
 use Rattle.sdh_signal.specs.Settled.{settled}
 use Rattle.sdh_payload.specs.Clock.{Clock}
 use Rattle.sdh_ringmap.specs.Fibres.{fibre}
 use Rattle.sdh_plant.specs.Arrivals.{carried_on}
 use Rattle.sdh_node.specs.Node.{is_held}
-use Rattle.sdh_world.specs.Held.{AtEach}
-use Rattle.sdh_world.specs.Rounds.{World, round}
+use Rattle.sdh_node.specs.Rings.Held.{AtEach}
+use Rattle.sdh_node.specs.Rings.Rounds.{World, round}
 use Rattle.sdh_rounds.specs.Rounds as any_round
 use Rattle.sdh_signal.specs.Walks.{Stand, stand, IsOver, Leads, back_from, working_in, protection_in}
 use Rattle.sdh_signal.specs.Law.{Ends}

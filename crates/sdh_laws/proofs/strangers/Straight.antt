@@ -44,19 +44,19 @@ use Rattle.sdh_terminal.specs.Outlets.{chunk_form, chunk_from, delivered_by, del
 use Rattle.sdh_node.specs.Receiving.{Receiving, commanded_by}
 use Rattle.sdh_terminal.specs.Tributaries.{Tributary, action_of, sent_by, sent_in, input_by}
 use Rattle.sdh_node.specs.Node.{Node, new_node, at_receiving, held_for, slips_at, receiving_on, sending_on, word_of}
-use Rattle.sdh_world.specs.Held.{node_at, outlet_at, place_of_port}
-use Rattle.sdh_world.specs.Rounds.{World, round}
+use Rattle.sdh_node.specs.Rings.Held.{node_at, outlet_at, place_of_port}
+use Rattle.sdh_node.specs.Rings.Rounds.{World, round}
 use Rattle.sdh_rounds.specs.Rounds as any_round
 use Rattle.sdh_rounds.specs.Runs as any_run
-use Rattle.sdh_world.specs.Runs.{run}
-use Rattle.sdh_promise.specs.Changes.{Change, Stretch, rounds_in}
-use Rattle.sdh_promise.specs.Changes.{Fibre, Order, Hold, Slip, Now}
-use Rattle.sdh_world.specs.Changes.{changed, all_changed, after_stretch, new_world}
-use Rattle.sdh_world.specs.Clocks.{clock_after, clock_changed, clocks_by, clock_in, first_clock, offset_of}
-use Rattle.sdh_world.specs.Clocks.{HasPortIn, clock_at}
-use Rattle.sdh_world.specs.Laws.{IsChangeOf, AreChangesOf, MayHappen}
-use Rattle.sdh_world.specs.Sides.{world_in}
-use Rattle.sdh_world.proofs.Clocks.{clocks_go_on}
+use Rattle.sdh_node.specs.Rings.Runs.{run}
+use Rattle.sdh_restoration.specs.Changes.{Change, Stretch, rounds_in}
+use Rattle.sdh_restoration.specs.Changes.{Fibre, Order, Hold, Slip, Now}
+use Rattle.sdh_node.specs.Rings.Changes.{changed, all_changed, after_stretch, new_world}
+use Rattle.sdh_node.specs.Rings.Clocks.{clock_after, clock_changed, clocks_by, clock_in, first_clock, offset_of}
+use Rattle.sdh_node.specs.Rings.Clocks.{HasPortIn, clock_at}
+use Rattle.sdh_node.specs.Rings.Laws.{IsChangeOf, AreChangesOf, MayHappen}
+use Rattle.sdh_node.specs.Rings.Sides.{world_in}
+use Rattle.sdh_node.proofs.RingLaws.Clocks.{clocks_go_on}
 use Rattle.sdh_laws.specs.Hearing.Laws.{IsWhole, MayStart}
 use Rattle.sdh_laws.proofs.hearing.Nodes.{count, length-after}
 use Rattle.sdh_laws.proofs.hearing.Rounds.{whole_round}

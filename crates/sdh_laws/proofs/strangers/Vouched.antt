@@ -35,12 +35,12 @@ use Rattle.sdh_node.specs.Node.{Node, new_node, at_receiving, held_for, slips_at
 use Rattle.sdh_node.specs.Node.{node_round}
 use Rattle.sdh_node.proofs.Decided.{turns_left, scene_in, state_is}
 use Rattle.sdh_nodestate.specs.Rules.{state_after}
-use Rattle.sdh_world.specs.Held.{node_at, AtEach, at_place, outlet_at, place_of_port}
-use Rattle.sdh_world.specs.Rounds.{World, round}
-use Rattle.sdh_promise.specs.Changes.{Change}
-use Rattle.sdh_promise.specs.Changes.{Fibre, Order, Hold, Slip, Now}
-use Rattle.sdh_world.specs.Changes.{changed, new_world}
-use Rattle.sdh_world.specs.Laws.{IsChangeOf}
+use Rattle.sdh_node.specs.Rings.Held.{node_at, AtEach, at_place, outlet_at, place_of_port}
+use Rattle.sdh_node.specs.Rings.Rounds.{World, round}
+use Rattle.sdh_restoration.specs.Changes.{Change}
+use Rattle.sdh_restoration.specs.Changes.{Fibre, Order, Hold, Slip, Now}
+use Rattle.sdh_node.specs.Rings.Changes.{changed, new_world}
+use Rattle.sdh_node.specs.Rings.Laws.{IsChangeOf}
 use Rattle.sdh_rounds.specs.Rounds as any_round
 use Rattle.sdh_laws.specs.Hearing.Laws.{IsWhole}
 use Rattle.sdh_laws.proofs.hearing.Nodes.{informed, count, nodes_after, length-after}

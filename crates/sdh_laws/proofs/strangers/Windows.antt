@@ -14,10 +14,10 @@ use Rattle.sdh_payload.specs.Clock.{Clock}
 use Rattle.sdh_ringmap.specs.Fibres.{fibre}
 use Rattle.sdh_plant.specs.Arrivals.{carried_on}
 use Rattle.sdh_node.specs.Node.{Node, is_held, word_of}
-use Rattle.sdh_world.specs.Held.{node_at, AtEach}
-use Rattle.sdh_world.specs.Rounds.{World, round}
-use Rattle.sdh_world.specs.Runs.{run, course}
-use Rattle.sdh_world.specs.Quiet.{is_calm, EndsWindow}
+use Rattle.sdh_node.specs.Rings.Held.{node_at, AtEach}
+use Rattle.sdh_node.specs.Rings.Rounds.{World, round}
+use Rattle.sdh_node.specs.Rings.Runs.{run, course}
+use Rattle.sdh_node.specs.Rings.Quiet.{is_calm, EndsWindow}
 use Rattle.sdh_rounds.specs.Rounds as any_round
 use Rattle.sdh_rounds.specs.Runs as any_run
 use Rattle.sdh_signal.proofs.Views.{AreOnRing, Switch, on-ring}

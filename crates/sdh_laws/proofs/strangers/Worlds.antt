@@ -19,7 +19,7 @@ use Rattle.sdh_squelch.specs.Table.{OnSpan, circuits_at, circuit_on}
 use Rattle.sdh_nodestate.specs.declared.NodeState.{NodeState}
 use Rattle.sdh_nodestate.specs.Words.{IsMember}
 use Rattle.sdh_nodestate.specs.Rules.{Scene, long, word, state_after}
-use Rattle.sdh_squelch.specs.declared.connecting.Origin.TheVariants.{Working, Protection, Ais}
+use Rattle.sdh_bridge.specs.declared.Origin.TheVariants.{Working, Protection, Ais}
 use Rattle.sdh_pointer.specs.declared.reading.Action.TheVariants as action
 use Rattle.sdh_ringmap.specs.Fibres.{fibre}
 use Rattle.sdh_plant.specs.Arrivals.{carried_on}
@@ -28,8 +28,8 @@ use Rattle.sdh_terminal.specs.Passing.{Input}
 use Rattle.sdh_terminal.specs.Tributaries.{added_by}
 use Rattle.sdh_node.specs.Node.{Node, is_held, word_of}
 use Rattle.sdh_node.proofs.Decided.{scene_in, state_is, word_is}
-use Rattle.sdh_world.specs.Held.{node_at, AtEach}
-use Rattle.sdh_world.specs.Rounds.{World, round}
+use Rattle.sdh_node.specs.Rings.Held.{node_at, AtEach}
+use Rattle.sdh_node.specs.Rings.Rounds.{World, round}
 use Rattle.sdh_laws.specs.Hearing.Signalling.{word_to, lines_at}
 use Rattle.sdh_laws.specs.Hearing.Laws.{IsWhole}
 use Rattle.sdh_laws.proofs.hearing.Nodes.{informed, informed_out, count, nodes_after, length-after}

@@ -16,19 +16,19 @@ use Rattle.sdh_request.specs.declared.settings.Settings.{Settings}
 use Rattle.sdh_terminal.specs.Lines.{received}
 use Rattle.sdh_node.specs.Crossing.{is_failed}
 use Rattle.sdh_node.specs.Node.{receiving_on}
-use Rattle.sdh_world.specs.Held.{HeldRing, outlet_at, node_at}
-use Rattle.sdh_world.specs.Fixed.{IsRing}
-use Rattle.sdh_world.specs.Rounds.{World, round}
-use Rattle.sdh_world.specs.Runs.{run, course}
-use Rattle.sdh_world.specs.Quiet.{is_calm, EndsWindow, Settles}
-use Rattle.sdh_promise.specs.Changes.{Stretch, rounds_in}
-use Rattle.sdh_world.specs.Changes.{all_changed, after_stretches, new_world}
+use Rattle.sdh_node.specs.Rings.Held.{HeldRing, outlet_at, node_at}
+use Rattle.sdh_node.specs.Rings.Fixed.{IsRing}
+use Rattle.sdh_node.specs.Rings.Rounds.{World, round}
+use Rattle.sdh_node.specs.Rings.Runs.{run, course}
+use Rattle.sdh_node.specs.Rings.Quiet.{is_calm, EndsWindow, Settles}
+use Rattle.sdh_restoration.specs.Changes.{Stretch, rounds_in}
+use Rattle.sdh_node.specs.Rings.Changes.{all_changed, after_stretches, new_world}
 use Rattle.sdh_laws.specs.Hearing.Signalling.{lines_at, signals_of}
-use Rattle.sdh_world.specs.Laws.{MayHappen}
-use Rattle.sdh_world.specs.Clocks.{clocks_by, clocks_from}
+use Rattle.sdh_node.specs.Rings.Laws.{MayHappen}
+use Rattle.sdh_node.specs.Rings.Clocks.{clocks_by, clocks_from}
 use Rattle.sdh_payload.specs.Clock.{Clock}
 use Rattle.sdh_circuits.specs.declared.PortId.{PortId}
-use Rattle.sdh_promise.specs.Owed.{asked_in}
+use Rattle.sdh_restoration.specs.Sides.{asked_in}
 use Rattle.sdh_laws.specs.Hearing.Laws.{IsWhole, MayStart}
 use Rattle.sdh_spans.specs.Brought.{Brings, HasValue, plainly}
 use Rattle.sdh_laws.specs.Carrying.Windows.{layout_in, layout_of, HasCircuits, sent_at, requests_of, FailOnApplied, IsQuiet}

@@ -5,7 +5,7 @@ use Rattle.sdh_ringmap.specs.Places.{span_at}
 use Rattle.sdh_ringmap.specs.declared.Side.{Side}
 use Rattle.sdh_circuits.specs.Provisioned.{Provisioned}
 use Rattle.sdh_circuits.specs.Provisioning.{AreCircuits}
-use Rattle.sdh_squelch.specs.declared.connecting.Origin.{Origin}
+use Rattle.sdh_bridge.specs.declared.Origin.{Origin}
 use Rattle.sdh_restoration.specs.Applied.{is_applied}
 use Rattle.sdh_signal.specs.Settled.{settled}
 use Rattle.sdh_signal.specs.Signals.{requests_in}
@@ -16,10 +16,10 @@ use Rattle.sdh_terminal.specs.Lines.{fed_by}
 use Rattle.sdh_terminal.specs.Tributaries.{added_by}
 use Rattle.sdh_node.specs.Crossing.{is_failed, feeder_of, leads}
 use Rattle.sdh_node.specs.Node.{receiving_on}
-use Rattle.sdh_world.specs.Held.{HeldRing, node_at}
-use Rattle.sdh_world.specs.Rounds.{World}
-use Rattle.sdh_world.specs.Runs.{run, course}
-use Rattle.sdh_world.specs.Quiet.{IsCalm}
+use Rattle.sdh_node.specs.Rings.Held.{HeldRing, node_at}
+use Rattle.sdh_node.specs.Rings.Rounds.{World}
+use Rattle.sdh_node.specs.Rings.Runs.{run, course}
+use Rattle.sdh_node.specs.Rings.Quiet.{IsCalm}
 use Rattle.sdh_laws.specs.Hearing.Signalling.{crossing_at, lines_at, needs_in}
 
 -- what no round changes of a ring: the settings, the identifiers by position, and the circuits

@@ -3,18 +3,18 @@ use Rattle.std.specs.Prelude.{ℕ, zero, suc, ◌≡◌, ◌≤◌, ◌+◌, ◌
 use Rattle.sdh_restoration.specs.Applied.{is_applied}
 use Rattle.sdh_circuits.specs.Ends.{other_end}
 use Rattle.sdh_laws.specs.Carrying.Laws.{due_by_clocks}
-use Rattle.sdh_world.specs.Clocks.{clocks_by}
+use Rattle.sdh_node.specs.Rings.Clocks.{clocks_by}
 use Rattle.sdh_circuits.specs.declared.End.{End}
 use Rattle.sdh_circuits.specs.Provisioned.{Provisioned}
 use Rattle.sdh_circuits.specs.Provisioning.{Provisioning}
-use Rattle.sdh_world.specs.Held.{outlet_at}
+use Rattle.sdh_node.specs.Rings.Held.{outlet_at}
 use Rattle.sdh_plant.specs.Fibres.{Fibres}
 use Rattle.sdh_request.specs.declared.settings.Settings.{Settings}
-use Rattle.sdh_world.specs.Rounds.{World}
-use Rattle.sdh_world.specs.Runs.{run, course}
-use Rattle.sdh_world.specs.Quiet.{IsCalm, settles_in}
-use Rattle.sdh_promise.specs.Changes.{Stretch}
-use Rattle.sdh_world.specs.Changes.{after_stretches, new_world}
+use Rattle.sdh_node.specs.Rings.Rounds.{World}
+use Rattle.sdh_node.specs.Rings.Runs.{run, course}
+use Rattle.sdh_node.specs.Rings.Quiet.{IsCalm, settles_in}
+use Rattle.sdh_restoration.specs.Changes.{Stretch}
+use Rattle.sdh_node.specs.Rings.Changes.{after_stretches, new_world}
 use Rattle.sdh_laws.specs.Hearing.Laws.{MayStart}
 use Rattle.sdh_laws.specs.Carrying.Windows.{layout_of, HasCircuits, requests_of}
 

@@ -7,12 +7,12 @@ use Rattle.sdh_ringmap.specs.Rates.{n_of}
 use Rattle.sdh_circuits.specs.Provisioning.{Provisioning}
 use Rattle.sdh_plant.specs.Fibres.{Fibres}
 use Rattle.sdh_request.specs.declared.settings.Settings.{Settings}
-use Rattle.sdh_world.specs.Rounds.{World}
-use Rattle.sdh_world.specs.Runs.{course}
-use Rattle.sdh_world.specs.Quiet.{IsCalm, EndsWindow, NeverSettles, settles_in, Unsettles}
-use Rattle.sdh_promise.specs.Changes.{Stretch}
-use Rattle.sdh_world.specs.Changes.{after_stretches, new_world}
-use Rattle.sdh_world.specs.Laws.{MayHappen}
+use Rattle.sdh_node.specs.Rings.Rounds.{World}
+use Rattle.sdh_node.specs.Rings.Runs.{course}
+use Rattle.sdh_node.specs.Rings.Quiet.{IsCalm, EndsWindow, NeverSettles, settles_in, Unsettles}
+use Rattle.sdh_restoration.specs.Changes.{Stretch}
+use Rattle.sdh_node.specs.Rings.Changes.{after_stretches, new_world}
+use Rattle.sdh_node.specs.Rings.Laws.{MayHappen}
 use Rattle.sdh_laws.specs.Hearing.Laws.{IsWhole, MayStart}
 use Rattle.sdh_laws.specs.Carrying.Windows.{layout_of, HasCircuits}
 use Rattle.sdh_spans.specs.Spans.{IsConstant}

@@ -12,9 +12,9 @@ use Rattle.sdh_plant.specs.Fibres.{Fibres, IsHonest}
 use Rattle.sdh_request.specs.declared.settings.Settings.{Settings}
 use Rattle.sdh_circuits.specs.declared.End.TheVariants.{A}
 use Rattle.sdh_payload.specs.declared.clock.Turn.TheVariants.{Up}
-use Rattle.sdh_promise.specs.Changes.{Fibre, Order, Slip, Now, Stretch}
-use Rattle.sdh_world.specs.Changes.{new_world, after_stretches}
-use Rattle.sdh_world.specs.Laws.{MayHappen}
+use Rattle.sdh_restoration.specs.Changes.{Fibre, Order, Slip, Now, Stretch}
+use Rattle.sdh_node.specs.Rings.Changes.{new_world, after_stretches}
+use Rattle.sdh_node.specs.Rings.Laws.{MayHappen}
 use Rattle.sdh_laws.specs.Hearing.Laws.{MayStart}
 use Rattle.sdh_laws.specs.Carrying.Windows.{layout_of, HasCircuits}
 use Rattle.sdh_laws.specs.Converging.Laws.{Converges}

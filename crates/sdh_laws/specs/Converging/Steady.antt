@@ -1,16 +1,16 @@
 -- What stays the same from some round of a run on.
 use Rattle.std.specs.Prelude.{ℕ, suc, ◌≡◌, ◌<◌, ◌≤◌, List, length}
 use Rattle.sdh_ringmap.specs.declared.Side.{Side}
-use Rattle.sdh_squelch.specs.declared.connecting.Origin.{Origin}
+use Rattle.sdh_bridge.specs.declared.Origin.{Origin}
 use Rattle.sdh_terminal.specs.Passing.{Input}
 use Rattle.sdh_terminal.specs.Lines.{received}
 use Rattle.sdh_node.specs.Node.{receiving_on, sending_on}
-use Rattle.sdh_world.specs.Rounds.{World}
-use Rattle.sdh_world.specs.Runs.{run}
+use Rattle.sdh_node.specs.Rings.Rounds.{World}
+use Rattle.sdh_node.specs.Rings.Runs.{run}
 use Rattle.sdh_laws.specs.Hearing.Signalling.{lines_at}
 use Rattle.sdh_laws.specs.Hearing.Laws.{NoneWait}
 use Rattle.sdh_laws.specs.Carrying.Windows.{value_at, sent_at, AreSettled}
-use Rattle.sdh_world.specs.Held.{node_at, AtEach}
+use Rattle.sdh_node.specs.Rings.Held.{node_at, AtEach}
 
 -- Round k of a run is the round that begins after k rounds.
 

@@ -11,19 +11,19 @@ use Rattle.sdh_signal.specs.Signals.{MayGo, requests_in}
 use Rattle.sdh_plant.specs.Fibres.{Arrival, Fibres, IsHonest}
 use Rattle.sdh_request.specs.declared.settings.Settings.{Settings}
 use Rattle.sdh_node.specs.Node.{receiving_on, is_held, compared, word_of}
-use Rattle.sdh_world.specs.Held.{new_ring, node_at, AtEach}
-use Rattle.sdh_world.specs.Rounds.{World, world, round_with, round}
-use Rattle.sdh_world.specs.Runs.{IsRound, run, course}
-use Rattle.sdh_world.specs.Quiet.{is_calm, IsCalm, EndsWindow, Settles, Unsettles}
-use Rattle.sdh_promise.specs.Changes.{Change, Stretch, rounds_in}
-use Rattle.sdh_world.specs.Changes.{changed, all_changed, after_stretches, new_world}
-use Rattle.sdh_world.specs.Laws.{IsChangeOf, AreChangesOf, MayHappen}
+use Rattle.sdh_node.specs.Rings.Held.{new_ring, node_at, AtEach}
+use Rattle.sdh_node.specs.Rings.Rounds.{World, world, round_with, round}
+use Rattle.sdh_node.specs.Rings.Runs.{IsRound, run, course}
+use Rattle.sdh_node.specs.Rings.Quiet.{is_calm, IsCalm, EndsWindow, Settles, Unsettles}
+use Rattle.sdh_restoration.specs.Changes.{Change, Stretch, rounds_in}
+use Rattle.sdh_node.specs.Rings.Changes.{changed, all_changed, after_stretches, new_world}
+use Rattle.sdh_node.specs.Rings.Laws.{IsChangeOf, AreChangesOf, MayHappen}
 use Rattle.sdh_payload.specs.Clock.{waiting}
 use Rattle.sdh_terminal.specs.Lines.{line_on}
 use Rattle.sdh_terminal.specs.Tributaries.{Tributary}
-use Rattle.sdh_world.specs.Sides.{condition_to, world_in}
+use Rattle.sdh_node.specs.Rings.Sides.{condition_to, world_in}
 use Rattle.sdh_spans.specs.Frames.{shown_by}
-use Rattle.sdh_promise.specs.Owed.{asked_in}
+use Rattle.sdh_restoration.specs.Sides.{asked_in}
 use Rattle.sdh_laws.specs.Hearing.Placed.{IsPlaced}
 use Rattle.sdh_laws.specs.Hearing.Paired.{IsPaired}
 use Rattle.sdh_laws.specs.Hearing.Signalling.{Brings, CountsViolations, Reads, lines_at, signals_of, needs_in, held_in}

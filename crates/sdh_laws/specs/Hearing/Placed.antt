@@ -8,9 +8,9 @@ use Rattle.sdh_spans.specs.Sides.{IsInletAt, IsSenderAt}
 use Rattle.sdh_payload.specs.Clock.{IsClock}
 use Rattle.sdh_terminal.specs.Tributaries.{Tributary}
 use Rattle.sdh_node.specs.Node.{Node, receiving_on, sending_on}
-use Rattle.sdh_world.specs.Held.{HeldRing, new_nodes, AtEach}
-use Rattle.sdh_world.specs.Fixed.{fixed}
-use Rattle.sdh_world.specs.Rounds.{World}
+use Rattle.sdh_node.specs.Rings.Held.{HeldRing, new_nodes, AtEach}
+use Rattle.sdh_node.specs.Rings.Fixed.{fixed}
+use Rattle.sdh_node.specs.Rings.Rounds.{World}
 
 -- all sides of a node are sides at the rate of these settings
 pub record HasSides (s : Settings) (n : Node) : Type 0 where

@@ -2,10 +2,10 @@
 use Rattle.std.specs.Prelude.{ℕ, ◌≤◌}
 use Rattle.sdh_payload.specs.Clock.{Clock}
 use Rattle.sdh_circuits.specs.declared.PortId.{PortId}
-use Rattle.sdh_world.specs.Rounds.{World}
-use Rattle.sdh_world.specs.Runs.{course, IsRound}
-use Rattle.sdh_world.specs.Quiet.{IsCalm, Settles}
-use Rattle.sdh_world.specs.Clocks.{clocks_from}
+use Rattle.sdh_node.specs.Rings.Rounds.{World}
+use Rattle.sdh_node.specs.Rings.Runs.{course, IsRound}
+use Rattle.sdh_node.specs.Rings.Quiet.{IsCalm, Settles}
+use Rattle.sdh_node.specs.Rings.Clocks.{clocks_from}
 use Rattle.sdh_laws.specs.Hearing.Laws.{IsWhole}
 use Rattle.sdh_laws.specs.Carrying.Windows.{layout_of, HasCircuits}
 use Rattle.sdh_laws.specs.Resting.Rest.{IsAtRest, StaysAtRest}

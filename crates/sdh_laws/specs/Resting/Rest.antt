@@ -2,10 +2,10 @@
 use Rattle.std.specs.Prelude.{ℕ, ◌≡◌, ◌≤◌, true}
 use Rattle.sdh_payload.specs.Clock.{Clock}
 use Rattle.sdh_circuits.specs.declared.PortId.{PortId}
-use Rattle.sdh_world.specs.Held.{AtEach}
-use Rattle.sdh_world.specs.Rounds.{World}
-use Rattle.sdh_world.specs.Runs.{run, course}
-use Rattle.sdh_world.specs.Quiet.{is_calm, IsCalm}
+use Rattle.sdh_node.specs.Rings.Held.{AtEach}
+use Rattle.sdh_node.specs.Rings.Rounds.{World}
+use Rattle.sdh_node.specs.Rings.Runs.{run, course}
+use Rattle.sdh_node.specs.Rings.Quiet.{is_calm, IsCalm}
 use Rattle.sdh_laws.specs.Hearing.Laws.{IsWhole}
 use Rattle.sdh_laws.specs.Carrying.Windows.{requests_of}
 use Rattle.sdh_laws.specs.Carrying.Laws.{DeliversWhatIsDue}

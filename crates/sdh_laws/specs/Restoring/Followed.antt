@@ -23,17 +23,17 @@ use Rattle.sdh_pointer.specs.declared.word.Form.TheVariants as form
 use Rattle.sdh_request.specs.declared.settings.Settings.{Settings}
 use Rattle.sdh_restoration.specs.Applied.{is_applied, span_requests}
 use Rattle.sdh_restoration.specs.Routes.{hops}
-use Rattle.sdh_promise.specs.Changes.{Change, Fibre, Order, Hold, Slip, Now, Stretch, rounds_in}
-use Rattle.sdh_promise.specs.Owed.{asked_in}
+use Rattle.sdh_restoration.specs.Changes.{Change, Fibre, Order, Hold, Slip, Now, Stretch, rounds_in}
+use Rattle.sdh_restoration.specs.Sides.{asked_in}
 use Rattle.sdh_terminal.specs.Receiving.{pointer_word_at}
 use Rattle.sdh_node.specs.Node.{receiving_on, sending_on}
-use Rattle.sdh_world.specs.Changes.{changed, after_stretches, new_world}
-use Rattle.sdh_world.specs.Clocks.{clocks_from, clocks_by}
-use Rattle.sdh_world.specs.Held.{node_at, AtEach}
-use Rattle.sdh_world.specs.Laws.{MayHappen}
-use Rattle.sdh_world.specs.Rounds.{World}
-use Rattle.sdh_world.specs.Quiet.{EndsWindow, Settles, Unsettles}
-use Rattle.sdh_world.specs.Runs.{run, course}
+use Rattle.sdh_node.specs.Rings.Changes.{changed, after_stretches, new_world}
+use Rattle.sdh_node.specs.Rings.Clocks.{clocks_from, clocks_by}
+use Rattle.sdh_node.specs.Rings.Held.{node_at, AtEach}
+use Rattle.sdh_node.specs.Rings.Laws.{MayHappen}
+use Rattle.sdh_node.specs.Rings.Rounds.{World}
+use Rattle.sdh_node.specs.Rings.Quiet.{EndsWindow, Settles, Unsettles}
+use Rattle.sdh_node.specs.Rings.Runs.{run, course}
 use Rattle.sdh_laws.specs.Hearing.Laws.{IsWhole, MayStart}
 use Rattle.sdh_laws.specs.Carrying.Windows.{layout_of, HasCircuits, requests_of}
 use Rattle.sdh_laws.specs.Carrying.Laws.{DeliversItsDue, IsRestored}

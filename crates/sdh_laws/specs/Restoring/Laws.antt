@@ -5,22 +5,22 @@ use Rattle.sdh_ringmap.specs.Rates.{n_of}
 use Rattle.sdh_circuits.specs.Provisioning.{Provisioning, AreCircuits}
 use Rattle.sdh_plant.specs.Fibres.{Fibres}
 use Rattle.sdh_request.specs.declared.settings.Settings.{Settings}
-use Rattle.sdh_promise.specs.Changes.{Stretch, rounds_in}
-use Rattle.sdh_world.specs.Changes.{after_stretches, new_world}
-use Rattle.sdh_world.specs.Laws.{MayHappen}
+use Rattle.sdh_restoration.specs.Changes.{Stretch, rounds_in}
+use Rattle.sdh_node.specs.Rings.Changes.{after_stretches, new_world}
+use Rattle.sdh_node.specs.Rings.Laws.{MayHappen}
 use Rattle.sdh_laws.specs.Hearing.Laws.{MayStart}
-use Rattle.sdh_promise.specs.Owed.{asked_in}
+use Rattle.sdh_restoration.specs.Sides.{asked_in}
 use Rattle.sdh_ringmap.specs.Arcs.{is_joined}
 use Rattle.sdh_circuits.specs.Provisioned.{Provisioned, arc_of}
 use Rattle.sdh_circuits.specs.declared.End.{End}
 use Rattle.sdh_restoration.specs.Applied.{is_applied, span_requests}
 use Rattle.sdh_restoration.specs.Routes.{hops}
 use Rattle.sdh_node.specs.Node.{is_held}
-use Rattle.sdh_world.specs.Held.{AtEach}
-use Rattle.sdh_world.specs.Rounds.{World}
-use Rattle.sdh_world.specs.Runs.{run}
-use Rattle.sdh_world.specs.Clocks.{clocks_from, clocks_by}
-use Rattle.sdh_world.specs.Quiet.{Unsettles}
+use Rattle.sdh_node.specs.Rings.Held.{AtEach}
+use Rattle.sdh_node.specs.Rings.Rounds.{World}
+use Rattle.sdh_node.specs.Rings.Runs.{run}
+use Rattle.sdh_node.specs.Rings.Clocks.{clocks_from, clocks_by}
+use Rattle.sdh_node.specs.Rings.Quiet.{Unsettles}
 use Rattle.sdh_laws.specs.Hearing.Laws.{IsWhole}
 use Rattle.sdh_laws.specs.Carrying.Windows.{layout_of, HasCircuits, requests_of}
 use Rattle.sdh_laws.specs.Carrying.Laws.{DeliversItsDue, IsRestored}

@@ -10,7 +10,7 @@ use Rattle.sdh_payload.specs.Chunk.{taken}
 use Rattle.sdh_payload.specs.Outlet.{Outlet, silent, delivering}
 use Rattle.sdh_payload.specs.declared.chunk.ChunkForm.{ChunkForm}
 use Rattle.sdh_terminal.specs.Passing.{h3_of}
-use Rattle.sdh_world.specs.Held.{HeldRing, outlet_at}
+use Rattle.sdh_node.specs.Rings.Held.{HeldRing, outlet_at}
 use Rattle.sdh_laws.specs.Strangers.Owners.{other_port, put_by, HasBytesOf}
 
 -- An AU-4 holds ones, which are nobody's bytes, or what this port put into its AU-4 in some round from `first` on,

@@ -11,19 +11,19 @@ use Rattle.sdh_circuits.specs.declared.PortId.{PortId}
 use Rattle.sdh_payload.specs.Clock.{Clock}
 use Rattle.sdh_plant.specs.Fibres.{Fibres, IsHonest}
 use Rattle.sdh_request.specs.declared.settings.Settings.{Settings}
-use Rattle.sdh_world.specs.Held.{AtEach, node_at}
-use Rattle.sdh_world.specs.Rounds.{World, round}
-use Rattle.sdh_world.specs.Runs.{IsRound, run, course}
-use Rattle.sdh_world.specs.Quiet.{Settles, Unsettles, EndsWindow}
-use Rattle.sdh_promise.specs.Changes.{Change, Stretch, rounds_in}
-use Rattle.sdh_promise.specs.Changes.{Fibre, Order, Hold, Slip, Now}
-use Rattle.sdh_world.specs.Changes.{changed, all_changed, after_stretch, new_world}
-use Rattle.sdh_world.specs.Clocks.{clocks_by}
-use Rattle.sdh_world.specs.Laws.{IsChangeOf, MayHappen}
-use Rattle.sdh_world.specs.Sides.{world_in}
+use Rattle.sdh_node.specs.Rings.Held.{AtEach, node_at}
+use Rattle.sdh_node.specs.Rings.Rounds.{World, round}
+use Rattle.sdh_node.specs.Rings.Runs.{IsRound, run, course}
+use Rattle.sdh_node.specs.Rings.Quiet.{Settles, Unsettles, EndsWindow}
+use Rattle.sdh_restoration.specs.Changes.{Change, Stretch, rounds_in}
+use Rattle.sdh_restoration.specs.Changes.{Fibre, Order, Hold, Slip, Now}
+use Rattle.sdh_node.specs.Rings.Changes.{changed, all_changed, after_stretch, new_world}
+use Rattle.sdh_node.specs.Rings.Clocks.{clocks_by}
+use Rattle.sdh_node.specs.Rings.Laws.{IsChangeOf, MayHappen}
+use Rattle.sdh_node.specs.Rings.Sides.{world_in}
 use Rattle.sdh_restoration.specs.Applied.{span_requests}
 use Rattle.sdh_signal.specs.Settled.{settled}
-use Rattle.sdh_promise.specs.Owed.{asked_in}
+use Rattle.sdh_restoration.specs.Sides.{asked_in}
 use Rattle.sdh_laws.specs.Hearing.Laws.{IsWhole, MayStart}
 use Rattle.sdh_laws.specs.Carrying.Windows.{layout_of, HasCircuits}
 use Rattle.sdh_laws.specs.Strangers.Owners.{NoneMeetsAStranger, AreClocksOf, AreClocksBetween}

@@ -12,9 +12,9 @@ use Rattle.sdh_payload.specs.declared.chunk.ChunkForm.{ChunkForm}
 use Rattle.sdh_circuits.specs.Ends.{other_end, port_id}
 use Rattle.sdh_terminal.specs.Passing.{h3_of}
 use Rattle.sdh_terminal.specs.Tributaries.{sent_in, input_by}
-use Rattle.sdh_world.specs.Clocks.{clock_at, clocks_from}
-use Rattle.sdh_world.specs.Held.{HeldRing, outlet_at}
-use Rattle.sdh_world.specs.Rounds.{World}
+use Rattle.sdh_node.specs.Rings.Clocks.{clock_at, clocks_from}
+use Rattle.sdh_node.specs.Rings.Held.{HeldRing, outlet_at}
+use Rattle.sdh_node.specs.Rings.Rounds.{World}
 
 -- the other port of the same circuit
 abbrev pub other_port : PortId → PortId

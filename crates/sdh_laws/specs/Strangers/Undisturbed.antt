@@ -15,15 +15,15 @@ use Rattle.sdh_payload.specs.Clock.{ticked, next_form}
 use Rattle.sdh_plant.specs.Fibres.{Fibres}
 use Rattle.sdh_circuits.specs.Ends.{other_end, port_id}
 use Rattle.sdh_request.specs.declared.settings.Settings.{Settings}
-use Rattle.sdh_world.specs.Held.{outlet_at}
-use Rattle.sdh_world.specs.Rounds.{round}
-use Rattle.sdh_promise.specs.Changes.{Stretch, rounds_in}
-use Rattle.sdh_world.specs.Changes.{new_world}
-use Rattle.sdh_world.specs.Clocks.{clocks_by}
-use Rattle.sdh_world.specs.Laws.{MayHappen}
-use Rattle.sdh_world.specs.Sides.{world_in}
+use Rattle.sdh_node.specs.Rings.Held.{outlet_at}
+use Rattle.sdh_node.specs.Rings.Rounds.{round}
+use Rattle.sdh_restoration.specs.Changes.{Stretch, rounds_in}
+use Rattle.sdh_node.specs.Rings.Changes.{new_world}
+use Rattle.sdh_node.specs.Rings.Clocks.{clocks_by}
+use Rattle.sdh_node.specs.Rings.Laws.{MayHappen}
+use Rattle.sdh_node.specs.Rings.Sides.{world_in}
 use Rattle.sdh_laws.specs.Hearing.Laws.{MayStart}
-use Rattle.sdh_promise.specs.Owed.{asked_in}
+use Rattle.sdh_restoration.specs.Sides.{asked_in}
 
 -- ---- the law
 

@@ -1,6 +1,6 @@
 use Rattle.std.proofs.Common.{List, ℕ, length, ap, ◌∙◌}
 use Rattle.sdh_request.specs.declared.settings.Settings.{Settings}
-use Rattle.sdh_world.specs.Held.{new_ring}
+use Rattle.sdh_node.specs.Rings.Held.{new_ring}
 use Rattle.sdh_aps_cli.proofs.parts.parts_of.Goals as goal
 
 pub returns-clause-form : goal.returns-clause-form

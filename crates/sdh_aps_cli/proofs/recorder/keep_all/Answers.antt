@@ -16,7 +16,7 @@ loop-i-preserved g c =
     let lt : i < length ws = omega (arith, c.loop-i-test.true, c.size-i-end.ensures.size, size, inv.len, c.requires) in
     record {
       len = simp length-set (omega arith);
-      each = set_upto (λ j (s : Shown). s ≡ shown_at r j) ws i c.shown_at.result lt c.shown_at.ensures (λ j s lj get. inv.each j s lj get);
+      each = set_upto (λ j (s : Shown). s ≡ shown_at r j) ws i c.shown_at.result lt c.shown_at.ensures.shown (λ j s lj get. inv.each j s lj get);
     }
 
 pub returns-clause-shown : goal.returns-clause-shown

@@ -2,7 +2,7 @@ use Rattle.std.proofs.Common.{◌≡◌, ℕ, ◌+◌, ◌*◌, ◌≤◌, ◌++
 use Rattle.sdh_aps.specs.declared.shown.Shown.{Shown}
 use Rattle.sdh_aps_cli.specs.Signalled.{changes_to}
 use Rattle.sdh_aps_cli.specs.Listing.{changes_text}
-use Rattle.sdh_shell.specs.Writing.{room_in}
+use Rattle.sdh_report.specs.Written.{room_in}
 use Rattle.sdh_aps_cli.specs.Recording.{AreShown}
 use Rattle.sdh_aps_cli.proofs.recorder.put_round.Given as goal
 

@@ -1,7 +1,7 @@
 use Rattle.std.proofs.Common.{◌≡◌, true, length, ap, arith}
 use Rattle.sdh_plant.specs.Fibres.{Fibres}
-use Rattle.sdh_world.specs.Held.{HeldRing}
-use Rattle.sdh_world.specs.Rounds.{world}
+use Rattle.sdh_node.specs.Rings.Held.{HeldRing}
+use Rattle.sdh_node.specs.Rings.Rounds.{world}
 use Rattle.sdh_owed.proofs.Steps.{may_new}
 use Rattle.sdh_aps_cli.specs.Plans.{Failures}
 use Rattle.sdh_aps_cli.specs.declared.listing.PlanListing.TheVariants as listed

@@ -1,6 +1,6 @@
 use Rattle.std.proofs.Common.{◌≡◌, true, subst}
 use Rattle.sdh_plant.specs.Fibres.{Fibres}
-use Rattle.sdh_world.specs.Rounds.{world}
+use Rattle.sdh_node.specs.Rings.Rounds.{world}
 use Rattle.sdh_scripts.specs.Outcomes.{with_fibres}
 use Rattle.sdh_scripts.specs.Texts.{WriteFailed}
 use Rattle.sdh_scripts.specs.Streams.{WroteSteps}

@@ -1,6 +1,6 @@
 use Rattle.std.proofs.Common.{◌≡◌, ◌<◌, length, ap, arith}
 use Rattle.sdh_circuits.specs.Provisioning.{Provisioning}
-use Rattle.sdh_world.specs.Held.{outlet_at}
+use Rattle.sdh_node.specs.Rings.Held.{outlet_at}
 use Rattle.sdh_cli.proofs.Told.{chunks_more}
 use Rattle.sdh_cli.proofs.reports.chunks_in.Goals as goal
 

@@ -3,7 +3,7 @@ use Rattle.sdh_report.specs.Written.{Written}
 use Rattle.sdh_report.specs.Lines.{count_line}
 use Rattle.sdh_report.specs.Reports.{chunks_in, silences_in}
 use Rattle.sdh_report.proofs.Short.{short-count_line}
-use Rattle.sdh_world.specs.Held.{outlet_at}
+use Rattle.sdh_node.specs.Rings.Held.{outlet_at}
 use Rattle.sdh_owed.specs.Reports.{ports_told}
 use Rattle.sdh_cli.proofs.Told.{the_others}
 use Rattle.sdh_cli.proofs.reports.put_counts.Goals as goal

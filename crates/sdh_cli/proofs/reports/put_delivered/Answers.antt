@@ -2,7 +2,7 @@ use Rattle.std.proofs.Common.{◌++◌, arith, ap, sym, ◌∙◌}
 use Rattle.sdh_report.specs.Written.{Written}
 use Rattle.sdh_report.specs.Lines.{drop_lines}
 use Rattle.sdh_report.proofs.Short.{short-drop_lines}
-use Rattle.sdh_world.specs.Held.{outlet_at}
+use Rattle.sdh_node.specs.Rings.Held.{outlet_at}
 use Rattle.sdh_cli.proofs.Told.{delivered_is}
 use Rattle.sdh_cli.proofs.reports.put_delivered.Goals as goal
 

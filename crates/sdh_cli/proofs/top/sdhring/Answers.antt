@@ -22,9 +22,3 @@ returns-clause-unsettled g c =
     let a = asked (words_of c.args.words.now) in
     told_all (told a (g.R.Source.left c.args.source.now)) _ _ (λ bytes x. promises.ends_as_it_runs a _ _ _ _ bytes _ _ _ x)
     c.call.ensures.outcome
-
-pub returns-clause-complete : goal.returns-clause-complete
-returns-clause-complete g c may fine_reads fine_writes fine_calls =
-    let given = promises.given (asked (words_of c.args.words.now)) (g.R.Source.left c.args.source.now) (g.P.Plant.fibres c.args.plant.now)
-    may in
-    c.call.ensures.complete given.0 given.1 given.2 fine_reads fine_writes fine_calls

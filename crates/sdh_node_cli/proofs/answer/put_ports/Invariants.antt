@@ -1,5 +1,5 @@
 use Rattle.std.proofs.Common.{◌≡◌, ◌+◌, ◌*◌, ◌≤◌, ◌++◌, take}
-use Rattle.sdh_shell.specs.Writing.{room_in}
+use Rattle.sdh_report.specs.Written.{room_in}
 use Rattle.sdh_node_cli.specs.Bench.{ports_from}
 use Rattle.sdh_node_cli.proofs.answer.put_ports.Given as goal
 

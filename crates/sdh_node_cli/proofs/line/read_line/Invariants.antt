@@ -1,7 +1,7 @@
 use Rattle.std.proofs.Common.{◌≡◌, true, ◌≤◌}
 use Rattle.std.specs.Io.KnownBytes.{Consumes}
 use Rattle.sdh_node_cli.specs.Lines.{IsOneLine}
-use Rattle.sdh_shell.specs.Writing.{room_in}
+use Rattle.sdh_report.specs.Written.{room_in}
 use Rattle.sdh_node_cli.proofs.line.read_line.Given as goal
 
 abbrev pub invariant-loop-source : goal.invariant-loop-source

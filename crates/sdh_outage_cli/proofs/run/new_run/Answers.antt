@@ -1,7 +1,7 @@
 use Rattle.std.proofs.Common.{◌≡◌, length, ap, sym, subst, ◌∙◌}
 use Rattle.sdh_circuits.specs.Provisioning.{Provisioning}
 use Rattle.sdh_request.specs.declared.settings.Settings.{Settings}
-use Rattle.sdh_world.specs.Held.{HeldRing, new_ring}
+use Rattle.sdh_node.specs.Rings.Held.{HeldRing, new_ring}
 use Rattle.sdh_scripts.specs.Texts.{HasRoom}
 use Rattle.sdh_scripts.proofs.Plans.{may_begin}
 use Rattle.sdh_owed.proofs.Steps.{may_new}

@@ -1,6 +1,6 @@
 use Rattle.std.proofs.Common.{◌≡◌, true, subst}
 use Rattle.sdh_scripts.specs.Outcomes.{Came}
-use Rattle.sdh_scripts.proofs.Answered.{on_ok, on_two}
+use Rattle.sdh_basics.proofs.Answered.{on_ok, on_two}
 use Rattle.sdh_scripts.proofs.Plans.{came_of, done_of}
 use Rattle.sdh_owed.specs.Plans.{world_of}
 use Rattle.sdh_outage_cli.specs.Scripts.{outage_walk}

@@ -6,10 +6,11 @@ use Rattle.sdh_shell.specs.Failing.{Counts}
 use Rattle.sdh_shell.specs.Reading.{told_if}
 use Rattle.sdh_shell.specs.Writing.{Writes}
 use Rattle.sdh_owed.specs.Plans.{world_of}
-use Rattle.sdh_scripts.specs.Outcome.{HasRead, MayEnd}
-use Rattle.sdh_scripts.specs.Headline.{AlwaysSettles}
-use Rattle.sdh_scripts.proofs.Stages.{reads_all}
-use Rattle.sdh_scripts.proofs.Promises.{promised, settles, ends_as}
+use Rattle.sdh_shell.specs.Reading.{HasRead}
+use Rattle.sdh_programs.specs.Outcome.{MayEnd}
+use Rattle.sdh_programs.specs.Headline.{AlwaysSettles}
+use Rattle.sdh_programs.proofs.Stages.{reads_all}
+use Rattle.sdh_programs.proofs.Promises.{promised, settles, ends_as}
 use Rattle.sdh_outage_cli.specs.Plans.{ran_of}
 use Rattle.sdh_outage_cli.specs.Words.{asked}
 use Rattle.sdh_outage_cli.specs.Headline.{listening, EndsAsItRuns}
@@ -56,7 +57,3 @@ returns-clause-unsettled g c = λ ask is. (
     (never_writes ask) (λ plan. Knows (world_of plan f).fibres) (λ plan. (ran_of plan f).ending)
     (λ plan told end came knows. elim (came.known knows) [ inl done ↦ inl done.end_is | inr cut ↦ inr cut.0 ])
     plan c.call.result tells refl h known) c.call.ensures.outcome)
-
-pub returns-clause-read_whole : goal.returns-clause-read_whole
-returns-clause-read_whole g c = λ e. subst (λ b. HasRead b (g.R.Source.left c.call.new.source))
-    (reads_all listening (λ ask. refl) (asked (words_of c.args.words.now))) (c.call.ensures.read_whole e)

@@ -2,7 +2,7 @@ use Rattle.std.proofs.Common.{◌≡◌, ◌+◌, Ok, Err, sym, ◌∙◌, rules
 use Rattle.std.proofs.lemmas.Result.{err_from_is_err_and, IfOk-at_ok}
 use Rattle.sdh_ringmap.specs.Rates.{n_of}
 use Rattle.sdh_plan.specs.declared.reason.Reason.{Reason}
-use Rattle.sdh_plan.specs.declared.error.PlanError.TheVariants as error
+use Rattle.sdh_plan.specs.declared.check_error.CheckError.TheVariants as error
 use Rattle.sdh_plan.specs.Counted.{past_in}
 use Rattle.sdh_plan.specs.Steps.{step_of, after}
 use Rattle.sdh_plan.proofs.Scripts.{placed_step, placed_reason, read_next, read_fails, read_steps}

@@ -1,5 +1,5 @@
 use Rattle.std.proofs.Common.{arith}
-use Rattle.sdh_report.specs.declared.status.Status.TheVariants as status
+use Rattle.sdh_status.specs.declared.Status.TheVariants as status
 use Rattle.sdh_report.proofs.Short.{short-last_line}
 use Rattle.sdh_report.proofs.laws.short_plan.Goals as goal
 

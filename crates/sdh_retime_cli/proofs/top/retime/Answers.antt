@@ -28,3 +28,26 @@ returns-clause-front g c = λ e.
 pub returns-clause-unsteady : goal.returns-clause-unsteady
 returns-clause-unsteady g c = λ e.
     let d = is_drift c.answer.result (sym c.number.ensures ∙ e) in (d.0, c.answer.ensures.unsteady d.0 d.1)
+
+pub returns-clause-kept : goal.returns-clause-kept
+returns-clause-kept g c =
+    let e = c.answer.ensures in (
+      c.answer.result,
+      c.number.ensures,
+      record {
+        how = e.came.0;
+        ended = e.came.1;
+        says = tt;
+        came = e.came.2;
+        usage = e.usage;
+        usage_only = e.usage_only;
+        unread = e.alone;
+        read_fault = e.read_fault;
+        write_fault = e.write_fault;
+        writes = e.writes;
+        memory = e.memory;
+        read_whole = λ done read. e.read_whole done;
+        later = e.later;
+        complete = λ given reads written. e.complete given.0 given.1 reads written;
+      },
+    )

@@ -23,4 +23,4 @@ returns-clause-came g c =
     let wrote = c.in_ok-status.ensures.wrote
     (λ e. let rose = c.in_ok-status.ensures.cut e in absurd (omega (arith, rose))) in
     came_wrote r.walk run.limit (r.text_of run.runner) run.steps.items (with_fibres (r.ring run.runner) f) f
-    (world (r.ring ran.runner) (means ran.plant)) run.text.bytes ran.output.text.bytes c.in_ok-status.status c.requires.ready.empty wrote
+    (world (r.ring ran.runner) (means ran.plant)) run.text.bytes ran.output.bytes c.in_ok-status.status c.requires.ready.empty wrote

@@ -2,7 +2,7 @@ use Rattle.std.proofs.Common.{ℕ, sym, subst, ◌∙◌, arith, [], ◌∷◌, 
 use Rattle.sdh_rounds.specs.Held.{world}
 use Rattle.sdh_plan.specs.declared.step.Step.{Step}
 use Rattle.sdh_plan.specs.declared.step.Step.TheVariants as step
-use Rattle.sdh_report.specs.declared.status.Status.{Status}
+use Rattle.sdh_status.specs.declared.Status.{Status}
 use Rattle.sdh_scripts.specs.Texts.{room_for, Went, StopsAt}
 use Rattle.sdh_scripts.proofs.Texts.{room_now, room_next, room_line, settled_went, changed_went, error_stops}
 use Rattle.sdh_scripts.proofs.script.run_step.Goals as goal

@@ -4,7 +4,7 @@ use Rattle.sdh_ringmap.specs.Steps.{going}
 use Rattle.sdh_restoration.specs.Applied.{applies}
 use Rattle.sdh_restoration.specs.Routes.{hops}
 use Rattle.sdh_signal.specs.Settled.{settled, far_end}
-use Rattle.sdh_squelch.specs.Connections.{may_carry, stands_for, leaves_working, leaves_protection}
+use Rattle.sdh_bridge.specs.Connections.{may_carry, stands_for, leaves_working, leaves_protection}
 use Rattle.sdh_signal.specs.Walks.{delivery}
 use Rattle.sdh_signal.proofs.routing.worked_rings.Goals as goal
 

@@ -3,7 +3,7 @@ use Rattle.sdh_circuits.specs.Provisioning.{Provisioning}
 use Rattle.sdh_request.specs.declared.settings.Settings.{Settings}
 use Rattle.sdh_scripts.specs.Ports.{lines_room}
 use Rattle.sdh_scripts.specs.Texts.{HasRoom}
-use Rattle.sdh_scripts.proofs.Answered.{err_as}
+use Rattle.sdh_basics.proofs.Answered.{err_as}
 use Rattle.sdh_scripts.proofs.Plans.{may_begin}
 use Rattle.sdh_sncp.specs.Ring.{HeldPath, new_ring}
 use Rattle.sdh_sncp.specs.Fixed.{AreAlone}

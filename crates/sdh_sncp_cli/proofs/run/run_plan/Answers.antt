@@ -1,6 +1,6 @@
 use Rattle.std.proofs.Common.{◌≡◌, true}
 use Rattle.sdh_report.specs.Reports.{report_text}
-use Rattle.sdh_scripts.proofs.Answered.{err_as}
+use Rattle.sdh_basics.proofs.Answered.{err_as}
 use Rattle.sdh_scripts.proofs.Plans.{came_of, done_of}
 use Rattle.sdh_sncp_cli.specs.Plans.{path_account}
 use Rattle.sdh_sncp_cli.proofs.Plans.{tells}

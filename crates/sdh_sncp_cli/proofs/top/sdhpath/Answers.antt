@@ -3,7 +3,7 @@ use Rattle.sdh_shell.specs.Calls.{words_of, asked_to_run}
 use Rattle.sdh_shell.specs.Failing.{Counts}
 use Rattle.sdh_shell.specs.Writing.{WritesWith}
 use Rattle.sdh_shell.proofs.Told.{told_all}
-use Rattle.sdh_scripts.specs.Outcome.{MayEnd}
+use Rattle.sdh_programs.specs.Outcome.{MayEnd}
 use Rattle.sdh_sncp_cli.specs.Endings.{number_of, path_endings}
 use Rattle.sdh_sncp_cli.specs.Outcome.{pathing, Answers, told}
 use Rattle.sdh_sncp_cli.specs.Headline.{Delivers, EndsAsItRuns, AlwaysSettles}
@@ -62,10 +62,5 @@ returns-clause-unsettled g c =
     c.number.result c.number.ensures (g.W.Sink.written c.args.sink.now) (g.W.Sink.written c.call.new.sink) x)
     c.call.ensures.outcome
 
-pub returns-clause-complete : goal.returns-clause-complete
-returns-clause-complete g c may fine_reads fine_writes fine_calls =
-    let given = promises.given (words_of c.args.words.now) (g.R.Source.left c.args.source.now) (g.P.Plant.fibres c.args.plant.now) may in
-    elim (c.call.ensures.complete tt given.0 given.1 fine_reads fine_writes fine_calls) [
-      | inl done ↦ inl (c.number.ensures ∙ ap number_of done)
-      | inr none ↦ inr (c.number.ensures ∙ ap number_of none)
-    ]
+pub returns-clause-kept : goal.returns-clause-kept
+returns-clause-kept g c = (c.call.result, c.number.ensures, c.call.ensures.kept)

@@ -1,8 +1,8 @@
 use Rattle.std.proofs.Common.{[], length, refl, ap, sym, subst, ◌∙◌, arith, rules}
 use Rattle.sdh_circuits.specs.Provisioning.{Provisioning}
 use Rattle.sdh_plant.specs.Fibres.{IsPrepared}
-use Rattle.sdh_world.specs.Held.{HeldRing}
-use Rattle.sdh_world.specs.Rounds.{world}
+use Rattle.sdh_node.specs.Rings.Held.{HeldRing}
+use Rattle.sdh_node.specs.Rings.Rounds.{world}
 use Rattle.sdh_rounds.proofs.Stepping.{err_by}
 use Rattle.sdh_watch.specs.Ports.{AreWatching}
 use Rattle.sdh_rounds.proofs.Settling.{held_none}

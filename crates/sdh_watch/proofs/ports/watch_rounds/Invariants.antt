@@ -1,6 +1,6 @@
 use Rattle.std.proofs.Common.{◌≡◌, ◌+◌, ◌≤◌, true, length}
 use Rattle.sdh_plant.specs.Fibres.{IsPrepared}
-use Rattle.sdh_world.specs.Rounds.{world}
+use Rattle.sdh_node.specs.Rings.Rounds.{world}
 use Rattle.sdh_watch.specs.Ports.{Shown, AreFew}
 use Rattle.sdh_watch.proofs.ports.watch_rounds.Given as goal
 

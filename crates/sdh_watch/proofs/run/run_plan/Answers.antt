@@ -1,5 +1,5 @@
 use Rattle.std.proofs.Common.{◌≡◌, true}
-use Rattle.sdh_scripts.proofs.Answered.{on_ok, on_two}
+use Rattle.sdh_basics.proofs.Answered.{on_ok, on_two}
 use Rattle.sdh_scripts.proofs.Plans.{came_of, done_of}
 use Rattle.sdh_watch.specs.Lines.{watched_text}
 use Rattle.sdh_watch.specs.Plans.{watch_account, Tells}

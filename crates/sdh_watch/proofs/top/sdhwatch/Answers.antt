@@ -1,23 +1,22 @@
-use Rattle.std.proofs.Common.{List, ℕ, refl, ap, sym, subst, inl, inr, ◌∙◌}
+use Rattle.std.proofs.Common.{List, ℕ, refl, subst, inl, inr}
 use Rattle.std.specs.Prelude.{IfSome}
 use Rattle.sdh_plant.specs.Arrivals.{Knows}
-use Rattle.sdh_report.specs.declared.status.Status.{Status}
-use Rattle.sdh_report.specs.Statuses.{number_of}
+use Rattle.sdh_status.specs.declared.Status.{Status}
+use Rattle.sdh_status.specs.Numbers.{number_of}
 use Rattle.sdh_shell.specs.Calls.{words_of}
 use Rattle.sdh_shell.specs.Endings.{statuses}
 use Rattle.sdh_shell.specs.Failing.{Counts}
 use Rattle.sdh_shell.specs.Reading.{told_if}
 use Rattle.sdh_shell.specs.Writing.{WritesWith}
-use Rattle.sdh_shell.proofs.Asked.{is_asked, not_asked, no_run, asked_is}
+use Rattle.sdh_shell.proofs.Asked.{is_asked}
 use Rattle.sdh_shell.proofs.Told.{told_all}
 use Rattle.sdh_owed.specs.Plans.{world_of}
-use Rattle.sdh_scripts.specs.Outcome.{Answers, HasRead, MayEnd, told}
-use Rattle.sdh_scripts.proofs.Stages.{reads_all}
-use Rattle.sdh_scripts.proofs.Promises.{promised, shows, settles, ends_as}
+use Rattle.sdh_programs.specs.Outcome.{Answers, MayEnd, told}
+use Rattle.sdh_programs.proofs.Stages.{reads_all}
+use Rattle.sdh_programs.proofs.Promises.{promised, shows, settles, ends_as}
 use Rattle.sdh_watch.specs.Plans.{ran_of, ShowsClean}
 use Rattle.sdh_watch.specs.Headline.{asked, watching}
 use Rattle.sdh_watch.proofs.Deeds.{run_alone, never_writes}
-use Rattle.sdh_watch.proofs.Numbers.{is_done, is_usage}
 use Rattle.sdh_watch.proofs.top.sdhwatch.Goals as goal
 
 pub returns-clause-outcome : goal.returns-clause-outcome
@@ -75,32 +74,5 @@ returns-clause-unsettled g c = λ run. (
           plan c.call.result tells refl h known,
     )) c.call.ensures.outcome)
 
-pub returns-clause-usage : goal.returns-clause-usage
-returns-clause-usage g c = λ e.
-    no_run (words_of c.args.words.now) (c.call.ensures.usage (is_usage c.call.result (sym c.number.ensures ∙ e)))
-
-pub returns-clause-usage_only : goal.returns-clause-usage_only
-returns-clause-usage_only g c = λ e.
-    elim (c.call.ensures.usage_only (not_asked (words_of c.args.words.now) e)) [
-      | inl is ↦ inl (c.number.ensures ∙ ap number_of is)
-      | inr other ↦ elim other [
-        | inl is ↦ inr (inl (c.number.ensures ∙ ap number_of is))
-        | inr is ↦ inr (inr (c.number.ensures ∙ ap number_of is))
-      ]
-    ]
-
-pub returns-clause-alone : goal.returns-clause-alone
-returns-clause-alone g c = λ e. c.call.ensures.unasked (not_asked (words_of c.args.words.now) e)
-
-pub returns-clause-read_whole : goal.returns-clause-read_whole
-returns-clause-read_whole g c =
-    let words = words_of c.args.words.now in
-    λ e. subst (λ b. HasRead b (g.R.Source.left c.call.new.source)) (reads_all watching (λ ask. refl) (asked words) ∙ asked_is words)
-    (c.call.ensures.read_whole (is_done c.call.result (sym c.number.ensures ∙ e)))
-
-pub returns-clause-complete : goal.returns-clause-complete
-returns-clause-complete g c = λ e may fine_reads fine_writes fine_calls.
-    elim (c.call.ensures.complete tt (is_asked (words_of c.args.words.now) e) may fine_reads fine_writes fine_calls) [
-      | inl done ↦ inl (c.number.ensures ∙ ap number_of done)
-      | inr none ↦ inr (c.number.ensures ∙ ap number_of none)
-    ]
+pub returns-clause-kept : goal.returns-clause-kept
+returns-clause-kept g c = (c.call.result, c.number.ensures, c.call.ensures.kept)

@@ -7,7 +7,7 @@ use Rattle.sdh_whatif_cli.specs.Cases.{base, base_of, digits_of, digits_at, numb
 use Rattle.sdh_whatif_cli.specs.Lines.{line_text, line_at, lines_below}
 use Rattle.sdh_whatif_cli.proofs.Parts.{sides_long}
 use Rattle.sdh_whatif_cli.proofs.Below.{below_next, rest_of, told_next, few_next, byte_low}
-use Rattle.sdh_shell.proofs.Pieces.{as_text, after, stopped}
+use Rattle.sdh_outside.proofs.Pieces.{as_text, after, stopped}
 use Rattle.sdh_whatif_cli.proofs.table.write_cases.Goals as goal
 
 pub are_told-told-requires-clause-sides : goal.are_told-told-requires-clause-sides

@@ -1,6 +1,6 @@
 use Rattle.std.proofs.Common.{◌≡◌, ◌≤◌, Ok}
 use Rattle.sdh_outside.specs.declared.writing.WriteFault.{WriteFault}
-use Rattle.sdh_shell.specs.Writing.{Wrote}
+use Rattle.sdh_outside.specs.Writing.{Wrote}
 use Rattle.sdh_whatif_cli.specs.Cases.{told_below}
 use Rattle.sdh_whatif_cli.specs.Lines.{lines_below}
 use Rattle.sdh_whatif_cli.proofs.table.write_cases.Given as goal

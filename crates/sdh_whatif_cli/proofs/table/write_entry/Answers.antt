@@ -3,7 +3,7 @@ use Rattle.std.specs.Option.{option_map_or}
 use Rattle.sdh_verdicts.specs.declared.failure.Failure.{Failure}
 use Rattle.sdh_whatif_cli.specs.Cases.{failures_of}
 use Rattle.sdh_whatif_cli.specs.Lines.{line_text}
-use Rattle.sdh_shell.proofs.Pieces.{as_text, nothing}
+use Rattle.sdh_outside.proofs.Pieces.{as_text, nothing}
 use Rattle.sdh_whatif_cli.proofs.table.write_entry.Goals as goal
 
 pub returns : goal.returns

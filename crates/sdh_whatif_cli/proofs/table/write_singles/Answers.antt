@@ -1,5 +1,5 @@
 use Rattle.std.proofs.Common.{◌∙◌}
-use Rattle.sdh_shell.proofs.Pieces.{as_text}
+use Rattle.sdh_outside.proofs.Pieces.{as_text}
 use Rattle.sdh_whatif_cli.proofs.table.write_singles.Goals as goal
 
 pub returns : goal.returns

@@ -1,6 +1,6 @@
 use Rattle.std.proofs.Common.{sym, ap}
 use Rattle.sdh_whatif_cli.specs.Lines.{head_record, cases_text, table_of}
-use Rattle.sdh_shell.proofs.Pieces.{as_text, after, stopped}
+use Rattle.sdh_outside.proofs.Pieces.{as_text, after, stopped}
 use Rattle.sdh_whatif_cli.proofs.table.write_table.Goals as goal
 
 pub returns-in-Err : goal.returns-in-Err

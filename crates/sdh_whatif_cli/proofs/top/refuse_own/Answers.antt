@@ -1,5 +1,5 @@
 use Rattle.std.proofs.Common.{◌∙◌, ap}
-use Rattle.sdh_shell.proofs.Pieces.{as_text}
+use Rattle.sdh_outside.proofs.Pieces.{as_text}
 use Rattle.sdh_whatif_cli.specs.Outcome.{refusal}
 use Rattle.sdh_whatif_cli.proofs.top.refuse_own.Goals as goal
 

@@ -1,7 +1,7 @@
 use Rattle.std.proofs.Common.{◌≡◌, ◌∙◌, ℕ, List, Some, None, length, sym, ap, subst, inr}
 use Rattle.sdh_verdicts.specs.declared.failure.Failure.{Failure}
 use Rattle.sdh_shell.specs.Calls.{words_of}
-use Rattle.sdh_shell.proofs.Pieces.{as_text}
+use Rattle.sdh_outside.proofs.Pieces.{as_text}
 use Rattle.sdh_whatif_cli.specs.Words.{own_texts}
 use Rattle.sdh_whatif_cli.specs.Cases.{AreOwn}
 use Rattle.sdh_whatif_cli.specs.Lines.{table_text}

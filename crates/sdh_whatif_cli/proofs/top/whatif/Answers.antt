@@ -1,6 +1,6 @@
 use Rattle.std.proofs.Common.{ℕ, List, OnErr, refl, inl, subst, arith}
 use Rattle.sdh_outside.specs.Writing.{AppendsFewer}
-use Rattle.sdh_report.specs.declared.status.Status.TheVariants as status
+use Rattle.sdh_status.specs.declared.Status.TheVariants as status
 use Rattle.sdh_shell.specs.Calls.{words_of}
 use Rattle.sdh_shell.specs.Writing.{Writes}
 use Rattle.sdh_shell.proofs.Told.{told_all}

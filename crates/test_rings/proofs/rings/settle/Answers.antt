@@ -1,7 +1,7 @@
 use Rattle.std.proofs.Common.{◌≡◌, false, length, ap, sym, ◌∙◌, subst}
 use Rattle.sdh_plant.specs.Fibres.{IsPrepared}
-use Rattle.sdh_world.specs.Held.{HeldRing}
-use Rattle.sdh_world.specs.Rounds.{World, world}
+use Rattle.sdh_node.specs.Rings.Held.{HeldRing}
+use Rattle.sdh_node.specs.Rings.Rounds.{World, world}
 use Rattle.sdh_rounds.proofs.Runs.{held_run}
 use Rattle.test_rings.proofs.rings.settle.Goals as goal
 use Rattle.sdh_node.specs.Stations.{adm}

@@ -4,7 +4,7 @@ use Rattle.std.specs.Io.KnownBytes.{Appends}
 use Rattle.std.proofs.KnownBytes.{Appends-nil}
 use Rattle.sdh_outside.specs.Writing.{AppendsFewer}
 use Rattle.sdh_plant.specs.Fibres.{Fibres}
-use Rattle.sdh_world.specs.Held.{HeldRing}
+use Rattle.sdh_node.specs.Rings.Held.{HeldRing}
 use Rattle.sdh_aps_cli.specs.Frames.{sent_last, is_wanted}
 use Rattle.sdh_aps_cli.proofs.Rounds.{has_run, none_more, one_fails}
 use Rattle.sdh_aps_cli.proofs.FrameRounds.{place_next, not_wanted, one_frame, no_frame, written_more, cut_more, wanted_as, frame_as}

@@ -1,5 +1,5 @@
 use Rattle.std.proofs.Common.{◌≡◌, ap, sym, refl, ◌∙◌, Some, None, rules}
-use Rattle.sdh_report.specs.declared.status.Status.TheVariants as status
+use Rattle.sdh_status.specs.declared.Status.TheVariants as status
 use Rattle.sdh_aps_cli.specs.Words.{listing_of}
 use Rattle.sdh_aps_cli.specs.Plans.{line_after}
 use Rattle.sdh_aps_cli.specs.declared.ending.Ending.TheVariants as ending

@@ -3,8 +3,8 @@ use Rattle.std.specs.Io.KnownBytes.{Appends}
 use Rattle.sdh_outside.specs.Writing.{AppendsFewer}
 use Rattle.sdh_circuits.specs.declared.PortId.{PortId}
 use Rattle.sdh_rounds.specs.declared.faults.SettleError.{SettleError}
-use Rattle.sdh_world.specs.Held.{HeldRing}
-use Rattle.sdh_world.specs.Rounds.{World, world}
+use Rattle.sdh_node.specs.Rings.Held.{HeldRing}
+use Rattle.sdh_node.specs.Rings.Rounds.{World, world}
 use Rattle.sdh_owed.proofs.Standing.{long_step}
 use Rattle.sdh_owed.proofs.Steps.{settled_held, settled_whole, next_by}
 use Rattle.sdh_aps_cli.specs.Recording.{IsCut}

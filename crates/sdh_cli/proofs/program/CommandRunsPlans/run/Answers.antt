@@ -1,7 +1,7 @@
 use Rattle.std.proofs.Common.{◌≡◌, Some, sym, ◌∙◌, subst}
 use Rattle.std.proofs.lemmas.Result.{IfOk-weaker}
-use Rattle.sdh_scripts.specs.Programs.{Runs}
-use Rattle.sdh_scripts.specs.Headline.{may_do}
+use Rattle.sdh_programs.specs.Programs.{Runs}
+use Rattle.sdh_programs.specs.Headline.{may_do}
 use Rattle.sdh_cli.specs.Words.{ask_of, listing_of}
 use Rattle.sdh_cli.specs.Outcome.{ringing}
 use Rattle.sdh_cli.proofs.Deeds.{listed_deed, run_alone}

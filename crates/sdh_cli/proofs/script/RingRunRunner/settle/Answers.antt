@@ -1,10 +1,10 @@
 use Rattle.std.proofs.Common.{◌+◌, length, ap, sym, subst, arith}
 use Rattle.sdh_circuits.specs.declared.PortId.{PortId}
 use Rattle.sdh_node.specs.Stations.{adm}
-use Rattle.sdh_world.specs.Held.{HeldRing}
-use Rattle.sdh_world.specs.Rounds.{world}
+use Rattle.sdh_node.specs.Rings.Held.{HeldRing}
+use Rattle.sdh_node.specs.Rings.Rounds.{world}
 use Rattle.sdh_scripts.proofs.Reporting.{ended_by}
-use Rattle.sdh_world.specs.Steps.{after_step}
+use Rattle.sdh_owed.specs.Steps.{after_step}
 use Rattle.sdh_owed.specs.Reports.{report_of}
 use Rattle.sdh_owed.proofs.Standing.{long_step}
 use Rattle.sdh_cli.specs.Room.{report_room, MayList}

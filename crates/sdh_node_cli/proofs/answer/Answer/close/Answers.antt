@@ -1,7 +1,7 @@
 use Rattle.std.proofs.Common.{◌≡◌, ℕ, ◌≤◌, length, ap, ◌∙◌, arith}
 use Rattle.sdh_report.specs.Written.{Written, with_part}
-use Rattle.sdh_shell.specs.Writing.{room_in}
-use Rattle.sdh_shell.proofs.Pieces.{kept_part}
+use Rattle.sdh_report.specs.Written.{room_in}
+use Rattle.sdh_report.proofs.Parts.{kept_part}
 use Rattle.sdh_node_cli.specs.Bench.{count_line}
 use Rattle.sdh_node_cli.proofs.Short.{short_count}
 use Rattle.sdh_node_cli.proofs.answer.Answer.close.Goals as goal

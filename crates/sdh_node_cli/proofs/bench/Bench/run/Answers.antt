@@ -2,14 +2,14 @@ use Rattle.std.proofs.Common.{◌≡◌, ◌<◌, ◌^◌, [], length, ap, sym, 
 use Rattle.sdh_ringmap.specs.declared.Side.TheVariants.{West, East}
 use Rattle.sdh_request.specs.declared.settings.Settings.{Settings}
 use Rattle.sdh_report.specs.Written.{Written}
-use Rattle.sdh_shell.specs.Writing.{room_in}
+use Rattle.sdh_report.specs.Written.{room_in}
 use Rattle.sdh_node_cli.specs.Bench.{Bench}
 use Rattle.sdh_node_cli.specs.Pairs.{frame_on, written}
 use Rattle.sdh_node_cli.proofs.Rounds.{round_is, answered}
 use Rattle.sdh_node_cli.proofs.bench.Bench.run.Goals as goal
 
-pub send-requires : goal.send-requires
-send-requires c =
+pub send_through-requires : goal.send_through-requires
+send_through-requires c =
     let inv = c.self.invariant in
     record {
       west = inv.2;
@@ -29,7 +29,7 @@ put_shown-requires c = record { room = omega (arith, left c.args.answer.now.line
 
 pub put_ports-requires : goal.put_ports-requires
 put_ports-requires c = record {
-  there = λ port own. c.send.ensures.goes_on.ports port (c.self.invariant.0.ports port own);
+  there = λ port own. c.send_through.ensures.goes_on.ports port (c.self.invariant.0.ports port own);
   room =
       omega (
         arith,
@@ -57,8 +57,8 @@ invariant_of-answer c = record {
 pub invariant_of-self : goal.invariant_of-self
 invariant_of-self c =
     let inv = c.self.invariant in
-    let on = c.send.ensures.goes_on in
-    let rates = c.send.ensures.rates in
+    let on = c.send_through.ensures.goes_on in
+    let rates = c.send_through.ensures.rates in
     let rate = ap (λ (s : Settings). s.rate) (sym on.settings) in (
       record {
         forward = omega (arith, on.moment);
@@ -72,14 +72,14 @@ invariant_of-self c =
     )
 
 pub returns-clause-bench : goal.returns-clause-bench
-returns-clause-bench c = round_is _ _ c.send.new.self c.self.view_is c.send.ensures.node
+returns-clause-bench c = round_is _ _ c.send_through.new.self c.self.view_is c.send_through.ensures.node
 
 pub returns-clause-bytes : goal.returns-clause-bytes
 returns-clause-bytes c =
     let answer = c.close.new.self in
-    let frames = c.send.new.exit in
+    let frames = c.send_through.new.exit in
     sym (ap (λ (b : Bench). written b.mode answer.lines.bytes answer.frames) c.self.view_is)
-    ∙ answered _ _ c.send.new.self (frame_on West frames) (frame_on East frames) c.self.inside.rounds c.args.answer.now.lines.bytes
+    ∙ answered _ _ c.send_through.new.self (frame_on West frames) (frame_on East frames) c.self.inside.rounds c.args.answer.now.lines.bytes
     c.put_shown.new.text.bytes c.put_ports.new.text.bytes (written c.self.inside.mode answer.lines.bytes answer.frames) c.self.view_is
-    c.send.ensures.node c.send.ensures.west c.send.ensures.east (omega (arith, c.self.invariant.1, c.send.ensures.goes_on.rounds))
+    c.send_through.ensures.node c.send_through.ensures.west c.send_through.ensures.east (omega (arith, c.self.invariant.1, c.send_through.ensures.goes_on.rounds))
     c.requires.empty c.put_shown.ensures.bytes c.put_ports.ensures.bytes c.close.ensures.bytes

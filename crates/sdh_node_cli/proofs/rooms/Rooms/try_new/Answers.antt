@@ -1,6 +1,6 @@
 use Rattle.std.proofs.Common.{ap, sym, ◌∙◌}
 use Rattle.sdh_overhead.specs.Landing.{LandedFrame}
-use Rattle.sdh_shell.specs.Writing.{room_in}
+use Rattle.sdh_report.specs.Written.{room_in}
 use Rattle.sdh_node_cli.proofs.rooms.Rooms.try_new.Goals as goal
 
 pub invariant_of-result : goal.invariant_of-result

@@ -1,7 +1,7 @@
 use Rattle.std.proofs.Common.{length, ap, sym, subst, ◌∙◌}
 use Rattle.std.specs.Prelude.{slice_get}
 use Rattle.sdh_outage_cli.specs.Streams.{AreEarly}
-use Rattle.sdh_world.specs.Held.{HeldRing}
+use Rattle.sdh_node.specs.Rings.Held.{HeldRing}
 use Rattle.sdh_outage_cli.specs.Ports.{ports_in}
 use Rattle.sdh_outage_cli.proofs.Counting.{ports_ran}
 use Rattle.sdh_outage_cli.proofs.Listening.{many_more, near_many, few_heard, few_near, listening_more}

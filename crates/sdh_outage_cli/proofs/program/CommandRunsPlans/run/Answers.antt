@@ -1,6 +1,6 @@
 use Rattle.std.proofs.Common.{◌≡◌, Some, sym, ◌∙◌, subst}
 use Rattle.std.proofs.lemmas.Result.{IfOk-weaker}
-use Rattle.sdh_scripts.specs.Headline.{may_do}
+use Rattle.sdh_programs.specs.Headline.{may_do}
 use Rattle.sdh_outage_cli.specs.Words.{ask_of, listing_of}
 use Rattle.sdh_outage_cli.specs.Headline.{listening}
 use Rattle.sdh_outage_cli.proofs.Stages.{run_of_plan, listed_deed, run_alone}

@@ -5,7 +5,7 @@ use Rattle.std.specs.Prelude.{slice_index_or}
 use Rattle.sdh_terminal.specs.Tributaries.{outlets_of}
 use Rattle.sdh_terminal.proofs.Waiting.{count_outlets}
 use Rattle.sdh_node.specs.Node.{Node}
-use Rattle.sdh_world.specs.Held.{node_at}
+use Rattle.sdh_node.specs.Rings.Held.{node_at}
 use Rattle.sdh_outage_cli.specs.Rooms.{Rooms}
 use Rattle.sdh_outage_cli.proofs.Counting.{room_at, room_for, rooms_set, node_there}
 use Rattle.sdh_outage_cli.proofs.rooms.DeliveryRooms.take.Goals as goal

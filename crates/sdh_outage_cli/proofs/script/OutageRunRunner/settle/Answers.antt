@@ -1,8 +1,8 @@
 use Rattle.std.proofs.Common.{◌+◌, ◌++◌, refl, ap, sym, subst, arith, length, ◌∙◌}
 use Rattle.sdh_circuits.specs.declared.PortId.{PortId}
-use Rattle.sdh_world.specs.Held.{HeldRing}
-use Rattle.sdh_world.specs.Rounds.{World, world}
-use Rattle.sdh_world.specs.Runs.{course_with}
+use Rattle.sdh_node.specs.Rings.Held.{HeldRing}
+use Rattle.sdh_node.specs.Rings.Rounds.{World, world}
+use Rattle.sdh_node.specs.Rings.Runs.{course_with}
 use Rattle.sdh_scripts.proofs.Reporting.{ended_with}
 use Rattle.sdh_owed.proofs.Standing.{long_step}
 use Rattle.sdh_owed.proofs.Steps.{settled_held, settled_whole}

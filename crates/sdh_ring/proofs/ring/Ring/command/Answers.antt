@@ -1,6 +1,6 @@
 use Rattle.std.proofs.Common.{◌≡◌, sym, subst}
-use Rattle.sdh_world.specs.Held.{HeldRing}
-use Rattle.sdh_world.specs.Rounds.{world}
+use Rattle.sdh_node.specs.Rings.Held.{HeldRing}
+use Rattle.sdh_node.specs.Rings.Rounds.{world}
 use Rattle.sdh_laws.specs.Hearing.Laws.{IsWhole}
 use Rattle.sdh_laws.specs.Strangers.Vouched.{IsVouched}
 use Rattle.sdh_node.specs.Receiving.{commanded_by}
@@ -10,8 +10,8 @@ use Rattle.sdh_ring.proofs.There.{there}
 use Rattle.sdh_ring.proofs.ring.Ring.command.Goals as goal
 use Rattle.sdh_ring.proofs.ring.Ring.command.Goals.{After-command}
 
-held : (c : After-command) → c.in-Some.resting ≡ c.args.self.now
-held c = there _ c.self.inside.resting c.in-Some.resting c.args.self.now c.in-Some.is c.self.view_is
+held : (c : After-command) → c.in-Some.nodes ≡ c.args.self.now
+held c = there _ c.self.inside.nodes c.in-Some.nodes c.args.self.now c.in-Some.is c.self.view_is
 
 pub returns-clause-whole : goal.returns-clause-whole
 returns-clause-whole c = λ f whole.

@@ -1,6 +1,6 @@
 use Rattle.std.proofs.Common.{◌≡◌, sym, subst}
-use Rattle.sdh_world.specs.Held.{HeldRing, node_at}
-use Rattle.sdh_world.specs.Rounds.{world}
+use Rattle.sdh_node.specs.Rings.Held.{HeldRing, node_at}
+use Rattle.sdh_node.specs.Rings.Rounds.{world}
 use Rattle.sdh_laws.specs.Hearing.Laws.{IsWhole}
 use Rattle.sdh_laws.specs.Strangers.Vouched.{IsVouched, IsAside}
 use Rattle.sdh_node.specs.Node.{Node, held_for}
@@ -9,8 +9,8 @@ use Rattle.sdh_ring.proofs.There.{there}
 use Rattle.sdh_ring.proofs.ring.Ring.hold.Goals as goal
 use Rattle.sdh_ring.proofs.ring.Ring.hold.Goals.{After-hold}
 
-held : (c : After-hold) → c.in-Some.resting ≡ c.args.self.now
-held c = there _ c.self.inside.resting c.in-Some.resting c.args.self.now c.in-Some.is c.self.view_is
+held : (c : After-hold) → c.in-Some.nodes ≡ c.args.self.now
+held c = there _ c.self.inside.nodes c.in-Some.nodes c.args.self.now c.in-Some.is c.self.view_is
 
 pub returns-clause-whole : goal.returns-clause-whole
 returns-clause-whole c = λ f whole.

@@ -1,6 +1,6 @@
 use Rattle.std.proofs.Common.{◌≡◌, sym, subst}
-use Rattle.sdh_world.specs.Held.{HeldRing}
-use Rattle.sdh_world.specs.Rounds.{world}
+use Rattle.sdh_node.specs.Rings.Held.{HeldRing}
+use Rattle.sdh_node.specs.Rings.Rounds.{world}
 use Rattle.sdh_laws.specs.Hearing.Laws.{IsWhole}
 use Rattle.sdh_laws.specs.Strangers.Vouched.{IsVouched}
 use Rattle.sdh_ring.proofs.Whole.{whole_later, vouched_later}
@@ -8,8 +8,8 @@ use Rattle.sdh_ring.proofs.There.{there}
 use Rattle.sdh_ring.proofs.ring.Ring.moment.Goals as goal
 use Rattle.sdh_ring.proofs.ring.Ring.moment.Goals.{After-moment}
 
-held : (c : After-moment) → c.in-Some.resting ≡ c.args.self.now
-held c = there _ c.self.inside.resting c.in-Some.resting c.args.self.now c.in-Some.is c.self.view_is
+held : (c : After-moment) → c.in-Some.nodes ≡ c.args.self.now
+held c = there _ c.self.inside.nodes c.in-Some.nodes c.args.self.now c.in-Some.is c.self.view_is
 
 pub returns-clause-whole : goal.returns-clause-whole
 returns-clause-whole c = λ f whole.

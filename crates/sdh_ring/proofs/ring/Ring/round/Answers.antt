@@ -2,8 +2,8 @@ use Rattle.std.proofs.Common.{subst}
 use Rattle.std.proofs.lemmas.Result.{on_ok_weaker, on_err_weaker}
 use Rattle.sdh_node.specs.Stations.{adm}
 use Rattle.sdh_rounds.specs.Outcome.{IsOneRound}
-use Rattle.sdh_world.specs.Held.{HeldRing}
-use Rattle.sdh_world.specs.Rounds.{world}
+use Rattle.sdh_node.specs.Rings.Held.{HeldRing}
+use Rattle.sdh_node.specs.Rings.Rounds.{world}
 use Rattle.sdh_laws.specs.Carrying.Windows.{layout_in, HasCircuits}
 use Rattle.sdh_ring.proofs.Breaking.{breaks_clocks}
 use Rattle.sdh_ring.proofs.There.{there}
@@ -13,7 +13,7 @@ pub returns : goal.returns
 returns g c =
     let f = g.P.Plant.fibres c.args.plant.now in
     let left = world c.round.new.self (g.P.Plant.fibres c.round.new.plant) in
-    let is = there _ c.self.inside.resting c.in-Some.resting c.args.self.now c.in-Some.is c.self.view_is in
+    let is = there _ c.self.inside.nodes c.in-Some.nodes c.args.self.now c.in-Some.is c.self.view_is in
     let one = subst (λ (r : HeldRing). IsOneRound adm g.P.Plant.exact (world r f) c.round.result left
     (g.P.Plant.faults c.args.plant.now) (g.P.Plant.faults c.round.new.plant)) is c.round.ensures in
     let fit = subst (λ (r : HeldRing). HasCircuits (layout_in r)) is c.circuits_fit.ensures in

@@ -1,8 +1,8 @@
 use Rattle.std.proofs.Common.{◌≡◌, sym, subst, ◌+◌, ◌≤◌}
 use Rattle.sdh_node.specs.Node.{Node, slips_at}
-use Rattle.sdh_world.specs.Held.{HeldRing, place_of_port}
-use Rattle.sdh_world.specs.Rounds.{world}
-use Rattle.sdh_world.specs.Clocks.{waiting_at}
+use Rattle.sdh_node.specs.Rings.Held.{HeldRing, place_of_port}
+use Rattle.sdh_node.specs.Rings.Rounds.{world}
+use Rattle.sdh_node.specs.Rings.Clocks.{waiting_at}
 use Rattle.sdh_laws.specs.Hearing.Laws.{IsWhole}
 use Rattle.sdh_laws.specs.Strangers.Vouched.{IsVouched}
 use Rattle.sdh_ring.proofs.Whole.{whole_slipped, vouched_slipped}
@@ -10,10 +10,10 @@ use Rattle.sdh_ring.proofs.There.{there}
 use Rattle.sdh_ring.proofs.ring.Ring.slip.Goals as goal
 use Rattle.sdh_ring.proofs.ring.Ring.slip.Goals.{After-slip}
 
-held : (c : After-slip) → c.in-Some.resting ≡ c.args.self.now
-held c = there _ c.self.inside.resting c.in-Some.resting c.args.self.now c.in-Some.is c.self.view_is
+held : (c : After-slip) → c.in-Some.nodes ≡ c.args.self.now
+held c = there _ c.self.inside.nodes c.in-Some.nodes c.args.self.now c.in-Some.is c.self.view_is
 
-few : (c : After-slip) → waiting_at c.in-Some.resting c.args.port + c.args.count ≤ 16
+few : (c : After-slip) → waiting_at c.in-Some.nodes c.args.port + c.args.count ≤ 16
 few c = subst (λ (r : HeldRing). waiting_at r c.args.port + c.args.count ≤ 16) (sym (held c)) c.requires.few
 
 pub returns-clause-whole : goal.returns-clause-whole

@@ -1,8 +1,8 @@
 use Rattle.std.proofs.Common.{◌+◌, ap, sym, subst, arith, ◌∙◌, inr}
 use Rattle.std.specs.Prelude.{length}
 use Rattle.sdh_plant.specs.Fibres.{IsPrepared}
-use Rattle.sdh_world.specs.Held.{HeldRing}
-use Rattle.sdh_world.specs.Rounds.{world}
+use Rattle.sdh_node.specs.Rings.Held.{HeldRing}
+use Rattle.sdh_node.specs.Rings.Rounds.{world}
 use Rattle.sdh_circuits.specs.declared.PortId.{PortId}
 use Rattle.sdh_owed.proofs.Standing.{long_step}
 use Rattle.sdh_scripts.specs.Ports.{lines_room}

@@ -1,0 +1,5 @@
+pub mod Stages
+pub mod Promises
+pub mod Deeds
+pub mod Calls
+pub mod Kept

@@ -1,0 +1,4 @@
+pub mod Programs
+pub mod Outcome
+pub mod Headline
+pub mod Calls

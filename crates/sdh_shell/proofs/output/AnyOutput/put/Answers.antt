@@ -1,5 +1,0 @@
-use Rattle.sdh_shell.proofs.Pieces.{of_text}
-use Rattle.sdh_shell.proofs.output.AnyOutput.put.Goals as goal
-
-pub returns-clause-wrote : goal.returns-clause-wrote
-returns-clause-wrote g c = let e = c.write_text.ensures in of_text _ _ _ _ _ _ _ e.ok e.fault e.front e.later e.counted

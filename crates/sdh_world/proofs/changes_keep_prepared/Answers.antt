@@ -1,5 +1,0 @@
-use Rattle.sdh_world.proofs.Honest.{changes_keep_prepared}
-use Rattle.sdh_world.proofs.changes_keep_prepared.Goals as goal
-
-pub returns : goal.returns
-returns c = changes_keep_prepared
