@@ -33,6 +33,7 @@ _sdhring_tools() {
     sdhring-report) words='--json --csv --nodes --plan --version --help' ;;
     sdhring-plan) words='new import --nodes --keep --table --rate --threshold --wait --limit --steps --to --version --help' ;;
     sdhring-availability) words='--nodes --groups --cuts-per-1000-km --without-script --csv --json --causes --version --help' ;;
+    sdhring-bench) words='--instead --connect --more --within --keep --processes --program --all --json --version --help' ;;
     sdhring-capture) words='--node --side --rounds --frames --program --version --help' ;;
     sdhring-compare-node) words='--version --help' ;;
     sdhring-desk) words='--to --title --depth --spans --nodes --groups --cuts-per-1000-km --teller --version --help' ;;
@@ -45,7 +46,7 @@ _sdhring_tools() {
 }
 
 complete -F _sdhring {,./}sdh{ring,watch,outage,path,retime,whatif,aps,node}
-complete -F _sdhring_tools {,./}sdhring-{availability,capture,compare-node,desk,explain,network,plan,report,view,whatif}
+complete -F _sdhring_tools {,./}sdhring-{availability,bench,capture,compare-node,desk,explain,network,plan,report,view,whatif}
 # repository
 complete -F _sdhring_tools {,./}tools/rows
 # end

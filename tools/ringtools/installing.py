@@ -14,7 +14,7 @@ from .shown import shown
 from .writing import Folder, WriteProblem, named_folder, parts_of
 
 TOOLS = (
-    *("sdhring-availability", "sdhring-capture", "sdhring-compare-node", "sdhring-desk", "sdhring-explain", "sdhring-network", "sdhring-plan", "sdhring-report"),
+    *("sdhring-availability", "sdhring-bench", "sdhring-capture", "sdhring-compare-node", "sdhring-desk", "sdhring-explain", "sdhring-network", "sdhring-plan", "sdhring-report"),
     *("sdhring-view", "sdhring-whatif"),
 )
 DOCUMENTS = (
@@ -111,7 +111,7 @@ def modules():
     for name in (*TOOLS, "install"):
         yield Path(name)
     for path in sorted((HOME / "tools" / "ringtools").rglob("*")):
-        if path.is_file() and path.suffix in (".py", ".css", ".js") and path.name not in ("benching.py", "rows.py", "releasing.py"):
+        if path.is_file() and path.suffix in (".py", ".css", ".js", ".lua") and path.name not in ("benching.py", "rows.py", "releasing.py"):
             yield path.relative_to(HOME / "tools")
 
 

@@ -103,7 +103,7 @@ def spans_cut(plan, scene):
 def in_words(plan, stretch, ticks):
     """What happens in the step, in numbers: when it begins and comes to rest, and how many words change."""
     last, found = stretch.quiet(), flights(plan, stretch)
-    rest = f"The last change is in round {last}, {milliseconds(last - stretch.first)} ms after the step's first round."
+    rest = f"The last change of a word, a state or a request is in round {last}, {milliseconds(last - stretch.first)} ms after the step's first round."
     words = f"Words that are new on a side: {len(found)}, {sum(one.is_mark for one in found)} of them by the mark alone."
     ports = {port for tick in ticks for port in tick.ports}
     return [rest, words] + ([f"Ports that lose or get their own customer's bytes: {len(ports)}; the triangles at the bars."] if ports else [])

@@ -7,6 +7,7 @@ from itertools import accumulate, pairwise
 from .drawing import add, set_limits
 from .flights import flights
 from .kbytes import CODES, MARK_LETTERS
+from .labels import Box, Labels, line_box, turned_box, width_of
 from .markup import in_light, web
 from .outages import milliseconds
 from .plan import SIDES
@@ -14,7 +15,9 @@ from .ticks import GETS, JUMPS, LOSES, WORDS
 
 BAR = 15  # width of a node's bar
 TOP, FOOT, LEFT, RIGHT = 44, 14, 92, 22
-LETTERS, ROOM = 0.29, 0.38  # of the way to the next column: where the middle of a word's letters is, and up to where a tick's label goes
+LETTERS, STOPPED = (0.29, 0.36, 0.5, 0.64, 0.71), (0.5, 0.8, 1.1)  # of the way: where the middle of a word's letters may be, best first
+LIFTS, LOW = (-2.5, 9.0, -11.0, 18.0), (9.0, 18.0, -2.5, -11.0)  # of letters over a line, below it, and farther away, best first
+TICK_LIFTS = 3, -5, 11, 19, -13  # of a tick's label below its sign
 STEP = 4  # rounds from one number to the next
 LIFT = 12  # how much higher the code that a side asks for stands above the sign of a port in the same round
 MILLISECOND = 8  # rounds
@@ -32,7 +35,7 @@ class Scale:
 
     def __init__(self, plan, stretch, events):
         self.size, self.first, self.until = plan.size, stretch.first, max(events)
-        self.pitch = 172 if plan.size <= 4 else 122 if plan.size <= 8 else 94
+        self.pitch = 172 if plan.size <= 4 else 122 if plan.size <= 8 else 104
         self.still = still_rounds(events)
         heights = [SQUEEZED if self.is_still(now) else 1 for now in range(self.first - 1, self.until + 1)]
         self.row = 15 if sum(heights) <= 32 else 12 if sum(heights) <= 64 else 9
@@ -73,6 +76,7 @@ class SpaceTime:
         self.plan, self.stretch, self.ticks = plan, stretch, ticks
         self.flights = flights(plan, stretch)
         self.scale = Scale(plan, stretch, events_of(stretch, self.flights, ticks))
+        self.labels = Labels()
         wide, high = self.scale.wide, self.scale.high
         self.root = ElementTree.Element("svg", {"class": "drawing spacetime", "viewBox": f"0 0 {wide} {high}", "role": "img"})
         if page:
@@ -91,6 +95,7 @@ class SpaceTime:
         self.draw_times()
         for column in range(self.plan.size + 1):
             self.draw_column(column)
+        self.take_fixed()
         for flight in sorted(self.flights, key=lambda flight: flight.round):
             self.draw_flight(flight)
         for at in range(self.plan.size):
@@ -98,6 +103,18 @@ class SpaceTime:
         for tick in self.ticks:
             self.draw_tick(tick)
         return self.root
+
+    def take_fixed(self):
+        """Takes the room of what stands where it has to: bars, what sides ask for, and the signs of ports."""
+        scale = self.scale
+        for column in range(self.plan.size + 1):
+            self.labels.take(Box(scale.x(column) - BAR / 2, TOP, scale.x(column) + BAR / 2, scale.high))
+        for at, side in ((at, side) for at in range(self.plan.size) for side in SIDES):
+            for now, code, _ in asks_of(self.stretch, at, side):
+                self.labels.take(self.ask_box(at, side, now, code))
+        for tick in self.ticks:
+            x, y = self.tick_place(tick)
+            self.labels.take(Box(x - 5, y - 5, x + 5, y + 5))
 
     # Time
 
@@ -168,17 +185,21 @@ class SpaceTime:
         add(group, "line", class_="way", x1=x, y1=y, x2=to_x, y2=to_y)
         if flight.heard is not None:
             add(group, "path", class_="tip", d=tip(x, y, to_x, to_y))
-        share = 0.5 if flight.heard is None else LETTERS
-        middle = x + share * (to_x - x), y + share * (to_y - y)
-        self.draw_letters(group, flight, middle, math.degrees(math.atan2(to_y - y, abs(to_x - x))))
+        ends = (x, y), (to_x, to_y)
+        self.draw_letters(group, flight, ends, WAYS[flight.side] * math.degrees(math.atan2(to_y - y, abs(to_x - x))))
 
-    def draw_letters(self, group, flight, place, angle):
-        """A word's letters above its line, along it; of a mark that alone is new only the mark's."""
-        (x, y), mark = place, MARK_LETTERS[flight.word.mark]
-        letters = mark if flight.is_mark else flight.word.letters() + (f"/{mark}" if self.scale.pitch > 100 else "")
-        turn = f"rotate({WAYS[flight.side] * angle:.1f} {x:.1f} {y:.1f})"
-        lift = "9" if flight.heard is None else "-2.5"  # below the line, since what asks for it stands above
-        add(group, "text", letters, class_="letters", x=x, y=y, dy=lift, text_anchor="middle", transform=turn)
+    def draw_letters(self, group, flight, ends, angle):
+        """A word's letters along its line, where they lie over nothing else; of a mark that alone is new only the mark's."""
+        (x, y), (to_x, to_y) = ends
+        mark = MARK_LETTERS[flight.word.mark]
+        letters = mark if flight.is_mark else flight.word.letters() + (f"/{mark}" if self.scale.pitch > 110 else "")
+        is_heard = flight.heard is not None
+        # what isn't heard has its letters below the line, since what asks for it stands above
+        choice = [(share, lift) for lift in (LIFTS if is_heard else LOW) for share in (LETTERS if is_heard else STOPPED)]
+        middles = [(x + share * (to_x - x), y + share * (to_y - y)) for share, _ in choice]
+        number = self.labels.choose([turned_box(letters, middle, lift, angle) for middle, (_, lift) in zip(middles, choice)])
+        (x, y), lift = middles[number], choice[number][1]
+        add(group, "text", letters, class_="letters", x=x, y=y, dy=f"{lift:g}", text_anchor="middle", transform=f"rotate({angle:.1f} {x:.1f} {y:.1f})")
 
     def flight_words(self, flight):
         sender, there = self.plan.node_name(flight.at), self.plan.node_name(self.plan.neighbour(flight.at, flight.side))
@@ -195,28 +216,44 @@ class SpaceTime:
             for now, code, before in asks_of(self.stretch, at, side):
                 self.draw_ask(at, side, now, (code, before))
 
-    def draw_ask(self, at, side, now, asked):
-        code, before = asked
+    def ask_box(self, at, side, now, code):
+        """Where what a side asks for stands."""
         is_beside_tick = any((tick.at, tick.side, tick.round) == (at, side, now) for tick in self.ticks)
         way, y = WAYS[side], self.scale.y(now) - (LIFT if is_beside_tick else 0)
         x = self.scale.x(self.scale.column(at, side)) + way * (BAR / 2 + 2)
+        ends = sorted((x, x + way * (6 * len(code) + 6)))
+        return Box(ends[0], y - 12, ends[1], y - 1)
+
+    def draw_ask(self, at, side, now, asked):
+        (code, before), box = asked, self.ask_box(at, side, now, asked[0])
         group = add(self.root, "g", class_="ask mark")
         add(group, "title", f"round {now}: the {side} side asks for {code.upper()} by itself, in place of {before.upper()}")
-        wide = 6 * len(code) + 6
-        add(group, "rect", x=min(x, x + way * wide), y=y - 12, width=wide, height=11, rx=2)
-        add(group, "text", code.upper(), x=x + way * wide / 2, y=y - 3.5, text_anchor="middle")
+        add(group, "rect", x=box.left, y=box.top, width=box.right - box.left, height=11, rx=2)
+        add(group, "text", code.upper(), x=(box.left + box.right) / 2, y=box.bottom - 2.5, text_anchor="middle")
+
+    def tick_place(self, tick):
+        """The middle of a port's sign."""
+        way = WAYS[tick.side]
+        return self.scale.x(self.scale.column(tick.at, tick.side)) + way * (BAR / 2 + 9), self.scale.y(tick.round)
 
     def draw_tick(self, tick):
-        way, y = WAYS[tick.side], self.scale.y(tick.round)
-        x = self.scale.x(self.scale.column(tick.at, tick.side)) + way * BAR / 2
+        way, (x, y) = WAYS[tick.side], self.tick_place(tick)
         group = add(self.root, "g", class_=f"tick {tick.kind} mark")
         add(group, "title", f"round {tick.round}: {WORDS[tick.kind]}: port {', '.join(tick.ports)}")
-        add(group, "line", x1=x - way * BAR, x2=x + way * 6, y1=y, y2=y)
-        add(group, "path", d=sign(tick.kind, x + way * 9, y))
-        room = ROOM * self.scale.pitch - 16
-        label = fitting([tick.label(), f"{len(tick.ports)} ports" if tick.ports[1:] else ""], room)
-        is_above_line = any((flight.at, flight.side, flight.round) == (tick.at, tick.side, tick.round) for flight in self.flights)
-        add(group, "text", label, x=x + way * 15, y=y - 2 if is_above_line else y + 3, text_anchor="start" if way > 0 else "end")
+        add(group, "line", x1=x - way * (BAR + 9), x2=x - way * 3, y1=y, y2=y)
+        add(group, "path", d=sign(tick.kind, x, y))
+        label = shortened([tick.label(), f"{len(tick.ports)} ports" if tick.ports[1:] else tick.ports[0]], self.scale.pitch - BAR - 24)
+        boxes = [line_box(label, x + way * 6, y + lift, way) for lift in TICK_LIFTS]
+        lift = TICK_LIFTS[self.labels.choose(boxes)]
+        add(group, "text", label, x=x + way * 6, y=y + lift, text_anchor="start" if way > 0 else "end")
+
+
+def shortened(choice, room):
+    """Returns the first of these words that has room, or the last one with less of its name, and the port's end."""
+    words = next((words for words in choice if width_of(words) <= room), choice[-1])
+    name, _, end = words.rpartition(" ")
+    most = int(room // width_of("x")) - len(end) - 2
+    return words if width_of(words) <= room else f"{name[:most]}… {end}"
 
 
 def merged(history, ends):

@@ -1,16 +1,19 @@
 """Captures for Wireshark: the form of their records, and what tshark reads in them beside the plain simulation and its lines."""
 
 import re
+import shlex
 import shutil
 import subprocess
 import sys
 import tempfile
 import tomllib
 import unittest
+from pathlib import Path
 
 from common import PATIENCE, TOOLS, call, command
 
 from ringtools.erf import FrameProblem, capture, record
+from ringtools.kbytes import CODES, MARKS, Word
 
 ROOT = TOOLS.parent
 BENCH, CUT = ROOT / "bench" / "aps", ROOT / "examples" / "span-cut.toml"
@@ -22,6 +25,8 @@ import signalled  # noqa: E402
 
 TSHARK = shutil.which("tshark")
 FIELDS = "frame.time_epoch", "sdh.j0", "sdh.b1", "sdh.h1", "sdh.h2", "sdh.b2", "sdh.k1", "sdh.k2"
+APS_FIELDS = "code", "destination", "source", "path", "mark"
+DISSECTOR = TOOLS / "ringtools" / "aps.lua"
 # A pointer value that changes in round 4, and a switch.
 LARGE = """rate = 16
 nodes = [7, 2, 11]
@@ -69,10 +74,24 @@ class Tool(unittest.TestCase):
     def test_frames_of_a_program_and_of_a_file(self):
         asked = call("sdhring-capture", CUT, "--node", 3, "--side", "west", "--rounds", "10:12", "--program", SIMULATION)
         line = b"".join(sent(CUT.read_text(), 3, "west", (10, 12)))
-        self.assertEqual((asked.returncode, asked.stderr, asked.stdout), (0, b"", capture(4, line, 10)))
+        self.assertEqual((asked.returncode, asked.stdout), (0, capture(4, line, 10)))
         given = call("sdhring-capture", CUT, "--frames", "-", "--rounds", "10:12", input=line)
         self.assertEqual((given.returncode, given.stdout), (0, asked.stdout))
         self.assertEqual(call("sdhring-capture", CUT, "--frames", "-", input=line).stdout, capture(4, line, 0))
+
+    def test_the_command_that_shows_it_is_said(self):
+        """As one types it, with the file into which the capture went."""
+        line = b"".join(sent(CUT.read_text(), 3, "west", (10, 12)))
+        with tempfile.TemporaryDirectory() as folder:
+            name = Path(folder) / "two words.erf"
+            with name.open("wb") as file:
+                words = [sys.executable, TOOLS / "sdhring-capture", CUT, "--frames", "-"]
+                said = subprocess.run(words, input=line, stdout=file, stderr=subprocess.PIPE).stderr.decode()
+            self.assertTrue(name.read_bytes().startswith(record(0, b"")[:8]))
+        told = shlex.split(re.fullmatch("sdhring-capture: to look at it: (tshark .*); wireshark takes the same words\n", said)[1])
+        self.assertEqual(told, ["tshark", "-o", "sdh.data.rate:Attempt to guess", "-X", f"lua_script:{DISSECTOR}", "-r", str(name)])
+        asked = call("sdhring-capture", CUT, "--frames", "-", input=line)
+        self.assertIn(b" -r FILE;", asked.stderr)
 
     def test_what_is_refused(self):
         wanted = ("--node", 3, "--side", "west", "--rounds", "10:12")
@@ -96,6 +115,14 @@ def told(plan, node, side, rounds):
     return [changes[max(change for change in changes if change <= now)] for now in range(rounds[0], rounds[1] + 1)]
 
 
+class Dissector(unittest.TestCase):
+    def test_its_codes_and_marks_are_those_of_the_tools(self):
+        text = DISSECTOR.read_text()
+        listed = lambda name: {int(number): words for number, words in re.findall(r'\[(\d+)\] = "([^"]*)"', re.search(rf"{name} = {{(.*)}}", text)[1])}
+        self.assertEqual(listed("CODES"), {number: names[0] for number, names in CODES.items()})
+        self.assertEqual(listed("MARKS"), MARKS)
+
+
 @unittest.skipUnless(TSHARK, "there is no tshark")
 class Outside(unittest.TestCase):
     """A reader of frames from outside."""
@@ -108,6 +135,30 @@ class Outside(unittest.TestCase):
             ended = subprocess.run(words, capture_output=True, text=True, timeout=PATIENCE)
         self.assertEqual(ended.returncode, 0, ended.stderr)
         return [line.split("\t") for line in ended.stdout.splitlines()]
+
+    def words(self, data, *more):
+        """The fields that the dissector in Lua adds, of the frames that a filter leaves."""
+        with tempfile.NamedTemporaryFile(suffix=".erf") as file:
+            file.write(data)
+            file.flush()
+            fields = [word for field in APS_FIELDS for word in ("-e", f"aps.{field}")]
+            command = [TSHARK, "-X", f"lua_script:{DISSECTOR}", "-r", file.name, *more, "-T", "fields", *fields]
+            ended = subprocess.run(command, capture_output=True, text=True, timeout=PATIENCE)
+        self.assertEqual(ended.returncode, 0, ended.stderr)
+        return [tuple(line.split("\t")) for line in ended.stdout.splitlines()]
+
+    def test_k_bytes_in_words(self):
+        """As the lines of the program have the words, at both rates, with and without the preference; each field can be filtered by."""
+        for plan, node, side, rounds in ((CUT.read_text(), 2, "west", (0, 24)), (LARGE, 2, "east", (0, 6))):
+            data = capture(tomllib.loads(plan)["rate"], b"".join(sent(plan, node, side, rounds)), rounds[0])
+            words = [Word(*bytes.fromhex(word)) for word in told(plan, node, side, rounds)]
+            due = [(CODES[word.code][0], str(word.to), str(word.sender), word.path, MARKS[word.mark]) for word in words]
+            self.assertEqual(self.words(data), due)
+            self.assertEqual(self.words(data, "-o", "sdh.data.rate:Attempt to guess"), due)
+            for number, field in enumerate(APS_FIELDS):
+                value = due[-1][number]
+                left = self.words(data, "-Y", f"aps.{field} == " + (value if value.isdecimal() else f'"{value}"'))
+                self.assertEqual(left, [row for row in due if row[number] == value])
 
     def check(self, plan, node, side, rounds):
         rate, lines = tomllib.loads(plan)["rate"], sent(plan, node, side, rounds)

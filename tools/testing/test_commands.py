@@ -28,7 +28,7 @@ WITHIN = re.compile(r"`((?:\./)?sdh[a-z-]+ [^`]*|man -l [^`]*|\./sdhring --[^`]*
 # What stands for something that is no file.
 WORDS = {"ID": "2", "SIDE": "west", "A:B": "0:3", "RULE": "'single span: none lost'", "DIGITS": "0333", "FOLDER": "rings"}
 # Those that end otherwise than with 0, as they should.
-STATUSES = {"refused.toml": 6, "yes ": 141, "--require 'single group: none lost'": 1, "--require 'single place: none lost besides ends'": 1}
+STATUSES = {"refused.toml": 6, "relays-its-own": 1, "yes ": 141, "--require 'single group: none lost'": 1, "--require 'single place: none lost besides ends'": 1}
 PLACES = {"Aachen": 1, "Bonn": 2, "Celle": 3, "Düren": 4, "Essen": 5, "Fulda": 7}
 # Of the package, whose pages are those that are installed elsewhere but for their places.
 OF_PACKAGE = {"README.md", "BENCH.md", "sdhnode.1", "sdhring.1", "sdhring-explain.1", "sdhring-report.1", "sdhring-capture.1"}
@@ -241,7 +241,7 @@ class Commands(unittest.TestCase):
         self.assertGreater(sum(map(len, found.values())), 110)
         for name in ("README.md", "BENCH.md", "LOOKING.md", "sdhnode.1", "sdhring-whatif.1", "sdhring-compare-node.1"):
             self.assertTrue(found[name], name)
-        self.assertIn("examples/bench/ring examples/three-nodes.toml", found["BENCH.md"])
+        self.assertIn("sdhring-bench examples/round-by-round.toml", "\n".join(found["BENCH.md"]))
         for place in self.places:
             everything = "\n".join(command for name, text in place.texts().items() for command in commands_of(name, text))
             for name in (*PROGRAMS, *TOOLS):
@@ -251,9 +251,9 @@ class Commands(unittest.TestCase):
         for place in self.places:
             examples = (place.unpacked or place.pages) / "examples"
             runs = [path for path in sorted(examples.rglob("*")) if path.is_file() and path.read_bytes()[:2] == b"#!"]
-            self.assertEqual([path.name for path in runs], ["relays-its-own", "ring", "retiming"])
+            self.assertEqual([path.name for path in runs], ["relays-its-own", "retiming"])
             with tempfile.TemporaryDirectory() as elsewhere:
-                for path, words in zip(runs, (["2"], [examples / "three-nodes.toml"], [])):
+                for path, words in zip(runs, (["2"], [])):
                     stream = (examples / "bench" / "node-2.stream").read_bytes()
                     ended = subprocess.run([path, *words], cwd=elsewhere, env={"PATH": "/usr/bin:/bin"}, input=stream, capture_output=True)
                     with self.subTest(place=place.name, example=path.name):
@@ -262,7 +262,7 @@ class Commands(unittest.TestCase):
     def test_what_makers_need_is_there(self):
         for place in self.places:
             texts = place.texts()
-            for name in ("BENCH.md", "RING.md", "ROUTES.md", "SIGNALLING.md", "sdhnode.1", "sdhring-compare-node.1"):
+            for name in ("BENCH.md", "RING.md", "ROUTES.md", "SIGNALLING.md", "sdhnode.1", "sdhring-compare-node.1", "sdhring-bench.1"):
                 self.assertIn(name, texts)
 
     def test_no_point_stands_alone_where_a_link_was_cut(self):

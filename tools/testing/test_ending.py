@@ -63,6 +63,7 @@ def tool(name, *words, **more):
 PROGRAM = {name: str(TOP / "dist" / name) for name in ("sdhaps", "sdhnode", "sdhoutage", "sdhpath", "sdhretime", "sdhring", "sdhwatch", "sdhwhatif")}
 ALL = (
     tool("sdhring-availability", "PLAN", "SPANS.csv"),
+    tool("sdhring-bench", "PLAN"),
     tool("sdhring-capture", "PLAN", "--node", "2", "--side", "east", "--rounds", "0:3"),
     tool("sdhring-compare-node", "OURS", "OURS"),
     tool("sdhring-desk", "PLAN", "--depth", "double"),
@@ -86,7 +87,6 @@ ALL = (
     tool("release", "--help"),
     tool("release", "pack", "--here", "1700000000", "--to", "made"),
     tool("install", "--install", "made", writes=False),
-    Tried(TOP / "examples" / "bench" / "ring", ("PLAN",)),
     Tried(TOP / "examples" / "bench" / "relays-its-own", ("2",), "STREAM"),
     bench("aps/compare", PROGRAM["sdhaps"], "0"),
     bench("aps/signalled.py", "run", given="PLAN"),
@@ -107,6 +107,7 @@ ALL = (
     bench("paths/compare", PROGRAM["sdhpath"], "0"),
     bench("plans/mutate.py", "--help"),
     bench("retime/compare", "--help"),
+    bench("rings/speed", "--help"),
     bench("watch/compare", PROGRAM["sdhwatch"], "0"),
     bench("whatif/compare", PROGRAM["sdhwhatif"], PROGRAM["sdhring"], "0"),
     bench("whatif/model.py", "single", given="PLAN"),

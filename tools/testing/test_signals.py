@@ -1,10 +1,12 @@
 """Who says what, round by round: the reading of such lines, by rows that were worked out by hand, and what is drawn of them."""
 
+import math
 import re
 import sys
 import tempfile
 import tomllib
 import unittest
+import xml.etree.ElementTree as ElementTree
 from functools import cache
 from pathlib import Path
 
@@ -194,6 +196,65 @@ class Scales(unittest.TestCase):
         scale = Scale(plan, stretch, [128, 140])
         self.assertEqual([scale.column(at, side) for at in (0, 1, 3) for side in ("west", "east")], [4, 0, 1, 1, 3, 3])
         self.assertEqual([scale.gap(Flight(at, side, 0, None, False, None)) for at, side in ((0, "west"), (3, "east"), (1, "west"))], [(4, 3), (3, 4), (1, 0)])
+
+
+def corners(text):
+    """The corners of a label's letters, by about their size."""
+    x, y = float(text.get("x")), float(text.get("y")) + float(text.get("dy") or 0)
+    wide = 4.2 * len(text.text)
+    left = {"middle": x - wide / 2, "end": x - wide}.get(text.get("text-anchor"), x)
+    turn = [float(word) for word in re.findall(r"[-0-9.]+", text.get("transform") or "rotate(0 0 0)")]
+    angle = math.radians(turn[0])
+    sides = [(left, y - 6), (left + wide, y - 6), (left + wide, y), (left, y)]
+    beside = [(a - turn[1], b - turn[2]) for a, b in sides]
+    cosine, sine = math.cos(angle), math.sin(angle)
+    return [(turn[1] + a * cosine - b * sine, turn[2] + a * sine + b * cosine) for a, b in beside]
+
+
+def lie_apart(one, other):
+    """Whether a line along a side of one of two rectangles has them on its two sides."""
+    for (ax, ay), (bx, by) in [*zip(one, one[1:]), *zip(other, other[1:])]:
+        here, there = ([(bx - ax) * (y - ay) - (by - ay) * (x - ax) for x, y in shape] for shape in (one, other))
+        if max(here) <= min(there) or max(there) <= min(here):
+            return True
+    return False
+
+
+@unittest.skipUnless((ROOT / "dist" / "sdhaps").is_file(), "dist/ has no sdhaps")
+class Labels(unittest.TestCase):
+    """Of the largest rings, whose columns are close together."""
+
+    STEPS = ["settle", "cut 0 east", "cut 1 west", "settle", "mend 0 east", "mend 1 west", "settle"]
+
+    def drawn(self, names, step):
+        lines = ["rate = 4", f"nodes = {list(range(16))}", "threshold = 3", "wait = 10", "limit = 2000", f"script = {self.STEPS}"]
+        for (begin, end), name in names.items():
+            lines += ["[[circuit]]", f'name = "{name}"', f"from = {begin}", f"to = {end}", "slot = 1", 'text_a = "0123456789A"', 'text_b = "abcdefghijk"']
+        with tempfile.TemporaryDirectory() as folder:
+            plan = Path(folder) / "plan.toml"
+            plan.write_text("\n".join(lines).replace("'", '"') + "\n")
+            ended = call("sdhring-view", "--signalling", plan, "--svg", step)
+        self.assertEqual(ended.returncode, 0, ended.stderr)
+        return ElementTree.fromstring(ended.stdout)
+
+    def test_none_lies_over_another_and_ports_have_their_names(self):
+        svg = "{http://www.w3.org/2000/svg}"
+        for step in (1, 2, 3):
+            drawing = self.drawn({(8, 7): "c1"}, step)
+            labels = [text for group in drawing.iter(f"{svg}g") if re.match("flight|ask|tick", group.get("class") or "") for text in group.iter(f"{svg}text")]
+            shapes = [(text.text, corners(text)) for text in labels]
+            over = [(one, other) for place, (one, shape) in enumerate(shapes) for other, another in shapes[:place] if not lie_apart(shape, another)]
+            self.assertEqual(over, [], step)
+            ticks = [text.text for group in drawing.iter(f"{svg}g") if (group.get("class") or "").startswith("tick") for text in group.iter(f"{svg}text")]
+            self.assertEqual(set(ticks), {"c1 a", "c1 b"}, step)
+
+    def test_a_long_name_is_shortened(self):
+        drawing = self.drawn({(2, 9): "l006-mainz-frank"}, 2)
+        ticks = [text for text in re.findall(r">(l006[^<]*)</text>", ElementTree.tostring(drawing, encoding="unicode").replace("ns0:", ""))]
+        self.assertEqual(ticks, [])
+        drawing = self.drawn({(8, 7): "l006-mainz-frank"}, 2)
+        ticks = set(re.findall(r">(l006[^<]*)</text>", ElementTree.tostring(drawing, encoding="unicode").replace("ns0:", "")))
+        self.assertEqual({words[-3:] for words in ticks}, {"… a", "… b"})
 
 
 class Documents(unittest.TestCase):

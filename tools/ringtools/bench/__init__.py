@@ -1,0 +1,1 @@
+"""What sdhring-bench is made of: a ring of programs, joined to one another by pipes."""
