@@ -36,17 +36,19 @@ _sdhring_tools() {
     sdhring-bench) words='--instead --connect --more --within --keep --processes --program --all --json --version --help' ;;
     sdhring-capture) words='--node --side --rounds --frames --program --version --help' ;;
     sdhring-compare-node) words='--version --help' ;;
+    sdhring-conform) words='--json --junit --list --page --keep --limit --only --short --program --version --help' ;;
     sdhring-desk) words='--to --title --depth --spans --nodes --groups --cuts-per-1000-km --teller --version --help' ;;
     sdhring-network) words='import whatif availability page add room --to --keep --threshold --wait --limit --dir --kinds --case --require --against --summary --teller --jobs --parts --part --sshlogin --parallel --slurm --cuts-per-1000-km --csv --json --causes --savings --title --version --help' ;;
+    sdhring-now) words='--alarms --spans --page --json --title --without-script --fail-on --teller --version --help' ;;
     sdhring-view) words='--to --svg --outages --signalling --program --version --help' ;;
-    sdhring-whatif) words='--also --works --title --without-script --kinds --dir --program --jobs --shard --sshlogin --parallel --all --depth --frames --groups --against --outages --require --teller --counter --anew --version --help' ;;
+    sdhring-whatif) words='--also --works --title --without-script --kinds --dir --program --jobs --shard --sshlogin --parallel --all --depth --frames --groups --against --outages --require --teller --counter --spans --fail-on --anew --version --help' ;;
   esac
   mapfile -t COMPREPLY < <(compgen -W "$words" -- "$word")
   [ "${#COMPREPLY[@]}" -ne 0 ] || compopt -o default
 }
 
 complete -F _sdhring {,./}sdh{ring,watch,outage,path,retime,whatif,aps,node}
-complete -F _sdhring_tools {,./}sdhring-{availability,bench,capture,compare-node,desk,explain,network,plan,report,view,whatif}
+complete -F _sdhring_tools {,./}sdhring-{availability,bench,capture,compare-node,conform,desk,explain,network,now,plan,report,view,whatif}
 # repository
 complete -F _sdhring_tools {,./}tools/rows
 # end

@@ -16,7 +16,7 @@ from .plan import Plan
 from .tables import TableProblem
 from .writing import Folder
 
-COLUMNS = ("Failures", "Depth", "Kind", "Circuit", "Other", "This", "Change")
+COLUMNS = ("Failures", "Depth", "Kind", "Circuit", "Other", "This", "Change", "Customer")
 GAINS, LOSES, CHANGED = "gains", "loses", "other way"
 MOST_CASES = 100_000  # rows of a table
 MOST_CIRCUITS = 128
@@ -117,11 +117,15 @@ class Against:
     def called(self, name):
         return self.this.called.get(name, name)
 
+    def customer(self, name: str) -> str:
+        """The name by which its customer knows a circuit."""
+        return name if self.this.plan is None else self.this.plan.places.circuit(name)
+
     def rows(self) -> Iterator[list]:
         yield list(COLUMNS)
         for key, name, before, now in self.changes:
             kinds = "+".join(label.split()[0] for label in key)
-            yield ["; ".join(key) or "nothing", len(key), kinds, name, before, now, change(before, now)]
+            yield ["; ".join(key) or "nothing", len(key), kinds, name, before, now, change(before, now), self.customer(name)]
 
     def write_csv(self, folder: Folder, file: str) -> None:
         with folder.writing_text(file) as text:

@@ -14,6 +14,7 @@ from .desktable import WHOLE, Reading, ToldProblem, merged, read_cases, words_fo
 from .files import FileProblem
 from .framed import asked_of, machines_of, put_cases, run_cases, store_of
 from .groups import named_groups
+from .inshort import FAILED_ON, tell, told_found, told_lines
 from .origin import TELLER, CannotRun, Origin, Program, program_of, sum_of
 from .required import BROKEN, COLUMNS, NOT_ASKED, Rule, depth_for, line_of, not_asked, records
 from .running import made_pool, processors, tell_with_parallel
@@ -160,10 +161,12 @@ def ask_all(asked, subject):
     if unknown:
         raise Stop(f"--frames '{unknown[0]}': no case has these steps or failures; all.csv has those that there are")
     writing = Writing(asked, subject, told, teller, against)
+    tell(told_lines(subject.title, told))
     writing.write_once()
     writing.write(None, [])
     print("\n".join(writing.names()), flush=True)
-    return writing.write(*run_some(asked, subject, told, chosen)) if chosen else 0
+    status = writing.write(*run_some(asked, subject, told, chosen)) if chosen else 0
+    return status or (FAILED_ON if asked.fail_on and told_found(told).fails(asked.fail_on) else 0)
 
 
 def required(asked, rules: list[Rule], name: str) -> list[list]:

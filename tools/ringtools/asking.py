@@ -10,10 +10,12 @@ from pathlib import Path
 from . import shown
 from .answers import limit_advice
 from .failures import read_beforehand
+from .fibre import read_lengths
 from .files import FileProblem, read_input
 from .origin import sum_of
 from .plan import PlanProblem, enough, read_plan, write_plan
 from .plans import stem_of
+from .tables import TableProblem
 from .writing import Folder, named_folder, own_folder
 
 FAILED, NOT_SETTLED, DIFFERS, INTERRUPTED = 1, 3, 4, 130
@@ -56,6 +58,11 @@ class Subject:
     def title(self):
         return Path(self.name).name
 
+    @property
+    def order(self):
+        """The works order in its own words."""
+        return "; ".join(self.beforehand.order)
+
 
 def subject_of(name, also, works, without_script):
     """The plan of this file, after its own script or without it."""
@@ -75,6 +82,19 @@ def subject_of(name, also, works, without_script):
     return Subject(name, data, beforehand, data if as_it_is else write_plan(plan, beforehand.settled_texts()).encode())
 
 
+def lengths_for(asked, plan):
+    """The lengths of the fibres by --spans, or None."""
+    if asked.spans is None:
+        return None
+    try:
+        lengths, notes = read_lengths(asked.spans, plan)
+    except (FileProblem, TableProblem) as problem:
+        raise Stop(str(problem)) from None
+    for note in notes:
+        say(note)
+    return lengths
+
+
 def slug(words: str) -> str:
     """Returns words as a part of a file's name: small letters, digits and hyphens, at most SLUG of them."""
     plain = "".join(letter for letter in unicodedata.normalize("NFKD", words).casefold() if not unicodedata.combining(letter))
@@ -84,7 +104,8 @@ def slug(words: str) -> str:
 
 def question_name(asked) -> str:
     """Returns what the name of a folder has of the question, so that each works order has a folder of its own."""
-    parts = [slug(asked.works)] if asked.works else []
+    parts = [slug(asked.title)] if asked.works and asked.title else []
+    parts += [slug(asked.works)] if asked.works else []
     parts += [f"after-{slug(asked.also)}"] if asked.also else []
     return "".join(f".{part}" for part in parts + ["without-script"] * asked.without_script)
 
@@ -108,6 +129,7 @@ def question_of(asked, subject: Subject) -> str:
     """Returns what is asked besides the plan, as the words that ask for it, with the steps that an order stands for."""
     before, words = subject.beforehand, []
     words += ["--works", "; ".join(before.works_texts())] if before.works else []
+    words += ["--title", asked.title] if before.works and asked.title else []
     words += ["--also", "; ".join(before.also_texts())] if before.also else []
     return shlex.join(words + ["--without-script"] * asked.without_script) + "\n"
 

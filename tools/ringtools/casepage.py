@@ -6,6 +6,7 @@ from functools import partial
 from .answers import Answers
 from .casetables import CaseTables
 from .failures import WORKS_STAGES
+from .inshort import WorksInShort
 from .look import looks
 from .markup import count_of, escape, listing, origin_list, warning, whole
 from .model import scenes
@@ -13,6 +14,7 @@ from .origin import Origin
 from .page import in_short, run_page, source, tools
 from .report import ReportProblem, read_report
 from .running import made_pool
+from .sheet import first_sheet
 from .works import Works
 
 
@@ -28,6 +30,7 @@ class Asked:
     title: str = ""  # the heading that was asked for, such as an order's number and time
     interruptions: object = None  # what sdhoutage counts of the works
     opening: object = None  # and of the opening of the spans that these free
+    second: str = ""  # what one failure more during the works comes to
 
     def heading(self):
         """The title, with the plan below it; or the plan."""
@@ -36,6 +39,13 @@ class Asked:
     def origin(self, answers):
         known = tuple(answer for answer in answers if answer is not None)
         return Origin(self.store.program, self.plan, self.plan_sum, tuple(answer.date for answer in known), answers=known)
+
+
+def order_sheet(asked, answers):
+    """The sheet to be signed, before everything else."""
+    short = WorksInShort(answers.works, asked.interruptions, asked.opening, answers.plan)
+    text = asked.store.text(answers.works.case.name)
+    return first_sheet(asked, short, text)
 
 
 def answers_page(asked, verdicts):
@@ -47,6 +57,7 @@ def answers_page(asked, verdicts):
     counted = asked.interruptions and asked.interruptions.origin(asked.plan, asked.plan_sum)
     parts = [f"<h1>{escape(title)}</h1>", below, *dict.fromkeys(warning(each) for each in (origin, counted) if each)]
     if asked.beforehand.works:
+        parts += [order_sheet(asked, answers)] if answers.works and asked.interruptions else []
         parts += [Works(answers, asked.interruptions, asked.opening).section(), "<section><h2>All failures during the works</h2>"]
     parts += [listing(answers.words()), f"<p>{about}</p>", in_short(origin), tools(), "</section>" if asked.beforehand.works else ""]
     if plan.circuits:

@@ -5,6 +5,7 @@ from dataclasses import dataclass, replace
 from itertools import combinations
 
 from .model import CUT, CLEAR, Script
+from .naming import NoNode, with_identifiers
 from .places import composed
 from .plan import PlanProblem, read_step, write_plan
 
@@ -227,7 +228,7 @@ def span_steps(plan, words):
     span = span_called(plan, words)
     if span is None:
         spans = ", ".join(plan.span_title(at).replace("–", "-", 1) for at in range(plan.size))
-        raise PlanProblem(f"works: no span joins node {' and node '.join(SIGN.split(words, maxsplit=1))}; the spans are {spans}")
+        raise PlanProblem(f"no span joins node {' and node '.join(SIGN.split(words, maxsplit=1))}; the spans are {spans}")
     return plan.span_title(span), [forced(plan, span, "east"), forced(plan, span + 1, "west")]
 
 
@@ -235,17 +236,26 @@ def node_steps(plan, words):
     """A node in words, and forced switches at both its neighbours, towards it."""
     at = plan.places.positions(plan.ids).get(words.casefold())
     if at is None:
-        raise PlanProblem(f"works: no node {words}; the nodes are {', '.join(map(plan.node_name, range(plan.size)))}")
+        raise PlanProblem(f"no node {words}; the nodes are {', '.join(map(plan.node_name, range(plan.size)))}")
     return plan.node_name(at), [forced(plan, at - 1, "east"), forced(plan, at + 1, "west")]
+
+
+def step_called(plan, text):
+    """A step with the identifier of its node, which may be named by its place."""
+    try:
+        return with_identifiers(plan.ids, plan.places, text)
+    except NoNode as problem:
+        raise PlanProblem(str(problem)) from None
 
 
 def works_part(plan, text):
     """A part of an order in words and in steps: `span A-B` and `node A` free these of traffic; any step stands for itself."""
     kind, _, words = text.partition(" ")
     if kind not in WORKS_FORMS:
-        return text, [text]
+        step = step_called(plan, text)
+        return step, [step]
     if not WORKS_FORMS[kind].fullmatch(words):
-        raise PlanProblem(f"works: `{text}` isn't a part of an order: {WORKS_WORDS[kind]}")
+        raise PlanProblem(f"`{text}` isn't a part of an order: {WORKS_WORDS[kind]}")
     called, steps = (span_steps if kind == "span" else node_steps)(plan, words)
     return f"{kind} {called}" if plan.places.nodes else text, steps
 
@@ -265,4 +275,5 @@ def read_beforehand(plan, also, works=None, script=(), left_out=()):
     """The steps of `--also` and of `--works`, separated by semicolons, after those of the plan's own script where it counts."""
     order = [works_part(plan, part) for part in parts_of(works)]
     steps = [step for _, part in order for step in part]
-    return Beforehand(plan, read_steps_of(plan, parts_of(also)), read_steps_of(plan, steps), [words for words, _ in order], script, left_out)
+    before = [step for part in parts_of(also) for step in works_part(plan, part)[1]]
+    return Beforehand(plan, read_steps_of(plan, before), read_steps_of(plan, steps), [words for words, _ in order], script, left_out)

@@ -1,24 +1,40 @@
 """The cases of sdhring-whatif that the program runs frame by frame: put, run here or over machines, judged, and drawn."""
 
 import shlex
+from concurrent.futures import ThreadPoolExecutor
+from dataclasses import dataclass
 
-from .answers import limit_advice
+from .answers import Answers, limit_advice
 from .asking import DIFFERS, INTERRUPTED, NOT_SETTLED, Stop, folder_of, keep_question, say, warn_of
 from .casepage import Asked, answers_page, draw_cases
 from .checks import SETTLES
 from .failures import KINDS, all_cases, shard_of
+from .inshort import FAILED_ON, SECOND, WorksInShort, answers_found, answers_lines, seconds_of, tell
 from .interruptions import COUNTER, count_works, write_interruptions
 from .kept import Store
 from .markup import count_of
-from .opening import count_opening
-from .origin import LAUNCHER, program_of, sum_of
+from .opening import count_opening, opening_case
+from .origin import LAUNCHER, TELLER, program_of, sum_of
 from .plan import read_plan
 from .progress import Progress, duration
 from .reasons import REASONS
 from .report import ReportProblem, read_report
-from .running import Machines, processors, run_here, run_with_parallel
+from .running import Machines, processors, run_here, run_one, run_with_parallel
 from .shown import shown
 from .verdicts import SOURCE, UNSETTLED, judge, source_cells, write_table
+
+
+@dataclass(frozen=True)
+class WorksDone:
+    """What was counted of the works and of the opening, what one failure more comes to, and who is touched; without works nothing."""
+
+    counted: object = None
+    opening: object = None
+    second: str = ""
+    found: object = None
+
+
+NO_WORKS = WorksDone()
 
 
 def read_kinds(words, alone):
@@ -51,9 +67,9 @@ def counting_store_of(asked, subject):
     return Store(folder_of(asked, subject.name).inside("outages"), program)
 
 
-def asked_of(asked, subject, store, part="", interruptions=None, opening=None):
+def asked_of(asked, subject, store, part="", works=NO_WORKS):
     """What the pages of the cases have to know."""
-    return Asked(subject.title, sum_of(subject.data), subject.beforehand, store, part, asked.title, interruptions, opening)
+    return Asked(subject.title, sum_of(subject.data), subject.beforehand, store, part, asked.title, works.counted, works.opening, works.second)
 
 
 def check_room(subject, case):
@@ -126,23 +142,20 @@ def put_cases(asked, store, beforehand, cases):
         store.forget(case.name)
 
 
-def write_answers(asked, subject, store, counted, opening, cases):
+def write_answers(asked, subject, store, works, verdicts):
     shard, shards = asked.shard
     part = "" if shards == 1 else f"-{shard}-of-{shards}"
-    told = asked_of(asked, subject, store, part and f"{shard} of {shards}", counted, opening)
-    verdicts = [judge(case, subject.beforehand.plan_of(case), store.text(case.name), store.answer(case.name)) for case in cases]
+    told = asked_of(asked, subject, store, part and f"{shard} of {shards}", works)
     keep_question(asked, subject)
     folder = folder_of(asked, subject.name)
     write_table(folder, f"table{part}.csv", told, verdicts)
-    draw_cases(told, cases, asked.jobs or processors())
+    draw_cases(told, [verdict.case for verdict in verdicts], asked.jobs or processors())
     folder.write(f"page{part}.html", answers_page(told, verdicts))
     print(shown(folder.path / f"table{part}.csv"), shown(folder.path / f"page{part}.html"), sep="\n")
-    if counted:
-        write_interruptions(folder, f"outages{part}.csv", SOURCE, counted, subject.plan, source_cells(counted.answer, told))
+    if works.counted:
+        both = [works.counted, *([works.opening.counted] if works.opening.spans else [])]
+        write_interruptions(folder, f"outages{part}.csv", SOURCE, both, subject.plan, source_cells(works.counted.answer, told))
         print(shown(folder.path / f"outages{part}.csv"))
-    if opening and opening.words():
-        say(opening.words())
-    return verdicts
 
 
 def ended(plan, verdicts, counted):
@@ -159,8 +172,44 @@ def ended(plan, verdicts, counted):
     return DIFFERS if odd or not unsettled and counted and counted.problem else NOT_SETTLED if unsettled else 0
 
 
+def judged(subject, store, case):
+    return judge(case, subject.beforehand.plan_of(case), store.text(case.name), store.answer(case.name))
+
+
+def run_works(store, counting, beforehand, works):
+    """Runs the works, and counts their frames and those of the opening, all at a time, before the failures run that may come meanwhile."""
+    opening = opening_case(beforehand, works)
+    counting.put_plan(works.name, beforehand.document(works))
+    wanted = [(store, works), (counting, works)]
+    if opening.fibres:
+        counting.put_plan(opening.name, beforehand.document(opening))
+        wanted.append((counting, opening))
+    with ThreadPoolExecutor(len(wanted)) as pool:
+        for run in [pool.submit(run_one, kept, case.name) for kept, case in wanted if not kept.is_done(case.name)]:
+            run.result()
+
+
+def ask_works(asked, subject, store, counting, works):
+    """Says at once what the works come to, and returns what was counted of them and of the opening, and who is touched."""
+    beforehand = subject.beforehand
+    for name in ("works", "opening") if asked.anew else ():
+        counting.forget(name)
+    run_works(store, counting, beforehand, works)
+    counted = count_works(counting, beforehand, works, store.text(works.name), asked.lengths)
+    opening = count_opening(counting, beforehand, works, asked.lengths)
+    short = WorksInShort(judged(subject, store, works), counted, opening, subject.plan)
+    tell(short.lines(subject.order))
+    second = tuple(kind for kind in SECOND if kind in read_kinds(asked.kinds, True))
+    line = ""
+    if second and short.during is not None:
+        seconds = seconds_of(subject.asked, subject.document, program_of(asked.teller, TELLER), second)
+        line = seconds.line("during the works", len(subject.plan.circuits))
+        tell([line])
+    return WorksDone(counted, opening, line, short.found)
+
+
 def ask_by_frames(asked, subject):
-    """Each failure of the kinds that are asked for, run by the program."""
+    """Each failure of the kinds that are asked for, run by the program; the works first, where there are any."""
     beforehand, kinds = subject.beforehand, read_kinds(asked.kinds, asked.works)
     cases = shard_of(all_cases(beforehand, kinds), *asked.shard)
     for case in cases[:1]:
@@ -168,11 +217,19 @@ def ask_by_frames(asked, subject):
     works = next((case for case in cases if case.kind == "works"), None)
     store, counting = store_of(asked, subject), works and counting_store_of(asked, subject)
     put_cases(asked, store, beforehand, cases)
+    done = NO_WORKS
     try:
+        if works:
+            try_nothing(store, beforehand)
+            done = ask_works(asked, subject, store, counting, works)
         run_cases(asked, store, beforehand, cases)
-        counted = works and count_works(counting, beforehand, works, store.text(works.name), asked.anew)
-        opening = works and count_opening(counting, beforehand, works, asked.anew)
     except KeyboardInterrupt:
-        done = sum(store.is_done(case.name) for case in cases)
-        raise Stop(f"stopped; {done} of {len(cases)} cases are kept, the same command goes on from there", INTERRUPTED) from None
-    return ended(subject.plan, write_answers(asked, subject, store, counted, opening, cases), counted)
+        kept = sum(store.is_done(case.name) for case in cases)
+        raise Stop(f"stopped; {kept} of {len(cases)} cases are kept, the same command goes on from there", INTERRUPTED) from None
+    verdicts, found = [judged(subject, store, case) for case in cases], done.found
+    if found is None:
+        answers = Answers(beforehand, verdicts)
+        found = answers_found(answers)
+        tell(answers_lines(subject.title, answers))
+    write_answers(asked, subject, store, done, verdicts)
+    return ended(subject.plan, verdicts, done.counted) or (FAILED_ON if found.fails(asked.fail_on) else 0)

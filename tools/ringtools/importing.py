@@ -2,13 +2,16 @@
 
 from __future__ import annotations
 
+from collections.abc import Sequence
 from dataclasses import dataclass, replace
 
 from .cells import text_of_rows
 from .checks import is_name, is_sent, plain_name, why_no_name
 from .keeping import Service, held, kept_words, positions_in
-from .making import Asked, Written, check_rate, document_of, text_of
+from .making import Asked, MakingProblem, Written, check_rate, document_of, text_of
 from .markup import count_of
+from .naming import NoNode, with_identifiers
+from .places import Places
 from .slots import ORDERS, Demand, Laid, Wanted, arcs_of, fitted, layout_of, loads_of, spans_of
 from .tables import SIGNS, Table, advice, read_table, spelled
 from .tables import text_of as text_in
@@ -229,6 +232,14 @@ def notes_of(circuits, layout, is_sure, unread):
         yield f"{len(renamed) - NOTED} more have another name in the plan, with their own beside it as a comment"
 
 
+def steps_called(numbers: Sequence[int], places: dict[int, str], steps: Sequence[str]) -> tuple[str, ...]:
+    """Returns steps with identifiers in place of the names of places."""
+    try:
+        return tuple(with_identifiers(numbers, Places(places), step) for step in steps)
+    except NoNode as problem:
+        raise MakingProblem(str(problem)) from None
+
+
 def imported(circuits_file: str, nodes_file: str, asked: Asked, service: Service | None = None) -> Imported:
     """The plan of these tables. `asked` has everything but the nodes and the circuits; `service` is a plan whose circuits stay as they are there."""
     check_rate(asked)
@@ -239,7 +250,8 @@ def imported(circuits_file: str, nodes_file: str, asked: Asked, service: Service
     if layout is None:
         raise misfits(ring, circuits, asked.rate // 2, is_sure)
     places = {node.number: node.place for node in nodes if node.place}
-    asked = replace(asked, nodes=tuple(node.number for node in nodes), places=places)
+    numbers = tuple(node.number for node in nodes)
+    asked = replace(asked, nodes=numbers, places=places, steps=steps_called(numbers, places, asked.steps))
     written = [written_of(circuit, laid, ring) for circuit, laid in zip(circuits, layout.laid)]
     notes = list(notes_of(circuits, layout, is_sure, unread + table.notes()))
     notes += kept_words(service, [circuit.called for circuit in circuits]) if service else []

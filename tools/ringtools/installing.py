@@ -14,11 +14,11 @@ from .shown import shown
 from .writing import Folder, WriteProblem, named_folder, parts_of
 
 TOOLS = (
-    *("sdhring-availability", "sdhring-bench", "sdhring-capture", "sdhring-compare-node", "sdhring-desk", "sdhring-explain", "sdhring-network", "sdhring-plan", "sdhring-report"),
-    *("sdhring-view", "sdhring-whatif"),
+    *("sdhring-availability", "sdhring-bench", "sdhring-capture", "sdhring-compare-node", "sdhring-conform", "sdhring-desk", "sdhring-explain", "sdhring-network", "sdhring-now", "sdhring-plan"),
+    *("sdhring-report", "sdhring-view", "sdhring-whatif"),
 )
 DOCUMENTS = (
-    *("AVAILABILITY.md", "BENCH.md", "DESK.md", "FORMATS.md", "LOOKING.md", "NETWORKS.md", "OUTAGES.md", "PATHS.md", "RETIMING.md", "RING.md", "SECURITY.md", "TABLES.md", "WATCHING.md"),
+    *("AVAILABILITY.md", "BENCH.md", "DESK.md", "FORMATS.md", "LOOKING.md", "NETWORKS.md", "NOW.md", "NODE.md", "OUTAGES.md", "PATHS.md", "RETIMING.md", "RING.md", "SECURITY.md", "TABLES.md", "WATCHING.md"),
     *("ROUTES.md", "SIGNALLED.md", "SIGNALLING.md", "WHATIF.md"),
 )
 LIB, DOC, MAN = "lib/sdhring", "share/doc/sdhring", "share/man/man1"

@@ -5,18 +5,20 @@ from dataclasses import dataclass, field
 
 from .cells import write_rows
 from .failures import WORKS_STAGES
+from .fibre import Delays, delays_of, fibre_words
 from .kept import Store
 from .markup import count_of, escape
 from .origin import LAUNCHER, Origin
-from .plan import Plan
+from .plan import Circuit, Plan
 from .outages import frames_words, milliseconds, put_beside, read_outages
 from .report import ReportProblem, read_report
 from .running import run_one
 from .writing import Folder
 
 COUNTER = LAUNCHER.with_name("sdhoutage")
+WITH_FIBRE = "Times with fibre add its delay by the lengths of <code>{}</code>, 5 microseconds for a kilometre: twice the way over protection for a whole switch. That is an estimate, and neither proved nor tested."
 BEGINNINGS = {"during": "as they begin", "after": "as they end", "waited": "after waiting"}
-FIELDS = ["Stage", "Circuit", "Customer", "Port", "Node", "Place", "Frames", "Milliseconds", "Jumps", "Still out"]
+FIELDS = ["Stage", "Circuit", "Customer", "Port", "Node", "Place", "Frames", "Milliseconds", "Jumps", "Still out", "Milliseconds with fibre"]
 NOT_COUNTED = "Fibre delay is not included."
 
 
@@ -30,6 +32,7 @@ class Interruptions:
     first: int = 0
     problem: str = ""
     names: tuple[str, ...] = WORKS_STAGES
+    delays: Delays | None = None  # of the fibres, where their lengths are known
 
     @property
     def stages(self):
@@ -68,23 +71,33 @@ class Interruptions:
         """The stages after the first; that of waiting only where it hits a customer."""
         return [name for name in BEGINNINGS if name in self.stages and (name != "waited" or self.hit(name, circuits))]
 
+    def fibre_ms(self, stage: str, frames: int, circuit: Circuit) -> float | None:
+        """Returns the milliseconds with fibre of so long an interruption; None where no lengths are known."""
+        return None if self.delays is None else self.delays.of(stage, frames, circuit)
+
     def cell(self, stage, circuit):
         if not self.is_hit(stage, circuit):
             return "<td>–</td>" if self.of(stage, circuit).out else "<td>no</td>"
         outage = self.of(stage, circuit)
         words = "lost from then on" if outage.is_out_still else outage.words() if outage.out else count_of(outage.jumps, "jump")
+        words += fibre_words(self.fibre_ms(stage, outage.longest, circuit)) if outage.out and not outage.is_out_still else ""
         return f'<td class="changed-cell">{words}</td>'
 
     def stage_words(self, stage: str, plan: Plan) -> str:
         """Returns how many customers are interrupted in a stage, and for how long at most; empty where none is."""
         hit = self.hit(stage, plan.circuits)
-        outages = {circuit.name: self.of(stage, circuit) for circuit in hit}
-        breaks = {name: outage.longest for name, outage in outages.items() if outage.out and not outage.is_out_still}
+        outages = {circuit: self.of(stage, circuit) for circuit in hit}
+        breaks = {circuit: outage.longest for circuit, outage in outages.items() if outage.out and not outage.is_out_still}
         lost = sum(outage.is_out_still for outage in outages.values())
-        parts = [f"{count_of(len(breaks), 'customer')} of {len(plan.circuits)} for at most {frames_words(max(breaks.values()))}"] if breaks else []
+        parts = [f"{count_of(len(breaks), 'customer')} of {len(plan.circuits)} for at most {self.most_words(stage, breaks)}"] if breaks else []
         parts += [f"{count_of(lost, 'customer')} lost from then on"] if lost else []
         jumps = len(hit) - len(breaks) - lost
         return "; ".join(parts + ([f"{count_of(jumps, 'customer')} for no frame, but with a jump"] if jumps else []))
+
+    def most_words(self, stage: str, breaks: dict[Circuit, int]) -> str:
+        """Returns the longest of these interruptions, without the fibres and with them."""
+        with_fibre = [ms for circuit, frames in breaks.items() if (ms := self.fibre_ms(stage, frames, circuit)) is not None]
+        return frames_words(max(breaks.values())) + fibre_words(max(with_fibre, default=None))
 
     def words(self, plan):
         """How many customers are interrupted in each stage, and who for longest."""
@@ -98,23 +111,22 @@ def note(interruptions):
     """What was counted, or why nothing was."""
     if interruptions.problem:
         return f'<p class="alarm">How long customers are interrupted isn\'t known: {escape(interruptions.problem)}</p>'
+    fibre = WITH_FIBRE.format(escape(interruptions.delays.lengths.file)) if interruptions.delays else f"<strong>{NOT_COUNTED}</strong>"
     counted = "A customer's interruption is that of the port which is longer without his bytes, in frames of 125 microseconds, as <code>sdhoutage</code> counts them."
     jump = "A jump is a frame that doesn't follow the one before: no switch is hitless."
-    return f'<p class="note">{counted} <strong>{NOT_COUNTED}</strong> {jump}</p>'
+    return f'<p class="note">{counted} {fibre} {jump}</p>'
 
 
-def count_case(store, beforehand, case, anew: bool) -> None:
+def count_case(store, beforehand, case) -> None:
     """Has sdhoutage count what a case takes, unless that is kept."""
     store.put_plan(case.name, beforehand.document(case))
-    if anew:
-        store.forget(case.name)
     if not store.is_done(case.name):
         run_one(store, case.name)
 
 
-def count_works(store, beforehand, case, text, anew):
-    """Has sdhoutage count what the works take. `text` is the report of the same works."""
-    count_case(store, beforehand, case, anew)
+def count_works(store, beforehand, case, text, lengths=None):
+    """Has sdhoutage count what the works take. `text` is the report of the same works; the lengths of the fibres may be known."""
+    count_case(store, beforehand, case)
     plan = beforehand.plan_of(case)
     try:
         if store.answer(case.name) is None:
@@ -123,20 +135,24 @@ def count_works(store, beforehand, case, text, anew):
         put_beside(steps, read_report(text, plan).settled)
     except ReportProblem as problem:
         return Interruptions(store, case.name, problem=f"{store.program.words[0]}: {problem}")
-    return Interruptions(store, case.name, steps, len(case.stages) - len(WORKS_STAGES))
+    first = len(case.stages) - len(WORKS_STAGES)
+    return Interruptions(store, case.name, steps, first, delays=delays_of(lengths, plan, case.stages))
 
 
 def rows(interruptions, plan, source):
     """A record for each port of each circuit and stage, but for the first, in which the ring starts. One that is out still is lost, for no number of frames."""
-    for name in [name for name in BEGINNINGS if name in interruptions.stages]:
+    for name in list(interruptions.stages)[1:]:
         for circuit in plan.circuits:
             for end in "ab":
                 outage, number = interruptions.stages[name].ports[circuit.name, end], plan.ids[circuit.start if end == "a" else circuit.end]
                 who = [name, circuit.name, plan.places.circuit(circuit.name), end, number, plan.places.nodes.get(number, "")]
                 frames = ["", ""] if outage.is_out_still else [outage.out, milliseconds(outage.out)]
-                yield [*who, *frames, outage.jumps, "yes" if outage.is_out_still else "no", *source]
+                ms = None if outage.is_out_still else interruptions.fibre_ms(name, outage.out, circuit)
+                yield [*who, *frames, outage.jumps, "yes" if outage.is_out_still else "no", "" if ms is None else f"{ms:.3f}", *source]
 
 
-def write_interruptions(folder: Folder, name: str, heads: Sequence[str], interruptions: Interruptions, plan, source) -> None:
+def write_interruptions(folder: Folder, name: str, heads: Sequence[str], counted: Sequence[Interruptions], plan, source) -> None:
+    """Writes what was counted of the works, and of the opening where there is one, whose stage `during` is that of the works."""
+    records = [row for number, one in enumerate(counted) for row in rows(one, plan, source) if not number or row[0] != "during"]
     with folder.writing_text(name) as file:
-        write_rows(file, [[*FIELDS, *heads], *rows(interruptions, plan, source)])
+        write_rows(file, [[*FIELDS, *heads], *records])

@@ -10,6 +10,7 @@ from collections.abc import Iterator
 from dataclasses import dataclass
 
 from .failures import OPENING_STAGES, Beforehand, Case, span_fibres
+from .fibre import Lengths, delays_of
 from .interruptions import Interruptions, count_case
 from .kept import Store
 from .markup import escape, names
@@ -50,7 +51,7 @@ class Opening:
         """Yields, of each span with a switch on one side alone, the order that has both."""
         for span in self.one_sided:
             order = f"span {'-'.join(map(str, self.plan.ends(span)))}"
-            yield f"{self.plan.span_name(span)} has no forced switch on both its sides; the order `{order}` has"
+            yield f"{self.plan.span_name(span)} has no forced switch on both its sides; under the order `{order}`, which has, none of this comes"
 
     def words(self) -> str:
         """Returns all of it in one sentence or two; empty where the works free no span."""
@@ -76,16 +77,22 @@ class Opening:
         return f"<strong>{first}</strong>{end}{rest}"
 
 
-def count_opening(store: Store, beforehand: Beforehand, works: Case, anew: bool) -> Opening:
+def opening_case(beforehand: Beforehand, works: Case) -> Case:
+    """Returns the case in which the fibres of the spans that the works free are cut under them, and joined again; it cuts none where no span is freed."""
+    spans = freed_spans(beforehand.plan, during(beforehand, works))
+    fibres = tuple(fibre for span in spans for fibre in span_fibres(beforehand.plan, span))
+    return Case("opening", "opening", "the opening", fibres, settles=works.settles)
+
+
+def count_opening(store: Store, beforehand: Beforehand, works: Case, lengths: Lengths | None = None) -> Opening:
     """Has sdhoutage count what opening the freed spans takes, where the works free any."""
     plan, scene = beforehand.plan, during(beforehand, works)
     spans = freed_spans(plan, scene)
     one_sided = [span for span in spans if any(scene.commands[end] != "forced" for end in span_fibres(plan, span))]
-    fibres = tuple(fibre for span in spans for fibre in span_fibres(plan, span))
-    case = Case("opening", "opening", "the opening", fibres, settles=works.settles)
+    case = opening_case(beforehand, works)
     if not spans:
         return Opening(plan, spans, one_sided, Interruptions(store, case.name))
-    count_case(store, beforehand, case, anew)
+    count_case(store, beforehand, case)
     try:
         if store.answer(case.name) is None:
             raise ReportProblem("it was stopped")
@@ -95,5 +102,6 @@ def count_opening(store: Store, beforehand: Beforehand, works: Case, anew: bool)
     except ReportProblem as problem:
         why = f"{store.program.words[0]}: {problem}"
         return Opening(plan, spans, one_sided, Interruptions(store, case.name, problem=why))
-    counted = Interruptions(store, case.name, steps, case.settles - 1, names=OPENING_STAGES)
+    delays = delays_of(lengths, beforehand.plan_of(case), case.stages)
+    counted = Interruptions(store, case.name, steps, case.settles - 1, names=OPENING_STAGES, delays=delays)
     return Opening(plan, spans, one_sided, counted)

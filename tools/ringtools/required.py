@@ -18,7 +18,7 @@ from .places import composed
 
 COUNTS = {"nothing": 0, **DEPTHS}
 RULE = re.compile(r"(?P<depth>\w+)(?: (?P<kinds>[\w, ]+))?: ?(?:(?P<none>none)|at most (?P<most>[0-9]{1,9})|(?P<names>.+) not) lost(?P<besides> besides ends)?")
-COLUMNS = ("plan", "rule", "verdict", "cases", "breaking", "worst", "lost", "circuits", "problem")
+COLUMNS = ("plan", "rule", "verdict", "cases", "breaking", "worst", "lost", "circuits", "problem", "customers")
 HOLDS, BROKEN, NOT_ASKED = "holds", "broken", "not asked"
 
 
@@ -77,9 +77,9 @@ def verdict_on(rule, told):
     about = [(case, lost(case)) for case in told.all() if rule.is_about(told.table.kinds(case))]
     breaking = [(case, names) for case, names in about if len(names) > rule.most]
     if not breaking:
-        return [HOLDS, len(about), 0, "", "", "", ""]
+        return [HOLDS, len(about), 0, "", "", "", "", ""]
     worst, names = max(breaking, key=lambda one: len(one[1]))
-    return [BROKEN, len(about), len(breaking), "; ".join(told.table.labels(worst)) or "nothing", len(names), " ".join(names), ""]
+    return [BROKEN, len(about), len(breaking), "; ".join(told.table.labels(worst)) or "nothing", len(names), " ".join(names), "", "; ".join(map(told.plan.places.circuit, names))]
 
 
 def records(plan, rules, told):
@@ -88,12 +88,12 @@ def records(plan, rules, told):
         try:
             yield [plan, rule.text, *verdict_on(rule, told)]
         except RuleProblem as problem:
-            yield [plan, rule.text, NOT_ASKED, "", "", "", "", "", str(problem)]
+            yield [plan, rule.text, NOT_ASKED, "", "", "", "", "", str(problem), ""]
 
 
 def not_asked(plan, rules, problem):
     """The records of a plan about which nothing could be asked."""
-    return [[plan, rule.text, NOT_ASKED, "", "", "", "", "", problem] for rule in rules]
+    return [[plan, rule.text, NOT_ASKED, "", "", "", "", "", problem, ""] for rule in rules]
 
 
 def line_of(cells) -> str:

@@ -6,17 +6,20 @@ from collections.abc import Iterator
 from dataclasses import dataclass
 
 from .cells import write_rows
-from .desktable import DEPTHS, IMPAIRED, LOST, OVER, RESULTS, WHOLE
+from .components import Finder
+from .desktable import DEPTHS, IMPAIRED, LOST, OVER, RESULTS, WHOLE, Namer
 from .failures import Case
 from .model import arc
+from .naming import NoNode, with_identifiers
 from .origin import sum_of
 from .pathrings import PathRing
+from .places import composed
 from .verdicts import JOINED
 from .writing import Folder
 
 OF_CASE = ("Failures", "Depth", "Kind", "Steps", "Applied", "Kept", "Impaired", "Over", "Lost", "Longest", "Impaired circuits", "Over circuits", "Lost circuits", "Besides ends")
 OF_PATHS = ("Path lost", "Path lost circuits")
-COLUMNS = (*OF_CASE, *OF_PATHS, "Frames", "Script", "Also", "Works", "Plan", "Asked")
+COLUMNS = (*OF_CASE, *OF_PATHS, "Frames", "Script", "Also", "Works", "Plan", "Asked", "Impaired customers", "Over customers", "Lost customers")
 
 
 @dataclass(frozen=True)
@@ -35,6 +38,18 @@ class Question:
     def cells(self):
         before = self.beforehand
         return [before.script_words(), "; ".join(before.also_texts()), "; ".join(before.works_texts()), self.plan, self.asked]
+
+
+def label_called(plan, text: str) -> str:
+    """Returns a failure or a step with identifiers in place of the names of places; any other text stays as it is."""
+    kind, _, words = composed(text).partition(" ")
+    asked = f"fibre {words}" if kind in ("degraded", "manual", "forced") else composed(text)
+    if member := Finder(plan, plan.places).members.get(asked.casefold()):
+        return Namer(plan, plan.places).label(kind, *member[1:])
+    try:
+        return with_identifiers(plan.ids, plan.places, text)
+    except NoNode:
+        return text
 
 
 class Told:
@@ -86,7 +101,7 @@ class Told:
 
     def find(self, words):
         """The case of these steps or failures, separated by semicolons; of two with the same steps the first, which has fewer failures."""
-        wanted = tuple(" ".join(part.split()) for part in words.split(";") if part.strip())
+        wanted = tuple(label_called(self.plan, " ".join(part.split())) for part in words.split(";") if part.strip())
         return next((case for case in self.all() if wanted in (self.table.steps(case), self.table.labels(case))), None)
 
     def record(self, case):
@@ -122,7 +137,11 @@ class Told:
         yield list(COLUMNS)
         for case in self.all():
             run = "" if case.failures not in found else "differs" if found[case.failures] else "the same"
-            yield [*self.row(case), run, *question.cells()]
+            yield [*self.row(case), run, *question.cells(), *self.customers(case)]
+
+    def customers(self, case) -> list[str]:
+        """The names by which their customers know the circuits that are impaired, over protection and lost."""
+        return ["; ".join(map(self.plan.places.circuit, found)) for found in (self.of(case, IMPAIRED), self.of(case, OVER), self.lost(case))]
 
     def write_csv(self, folder: Folder, name: str, question: Question, found) -> None:
         """`found` has the differences of the cases that were run too, by their failures."""

@@ -142,6 +142,7 @@ def supply(folder):
     stream = (TOP / "examples" / "bench" / "node-2.stream").read_bytes()
     (folder / "STREAM").write_bytes(stream)
     (folder / "bytes").write_bytes(b"abcdefg" * 3000)
+    (folder / "LIST").write_text("LOS 2 east\nLOS 3 west\n")
     answers = run([TOP / "sdhnode", "2"], folder, input=stream)
     for name in ("OURS", "THEIRS", "theirs.text"):
         (folder / name).write_bytes(answers)
@@ -149,7 +150,7 @@ def supply(folder):
         run([TOP / "sdhring-whatif", "--all", "--frames", "0", "--depth", "single", "plan.toml", "--dir", name], folder)
 
 
-SUPPLIED = {"PLAN", "OTHER", "TEXT", "REPORT", "FILE", "STREAM", "OURS", "THEIRS", "rings", "plan.text", *(f"{name}.csv" for name in TABLES)}
+SUPPLIED = {"PLAN", "OTHER", "LIST", "TEXT", "REPORT", "FILE", "STREAM", "OURS", "THEIRS", "rings", "plan.text", *(f"{name}.csv" for name in TABLES)}
 
 
 def make_folder(place, supplies, commands, folder):

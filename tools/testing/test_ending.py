@@ -43,7 +43,7 @@ class Tried:
         return [word for word in self.words if word in FILES]
 
 
-FILES = {"PLAN", "SPANS.csv", "NODES.csv", "CIRCUITS.csv", "TEXT", "OURS"}
+FILES = {"PLAN", "SPANS.csv", "NODES.csv", "CIRCUITS.csv", "TEXT", "OURS", "LIST"}
 PLAN = (TOP / "examples" / "span-cut.toml").read_bytes()
 STREAM = (TOP / "examples" / "bench" / "node-2.stream").read_bytes()
 # What isn't a plan, a table or a text: nothing, no text at all, no TOML, TOML without a plan's keys, keys of other kinds.
@@ -72,6 +72,7 @@ ALL = (
     tool("sdhring-network", "import", str(TOP / "examples" / "network"), "--to", "made", writes=False),
     tool("sdhring-network", "room", "NETWORK"),
     tool("sdhring-network", "whatif", "NETWORK", "--dir", "made"),
+    tool("sdhring-now", "PLAN", "--alarms", "LIST"),
     tool("sdhring-plan", "new", "1>3"),
     tool("sdhring-plan", "import", "CIRCUITS.csv", "--nodes", "NODES.csv"),
     tool("sdhring-report", "--json", "TEXT"),
@@ -100,6 +101,7 @@ ALL = (
     bench("node/compare", PROGRAM["sdhnode"], "0"),
     bench("node/model.py", "2", given="STREAM"),
     bench("node/pipe", "--help"),
+    bench("now/compare", PROGRAM["sdhring"], "0"),
     bench("outage/compare", PROGRAM["sdhoutage"], "0"),
     bench("outage/largest"),
     bench("outage/search", "--help"),
@@ -119,6 +121,7 @@ ONCE = [*{tried.file: tried for tried in reversed(ALL)}.values()]  # one form of
 def files():
     """What the commands need, by the files' names."""
     found = {"PLAN": PLAN, "STREAM": STREAM, "CIRCUITS.csv": b"name,from,to\none,A,B\n", "NODES.csv": b"place,failures,hours\nA,0.1,4\nB,0.1,4\nC,0.1,4\n"}
+    found["LIST"] = b"LOS 2 east\n"
     found["SPANS.csv"] = b"from,to,cuts,hours\n1,2,0.1,8\n2,3,0.1,8\n3,4,0.1,8\n4,1,0.1,8\n"
     for name, program, words, given in (("TEXT", "sdhring", ["run"], PLAN), ("OURS", "sdhnode", ["2"], STREAM)):
         found[name] = subprocess.run([PROGRAM[program], *words], input=given, capture_output=True, check=True).stdout

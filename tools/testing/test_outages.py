@@ -409,7 +409,7 @@ class Worst(unittest.TestCase):
         self.assertEqual([row["Longest"] for row in rows], hit + hit + ["0"] * 6)
         self.assertEqual([row["Stage"] for row in rows[:3]], ["failed", "mended", "waited"])
         self.assertEqual({(row["Over"], row["Still out"], row["Foreign"]) for row in rows}, {("0", "0", "")})
-        table, worst, over = ended.stdout.splitlines()
+        verdict, worst, over, table = ended.stdout.splitlines()
         self.assertEqual(worst, "the worst interruption: 12 frames, 1.500 ms, span 1–2, failed: c1 a, c1 b")
         self.assertEqual(over, "0 of 12 stages have a port that was out for more than 400 frames, 50 ms, and came back")
 

@@ -157,6 +157,7 @@ class Read(Folders):
             "sdhring-explain": (),
             "sdhring-view": (),
             "sdhring-desk": (),
+            "sdhring-now": ("--alarms", "/dev/null"),
             "sdhring-whatif": ("--kinds", "span"),
             "sdhring-availability": (ring("two-nodes")[0].with_suffix(".csv"),),
             "sdhring-report": ("--json",),

@@ -97,9 +97,12 @@ class Hostile(Folder):
         cls.pages["desk"] = cls.make("sdhring-desk", "ring.toml", "--depth", "double", "--title", title, "--groups", cls.groups.name)
         cls.make("sdhring-whatif", "--all", "--depth", "single", "--frames", "1", "--groups", cls.groups.name, "--title", title, "--against", "other.toml", "--dir", "all", "ring.toml")
         cls.make("sdhring-whatif", "--kinds", "span", "--works", "span 1-2", "--title", title, "--dir", "works", "other.toml")
+        (cls.top / "list.txt").write_text("\n".join([*cls.texts, "LOS 1 east", *(f"LOS {text} east" for text in cls.texts)]), encoding="utf-8")
+        (cls.top / "now").mkdir()
+        cls.make("sdhring-now", "ring.toml", "--alarms", "list.txt", "--page", "now/page.html", "--title", title, status=6)
         cls.make("sdhring-view", "--to", "runs", "many")
         cls.make("sdhring-desk", "--to", "desks", "many", status=1)
-        for folder in ("all", "works", "runs", "desks"):
+        for folder in ("all", "works", "now", "runs", "desks"):
             for page in sorted((cls.top / folder).rglob("*.html"))[:12]:
                 cls.pages[str(page.relative_to(cls.top))] = page.read_text(encoding="utf-8")
 
