@@ -56,7 +56,7 @@ sdhring: unstripped-binary-or-object [usr/lib/sdhring/sdh*]
 PRERM = """\
 #!/bin/sh
 set -e
-rm -rf /usr/lib/sdhring/tools/ringtools/__pycache__ /usr/lib/sdhring/tools/ringtools/bench/__pycache__ /usr/lib/sdhring/tools/ringtools/network/__pycache__
+rm -rf /usr/lib/sdhring/tools/ringtools/__pycache__ /usr/lib/sdhring/tools/ringtools/bench/__pycache__ /usr/lib/sdhring/tools/ringtools/conform/__pycache__ /usr/lib/sdhring/tools/ringtools/network/__pycache__
 """
 
 

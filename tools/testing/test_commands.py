@@ -252,9 +252,9 @@ class Commands(unittest.TestCase):
         for place in self.places:
             examples = (place.unpacked or place.pages) / "examples"
             runs = [path for path in sorted(examples.rglob("*")) if path.is_file() and path.read_bytes()[:2] == b"#!"]
-            self.assertEqual([path.name for path in runs], ["relays-its-own", "retiming"])
+            self.assertEqual([path.name for path in runs], ["node-in-python", "relays-its-own", "retiming"])
             with tempfile.TemporaryDirectory() as elsewhere:
-                for path, words in zip(runs, (["2"], [])):
+                for path, words in zip(runs, (["2"], ["2"], [])):
                     stream = (examples / "bench" / "node-2.stream").read_bytes()
                     ended = subprocess.run([path, *words], cwd=elsewhere, env={"PATH": "/usr/bin:/bin"}, input=stream, capture_output=True)
                     with self.subTest(place=place.name, example=path.name):

@@ -1,0 +1,237 @@
+"""The first field in which two answers to a round differ, and the cases of rules that decide it."""
+
+from __future__ import annotations
+
+import re
+from dataclasses import dataclass
+
+from ..benched import BenchProblem, is_scrambled_otherwise, read_answer, sequence
+from .node import COLUMNS, HEAD, ONES, PAYLOAD, ROWS, SIDES
+
+LINE = ("heard_west", "heard_east", "asks_west", "asks_east", "state", "far", "west", "east")
+NAMES = {
+    **{f"heard_{side}": f"the word heard from the {side}" for side in SIDES},
+    **{f"asks_{side}": f"what the {side} side asks for" for side in SIDES},
+    "state": "the state",
+    "far": "the far end",
+    **{side: f"the word sent to the {side}" for side in SIDES},
+}
+
+
+@dataclass(frozen=True)
+class Difference:
+    """What differs first: the field in words, what was due, what came, and the cases that decide it."""
+
+    field: str
+    due: str
+    came: str
+    cases: frozenset[str]
+
+
+def parsed(text: bytes):
+    """Returns an answer, or None where the bytes are none."""
+    try:
+        answer, after = read_answer(text, 0)
+    except BenchProblem:
+        return None
+    return answer if after == len(text) else None
+
+
+def front(data: bytes) -> str:
+    """Returns the beginning of bytes that are no answer, as they are shown."""
+    return data[:60].decode("latin-1").partition("\n")[0] or "nothing"
+
+
+def difference(due: bytes, came: bytes, trace: dict) -> Difference | None:
+    """Returns the first difference of two answers, or None."""
+    if due == came:
+        return None
+    ours, theirs = parsed(due), parsed(came)
+    if theirs is None:
+        return Difference("the form of an answer", front(due), front(came), frozenset())
+    for find in (in_line, in_ports, in_frames):
+        if found := find(ours, theirs, trace):
+            return found
+    return Difference("the form of an answer", front(due), front(came), frozenset())
+
+
+def in_line(ours, theirs, trace) -> Difference | None:
+    for key in ("round", "node"):
+        if ours.fields[key] != theirs.fields[key]:
+            return Difference(f"the {key}'s number", ours.fields[key], theirs.fields[key], frozenset())
+    for key in LINE:
+        if ours.fields[key] != theirs.fields[key]:
+            due, came, field = ours.fields[key], theirs.fields[key], key.replace("_", " ")
+            return Difference(NAMES[key], due, came, decided(trace, [field], stages_of(field.partition(" ")[0], due, came)))
+    return None
+
+
+OF_CHOICE = ("4.first-11", "4.heaviest", "4.relays", "4.no-word", "4.long/", "4.short/", "4.weight", "4.held")
+OF_SWITCHING = ("4.switches", "4.against", "4.about", "4.isolated", "4.weight", "4.short/", "4.long/", "4.held")
+
+
+def stages_of(field: str, due: str, came: str) -> tuple[str, ...]:
+    """Returns the beginnings of the rules that can make the difference of a field's two values."""
+    values = {due, came}
+    if field == "heard" and due == "- -":
+        return ("1.framing", "2.heard", "2.fails", "2.unknown", "2.word/code", "2.word/mark")
+    if field == "heard":
+        return ("1.framing", "2.") if came == "- -" else ("2.word",)
+    if field == "asks":
+        if "rr" in values:
+            return ("3.",)
+        return ("1.framing", "2.fails", "2.unknown", "3.") if "sf" in values else ("1.violations", "1.forgotten", "2.degraded", "3.") if "sd" in values else ("3.",)
+    if field == "state":
+        return ("4.passes", "4.relays", "4.long/", "4.heaviest", "4.held") if values <= {"idle", "pass"} else OF_SWITCHING
+    return ("4.far", "4.long/", "4.held") if field == "far" else of_words(due, came)
+
+
+def of_words(due: str, came: str) -> tuple[str, ...]:
+    """Returns the same of two words that are sent."""
+    if due[:4] == came[:4] and int(due[4], 16) & 8 == int(came[4], 16) & 8:
+        return ("4.marks", "4.held")
+    if due[:4] == came[:4]:
+        return ("4.long-word" if int(due[4], 16) & 8 else "4.short-word", "4.no-word")
+    kinds = {kind_of(word, due[3]) for word in (due, came)}
+    if len(kinds) > 1:
+        return OF_CHOICE
+    return {"none": ("4.no-word",), "short": ("4.short-word", "4.short/", "4.weight"), "long": ("4.long-word", "4.short/", "4.weight", "4.relays/its-own")}.get(kinds.pop(), ("4.relays", "4.long/")) + ("4.held",)
+
+
+def kind_of(word: str, node: str) -> str:
+    """Returns what a word is that leaves: the short or the long one of a node that has this digit, one of another node, or none."""
+    if word[3] != node:
+        return "relayed"
+    return "long" if int(word[4], 16) & 8 else "none" if word[0] == "0" else "short"
+
+
+def decided(trace: dict, fields: list, stages: tuple[str, ...] = ()) -> frozenset[str]:
+    """Returns the cases that decided these fields, of these stages; words, marks, defects and origins too."""
+    found = {case for field in fields for case in trace.get(field, ())}
+    return frozenset(case for case in found if not stages or not case[0].isdigit() or case.startswith(stages))
+
+
+def in_ports(ours, theirs, trace) -> Difference | None:
+    for mine, other in zip(ours.ports, theirs.ports):
+        if mine == other:
+            continue
+        name = f"port {mine[0]}"
+        if mine[0] != other[0]:
+            return Difference("the order of ports", name, f"port {other[0]}", frozenset())
+        here, there = mine[1].split(" "), other[1].split(" ")
+        parts = ["place", "pointer"] if len(here) != len(there) else ["pointer"] if here[-1] == there[-1] else ["place"]
+        return Difference(f"what {name} delivers", mine[1], other[1], decided(trace, [(name, part) for part in parts]))
+    if len(ours.ports) != len(theirs.ports):
+        return Difference("the number of ports", str(len(ours.ports)), str(len(theirs.ports)), frozenset())
+    return None
+
+
+def in_frames(ours, theirs, trace) -> Difference | None:
+    if theirs.frames is None or len(ours.frames) != len(theirs.frames):
+        return Difference("the bytes of both frames", str(len(ours.frames)), str(len(theirs.frames or b"")), frozenset(["9.columns/payloads"]))
+    size = len(ours.frames) // 2
+    for d, side in enumerate(SIDES):
+        due, came = (frames[size * d : size * (d + 1)] for frames in (ours.frames, theirs.frames))
+        if due != came:
+            return in_frame(due, came, d, trace)
+    return None
+
+
+class Clear:
+    """A frame before the scrambler, by its fields."""
+
+    def __init__(self, line: bytes) -> None:
+        self.n = len(line) // (ROWS * COLUMNS)
+        added = int.from_bytes(sequence(self.n), "big")
+        self.data = (int.from_bytes(line, "big") ^ added).to_bytes(len(line), "big")
+        width, head = COLUMNS * self.n, HEAD * self.n
+        self.rows = [self.data[width * row : width * (row + 1)] for row in range(ROWS)]
+        self.body = b"".join(row[head:] for row in self.rows)
+
+    def pointer(self, au: int) -> int:
+        return self.rows[3][au] << 8 | self.rows[3][3 * self.n + au]
+
+    def fill(self, au: int) -> bytes:
+        """The bytes of the pointer row that are neither H1, H2 nor H3."""
+        column = self.rows[3][au : HEAD * self.n : self.n]
+        return column[1:3] + column[4:6]
+
+    def h3(self, au: int) -> bytes:
+        return self.rows[3][au : HEAD * self.n : self.n][6:9]
+
+    def payload(self, au: int) -> bytes:
+        return self.body[au :: self.n]
+
+
+def in_frame(due: bytes, came: bytes, d: int, trace: dict) -> Difference | None:
+    """Returns the first field of two frames that differs, by the order in which a node makes them."""
+    ours, theirs, n = Clear(due), Clear(came), len(due) // (ROWS * COLUMNS)
+    side = f"the frame to the {SIDES[d]}"
+    if is_scrambled_otherwise(ours.data, theirs.data, n):
+        at = next(i for i, pair in enumerate(zip(ours.data, theirs.data)) if pair[0] != pair[1])
+        return Difference(f"{side}, the scrambling", due[at : at + 8].hex(), came[at : at + 8].hex(), frozenset(["9.scrambling/sequence"]))
+    if ours.rows[0][: HEAD * n] != theirs.rows[0][: HEAD * n]:
+        return stretch(f"{side}, row 1", ours.rows[0][: HEAD * n], theirs.rows[0][: HEAD * n], "9.row-1/constants")
+    k = [tuple(frame.rows[4][at] for at in (3 * n, 6 * n)) for frame in (ours, theirs)]
+    if k[0] != k[1]:
+        return Difference(f"{side}, K1 and K2", *("{:02x} {:02x}".format(*one) for one in k), frozenset(["9.k-bytes/places"]))
+    for au in range(n):
+        if found := in_au(ours, theirs, (d, au), side, trace):
+            return found
+    return in_overhead(ours, theirs, side, n)
+
+
+def in_au(ours: Clear, theirs: Clear, place: tuple[int, int], side: str, trace: dict) -> Difference | None:
+    """Returns what differs first in one AU-4."""
+    d, au = place
+    words, payloads, h3 = [[read(au) for one in (ours, theirs) for read in [getattr(one, name)]] for name in ("pointer", "payload", "h3")]
+    key, where = ("au", d, au), f"{side}, AU-4 {au + 1}"
+    is_ais = [word == ONES for word in words]
+    if words[0] != words[1]:
+        parts = ["place", "pointer"] if payloads[0] != payloads[1] or is_ais[0] != is_ais[1] else ["pointer"]
+        return Difference(f"{where}, pointer", f"{words[0]:04x}", f"{words[1]:04x}", decided(trace, [(*key, part) for part in parts]))
+    if payloads[0] != payloads[1]:
+        found = decided(trace, [(*key, "payload")]) if not is_ais[0] else frozenset(["9.columns/payloads"])
+        return stretch(f"{where}, payload", payloads[0], payloads[1], *of_payload(found, words[0], payloads))
+    if h3[0] != h3[1]:
+        return Difference(f"{where}, H3", h3[0].hex(), h3[1].hex(), decided(trace, [(*key, "h3")]) | {"8.justification/none"} - ({"8.justification/none"} if not is_ais[0] else set()))
+    if ours.fill(au) != theirs.fill(au):
+        return Difference(f"{where}, bytes Y and those beside H2", ours.fill(au).hex(), theirs.fill(au).hex(), frozenset(["9.pointer-row/constants"]))
+    return None
+
+
+def of_payload(cases: frozenset[str], word: int, payloads: list[bytes]) -> frozenset[str]:
+    """Returns which of the cases can make the difference of two payloads, by the columns of the VC-4 that differ."""
+    begin = 783 + 3 * (word & 0x3FF)
+    places = {divmod((at - begin) % len(payloads[0]), PAYLOAD) for at, pair in enumerate(zip(*payloads)) if pair[0] != pair[1]}
+    heads = {row for row, column in places if column == 0}
+    is_own = any(case.startswith("path.") for case in cases)
+    if not is_own or "8.justification" in "".join(cases):
+        return cases
+    wanted = ("path.b3",) if places == {(1, 0)} else ("path.overhead",) if len(heads) == len(places) else ("path.text",) if heads <= {1} else ("path.offset", "path.text")
+    return frozenset(case for case in cases if not case.startswith("path.") or case.startswith(wanted))
+
+
+def in_overhead(ours: Clear, theirs: Clear, side: str, n: int) -> Difference | None:
+    """Returns what differs in the rest of the section overhead: parities last, since they are those of the frame before."""
+    fifth = [one.rows[4][: 3 * n] for one in (ours, theirs)]
+    if fifth[0] != fifth[1]:
+        return stretch(f"{side}, B2", fifth[0], fifth[1], "9.b2/parity")
+    if ours.rows[1][0] != theirs.rows[1][0]:
+        return Difference(f"{side}, B1", f"{ours.rows[1][0]:02x}", f"{theirs.rows[1][0]:02x}", frozenset(["9.b1/parity"]))
+    for row in range(ROWS):
+        heads = [one.rows[row][: HEAD * n] for one in (ours, theirs)]
+        if heads[0] != heads[1]:
+            return stretch(f"{side}, row {row + 1}, overhead", heads[0], heads[1], "9.row-1/constants")
+    return None
+
+
+def stretch(field: str, due: bytes, came: bytes, *cases: str) -> Difference:
+    """Returns a difference in a stretch of bytes: its first byte, and those after it."""
+    at = next(i for i, pair in enumerate(zip(due, came)) if pair[0] != pair[1])
+    return Difference(f"{field}, byte {at + 1}", due[at : at + 8].hex(), came[at : at + 8].hex(), frozenset(cases))
+
+
+def is_rule(case: str) -> bool:
+    """Returns whether a case is one of a rule, and not a word, a mark, a defect or an origin."""
+    return re.match(r"[0-9]\.|path\.", case) is not None

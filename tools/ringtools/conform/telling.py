@@ -1,0 +1,166 @@
+"""The verdicts as a table, as JSON, as JUnit's XML and as a page."""
+
+from __future__ import annotations
+
+import json
+import re
+import shlex
+from collections import Counter
+from collections.abc import Sequence
+from dataclasses import dataclass
+from pathlib import Path
+
+from ..cells import text_of_records
+from ..markup import count_of, escape, folded, moment_words, table, whole
+from ..origin import Program, now
+from ..shown import shown
+from .judging import BROKEN, NOT_REACHED, OBEYED, Judge, Verdict
+
+COLUMNS = ("kind", "name", "verdict", "rounds", "reached", "stream", "round", "field", "due", "came", "file", "words")
+TITLES = {
+    "device": "The device",
+    "rule": "Rules",
+    "case": "Cases of rules, and rows of the pointer tables",
+    "word": "K words, heard and sent",
+    "mark": "Marks, heard and sent",
+    "defect": "Defects and their ends",
+    "origin": "Origins of what ports deliver and of what leaves",
+}
+LONGEST = 120  # letters of a value that are shown
+
+
+@dataclass(frozen=True)
+class Told:
+    """What is told: the verdicts, and where they come from."""
+
+    verdicts: list[Verdict]
+    judge: Judge
+    command: Sequence[str]
+    program: Program
+    whole: bool  # whether all streams were run
+
+    def counts(self) -> Counter:
+        """Returns the number of rules by their verdicts."""
+        return Counter(verdict.verdict for verdict in self.verdicts if verdict.kind == "rule")
+
+    def first(self) -> str:
+        """Returns the rules that are broken, the likeliest one first."""
+        return ", ".join([rule for rule, _ in self.judge.blamed()][:4])
+
+    def summary(self) -> str:
+        """Returns the verdict in one line."""
+        counts, judge = self.counts(), self.judge
+        rules = f"{counts[OBEYED]} rules obeyed, {counts[BROKEN]} broken{': ' + self.first() if self.first() else ''}, {counts[NOT_REACHED]} not reached"
+        kinds = Counter(failure.kind for failure in judge.failures)
+        more = "".join(f"; it {kind} in {count_of(kinds[kind], 'stream')}" for kind in ("died", "hung", "flooded") if kinds[kind])
+        return f"{rules}; {len(judge.failures)} of {judge.streams} streams failed{more}{'' if self.whole else '; the others were not run'}"
+
+
+def limited(text: object) -> str:
+    """Returns a text as one line of at most a number of letters."""
+    line = shown(text)
+    return line if len(line) <= LONGEST else f"{line[: LONGEST - 3]}..."
+
+
+def record(verdict: Verdict) -> dict[str, object]:
+    """Returns the fields of a verdict."""
+    failure = verdict.failure
+    made: dict[str, object] = {"kind": verdict.kind, "name": verdict.name, "verdict": verdict.verdict, "rounds": verdict.rounds, "reached": verdict.reached}
+    values = ("", "", "", "", "") if failure is None else (failure.stream, failure.round, failure.difference.field, failure.difference.due, failure.difference.came)
+    made |= {name: limited(value) for name, value in zip(("stream", "round", "field", "due", "came"), values)}
+    return made | {"file": verdict.file, "words": verdict.words}
+
+
+def as_table(told: Told) -> str:
+    """Returns the verdicts as a table, one record a line."""
+    return text_of_records(COLUMNS, map(record, told.verdicts))
+
+
+def as_json(told: Told) -> str:
+    """Returns the verdicts as one object."""
+    judge = told.judge
+    made = {
+        "command": list(map(shown, told.command)), "summary": told.summary(), "whole": told.whole, "streams": judge.streams, "rounds": judge.rounds,
+        "failed": [{"stream": one.stream, "round": one.round, "kind": one.kind, "why": one.why} for one in judge.failures],
+        "not_covered": judge.uncovered(), "program": told.program.lines(), "verdicts": [record(verdict) for verdict in told.verdicts],
+    }  # fmt: skip
+    return json.dumps(made, indent=2) + "\n"
+
+
+def attribute(text: object) -> str:
+    """Returns a text as XML's attributes may have it."""
+    return escape(limited(text))
+
+
+def as_junit(told: Told) -> str:
+    """Returns the verdicts as JUnit's XML has them: a rule that is broken has failed, one that isn't reached is skipped."""
+    counts = Counter(verdict.verdict for verdict in told.verdicts)
+    lines = ['<?xml version="1.0" encoding="UTF-8"?>']
+    lines.append(f'<testsuite name="sdhring-conform" tests="{len(told.verdicts)}" failures="{counts[BROKEN]}" errors="0" skipped="{counts[NOT_REACHED]}">')
+    for verdict in told.verdicts:
+        head = f'  <testcase classname="{attribute(verdict.kind)}" name="{attribute(verdict.name)}"'
+        if verdict.verdict == OBEYED:
+            lines.append(f"{head}/>")
+        elif verdict.failure is None:
+            lines.append(f'{head}><skipped message="not reached"/></testcase>')
+        else:
+            failure = verdict.failure
+            said = f"stream {failure.stream}, round {failure.round}: {failure.difference.field}: due {failure.difference.due}, came {failure.difference.came}"
+            lines.append(f'{head}><failure message="{attribute(said)}">{escape(verdict.words)} {escape(verdict.file)}</failure></testcase>')
+    return "\n".join([*lines, "</testsuite>", ""])
+
+
+def row(verdict: Verdict) -> list[str]:
+    """Returns the cells of a verdict on the page."""
+    failure = verdict.failure
+    words = f"<strong>{verdict.verdict}</strong>" if verdict.verdict == BROKEN else verdict.verdict
+    where = value = ""
+    if failure is not None:
+        where = f"{escape(failure.stream)}, round {failure.round}: {escape(failure.difference.field)}"
+        value = f"<code>{escape(limited(failure.difference.due))}</code>, came <code>{escape(limited(failure.difference.came))}</code>"
+    return [escape(verdict.name), escape(verdict.words), words, f"{verdict.rounds:,}", f"{verdict.reached:,}", where, value]
+
+
+def section(told: Told, kind: str) -> str:
+    """Returns the table of a kind of verdicts."""
+    verdicts = [verdict for verdict in told.verdicts if verdict.kind == kind]
+    changed = {number for number, verdict in enumerate(verdicts) if verdict.verdict == BROKEN}
+    titles = ["name", "what it says", "verdict", "rounds obeyed", "rounds of the suite", "where it differs first", "due"]
+    return table(TITLES[kind], titles, [row(verdict) for verdict in verdicts], changed)
+
+
+def repeating(told: Told) -> str:
+    """Returns the commands that repeat what is broken alone."""
+    files = sorted({verdict.file for verdict in told.verdicts if verdict.file})
+    if not files:
+        return ""
+    command = shlex.join(told.command)
+    lines = [f"./sdhnode {node_of(file)} frames < {shlex.quote(file)} > ours.text; {command} {node_of(file)} frames < {shlex.quote(file)} > theirs.text" for file in files]
+    return folded("The streams that repeat it alone", "<pre>" + escape_lines([*lines, "./sdhring-compare-node ours.text theirs.text"]) + "</pre>", open=True)
+
+
+def escape_lines(lines: Sequence[str]) -> str:
+    return "\n".join(map(escape, lines))
+
+
+def node_of(file: str) -> str:
+    """Returns the identifier of the node that a file's stream is for, which its name ends with."""
+    found = re.search(r"\.node-([0-9]{1,2})\.stream$", Path(file).name)
+    return found[1] if found else "ID"
+
+
+def as_page(told: Told) -> str:
+    """Returns the page."""
+    judge, title = told.judge, "Does this node obey the rules of the ring?"
+    lines = told.program.lines()
+    origin = {
+        "Device": f"<code>{escape(shlex.join(told.command))}</code>", "What is due": f"<code>{escape(lines['program'])}</code>, {escape(lines['proof'])}, {escape(lines['version'])}",
+        "Its checksum": f"<code>{escape(lines['sum'])}</code> (SHA-256)", "Streams": f"{judge.streams}, of which {len(judge.failures)} failed", "Rounds": f"{judge.rounds:,} that agree",
+        "Page written": moment_words(now()),
+    }  # fmt: skip
+    listed = "".join(f"<dt>{name}</dt><dd>{words}</dd>" for name, words in origin.items())
+    uncovered = judge.uncovered()
+    covered = f"<p>The suite reached all cases of all rules.</p>" if not uncovered else f"<p>Cases that these streams don't reach: {escape(', '.join(uncovered))}.</p>"
+    body = [f"<h1>{title}</h1>", f'<p class="alarm"><strong>{escape(told.summary())}</strong></p>', repeating(told), section(told, "device"), section(told, "rule"), covered]
+    body += [folded(TITLES[kind], section(told, kind)) for kind in ("case", "word", "mark", "defect", "origin")]
+    return whole(title, "\n".join([*body, f'<dl class="origin">{listed}</dl>']))
