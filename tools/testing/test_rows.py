@@ -2,12 +2,13 @@
 
 import json
 import os
+import subprocess
 import sys
 import tempfile
 import unittest
 from pathlib import Path
 
-from common import RINGS, call
+from common import RINGS, TOOLS, call
 
 from ringtools.rows import RowsProblem, changed, read_rows
 
@@ -119,6 +120,23 @@ class Rows(unittest.TestCase):
         (self.folder / "rows.md").write_text("| Row | Words |\n|---|---|\n| a | run |\n")
         with self.assertRaises(RowsProblem):
             read_rows(self.folder)
+
+
+class Chosen(unittest.TestCase):
+    """tools/test runs what its words name, and nothing where a word names nothing."""
+
+    def ended(self, *words):
+        return subprocess.run([TOOLS / "test", *words], capture_output=True, text=True)
+
+    def test_help_runs_nothing(self):
+        helped = self.ended("--help")
+        self.assertEqual((helped.returncode, helped.stderr), (0, ""))
+        self.assertIn("usage: test [NAME ..]", helped.stdout)
+
+    def test_a_word_that_names_nothing_is_refused(self):
+        refused = self.ended("sdhretime", "test_nothing")
+        self.assertEqual((refused.returncode, refused.stdout), (2, ""))
+        self.assertEqual(refused.stderr, "test: no module of tools/testing, and no program with rows, is called 'test_nothing'\n")
 
 
 if __name__ == "__main__":
