@@ -130,7 +130,9 @@ class Lists(Asking):
         self.assertEqual(found["list"]["notes"], ["-: columns that aren't read: shelf"])
 
     def test_lists_that_are_none(self):
-        self.assertEqual(self.record("")["steps"], [])
+        self.assertEqual(self.record("# none\n-----\n")["steps"], [])
+        self.ask("", wanted=1)
+        self.assertTrue(self.ask("[[[[\n", wanted=6).startswith("NOT READ: no alarm is in the list, whose 1 line "))
         self.ask("x" * 5000, wanted=1)
         self.ask("LOS Bonn east\n" * 5000, wanted=1)
         self.ask(Path("missing.txt"), wanted=1)

@@ -25,7 +25,7 @@ TIME = ("begin", "beginn", "date", "date_time", "datum", "raised", "raised_at", 
 KNOWN = {"alarm": ALARM, "node": NODE, "side": SIDE, "state": STATE, "severity": SEVERITY, "ended": ENDED, "time": TIME}
 LIST = Limit("a list of alarms", MEBIBYTE)
 LINE = 1_000  # characters
-NOTHING_IN = re.compile(r"[\W_]*")
+NOTHING_IN = re.compile(r"[\s,;|+=*_.:~–—-]*")  # blank, empty cells, a ruler
 
 
 @dataclass(frozen=True)
@@ -77,7 +77,7 @@ def of_cells(line: int, heads: Sequence[str], cells: Sequence[str]) -> Record:
 
 
 def is_empty(line: str) -> bool:
-    """Whether a line has neither a letter nor a digit, or is a comment."""
+    """Whether a line is blank, a ruler, a row of empty cells or a comment."""
     return NOTHING_IN.fullmatch(line) is not None or line.lstrip().startswith("#")
 
 
@@ -98,6 +98,8 @@ class Listing:
             raise TableProblem(f"{name}: a list has at most {ROWS:,} lines")
         if long := next((at for at, line in enumerate(lines, 1) if len(line) > LINE), None):
             raise TableProblem(f"{name}:{long}: a line has at most {LINE:,} characters")
+        if not text.strip():
+            raise TableProblem(f"{name}: the list is empty; where no alarm stands, a line such as `# none` says so")
         self.notes: list[str] = []
         found = head_in(lines)
         self.records = [of_line(at, line) for at, line in enumerate(lines[: found[0] if found else None], 1) if not is_empty(line)]
