@@ -13,7 +13,8 @@ from ..cells import text_of_rows
 from ..files import FileProblem
 from ..options import Options, decimal_number
 from ..origin import LAUNCHER, CannotRun, program_of
-from ..shown import say, shown
+from ..progress import Progress, duration
+from ..shown import say
 from ..writing import Folder, folder_of_file, named_folder, own_folder
 from .arriving import Stream
 from .device import Piped
@@ -107,29 +108,35 @@ def kept(asked: Namespace, verdicts: list[Verdict], keys: dict[str, tuple]) -> l
     return [replace(one, file=files.get((one.failure.stream, one.failure.round), "")) if one.failure else one for one in verdicts]
 
 
-class Progress:
-    """Says on standard error how far the suite is, where that is a terminal."""
+class Streams(Progress):
+    """How many streams have run, on a terminal, and which of them a device failed in."""
+
+    what, tool = "streams", TOOL
 
     def __init__(self) -> None:
-        self.streams, self.keys = 0, {}
+        super().__init__(None, 0)
+        self.keys: dict[str, tuple] = {}
 
-    def tell(self, stream: Stream, failed: Failure | None) -> None:
-        self.streams += 1
+    def line(self, gone: float) -> str:
+        return f"{self.done} streams, {duration(gone)} gone"
+
+    def ran(self, stream: Stream, failed: Failure | None) -> None:
         if failed:
             self.keys[failed.stream] = stream.key
+        self.done += 1
         if sys.stderr.isatty():
-            sys.stderr.write(f"\r{TOOL}: {self.streams} streams, the last one {shown(stream.name)} \033[K")
+            self.tell(self.done)
 
     def end(self) -> None:
         if sys.stderr.isatty():
-            sys.stderr.write("\r\033[K")
+            self.tell(self.done, last=True)
 
 
 def ask(asked: Namespace) -> int:
     """Runs the suite, and tells what came of it."""
-    program, judge, progress = program_of(asked.program, LAUNCHER.with_name("sdhnode")), Judge(), Progress()
+    program, judge, progress = program_of(asked.program, LAUNCHER.with_name("sdhnode")), Judge(), Streams()
     command = settled(asked.command)
-    is_whole = run_suite(program, Piped(command, asked.limit), streams_of(asked), judge, progress.tell)
+    is_whole = run_suite(program, Piped(command, asked.limit), streams_of(asked), judge, progress.ran)
     progress.end()
     verdicts = kept(asked, [*device_verdicts(judge), *judge.verdicts()], progress.keys)
     told = Told(verdicts, judge, asked.command, program, is_whole)
