@@ -317,8 +317,11 @@ class Stopped(Case):
 
     def begun(self):
         words = [sys.executable, str(TOOLS / "sdhring-bench"), str(PLAN), "--program", str(SDHNODE), "--more", "100000000", "--processes", "2"]
-        running = subprocess.Popen(words, stdout=subprocess.PIPE, stderr=subprocess.PIPE, text=True)
+        # (whoever started the tests may have had SIGINT ignored)
+        hears = lambda: signal.signal(signal.SIGINT, signal.SIG_DFL)
+        running = subprocess.Popen(words, stdout=subprocess.PIPE, stderr=subprocess.PIPE, text=True, preexec_fn=hears)
         self.addCleanup(running.communicate)
+        self.addCleanup(running.kill)
         while not running.stdout.readline().startswith("512,"):  # the script's last settle step
             self.assertIsNone(running.poll())
         children = Path(f"/proc/{running.pid}/task/{running.pid}/children").read_text().split()
