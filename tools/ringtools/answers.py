@@ -1,7 +1,8 @@
 """What the answers about all cases come to: who is lost in which failures, and the same in words."""
 
+from .escaping import html
 from .failures import KINDS
-from .markup import count_of, escape, names
+from .markup import codes, count_of, names
 from .plan import enough
 
 KIND_WORDS = {"fibre": "fibre", "span": "span", "node": "node", "pair": "pair of spans"}
@@ -64,26 +65,25 @@ class Answers:
         part = f", part {self.shard} of the whole" if self.shard else ""
         each = names(count_of(len(self.of_kinds((kind,))), KIND_WORDS[kind], KIND_PLURALS[kind]) for kind in self.kinds)
         yield f"{count_of(len(self.verdicts), 'failure')} of a ring with {count_of(len(self.circuits), 'circuit')} were run{part}: {each}. {NOT_ASKED}"
-        codes = lambda texts: ", ".join(f"<code>{escape(text)}</code>" for text in texts)
         if self.beforehand.own_texts():
-            yield f"After the plan's own script: {codes(self.beforehand.own_texts())}."
+            yield html("After the plan's own script: {}.", codes(self.beforehand.own_texts()))
         if self.beforehand.left_out:
-            yield f"The plan's own script is left out, as <code>--without-script</code> asks: {codes(self.beforehand.left_out)}."
+            yield html("The plan's own script is left out, as <code>--without-script</code> asks: {}.", codes(self.beforehand.left_out))
         more = self.beforehand.also_texts() + self.beforehand.works_texts()
         if more:
-            yield f"Before each: {codes(more)}."
+            yield html("Before each: {}.", codes(more))
         before = self.lost_before()
         if before:
-            yield f"Lost before anything fails: {escape(self.customers(before))}."
+            yield f"Lost before anything fails: {self.customers(before)}."
 
     def words_on_ends(self):
         unsettled = [verdict for verdict in self.all if verdict.unsettled]
         other = [verdict for verdict in self.all if not verdict.ok and not verdict.unsettled]
         if unsettled:
-            yield f"<strong>{len(unsettled)} of {count_of(len(self.all), 'case')} didn't settle within the limit</strong>: {escape(limit_advice(self.plan))}."
+            yield html("<strong>{} of {} didn't settle within the limit</strong>: {}.", len(unsettled), count_of(len(self.all), "case"), limit_advice(self.plan))
         if other:
             each = names((f"{verdict.case.words} ({verdict.status_words()})" for verdict in other), 40)
-            yield f"<strong>{count_of(len(other), 'case')} didn't end Ok</strong>: {escape(each)}."
+            yield html("<strong>{} didn't end Ok</strong>: {}.", count_of(len(other), "case"), each)
 
     def words_on_spans(self):
         if not self.failed(SINGLE) or not self.circuits:
@@ -91,14 +91,14 @@ class Answers:
         takers, single = self.takers(SINGLE), " or ".join(kind for kind in SINGLE if kind in self.kinds)
         safe, taken = [name for name in takers if not takers[name]], [name for name in takers if takers[name]]
         if not taken:
-            yield f"<strong>Each circuit survives</strong> every single {single}: {escape(self.customers(safe))}."
+            yield html("<strong>Each circuit survives</strong> every single {}: {}.", single, self.customers(safe))
             return
         if safe:
-            yield f"<strong>{len(safe)} of {count_of(len(takers), 'circuit')} survive</strong> every single {single}: {escape(self.customers(safe))}."
+            yield html("<strong>{} of {} survive</strong> every single {}: {}.", len(safe), count_of(len(takers), "circuit"), single, self.customers(safe))
         few = len(taken) <= FEW
         called = self.plan.places.circuit
         each = (f"{called(name)} ({names((verdict.case.words for verdict in takers[name]), 4)})" if few else called(name) for name in taken)
-        yield f"<strong>Lost</strong> with some single {single}: {count_of(len(taken), 'circuit')}: {escape(names(each))}."
+        yield html("<strong>Lost</strong> with some single {}: {}: {}.", single, count_of(len(taken), "circuit"), names(each))
 
     def ends_at(self, case):
         """Circuits that end at the node which is lost."""
@@ -114,9 +114,9 @@ class Answers:
         beyond = {verdict.case.words: self.besides_ends(verdict) for verdict, _ in failed if self.besides_ends(verdict)}
         if beyond:
             each = "; ".join(f"{words}: {self.customers(more)}" for words, more in beyond.items())
-            yield f"<strong>With a lost node</strong> the circuits that end there are lost, and besides: {escape(each)}."
+            yield html("<strong>With a lost node</strong> the circuits that end there are lost, and besides: {}.", each)
         elif failed:
-            yield "<strong>With a lost node</strong> the circuits that end there are lost, and no other."
+            yield html("<strong>With a lost node</strong> the circuits that end there are lost, and no other.")
 
     def words_on_pairs(self):
         failed = self.failed(("pair",))
@@ -125,18 +125,18 @@ class Answers:
         takers = self.takers(("pair",))
         safe = [name for name in takers if not takers[name]]
         taking = [(len(self.taken(verdict)), verdict.case.words) for verdict, _ in failed if self.taken(verdict)]
-        spared = f" Survive every pair: {escape(self.customers(safe))}." if safe else ""
+        spared = f" Survive every pair: {self.customers(safe)}." if safe else ""
         yield f"At least one circuit is lost in {len(taking)} of {count_of(len(failed), 'pair')} of spans.{spared}"
         if taking:
             most = max(count for count, _ in taking)
             worst = [words for count, words in taking if count == most]
-            yield f"<strong>The worst pairs</strong>, with {count_of(most, 'circuit')} lost: {escape(names(worst, 12))}."
+            yield html("<strong>The worst pairs</strong>, with {} lost: {}.", count_of(most, "circuit"), names(worst, 12))
 
     def words_on_model(self):
         differ = [verdict for verdict in self.all if verdict.differs]
         if differ:
             each = "; ".join(f"{verdict.case.words}: {', '.join(verdict.differs[:3])}" for verdict in differ[:20])
-            yield f"<strong>In {count_of(len(differ), 'case')} the program's text and the restoration model differ</strong>: {escape(each)}."
+            yield html("<strong>In {} the program's text and the restoration model differ</strong>: {}.", count_of(len(differ), "case"), each)
         reports = sum(len(verdict.stages) for verdict in self.all if not verdict.differs)
         wanted = sum(len(verdict.case.stages) for verdict in self.all)
         if reports:

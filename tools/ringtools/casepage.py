@@ -5,10 +5,11 @@ from functools import partial
 
 from .answers import Answers
 from .casetables import CaseTables
+from .escaping import html, lines
 from .failures import WORKS_STAGES
 from .inshort import WorksInShort
 from .look import looks
-from .markup import count_of, escape, listing, origin_list, warning, whole
+from .markup import count_of, listing, origin_list, warning, whole
 from .model import scenes
 from .origin import Origin
 from .page import in_short, run_page, source, tools
@@ -34,7 +35,7 @@ class Asked:
 
     def heading(self):
         """The title, with the plan below it; or the plan."""
-        return (self.title, f"<p>Plan <code>{escape(self.plan)}</code></p>") if self.title else (f"What if: {self.plan}", "")
+        return (self.title, html("<p>Plan <code>{}</code></p>", self.plan)) if self.title else (f"What if: {self.plan}", "")
 
     def origin(self, answers):
         known = tuple(answer for answer in answers if answer is not None)
@@ -55,18 +56,18 @@ def answers_page(asked, verdicts):
     about += "Each failure settles, is mended, settles, and settles once more when every wait is over."
     title, below = asked.heading()
     counted = asked.interruptions and asked.interruptions.origin(asked.plan, asked.plan_sum)
-    parts = [f"<h1>{escape(title)}</h1>", below, *dict.fromkeys(warning(each) for each in (origin, counted) if each)]
+    parts = [html("<h1>{}</h1>", title), below, *dict.fromkeys(warning(each) for each in (origin, counted) if each)]
     if asked.beforehand.works:
         parts += [order_sheet(asked, answers)] if answers.works and asked.interruptions else []
-        parts += [Works(answers, asked.interruptions, asked.opening).section(), "<section><h2>All failures during the works</h2>"]
-    parts += [listing(answers.words()), f"<p>{about}</p>", in_short(origin), tools(), "</section>" if asked.beforehand.works else ""]
+        parts += [Works(answers, asked.interruptions, asked.opening).section(), html("<section><h2>All failures during the works</h2>")]
+    parts += [listing(answers.words()), html("<p>{}</p>", about), in_short(origin), tools(), html("</section>") if asked.beforehand.works else ""]
     if plan.circuits:
-        parts.append(f'<section id="customers"><h2>Customers: {tables.headline()}</h2>{tables.customers()}</section>')
-    parts.append(f'<section id="failures"><h2>Failures</h2>{tables.failures()}</section>')
+        parts.append(html('<section id="customers"><h2>Customers: {}</h2>{}</section>', tables.headline(), tables.customers()))
+    parts.append(html('<section id="failures"><h2>Failures</h2>{}</section>', tables.failures()))
     if plan.circuits:
-        parts.append(f'<section id="matrix"><h2>Each customer in each failure</h2>{tables.matrix()}</section>')
-    parts += [source(origin), f"<section><h2>Where the interruptions come from</h2>{origin_list(counted)}</section>" if counted else ""]
-    return whole(title, "\n".join(parts), ["whatif.css"], ["whatif.js"])
+        parts.append(html('<section id="matrix"><h2>Each customer in each failure</h2>{}</section>', tables.matrix()))
+    parts += [source(origin), html("<section><h2>Where the interruptions come from</h2>{}</section>", origin_list(counted)) if counted else ""]
+    return whole(title, lines(*parts), ["whatif.css"], ["whatif.js"])
 
 
 def draw_case(asked, case):

@@ -1,27 +1,37 @@
 """The tables of sdhring-whatif: each customer, the failures kind by kind, and each customer in each failure."""
 
+from collections.abc import Iterable
+
 from .answers import KIND_PLURALS, SINGLE
+from .escaping import Markup, html, joined, lines
 from .look import ends_words
-from .markup import escape, folded, heads, unbroken
+from .markup import folded, heads, unbroken
 
 COLUMNS = 40  # customers side by side, as many as fit a printed page
-KEY = (
+KEY = html(
     '<p class="key"><span class="kept">·</span>kept on its own arc <span class="impaired">i</span>kept there, but impaired: a span of it is degraded or asked for <span class="over">+4</span>kept over protection, with this number of spans more than its own arc '
     '(with a minus, fewer; <span class="over">=</span>as many) <span class="lost">✕</span>lost <span class="odd">?</span>neither: see its text</p>'
 )
-FILTER = """<form class="filter tools" hidden><label>Failure <input type="search" name="words" placeholder="such as 2–3"></label>
-<label>Customer <select name="customer"><option value="">any</option>{options}</select></label>
-<label><input type="checkbox" name="taking"> only where a customer is lost</label> <output aria-live="polite"></output></form>"""
+
+
+def filter_form(options: Iterable[Markup]) -> Markup:
+    """Returns the form in which failures are looked up by words and by customer."""
+    return html(
+        """<form class="filter tools" hidden><label>Failure <input type="search" name="words" placeholder="such as 2–3"></label>
+<label>Customer <select name="customer"><option value="">any</option>{}</select></label>
+<label><input type="checkbox" name="taking"> only where a customer is lost</label> <output aria-live="polite"></output></form>""",
+        joined(options),
+    )
 
 
 def link(verdict):
     """The failure's name, leading to its drawing where there is one."""
     shown = unbroken(verdict.case.words)
-    return f'<a href="cases/{escape(verdict.case.name)}.html">{shown}</a>' if verdict.stages else shown
+    return html('<a href="cases/{}.html">{}</a>', verdict.case.name, shown) if verdict.stages else shown
 
 
 def links(verdicts):
-    return ", ".join(link(verdict) for verdict in verdicts)
+    return joined(map(link, verdicts), ", ")
 
 
 def taken_by(verdicts, asked):
@@ -31,11 +41,11 @@ def taken_by(verdicts, asked):
     if not verdicts:
         return f"none of {asked}"
     count = f"{len(verdicts)} of {asked}"
-    return f"{count}: {links(verdicts)}" if len(verdicts) <= 2 else folded(count, links(verdicts))
+    return html("{}: {}", count, links(verdicts)) if len(verdicts) <= 2 else folded(count, links(verdicts))
 
 
 def takes(answers, taken):
-    return f'<strong class="result-lost">{len(taken)} lost</strong>: {escape(answers.customers(taken))}'
+    return html('<strong class="result-lost">{} lost</strong>: {}', len(taken), answers.customers(taken))
 
 
 class CaseTables:
@@ -70,15 +80,15 @@ class CaseTables:
         name, singles = circuit.name, self.answers.takers(SINGLE)
         kind, words = self.customer_words(name, singles)
         cells = [taken_by(found.get(name), asked) for found, asked in columns.values()]
-        cells += [self.longest(name), escape(ends_words(self.plan, circuit))]
-        head = f'<tr><th scope="row" class="name">{escape(self.plan.circuit_name(circuit))}</th><td class="result-{kind}">{words}</td>'
-        return head + "".join(f"<td>{cell}</td>" for cell in cells) + "</tr>"
+        cells += [self.longest(name), ends_words(self.plan, circuit)]
+        head = html('<tr><th scope="row" class="name">{}</th><td class="result-{}">{}</td>', self.plan.circuit_name(circuit), kind, words)
+        return html("{}{}</tr>", head, joined(html("<td>{}</td>", cell) for cell in cells))
 
     def customers(self):
         columns = self.columns()
-        rows = "\n".join(self.customer_row(circuit, columns) for circuit in self.plan.circuits)
+        rows = lines(*(self.customer_row(circuit, columns) for circuit in self.plan.circuits))
         titles = ["customer", "in short", *columns, "most spans more", "from, to"]
-        return f'<div class="wide"><table class="customers"><thead>{heads(titles)}</thead><tbody>\n{rows}</tbody></table></div>'
+        return html('<div class="wide"><table class="customers"><thead>{}</thead><tbody>\n{}</tbody></table></div>', heads(titles), rows)
 
     def later_cell(self, verdict, name):
         """How it is after mending, compared with how it was before the failure."""
@@ -98,56 +108,58 @@ class CaseTables:
     def begin_of_row(self, verdict):
         """What the page's filter reads of a row."""
         taken = " ".join(self.answers.taken(verdict))
-        return f'<tr data-words="{escape(verdict.case.words)}" data-taken="{escape(taken)}">'
+        return html('<tr data-words="{}" data-taken="{}">', verdict.case.words, taken)
 
     def failure_row(self, verdict):
-        head = f'{self.begin_of_row(verdict)}<th scope="row" class="name">{link(verdict)}</th>'
+        head = html('{}<th scope="row" class="name">{}</th>', self.begin_of_row(verdict), link(verdict))
         stage, taken = verdict.stage("failed"), self.answers.taken(verdict)
-        note = "" if verdict.ok else f"<strong>{escape(verdict.problem or verdict.status_words())}</strong>"
+        note = "" if verdict.ok else html("<strong>{}</strong>", verdict.problem or verdict.status_words())
         if stage is None:
-            return f'{head}<td colspan="5">{note}</td></tr>'
+            return html('{}<td colspan="5">{}</td></tr>', head, note)
         odd = stage.all_of("odd")
         words = [takes(self.answers, taken)] if taken else [] if odd else ["none lost"]
-        words += [f"odd: {escape(self.answers.customers(odd))}"] if odd else []
+        words += [f"odd: {self.answers.customers(odd)}"] if odd else []
         kind = "odd" if odd else "kept"
-        later = f'<td colspan="2">{note}</td>' if note else "".join(f"<td>{self.later_cell(verdict, name)}</td>" for name in ("mended", "waited"))
-        return f'{head}<td class="result-{kind}">{"; ".join(words)}</td><td>{stage.count("over")}</td><td>{self.own_arc_cell(stage)}</td>{later}</tr>'
+        later = html('<td colspan="2">{}</td>', note) if note else joined(html("<td>{}</td>", self.later_cell(verdict, name)) for name in ("mended", "waited"))
+        return html('{}<td class="result-{}">{}</td><td>{}</td><td>{}</td>{}</tr>', head, kind, joined(words, "; "), stage.count("over"), self.own_arc_cell(stage), later)
 
     def group(self, kind):
         verdicts = self.answers.sorted_of((kind,))
         taking = sum(bool(self.answers.taken(verdict)) for verdict in verdicts)
         titles = ["failure", "customers that are lost", "over protection", "on their own arc", "mended", "after waiting"]
-        rows = "\n".join(map(self.failure_row, verdicts))
+        rows = lines(*map(self.failure_row, verdicts))
         summary = f"{KIND_PLURALS[kind].capitalize()}: customers are lost in {taking} of {len(verdicts)}"
-        table = f'<table class="failures"><thead>{heads(titles)}</thead><tbody>\n{rows}</tbody></table>'
-        return folded(summary, f'<div class="wide">{table}</div>', open=True)
+        table = html('<table class="failures"><thead>{}</thead><tbody>\n{}</tbody></table>', heads(titles), rows)
+        return folded(summary, html('<div class="wide">{}</div>', table), open=True)
 
     def filter(self):
-        option = lambda circuit: f'<option value="{escape(circuit.name)}">{escape(self.plan.circuit_name(circuit))}</option>'
-        return FILTER.format(options="".join(map(option, self.plan.circuits)))
+        option = lambda circuit: html('<option value="{}">{}</option>', circuit.name, self.plan.circuit_name(circuit))
+        return filter_form(map(option, self.plan.circuits))
 
     def failures(self):
-        return self.filter() + "".join(map(self.group, self.answers.kinds))
+        return self.filter() + joined(map(self.group, self.answers.kinds))
 
     def matrix_row(self, verdict, shown):
-        head = f'{self.begin_of_row(verdict)}<th scope="row" class="failure">{link(verdict)}</th>'
+        head = html('{}<th scope="row" class="failure">{}</th>', self.begin_of_row(verdict), link(verdict))
         stage = verdict.stage("failed")
         if stage is None:
-            return f'{head}<td colspan="{len(shown)}">{escape(verdict.status_words())}</td></tr>'
-        return head + "".join(f'<td class="{stage.cells[name].kind}">{stage.cells[name].sign()}</td>' for name in shown) + "</tr>"
+            return html('{}<td colspan="{}">{}</td></tr>', head, len(shown), verdict.status_words())
+        cells = joined(html('<td class="{}">{}</td>', stage.cells[name].kind, stage.cells[name].sign()) for name in shown)
+        return html("{}{}</tr>", head, cells)
 
     def matrix_group(self, begin):
         """Some customers by all failures."""
         shown = self.answers.circuits[begin : begin + COLUMNS]
-        titles = '<th scope="col" class="failure">failure</th>'
-        titles += "".join(f'<th scope="col" class="circuit"><span>{escape(name)}</span></th>' for name in shown)
-        rows = "\n".join(self.matrix_row(verdict, shown) for kind in self.answers.kinds for verdict in self.answers.of_kinds((kind,)))
+        titles = html('<th scope="col" class="failure">failure</th>')
+        titles += joined(html('<th scope="col" class="circuit"><span>{}</span></th>', name) for name in shown)
+        verdicts = [verdict for kind in self.answers.kinds for verdict in self.answers.of_kinds((kind,))]
+        rows = lines(*(self.matrix_row(verdict, shown) for verdict in verdicts))
         caption = f"Customers {begin + 1} to {begin + len(shown)} of {len(self.answers.circuits)}, in each failure"
-        matrix = f'<table class="matrix"><caption>{caption}</caption><thead><tr>{titles}</tr></thead><tbody>\n{rows}</tbody></table>'
-        return f'<div class="scroll" tabindex="0" role="region" aria-label="{caption}">{matrix}</div>'
+        matrix = html('<table class="matrix"><caption>{}</caption><thead><tr>{}</tr></thead><tbody>\n{}</tbody></table>', caption, titles, rows)
+        return html('<div class="scroll" tabindex="0" role="region" aria-label="{}">{}</div>', caption, matrix)
 
     def matrix(self):
-        return KEY + "\n".join(map(self.matrix_group, range(0, len(self.answers.circuits), COLUMNS)))
+        return KEY + lines(*map(self.matrix_group, range(0, len(self.answers.circuits), COLUMNS)))
 
     def headline(self):
         """How many customers are lost with a fibre or a span alone."""

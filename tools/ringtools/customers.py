@@ -1,7 +1,8 @@
 """What becomes of each customer, settle step by settle step, as markup."""
 
+from .escaping import html, joined, lines
 from .look import ends_words, longer_words
-from .markup import count_of, escape, heads, names, table
+from .markup import count_of, heads, names, table
 
 RESULTS = {
     "odd": "Not what they are owed",
@@ -25,8 +26,8 @@ def by_result(look):
 def outcome(look):
     """Who is lost and who is kept, by name, the worst first."""
     found = {result: members for result, members in by_result(look).items() if members}
-    items = [f'<li class="result-{result}">{RESULTS[result]} ({len(members)}): {escape(names(members))}</li>' for result, members in found.items()]
-    return f'<ul class="outcome">{"".join(items)}</ul>' if items else '<p class="note">The plan has no circuits.</p>'
+    items = [html('<li class="result-{}">{} ({}): {}</li>', result, RESULTS[result], len(members), names(members)) for result, members in found.items()]
+    return html('<ul class="outcome">{}</ul>', joined(items)) if items else html('<p class="note">The plan has no circuits.</p>')
 
 
 def result_words(look, circuit):
@@ -54,17 +55,17 @@ def out_words(look, circuit):
 
 def step_cell(look, circuit):
     changed = " changed-cell" if circuit.name in look.changed_circuits else ""
-    out = f"<br>out: {out_words(look, circuit)}" if look.settled.outages else ""
-    return f'<td class="result-{look.result(circuit)}{changed}">{short(look, circuit)}{out}</td>'
+    out = html("<br>out: {}", out_words(look, circuit)) if look.settled.outages else ""
+    return html('<td class="result-{}{}">{}{}</td>', look.result(circuit), changed, short(look, circuit), out)
 
 
 def total_row(shown):
-    cells = ""
+    cells = html("")
     for look in shown:
         found = by_result(look)
         counts = [f"{len(found[result])} {word}" for result, word in TOTALS.items() if found[result]]
-        cells += f"<td>{', '.join(counts) or 'not told'}</td>"
-    return f'<tr class="total"><th scope="row" class="name">all {len(shown[0].plan.circuits)}</th>{cells}</tr>'
+        cells += html("<td>{}</td>", ", ".join(counts) or "not told")
+    return html('<tr class="total"><th scope="row" class="name">all {}</th>{}</tr>', len(shown[0].plan.circuits), cells)
 
 
 def steps_table(looks):
@@ -72,24 +73,24 @@ def steps_table(looks):
     parts, group = [], GROUP_WITH_OUTAGES if looks[0].settled.outages else GROUP
     for begin in range(0, len(looks), group):
         shown = looks[begin : begin + group]
-        titles = ["customer", *(f'<a href="#step{look.scene.number}">step {look.scene.number}</a>' for look in shown)]
+        titles = ["customer", *(html('<a href="#step{}">step {}</a>', look.scene.number, look.scene.number) for look in shown)]
         rows = [total_row(shown)]
         for circuit in shown[0].plan.circuits:
-            cells = "".join(step_cell(look, circuit) for look in shown)
-            rows.append(f'<tr data-circuit="{escape(circuit.name)}"><th scope="row" class="name">{escape(shown[0].plan.circuit_name(circuit))}</th>{cells}</tr>')
-        caption = f"<caption>Customers after settle steps {shown[0].scene.number} to {shown[-1].scene.number}; what changed since the step before is set off</caption>"
-        parts.append(f'<div class="wide"><table class="steps">{caption}<thead>{heads(titles)}</thead><tbody>{"".join(rows)}</tbody></table></div>')
-    return "\n".join(parts)
+            cells = joined(step_cell(look, circuit) for look in shown)
+            rows.append(html('<tr data-circuit="{}"><th scope="row" class="name">{}</th>{}</tr>', circuit.name, shown[0].plan.circuit_name(circuit), cells))
+        caption = html("<caption>Customers after settle steps {} to {}; what changed since the step before is set off</caption>", shown[0].scene.number, shown[-1].scene.number)
+        parts.append(html('<div class="wide"><table class="steps">{}<thead>{}</thead><tbody>{}</tbody></table></div>', caption, heads(titles), joined(rows)))
+    return lines(*parts)
 
 
 def port_cell(look, circuit, end):
     verdict, line = look.port(circuit.name, end), look.settled.ports.get((circuit.name, end))
     if verdict is None:
         return "not told"
-    shown = "AIS" if line.ais else f"value {line.value}<br><code>{line.data.hex()}</code>"
+    shown = "AIS" if line.ais else html("value {}<br><code>{}</code>", line.value, line.data.hex())
     if verdict == "wrong":
-        return f"<strong>not what it is owed</strong>: {shown}"
-    return shown if verdict == "ais" else f"its own customer's bytes, {shown}"
+        return html("<strong>not what it is owed</strong>: {}", shown)
+    return shown if verdict == "ais" else html("its own customer's bytes, {}", shown)
 
 
 def out_cells(look, circuit):
@@ -107,9 +108,9 @@ def circuit_table(look):
     changed = {number for number, circuit in enumerate(circuits) if circuit.name in look.changed_circuits}
     rows = []
     for number, circuit in enumerate(circuits):
-        result = f'<span class="result-{look.result(circuit)}">{result_words(look, circuit)}</span>'
-        way, ends = escape(look.route_words(circuit)), escape(ends_words(look.plan, circuit))
-        rows.append([escape(look.plan.circuit_name(circuit)), result, *out_cells(look, circuit), way, ends, str(number + 1)])
+        result = html('<span class="result-{}">{}</span>', look.result(circuit), result_words(look, circuit))
+        way, ends = look.route_words(circuit), ends_words(look.plan, circuit)
+        rows.append([look.plan.circuit_name(circuit), result, *out_cells(look, circuit), way, ends, str(number + 1)])
     heads_ = ["circuit", "what became of it", *out_heads(look), "way from a to b now", "from, to", "#"]
     return table("Circuits", heads_, rows, changed, attributes(circuits)) if rows else ""
 
@@ -117,7 +118,7 @@ def circuit_table(look):
 def port_table(look):
     """What the ports deliver, as the text shows it."""
     circuits = look.plan.circuits
-    rows = [[escape(circuit.name), *beside_outages(look, [port_cell(look, circuit, end) for end in "ab"], out_cells(look, circuit))] for circuit in circuits]
+    rows = [[circuit.name, *beside_outages(look, [port_cell(look, circuit, end) for end in "ab"], out_cells(look, circuit))] for circuit in circuits]
     heads_ = ["circuit", *beside_outages(look, ["port a", "port b"], out_heads(look))]
     return table("Ports", heads_, rows, (), attributes(circuits)) if rows else ""
 
@@ -128,4 +129,4 @@ def beside_outages(look, ports, outs):
 
 
 def attributes(circuits):
-    return lambda index: f' data-circuit="{escape(circuits[index].name)}"'
+    return lambda index: html(' data-circuit="{}"', circuits[index].name)

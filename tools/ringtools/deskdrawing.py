@@ -39,7 +39,7 @@ class DeskDrawing:
             for side in SIDES:
                 self.draw_switch(at, side)
             self.draw_node(at)
-        return ElementTree.tostring(self.root, encoding="unicode")
+        return self.root
 
     def button(self, class_, **data):
         """A part of the drawing that can be clicked, or reached and pressed by keys, once there are scripts."""

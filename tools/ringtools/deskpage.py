@@ -12,8 +12,9 @@ from .availabilitytable import minutes_words, nines_words
 from .deskdrawing import DeskDrawing
 from .desktable import DEPTHS as TABLE_DEPTHS
 from .desktable import GROUP, IMPAIRED, KINDS, LOST, OVER, Case, Failure
+from .escaping import Markup, data, drawn, html, joined, lines
 from .failures import cut_by
-from .markup import count_of, escape, folded, heads, listing, names, origin_list, table, unbroken, warning, whole
+from .markup import count_of, folded, heads, listing, names, note, option, origin_list, section, table, unbroken, warning, whole
 from .pathrings import PathRing
 from .scriptleft import script_left
 
@@ -21,15 +22,15 @@ WORST = 10
 BREAKS = ("span", "node", "fibre", "degraded", GROUP)  # failures; the other kinds are operators' switches
 DEPTHS = {1: "one failure", 2: "up to two failures", 3: "up to three failures"}
 TITLES = {"degraded": "fibres degraded", "fibre": "fibres cut", "span": "spans cut", "node": "nodes lost", "manual": "manual switches", "forced": "forced switches", GROUP: "shared-risk groups"}
-FROM_TABLE = (
+FROM_TABLE = html(
     "What becomes of each customer, the applied spans and the longest way are those of the table of <code>sdhwhatif</code>. The restoration model of these tools has them "
     "once more; each record of the table had to be the model's."
 )
 FROM_PATHS = "The path ring is computed by these tools, by the rule of path protection: a customer is lost where one of its ports has neither way."
 FROM_RATES = "Minutes and nines are computed by these tools from the tables of rates and repair times, which are named at the end; without the time of switches."
-SEE_ORIGIN = 'From the table of <code>sdhwhatif</code>, <a href="#origin">as described at the end</a>. Impaired: kept, though a span is degraded or asked for.'
+SEE_ORIGIN = html('From the table of <code>sdhwhatif</code>, <a href="#origin">as described at the end</a>. Impaired: kept, though a span is degraded or asked for.')
 LOOKED_UP = "The browser looks cases up in what the page carries, and computes no verdict."
-SIGNED = "".join(f"<tr><th scope=\"row\">{who}</th><td></td><td></td></tr>" for who in ("prepared by", "checked by", "approved by"))
+SIGNED = joined(html('<tr><th scope="row">{}</th><td></td><td></td></tr>', who) for who in ("prepared by", "checked by", "approved by"))
 
 
 class Desk:
@@ -104,13 +105,13 @@ def besides_words(desk):
     return f"besides those that end there, at most {max(counts)}" if any(counts) else "all of these end there"
 
 
-def nothing_more(desk: Desk) -> str:
+def nothing_more(desk: Desk) -> Markup:
     """Returns what becomes of the customers by what the script left alone."""
     case, words = desk.nothing, {LOST: "lost", OVER: "over protection", IMPAIRED: "kept but impaired"}
     found = {letter: desk.of(letter, case) for letter in words}
-    told = "; ".join(f"{len(who)} {words[letter]}" + (f": {escape(names(who))}" if who else "") for letter, who in found.items())
+    told = "; ".join(f"{len(who)} {words[letter]}" + (f": {names(who)}" if who else "") for letter, who in found.items())
     counted = " All numbers below count them too." if found[LOST] else ""
-    return f"<strong>Nothing more fails</strong>: {told}; {case.outcome.counts[0]} kept.{counted}"
+    return html("<strong>Nothing more fails</strong>: {}; {} kept.{}", told, case.outcome.counts[0], counted)
 
 
 def summary(desk):
@@ -121,12 +122,12 @@ def summary(desk):
         some = [case for case in cases if case.lost]
         most = f"in {len(some)} of {len(cases)}; at most {max((case.lost for case in some), default=0)}" if some else "in none"
         besides = f"; {besides_words(desk)}" if kind == "node" and some else ""
-        yield f"<strong>{TITLES[kind].capitalize()}, one {desk.alone}</strong>: customers are lost {most}{besides}."
+        yield html("<strong>{}, one {}</strong>: customers are lost {}{}.", TITLES[kind].capitalize(), desk.alone, most, besides)
     pairs = desk.pairs()
     some = [case for case in pairs if case.lost]
-    yield f"<strong>{'Two more spans' if desk.script.is_something else 'Two spans'} cut</strong>: customers are lost in {len(some)} of {len(pairs)} pairs; at most {max((case.lost for case in pairs), default=0)}."
+    yield html("<strong>{} cut</strong>: customers are lost in {} of {} pairs; at most {}.", "Two more spans" if desk.script.is_something else "Two spans", len(some), len(pairs), max((case.lost for case in pairs), default=0))
     for note in desk.notes:
-        yield f"<strong>Not all of a table was read</strong>: {escape(note)}."
+        yield html("<strong>Not all of a table was read</strong>: {}.", note)
 
 
 def matrix(desk):
@@ -140,9 +141,9 @@ def matrix(desk):
             numbers = sorted({desk.number("span", one), desk.number("span", other)})
             lost = desk.table.cases[tuple(numbers)].lost
             shade = 0 if lost == 0 else min(4, 1 + 4 * lost // most)
-            cells.append(f'<span class="shade s{shade}" data-case="{" ".join(map(str, numbers))}">{lost}</span>')
+            cells.append(html('<span class="shade s{}" data-case="{}">{}</span>', shade, " ".join(map(str, numbers)), lost))
         rows.append([unbroken(names[one]), *cells])
-    titles = ["span", *(escape(name).replace("–", "–<wbr>") for name in names)]
+    titles = ["span", *(joined(name.split("–"), html("–<wbr>")) for name in names)]
     return table("Customers lost, spans by spans", titles, rows)
 
 
@@ -160,18 +161,18 @@ def customers(desk):
     by_path = [desk.path.lost(case) for case in pairs]
     rows = []
     for number, circuit in enumerate(desk.plan.circuits):
-        ends = [escape(desk.places.node(desk.plan.ids[at])) for at in (circuit.start, circuit.end)]
+        ends = [desk.places.node(desk.plan.ids[at]) for at in (circuit.start, circuit.end)]
         lost = lambda cases: sum(case.results[number] == LOST for case in cases)
         counts = [lost(desk.singles("span")), lost(desk.besides_ends(circuit)), lost(pairs), sum(number in found for found in by_path)]
-        rows.append([escape(desk.called[number]), *ends, circuit.slot, '<span class="now"></span>', *counts, *shares(desk, circuit)])
-    attributes = lambda index: f' data-customer="{index}"'
+        rows.append([desk.called[number], *ends, circuit.slot, html('<span class="now"></span>'), *counts, *shares(desk, circuit)])
+    attributes = lambda index: html(' data-customer="{}"', index)
     caption = "Customers, and with how many spans, nodes and pairs of spans each is lost"
     return table(caption, titles, rows, attributes=attributes)
 
 
 def case_row(desk, case):
-    words = f'<span data-case="{" ".join(map(str, case.failures))}">{unbroken(desk.table.words(case))}</span>'
-    return [words, *case.outcome.counts, case.outcome.hops, escape(names(desk.lost(case)))]
+    words = html('<span data-case="{}">{}</span>', " ".join(map(str, case.failures)), unbroken(desk.table.words(case)))
+    return [words, *case.outcome.counts, case.outcome.hops, names(desk.lost(case))]
 
 
 CASE_HEADS = ["case", "kept", "kept, impaired", "over protection", "lost", "longest way in spans", "customers that are lost"]
@@ -232,66 +233,53 @@ def key_of(numbers, count):
     return 1 + count + first * (2 * count - first - 1) // 2 + second - first - 1
 
 
-def option(value, words):
-    return f'<option value="{value}">{escape(words)}</option>'
-
-
 def failure_options(desk):
     for kind in desk.kinds("span", "node", "fibre", "degraded", "manual", "forced"):
-        options = "".join(option(number, one.name) for number, one in enumerate(desk.table.failures) if one.kind == kind)
-        yield f'<optgroup label="{TITLES[kind]}">{options}</optgroup>'
+        options = joined(option(number, one.name) for number, one in enumerate(desk.table.failures) if one.kind == kind)
+        yield html('<optgroup label="{}">{}</optgroup>', TITLES[kind], options)
 
 
 def radios(legend, group, kinds):
     """A choice of what a click does."""
-    shown = "".join(f'<label><input type="radio" name="{group}" value="{kind}"{"" if place else " checked"}> {words}</label> ' for place, (kind, words) in enumerate(kinds))
-    return f"<fieldset><legend>{legend}</legend>{shown}</fieldset>"
+    shown = joined(html('<label><input type="radio" name="{}" value="{}"{}> {}</label> ', group, kind, "" if place else " checked", words) for place, (kind, words) in enumerate(kinds))
+    return html("<fieldset><legend>{}</legend>{}</fieldset>", legend, shown)
 
 
 def chooser(desk):
     """What a click on a fibre and on a switch does, a list of all failures, and what comes of them."""
     fibres = radios("A clicked fibre is", "fibre", (("fibre", "cut"), ("degraded", "degraded")))
     switches = radios("A clicked switch is", "switch", (("forced", "forced"), ("manual", "manual")))
-    customers = "".join(option(number, name) for number, name in enumerate(desk.called))
-    return f"""<div class="panel" hidden>
-<p>A click, a tap, or Tab and Enter makes a node, a span (the label outside) or a fibre fail, or switches a side (the square beside a node); once more takes it away. Up to {DEPTHS[desk.depth].removeprefix("up to ")} together. <label><input type="checkbox" id="large"> large drawing</label></p>
-{fibres}{switches}
-<p><label>Or choose <select id="choose">{option("", "a failure")}{"".join(failure_options(desk))}</select></label> <button type="button" id="clear">clear</button></p>
-{f'<p class="script">The script left: {escape("; ".join(desk.script.words()))}.</p>' if desk.script.is_something else ""}
+    customers = joined(option(number, name) for number, name in enumerate(desk.called))
+    return html("""<div class="panel" hidden>
+<p>A click, a tap, or Tab and Enter makes a node, a span (the label outside) or a fibre fail, or switches a side (the square beside a node); once more takes it away. Up to {} together. <label><input type="checkbox" id="large"> large drawing</label></p>
+{}{}
+<p><label>Or choose <select id="choose">{}{}</select></label> <button type="button" id="clear">clear</button></p>
+{}
 <p id="failed"></p><div id="told" role="status" aria-live="polite"></div>
-<p><label>Way of <select id="whose">{option("", "no customer")}{customers}</select></label></p>
-</div>"""
-
-
-def note(*sentences):
-    return f'<p class="note">{" ".join(sentences)}</p>'
-
-
-def section(name, title, *parts):
-    return f'<section id="{name}"><h2>{title}</h2>' + "\n".join(parts) + "</section>"
+<p><label>Way of <select id="whose">{}{}</select></label></p>
+</div>""", DEPTHS[desk.depth].removeprefix("up to "), fibres, switches, option("", "a failure"), joined(failure_options(desk)), html('<p class="script">The script left: {}.</p>', "; ".join(desk.script.words())) if desk.script.is_something else "", option("", "no customer"), customers)
 
 
 def origin_section(desk, origin):
     count = count_of(len(desk.table.cases), "case")
-    words = f"<code>sdhwhatif {desk.table.depth}</code> answered about {count} of {DEPTHS[desk.depth]}. {LOOKED_UP}"
-    files = listing(f"<code>{escape(name)}</code>, checksum <code>{sum_}</code>" for name, sum_ in desk.tables)
-    rates = f"<p>{'Groups' if desk.components is None else 'Rates and repair times'}:</p>{files}" if desk.tables else ""
-    return section("origin", "Where this comes from", f"<p>{words}</p>", note(FROM_TABLE), note(FROM_PATHS, desk.path.room()), rates, origin_list(origin))
+    words = html("<code>sdhwhatif {}</code> answered about {} of {}. {}", desk.table.depth, count, DEPTHS[desk.depth], LOOKED_UP)
+    files = listing(html("<code>{}</code>, checksum <code>{}</code>", name, sum_) for name, sum_ in desk.tables)
+    rates = html("<p>{}:</p>{}", 'Groups' if desk.components is None else 'Rates and repair times', files) if desk.tables else ""
+    return section("origin", "Where this comes from", html("<p>{}</p>", words), note(FROM_TABLE), note(FROM_PATHS, desk.path.room()), rates, origin_list(origin))
 
 
 def desk_page(title, desk, origin):
     drawing = DeskDrawing(desk.plan, desk.places, desk.table.failures, desk.script, desk.nothing.outcome)
-    svg = drawing.draw()
-    data = json.dumps(data_of(desk, drawing), separators=(",", ":"), ensure_ascii=False).replace("<", "\\u003c")
+    ring = drawn(drawing.draw())
     worst = [case_row(desk, case) for case in desk.worst()]
-    filter_line = '<p class="tools" hidden><label>Only customers with <input id="filter" type="search"></label></p>'
-    parts = [f"<h1>{escape(title)}</h1>", desk.script.line(), warning(origin), listing(summary(desk))]
-    parts.append(section("try", "The ring", f'<div class="step"><figure class="ring-figure">{svg}</figure>{chooser(desk)}</div>'))
+    filter_line = html('<p class="tools" hidden><label>Only customers with <input id="filter" type="search"></label></p>')
+    parts = [html("<h1>{}</h1>", title), desk.script.line(), warning(origin), listing(summary(desk))]
+    parts.append(section("try", "The ring", html('<div class="step"><figure class="ring-figure">{}</figure>{}</div>', ring, chooser(desk))))
     parts.append(section("customers", "Customers", filter_line, customers(desk), note(*([FROM_RATES] if desk.components is not None else []), SEE_ORIGIN)))
     parts.append(section("matrix", "Spans by spans", matrix(desk), note(SEE_ORIGIN)))
     parts.append(section("worst", "The worst cases", table(f"Up to {WORST} cases of one or two failures", CASE_HEADS, worst), note(SEE_ORIGIN)))
     parts.append(section("alone", "Each failure alone", *cases(desk), note(SEE_ORIGIN)))
     parts.append(origin_section(desk, origin))
-    parts.append(f'<section id="signed"><h2>Signed</h2><table><thead>{heads(["", "name and signature", "date"])}</thead><tbody>{SIGNED}</tbody></table></section>')
-    parts.append(f'<script type="application/json" id="data">{data}</script>')
-    return whole(f"Desk: {title}", "\n".join(parts), ["desk.css"], ["tables.js", "desk.js"])
+    parts.append(html('<section id="signed"><h2>Signed</h2><table><thead>{}</thead><tbody>{}</tbody></table></section>', heads(["", "name and signature", "date"]), SIGNED))
+    parts.append(html('<script type="application/json" id="data">{}</script>', data(data_of(desk, drawing))))
+    return whole(f"Desk: {title}", lines(*parts), ["desk.css"], ["tables.js", "desk.js"])

@@ -111,7 +111,7 @@ def modules():
     for name in (*TOOLS, "install"):
         yield Path(name)
     for path in sorted((HOME / "tools" / "ringtools").rglob("*")):
-        if path.is_file() and path.suffix in (".py", ".css", ".js", ".lua") and path.name not in ("benching.py", "rows.py", "releasing.py"):
+        if path.is_file() and path.suffix in (".py", ".css", ".js", ".lua") and path.name not in ("benching.py", "opened.py", "rows.py", "releasing.py", "symbols.py"):
             yield path.relative_to(HOME / "tools")
 
 

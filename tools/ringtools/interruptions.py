@@ -4,10 +4,11 @@ from collections.abc import Sequence
 from dataclasses import dataclass, field
 
 from .cells import write_rows
+from .escaping import Markup, html
 from .failures import WORKS_STAGES
 from .fibre import Delays, delays_of, fibre_words
 from .kept import Store
-from .markup import count_of, escape
+from .markup import count_of
 from .origin import LAUNCHER, Origin
 from .plan import Circuit, Plan
 from .outages import frames_words, milliseconds, put_beside, read_outages
@@ -16,7 +17,6 @@ from .running import run_one
 from .writing import Folder
 
 COUNTER = LAUNCHER.with_name("sdhoutage")
-WITH_FIBRE = "Times with fibre add its delay by the lengths of <code>{}</code>, 5 microseconds for a kilometre: twice the way over protection for a whole switch. That is an estimate, and neither proved nor tested."
 BEGINNINGS = {"during": "as they begin", "after": "as they end", "waited": "after waiting"}
 FIELDS = ["Stage", "Circuit", "Customer", "Port", "Node", "Place", "Frames", "Milliseconds", "Jumps", "Still out", "Milliseconds with fibre"]
 NOT_COUNTED = "Fibre delay is not included."
@@ -77,11 +77,11 @@ class Interruptions:
 
     def cell(self, stage, circuit):
         if not self.is_hit(stage, circuit):
-            return "<td>–</td>" if self.of(stage, circuit).out else "<td>no</td>"
+            return html("<td>–</td>") if self.of(stage, circuit).out else html("<td>no</td>")
         outage = self.of(stage, circuit)
         words = "lost from then on" if outage.is_out_still else outage.words() if outage.out else count_of(outage.jumps, "jump")
         words += fibre_words(self.fibre_ms(stage, outage.longest, circuit)) if outage.out and not outage.is_out_still else ""
-        return f'<td class="changed-cell">{words}</td>'
+        return html('<td class="changed-cell">{}</td>', words)
 
     def stage_words(self, stage: str, plan: Plan) -> str:
         """Returns how many customers are interrupted in a stage, and for how long at most; empty where none is."""
@@ -102,19 +102,28 @@ class Interruptions:
     def words(self, plan):
         """How many customers are interrupted in each stage, and who for longest."""
         for stage in self.told_stages(plan.circuits):
-            yield f"<strong>Interrupted {BEGINNINGS[stage]}</strong>: {self.stage_words(stage, plan) or 'no customer'}."
+            yield html("<strong>Interrupted {}</strong>: {}.", BEGINNINGS[stage], self.stage_words(stage, plan) or "no customer")
             if alarm := self.stages[stage].alarm():
-                yield f"<strong>{escape(alarm)}</strong>"
+                yield html("<strong>{}</strong>", alarm)
 
 
-def note(interruptions):
-    """What was counted, or why nothing was."""
+def with_fibre(delays: Delays) -> Markup:
+    """Returns what is said of the milliseconds with fibre."""
+    return html(
+        "Times with fibre add its delay by the lengths of <code>{}</code>, 5 microseconds for a kilometre: twice the way over protection for a whole switch. "
+        "That is an estimate, and neither proved nor tested.",
+        delays.lengths.file,
+    )
+
+
+def note(interruptions: Interruptions) -> Markup:
+    """Returns what was counted, or why nothing was."""
     if interruptions.problem:
-        return f'<p class="alarm">How long customers are interrupted isn\'t known: {escape(interruptions.problem)}</p>'
-    fibre = WITH_FIBRE.format(escape(interruptions.delays.lengths.file)) if interruptions.delays else f"<strong>{NOT_COUNTED}</strong>"
-    counted = "A customer's interruption is that of the port which is longer without his bytes, in frames of 125 microseconds, as <code>sdhoutage</code> counts them."
+        return html('<p class="alarm">How long customers are interrupted isn\'t known: {}</p>', interruptions.problem)
+    fibre = with_fibre(interruptions.delays) if interruptions.delays else html("<strong>{}</strong>", NOT_COUNTED)
+    counted = html("A customer's interruption is that of the port which is longer without his bytes, in frames of 125 microseconds, as <code>sdhoutage</code> counts them.")
     jump = "A jump is a frame that doesn't follow the one before: no switch is hitless."
-    return f'<p class="note">{counted} {fibre} {jump}</p>'
+    return html('<p class="note">{} {} {}</p>', counted, fibre, jump)
 
 
 def count_case(store, beforehand, case) -> None:

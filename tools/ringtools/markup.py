@@ -1,13 +1,15 @@
 """What all pages share: their head, tables, lists and words. A page needs nothing besides itself."""
 
+from __future__ import annotations
+
 import base64
 import hashlib
 import re
-from collections.abc import Sequence
+from collections.abc import Iterable, Mapping, Sequence
 from functools import cache
-from html import escape as escaped
 from pathlib import Path
 
+from .escaping import Markup, html, joined, lines, written
 from .kept import ELSEWHERE, Answer
 from .origin import NOT_KNOWN, PROVED, now
 from .shown import shown
@@ -17,15 +19,11 @@ COMPARED = (
     "Of the 2349 bytes that a port delivers in a round a report shows the first 16, and the pointer value: "
     "these are compared with what the port is owed, the other 2333 are not."
 )
-HITLESS = (
+BREAK = html("<br>")
+HITLESS = html(
     "A report shows what holds once the ring is quiet. While a switch is made or cleared, and when what a switched span asks for changes, as by mending, "
     "its customers lose bytes: no switch is hitless. <code>sdhoutage</code> counts the frames."
 )
-
-
-def escape(text: object) -> str:
-    """Returns a text as markup that shows it, and does nothing else. Signs that can't be seen are shown as U+FFFD."""
-    return escaped(shown(text))
 
 
 @cache
@@ -68,50 +66,69 @@ def size_rules(body: str) -> str:
     return "\n".join([*found, *(f'[data-whole="{size}"] {{ --whole: {size}px; }}' for size in wide)])
 
 
-def whole(title, body, style=(), script=()):
-    """A page with these styles and scripts beside the common ones."""
-    scripts = [web(name) for name in ("page.js", *script)]
-    styles = "".join(map(web, ("palette.css", "page.css", "drawing.css", *style))) + size_rules(body) + foot_of_sheets(title)
+def whole(title: str, body: Markup, style: Sequence[str] = (), script: Sequence[str] = ()) -> str:
+    """Returns a page with these styles and scripts beside the common ones."""
+    inside, scripts = written(body), [web(name) for name in ("page.js", *script)]
+    styles = "".join(map(web, ("palette.css", "page.css", "drawing.css", *style))) + size_rules(inside) + foot_of_sheets(title)
     head = f'<meta charset="utf-8"><meta http-equiv="Content-Security-Policy" content="{policy(styles, scripts)}">'
     head += '<meta name="viewport" content="width=device-width, initial-scale=1">'
-    head += f'<meta name="color-scheme" content="light dark"><title>{escape(title)}</title><style>{styles}</style>'
+    head += f'<meta name="color-scheme" content="light dark"><title>{written(title)}</title><style>{styles}</style>'
     run = "".join(f"<script>{text}</script>" for text in scripts)
-    return f'<!DOCTYPE html>\n<html lang="en"><head>{head}</head>\n<body>\n<main>\n{body}\n</main>\n{run}</body></html>\n'
+    return f'<!DOCTYPE html>\n<html lang="en"><head>{head}</head>\n<body>\n<main>\n{inside}\n</main>\n{run}</body></html>\n'
 
 
-def heads(cells):
-    return "<tr>" + "".join(f'<th scope="col">{cell}</th>' for cell in cells) + "</tr>"
+def heads(cells: Iterable[object]) -> Markup:
+    return html("<tr>{}</tr>", joined(html('<th scope="col">{}</th>', cell) for cell in cells))
 
 
-def table(caption, titles, rows, changed=(), attributes=None):
-    """Cells are markup already, the first of a row its head; rows whose index is in `changed` are set off."""
-    body = ""
+def table(caption: str, titles: Iterable[object], rows: Iterable[Sequence[object]], changed=(), attributes=None) -> Markup:
+    """Returns a table. The first cell of a row is its head; rows whose index is in `changed` are set off."""
+    body = html("")
     for index, (first, *rest) in enumerate(rows):
-        kind = ' class="changed"' if index in changed else ""
+        kind = html(' class="changed"') if index in changed else ""
         more = attributes(index) if attributes else ""
-        body += f'<tr{kind}{more}><th scope="row" class="name">{first}</th>' + "".join(f"<td>{cell}</td>" for cell in rest) + "</tr>\n"
-    kind, head = caption.split()[0].lower(), f"<caption>{escape(caption)}</caption><thead>{heads(titles)}</thead>"
-    return f'<div class="wide"><table class="{kind}">{head}<tbody>\n{body}</tbody></table></div>'
+        cells = joined(html("<td>{}</td>", cell) for cell in rest)
+        body += html('<tr{}{}><th scope="row" class="name">{}</th>{}</tr>\n', kind, more, first, cells)
+    kind, head = caption.split()[0].lower(), html("<caption>{}</caption><thead>{}</thead>", caption, heads(titles))
+    return html('<div class="wide"><table class="{}">{}<tbody>\n{}</tbody></table></div>', kind, head, body)
 
 
-def listing(items, tag="ul"):
-    return f"<{tag}>" + "".join(f"<li>{item}</li>" for item in items) + f"</{tag}>"
+def listing(items: Iterable[object]) -> Markup:
+    return html("<ul>{}</ul>", joined(html("<li>{}</li>", item) for item in items))
 
 
-def folded(summary, inside, open=False):
-    return f"<details{' open' if open else ''}><summary>{summary}</summary>\n{inside}</details>"
+def section(name: str, title: str, *parts: object) -> Markup:
+    return html('<section id="{}"><h2>{}</h2>{}</section>', name, title, lines(*parts))
 
 
-def names(items, most=128):
-    """These one after the other; of very many only the first. No ring has more than 128 circuits."""
+def note(*sentences: object) -> Markup:
+    return html('<p class="note">{}</p>', joined(sentences, " "))
+
+
+def option(value: object, words: str) -> Markup:
+    """Returns what may be chosen in a list."""
+    return html('<option value="{}">{}</option>', value, words)
+
+
+def folded(summary: object, inside: object, open: bool = False) -> Markup:
+    return html("<details{}><summary>{}</summary>\n{}</details>", " open" if open else "", summary, inside)
+
+
+def names(items: Iterable[str], most: int = 128) -> str:
+    """Returns these one after the other; of very many only the first. No ring has more than 128 circuits."""
     items = list(items)
     shown = ", ".join(items[:most])
     return shown + (f" and {len(items) - most} more" if len(items) > most else "")
 
 
-def unbroken(words):
-    """Markup in which the name of a span stays on one line."""
-    return escape(words).replace("–", "&#8288;–&#8288;")
+def codes(texts: Iterable[str]) -> Markup:
+    """Returns steps or names of files, one after the other."""
+    return joined((html("<code>{}</code>", text) for text in texts), ", ")
+
+
+def unbroken(words: str) -> Markup:
+    """Returns words in which the name of a span stays on one line."""
+    return joined(words.split("–"), html("&#8288;–&#8288;"))
 
 
 def count_of(number, one, many=None):
@@ -119,21 +136,20 @@ def count_of(number, one, many=None):
 
 
 def moment_words(date: str) -> str:
-    """Returns a moment as markup."""
-    return escape(date.replace("T", " ").removesuffix("Z") + " UTC" if date else "not known")
+    return date.replace("T", " ").removesuffix("Z") + " UTC" if date else "not known"
 
 
-def dates_words(dates):
+def dates_words(dates: Sequence[str]) -> str:
     first, last = min(dates, default=""), max(dates, default="")
     return moment_words(first) if first == last else f"{moment_words(first)} to {moment_words(last)}"
 
 
-def warning(origin):
-    """What has to be read before anything else of answers whose program isn't proved."""
+def warning(origin) -> Markup:
+    """Returns what has to be read before anything else of answers whose program isn't proved."""
     program = origin.program
     if program is not None and program.proof == NOT_KNOWN:
-        return '<p class="alarm"><strong>It isn\'t known whether the program that answered is proved.</strong></p>'
-    return ""
+        return html('<p class="alarm"><strong>It isn\'t known whether the program that answered is proved.</strong></p>')
+    return html("")
 
 
 def answers_words(answers: Sequence[Answer]) -> str:
@@ -145,17 +161,22 @@ def answers_words(answers: Sequence[Answer]) -> str:
     return f"{count_of(len(answers), 'answer')}: {', '.join(words)}"
 
 
-def origin_list(origin):
-    """Program, proved or not, version, date and checksums."""
-    program, code = origin.program, lambda words: f"<code>{escape(words)}</code>"
+def terms(found: Mapping[str, object]) -> Markup:
+    """Returns the terms of a list of definitions with what each is."""
+    return joined(html("<dt>{}</dt><dd>{}</dd>", name, words) for name, words in found.items())
+
+
+def origin_list(origin) -> Markup:
+    """Returns program, proved or not, version, date and checksums."""
+    program, code = origin.program, lambda words: html("<code>{}</code>", words)
     told = program.lines() if program else {}
     proved = "yes" if told.get("proof") == PROVED else "not known"
     if any(answer.where == ELSEWHERE for answer in origin.answers):
         proved += ", by the word of the machines that ran it"
-    lines = {
-        "Program": code(told["program"]) if told else escape(origin.note),
+    told_of = {
+        "Program": code(told["program"]) if told else origin.note,
         "Proved": proved,
-        "Version": escape(told.get("version", "not known")),
+        "Version": told.get("version", "not known"),
         "Program's checksum": code(told["sum"]) if told else "not known",
         "Plan": code(origin.plan),
         "Plan's checksum": code(origin.plan_sum),
@@ -164,5 +185,4 @@ def origin_list(origin):
         **({"Answers": answers_words(origin.answers)} if origin.answers else {}),
         "Page written": moment_words(now()),
     }
-    inside = "".join(f"<dt>{name}</dt><dd>{words}</dd>" for name, words in lines.items())
-    return f'<dl class="origin">{inside}</dl>' + '<p class="note">Checksums are SHA-256.</p>'
+    return html('<dl class="origin">{}</dl><p class="note">Checksums are SHA-256.</p>', terms(told_of))

@@ -5,15 +5,15 @@ That is what customers lose as the fibres of these spans are cut, and as they ar
 
 from __future__ import annotations
 
-import re
 from collections.abc import Iterator
 from dataclasses import dataclass
 
+from .escaping import Markup, html, joined
 from .failures import OPENING_STAGES, Beforehand, Case, span_fibres
 from .fibre import Lengths, delays_of
 from .interruptions import Interruptions, count_case
 from .kept import Store
-from .markup import escape, names
+from .markup import names
 from .model import Scene, scenes
 from .outages import read_outages
 from .plan import Plan
@@ -30,6 +30,11 @@ def during(beforehand: Beforehand, works: Case) -> Scene:
 def freed_spans(plan: Plan, scene: Scene) -> list[int]:
     """Returns the spans that are applied during the works and have a switch at an end: those that may be opened."""
     return [span for span in sorted(scene.applied) if any(scene.commands[end] for end in span_fibres(plan, span))]
+
+
+def with_orders(words: str) -> Markup:
+    """Returns words in which what stands between backquotes is an order."""
+    return joined(html("<code>{}</code>", part) if number % 2 else part for number, part in enumerate(words.split("`")))
 
 
 @dataclass(frozen=True)
@@ -68,13 +73,12 @@ class Opening:
         first = f"{called} can't be opened under this order without interruptions"
         return ". ".join([first, told[0].upper() + told[1:], *self.sides()]) + "."
 
-    def line(self) -> str:
-        """Returns the words as markup, the first sentence set off where the spans can't be opened."""
-        shown = re.sub("`(.*?)`", r"<code>\1</code>", escape(self.words()))
+    def line(self) -> Markup:
+        """Returns the words, the first sentence set off where the spans can't be opened."""
         if not self.counted.problem and not self.costs():
-            return shown
-        first, end, rest = shown.partition(". ")
-        return f"<strong>{first}</strong>{end}{rest}"
+            return with_orders(self.words())
+        first, end, rest = self.words().partition(". ")
+        return html("<strong>{}</strong>{}{}", with_orders(first), end, with_orders(rest))
 
 
 def opening_case(beforehand: Beforehand, works: Case) -> Case:

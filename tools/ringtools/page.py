@@ -2,9 +2,10 @@
 
 from . import drawing
 from .customers import circuit_table, outcome, port_table, steps_table
+from .escaping import drawn, html, joined, lines
 from .legend import legend
 from .look import condition_words
-from .markup import COMPARED, HITLESS, count_of, escape, folded, listing, origin_list, table, warning, whole
+from .markup import BREAK, COMPARED, HITLESS, count_of, folded, listing, origin_list, table, warning, whole
 from .model import REQUEST_NAMES
 from .reasons import refusal, where
 from .report import STATES
@@ -21,8 +22,8 @@ HINT = "Click or tap a circuit, node or fibre; or go there with Tab and the arro
 def word_cell(look, at, side):
     """A K word, set off where it isn't that of the step before."""
     word = getattr(look.settled.nodes[at], side)
-    kind = ' class="changed-cell"' if (at, side) in look.changed_words else ""
-    return f"<span{kind}><code>{word.hexadecimal()}</code> {escape(word.words())}</span>"
+    kind = html(' class="changed-cell"') if (at, side) in look.changed_words else ""
+    return html("<span{}><code>{}</code> {}</span>", kind, word.hexadecimal(), word.words())
 
 
 def node_table(look):
@@ -33,7 +34,7 @@ def node_table(look):
         requests = [f"{side}: {REQUEST_NAMES[look.scene.requests[at, side]]}" for side in ("west", "east") if look.scene.requests[at, side]]
         commands = [f"{side}: {look.scene.commands[at, side]}" for side in ("west", "east") if look.scene.commands[at, side]]
         cells = [STATES[told.state], word_cell(look, at, "west"), word_cell(look, at, "east")] if told else ["not told", "", ""]
-        rows.append([escape(plan.node_name(at)), *cells, "<br>".join(requests), "<br>".join(commands)])
+        rows.append([plan.node_name(at), *cells, joined(requests, BREAK), joined(commands, BREAK)])
     changed = look.changed_nodes | {at for at, _ in look.changed_commands}
     return table("Nodes", heads, rows, changed)
 
@@ -47,24 +48,23 @@ def span_table(look):
         applied = "applied" if span in look.scene.applied else ""
         conditions = [condition_words(look.scene.conditions[fibre]) for fibre in fibres]
         west, east = plan.ends(span)
-        rows.append([escape(plan.span_title(span)), f"{west} → {east}: {conditions[0]}", f"{east} → {west}: {conditions[1]}", REQUEST_NAMES[request], applied])
+        rows.append([plan.span_title(span), f"{west} → {east}: {conditions[0]}", f"{east} → {west}: {conditions[1]}", REQUEST_NAMES[request], applied])
     return table("Spans", ["span", "eastward fibre", "westward fibre", "request", ""], rows, changed)
 
 
 def told_otherwise(look):
     """What the text says besides nodes and ports: a chunk of `drop`, counts of `big`."""
     if look.settled.counts is not None:
-        return "<p>{} ports deliver bytes, {} AIS.</p>".format(*look.settled.counts)
+        return html("<p>{} ports deliver bytes, {} AIS.</p>", *look.settled.counts)
     if look.settled.chunk is None:
         return ""
     if not look.settled.chunk:
-        return "<p>The port that was asked for delivers AIS.</p>"
-    lines = "\n".join(line.hex() for line in look.settled.chunk)
-    return f'<p>The port that was asked for delivers this chunk, nine lines of 261 bytes:</p><pre class="wide"><code>{lines}</code></pre>'
+        return html("<p>The port that was asked for delivers AIS.</p>")
+    return html('<p>The port that was asked for delivers this chunk, nine lines of 261 bytes:</p><pre class="wide"><code>{}</code></pre>', lines(*(line.hex() for line in look.settled.chunk)))
 
 
 def in_columns(items):
-    return f'<div class="changes">{listing(items)}</div>'
+    return html('<div class="changes">{}</div>', listing(items))
 
 
 def changes(look):
@@ -72,45 +72,45 @@ def changes(look):
     if look.before is None:
         return ""
     ring = {kind: found for kind, found in look.ring_changes().items() if found}
-    customers = [escape(change) for change in look.customer_changes()]
+    customers = list(look.customer_changes())
     if not ring and not customers:
-        return "<h3>Changed since the step before</h3><p>Nothing.</p>"
+        return html("<h3>Changed since the step before</h3><p>Nothing.</p>")
     counts = ", ".join(count_of(len(found), kind) for kind, found in ring.items())
-    rest = [escape(change) for found in ring.values() for change in found]
-    shown = in_columns(customers) if customers else "<p>No customer's way.</p>"
-    return "<h3>Changed since the step before</h3>" + shown + (folded(f"In the ring: {counts}", in_columns(rest)) if rest else "")
+    rest = [change for found in ring.values() for change in found]
+    shown = in_columns(customers) if customers else html("<p>No customer's way.</p>")
+    return html("<h3>Changed since the step before</h3>{}", shown) + (folded(f"In the ring: {counts}", in_columns(rest)) if rest else "")
 
 
 def figure(look):
-    drawn = drawing.Drawing(look, page=True)
-    kind = "step large" if drawn.m.wide > 700 else "step"
-    told = f'<figcaption class="told" aria-live="polite" hidden>{HINT}</figcaption>'
-    return kind, f'<figure class="figure"><div class="frame">{drawing.written(drawn.draw())}</div>{told}</figure>'
+    picture = drawing.Drawing(look, page=True)
+    kind = "step large" if picture.m.wide > 700 else "step"
+    told = html('<figcaption class="told" aria-live="polite" hidden>{}</figcaption>', HINT)
+    return kind, html('<figure class="figure"><div class="frame">{}</div>{}</figure>', drawn(picture.draw()), told)
 
 
 def step_section(look):
-    script = [f"<code>{escape(step.text)}</code>" for step in look.scene.steps] or ["nothing"]
-    parts = [f'<section id="step{look.scene.number}"><h2>{look.title()}</h2>']
-    parts.append(f"<p>Moment {look.scene.moment}. The script did before it: " + ", ".join(script) + ".</p>")
+    script = [html("<code>{}</code>", step.text) for step in look.scene.steps] or ["nothing"]
+    parts = [html('<section id="step{}"><h2>{}</h2>', look.scene.number, look.title())]
+    parts.append(html("<p>Moment {}. The script did before it: {}.</p>", look.scene.moment, joined(script, ", ")))
     if look.wrong_ports():
         names = ", ".join(f"{name} {end}" for name, end in look.wrong_ports())
-        parts.append(f'<p class="alarm">Not what the restoration model says: port {escape(names)}.</p>')
+        parts.append(html('<p class="alarm">Not what the restoration model says: port {}.</p>', names))
     if look.settled.outages:
         alarm = look.settled.outages.alarm()
-        parts += [f'<p class="alarm">{escape(alarm)}</p>'] if alarm else []
-        parts.append(f"<p>{escape(look.settled.outages.words())}</p>")
-    kind, drawn = figure(look)
+        parts += [html('<p class="alarm">{}</p>', alarm)] if alarm else []
+        parts.append(html("<p>{}</p>", look.settled.outages.words()))
+    kind, shown = figure(look)
     beside, below = ("", circuit_table(look)) if "large" in kind else (circuit_table(look), "")
-    parts.append(f'<div class="{kind}"><div>{told_otherwise(look) or outcome(look)}{changes(look)}{beside}</div>{drawn}</div>{below}')
-    parts.append(folded("What each port delivers, each node sends, and each span asks for", port_table(look) + node_table(look) + span_table(look)) + "</section>")
-    return "\n".join(parts)
+    parts.append(html('<div class="{}"><div>{}{}{}</div>{}</div>{}', kind, told_otherwise(look) or outcome(look), changes(look), beside, shown, below))
+    parts.append(folded("What each port delivers, each node sends, and each span asks for", port_table(look) + node_table(look) + span_table(look)) + html("</section>"))
+    return lines(*parts)
 
 
 def squelch_section(plan, lines):
     if not plan.circuits:
-        return "<p>The plan has no circuits, so the squelch tables are empty.</p>"
-    node = lambda number: escape(plan.places.node(number))
-    rows = [[node(line.node), line.side, str(line.slot), escape(line.name), node(line.start), node(line.end)] for line in lines]
+        return html("<p>The plan has no circuits, so the squelch tables are empty.</p>")
+    node = lambda number: plan.places.node(number)
+    rows = [[node(line.node), line.side, str(line.slot), line.name, node(line.start), node(line.end)] for line in lines]
     return table("Squelch tables: the circuits on each node's spans", ["node", "side", "slot", "circuit", "from", "to"], rows)
 
 
@@ -119,29 +119,29 @@ def script_list(document, place):
     steps = document.get("script") if isinstance(document, dict) else None
     if not isinstance(steps, list):
         return ""
-    shown = [f'<li{" class=changed" if i + 1 == place else ""}><code>{escape(str(step))}</code></li>' for i, step in enumerate(steps)]
-    return "<h3>The script</h3><ol>" + "".join(shown) + "</ol>"
+    shown = [html("<li{}><code>{}</code></li>", " class=changed" if i + 1 == place else "", step) for i, step in enumerate(steps)]
+    return html("<h3>The script</h3><ol>{}</ol>", joined(shown))
 
 
 def refused_page(title, report, document, problem, origin):
-    parts = [f"<h1>{escape(title)}</h1>", warning(origin), f'<div class="alarm"><strong>The program refused this.</strong> {escape(refusal(report.last, report.reason))}']
+    parts = [html("<h1>{}</h1>", title), warning(origin), html('<div class="alarm"><strong>The program refused this.</strong> {}', refusal(report.last, report.reason))]
     if report.reason is not None:
-        parts.append(f" It is {escape(where(document, report.reason, report.place))}.")
-    parts.append(f'</div><p>The program\'s text: <code>{escape(report.last)}</code></p>')
+        parts.append(f" It is {where(document, report.reason, report.place)}.")
+    parts.append(html('</div><p>The program\'s text: <code>{}</code></p>', report.last))
     if problem and (report.reason is not None or report.last == "not toml"):
-        parts.append(f'<p class="note">Read here, the plan shows: {escape(problem)}.</p>')
+        parts.append(html('<p class="note">Read here, the plan shows: {}.</p>', problem))
     from_step = report.reason is not None and 22 <= report.reason <= 31
     parts.append(script_list(document, report.place if from_step else None))
     parts.append(source(origin))
-    return whole(title, "\n".join(parts))
+    return whole(title, lines(*parts))
 
 
 def ending(plan, report):
     """How the run ended, where it isn't simply done."""
     if report.unsettled is not None:
-        return f'<p class="alarm">Settle step {report.unsettled} didn\'t settle within the limit of {plan.limit} rounds; the run ended there.</p>'
+        return html('<p class="alarm">Settle step {} didn\'t settle within the limit of {} rounds; the run ended there.</p>', report.unsettled, plan.limit)
     if not report.done:
-        return f'<p class="alarm">The run broke off: {escape(report.last)}. {escape(refusal(report.last, None))}</p>'
+        return html('<p class="alarm">The run broke off: {}. {}</p>', report.last, refusal(report.last, None))
     return ""
 
 
@@ -151,38 +151,39 @@ def about(plan):
 
 
 def source(origin):
-    return f'<section id="source"><h2>Where this comes from</h2>{origin_list(origin)}<p class="note">{COMPARED}</p></section>'
+    return html('<section id="source"><h2>Where this comes from</h2>{}<p class="note">{}</p></section>', origin_list(origin), COMPARED)
 
 
 def in_short(origin):
     """Program, proof and plan in one line."""
     program = origin.program
-    shown = f"{escape(program.version or 'A program')}, {escape(program.proof)}" if program else "By which program isn't known"
-    return f'<p class="note">{shown}; plan <code>{origin.plan_sum[:12]}</code>: <a href="#source">where this comes from</a>.</p>'
+    shown = f"{program.version or 'A program'}, {program.proof}" if program else "By which program isn't known"
+    return html('<p class="note">{}; plan <code>{}</code>: <a href="#source">where this comes from</a>.</p>', shown, origin.plan_sum[:12])
 
 
 def tools():
-    return '<p class="tools" hidden><button type="button" class="unfold">unfold all</button> what is folded isn\'t printed.</p>'
+    return html('<p class="tools" hidden><button type="button" class="unfold">unfold all</button> what is folded isn\'t printed.</p>')
 
 
 def outages_note(beside):
     """What `out` means on the page, and which text has it."""
     name, sum_ = beside
-    return f'<p class="note">{OUT} Outages are from <code>{escape(name)}</code>, whose checksum is <code>{sum_[:12]}</code>.</p>'
+    return html('<p class="note">{} Outages are from <code>{}</code>, whose checksum is <code>{}</code>.</p>', OUT, name, sum_[:12])
 
 
 def run_page(title, plan, report, looks, origin, beside=None):
     """`beside` is the name and the checksum of the text that has outages, where there is one."""
-    parts = [f"<h1>{escape(title)}</h1>", warning(origin), ending(plan, report)]
-    parts += [f"<p>{about(plan)}</p>", in_short(origin), tools()]
+    parts = [html("<h1>{}</h1>", title), warning(origin), ending(plan, report)]
+    parts += [html("<p>{}</p>", about(plan)), in_short(origin), tools()]
     if beside and looks:
         parts.append(outages_note(beside))
     if report.kind == "check":
         parts.append(squelch_section(plan, report.table))
     if len(looks) > 1 and plan.circuits and report.kind == "run":
-        parts += [steps_table(looks), f'<p class="note">{HITLESS}</p>']
+        parts += [steps_table(looks), html('<p class="note">{}</p>', HITLESS)]
     elif len(looks) > 1:
-        parts.append('<p class="jumps">' + " · ".join(f'<a href="#step{look.scene.number}">{look.title()}</a>' for look in looks) + "</p>")
+        jumps = (html('<a href="#step{}">{}</a>', look.scene.number, look.title()) for look in looks)
+        parts.append(html('<p class="jumps">{}</p>', joined(jumps, " · ")))
     parts += [folded("What the marks mean", legend())] if looks else []
     parts += [step_section(look) for look in looks]
-    return whole(title, "\n".join([*parts, source(origin)]))
+    return whole(title, lines(*parts, source(origin)))

@@ -15,7 +15,8 @@ from pathlib import Path
 
 from .build import HOME, PROGRAMS, Record, read_build, sum_of, version, write_build
 from .files import read_path
-from .installing import DOC, MAN, TOOLS, Piece, is_run, modules, pieces, put, released, texts, words_of_the_field
+from .installing import DOC, LIB, MAN, TOOLS, Piece, is_run, modules, pieces, put, released, texts, words_of_the_field
+from .symbols import LoadedSymbols, without_symbols
 from .writing import Folder, named_folder
 
 DIST = HOME / "dist"
@@ -47,10 +48,6 @@ Files: *
 Copyright: 2026 the authors of sdhring
 License: none-chosen
  No licence has been chosen yet. All rights are with the authors.
-"""
-OVERRIDES = """\
-# The files are what is proved, to the byte, and so they are left as they were built.
-sdhring: unstripped-binary-or-object [usr/lib/sdhring/sdh*]
 """
 # What Python leaves beside the modules when the administrator starts a tool.
 PRERM = """\
@@ -227,18 +224,28 @@ def with_place(script: bytes) -> bytes:
     return script
 
 
+def without_their_symbols(found: dict[str, Piece]) -> dict[str, Piece]:
+    """Returns the programs of these pieces as a package has them, and a BUILD with the checksums of these. Raises ReleaseProblem."""
+    try:
+        programs = {name: Piece(without_symbols(found[f"{LIB}/{name}"].data), is_run=True) for name in PROGRAMS}
+    except LoadedSymbols as problem:
+        raise ReleaseProblem(f"a program of dist/: {problem}") from problem
+    records = read_build(found[f"{LIB}/BUILD"].data.decode("ascii"))
+    build = write_build([replace(record, sum=sum_of(programs[record.name].data)) for record in records])
+    return {f"{LIB}/{name}": piece for name, piece in programs.items()} | {f"{LIB}/BUILD": Piece(build.encode("ascii"))}
+
+
 def debian_pieces(root: Folder, moment: int) -> None:
     """Puts below a root what the package has."""
     usr = root.inside("usr", 0o755)
     found = pieces({name: DIST / name for name in PROGRAMS}, Path("/usr"))
-    for name, piece in found.items():
+    for name, piece in (found | without_their_symbols(found)).items():
         if name.startswith(f"{MAN}/") and not piece.link:
             put(usr, f"{name}.gz", Piece(packed(piece.data)))
         else:
             put(usr, name, replace(piece, data=with_place(piece.data)))
     put(usr, f"{DOC}/copyright", Piece(COPYRIGHT.encode()))
     put(usr, f"{DOC}/changelog.gz", Piece(packed(changelog(moment).encode())))
-    put(usr, "share/lintian/overrides/sdhring", Piece(OVERRIDES.encode()))
 
 
 def debian_package(path: Path, folder: Path, moment: int) -> None:

@@ -5,7 +5,8 @@ from __future__ import annotations
 from dataclasses import dataclass
 
 from .desktable import Namer, last_scene
-from .markup import escape
+from .escaping import Markup, html
+from .markup import codes
 from .model import CLEAR, CUT, WAIT, Scene, span_requests
 from .places import Places
 from .plan import Plan
@@ -56,17 +57,19 @@ class ScriptLeft:
         switches = [namer.name(command, *place) for place, command in sorted(self.switches.items())]
         return fibres + switches + [f"{namer.name('span', span, '')} waits to restore" for span in self.waiting]
 
-    def line(self) -> str:
-        """Returns the first line of a page about the ring that the script left, as markup; empty if it only settles."""
+    def line(self) -> Markup:
+        """Returns the first line of a page about the ring that the script left; empty if it only settles."""
         if not self.steps:
-            return ""
-        steps = ", ".join(f"<code>{escape(step)}</code>" for step in self.steps)
+            return html("")
+        steps = codes(self.steps)
         if not self.is_something:
-            return f'<p class="script">The plan\'s script comes first, and leaves nothing: {steps}.</p>'
-        left = escape("; ".join(self.words()))
-        return (
-            f"<p class=\"script alarm\"><strong>The ring isn't whole.</strong> The plan's script comes first: {steps}. "
-            f"It leaves: <strong>{left}</strong>. All that follows is beside that.</p>"
+            return html('<p class="script">The plan\'s script comes first, and leaves nothing: {}.</p>', steps)
+        left = "; ".join(self.words())
+        return html(
+            '<p class="script alarm"><strong>The ring isn\'t whole.</strong> The plan\'s script comes first: {}. '
+            "It leaves: <strong>{}</strong>. All that follows is beside that.</p>",
+            steps,
+            left,
         )
 
 

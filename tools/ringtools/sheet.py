@@ -6,11 +6,12 @@ from collections.abc import Iterator
 from dataclasses import replace
 
 from . import drawing
+from .escaping import Markup, drawn, html, joined, lines
 from .failures import Beforehand, Case, span_fibres
 from .fibre import fibre_words
 from .inshort import WorksInShort
 from .look import Look, looks
-from .markup import count_of, escape, listing, moment_words, names, table
+from .markup import count_of, listing, moment_words, names, table
 from .model import scenes
 from .opening import Opening
 from .origin import now
@@ -49,11 +50,11 @@ def cost_of(short: WorksInShort, stage: str) -> list[str]:
     return [str(len(breaks)), f"{count_of(most, 'frame')}, {milliseconds(most)} ms{fibre_words(max(ms, default=None))}", ", ".join(rest)]
 
 
-def stage_table(beforehand: Beforehand, short: WorksInShort) -> str:
+def stage_table(beforehand: Beforehand, short: WorksInShort) -> Markup:
     """Returns the stages of the order, each with its steps and the frames that it costs."""
     rows = []
     for name, called, steps in stages_of(beforehand, short.opening):
-        rows.append([called, "; ".join(f"<code>{escape(step)}</code>" for step in steps), *cost_of(short, name)])
+        rows.append([called, joined((html("<code>{}</code>", step) for step in steps), "; "), *cost_of(short, name)])
     return table("Stages of the order", ["stage", "steps", "customers interrupted", "at most", "besides"], rows)
 
 
@@ -65,16 +66,16 @@ def touched(short: WorksInShort) -> list[Circuit]:
     return [circuit for circuit in short.plan.circuits if short.before and (differs(circuit) or circuit in hit)]
 
 
-def customer_table(short: WorksInShort, found: list[Circuit]) -> str:
+def customer_table(short: WorksInShort, found: list[Circuit]) -> Markup:
     breaks, rows = short.breaks(), []
     for number, circuit in enumerate(found[:MOST], 1):
         during = short.during.cells[circuit.name].words() if short.during else "–"
         frames, ms = breaks.get(circuit, (0, 0.0))
         out = f"{milliseconds(frames)} ms{fibre_words(ms if short.counted.delays else None)}" if frames else "–"
-        rows.append([f"#{number} {escape(short.plan.circuit_name(circuit))}", during, out])
-    more = [escape(short.plan.places.circuit(circuit.name)) for circuit in found[MOST:]]
-    rest = f"<p>And {len(more)} more, in the annex: {names(more, 3 * MOST)}.</p>" if more else ""
-    return (table("Touched customers", ["customer", "during the works", "interrupted at most"], rows) if rows else "<p>No customer is touched.</p>") + rest
+        rows.append([f"#{number} {short.plan.circuit_name(circuit)}", during, out])
+    more = [short.plan.places.circuit(circuit.name) for circuit in found[MOST:]]
+    rest = html("<p>And {} more, in the annex: {}.</p>", len(more), names(more, 3 * MOST)) if more else ""
+    return (table("Touched customers", ["customer", "during the works", "interrupted at most"], rows) if rows else html("<p>No customer is touched.</p>")) + rest
 
 
 def during_look(beforehand: Beforehand, case: Case, text: bytes, found: list[Circuit]) -> Look | None:
@@ -90,24 +91,24 @@ def during_look(beforehand: Beforehand, case: Case, text: bytes, found: list[Cir
     return looks(few, scenes(plan, [step.round for step in settled]), settled)[case.settles]
 
 
-def figure(look: Look | None) -> str:
+def figure(look: Look | None) -> Markup:
     """Returns the drawing."""
     if look is None:
-        return ""
-    drawn = drawing.Drawing(look, page=True)
-    return f'<figure class="figure"><div class="frame">{drawing.written(drawn.draw())}</div></figure>'
+        return html("")
+    picture = drawing.Drawing(look, page=True)
+    return html('<figure class="figure"><div class="frame">{}</div></figure>', drawn(picture.draw()))
 
 
-def first_sheet(asked, short: WorksInShort, text: bytes) -> str:
+def first_sheet(asked, short: WorksInShort, text: bytes) -> Markup:
     """Returns the sheet of what was asked, by the report of the works."""
     beforehand, found = asked.beforehand, touched(short)
     plan = beforehand.plan
-    about = f"Plan <code>{escape(asked.plan)}</code>, STM-{plan.rate}, {plan.size} nodes, {count_of(len(plan.circuits), 'customer')}. Written {moment_words(now())}."
+    about = html("Plan <code>{}</code>, STM-{}, {} nodes, {}. Written {}.", asked.plan, plan.rate, plan.size, count_of(len(plan.circuits), "customer"), moment_words(now()))
     verdict = [*short.lines("; ".join(beforehand.order)), *([asked.second] if asked.second else [])]
-    drawn = figure(during_look(beforehand, short.verdict.case, text, found))
-    signs = "".join(f"<li>{words}<span></span></li>" for words in SIGNED)
-    parts = [f'<section class="sheet" id="order"><h2>Order: {escape("; ".join(beforehand.order))}</h2><p>{about}</p>']
-    parts += [listing(f"<strong>{escape(words)}</strong>" for words in verdict)]
-    parts += [f'<div class="halves"><div>{stage_table(beforehand, short)}{customer_table(short, found)}</div>{drawn}</div>']
-    parts += [f'<ul class="signs">{signs}</ul><p class="note">What follows are annexes. {escape(asked.heading()[0])}</p></section>']
-    return "\n".join(parts)
+    shown = figure(during_look(beforehand, short.verdict.case, text, found))
+    signs = joined(html("<li>{}<span></span></li>", words) for words in SIGNED)
+    parts = [html('<section class="sheet" id="order"><h2>Order: {}</h2><p>{}</p>', "; ".join(beforehand.order), about)]
+    parts += [listing(html("<strong>{}</strong>", words) for words in verdict)]
+    parts += [html('<div class="halves"><div>{}{}</div>{}</div>', stage_table(beforehand, short), customer_table(short, found), shown)]
+    parts += [html('<ul class="signs">{}</ul><p class="note">What follows are annexes. {}</p></section>', signs, asked.heading()[0])]
+    return lines(*parts)

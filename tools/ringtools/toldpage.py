@@ -7,7 +7,8 @@ from collections.abc import Iterator
 
 from .against import CHANGED, GAINS, LOSES
 from .desktable import ALL_KINDS, WHOLE
-from .markup import count_of, escape, folded, listing, names, origin_list, table, unbroken, warning, whole
+from .escaping import Markup, html, joined, lines
+from .markup import codes, count_of, folded, listing, names, origin_list, table, unbroken, warning, whole
 from .moves import OTHER_ENDS, OTHER_SLOT, OTHER_WAY
 from .page import tools
 
@@ -18,7 +19,7 @@ KIND_PLURALS = {"degraded": "fibres degraded", "fibre": "fibres cut", "span": "s
 DEPTH_WORDS = {1: "Each failure alone", 2: "Two failures", 3: "Three failures"}
 CASE_HEADS = ["failure", "kept", "kept, impaired", "over protection", "lost", "longest way in spans", "customers that are lost", "lost in a path ring", "run by frames too"]
 KIND_HEADS = ["failures", "cases", "customers are lost in", "at most", "besides ends of lost nodes in", "at most", "in a path ring in", "at most"]
-BY_PATHS = (
+BY_PATHS = html(
     "<strong>In a path ring</strong> a circuit is lost where one of its two ports has AIS, by the rule of path protection: "
     "only cut fibres count there, and no switch or degradation. It is computed by these tools."
 )
@@ -28,18 +29,18 @@ def frames_cell(told, case, checked):
     """Whether the case was run too, with a link to its drawing."""
     if case.failures not in checked:
         return ""
-    return f'<a href="cases/{told.name(case)}.html">{"differs" if checked[case.failures] else "the same"}</a>'
+    return html('<a href="cases/{}.html">{}</a>', told.name(case), "differs" if checked[case.failures] else "the same")
 
 
 def lost_words(told, case):
     """Who is lost; where a node is, those that end there apart."""
-    called = lambda found: escape(names(map(told.called.get, found)))
+    called = lambda found: names(map(told.called.get, found))
     besides, lost = told.besides(case), told.lost(case)
     if not told.lost_nodes(case) or not lost:
         return called(lost)
     ends = [name for name in lost if name not in besides]
     parts = [f"ending there: {called(ends)}"] if ends else []
-    return "; ".join([*parts, f"<strong>besides</strong>: {called(besides)}"] if besides else parts)
+    return joined([*parts, html("<strong>besides</strong>: {}", called(besides))] if besides else parts, "; ")
 
 
 def rows_of(told, cases, checked):
@@ -51,7 +52,7 @@ def rows_of(told, cases, checked):
 def by_model(told, program):
     """Which answers are whose, and what is proved of them."""
     proved = (
-        "It is proved to answer what the last report of <code>sdhring run</code> shows, over honest fibres and with a limit of at least 64n + 512."
+        html("It is proved to answer what the last report of <code>sdhring run</code> shows, over honest fibres and with a limit of at least 64n + 512.")
         if program.proved
         else f"This build of it is {program.proof}."
     )
@@ -59,30 +60,26 @@ def by_model(told, program):
     depth = {"single": "each failure alone", "double": "each failure alone and each two", "triple": "each failure alone, each two and each three"}[found.depth]
     part = "" if found.part == WHOLE else f"part {found.part[0]} of {found.part[1]} of "
     cases = f"{count_of(len(found.cases), 'case')}, {part}nothing more, {depth}"
-    return f"<strong>Without a frame:</strong> {cases}, in {found.seconds:.1f} s by <code>sdhwhatif</code>. {proved}"
-
-
-def codes(texts):
-    return ", ".join(f"<code>{escape(text)}</code>" for text in texts)
+    return html("<strong>Without a frame:</strong> {}, in {} s by <code>sdhwhatif</code>. {}", cases, f"{found.seconds:.1f}", proved)
 
 
 def asked_words(beforehand):
     """The state of the ring in which all of it was asked."""
     own = [step.text for step in beforehand.own if step.text != "settle"]
     if own:
-        yield f"<strong>After the plan's own script:</strong> {codes(own)}."
+        yield html("<strong>After the plan's own script:</strong> {}.", codes(own))
     if beforehand.left_out:
-        yield f"<strong>The plan's own script is left out</strong>, as <code>--without-script</code> asks: {codes(beforehand.left_out)}."
+        yield html("<strong>The plan's own script is left out</strong>, as <code>--without-script</code> asks: {}.", codes(beforehand.left_out))
     if beforehand.also:
-        yield f"<strong>Before each failure:</strong> {codes(beforehand.also_texts())}."
+        yield html("<strong>Before each failure:</strong> {}.", codes(beforehand.also_texts()))
     if beforehand.works:
-        yield f"<strong>During the works:</strong> {escape('; '.join(beforehand.order))}, which is {codes(beforehand.works_texts())}."
+        yield html("<strong>During the works:</strong> {}, which is {}.", "; ".join(beforehand.order), codes(beforehand.works_texts()))
 
 
 def named_nodes(plan):
     """The nodes with their places, where comments name some: steps have numbers alone."""
     if plan.places.nodes:
-        yield f"<strong>Nodes eastwards:</strong> {escape(names(map(plan.node_name, range(plan.size))))}."
+        yield html("<strong>Nodes eastwards:</strong> {}.", names(map(plan.node_name, range(plan.size))))
 
 
 def heading(file, beforehand):
@@ -96,9 +93,9 @@ def heading(file, beforehand):
 def by_frames(checked):
     odd = sum(bool(words) for words in checked.values())
     if not checked:
-        return "<strong>Run frame by frame:</strong> none of them."
-    return f"<strong>Run frame by frame:</strong> {count_of(len(checked), 'of these cases', 'of these cases')} by <code>sdhring</code>, " + (
-        f"<strong>{odd} of them differ</strong>." if odd else "and each shows what was answered about it."
+        return html("<strong>Run frame by frame:</strong> none of them.")
+    return html("<strong>Run frame by frame:</strong> {} by <code>sdhring</code>, ", count_of(len(checked), "of these cases", "of these cases")) + (
+        html("<strong>{} of them differ</strong>.", odd) if odd else "and each shows what was answered about it."
     )
 
 
@@ -145,7 +142,7 @@ def customers(told):
     rows = []
     for name in told.names:
         cells = [f"{every[name, depth]} of {totals[depth]}" if source is every else source[name, depth] for depth in counted for source in (every, besides, path)]
-        rows.append([escape(told.called[name]), "yes" if every[name, 0] else "no", *cells, unbroken("; ".join(first[name][:4]))])
+        rows.append([told.called[name], "yes" if every[name, 0] else "no", *cells, unbroken("; ".join(first[name][:4]))])
     return [*titles, "the first single ones besides its ends"], rows
 
 
@@ -161,20 +158,20 @@ def several(told, depth, checked):
     total = sum(1 for _ in told.table.of_depth(depth))
     words = f"{DEPTH_WORDS[depth]}: customers are lost in {count} of {total}"
     kinds = table("by kinds", KIND_HEADS, list(by_kinds(told, depth)))
-    return f"<section><h2>{words}</h2>{kinds}{table('the worst cases', CASE_HEADS, list(rows_of(told, shown, checked)))}</section>"
+    return html("<section><h2>{}</h2>{}{}</section>", words, kinds, table("the worst cases", CASE_HEADS, list(rows_of(told, shown, checked))))
 
 
 def alone(told, checked):
-    parts = ['<section id="alone"><h2>Each failure alone</h2>', table("by kinds", KIND_HEADS, list(by_kinds(told, 1)))]
+    parts = [html('<section id="alone"><h2>Each failure alone</h2>'), table("by kinds", KIND_HEADS, list(by_kinds(told, 1)))]
     parts.append(table("nothing more", CASE_HEADS, list(rows_of(told, told.table.of_depth(0), checked))))
     for kind in ALL_KINDS:
         cases = list(told.table.singles(kind))
         if cases:
             parts.append(table(KIND_PLURALS[kind], CASE_HEADS, list(rows_of(told, cases, checked))))
-    return "\n".join([*parts, "</section>"])
+    return lines(*parts, html("</section>"))
 
 
-def moved_words(against) -> Iterator[str]:
+def moved_words(against) -> Iterator[str | Markup]:
     """Who leads the other way round, or lies in another slot: a customer in service is interrupted where one plan takes the other's place."""
     if against.moves is None:
         yield "Whether customers lead the other way round, or lie in another slot, isn't in a table."
@@ -183,49 +180,49 @@ def moved_words(against) -> Iterator[str]:
     for kind, one, many, how in said:
         found = [move.called for move in against.moves if kind in move.kinds]
         if found:
-            yield f"<strong>{kind.capitalize()}</strong>: {count_of(len(found), f'customer {one}', f'customers {many}')} {how} than there: {escape(names(found))}."
+            yield html("<strong>{}</strong>: {} {} than there: {}.", kind.capitalize(), count_of(len(found), f"customer {one}", f"customers {many}"), how, names(found))
     if not against.moves:
         yield "Each customer leads the same way round as there, in the same slot."
 
 
 def against_section(against):
     """Who gains, who loses and who goes another way beside the other plan or table."""
-    counts, name, depths = against.counts(), escape(against.other.name), against.depths
+    counts, name, depths = against.counts(), against.other.name, against.depths
     of = lambda circuit, what: sum(counts[circuit, depth, what] for depth in depths)
     gains, loses, changed = ([circuit for circuit in against.shared if of(circuit, what)] for what in CHANGES)
-    called = lambda found: escape(names(map(against.called, found))) or "none"
-    words = [f"<strong>Gain</strong>, as they survive here and are lost there in some case: {called(gains)}."]
-    words.append(f"<strong>Lose</strong>, as they are lost here and survive there: {called(loses)}.")
-    words.append(f"<strong>Over protection</strong> in some case here or there, and on their own arc in the other: {called(changed)}.")
+    called = lambda found: names(map(against.called, found)) or "none"
+    words = [html("<strong>Gain</strong>, as they survive here and are lost there in some case: {}.", called(gains))]
+    words.append(html("<strong>Lose</strong>, as they are lost here and survive there: {}.", called(loses)))
+    words.append(html("<strong>Over protection</strong> in some case here or there, and on their own arc in the other: {}.", called(changed)))
     words += moved_words(against)
     words += [f"Only here: {called(against.only_here)}."] if against.only_here else []
     words += [f"Only there: {called(against.only_there)}."] if against.only_there else []
     if against.cases_here or against.cases_there:
         words.append(f"{against.cases_here} cases are only here, and {against.cases_there} only there; nothing is said of them.")
     titles = ["customer", *(f"{DEPTH_WORDS.get(depth, 'Nothing more').lower()}: {what}" for depth in depths for what in CHANGES)]
-    rows = [[escape(against.called(circuit)), *(counts[circuit, depth, what] for depth in depths for what in CHANGES)] for circuit in against.shared]
+    rows = [[against.called(circuit), *(counts[circuit, depth, what] for depth in depths for what in CHANGES)] for circuit in against.shared]
     shown = [row for row in rows if any(row[1:])]
-    same = "" if gains or loses else "<p>Every customer survives and is lost in the same cases.</p>"
+    same = "" if gains or loses else html("<p>Every customer survives and is lost in the same cases.</p>")
     body = listing(words) + same + (table("cases in which a customer gains, loses or goes another way", titles, shown) if shown else "")
-    return f'<section id="against"><h2>Beside {name}</h2>{body}</section>'
+    return html('<section id="against"><h2>Beside {}</h2>{}</section>', name, body)
 
 
 def beside_page(against):
     """The page of two tables alone."""
     title = f"{against.this.name} beside {against.other.name}"
-    return whole(title, f"<h1>{escape(title)}</h1>{against_section(against)}", ["whatif.css"])
+    return whole(title, html("<h1>{}</h1>{}", title, against_section(against)), ["whatif.css"])
 
 
 def told_page(title, beforehand, told, checked, origins, against=None):
     """`checked` has the differences of each case that was run, by its failures."""
     plan = beforehand.plan
-    parts = [f"<h1>{escape(title)}</h1>", *dict.fromkeys(warning(origin) for origin in origins if origin)]
+    parts = [html("<h1>{}</h1>", title), *dict.fromkeys(warning(origin) for origin in origins if origin)]
     room = told.path.room()
-    words = [*named_nodes(plan), *asked_words(beforehand), by_model(told, origins[0].program), by_frames(checked), f"{BY_PATHS} {room}".strip()]
+    words = [*named_nodes(plan), *asked_words(beforehand), by_model(told, origins[0].program), by_frames(checked), html("{} {}", BY_PATHS, room) if room else BY_PATHS]
     parts += [listing(words), tools(), against_section(against) if against else ""]
     if plan.circuits:
-        parts.append(f'<section id="customers"><h2>Customers</h2>{table("customers", *customers(told))}</section>')
+        parts.append(html('<section id="customers"><h2>Customers</h2>{}</section>', table("customers", *customers(told))))
     parts.append(alone(told, checked))
     parts += [several(told, depth, checked) for depth in told.depths() if depth > 1]
     parts += [folded("Where this comes from", origin_list(origin)) for origin in origins if origin]
-    return whole(title, "\n".join(parts), ["whatif.css"])
+    return whole(title, lines(*parts), ["whatif.css"])

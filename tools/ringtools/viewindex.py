@@ -2,7 +2,8 @@
 
 from urllib.parse import quote
 
-from .markup import escape, moment_words, names, table, whole
+from .escaping import html, lines
+from .markup import moment_words, names, table, whole
 from .origin import now
 
 HEADS = ["plan", "reports", "customers", "lost in the last report", "which", "ended with"]
@@ -15,20 +16,20 @@ def lost_in(settled):
 
 
 def row_of(stem, report):
-    link = f'<a href="{quote(stem)}.html">{escape(stem)}</a>'
+    link = html('<a href="{}.html">{}</a>', quote(stem), stem)
     if not report.settled or report.kind != "run":
-        return [link, len(report.settled), "", "", "", escape(report.last)]
+        return [link, len(report.settled), "", "", "", report.last]
     last = report.settled[-1]
     lost = lost_in(last)
-    return [link, len(report.settled), len({name for name, _ in last.ports}), len(lost), escape(names(lost)), escape(report.last)]
+    return [link, len(report.settled), len({name for name, _ in last.ports}), len(lost), names(lost), report.last]
 
 
 def missing_row(stem, problem):
-    return [escape(stem), "", "", "", "", f'<strong class="result-lost">no page: {escape(problem)}</strong>']
+    return [stem, "", "", "", "", html('<strong class="result-lost">no page: {}</strong>', problem)]
 
 
 def index_page(rows):
-    filter_line = '<p class="tools" hidden><label>Only plans with <input id="filter" type="search"></label></p>'
-    made = f'<p class="note">Written {moment_words(now())}.</p>'
-    parts = ["<h1>Runs</h1>", f'<section id="rings">{filter_line}{table("Runs", HEADS, rows)}</section>', made]
-    return whole("Runs", "\n".join(parts), ["desk.css"], ["tables.js"])
+    filter_line = html('<p class="tools" hidden><label>Only plans with <input id="filter" type="search"></label></p>')
+    made = html('<p class="note">Written {}.</p>', moment_words(now()))
+    parts = [html("<h1>Runs</h1>"), html('<section id="rings">{}{}</section>', filter_line, table("Runs", HEADS, rows)), made]
+    return whole("Runs", lines(*parts), ["desk.css"], ["tables.js"])

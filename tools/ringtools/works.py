@@ -2,10 +2,11 @@
 
 from .answers import SINGLE
 from .casetables import links, takes
+from .escaping import html, joined, lines
 from .failures import WORKS_STAGES
 from .interruptions import BEGINNINGS, note
 from .look import ends_words
-from .markup import HITLESS, count_of, escape, heads, listing, names
+from .markup import HITLESS, codes, count_of, heads, listing, names
 
 GIVES_WAY = "while people work there. A forced switch doesn't give way to a failure."
 SECOND = (*SINGLE, "node")
@@ -31,11 +32,11 @@ class Works:
         for name in WORKS_STAGES:
             stage, before = self.verdict.stage(name), self.verdict.stage("before")
             if stage is None:
-                yield f"<strong>{titles[name]}: no report.</strong> {escape(self.verdict.problem)}"
+                yield html("<strong>{}: no report.</strong> {}", titles[name], self.verdict.problem)
             elif name in ("after", "waited") and stage.cells == before.cells:
-                yield f"<strong>{titles[name]}</strong>: each customer as before."
+                yield html("<strong>{}</strong>: each customer as before.", titles[name])
             else:
-                yield f"<strong>{titles[name]}</strong>: {self.counts(name)}."
+                yield html("<strong>{}</strong>: {}.", titles[name], self.counts(name))
 
     def freed(self):
         """The spans that carry nothing on their working slots during the works."""
@@ -45,10 +46,10 @@ class Works:
     def cell(self, circuit, name):
         stage, before = self.verdict.stage(name), self.verdict.stage("before")
         if stage is None:
-            return "<td>–</td>"
+            return html("<td>–</td>")
         cell = stage.cells[circuit.name]
         changed = " changed-cell" if before and cell != before.cells[circuit.name] else ""
-        return f'<td class="result-{cell.kind}{changed}">{cell.words()}</td>'
+        return html('<td class="result-{}{}">{}</td>', cell.kind, changed, cell.words())
 
     def changed(self):
         """Customers that aren't as before in each stage that came, or that are interrupted in between."""
@@ -59,20 +60,20 @@ class Works:
         return [circuit for circuit in self.plan.circuits if before and (differs(circuit.name) or hit(circuit))]
 
     def row(self, circuit):
-        name, cells = escape(self.plan.circuit_name(circuit)), "".join(self.cell(circuit, name) for name in WORKS_STAGES)
-        cells += "".join(self.interruptions.cell(name, circuit) for name in self.counted)
-        return f'<tr><th scope="row" class="name">{name}</th>{cells}<td>{escape(ends_words(self.plan, circuit))}</td></tr>'
+        name, cells = self.plan.circuit_name(circuit), joined(self.cell(circuit, name) for name in WORKS_STAGES)
+        cells += joined(self.interruptions.cell(name, circuit) for name in self.counted)
+        return html('<tr><th scope="row" class="name">{}</th>{}<td>{}</td></tr>', name, cells, ends_words(self.plan, circuit))
 
     def table(self):
         """The customers that the works touch, stage by stage; the others by name."""
         changed = self.changed()
         same = [self.plan.places.circuit(circuit.name) for circuit in self.plan.circuits if circuit not in changed]
-        rows = "\n".join(map(self.row, changed))
+        rows = lines(*map(self.row, changed))
         titles = ["customer", "before", "during", "after", "after waiting"]
         titles += [*(f"interrupted {BEGINNINGS[name]}" for name in self.counted), "from, to"]
-        caption = "<caption>Customers that the works touch</caption>"
-        shown = f'<div class="wide"><table class="order">{caption}<thead>{heads(titles)}</thead><tbody>\n{rows}</tbody></table></div>'
-        rest = f"<p>Not touched by the works ({len(same)}): {escape(names(same))}.</p>" if same else ""
+        caption = html("<caption>Customers that the works touch</caption>")
+        shown = html('<div class="wide"><table class="order">{}<thead>{}</thead><tbody>\n{}</tbody></table></div>', caption, heads(titles), rows)
+        rest = html("<p>Not touched by the works ({}): {}.</p>", len(same), names(same)) if same else ""
         return (shown if changed else "") + rest
 
     def hurting(self):
@@ -90,15 +91,15 @@ class Works:
             return
         kinds = [f"a {kind}" for kind in SECOND if kind in self.answers.kinds]
         of_what = " or ".join(filter(None, [", ".join(kinds[:-1]), kinds[-1]]))
-        yield f"Customers are lost with <strong>{len(hurting)} of {count_of(len(asked), 'second failure')}</strong> of {of_what} during the works."
+        yield html("Customers are lost with <strong>{} of {}</strong> of {} during the works.", len(hurting), count_of(len(asked), "second failure"), of_what)
         safe, risked = [name for name in taken if not taken[name]], [name for name in taken if taken[name]]
         if risked:
-            yield f"At risk during the works: {escape(self.answers.customers(risked))}."
+            yield f"At risk during the works: {self.answers.customers(risked)}."
         if safe:
-            yield f"Survive all of them: {escape(self.answers.customers(safe))}."
-        freed = [escape(self.plan.span_title(span)) for span in sorted(self.freed())]
+            yield f"Survive all of them: {self.answers.customers(safe)}."
+        freed = [self.plan.span_title(span) for span in sorted(self.freed())]
         if freed and self.unfreed():
-            yield f"<strong>The switch gives way</strong> under {len(self.unfreed())} of them: traffic comes back to {names(freed)}, {GIVES_WAY}"
+            yield html("<strong>The switch gives way</strong> under {} of them: traffic comes back to {}, {}", len(self.unfreed()), names(freed), GIVES_WAY)
         elif freed:
             yield f"Free of traffic under each of them: {count_of(len(freed), 'span')}, {names(freed)}."
 
@@ -110,21 +111,21 @@ class Works:
         return found
 
     def hurting_table(self):
-        row = lambda taken, verdicts: f'<tr><th scope="row" class="name">{links(verdicts)}</th><td>{takes(self.answers, taken)}</td></tr>'
-        rows = "\n".join(row(*effect) for effect in self.by_effect().items())
-        head = f"<thead>{heads(['second failure', 'customers that are lost'])}</thead>"
-        return f'<div class="wide"><table class="second">{head}<tbody>\n{rows}</tbody></table></div>' if rows else ""
+        row = lambda taken, verdicts: html('<tr><th scope="row" class="name">{}</th><td>{}</td></tr>', links(verdicts), takes(self.answers, taken))
+        rows = lines(*(row(*effect) for effect in self.by_effect().items()))
+        head = html("<thead>{}</thead>", heads(["second failure", "customers that are lost"]))
+        return html('<div class="wide"><table class="second">{}<tbody>\n{}</tbody></table></div>', head, rows) if rows else ""
 
     def section(self):
         beforehand = self.answers.beforehand
-        steps = ", ".join(f"<code>{escape(text)}</code>" for text in beforehand.works_texts())
-        parts = [f'<section id="works"><h2>The works: {escape("; ".join(beforehand.order))}</h2><p>By {steps}.</p>']
+        steps = codes(beforehand.works_texts())
+        parts = [html('<section id="works"><h2>The works: {}</h2><p>By {}.</p>', "; ".join(beforehand.order), steps)]
         if self.verdict is None:
-            return parts[0] + "<p>The works themselves are in part 1.</p></section>"
-        drawn = '<p><a href="cases/works.html">The works, drawn stage by stage</a></p>' if self.verdict.stages else ""
+            return parts[0] + html("<p>The works themselves are in part 1.</p></section>")
+        drawn = html('<p><a href="cases/works.html">The works, drawn stage by stage</a></p>') if self.verdict.stages else ""
         hit = [*self.interruptions.words(self.plan)] if self.interruptions else []
         hit += [self.opening.line()] if self.opening and self.opening.words() else []
-        told = note(self.interruptions) if self.interruptions else f'<p class="note">{HITLESS}</p>'
+        told = note(self.interruptions) if self.interruptions else html('<p class="note">{}</p>', HITLESS)
         parts += [listing([*self.summary(), *hit]), self.table(), told, drawn]
-        parts += ["<h3>Which second failures hurt during the works</h3>", listing(self.second_words()), self.hurting_table(), "</section>"]
-        return "\n".join(parts)
+        parts += [html("<h3>Which second failures hurt during the works</h3>"), listing(self.second_words()), self.hurting_table(), html("</section>")]
+        return lines(*parts)

@@ -1,4 +1,5 @@
-"""References to crates, files and definitions in comments of sources and in documents, man pages, and the list of what is trusted."""
+"""References to crates, files and definitions in comments of sources and in documents, man pages, the list of what is trusted, and markup in tools."""
+import ast
 import re
 import unittest
 from pathlib import Path
@@ -156,6 +157,69 @@ class Layers(unittest.TestCase):
 
     def test_an_edge_by_another_crate_is_seen(self) -> None:
         self.assertEqual(below({"a": ["b"], "b": ["c"], "c": []}, "a"), {"b", "c"})
+
+
+TAG = re.compile(r"</?[a-z][a-z0-9]*[\s/>]|<!DOCTYPE|&#?[a-z0-9]+;")  # as it stands in a page
+ESCAPING, PAGES = "escaping.py", "markup.py"  # the module in which texts become markup, and that which puts pages together
+
+
+def texts_beside_markup(tree: ast.Module) -> dict[int, str]:
+    """Returns the texts of a module that aren't forms of `html` and document nothing, by their nodes."""
+    apart = {id(call.args[0]) for call in calls_of(tree, "html") if call.args}
+    apart |= {id(node.value) for node in ast.walk(tree) if isinstance(node, ast.Expr)}
+    return {id(node): node.value for node in ast.walk(tree) if isinstance(node, ast.Constant) and isinstance(node.value, str) and id(node) not in apart}
+
+
+def calls_of(tree: ast.Module, name: str) -> list[ast.Call]:
+    return [node for node in ast.walk(tree) if isinstance(node, ast.Call) and isinstance(node.func, ast.Name) and node.func.id == name]
+
+
+def imported(tree: ast.Module) -> set[str]:
+    """Returns what a module imports, each as `module.name`."""
+    found = {alias.name for node in ast.walk(tree) if isinstance(node, ast.Import) for alias in node.names}
+    of = lambda node: (f"{node.module}.{alias.name}" for alias in node.names)
+    return found | {name for node in ast.walk(tree) if isinstance(node, ast.ImportFrom) for name in of(node)}
+
+
+def past_the_type(source: str, name: str) -> list[str]:
+    """Returns how a module of this name would make markup of texts that nobody has escaped."""
+    tree, wrong = ast.parse(source), []
+    if any(not (call.args and isinstance(call.args[0], ast.Constant) and isinstance(call.args[0].value, str)) for call in calls_of(tree, "html")):
+        wrong.append("a form of html that isn't written out")
+    if name != ESCAPING and any(re.match(r"html(\.|$)|xml\.sax|.*\bescaping\.made$", one) for one in imported(tree)):
+        wrong.append("escapes by itself")
+    if name not in (ESCAPING, PAGES) and any(re.search(r"\bescaping\.written$", one) for one in imported(tree)):
+        wrong.append("takes a text out of markup")
+    makes_pages = any(re.search(r"\bescaping\.", one) for one in imported(tree)) and name not in (ESCAPING, PAGES)
+    if makes_pages and any(TAG.search(text) for text in texts_beside_markup(tree).values()):
+        wrong.append("a text with tags")
+    if re.search(r"\._written\b|object\.__new__", source) and name != ESCAPING:
+        wrong.append("reaches into the type")
+    return wrong
+
+
+class Pages(unittest.TestCase):
+    """What a page shows of a user's goes through the type of markup, which escapes it."""
+
+    def test_no_tool_makes_markup_of_texts(self) -> None:
+        tools = [*(TOP / "tools" / "ringtools").rglob("*.py"), *(TOP / "tools").glob("sdhring-*")]
+        for path in sorted(tools):
+            with self.subTest(path=path.relative_to(TOP)):
+                self.assertEqual(past_the_type(path.read_text(encoding="utf-8"), path.name), [])
+
+    def test_no_script_of_a_page_makes_markup_of_texts(self) -> None:
+        for path in sorted((TOP / "tools" / "ringtools" / "web").glob("*.js")):
+            with self.subTest(path=path.name):
+                self.assertIsNone(re.search(r"innerHTML|outerHTML|insertAdjacentHTML|document\.write|DOMParser|\beval\b|\bFunction\(", path.read_text(encoding="utf-8")))
+
+    def test_each_way_past_it_is_seen(self) -> None:
+        for source in (
+            'html(f"<b>{name}</b>")', 'html("<b>" + name)', "html(form, name)", 'page += "<b>" + name', 'page += f"<td>{name}</td>"', 'part = "&lt;"', "from .escaping import made",
+            "from html import escape", "import html", "from .escaping import written", 'part._written = "x"', "from xml.sax.saxutils import escape",
+        ):  # fmt: skip
+            with self.subTest(source=source):
+                self.assertNotEqual(past_the_type(f"from .escaping import html\n{source}", "page.py"), [])
+        self.assertEqual(past_the_type('"""A <b> of markup."""\nfrom .escaping import html\nhtml("<b>{}</b>", name)\nif one < two: say("a > b")', "page.py"), [])
 
 
 class Words(unittest.TestCase):

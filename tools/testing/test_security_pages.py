@@ -2,12 +2,14 @@
 
 import base64
 import hashlib
+import json
 import os
 import re
 import shutil
 import subprocess
 import tempfile
 import unittest
+import xml.etree.ElementTree as ElementTree
 from pathlib import Path
 
 from common import bytes_of, call, ring
@@ -15,6 +17,7 @@ from hostile import DEEDS, TEXTS, Listener
 from pages import BROWSER, WORDS, Seen, without_policy
 
 from ringtools.checks import LONGEST
+from ringtools.escaping import Markup, data, drawn, html, joined, lines
 from ringtools.kept import read_answer
 from ringtools.markup import foot_of_sheets, whole
 
@@ -54,6 +57,38 @@ def plan_of(names, places, title=""):
         lines += [f"# circuit c{number} is {name}", "[[circuit]]", f'name = "c{number}"', f"from = {span}", f"to = {(span + 1) % len(places)}", f"slot = {slot}"]
         lines += [f'text_a = "text {number} a"', f'text_b = "text {number} b"']
     return "\n".join(lines) + "\n"
+
+
+class Type(unittest.TestCase):
+    """Markup is no text, and what is put into it is shown."""
+
+    TEXT = '<b a="1">&\'\u202e'
+    SHOWN = "&lt;b a=&quot;1&quot;&gt;&amp;&#x27;\ufffd"
+
+    def page(self, part):
+        return re.search("<main>\n(.*)\n</main>", whole("Title", html("{}", part)), re.S)[1]
+
+    def test_texts_are_shown(self):
+        for part in (html("{}", self.TEXT), joined([self.TEXT]), lines(self.TEXT), html("") + self.TEXT, self.TEXT + html(""), joined(["", ""], self.TEXT), self.TEXT):
+            self.assertEqual(self.page(part), self.SHOWN)
+        self.assertEqual(self.page(html("<i>{}</i>{}", html("<b>{}</b>", 1), None)), "<i><b>1</b></i>None")
+
+    def test_no_text_gets_into_it_or_out_of_it(self):
+        with self.assertRaises(TypeError):
+            Markup("<b>")
+        part = html("<b>")
+        for deed in (lambda: str(part), lambda: f"{part}", lambda: "".join([part]), lambda: "%s" % part, lambda: "<i>{}".format(part), lambda: repr(part), lambda: bytes(part)):
+            with self.assertRaises(TypeError):
+                deed()
+        with self.assertRaises(AttributeError):
+            part.more = "<b>"
+
+    def test_drawings_and_data(self):
+        element = ElementTree.Element("g", {"name": self.TEXT})
+        element.text = "</g><script>"
+        self.assertIn("&lt;/g&gt;&lt;script&gt;</g>", self.page(drawn(element)))
+        self.assertNotIn("<", self.page(data([self.TEXT, "</script>"])))
+        self.assertEqual(json.loads(self.page(data([self.TEXT, "</script>"]))), [self.TEXT, "</script>"])
 
 
 class Hostile(Folder):

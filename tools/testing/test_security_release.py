@@ -13,6 +13,7 @@ from common import TOOLS
 
 from ringtools.build import PROGRAMS
 from ringtools.releasing import LIBC, ReleaseProblem, verified
+from ringtools.symbols import ELF, HEAD, SEGMENT, LoadedSymbols, Part, loaded, parts_of, without_symbols
 
 DIST = TOP / "dist"
 
@@ -117,6 +118,33 @@ class Archives(unittest.TestCase):
 
 
 class Programs(unittest.TestCase):
+    @unittest.skipUnless(all((DIST / name).is_file() for name in PROGRAMS), "dist/ has no programs")
+    def test_a_package_has_them_without_symbols_and_else_as_they_are(self):
+        for name in PROGRAMS:
+            program = (DIST / name).read_bytes()
+            without = without_symbols(program)
+            with self.subTest(name=name):
+                self.assertIn(2, [part.kind for part in parts_of(program)])  # a table of symbols
+                self.assertNotIn(2, [part.kind for part in parts_of(without)])
+                self.assertEqual(loaded(without), loaded(program))
+                self.assertEqual(without[:40] + without[48:60] + without[64:4096], program[:40] + program[48:60] + program[64:4096])
+                self.assertEqual(without_symbols(without), without)
+        with tempfile.TemporaryDirectory() as folder:
+            path = Path(folder) / "sdhring"
+            path.write_bytes(without_symbols((DIST / "sdhring").read_bytes()))
+            path.chmod(0o755)
+            plan = (TOP / "examples" / "span-cut.toml").read_bytes()
+            run = lambda program: subprocess.run([program, "run"], input=plan, capture_output=True).stdout
+            self.assertEqual(run(path), run(DIST / "sdhring"))
+
+    def test_a_script_is_left_and_symbols_that_are_loaded_are_refused(self):
+        self.assertEqual(without_symbols(b"#!/bin/sh\n"), b"#!/bin/sh\n")
+        program = bytearray(HEAD.pack(ELF.ljust(16, b"\0"), 3, 62, 1, 0, 64, 128, 0, 64, 56, 1, 64, 2, 1) + bytes(4096))
+        SEGMENT.pack_into(program, 64, 1, 5, 0, 0, 0, 2048, 2048, 4096)
+        program[128 + 64 : 128 + 128] = Part(0, 2, 0, 0, 1024, 24, 1, 0, 8, 24).packed()
+        with self.assertRaises(LoadedSymbols):
+            without_symbols(bytes(program))
+
     @unittest.skipUnless(all((DIST / name).is_file() for name in PROGRAMS), "dist/ has no programs")
     def test_the_library_that_they_need(self):
         versions = {tuple(map(int, found.split(b"."))) for name in PROGRAMS for found in re.findall(rb"GLIBC_([0-9]+(?:\.[0-9]+)+)", (DIST / name).read_bytes())}

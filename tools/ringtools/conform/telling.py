@@ -5,13 +5,15 @@ from __future__ import annotations
 import json
 import re
 import shlex
+import xml.etree.ElementTree as ElementTree
 from collections import Counter
 from collections.abc import Sequence
 from dataclasses import dataclass
 from pathlib import Path
 
 from ..cells import text_of_records
-from ..markup import count_of, escape, folded, moment_words, table, whole
+from ..escaping import Markup, html, lines
+from ..markup import count_of, folded, moment_words, table, terms, whole
 from ..origin import Program, now
 from ..shown import shown
 from .judging import BROKEN, NOT_REACHED, OBEYED, Judge, Verdict
@@ -87,41 +89,35 @@ def as_json(told: Told) -> str:
     return json.dumps(made, indent=2) + "\n"
 
 
-def attribute(text: object) -> str:
-    """Returns a text as XML's attributes may have it."""
-    return escape(limited(text))
-
-
 def as_junit(told: Told) -> str:
     """Returns the verdicts as JUnit's XML has them: a rule that is broken has failed, one that isn't reached is skipped."""
     counts = Counter(verdict.verdict for verdict in told.verdicts)
-    lines = ['<?xml version="1.0" encoding="UTF-8"?>']
-    lines.append(f'<testsuite name="sdhring-conform" tests="{len(told.verdicts)}" failures="{counts[BROKEN]}" errors="0" skipped="{counts[NOT_REACHED]}">')
+    counted = {"tests": len(told.verdicts), "failures": counts[BROKEN], "errors": 0, "skipped": counts[NOT_REACHED]}
+    suite = ElementTree.Element("testsuite", {"name": "sdhring-conform", **{name: str(count) for name, count in counted.items()}})
     for verdict in told.verdicts:
-        head = f'  <testcase classname="{attribute(verdict.kind)}" name="{attribute(verdict.name)}"'
-        if verdict.verdict == OBEYED:
-            lines.append(f"{head}/>")
-        elif verdict.failure is None:
-            lines.append(f'{head}><skipped message="not reached"/></testcase>')
-        else:
+        case = ElementTree.SubElement(suite, "testcase", {"classname": limited(verdict.kind), "name": limited(verdict.name)})
+        if verdict.verdict != OBEYED and verdict.failure is None:
+            ElementTree.SubElement(case, "skipped", {"message": "not reached"})
+        elif verdict.verdict != OBEYED:
             failure = verdict.failure
             said = f"stream {failure.stream}, round {failure.round}: {failure.difference.field}: due {failure.difference.due}, came {failure.difference.came}"
-            lines.append(f'{head}><failure message="{attribute(said)}">{escape(verdict.words)} {escape(verdict.file)}</failure></testcase>')
-    return "\n".join([*lines, "</testsuite>", ""])
+            ElementTree.SubElement(case, "failure", {"message": limited(said)}).text = shown(f"{verdict.words} {verdict.file}")
+    ElementTree.indent(suite)
+    return ElementTree.tostring(suite, encoding="unicode", xml_declaration=True) + "\n"
 
 
-def row(verdict: Verdict) -> list[str]:
+def row(verdict: Verdict) -> list[object]:
     """Returns the cells of a verdict on the page."""
     failure = verdict.failure
-    words = f"<strong>{verdict.verdict}</strong>" if verdict.verdict == BROKEN else verdict.verdict
+    words = html("<strong>{}</strong>", verdict.verdict) if verdict.verdict == BROKEN else verdict.verdict
     where = value = ""
     if failure is not None:
-        where = f"{escape(failure.stream)}, round {failure.round}: {escape(failure.difference.field)}"
-        value = f"<code>{escape(limited(failure.difference.due))}</code>, came <code>{escape(limited(failure.difference.came))}</code>"
-    return [escape(verdict.name), escape(verdict.words), words, f"{verdict.rounds:,}", f"{verdict.reached:,}", where, value]
+        where = f"{failure.stream}, round {failure.round}: {failure.difference.field}"
+        value = html("<code>{}</code>, came <code>{}</code>", limited(failure.difference.due), limited(failure.difference.came))
+    return [verdict.name, verdict.words, words, f"{verdict.rounds:,}", f"{verdict.reached:,}", where, value]
 
 
-def section(told: Told, kind: str) -> str:
+def section(told: Told, kind: str) -> Markup:
     """Returns the table of a kind of verdicts."""
     verdicts = [verdict for verdict in told.verdicts if verdict.kind == kind]
     changed = {number for number, verdict in enumerate(verdicts) if verdict.verdict == BROKEN}
@@ -129,18 +125,14 @@ def section(told: Told, kind: str) -> str:
     return table(TITLES[kind], titles, [row(verdict) for verdict in verdicts], changed)
 
 
-def repeating(told: Told) -> str:
+def repeating(told: Told) -> Markup:
     """Returns the commands that repeat what is broken alone."""
     files = sorted({verdict.file for verdict in told.verdicts if verdict.file})
     if not files:
-        return ""
+        return html("")
     command = shlex.join(told.command)
-    lines = [f"./sdhnode {node_of(file)} frames < {shlex.quote(file)} > ours.text; {command} {node_of(file)} frames < {shlex.quote(file)} > theirs.text" for file in files]
-    return folded("The streams that repeat it alone", "<pre>" + escape_lines([*lines, "./sdhring-compare-node ours.text theirs.text"]) + "</pre>", open=True)
-
-
-def escape_lines(lines: Sequence[str]) -> str:
-    return "\n".join(map(escape, lines))
+    commands = [f"./sdhnode {node_of(file)} frames < {shlex.quote(file)} > ours.text; {command} {node_of(file)} frames < {shlex.quote(file)} > theirs.text" for file in files]
+    return folded("The streams that repeat it alone", html("<pre>{}</pre>", lines(*commands, "./sdhring-compare-node ours.text theirs.text")), open=True)
 
 
 def node_of(file: str) -> str:
@@ -152,15 +144,14 @@ def node_of(file: str) -> str:
 def as_page(told: Told) -> str:
     """Returns the page."""
     judge, title = told.judge, "Does this node obey the rules of the ring?"
-    lines = told.program.lines()
+    program = told.program.lines()
     origin = {
-        "Device": f"<code>{escape(shlex.join(told.command))}</code>", "What is due": f"<code>{escape(lines['program'])}</code>, {escape(lines['proof'])}, {escape(lines['version'])}",
-        "Its checksum": f"<code>{escape(lines['sum'])}</code> (SHA-256)", "Streams": f"{judge.streams}, of which {len(judge.failures)} failed", "Rounds": f"{judge.rounds:,} that agree",
+        "Device": html("<code>{}</code>", shlex.join(told.command)), "What is due": html("<code>{}</code>, {}, {}", program["program"], program["proof"], program["version"]),
+        "Its checksum": html("<code>{}</code> (SHA-256)", program["sum"]), "Streams": f"{judge.streams}, of which {len(judge.failures)} failed", "Rounds": f"{judge.rounds:,} that agree",
         "Page written": moment_words(now()),
     }  # fmt: skip
-    listed = "".join(f"<dt>{name}</dt><dd>{words}</dd>" for name, words in origin.items())
     uncovered = judge.uncovered()
-    covered = f"<p>The suite reached all cases of all rules.</p>" if not uncovered else f"<p>Cases that these streams don't reach: {escape(', '.join(uncovered))}.</p>"
-    body = [f"<h1>{title}</h1>", f'<p class="alarm"><strong>{escape(told.summary())}</strong></p>', repeating(told), section(told, "device"), section(told, "rule"), covered]
+    covered = html("<p>The suite reached all cases of all rules.</p>") if not uncovered else html("<p>Cases that these streams don't reach: {}.</p>", ", ".join(uncovered))
+    body = [html("<h1>{}</h1>", title), html('<p class="alarm"><strong>{}</strong></p>', told.summary()), repeating(told), section(told, "device"), section(told, "rule"), covered]
     body += [folded(TITLES[kind], section(told, kind)) for kind in ("case", "word", "mark", "defect", "origin")]
-    return whole(title, "\n".join([*body, f'<dl class="origin">{listed}</dl>']))
+    return whole(title, lines(*body, html('<dl class="origin">{}</dl>', terms(origin))))

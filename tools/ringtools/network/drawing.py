@@ -39,7 +39,7 @@ class NetworkDrawing:
             self.draw_name(ring)
         for key, number in self.places.items():
             self.draw_place(key, number)
-        return ElementTree.tostring(self.root, encoding="unicode")
+        return self.root
 
     def point(self, ring: Ring, at: int) -> Point:
         return self.at.places[key_of(ring.places[at % ring.size])]

@@ -1,13 +1,13 @@
 """The page of a network: its drawing, what fails, what becomes of each customer, and a page of its own for each ring."""
 
-import json
 from dataclasses import dataclass, field
 
 from typing import Any
 from urllib.parse import quote
 
 from ..availabilitytable import minutes_words, nines_words
-from ..markup import count_of, escape, listing, origin_list, table, unbroken, warning, whole
+from ..escaping import Markup, data, drawn, html, joined, lines
+from ..markup import count_of, listing, note, option, origin_list, section, table, unbroken, warning, whole
 from ..origin import Origin
 from .availability import Share
 from .components import Component
@@ -20,7 +20,7 @@ from .pagedata import Failures, customers_data
 WORST = 12
 MOST_RINGS = 100
 TITLES = {Kind.SPAN: "spans", Kind.PLACE: "places", Kind.GROUP: "shared-risk groups"}
-FROM_TABLE = (
+FROM_TABLE = html(
     "What becomes of each section is that of the table of <code>sdhwhatif</code>, ring by ring. A customer is lost where one of his sections is. A place that is lost "
     "is lost in each of its rings, and so is each part of a group. The browser looks sections up in what the page carries, and joins them by this rule."
 )
@@ -42,18 +42,6 @@ class PageParts:
     notes: list[str] = field(default_factory=list)
 
 
-def section(name: str, title: str, *parts: str) -> str:
-    return f'<section id="{name}"><h2>{title}</h2>' + "\n".join(parts) + "</section>"
-
-
-def note(*sentences: str) -> str:
-    return f'<p class="note">{" ".join(sentences)}</p>'
-
-
-def option(value: object, words: str) -> str:
-    return f'<option value="{value}">{escape(words)}</option>'
-
-
 class NetworkPage:
     """Makes the page of a network."""
 
@@ -64,22 +52,22 @@ class NetworkPage:
     def named(self, customers: frozenset[int], most: int = 40) -> str:
         found = [self.network.customers[number].name for number in sorted(customers)]
         more = f" and {len(found) - most} more" if len(found) > most else ""
-        return ", ".join(map(escape, found[:most])) + more
+        return ", ".join(found[:most]) + more
 
-    def summary(self) -> list[str]:
+    def summary(self) -> list[Markup]:
         joined, lines = self.parts.joined, []
         if before := len(joined.base.lost):
             lines.append(
-                f"<strong>The plans' scripts</strong> leave {count_of(before, 'customer')} lost: {self.named(frozenset(joined.base.lost))}."
+                html("<strong>The plans' scripts</strong> leave {} lost: {}.", count_of(before, "customer"), self.named(frozenset(joined.base.lost)))
             )
         for kinds, count in joined.alone().items():
             losing, most = count.above(0), count.most()
             words = (
-                f"in {losing} of {count.total}; at most {most}, with {escape('; '.join(count.examples[most]))}"
+                f"in {losing} of {count.total}; at most {most}, with {'; '.join(count.examples[most])}"
                 if losing
                 else "in none"
             )
-            lines.append(f"<strong>{TITLES[Kind(kinds)].capitalize()}, one alone</strong>: customers are lost {words}.")
+            lines.append(html("<strong>{}, one alone</strong>: customers are lost {}.", TITLES[Kind(kinds)].capitalize(), words))
         for kinds, count in joined.doubles().items():
             if kinds == "span+span":
                 words = (
@@ -87,10 +75,10 @@ class NetworkPage:
                     if count.above(0)
                     else "in none"
                 )
-                lines.append(f"<strong>Two spans cut, in any rings</strong>: customers are lost {words}.")
+                lines.append(html("<strong>Two spans cut, in any rings</strong>: customers are lost {}.", words))
         return lines
 
-    def chooser(self) -> str:
+    def chooser(self) -> Markup:
         """A list of all failures and one of all customers, and what comes of what was chosen."""
         lists = []
         for kind in (Kind.GROUP, Kind.PLACE, Kind.SPAN):
@@ -99,17 +87,17 @@ class NetworkPage:
                 for number, one in enumerate(self.parts.failures.components)
                 if one.kind is kind
             ]
-            lists += [f'<optgroup label="{TITLES[kind]}">{"".join(options)}</optgroup>'] if options else []
-        customers = "".join(option(number, customer.name) for number, customer in enumerate(self.network.customers))
-        return f"""<div class="panel" hidden>
+            lists += [html('<optgroup label="{}">{}</optgroup>', TITLES[kind], joined(options))] if options else []
+        customers = joined(option(number, customer.name) for number, customer in enumerate(self.network.customers))
+        return html("""<div class="panel" hidden>
 <p>A click, a tap, or Tab and Enter makes a span or a place fail, in whichever ring; once more takes it away. Up to two failures that touch one ring, in all rings together.
 <label><input type="checkbox" id="large"> large drawing</label></p>
-<p><label>Or choose <select id="choose">{option("", "a failure")}{"".join(lists)}</select></label> <button type="button" id="clear">clear</button></p>
+<p><label>Or choose <select id="choose">{}{}</select></label> <button type="button" id="clear">clear</button></p>
 <p id="failed"></p><div id="told" role="status" aria-live="polite"></div>
-<p><label>Way of <select id="whose">{option("", "no customer")}{customers}</select></label></p>
-</div>"""
+<p><label>Way of <select id="whose">{}{}</select></label></p>
+</div>""", option("", "a failure"), joined(lists), option("", "no customer"), customers)
 
-    def customers(self) -> str:
+    def customers(self) -> Markup:
         shares = self.parts.shares
         titles = [
             "customer",
@@ -130,52 +118,48 @@ class NetworkPage:
         rows = []
         for number, alone, _, pairs, _ in self.parts.joined.by_customer():
             customer = self.network.customers[number]
-            rings = ", ".join(escape(self.network.rings[one.ring].name) for one in customer.sections)
+            rings = ", ".join(self.network.rings[one.ring].name for one in customer.sections)
             counts = [alone.get(Kind.PLACE, 0) - ending.get(number, 0), alone.get(Kind.GROUP, 0), pairs]
             cells = [
-                escape(customer.name),
-                escape(customer.start),
-                escape(customer.end),
+                customer.name,
+                customer.start,
+                customer.end,
                 rings,
-                '<span class="now"></span>',
-                '<span class="breaks"></span>',
+                html('<span class="now"></span>'),
+                html('<span class="breaks"></span>'),
                 *counts,
             ]
             cells += (
                 [minutes_words(shares[number].minutes), nines_words(shares[number].nines)] if shares is not None else []
             )
             rows.append(cells)
-        return str(
-            table(
-                "Customers, and with how many places, groups and pairs each is lost",
-                titles,
-                rows,
-                attributes=lambda index: f' data-customer="{index}"',
-            )
+        return table(
+            "Customers, and with how many places, groups and pairs each is lost",
+            titles,
+            rows,
+            attributes=lambda index: html(' data-customer="{}"', index),
         )
 
-    def rings(self) -> str:
+    def rings(self) -> Markup:
         rows = []
         for ring, data in zip(self.network.rings, self.parts.rings):
             page = quote(ring.page)
             name = (
-                f'<a href="{page}">{escape(ring.name)}</a>'
+                html('<a href="{}">{}</a>', page, ring.name)
                 if ring.number not in self.parts.problems
-                else f"{escape(ring.name)}: {escape(self.parts.problems[ring.number])}"
+                else f"{ring.name}: {self.parts.problems[ring.number]}"
             )
             used = sum(length for _, length in data["arcs"])
             total = data["slots"] * ring.size
-            rows.append([name, ring.size, len(data["arcs"]), used, total - used, escape(", ".join(ring.places))])
-        return str(
-            table("Rings", ["ring", "places", "customers", "used slots of spans", "free", "places eastwards"], rows)
-        )
+            rows.append([name, ring.size, len(data["arcs"]), used, total - used, ", ".join(ring.places)])
+        return table("Rings", ["ring", "places", "customers", "used slots of spans", "free", "places eastwards"], rows)
 
     def case_row(self, single: Single) -> list[object]:
-        words = f'<span data-case="{self.numbers[single.name]}">{unbroken(single.name)}</span>'
-        rings = ", ".join(escape(self.network.rings[number].name) for number in single.rings)
+        words = html('<span data-case="{}">{}</span>', self.numbers[single.name], unbroken(single.name))
+        rings = ", ".join(self.network.rings[number].name for number in single.rings)
         return [words, rings, len(single.lost), len(single.lost - single.ends), self.named(single.lost)]
 
-    def worst(self) -> str:
+    def worst(self) -> Markup:
         heads = ["failure", "rings", "lost", "besides its ends", "customers that are lost"]
         groups = [single for single in self.parts.joined.singles if single.kind is Kind.GROUP]
         others = sorted(
@@ -188,18 +172,18 @@ class NetworkPage:
         tables.append(
             table(f"Up to {WORST} spans and places, each alone", heads, [self.case_row(one) for one in others[:WORST]])
         )
-        return "\n".join(map(str, tables))
+        return lines(*tables)
 
-    def investments(self) -> str:
+    def investments(self) -> Markup:
         if not self.parts.savings:
-            return ""
+            return html("")
         heads = ["if it never failed", "minutes a year less, all customers together", "customers", "most for", "by"]
         rows = [
             [
                 unbroken(one.component.name),
                 minutes_words(one.minutes),
                 one.customers,
-                escape(one.who),
+                one.who,
                 minutes_words(one.most),
             ]
             for one in self.parts.savings[:WORST]
@@ -207,11 +191,11 @@ class NetworkPage:
         return section(
             "investments",
             "Which investment helps most",
-            str(table("Minutes that would be saved", heads, rows)),
+            table("Minutes that would be saved", heads, rows),
             note(FROM_RATES),
         )
 
-    def data(self) -> str:
+    def data(self) -> Markup:
         """What the script looks up."""
         failures = []
         for number, one in enumerate(self.parts.failures.components):
@@ -222,7 +206,7 @@ class NetworkPage:
             "rings": self.parts.rings,
             "customers": customers_data(self.network, self.parts.circuits),
         }
-        return json.dumps(found, separators=(",", ":"), ensure_ascii=False).replace("<", "\\u003c")
+        return data(found)
 
     def members(self, group: Component) -> list[int]:
         """The spans and places of a group, by their numbers, so that they are drawn as failing; a fibre's span stands for it."""
@@ -238,16 +222,16 @@ class NetworkPage:
 
     def page(self) -> str:
         drawing = NetworkDrawing(self.network, self.parts.failures.spans, self.parts.failures.places).draw()
-        filter_line = '<p class="tools" hidden><label>Only customers with <input id="filter" type="search"></label></p>'
-        notes = [f"<li>{escape(one)}</li>" for one in self.parts.notes]
+        filter_line = html('<p class="tools" hidden><label>Only customers with <input id="filter" type="search"></label></p>')
+        notes = [html("<li>{}</li>", one) for one in self.parts.notes]
         parts = [
-            f"<h1>{escape(self.title)}</h1>",
+            html("<h1>{}</h1>", self.title),
             warning(self.origin),
             listing(self.summary()),
-            f"<ul>{''.join(notes)}</ul>" if notes else "",
+            html("<ul>{}</ul>", joined(notes)) if notes else "",
         ]
-        figure = f'<figure class="network-figure">{drawing}</figure>'
-        parts.append(section("try", "The network", f'<div class="step">{figure}{self.chooser()}</div>'))
+        figure = html('<figure class="network-figure">{}</figure>', drawn(drawing))
+        parts.append(section("try", "The network", html('<div class="step">{}{}</div>', figure, self.chooser())))
         parts.append(
             section(
                 "customers",
@@ -262,11 +246,11 @@ class NetworkPage:
                 "worst",
                 "What loses most",
                 self.worst(),
-                note('<a href="#origin">Where this comes from</a> stands at the end.'),
+                note(html('<a href="#origin">Where this comes from</a> stands at the end.')),
             )
         )
         parts.append(self.investments())
         parts.append(section("rings", "Rings", self.rings()))
         parts.append(section("origin", "Where this comes from", note(FROM_TABLE), origin_list(self.origin)))
-        parts.append(f'<script type="application/json" id="data">{self.data()}</script>')
-        return str(whole(f"Network: {self.title}", "\n".join(parts), ["network.css"], ["tables.js", "network.js"]))
+        parts.append(html('<script type="application/json" id="data">{}</script>', self.data()))
+        return whole(f"Network: {self.title}", lines(*parts), ["network.css"], ["tables.js", "network.js"])

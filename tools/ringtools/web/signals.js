@@ -28,11 +28,22 @@
     group.classList.toggle("new", before[1] !== shown);
   };
 
+  // A cell is a text, or of a word its two bytes and its letters.
+  const fill = (place, cell) => {
+    if (typeof cell === "string") {
+      place.textContent = cell;
+      return;
+    }
+    const code = document.createElement("code");
+    code.textContent = cell[0];
+    place.replaceChildren(code, ` ${cell[1]}`);
+  };
+
   const showRow = (row, cells, before) => {
     cells.forEach((cell, number) => {
       const place = row.cells[number + 1];
-      place.innerHTML = cell;
-      place.classList.toggle("changed-cell", before[number] !== cell);
+      fill(place, cell);
+      place.classList.toggle("changed-cell", String(before[number]) !== String(cell));
     });
   };
 
