@@ -4,14 +4,13 @@ import json
 import math
 import random
 import re
-import sys
 import tempfile
 import unittest
 from collections import defaultdict
 from pathlib import Path
 from runpy import run_path
 
-from common import TOOLS, call
+from common import TOOLS, call, command
 
 from ringtools.availability import MINUTES, NOTHING_LEFT, PROTECTIONS, Seen, left_by
 from ringtools.components import HOURS, Component
@@ -22,7 +21,7 @@ from ringtools.tables import TableProblem
 
 AVAILABILITY, PLAN = run_path(str(TOOLS / "sdhring-availability")), run_path(str(TOOLS / "sdhring-plan"))
 DOCS = TOOLS.parent / "docs"
-TELLER = f"{sys.executable} {TOOLS.parent / 'bench' / 'whatif' / 'model.py'}"
+TELLER = command(TOOLS.parent / "bench" / "whatif" / "model.py")
 STEPS = ("cut", "cut", "mend", "forced", "manual", "clear", "degrade", "settle")
 
 

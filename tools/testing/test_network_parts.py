@@ -1,6 +1,7 @@
 """A network in parts: the same bytes whoever ran which part, and a part that failed is run again alone."""
 
 import os
+import shlex
 import shutil
 import tempfile
 import unittest
@@ -11,7 +12,7 @@ from common import TOOLS, call, call_without_processes
 
 EXAMPLE = TOOLS.parent / "examples" / "network"
 TABLES = ("summary.csv", "customers.csv", "singles.csv", "doubles.csv", "lost.csv")
-TELLER = TOOLS.parent / "dist" / "sdhwhatif"
+TELLER = shlex.quote(str(TOOLS.parent / "dist" / "sdhwhatif"))
 
 
 class Parts(unittest.TestCase):

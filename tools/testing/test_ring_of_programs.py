@@ -22,6 +22,7 @@ EXAMPLES = TOP / "examples"
 PLAN = EXAMPLES / "round-by-round.toml"
 DIST = TOP / "dist"
 SDHNODE = DIST / "sdhnode"
+PROGRAM = shlex.quote(str(SDHNODE))  # as a word of a command
 
 # A node with a mistake: what is given to a sdhnode, or what it answers, is changed from a round on.
 DEVICE = '''
@@ -105,7 +106,7 @@ class Case(unittest.TestCase):
 
     def bench(self, plan, *words, **more):
         """The status, the rows, and what is said at the end."""
-        ended = call("sdhring-bench", plan, "--program", SDHNODE, *words, timeout=PATIENCE, **more)
+        ended = call("sdhring-bench", plan, "--program", PROGRAM, *words, timeout=PATIENCE, **more)
         said = ended.stderr.decode()
         self.assertNotIn("Traceback", said)
         return ended.returncode, rows_of(ended.stdout.decode()), said
@@ -183,7 +184,7 @@ class Proved(Case):
         self.assertEqual([int(row["Round"]) for row in rows if row["Name"] == "after" and row["Field"] == "ports as due"], [128 + 1024, 128 + 1500])
 
     def test_as_json(self):
-        ended = call("sdhring-bench", EXAMPLES / "three-nodes.toml", "--program", SDHNODE, "--json")
+        ended = call("sdhring-bench", EXAMPLES / "three-nodes.toml", "--program", PROGRAM, "--json")
         told = json.loads(ended.stdout)
         self.assertEqual((told["rate"], told["nodes"], told["rounds"], told["verdict"]), (4, [1, 2, 3], 129, "same"))
         self.assertGreater(told["processor_seconds"], 0)
@@ -217,7 +218,7 @@ class Devices(Case):
 
     def test_a_node_that_relays_its_own_words(self):
         """The example's lines are wrong where a long word comes to its own node: then sdhaps has its own word to the east."""
-        status, rows, _ = self.bench(PLAN, "--instead", 2, f"env SDHNODE={shlex.quote(str(SDHNODE))} {EXAMPLES / 'bench' / 'relays-its-own'}")
+        status, rows, _ = self.bench(PLAN, "--instead", 2, f"env SDHNODE={PROGRAM} {shlex.quote(str(EXAMPLES / 'bench' / 'relays-its-own'))}")
         first = next(row for row in rows if row["Verdict"] == "differs")
         self.assertEqual((status, first["Name"], first["Field"]), (1, "2", "the word sent to the east"))
         line = next(line for line in proved("sdhaps", PLAN.read_text()).splitlines() if line.startswith(f"round {first['Round']} node 2 "))
@@ -253,6 +254,7 @@ subprocess.run([{str(SDHNODE)!r}, "2", "frames"], stdin=line.fileno(), stdout=li
 """
             behind = subprocess.Popen([sys.executable, "-c", script], stdin=server.fileno())
             self.addCleanup(behind.wait)
+            self.addCleanup(behind.kill)  # where nobody connects
             status, rows, said = self.bench(PLAN, "--connect", 2, f"127.0.0.1:{server.getsockname()[1]}", "--keep", self.folder / "kept")
         self.assertEqual(status, 0, said)
         self.check_kept(2)
@@ -316,7 +318,7 @@ class Stopped(Case):
     """A run that is stopped leaves nothing behind."""
 
     def begun(self):
-        words = [sys.executable, str(TOOLS / "sdhring-bench"), str(PLAN), "--program", str(SDHNODE), "--more", "100000000", "--processes", "2"]
+        words = [sys.executable, str(TOOLS / "sdhring-bench"), str(PLAN), "--program", PROGRAM, "--more", "100000000", "--processes", "2"]
         # (whoever started the tests may have had SIGINT ignored)
         hears = lambda: signal.signal(signal.SIGINT, signal.SIG_DFL)
         running = subprocess.Popen(words, stdout=subprocess.PIPE, stderr=subprocess.PIPE, text=True, preexec_fn=hears)
