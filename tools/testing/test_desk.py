@@ -20,6 +20,7 @@ from pages import BROWSER, PRINTS, Seen, browsed, printed
 
 from ringtools.deskdrawing import DeskDrawing
 from ringtools.deskindex import index_page
+from ringtools.escaping import html
 from ringtools.deskpage import Desk, data_of, key_of
 from ringtools.desktable import Reading, ToldProblem, merged, read_cases, tell, words_for
 from ringtools.origin import Program
@@ -414,7 +415,7 @@ class Many(unittest.TestCase):
 
     @unittest.skipUnless(BROWSER, "there is no chromium")
     def test_the_index_is_sorted_and_filtered(self):
-        rows = [[f'<a href="{name}.html">{name}</a>', size, *["0"] * 7, "", minutes, ""] for name, size, minutes in (("north", 12, "2.5"), ("south", 4, ""), ("ring 3", 9, "11"))]
+        rows = [[html('<a href="{}.html">{}</a>', name, name), size, *["0"] * 7, "", minutes, ""] for name, size, minutes in (("north", 12, "2.5"), ("south", 4, ""), ("ring 3", 9, "11"))]
         deeds = """
 const told = [], shown = () => told.push([...document.querySelectorAll("tbody tr")].filter((row) => !row.hidden).map((row) => row.cells[0].textContent).join());
 const head = (number) => document.querySelectorAll("thead button")[number].click();

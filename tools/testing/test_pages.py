@@ -11,6 +11,7 @@ from common import TOOLS, call, ring
 from pages import BROWSER, PRINTS, Seen, browsed, printed
 from rules import Rules
 
+from ringtools.escaping import html, joined
 from ringtools.markup import whole
 
 RINGS_RUN = ["before-maintenance", "end-of-waiting", "node-cut-off", "all-dark", "two-nodes", "longest-route", "span-cut"]
@@ -141,7 +142,7 @@ class Looks(unittest.TestCase):
 
     def test_each_sheet_has_its_number_and_the_title(self):
         """Whatever the title has: it ends neither the string nor the style."""
-        page = whole('A "ring"\\ </style>', "<p>words</p>" * 400)
+        page = whole('A "ring"\\ </style>', joined([html("<p>words</p>")] * 400))
         self.assertIn("counter(page)", page)
         self.assertIn(r'@bottom-left { content: "A \22 ring\22 \5c  \3c /style>"; }', page)
         if PRINTS:

@@ -190,7 +190,7 @@ class Hostile(Folder):
         """Each text as it is, in a page of its own: with the policy nothing is asked for, without it much is."""
         address = self.listener.address
         bodies = [f"<p>{text}</p>" for text in self.texts if "refresh" not in text] + [f'<p><img src="{address}/i"><script>fetch("{address}/s")</script></p>']
-        pages = [whole("x", body) for body in bodies]
+        pages = [whole("x", html("BODY")).replace("BODY", body) for body in bodies]
         self.assertEqual(self.ask_browser(pages), [])
         self.assertGreater(len(self.ask_browser([without_policy(page) for page in pages])), 20)
 
