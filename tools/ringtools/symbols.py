@@ -1,4 +1,4 @@
-"""Programs without the table of their symbols, as Debian's packages have them.
+"""Programs without what only linkers and debuggers read, as Debian's packages have them: the symbols, and who compiled them.
 
 What is loaded stays as it is, to the byte, but for the three fields of the file's head that say where its sections are described.
 """
@@ -10,7 +10,7 @@ from dataclasses import dataclass, replace
 
 HEAD, PART, SEGMENT = struct.Struct("<16sHHIQQQIHHHHHH"), struct.Struct("<IIQQQQIIQQ"), struct.Struct("<IIQQQQQQ")
 ELF = b"\x7fELF\x02\x01"  # of 64 bits, the low byte first
-SYMBOLS = 2  # the kind of a table of symbols
+NEEDED = 2  # the flag of a section that a running program has
 LOADED = 1  # the kind of a segment that is loaded
 NO_BYTES = 8  # the kind of a section that has none in the file
 
@@ -66,14 +66,12 @@ def padded(data: bytes, align: int) -> bytes:
 
 
 def without_symbols(program: bytes) -> bytes:
-    """Returns a program without its table of symbols and the names of these; a script as it is. Raises LoadedSymbols."""
+    """Returns a program without the sections that aren't loaded, but for that with the names of sections; a script as it is. Raises LoadedSymbols."""
     if not program.startswith(ELF):
         return program
     head, parts = list(HEAD.unpack_from(program)), parts_of(program)
-    gone = {number for number, part in enumerate(parts) if part.kind == SYMBOLS}
-    gone |= {parts[number].link for number in gone}
-    kept = [number for number in range(len(parts)) if number not in gone]
-    begin = min((parts[number].offset for number in gone), default=len(program))
+    kept = [number for number, part in enumerate(parts) if part.flags & NEEDED or number in (0, head[13])]
+    begin = min((part.offset for number, part in enumerate(parts) if number not in kept), default=len(program))
     if any(place[2] + place[5] > begin for place, _ in loaded(program)):
         raise LoadedSymbols("its symbols lie amid what is loaded")
     data, found = program[: max(parts[number].end for number in kept if parts[number].offset < begin)], []

@@ -96,7 +96,9 @@ ALL = (
     bench("availability/compare", PROGRAM["sdhring"], PROGRAM["sdhpath"], "0"),
     bench("conform/mutant", "list"),
     bench("conform/mutants", "--help"),
+    bench("desk/opens", "--help"),
     bench("hostile/fuzz", "0"),
+    bench("hostile/refusals", "--help"),
     bench("import/compare", "0"),
     bench("network/compare", PROGRAM["sdhring"], "0"),
     bench("network/made", "made", "2", "20"),
@@ -197,7 +199,7 @@ class Ending(unittest.TestCase):
         tried = {one.file for one in ALL}
         scripts = [TOOLS / name for name in (*NAMES, "install", "release", "rows")]
         scripts += [path for folder in ("bench", "examples") for path in (TOP / folder).rglob("*") if path.is_file() and path.read_bytes()[:22] == b"#!/usr/bin/env python3"]
-        self.assertEqual({str(path) for path in scripts} - {str(path) for path in tried}, {str(TOP / "bench" / "desk" / "opens")})
+        self.assertEqual({str(path) for path in scripts} - {str(path) for path in tried}, set())
 
     def test_a_closed_standard_output(self):
         for tried, ended in self.each(lambda tried: started(tried, self.folder(), shell=">&-"), ONCE):

@@ -2,7 +2,9 @@
 
 import os
 import pwd
+import re
 import shutil
+import stat
 import subprocess
 import sys
 import tempfile
@@ -291,14 +293,27 @@ class Installed(Place):
 
 
 class Apart(Place):
-    def test_what_lasts_a_moment_is_for_this_user_alone(self):
-        """Each file that isn't whole yet has a name of 24 digits by chance."""
-        seen = []
-        folder = named_folder(self.top / "out")
-        with folder.writing("x") as file:
-            file.write(b"half")
-            seen = [path.name for path in (self.top / "out").iterdir()]
-        self.assertRegex(seen[0], r"\A\.[0-9a-f]{24}\.part\Z")
+    def test_a_file_that_is_not_whole_yet_has_a_name_by_chance(self):
+        """And one that gets rights of its own is its owner's alone until it is whole."""
+        folder, before = named_folder(self.top / "out"), os.umask(0)
+        self.addCleanup(os.umask, before)
+        for mode in (None, 0o644):
+            with folder.writing("x", mode) as file:
+                file.write(b"half")
+                seen = [path for path in (self.top / "out").iterdir() if path.name != "x"]
+                self.assertEqual(stat.S_IMODE(seen[0].stat().st_mode), 0o666 if mode is None else 0o600)
+            self.assertRegex(seen[0].name, r"\A\.[0-9a-f]{24}\.part\Z")
+            self.assertEqual(stat.S_IMODE((self.top / "out" / "x").stat().st_mode), mode or 0o666)
+
+    def test_other_files_that_last_a_moment_lie_in_a_folder_of_their_own(self):
+        """Nobody else can read that, whatever the user's mask is; and no tool makes such a file otherwise."""
+        self.addCleanup(os.umask, os.umask(0))
+        with tempfile.TemporaryDirectory() as place:
+            self.assertEqual(stat.S_IMODE(os.stat(place).st_mode), 0o700)
+        tools = TOOLS.parent / "tools"
+        sources = [path for path in tools.rglob("*") if path.is_file() and "testing" not in path.parts and path.suffix in ("", ".py", ".bash")]
+        found = [used for path in sources for used in re.findall(r"tempfile\.(\w+)|\b(mktemp\b(?! -d)|/tmp/)", path.read_text(encoding="utf-8"))]
+        self.assertEqual({one or other for one, other in found}, {"TemporaryDirectory"})
 
     def test_paths_lead_downwards(self):
         folder = Folder(self.top)

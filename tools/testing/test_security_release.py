@@ -13,7 +13,7 @@ from common import TOOLS
 
 from ringtools.build import PROGRAMS
 from ringtools.releasing import LIBC, ReleaseProblem, verified
-from ringtools.symbols import ELF, HEAD, SEGMENT, LoadedSymbols, Part, loaded, parts_of, without_symbols
+from ringtools.symbols import ELF, HEAD, NEEDED, SEGMENT, LoadedSymbols, Part, loaded, parts_of, without_symbols
 
 DIST = TOP / "dist"
 
@@ -124,8 +124,9 @@ class Programs(unittest.TestCase):
             program = (DIST / name).read_bytes()
             without = without_symbols(program)
             with self.subTest(name=name):
-                self.assertIn(2, [part.kind for part in parts_of(program)])  # a table of symbols
-                self.assertNotIn(2, [part.kind for part in parts_of(without)])
+                kinds = lambda data: [part.kind for part in parts_of(data) if not part.flags & NEEDED]
+                self.assertEqual(sorted(kinds(program)), [0, 1, 2, 3, 3])  # none, who compiled it, the symbols, and two of names
+                self.assertEqual(kinds(without), [0, 3])  # none, and the names of sections
                 self.assertEqual(loaded(without), loaded(program))
                 self.assertEqual(without[:40] + without[48:60] + without[64:4096], program[:40] + program[48:60] + program[64:4096])
                 self.assertEqual(without_symbols(without), without)
@@ -139,7 +140,7 @@ class Programs(unittest.TestCase):
 
     def test_a_script_is_left_and_symbols_that_are_loaded_are_refused(self):
         self.assertEqual(without_symbols(b"#!/bin/sh\n"), b"#!/bin/sh\n")
-        program = bytearray(HEAD.pack(ELF.ljust(16, b"\0"), 3, 62, 1, 0, 64, 128, 0, 64, 56, 1, 64, 2, 1) + bytes(4096))
+        program = bytearray(HEAD.pack(ELF.ljust(16, b"\0"), 3, 62, 1, 0, 64, 128, 0, 64, 56, 1, 64, 3, 2) + bytes(4096))
         SEGMENT.pack_into(program, 64, 1, 5, 0, 0, 0, 2048, 2048, 4096)
         program[128 + 64 : 128 + 128] = Part(0, 2, 0, 0, 1024, 24, 1, 0, 8, 24).packed()
         with self.assertRaises(LoadedSymbols):
