@@ -9,6 +9,7 @@ from ..markup import BREAK, count_of, folded, listing, names, origin_list, table
 from ..origin import Origin
 from .telling import CLASSES, Told
 
+MANY = 6  # commands of one effect that stand below one another; more stand in a row
 INTERRUPTS = "A command that moves customers interrupts each of them while the ring switches; docs/RING.md says for how long."
 BY_MODEL = html("Who is lost, impaired or over protection, and what each command changes, are the answers of <code>sdhwhatif</code>, and no frame was run.")
 
@@ -27,7 +28,7 @@ def commands(told: Told) -> Markup:
     rows = []
     for kind, title in CLASSES.items():
         for effect, found in told.by_effect(kind).items():
-            steps = joined(map(told.step_words, found), BREAK)
+            steps = joined(map(told.step_words, found), BREAK if len(found) <= MANY else ", ")
             rows.append([title, steps, effect])
     return table("Commands", ["", "command", "what it changes"], rows, [place for place, row in enumerate(rows) if row[0] == CLASSES["loses"]])
 
