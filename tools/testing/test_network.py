@@ -6,6 +6,7 @@ import json
 import random
 import re
 import shlex
+import shutil
 import tempfile
 import unittest
 from collections import Counter
@@ -259,6 +260,37 @@ class Against(Folder):
         _, said = self.network("whatif", "net", "--dir", "again", "--against", "other")
         self.assertEqual(self.rows(self.top / "again" / "against.csv"), rows)
         self.assertNotIn("only in", said)
+        self.assertIn("beside other: none of 6 customers moves", said)
+        self.network("whatif", "other", "--dir", "back", "--against", "net")
+        turned = [{**row, "before": row["now"], "now": row["before"], "change": "loses"} for row in rows]
+        order = lambda row: tuple(row.values())
+        self.assertEqual(sorted(self.rows(self.top / "back" / "against.csv"), key=order), sorted(turned, key=order))
+
+    def test_who_moves(self):
+        """Beside a network in which one customer leads the other way round in another slot, and one lies in another slot alone."""
+        self.network("import", EXAMPLE, "--to", "net")
+        shutil.copytree(self.top / "net", self.top / "old")
+        plans = {ring: self.top / "old" / "rings" / f"{ring}.toml" for ring in ("north", "south")}
+        turned = self.shifted(self.turned(plans["north"].read_text(encoding="utf-8"), "radio"), "radio")
+        plans["north"].write_text(turned, encoding="utf-8")
+        plans["south"].write_text(self.shifted(plans["south"].read_text(encoding="utf-8"), "fair"), encoding="utf-8")
+        _, said = self.network("whatif", "net", "--dir", "out", "--against", "old")
+        rows = [tuple(row.values()) for row in self.rows(self.top / "out" / "moves.csv")]
+        self.assertEqual(rows, [("radio", "North", "other way"), ("radio", "North", "other slot"), ("fair", "South", "other slot")])
+        self.assertIn("beside old: 2 of 6 customers move (1 other way, 2 other slot): radio, fair", said)
+
+    def turned(self, plan, name):
+        """A plan in which a circuit leads the other way round."""
+        block = next(part for part in plan.split("[[circuit]]") if f'name = "{name}"' in part)
+        start, end = (re.search(rf"^{key} = ([0-9]+)", block, re.M)[1] for key in ("from", "to"))
+        other = re.sub(r"^from = .*", f"from = {end}", re.sub(r"^to = .*", f"to = {start}", block, flags=re.M), flags=re.M)
+        return plan.replace(block, other)
+
+    def shifted(self, plan, name):
+        """A plan in which a circuit lies in the last slot."""
+        block = next(part for part in plan.split("[[circuit]]") if f'name = "{name}"' in part)
+        last = int(re.search(r"^rate = ([0-9]+)", plan, re.M)[1]) // 2
+        return plan.replace(block, re.sub(r"^slot = .*", f"slot = {last}", block, flags=re.M))
 
 
 class Example(Folder):

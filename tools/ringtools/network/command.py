@@ -29,6 +29,8 @@ from .joining import Joined
 from .making import Made, Settings, kept_load, made_of, service_of
 from .minutes import CAUSES, SAVINGS, SHARES, Minutes, as_json
 from .model import Kind, Network, NetworkProblem
+from .moving import COLUMNS as MOVES
+from .moving import Provisioned, moved, words_of
 from .paging import KINDS, Wanted, pages_of
 from .parting import (
     Part,
@@ -268,16 +270,19 @@ def write_tables(question: Question, results: list[dict[str, object]], folder: F
 
 def write_against(asked: argparse.Namespace, question: Question, folder: Folder) -> None:
     """Compares with another network, which is asked the same, or with the tables of an earlier run."""
-    other = Path(asked.against)
+    other, found = Path(asked.against), {}
     if file_of(asked.against).is_file():
         there, beside_folder = folder_of(asked.against), folder.inside("against")
         other = beside_folder.path
-        network = read_network(str(there))
-        beside = replace(question, folder=there, network=network)
+        beside = replace(question, folder=there, network=read_network(str(there)))
         write_tables(beside, in_memory(beside, asked.jobs or processors()), beside_folder)
+        moves = list(moved(Provisioned(there, beside.network), Provisioned(question.folder, question.network)))
+        found["moves.csv"] = text_of_rows([MOVES, *moves])
+        say(f"beside {shown(asked.against)}: {words_of(moves, len(question.network.customers))}")
     table, words = compared(answer_in(other), answer_in(folder.path))
-    folder.write("against.csv", table)
-    print(shown(folder.path / "against.csv"))
+    for name, text in ({"against.csv": table} | found).items():
+        folder.write(name, text)
+        print(shown(folder.path / name))
     for one in words:
         say(one)
 
