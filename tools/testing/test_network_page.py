@@ -4,6 +4,7 @@ import csv
 import json
 import random
 import re
+import shutil
 import tempfile
 import unittest
 from functools import cache
@@ -77,6 +78,25 @@ class Page(unittest.TestCase):
             self.assertIn(words, Seen(desk).text().replace("\u2060", ""))
             self.assertIn("min/year", desk)
         self.assertNotIn("Leine bridge", (made()[1] / "pages" / "south.html").read_text(encoding="utf-8"))
+
+    def test_no_ring_s_page_stands_in_place_of_the_network_s(self):
+        with tempfile.TemporaryDirectory() as name:
+            folder = Path(name)
+            shutil.copytree(EXAMPLE, folder / "tables")
+            for table in ("rings", "spans"):
+                file = folder / "tables" / f"{table}.csv"
+                file.write_text(file.read_text(encoding="utf-8").replace("North", "Index"), encoding="utf-8")
+            self.assertEqual(call("sdhring-network", "import", "tables", "--to", "net", cwd=folder).returncode, 0)
+            self.assertEqual(sorted(path.name for path in (folder / "net" / "rings").iterdir()), ["index-2.toml", "middle.toml", "south.toml"])
+            ended = call("sdhring-network", "page", "net", "--cuts-per-1000-km", "2", "--to", "pages", cwd=folder)
+            self.assertEqual((ended.returncode, sorted(path.name for path in (folder / "pages").iterdir())), (0, ["index-2.html", "index.html", "middle.html", "south.html"]))
+            self.assertIn('id="network"', (folder / "pages" / "index.html").read_text(encoding="utf-8"))
+            (folder / "net" / "rings" / "index-2.toml").rename(folder / "net" / "rings" / "index.toml")
+            document = folder / "net" / "network.toml"
+            document.write_text(document.read_text(encoding="utf-8").replace("index-2", "index"), encoding="utf-8")
+            ended = call("sdhring-network", "page", "net", "--to", "more", cwd=folder)
+            said = "ring 1: the page of the plan `rings/index.toml` would stand in place of the network's own, index.html; give that plan another name"
+            self.assertEqual((ended.returncode, said in ended.stderr.decode(), (folder / "more").exists()), (1, True, False))
 
     def test_the_pages_need_nothing_else(self):
         self.assertEqual(re.findall(r"""(?:src|href)=["']?(?!#|north|middle|south)[^"']+""", index()), [])

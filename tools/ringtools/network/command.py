@@ -28,7 +28,7 @@ from .growing import added_to, read_more
 from .joining import Joined
 from .making import Made, Settings, kept_load, made_of, service_of
 from .minutes import CAUSES, SAVINGS, SHARES, Minutes, as_json
-from .model import Kind, Network, NetworkProblem
+from .model import INDEX, Kind, Network, NetworkProblem
 from .moving import COLUMNS as MOVES
 from .moving import Provisioned, moved, words_of
 from .paging import KINDS, Wanted, pages_of
@@ -325,7 +325,7 @@ def page(asked: argparse.Namespace) -> int:
         to.write(name, text)
     for one in notes:
         say(one)
-    print(shown(to.path / "index.html"))
+    print(shown(to.path / INDEX))
     return 0
 
 

@@ -9,7 +9,7 @@ from ..files import MEBIBYTE, FileProblem, Limit, read_input
 from ..markup import count_of
 from ..plan import PlanProblem, read_document
 from .members import Members
-from .model import Customer, Group, Network, NetworkProblem, Ring, Section, key_of
+from .model import INDEX, Customer, Group, Network, NetworkProblem, Ring, Section, key_of
 
 FILE = "network.toml"
 KEYS = {
@@ -80,7 +80,10 @@ def read_ring(number: int, where: str, table: dict[str, Any]) -> Ring:
     if not 2 <= len(places) <= MOST_NODES:
         raise NetworkProblem(f"{where}: {count_of(len(places), 'place')}, and a ring has 2 to {MOST_NODES}")
     check_once(list(places), f"place of ring {name}, so two place")
-    return Ring(number, name, file, places)
+    ring = Ring(number, name, file, places)
+    if ring.page == INDEX:
+        raise NetworkProblem(f"{where}: the page of the plan `{file}` would stand in place of the network's own, {INDEX}; give that plan another name")
+    return ring
 
 
 def read_section(text: str, where: str, rings: dict[str, Ring]) -> Section:

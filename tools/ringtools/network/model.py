@@ -10,6 +10,9 @@ from enum import Enum
 from functools import cached_property
 
 
+INDEX = "index.html"  # the network's own page
+
+
 class NetworkProblem(Exception):
     """A network isn't one, or can't be asked what was asked."""
 

@@ -19,7 +19,7 @@ from .document import FILE
 from .joining import Joined
 from .making import checked_plan
 from .minutes import Minutes
-from .model import Kind, Network, NetworkProblem, Ring
+from .model import INDEX, Kind, Network, NetworkProblem, Ring
 from .page import MOST_RINGS, NetworkPage, PageParts
 from .pagedata import KINDS, Failures, failures_of, ring_data
 from .parting import WORK, Question, in_memory
@@ -144,7 +144,7 @@ def pages_of(question: Question, jobs: int, wanted: Wanted) -> dict[str, str]:
         parts.savings = minutes.savings()
     document = dict(question.files())[FILE]
     origin = Origin(question.program, str(question.folder / FILE), sum_of(document), (now(),))
-    pages = {"index.html": NetworkPage(wanted.title, network, parts, origin).page()}
+    pages = {INDEX: NetworkPage(wanted.title, network, parts, origin).page()}
     for ring, part in zip(network.rings, rings):
         if "desk" in part:
             pages[ring.page] = part["desk"]

@@ -14,7 +14,7 @@ from ..places import why_no_name
 from ..files import MEBIBYTE, Limit
 from ..tables import Row, Table, TableProblem, read_table
 from .members import Members
-from .model import Group, Network, NetworkProblem, Ring, key_of
+from .model import INDEX, Group, Network, NetworkProblem, Ring, key_of
 
 RING_COLUMNS = ("ring", "rate", "places")
 CIRCUIT_COLUMNS = (
@@ -97,13 +97,13 @@ class Tables:
 
 
 def files_of(names: list[str]) -> list[str]:
-    """Returns a file's name for the plan of each ring: its letters in small ones, and a number where two would be alike."""
+    """Returns a file's name for the plan of each ring: its letters in small ones, and a number where two would be alike, or the network's own page."""
     found: list[str] = []
     for name in names:
         kept = "".join(letter if letter.isalnum() and letter.isascii() else "-" for letter in name.casefold())
         stem = "-".join(filter(None, kept.split("-")))[:40] or "ring"
         number = 1
-        while f"{FOLDER}/{stem}.toml" in found:
+        while f"{FOLDER}/{stem}.toml" in found or f"{stem}.html" == INDEX:
             number += 1
             stem = f"{stem[:36]}-{number}"
         found.append(f"{FOLDER}/{stem}.toml")
