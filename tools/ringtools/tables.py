@@ -109,6 +109,7 @@ class Table:
     form: Form
     heads: tuple[str, ...]  # the names of all columns, as they stand
     rows: list[Row] = field(default_factory=list)
+    freed: list[str] = field(default_factory=list)  # cells with an apostrophe that is no part of the text, as they stand
 
     def nearest(self, column: str) -> str:
         """Returns the known name that a column may stand for, of those that the table lacks; empty where none is like it."""
@@ -116,9 +117,12 @@ class Table:
         return next(iter(difflib.get_close_matches(spelled(column[:QUOTED]), missing, 1, LIKENESS)), "")
 
     def notes(self) -> list[str]:
-        """Returns a line on the columns that aren't read, each with the name that is nearest to it; none where all are."""
+        """Returns a line on the columns that aren't read, each with the name that is nearest to it, and one on apostrophes; none where all is read as it stands."""
         told = [quoted(column) + (f" (nearest: {near})" if (near := self.nearest(column)) else "") for column in self.unread]
-        return [f"{self.file}: not read: {', '.join(told)}"] if told else []
+        notes = [f"{self.file}: not read: {', '.join(told)}"] if told else []
+        if self.freed:
+            notes.append(f"{self.file}: read without the apostrophe before a formula's sign: {quoted(', '.join(self.freed))}")
+        return notes
 
 
 def spelled(column: str) -> str:
@@ -190,14 +194,14 @@ def sign_of(text: str) -> tuple[str, int]:
 
 
 def cells_of(name: str, line: int, raw: Sequence[str]) -> list[str]:
-    """Returns the cells of a record, each without blanks at its ends and with one where there were several."""
+    """Returns the cells of a record as they stand, each without blanks at its ends and with one where there were several."""
     if len(raw) > COLUMNS or any(len(cell) > CELL for cell in raw):
         raise TableProblem(f"{name}:{line}: a row has at most {COLUMNS} cells, and a cell {CELL:,} characters")
-    return [read_cell(" ".join(cell.split())) for cell in raw]
+    return [" ".join(cell.split()) for cell in raw]
 
 
 def records_of(name: str, text: str, sign: str, before: int, rows: int = ROWS) -> Iterator[tuple[int, list[str]]]:
-    """Gives the first line of each record, and its cells. `before` is the number of lines above the text."""
+    """Gives the first line of each record, and its cells as they stand. `before` is the number of lines above the text."""
     reader, line, number = csv.reader(io.StringIO(text, newline=""), delimiter=sign, strict=True), before, 0
     try:
         for raw in reader:
@@ -218,7 +222,8 @@ def read_table(name: str, known: Sequence[str], needed: Sequence[str], most: int
     text = text_of(name, limit)
     sign, begin = sign_of(text)
     form, table = Form(sign), None
-    for line, cells in records_of(name, text[begin:], sign, text.count("\n", 0, begin), max(ROWS, most)):
+    for line, standing in records_of(name, text[begin:], sign, text.count("\n", 0, begin), max(ROWS, most)):
+        cells = list(map(read_cell, standing))
         if not any(cells):
             continue
         if table is None:
@@ -229,6 +234,7 @@ def read_table(name: str, known: Sequence[str], needed: Sequence[str], most: int
         if len(table.rows) == most:
             raise TableProblem(f"{name}:{line}: this table has at most {most:,} rows")
         form.look_at(cells)
+        table.freed += [stood for stood, cell in zip(standing, cells) if stood != cell]
         table.rows.append(row_of(name, line, heads, cells, form))
     if table is None:
         raise TableProblem(f"{name}:1: the table is empty; its first line is to name the columns {', '.join(needed)}")

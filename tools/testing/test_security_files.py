@@ -196,7 +196,17 @@ class Cells(Folders):
         for text in (*self.FORMULAS, *self.TEXTS):
             self.assertEqual(read_cell(cell(text)), text)
             file.write_text(text_of_rows([["name", "other"], [text, "x"]]), encoding="utf-8")
-            self.assertEqual(read_table(str(file), ("name", "other"), ("name",)).rows[0]["name"], text)
+            table = read_table(str(file), ("name", "other"), ("name",))
+            self.assertEqual(table.rows[0]["name"], text)
+            self.assertEqual(table.freed, [cell(text)] if text in self.FORMULAS else [])
+
+    def test_an_apostrophe_that_is_no_part_of_a_text_is_told(self):
+        """A spreadsheet puts it before a text that begins like a formula, and another's table may have it too."""
+        file = self.top / "t.csv"
+        file.write_text("name,from\n'+49 Net,'Bonn\n'-x,1\n", encoding="utf-8")
+        table = read_table(str(file), ("name", "from"), ("name",))
+        self.assertEqual([(row["name"], row["from"]) for row in table.rows], [("+49 Net", "'Bonn"), ("-x", "1")])
+        self.assertEqual(table.notes(), [f"{file}: read without the apostrophe before a formula's sign: '+49 Net, '-x"])
 
 
 class Shown(unittest.TestCase):

@@ -6,6 +6,7 @@ import re
 from collections.abc import Iterator, Sequence
 from dataclasses import dataclass
 
+from ..cells import read_cell
 from ..files import MEBIBYTE, Limit
 from ..tables import LOOKED_AT, ROWS, SIGNS, TableProblem, quoted, records_of, spelled, text_of
 
@@ -109,7 +110,8 @@ class Listing:
     def rows(self, name: str, text: str, before: int, sign: str) -> Iterator[Record]:
         """Yields the rows of a table, whose first line names the columns."""
         heads: Sequence[str] = ()
-        for line, cells in records_of(name, text, sign, before):
+        for line, standing in records_of(name, text, sign, before):
+            cells = list(map(read_cell, standing))
             if not heads:
                 heads = cells
                 if unread := [quoted(cell) for cell in cells if cell and kind_of(cell) is None]:
