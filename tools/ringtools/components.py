@@ -3,7 +3,7 @@
 from dataclasses import dataclass
 
 from .failures import cut_by, span_fibres, span_named
-from .tables import LARGEST, TableProblem, quoted, read_table
+from .tables import LARGEST, Row, TableProblem, quoted, read_table
 
 SPANS, NODES, GROUPS = 64, 64, 64  # rows; a ring has 16 spans and 16 nodes, and whoever has more is told which row is wrong
 HOURS = 8760.0  # of a year of 365 days
@@ -119,14 +119,19 @@ def cuts_of(row, per_1000_km):
     return km * rate / 1000
 
 
+def fibre_rates(row: Row) -> tuple[float, float] | None:
+    """Returns how often each fibre of a span fails alone in a year, and the hours of a repair; None where the row has neither."""
+    rate = row.number("fibre_failures")
+    if rate is None and row["fibre_hours"]:
+        raise row.problem(f"`fibre_hours` is `{row.quoted('fibre_hours')}`, and `fibre_failures`, the failures a year of each fibre, are missing")
+    return None if rate is None else (rate, needed(row, "fibre_hours", REPAIR))
+
+
 def fibres_alone(row, finder, span):
     """The two fibres of a span as components of their own, where the row has a rate for them."""
-    rate = row.number("fibre_failures")
-    if rate is None:
-        if row["fibre_hours"]:
-            raise row.problem(f"`fibre_hours` is `{row.quoted('fibre_hours')}`, and `fibre_failures`, the failures a year of each fibre, are missing")
+    if (rates := fibre_rates(row)) is None:
         return
-    hours = needed(row, "fibre_hours", REPAIR)
+    rate, hours = rates
     for at, side in span_fibres(finder.plan, span):
         here, there = finder.plan.ids[at], finder.plan.ids[finder.plan.neighbour(at, side)]
         name = f"fibre {finder.places.place(here)}>{finder.places.place(there)}"

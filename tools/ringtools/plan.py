@@ -5,7 +5,7 @@ import tomllib
 from dataclasses import dataclass, field
 
 from .checks import SIDES, STEP_FORMS, Checks, refusals
-from .files import PLAN
+from .files import PLAN, Limit
 from .places import Places, shown_places, written
 from .source import STRINGS
 
@@ -133,10 +133,10 @@ def check_keys(text: str) -> None:
             raise ManyKeys
 
 
-def parsed_document(data: bytes) -> dict:
+def parsed_document(data: bytes, limit: Limit = PLAN) -> dict:
     """Returns the TOML document as it stands. Raises PlanProblem."""
-    if len(data) > PLAN.bytes:
-        raise PlanProblem(f"it is longer than {PLAN.bytes:,} bytes, the most that a plan has")
+    if len(data) > limit.bytes:
+        raise PlanProblem(f"it is longer than {limit.bytes:,} bytes, the most that {limit.what} has")
     try:
         text = data.decode("utf-8-sig")
         check_keys(text)
@@ -153,9 +153,9 @@ def has_large_number(value: object) -> bool:
     return isinstance(value, int) and not -(2**63) <= value < 2**63 or any(map(has_large_number, inner))
 
 
-def read_document(data: bytes) -> dict:
-    """Returns the TOML document of a plan, whose numbers have at most 64 bits. Raises PlanProblem."""
-    document = parsed_document(data)
+def read_document(data: bytes, limit: Limit = PLAN) -> dict:
+    """Returns the TOML document of a plan, or of what has this limit, whose numbers have at most 64 bits. Raises PlanProblem."""
+    document = parsed_document(data, limit)
     try:
         if has_large_number(document):
             raise PlanProblem("no TOML document: an integer of more than 64 bits")

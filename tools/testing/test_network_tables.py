@@ -331,6 +331,21 @@ class Mistakes(Folder):
                 _, said = self.call("whatif", self.top / "net", "--dir", self.top / "out", wanted=1)
                 self.assertIn(words, said)
 
+    def test_a_document_has_at_most_24_mebibytes(self):
+        """A network of a thousand rings has several, and a plan one."""
+        self.document("[[ring]]", "# " + "x" * (3 << 20) + "\n[[ring]]")
+        self.call("whatif", self.top / "net", "--dir", self.top / "out")
+        self.document("[[ring]]", "# " + "x" * (24 << 20) + "\n[[ring]]")
+        _, said = self.call("whatif", self.top / "net", "--dir", self.top / "out", wanted=1)
+        self.assertIn("it is longer than 25,165,824 bytes, the most that is read of a network's document", said)
+
+    def test_a_fibre_s_rate_and_its_hours_stand_together(self):
+        head, row = SPANS.split("\n", 1)[0], "North,Ahlen,Bonn,10,1,8"
+        for cells, words in (((",", ",8"), "`fibre_hours` is `8`, and `fibre_failures`, the failures a year of each fibre, are missing"), ((",2", ","), "`fibre_hours` is empty, and")):
+            more = "".join(line + (",fibre_failures,fibre_hours" if line == head else "".join(cells) if line == row else ",,") + "\n" for line in SPANS.splitlines())
+            _, said = self.call("import", self.tables(spans=more), "--to", self.top / "more", wanted=1)
+            self.assertIn(f"spans.csv:2: {words}", said)
+
     def test_what_is_asked_wrongly(self):
         self.imported(self.tables())
         for words, asked, status in (

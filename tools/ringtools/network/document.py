@@ -135,7 +135,7 @@ def read_group(where: str, table: dict[str, Any]) -> Group:
 def network_of(data: bytes) -> Network:
     """Returns the network of these bytes, or raises a NetworkProblem. Plans aren't read; each is held against it when it is."""
     try:
-        document = read_document(data)
+        document = read_document(data, DOCUMENT)
     except PlanProblem as problem:
         raise NetworkProblem(str(problem)) from None
     if unknown := sorted(set(document) - set(KEYS)):

@@ -3,7 +3,7 @@
 from dataclasses import dataclass
 from pathlib import Path
 
-from ..components import HOURS, REPAIR, cuts_of, needed
+from ..components import HOURS, REPAIR, cuts_of, fibre_rates, needed
 from ..tables import Row, TableProblem
 from .components import Components, side_name
 from .members import Part
@@ -57,14 +57,9 @@ def of_spans(file: Path, network: Network, per_1000_km: float | None) -> list[Ra
 
 def of_fibres(row: Row, network: Network, number: int, span: int) -> list[Rated]:
     """The fibres of a span that fail alone: the one that leads eastwards, and the one that leads westwards."""
-    rate = row.number("fibre_failures")
-    if rate is None:
-        if row["fibre_hours"]:
-            raise row.problem(
-                "`fibre_hours` is there and `fibre_failures` isn't: failures a year of each fibre alone are wanted, or neither"
-            )
+    if (rates := fibre_rates(row)) is None:
         return []
-    hours, ring = needed(row, "fibre_hours", REPAIR), network.rings[number]
+    (rate, hours), ring = rates, network.rings[number]
     ends = ((span, "east"), ((span + 1) % ring.size, "west"))
     return [
         Rated(Kind.FIBRE, side_name(ring, Kind.FIBRE, at, side), (Part(number, Kind.FIBRE, at, side),), rate, hours)

@@ -8,6 +8,7 @@ from dataclasses import dataclass, field
 from pathlib import Path
 
 from ..checks import is_sent
+from ..components import fibre_rates
 from ..importing import DIRECTIONS
 from ..markup import count_of
 from ..places import why_no_name
@@ -296,12 +297,9 @@ def read_lengths(file: Path, network: Network, notes: list[str]) -> dict[tuple[i
     notes += table.notes()
     found: dict[tuple[int, int], float] = {}
     for span, row in rows.items():
-        for column in ("cuts", "cuts_per_1000_km", "hours", "fibre_failures", "fibre_hours"):
+        for column in ("cuts", "cuts_per_1000_km", "hours"):
             row.number(column)
-        if row["fibre_hours"] and not row["fibre_failures"]:
-            raise row.problem(
-                "`fibre_hours` is there and `fibre_failures` isn't: failures a year of each fibre alone are wanted, or neither"
-            )
+        fibre_rates(row)
         km = row.number("km")
         if km is not None:
             found[span] = km
