@@ -125,7 +125,8 @@ def summary(desk):
         yield html("<strong>{}, one {}</strong>: customers are lost {}{}.", TITLES[kind].capitalize(), desk.alone, most, besides)
     pairs = desk.pairs()
     some = [case for case in pairs if case.lost]
-    yield html("<strong>{} cut</strong>: customers are lost in {} of {} pairs; at most {}.", "Two more spans" if desk.script.is_something else "Two spans", len(some), len(pairs), max((case.lost for case in pairs), default=0))
+    two, most = "Two more spans" if desk.script.is_something else "Two spans", max((case.lost for case in pairs), default=0)
+    yield html("<strong>{} cut</strong>: customers are lost in {} of {} pairs; at most {}.", two, len(some), len(pairs), most)
     for note in desk.notes:
         yield html("<strong>Not all of a table was read</strong>: {}.", note)
 
@@ -250,14 +251,22 @@ def chooser(desk):
     fibres = radios("A clicked fibre is", "fibre", (("fibre", "cut"), ("degraded", "degraded")))
     switches = radios("A clicked switch is", "switch", (("forced", "forced"), ("manual", "manual")))
     customers = joined(option(number, name) for number, name in enumerate(desk.called))
-    return html("""<div class="panel" hidden>
+    left = html('<p class="script">The script left: {}.</p>', "; ".join(desk.script.words())) if desk.script.is_something else ""
+    return html(
+        """<div class="panel" hidden>
 <p>A click, a tap, or Tab and Enter makes a node, a span (the label outside) or a fibre fail, or switches a side (the square beside a node); once more takes it away. Up to {} together. <label><input type="checkbox" id="large"> large drawing</label></p>
 {}{}
 <p><label>Or choose <select id="choose">{}{}</select></label> <button type="button" id="clear">clear</button></p>
 {}
 <p id="failed"></p><div id="told" role="status" aria-live="polite"></div>
 <p><label>Way of <select id="whose">{}{}</select></label></p>
-</div>""", DEPTHS[desk.depth].removeprefix("up to "), fibres, switches, option("", "a failure"), joined(failure_options(desk)), html('<p class="script">The script left: {}.</p>', "; ".join(desk.script.words())) if desk.script.is_something else "", option("", "no customer"), customers)
+</div>""",
+        DEPTHS[desk.depth].removeprefix("up to "),
+        *(fibres, switches),
+        *(option("", "a failure"), joined(failure_options(desk))),
+        left,
+        *(option("", "no customer"), customers),
+    )
 
 
 def origin_section(desk, origin):

@@ -96,7 +96,9 @@ def player(plan, stretch, scene, diagram):
     now = stretch.end()
     nodes = table("Nodes in this round", HEADS, [cells(plan, at, now[at]) for at in range(plan.size)])
     still = html('<p class="note still">As it is from round {} on.</p>', stretch.quiet())
-    return html('<div class="player">{}{}<div class="step"><figure class="rounds"><div class="frame">{}</div></figure>{}</div><script type="application/json">{}</script></div>', controls, still, ring, nodes, data(data_of(plan, stretch, scale)))
+    step = html('<div class="step"><figure class="rounds"><div class="frame">{}</div></figure>{}</div>', ring, nodes)
+    known = html('<script type="application/json">{}</script>', data(data_of(plan, stretch, scale)))
+    return html('<div class="player">{}{}{}{}</div>', controls, still, step, known)
 
 
 def spans_cut(plan, scene):

@@ -89,13 +89,19 @@ class NetworkPage:
             ]
             lists += [html('<optgroup label="{}">{}</optgroup>', TITLES[kind], joined(options))] if options else []
         customers = joined(option(number, customer.name) for number, customer in enumerate(self.network.customers))
-        return html("""<div class="panel" hidden>
+        return html(
+            """<div class="panel" hidden>
 <p>A click, a tap, or Tab and Enter makes a span or a place fail, in whichever ring; once more takes it away. Up to two failures that touch one ring, in all rings together.
 <label><input type="checkbox" id="large"> large drawing</label></p>
 <p><label>Or choose <select id="choose">{}{}</select></label> <button type="button" id="clear">clear</button></p>
 <p id="failed"></p><div id="told" role="status" aria-live="polite"></div>
 <p><label>Way of <select id="whose">{}{}</select></label></p>
-</div>""", option("", "a failure"), joined(lists), option("", "no customer"), customers)
+</div>""",
+            option("", "a failure"),
+            joined(lists),
+            option("", "no customer"),
+            customers,
+        )
 
     def customers(self) -> Markup:
         shares = self.parts.shares
