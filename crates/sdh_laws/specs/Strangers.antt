@@ -1,5 +1,6 @@
 pub mod Owners
 pub mod Ages
+pub mod Transit
 pub mod Vouched
 pub mod Laws
 pub mod Undisturbed

@@ -6,7 +6,8 @@
 ghost use Rattle.sdh_laws.specs.Strangers.Laws.{VouchedRingsStay, RoundsKeepStrangersOut, StepsKeepStrangersOut, NoPortEverMeetsAStranger};
 ghost use Rattle.sdh_laws.specs.Strangers.Laws.{NodesAsideMayBeHeld, NodesThatDoNotPassMayBeHeld, SettledRingsAreVouchedFor};
 ghost use Rattle.sdh_laws.specs.Strangers.Laws.{AHoldSpoilsItsOwnStepAlone, RingsComeToBeVouchedFor, StrangersAreGoneSoon};
-ghost use Rattle.sdh_laws.specs.Strangers.Laws.{StepsDeliverRecentBytes, NothingComesLate};
+ghost use Rattle.sdh_laws.specs.Strangers.Laws.{BytesComeAfterTransit, TransitsAreShort, StepsDeliverAfterTransit};
+ghost use Rattle.sdh_laws.specs.Strangers.Laws.{BytesAlwaysComeAfterTransit, StepsDeliverRecentBytes, NothingComesLate};
 ghost use Rattle.sdh_laws.specs.Strangers.Undisturbed.{UndisturbedPortsDeliver};
 
 /// A new ring is vouched for. It stays so over every change, except one that holds the controller of a node that is
@@ -67,16 +68,40 @@ pub fn rings_come_to_be_vouched_for()
     ensures { RingsComeToBeVouchedFor }
 {}
 
+/// In a whole ring, whatever it carries, once 2n - 3 rounds are over after the last one that a controller missed, each
+/// port delivers AIS, ones, or bytes that its circuit's other port sent exactly one transit before: as many rounds as
+/// there are spans on the arc, or on the way once round the ring past some of these.
+pub fn bytes_come_after_transit()
+    ensures { BytesComeAfterTransit }
+{}
+
+/// Bytes that were sent one transit before are at most 2n - 3 rounds old.
+pub fn transits_are_short()
+    ensures { TransitsAreShort }
+{}
+
 /// In a whole ring, whatever it carries, no port meets a stranger once 2n - 3 rounds are over after the last one that a
 /// controller missed. From then on none delivers bytes that are older than 2n - 3 rounds.
 pub fn strangers_are_gone_soon()
     ensures { StrangersAreGoneSoon }
 {}
 
+/// In every settle step of a whole ring each port delivers AIS, ones, or its own customer's bytes of exactly one transit
+/// before, once 2n - 3 rounds of the step are over after the last one that a controller missed.
+pub fn steps_deliver_after_transit()
+    ensures { StepsDeliverAfterTransit }
+{}
+
 /// In every settle step of a whole ring no port delivers bytes that are older than 2n - 3 rounds, once 2n - 3 rounds of
 /// the step are over after the last one that a controller missed.
 pub fn steps_deliver_recent_bytes()
     ensures { StepsDeliverRecentBytes }
+{}
+
+/// From a new ring on, where no controller is ever held, each port delivers in each round AIS, ones, or bytes that its
+/// circuit's other port sent exactly one transit before.
+pub fn bytes_always_come_after_transit()
+    ensures { BytesAlwaysComeAfterTransit }
 {}
 
 /// From a new ring on, where no controller is ever held, no port delivers bytes that are older than 2n - 3 rounds.

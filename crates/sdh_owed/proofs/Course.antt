@@ -38,9 +38,9 @@ use Rattle.sdh_scripts.proofs.Reporting.{settles_by, reports_by, breaks_by}
 use Rattle.sdh_owed.specs.Steps.{after_step}
 use Rattle.sdh_owed.specs.Scripts.{Runs}
 use Rattle.sdh_owed.specs.Laws.{ring_by}
-use Rattle.sdh_owed.proofs.Strangers.{none_old_unheld, none_old_then, none_old}
-use Rattle.sdh_owed.specs.Strangers.{NoneEverMeetsOldBytes}
-use Rattle.sdh_owed.proofs.Soon.{RestoredSoon, happens_front, ready_then, followed_then, owed_soon, joined_soon}
+use Rattle.sdh_owed.proofs.Strangers.{come_after_transit, none_old_unheld, none_old}
+use Rattle.sdh_owed.specs.Strangers.{AllEverComeAfterTransit, NoneEverMeetsOldBytes}
+use Rattle.sdh_owed.proofs.Soon.{IsReady, RestoredSoon, happens_front, ready_then, followed_then, owed_soon, joined_soon}
 use Rattle.sdh_owed.proofs.Standing.{Stands, whole, stretch_to, changed_then, settled_then, stands_new}
 use Rattle.sdh_owed.specs.Course.{stretch, HaveCondition, IsLeftOff, WentThrough, AreSentAlike, HasSent, NoneEverMeetsAStranger}
 use Rattle.sdh_owed.specs.Course.{AllIsOwedSoon, TrafficIsOwedSoon, HasCourse, CoursesAreTold}
@@ -283,27 +283,40 @@ module _ (s : Settings) (ids : List ℕ) (circuits : Provisioning) (f : Fibres) 
     abbrev ring : Ring
     ring = ring_by s (length ids) circuits.circuits
 
+    -- a step among them, with what leads to it
+    abbrev until : List Stretch → Stretch → List Stretch
+    until earlier last = earlier ++ last ∷ []
+
+    happens_until : (earlier later : List Stretch) (last : Stretch) → ss ≡ earlier ++ last ∷ later → MayHappen from (until earlier last)
+    happens_until earlier later last is =
+        happens_front (until earlier last) later from
+        (subst (MayHappen from) (is ∙ sym (append_assoc earlier (last ∷ []) later)) happens)
+
+    quiet_until : (earlier later : List Stretch) (last : Stretch) → ss ≡ earlier ++ last ∷ later → EndQuietly from (until earlier last)
+    quiet_until earlier later last is =
+        quiet_front (until earlier last) later from (subst (EndQuietly from) (is ∙ sym (append_assoc earlier (last ∷ []) later)) quiet)
+
+    ready_until : (earlier later : List Stretch) (last : Stretch) → ss ≡ earlier ++ last ∷ later → IsReady (after_stretches earlier from)
+    ready_until earlier later last is =
+        ready_then s ids circuits f may earlier last later (subst (MayHappen from) is happens) (subst (EndQuietly from) is quiet)
+
     pub strangers : AHoldSpoilsItsOwnStepAlone → NoneEverMeetsAStranger from ring ss
     strangers law earlier later last is none t low =
-        let now = earlier ++ last ∷ [] in
-        let front : ss ≡ now ++ later = is ∙ sym (append_assoc earlier (last ∷ []) later) in
-        law s ids circuits f earlier last may (happens_front now later from (subst (MayHappen from) front happens))
-        (quiet_front now later from (subst (EndQuietly from) front quiet)) none form t low
+        law s ids circuits f earlier last may (happens_until earlier later last is) (quiet_until earlier later last is) none form t low
+
+    pub transit : StillRingsAreSettled → AHoldSpoilsItsOwnStepAlone → AllEverComeAfterTransit from ring ss
+    transit still law earlier later last is t low unheld =
+        come_after_transit s ids circuits f may form still law earlier last (happens_until earlier later last is)
+        (quiet_until earlier later last is) (ready_until earlier later last is) t low unheld
 
     pub recent : StillRingsAreSettled → AHoldSpoilsItsOwnStepAlone → NoneEverMeetsOldBytes from ring ss
     recent still law earlier later last is t age low old =
-        let now = earlier ++ last ∷ [] in
-        let front : ss ≡ now ++ later = is ∙ sym (append_assoc earlier (last ∷ []) later) in
-        let happened = happens_front now later from (subst (MayHappen from) front happens) in
-        let ended = quiet_front now later from (subst (EndQuietly from) front quiet) in
-        let ready =
-        ready_then s ids circuits f may earlier last later (subst (MayHappen from) is happens) (subst (EndQuietly from) is quiet) in
+        let happened = happens_until earlier later last is in
+        let ended = quiet_until earlier later last is in
+        let ready = ready_until earlier later last is in
         elim old [
-          | inl soon ↦ elim soon.1 [
-            | inl unheld ↦ none_old_unheld s ids circuits f may form still law earlier last happened ended ready t age low soon.0 unheld
-            | inr late ↦ none_old_then s ids circuits f may form still law earlier last happened ended ready t age low soon.0 late
-          ]
-          | inr any ↦ none_old s ids circuits f may form still law earlier last happened ended ready t age low any.0 any.1
+          | inl soon ↦ none_old_unheld s ids circuits f may form still law earlier last happened ended ready t low age soon.0 soon.1
+          | inr any ↦ none_old s ids circuits f may form still law earlier last happened ended ready t low age any.0 any.1
         ]
 
     soon : RestoredSoon → AllIsOwedSoon from ring ss
@@ -336,6 +349,7 @@ courses_are_told still_law strangers_law soon_laws s ids circuits f may form lim
       through = goes.through;
       sent = goes.sent;
       strangers = strangers s ids circuits f may form goes.stretches goes.happens goes.quiet strangers_law;
+      transit = transit s ids circuits f may form goes.stretches goes.happens goes.quiet still_law strangers_law;
       recent = recent s ids circuits f may form goes.stretches goes.happens goes.quiet still_law strangers_law;
       soon = soon s ids circuits f may form goes.stretches goes.happens goes.quiet soon_laws;
       traffic = traffic s ids circuits f may form goes.stretches goes.happens goes.quiet soon_laws;
@@ -357,6 +371,7 @@ none_ran w ring limit steps reports end left none is unmade sent = record {
       (none_through ring.nodes limit 0 [] steps end is (inl refl));
   sent = inr (is, inr (refl, unmade, sent));
   strangers = λ earlier later last front holds t low. none_last earlier last later _ front;
+  transit = λ earlier later last front t low unheld. none_last earlier last later _ front;
   recent = λ earlier later last front t age low old. none_last earlier last later _ front;
   soon = λ earlier same later last front still k late few. none_last earlier last (same ++ later) _ front;
   traffic = λ earlier same later last front still none k few index c get e joined enough. none_last earlier last (same ++ later) _ front;

@@ -11,8 +11,17 @@ use Rattle.sdh_ringmap.specs.declared.Side.TheVariants.{West, East}
 use Rattle.sdh_request.specs.declared.Defect.TheVariants as defect
 use Rattle.sdh_request.specs.Requests.{waits, highest_code}
 use Rattle.sdh_request.proofs.Highest.{at_least_sf}
-use Rattle.sdh_restoration.specs.Applied.{is_applied, is_any_applied}
-use Rattle.sdh_restoration.specs.History.{SideHistory, shows_degraded, defect_at, last_end, local_request}
+use Rattle.sdh_restoration.specs.Applied.{span_requests, applies, is_applied, is_any_applied}
+use Rattle.sdh_restoration.specs.Routes.{hops}
+use Rattle.sdh_restoration.specs.Due.{due, sends_by}
+use Rattle.sdh_restoration.specs.Happened.{happened}
+use Rattle.sdh_ringmap.specs.Arcs.{is_clear, is_joined}
+use Rattle.sdh_basics.specs.Cells.{cells}
+use Rattle.sdh_circuits.specs.Provisioned.{arc_of, customer_at}
+use Rattle.sdh_circuits.specs.Ends.{other_end, port_id}
+use Rattle.sdh_payload.specs.Outlet.{Outlet, silent}
+use Rattle.sdh_laws.specs.Strangers.Transit.{once_round}
+use Rattle.sdh_restoration.specs.History.{SideHistory, shows_degraded, defect_at, ends_at, last_end, local_request}
 use Rattle.sdh_restoration.proofs.Asked.{length-requests, asked_is_applied}
 use Rattle.sdh_signal.specs.Laws.{StillRingsAreSettled}
 use Rattle.sdh_signal.specs.Settled.{far_end, is_outranked, settled_by, settled}
@@ -32,13 +41,13 @@ use Rattle.sdh_laws.specs.Strangers.Laws.{IsNoPass, last_requests, HoldNonePassi
 use Rattle.sdh_laws.proofs.hearing.Requests.{whole_last}
 use Rattle.sdh_laws.proofs.hearing.Staying.{left_all, left_run}
 use Rattle.sdh_laws.proofs.carrying.Settles.{layout_all}
-use Rattle.sdh_laws.specs.Converging.Rings.{settings, three, one_circuit, ARingOccurs}
+use Rattle.sdh_laws.specs.Converging.Rings.{settings, three, c1, one_circuit, ARingOccurs}
 use Rattle.sdh_owed.specs.Course.{stretch, IsLate}
-use Rattle.sdh_owed.specs.Strangers.{IsOldest}
-use Rattle.sdh_owed.specs.Occurring.{slipping, cutting, holding, ring_of_three, three_over, IsOwedBehind, ThreeAreOwedSoon}
-use Rattle.sdh_owed.specs.Occurring.{cutting_held, mending, mending_held, GetsItsOwn, ThreeGetTheirOwn, ThreeMeetNoStrangers}
-use Rattle.sdh_owed.proofs.Soon.{RestoredSoon, ready_new, followed_new, owed_soon}
-use Rattle.sdh_owed.proofs.Course.{strangers, recent}
+use Rattle.sdh_owed.specs.Strangers.{IsOldest, IsUnheld}
+use Rattle.sdh_owed.specs.Occurring.{slipping, cutting, holding, ring_of_three, three_over, IsOwedBehind, ComesRound, ThreeAreOwedSoon}
+use Rattle.sdh_owed.specs.Occurring.{cutting_held, mending, mending_held, GetsItsOwn, GetsItAfterTransit, ThreeGetTheirOwn, ThreeMeetNoStrangers}
+use Rattle.sdh_owed.proofs.Soon.{RestoredSoon, ready_new, followed_new, owed_soon, joined_soon}
+use Rattle.sdh_owed.proofs.Course.{strangers, transit, recent}
 
 module _ (occurs : ARingOccurs) (laws : RestoredSoon) (f : Fibres) (honest : IsHonest f) where
   owed_behind : (changes : List Change) (k : ℕ) → MayHappen (three_over f) (stretch changes k ∷ []) → IsLate (length three) changes k
@@ -50,12 +59,40 @@ module _ (occurs : ARingOccurs) (laws : RestoredSoon) (f : Fibres) (honest : IsH
         (ready_new settings three one_circuit f) (followed_new settings three one_circuit f (occurs f honest).may laws) laws late;
   }
 
+-- ---- once round the ring
+
+-- the requests of the spans in the last of 28 rounds after the cut
+abbrev cut_requests : List ℕ
+cut_requests = span_requests 3 (asked_in 1 5 3 (stretch cutting 28 ∷ []) 27)
+
+goes_round : is_joined 3 (is_applied cut_requests) (arc_of 3 c1) ≡ true
+unfolding span_requests cells applies is_clear is_joined local_request defect_at last_end ends_at
+goes_round = refl
+
+three_spans : hops 3 (is_applied cut_requests) (arc_of 3 c1) ≡ 3
+unfolding span_requests cells applies is_clear is_joined hops local_request defect_at last_end ends_at
+three_spans = refl
+
+module _ (occurs : ARingOccurs) (laws : RestoredSoon) (f : Fibres) (honest : IsHonest f) where
+  comes_round : ComesRound f
+  unfolding due
+  comes_round = record {
+    transit = once_round 1 (omega arith) (omega arith) refl;
+    comes = λ e. (let now = stretch cutting 28 ∷ [] in
+        let sends : ℕ → Outlet = λ k. sends_by (customer_at c1 (other_end e)) (happened now (port_id 0 (other_end e)) k) in
+        joined_soon settings three one_circuit f (occurs f honest).may (occurs f honest).circuits [] (stretch cutting 28) 28 ((tt, (tt, tt)), tt)
+        (ready_new settings three one_circuit f) (followed_new settings three one_circuit f (occurs f honest).may laws) laws (tt, (tt, tt)) 0 c1
+        refl e goes_round (omega (arith, three_spans))
+        ∙ (λ k. if goes_round k then sends (27 - three_spans k) else silent));
+  }
+
 pub three_are_owed_soon : ARingOccurs → RestoredSoon → ThreeAreOwedSoon
 three_are_owed_soon occurs laws f honest = record {
   slips = owed_behind occurs laws f honest slipping 85 (((occurs f honest).happen.0.0, tt), tt)
       (inr (inl ((tt, tt), omega arith, omega arith)));
   cut = owed_behind occurs laws f honest cutting 28 ((tt, (tt, tt)), tt) (inl ((tt, (tt, tt)), omega arith));
   hold = owed_behind occurs laws f honest holding 35 ((omega arith, tt), tt) (inl ((tt, tt), omega arith));
+  round = comes_round occurs laws f honest;
 }
 
 -- ---- a node beside a span that is cut is switched
@@ -125,6 +162,18 @@ module _ (occurs : ARingOccurs) (still : StillRingsAreSettled) (spoils : AHoldSp
         recent = recent settings three one_circuit f may form now happens quiet still spoils earlier [] last refl t age low old;
       }
 
+  gets_after_transit : (earlier : List Stretch) (last : Stretch) → MayHappen (three_over f) (earlier ++ last ∷ [])
+      → EndQuietly (three_over f) (earlier ++ last ∷ []) → (t : ℕ) → t < last.rounds → IsUnheld ring_of_three last.changes t
+      → GetsItAfterTransit f earlier last t
+  gets_after_transit earlier last happens quiet t low unheld =
+      let may = (occurs f honest).may in
+      let form = (occurs f honest).circuits in record {
+        happens = happens;
+        quiet = quiet;
+        unheld = unheld;
+        comes = transit settings three one_circuit f may form (earlier ++ last ∷ []) happens quiet still spoils earlier [] last refl t low unheld;
+      }
+
   -- the window that ends the cut
   abbrev begun : World
   begun = all_changed cutting (three_over f)
@@ -174,6 +223,11 @@ module _ (occurs : ARingOccurs) (still : StillRingsAreSettled) (spoils : AHoldSp
         (inl (refl, inr (let z : 26 ≤ t + 3 = omega arith in z)));
     mended_unheld = λ t low. gets (stretch cutting ends ∷ []) (stretch mending 64) ((tt, (tt, tt)), ((tt, (tt, tt)), tt)) (window, tt)
         (tt, (tt, tt)) t 3 low (inl (refl, inl (tt, (tt, tt))));
+    cut_transit = λ t low. gets_after_transit [] (stretch cutting 64) ((tt, (tt, tt)), tt) tt t low (inl (tt, (tt, tt)));
+    mended_transit = λ t low. gets_after_transit (stretch cutting ends ∷ []) (stretch mending 64) ((tt, (tt, tt)), ((tt, (tt, tt)), tt))
+        (window, tt) t low (inl (tt, (tt, tt)));
+    held_transit = λ t late low. gets_after_transit (stretch cutting ends ∷ []) (stretch mending_held 64) happens_mended (window, tt) t low
+        (inr (let z : 26 ≤ t + 3 = omega arith in z));
   }
 
 pub three_meet_no_strangers : ARingOccurs → StillRingsAreSettled → AHoldSpoilsItsOwnStepAlone → WindowsComeSoon → ThreeMeetNoStrangers

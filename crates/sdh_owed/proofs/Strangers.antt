@@ -38,19 +38,22 @@ use Rattle.sdh_laws.proofs.carrying.Ways.{layout_run}
 use Rattle.sdh_laws.proofs.converging.Runs.{run_more}
 use Rattle.sdh_laws.proofs.strangers.Keeping.{rounds_together, happens_in_parts, world_behind}
 use Rattle.sdh_laws.proofs.strangers.Quiet.{safe_in}
-use Rattle.sdh_laws.proofs.strangers.Runs.{tells, strangers_are_gone_soon, nothing_comes_late}
+use Rattle.sdh_laws.proofs.strangers.Runs.{tells, bytes_come_after_transit, transits_are_short, bytes_always_come_after_transit}
 use Rattle.sdh_laws.proofs.strangers.Safe.{IsSafe, safe_of, safe_ready}
 use Rattle.sdh_laws.proofs.strangers.Vouched.{none_meets}
 use Rattle.sdh_laws.proofs.strangers.Shields.{AllShielded}
 use Rattle.sdh_laws.proofs.strangers.Windows.{window_vouched, window_shields}
 use Rattle.sdh_laws.specs.Strangers.Ages.{HoldsSince, MeetsNoStrangerSince, NoneMeetsAStrangerSince}
 use Rattle.sdh_laws.specs.Strangers.Ages as since
-use Rattle.sdh_owed.specs.Strangers.{longest_hold}
+use Rattle.sdh_laws.specs.Strangers.Transit.{AllComeAfterTransit}
+use Rattle.sdh_owed.specs.Laws.{ring_by}
+use Rattle.sdh_owed.specs.Strangers.{longest_hold, IsUnheld}
 use Rattle.sdh_owed.proofs.Soon.{IsReady}
 use Rattle.sdh_owed.proofs.Holding.{held_by_all, held_beside_passing}
 use Rattle.sdh_laws.proofs.strangers.Scripts.{snoc, ends_behind}
 use Rattle.sdh_laws.proofs.hearing.Nodes.{one_more}
 use Rattle.sdh_laws.proofs.hearing.Signalling.{calm_rounds_are_still}
+use Rattle.sdh_rounds.specs.Rounds as any_round
 use Rattle.sdh_rounds.specs.Runs as any_run
 use Rattle.sdh_laws.proofs.hearing.Steady.{AllHeldFor, held_for_none}
 
@@ -230,17 +233,13 @@ module _ (s : Settings) (ids : List ℕ) (circuits : Provisioning) (f : Fibres) 
     size_now : length begun_now.ring.ids ≡ n
     size_now = ap (λ (l : List ℕ). length l) (sym (left_run 0 begun_now).ids) ∙ size_at earlier last [] all_now refl happens 0
 
-    pub recent_long : NoneMeetsAStrangerSince (rounds_in earlier + t + 3 - 2 * n) (clocks_by circuits.circuits all_now)
-        (round (world_in all_now from (rounds_in earlier + t))).ring
-    recent_long =
-        let number : begun_now.ring.rounds + t + 3 - 2 * length begun_now.ring.ids ≡ rounds_in earlier + t + 3 - 2 * n =
-        omega (arith, size_now, (left_run 0 begun_now).rounds, rounds_at earlier last [] all_now refl happens 0) in
-        subst (λ (v : World). NoneMeetsAStrangerSince (rounds_in earlier + t + 3 - 2 * n) (clocks_by circuits.circuits all_now) (round v).ring)
+    pub come_long : AllComeAfterTransit (clocks_by circuits.circuits all_now) (round (world_in all_now from (rounds_in earlier + t))).ring
+    come_long =
+        subst (λ (v : World). AllComeAfterTransit (clocks_by circuits.circuits all_now) (round v).ring)
         (world_on t low ∙ sym (world_at earlier last [] all_now refl happens t low))
-        (subst (λ i. NoneMeetsAStrangerSince i (clocks_by circuits.circuits all_now) (round (world_in alone begun_now t)).ring) number
-        (strangers_are_gone_soon longest begun_now alone (clocks_by circuits.circuits all_now) (whole_begun earlier last [] all_now refl happens)
+        (bytes_come_after_transit longest begun_now alone (clocks_by circuits.circuits all_now) (whole_begun earlier last [] all_now refl happens)
         (form_begun earlier last [] all_now refl happens) held_now (tt, tt) (tt, tt) told_now t (omega (arith, long, size_now))
-        (omega (arith, low))))
+        (omega (arith, low)))
 
   -- ---- a stretch after a quiet window
 
@@ -412,27 +411,17 @@ module _ (s : Settings) (ids : List ℕ) (circuits : Provisioning) (f : Fibres) 
             (let e : 3 * n + (j - 3 * n) ≡ j = omega (arith, high) in e) (told_behind (j - 3 * n) (omega (arith, few, high)))
       ]
 
-      pub recent_unheld : (t : ℕ) → t < next.rounds
-          → NoneMeetsAStrangerSince (rounds_in (before ++ prev ∷ []) + t + 3 - 2 * n) (clocks_by circuits.circuits all_next)
-          (round (world_in all_next from (rounds_in (before ++ prev ∷ []) + t))).ring
-      recent_unheld t low =
+      pub come_unheld : (t : ℕ) → t < next.rounds
+          → AllComeAfterTransit (clocks_by circuits.circuits all_next) (round (world_in all_next from (rounds_in (before ++ prev ∷ []) + t))).ring
+      come_unheld t low =
           let later = before ++ prev ∷ [] in
           let there : world_in since_opened opened (3 * n + t) ≡ world_in all_next from (rounds_in later + t) =
           later_now t ∙ world_low next [] closed t low ∙ ap (run t) (sym same_start) ∙ sym (world_at later next [] all_next refl happens t low) in
           let size : length opened.ring.ids ≡ n = size_prev lead in
-          let number : opened.ring.rounds + (3 * n + t) + 3 - 2 * length opened.ring.ids ≡ rounds_in later + t + 3 - 2 * n =
-          omega (
-            arith,
-            size,
-            rounds_at before prev (next ∷ []) all_next parted_so happens_prev lead,
-            rounds_together before (prev ∷ []),
-            long_prev,
-          ) in
-          subst (λ (v : World). NoneMeetsAStrangerSince (rounds_in later + t + 3 - 2 * n) (clocks_by circuits.circuits all_next) (round v).ring) there
-          (subst (λ i. NoneMeetsAStrangerSince i (clocks_by circuits.circuits all_next) (round (world_in since_opened opened (3 * n + t))).ring) number
-          (strangers_are_gone_soon 0 opened since_opened (clocks_by circuits.circuits all_next) whole_then form_then free_then
+          subst (λ (v : World). AllComeAfterTransit (clocks_by circuits.circuits all_next) (round v).ring) there
+          (bytes_come_after_transit 0 opened since_opened (clocks_by circuits.circuits all_next) whole_then form_then free_then
           (tt, subst (λ (v : World). MayHappen v (next ∷ [])) (sym until_now) parts_next.1.1) (tt, (unheld, tt)) told_all (3 * n + t)
-          (omega (arith, size)) (omega (arith, low))))
+          (omega (arith, size)) (omega (arith, low)))
 
   -- ---- any stretch
 
@@ -474,14 +463,14 @@ module _ (s : Settings) (ids : List ℕ) (circuits : Provisioning) (f : Fibres) 
     abbrev Unheld : List Stretch → Stretch → Type 0
     Unheld earlier last =
         MayHappen from (earlier ++ last ∷ []) → EndQuietly from (earlier ++ last ∷ []) → HoldNone last.changes → (t : ℕ) → t < last.rounds
-        → NoneMeetsAStrangerSince (rounds_in earlier + t + 3 - 2 * n) (clocks_by circuits.circuits (earlier ++ last ∷ []))
+        → AllComeAfterTransit (clocks_by circuits.circuits (earlier ++ last ∷ []))
         (round (world_in (earlier ++ last ∷ []) from (rounds_in earlier + t))).ring
 
     unheld_first : (last : Stretch) → Unheld [] last
     unheld_first last happens quiet unheld t low =
-        subst (λ i. NoneMeetsAStrangerSince (i + 3 - 2 * n) (clocks_by circuits.circuits (last ∷ [])) (round (world_in (last ∷ []) from i)).ring)
+        subst (λ i. AllComeAfterTransit (clocks_by circuits.circuits (last ∷ [])) (round (world_in (last ∷ []) from i)).ring)
         (let z : t ≡ 0 + t = omega arith in z)
-        (nothing_comes_late s ids circuits f (last ∷ []) may.ids_ok may.honest happens (unheld, tt) form t (omega (arith, low)))
+        (bytes_always_come_after_transit s ids circuits f (last ∷ []) may.ids_ok may.honest happens (unheld, tt) form t (omega (arith, low)))
 
     unheld_any : (earlier : List Stretch) (last : Stretch) → Unheld earlier last
     unheld_any [] last = unheld_first last
@@ -489,35 +478,50 @@ module _ (s : Settings) (ids : List ℕ) (circuits : Provisioning) (f : Fibres) 
         let parted = snoc x earlier in
         subst (λ (ss : List Stretch). Unheld ss last) (sym parted.2)
         (λ happens quiet unheld t low.
-        recent_unheld law parted.0 parted.1 last happens quiet (passes_each (parted.0 ++ parted.1 ∷ []) last.changes unheld) unheld t low)
+        come_unheld law parted.0 parted.1 last happens quiet (passes_each (parted.0 ++ parted.1 ∷ []) last.changes unheld) unheld t low)
 
     module _ (earlier : List Stretch) (last : Stretch) (happens : MayHappen from (earlier ++ last ∷ []))
-        (quiet : EndQuietly from (earlier ++ last ∷ [])) (ready : IsReady (after_stretches earlier from)) (t age : ℕ) (low : t < last.rounds) where
+        (quiet : EndQuietly from (earlier ++ last ∷ [])) (ready : IsReady (after_stretches earlier from)) (t : ℕ) (low : t < last.rounds) where
       abbrev seen : PortId → ℕ → Clock
       seen = clocks_by circuits.circuits (earlier ++ last ∷ [])
 
-      abbrev left : HeldRing
-      left = (round (world_in (earlier ++ last ∷ []) from (rounds_in earlier + t))).ring
+      abbrev left : World
+      left = round (world_in (earlier ++ last ∷ []) from (rounds_in earlier + t))
 
-      -- where no controller is held
-      pub none_old_unheld : age ≡ 2 * n - 3 → HoldNone last.changes → NoneMeetsAStrangerSince (rounds_in earlier + t - age) seen left
-      none_old_unheld is unheld =
-          none_longer (rounds_in earlier + t - age) (rounds_in earlier + t + 3 - 2 * n) seen left (omega (arith, is, may.ids_ok.enough))
-          (unheld_any earlier last happens quiet unheld t low)
+      -- where no controller is held, and once none is held any more
+      pub come_after_transit : IsUnheld (ring_by s n circuits.circuits) last.changes t → AllComeAfterTransit seen left.ring
+      come_after_transit (inl unheld) = unheld_any earlier last happens quiet unheld t low
+      come_after_transit (inr long) = come_long earlier last happens ready t low long
 
-      -- once no controller is held
-      pub none_old_then : age ≡ 2 * n - 3 → longest_hold last.changes + 2 * n ≤ t + 3
-          → NoneMeetsAStrangerSince (rounds_in earlier + t - age) seen left
-      none_old_then is long =
-          none_longer (rounds_in earlier + t - age) (rounds_in earlier + t + 3 - 2 * n) seen left (omega (arith, is, long, may.ids_ok.enough))
-          (recent_long earlier last happens ready t low long)
+      come_recent : AllComeAfterTransit seen left.ring → NoneMeetsAStrangerSince (rounds_in earlier + t + 3 - 2 * n) seen left.ring
+      unfolding any_round.round any_round.round_with
+      come_recent come =
+          let all = earlier ++ last ∷ [] in
+          let there : world_in all from (rounds_in earlier + t) ≡ run t (begun earlier last [] all refl happens) =
+          world_at earlier last [] all refl happens t low in
+          let number : (world_in all from (rounds_in earlier + t)).ring.rounds ≡ rounds_in earlier + t =
+          ap (λ (v : World). v.ring.rounds) there ∙ rounds_at earlier last [] all refl happens t in
+          let size : length left.ring.ids ≡ n =
+          ap (λ (v : World). length v.ring.ids) there ∙ size_at earlier last [] all refl happens t in
+          let first : left.ring.rounds + 2 - 2 * length left.ring.ids ≡ rounds_in earlier + t + 3 - 2 * n =
+          omega (arith, size, number, one_more (world_in all from (rounds_in earlier + t))) in
+          subst (λ i. NoneMeetsAStrangerSince i seen left.ring) first
+          (transits_are_short left seen
+          (subst (λ (v : World). HasCircuits (layout_of v)) (sym there) (form_at earlier last [] all refl happens t)) come)
+
+      -- once no held controller counts
+      pub none_old_unheld : (age : ℕ) → age ≡ 2 * n - 3 → IsUnheld (ring_by s n circuits.circuits) last.changes t
+          → NoneMeetsAStrangerSince (rounds_in earlier + t - age) seen left.ring
+      none_old_unheld age is unheld =
+          none_longer (rounds_in earlier + t - age) (rounds_in earlier + t + 3 - 2 * n) seen left.ring (omega (arith, is, may.ids_ok.enough))
+          (come_recent (come_after_transit unheld))
 
       -- in every round
-      pub none_old : age ≡ 5 * n - 3 + longest_hold last.changes → HoldNonePassing s.threshold s.wait n earlier last.changes
-          → NoneMeetsAStrangerSince (rounds_in earlier + t - age) seen left
-      none_old is none = elim (cases_lt (t + 3) (longest_hold last.changes + 2 * n)) [
-        | inl early ↦ none_longer (rounds_in earlier + t - age) (rounds_in earlier - 3 * n) seen left
+      pub none_old : (age : ℕ) → age ≡ 5 * n - 3 + longest_hold last.changes → HoldNonePassing s.threshold s.wait n earlier last.changes
+          → NoneMeetsAStrangerSince (rounds_in earlier + t - age) seen left.ring
+      none_old age is none = elim (cases_lt (t + 3) (longest_hold last.changes + 2 * n)) [
+        | inl early ↦ none_longer (rounds_in earlier + t - age) (rounds_in earlier - 3 * n) seen left.ring
             (omega (arith, is, early, may.ids_ok.enough)) (in_any earlier last happens quiet none t low)
-        | inr late ↦ none_longer (rounds_in earlier + t - age) (rounds_in earlier + t + 3 - 2 * n) seen left
-            (omega (arith, is, late, may.ids_ok.enough)) (recent_long earlier last happens ready t low late)
+        | inr late ↦ none_longer (rounds_in earlier + t - age) (rounds_in earlier + t + 3 - 2 * n) seen left.ring
+            (omega (arith, is, late, may.ids_ok.enough)) (come_recent (come_long earlier last happens ready t low late))
       ]

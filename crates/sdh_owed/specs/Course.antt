@@ -33,7 +33,7 @@ use Rattle.sdh_circuits.specs.declared.End.{End}
 use Rattle.sdh_owed.specs.Reports.{ports_of, report_of}
 use Rattle.sdh_owed.specs.Scripts.{Runs}
 use Rattle.sdh_owed.specs.Laws.{ring_by}
-use Rattle.sdh_owed.specs.Strangers.{NoneEverMeetsOldBytes, longest_hold}
+use Rattle.sdh_owed.specs.Strangers.{AllEverComeAfterTransit, NoneEverMeetsOldBytes, longest_hold}
 
 -- ---- what happened
 
@@ -157,6 +157,7 @@ pub record HasCourse (w : World) (ring : Ring) (limit : ℕ) (steps : List Step)
   pub through : WentThrough ring.nodes limit 0 (scenes [] steps) reports end stretches
   pub sent : HasSent w stretches end left
   pub strangers : NoneEverMeetsAStranger w ring stretches
+  pub transit : AllEverComeAfterTransit w ring stretches
   pub recent : NoneEverMeetsOldBytes w ring stretches
   pub soon : AllIsOwedSoon w ring stretches
   pub traffic : TrafficIsOwedSoon w ring stretches

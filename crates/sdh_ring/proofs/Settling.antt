@@ -21,7 +21,7 @@ use Rattle.sdh_laws.specs.Resting.Laws.{StepsLeaveAtRest}
 use Rattle.sdh_laws.specs.Restoring.Laws.{UnsettledRingsAreRestored}
 use Rattle.sdh_laws.specs.Restoring.Followed.{UnsettledFollowedRingsAreRestored, StepsLeaveFollowed}
 use Rattle.sdh_laws.specs.Converging.Laws.{StepsAnswer}
-use Rattle.sdh_laws.specs.Strangers.Laws.{StepsKeepStrangersOut, StepsDeliverRecentBytes}
+use Rattle.sdh_laws.specs.Strangers.Laws.{StepsKeepStrangersOut, StepsDeliverAfterTransit, StepsDeliverRecentBytes}
 use Rattle.sdh_ring.specs.Promises.{KeepsPromises}
 use Rattle.sdh_ring.proofs.Breaking.{breaks_step, went_by}
 
@@ -44,6 +44,7 @@ pub record StepLaws : Type 0 where
   pub followed : StepsLeaveFollowed
   pub answers : StepsAnswer
   pub strangers : StepsKeepStrangersOut
+  pub transit : StepsDeliverAfterTransit
   pub recent : StepsDeliverRecentBytes
 
 pub promises_kept : StepLaws → (w left : World) (limit : ℕ) (result : Result (Unit {0}) SettleError) → HasCircuits (layout_in w.ring)
@@ -58,6 +59,7 @@ promises_kept laws w left limit (Ok u) fit rested s broke = record {
   followed = laws.followed w left limit fit s;
   rests = laws.rests w left limit fit s;
   strangers = λ _. laws.strangers.settled w left limit fit s;
+  transit = λ _. laws.transit.settled w left limit fit s;
   recent = λ _. laws.recent.settled w left limit fit s;
   answers = λ whole large e. cc;
   clocks = λ _ port there. went_by s.rounds w left port s.left_is there;
@@ -72,6 +74,7 @@ promises_kept laws w left limit (Err Unsettled) fit rested s broke = record {
   followed = tt;
   rests = tt;
   strangers = λ _. laws.strangers.unsettled w left limit fit s;
+  transit = λ _. laws.transit.unsettled w left limit fit s;
   recent = λ _. laws.recent.unsettled w left limit fit s;
   answers = λ whole large _. laws.answers w left limit fit whole large s;
   clocks = λ _ port there. went_by s.rounds w left port s.left_is there;
@@ -86,6 +89,7 @@ promises_kept laws w left limit (Err PlantFault) fit rested s broke = record {
   followed = tt;
   rests = tt;
   strangers = λ no. absurd (no refl);
+  transit = λ no. absurd (no refl);
   recent = λ no. absurd (no refl);
   answers = λ whole large e. cc;
   clocks = λ no port there. absurd (no refl);

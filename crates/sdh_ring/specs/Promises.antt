@@ -11,7 +11,7 @@ use Rattle.sdh_laws.specs.Carrying.Laws.{Restores}
 use Rattle.sdh_laws.specs.Resting.Laws.{LeavesAtRest}
 use Rattle.sdh_laws.specs.Restoring.Followed.{RestoresFollowedBy, LeavesFollowed}
 use Rattle.sdh_laws.specs.Restoring.Laws.{RestoresBy}
-use Rattle.sdh_laws.specs.Strangers.Laws.{KeepsStrangersOutInAll, DeliversRecentBytes}
+use Rattle.sdh_laws.specs.Strangers.Laws.{KeepsStrangersOutInAll, DeliversAfterTransit, DeliversRecentBytes}
 use Rattle.sdh_ring.specs.Faults.{BreaksStep}
 
 pub record KeepsPromises (w : World) (limit : ℕ) (result : Result (Unit {0}) SettleError) (left : World) : Type 0 where
@@ -33,8 +33,11 @@ pub record KeepsPromises (w : World) (limit : ℕ) (result : Result (Unit {0}) S
   -- a ring that is vouched for (`IsVouched` in `sdh_laws/specs/Strangers/Vouched`) stays so, and no port meets a
   -- stranger in any round of the step
   pub strangers : result ≢ Err PlantFault → KeepsStrangersOutInAll w left
-  -- if the ring was whole before it: once the last controller stopped missing rounds and 2n - 3 rounds more are over, no
-  -- port meets a stranger or gets bytes that are older than 2n - 3 rounds
+  -- if the ring was whole before it: once the last controller stopped missing rounds and 2n - 3 rounds more are over,
+  -- each port delivers AIS, ones, or what its circuit's other port sent exactly one transit before (`IsTransit` in
+  -- `sdh_laws/specs/Strangers/Transit`): as many rounds as it came over spans, straight or once round the ring
+  pub transit : result ≢ Err PlantFault → DeliversAfterTransit w left
+  -- and so no port meets a stranger or gets bytes that are older than 2n - 3 rounds
   pub recent : result ≢ Err PlantFault → DeliversRecentBytes w left
   -- if the ring was whole before the step, a step whose limit is at least 64n + 512 rounds (`enough_for`) is not
   -- unsettled, whatever happened before it

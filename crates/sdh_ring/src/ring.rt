@@ -236,8 +236,8 @@ impl Ring {
         ensures step { IsStep adm P.exact (world self.old (P.fibres plant.old)) limit result (world self.new (P.fibres plant.new))
             (P.faults plant.old) (P.faults plant.new) }
 
-        // `KeepsPromises` says when a step restores traffic, when the step keeps strangers out, from which round on it
-        // delivers recent bytes alone, and when it has to end with a window.
+        // `KeepsPromises` says when a step restores traffic, when the step keeps strangers out, from which round on each
+        // port gets bytes of exactly one transit before, and when it has to end with a window.
         ensures laws { KeepsPromises (world self.old (P.fibres plant.old)) limit result (world self.new (P.fibres plant.new)) }
     {
         match self.settle_recording(plant, limit, &mut Nobody, &mut Nowhere) {
@@ -291,6 +291,7 @@ impl Ring {
         sdh_laws::restoring::steps_leave_followed();
         sdh_laws::converging::steps_answer();
         sdh_laws::strangers::steps_keep_strangers_out();
+        sdh_laws::strangers::steps_deliver_after_transit();
         sdh_laws::strangers::steps_deliver_recent_bytes();
         let Some(nodes) = self.nodes.take() else {
             unreachable!()

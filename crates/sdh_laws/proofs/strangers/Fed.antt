@@ -35,6 +35,7 @@ use Rattle.sdh_laws.proofs.carrying.Connections.{sends_working, sends_protection
 use Rattle.sdh_laws.specs.Strangers.Owners.{AreClocksOf}
 use Rattle.sdh_laws.specs.Strangers.Vouched.{spoken_of, HoldsAtMost, au_in}
 use Rattle.sdh_laws.proofs.strangers.Arrivals.{span_across, heard_came}
+use Rattle.sdh_laws.proofs.strangers.Lags.{exactly}
 use Rattle.sdh_laws.proofs.strangers.Content.{Bears, Fine}
 use Rattle.sdh_laws.proofs.strangers.Nodes.{working_fine, protection_fine}
 use Rattle.sdh_laws.proofs.strangers.Worlds.{received_fine, sourced_words, came, heard, sent_bears}
@@ -161,9 +162,9 @@ module _ (clocks : PortId → ℕ → Clock) (w : World) (form : HasCircuits (la
         protection_alone (λ d x. (k : K) → long s d ≡ Some k → Fine (Own t) (spoken_of ids cs m d k) d (value_at w p m x))
         (λ d k e. inl refl) o protection
 
-    added : (j i : ℕ) (c : Provisioned) (e : End) → slice_get cs i ≡ Some c → port_at c e ≡ p
+    added : (i : ℕ) (c : Provisioned) (e : End) → slice_get cs i ≡ Some c → port_at c e ≡ p
         → Own (t + 1) (Some (port_id i e)) (fed (port i e)).au
-    added j i c e get at =
+    added i c e get at =
         subst (λ q. Own (t + 1) (Some (port_id i e)) (added_by (node_at w.ring.nodes q).ports (port_id i e)).au) at
         (adds_own clocks w whole form tells i c e get)
 
@@ -218,7 +219,7 @@ module _ (clocks : PortId → ℕ → Clock) (w : World) (form : HasCircuits (la
   working_over sent =
       let r = w.ring.rounds + 1 in
       let Now = HoldsAtMost w.ring.circuits.circuits clocks r in
-      received_fine (λ i. Now) (λ i. Now) (lags_now clocks (round w) form_after) (round w) (whole_round w whole) p there 0
+      received_fine (λ i. Now) (λ i. Now) (lags_now clocks (round w) form_after) (round w) (whole_round w whole) p there (exactly 0)
       (circuits_at (length w.ring.ids) w.ring.circuits.circuits p m d) (opposite d) d m low (omega arith)
       (λ line kept carried. subst (λ o. Bears Now o (opposite d) (au_in w m line))
       (ap (λ z. circuit_on (length w.ring.ids) w.ring.circuits.circuits z m) (span_across (length w.ring.ids) p d
@@ -240,7 +241,7 @@ module _ (clocks : PortId → ℕ → Clock) (w : World) (form : HasCircuits (la
       let slots = slots_of (layout_of w) in
       subst (Fine Now (spoken_of w.ring.ids cs m d k) d)
       (sym (brings_protection (round w) (whole_round w whole) p m d (omega (arith, count w whole.placed))))
-      (received_fine (λ i. Now) (λ i. Now) (lags_now clocks (round w) form_after) (round w) (whole_round w whole) p there 0
+      (received_fine (λ i. Now) (λ i. Now) (lags_now clocks (round w) form_after) (round w) (whole_round w whole) p there (exactly 0)
       (spoken_of w.ring.ids cs m d k) d d (slots + m) (omega arith) (omega arith)
       (λ line kept carried. subst (λ j. Bears Now (spoken_of w.ring.ids cs m d j) d (au_in w (slots + m) line)) word.is
       (subst (λ y. Bears Now (spoken_of w.ring.ids cs m y said) y (au_in w (slots + m) line)) (opposite_twice d)

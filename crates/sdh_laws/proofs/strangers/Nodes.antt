@@ -44,8 +44,10 @@ use Rattle.sdh_signal.proofs.Passing.{idle-leaves, switched-stands, bridged-leav
 use Rattle.sdh_laws.specs.Strangers.Vouched.{sender, told_of, spoken_of, IsAside}
 use Rattle.sdh_laws.specs.Strangers.Vouched.{streams_to}
 use Rattle.sdh_laws.proofs.strangers.Content.{Fine}
-use Rattle.sdh_laws.proofs.strangers.Lags.{steps, steps_going, steps_next, start_of, place_on, extra_lag, working_lag, by_slot, stand_lag}
-use Rattle.sdh_laws.proofs.strangers.Lags.{protection_lag, source_in, spoken_lag, extra_few, extra_behind, extra_ahead, extra_on, AreLags}
+use Rattle.sdh_laws.proofs.strangers.Lags.{steps, steps_none, steps_going, steps_next, Lag, exactly, or_round, next_lag, Fits}
+use Rattle.sdh_laws.proofs.strangers.Lags.{start_of, place_on, working_lag, by_slot, stand_lag, protection_rounds, source_in, spoken_lag}
+use Rattle.sdh_laws.proofs.strangers.Lags.{straight_fits, working_fits, next_fits, lag_behind, lag_ahead, lag_on, AreLags}
+use Rattle.sdh_laws.proofs.strangers.Lags as lag
 use Rattle.sdh_laws.proofs.strangers.Saying.{Sourced, switched_source}
 use Rattle.sdh_laws.proofs.strangers.Saying as saying
 use Rattle.sdh_signal.proofs.Ends.{found}
@@ -85,6 +87,11 @@ starts_near : (n : ℕ) (cs : List Provisioned) (ring : AreOnRing n cs) (i : ℕ
     → start_of d (entry i c) ≡ near_at n c d
 starts_near n cs ring i c get East = refl
 starts_near n cs ring i c get West = arc-end n cs ring i c get
+
+-- where a circuit's stream to a side starts its port is
+starts_there : (i : ℕ) (c : Provisioned) (d : Side) → start_of d (entry i c) ≡ port_at c (sender d)
+starts_there i c East = refl
+starts_there i c West = refl
 
 starts_distant : (i : ℕ) (c : Provisioned) (d : Side) → start_of (opposite d) (entry i c) ≡ port_at c (other_end (near_end d))
 starts_distant i c East = refl
@@ -171,7 +178,7 @@ unfolding may_carry
 no_far n cs p West m = refl
 no_far n cs p East m = refl
 
-module _ (Was Own : ℕ → Option PortId → Au → Type 0) (lags : AreLags Was Own) (ids : List ℕ) (cs : List Provisioned) (are : AreIds ids)
+module _ (Was Own : Lag → Option PortId → Au → Type 0) (lags : AreLags Was Own) (ids : List ℕ) (cs : List Provisioned) (are : AreIds ids)
     (ring : AreOnRing (length ids) cs)
     (s : Scene) (same : s.ids ≡ ids) (p : ℕ) (at : s.at ≡ p) (inside : p < length ids) (m : ℕ) (value : Origin → Input)
     (came : Side → Option Pos)
@@ -198,22 +205,22 @@ module _ (Was Own : ℕ → Option PortId → Au → Type 0) (lags : AreLags Was
   two = are.enough
 
   -- what stands for the working arrival from a side lags so, at a node in this state
-  abbrev arrival_lag : NodeState → Side → ℕ
+  abbrev arrival_lag : NodeState → Side → Lag
   arrival_lag x d = stand_lag n d (on d) (came d) (neighbour n p d) x
 
-  by_origin : (i : ℕ) (o : Option OnSpan) (d : Side) (x y : Origin) → x ≡ y → Fine (Own i) o d (value y) → Fine (Own i) o d (value x)
+  by_origin : (i : Lag) (o : Option OnSpan) (d : Side) (x y : Origin) → x ≡ y → Fine (Own i) o d (value y) → Fine (Own i) o d (value x)
   by_origin i o d x y e h = subst (λ z. Fine (Own i) o d (value z)) (sym e) h
 
-  silent_is_fine : (i : ℕ) (o : Option OnSpan) (d : Side) → Fine (Own i) o d (value Ais)
+  silent_is_fine : (i : Lag) (o : Option OnSpan) (d : Side) → Fine (Own i) o d (value Ais)
   silent_is_fine i o d = inl silence
 
-  sooner : (i j : ℕ) → i < j → (o : Option OnSpan) (d : Side) (x : Input) → Fine (Was i) o d x → Fine (Own j) o d x
-  sooner i j less o d x (inl z) = inl z
-  sooner i j less o d x (inr h) = inr (lags.later i j (streams_to d o) x.au less h)
+  later : (i : Lag) (o : Option OnSpan) (d : Side) (x : Input) → Fine (Was i) o d x → Fine (Own (next_lag i)) o d x
+  later i o d x (inl z) = inl z
+  later i o d x (inr h) = inr (lags.later i (streams_to d o) x.au h)
 
-  longer : (i j : ℕ) → i ≤ j → (o : Option OnSpan) (d : Side) (x : Input) → Fine (Own i) o d x → Fine (Own j) o d x
-  longer i j less o d x (inl z) = inl z
-  longer i j less o d x (inr h) = inr (lags.longer i j (streams_to d o) x.au less h)
+  fitting : (i j : Lag) → Fits i j → (o : Option OnSpan) (d : Side) (x : Input) → Fine (Own i) o d x → Fine (Own j) o d x
+  fitting i j fits o d x (inl z) = inl z
+  fitting i j fits o d x (inr h) = inr (lags.fitting i j (streams_to d o) x.au fits h)
 
   heard_source : (d : Side) (k : K) (f : Pos) → long s d ≡ Some k → found_at s.ids k.from ≡ Some f → source_in ids k ≡ Some f
   heard_source d k f h at =
@@ -228,9 +235,12 @@ module _ (Was Own : ℕ → Option PortId → Au → Type 0) (lags : AreLags Was
   pub record IsAhead (d : Side) (f : Pos) : Type 0 where
     -- it is farther along the circuit's arc than p
     pub ahead : place_on n d (on d) p < place_on n d (on d) f.0
-    -- what comes from it on protection has gone round the ring past one span of the arc at least
-    pub less : protection_lag n (opposite d) (on d) (Some f) (neighbour n p (opposite d))
-        < place_on n (opposite d) (on d) (neighbour n p d) + 1 + (n - 2)
+    -- what comes from it on protection has gone round the ring past so many spans of the arc
+    pub past : ℕ
+    pub some : 1 ≤ past
+    pub few : past ≤ place_on n (opposite d) (on d) (neighbour n p d) + 1
+    pub rounds : protection_rounds n (opposite d) (on d) (Some f) (neighbour n p (opposite d)) + 1
+        ≡ (place_on n (opposite d) (on d) (neighbour n p d) + 1 - past) + (n - past)
 
   is_ahead : (d : Side) (f : Pos) → f.0 < n → carries_in n cs p d m (Some f) ≡ true → IsAhead d f
   is_ahead d f low t =
@@ -270,11 +280,16 @@ module _ (Was Own : ℕ → Option PortId → Au → Type 0) (lags : AreLags Was
       ∙ ap (going n d p) {x = n - 1} {y = k + (n - 1 - k)} (omega arith) ∙ sym (going-add n peopled d p k (n - 1 - k))
       ∙ ap (λ y. going n d y (n - 1 - k)) (sym to))
       ∙ steps_going n peopled d f.0 (n - 1 - k) low (omega arith) in
-      record { ahead = omega arith; less = omega arith }
+      record { ahead = omega arith; past = k; some = omega arith; few = omega arith; rounds = omega arith }
+
+  gone_round : (spans past i : ℕ) → 1 ≤ past → past ≤ spans → i + 1 ≡ (spans - past) + (n - past) → (o : Option OnSpan) (y : Side)
+      (x : Input) → Fine (Was (exactly i)) o y x → Fine (Own (or_round n spans)) o y x
+  gone_round spans past i some few is o y x (inl z) = inl z
+  gone_round spans past i some few is o y x (inr h) = inr (lags.round n spans past i (streams_to y o) x.au some few is h)
 
   -- what comes on protection in place of the working arrival from a switched side
   in_place : (d : Side) (f : Option Pos) → state_after s ≡ Switch d f → carries_in n cs p d m f ≡ true
-      → Fine (Own (place_on n (opposite d) (on d) (neighbour n p d) + 1 + (n - 2))) (on d) (opposite d) (value (Protection (opposite d)))
+      → Fine (Own (or_round n (place_on n (opposite d) (on d) (neighbour n p d) + 1))) (on d) (opposite d) (value (Protection (opposite d)))
   in_place d None h t = absurd (no (sym (no_far n cs p d m) ∙ t))
     where
       no : false ≡ true → ⊥
@@ -283,37 +298,43 @@ module _ (Was Own : ℕ → Option PortId → Au → Type 0) (lags : AreLags Was
       let is = far_from s d f (sym (switched_one s d (Some f) h).end) in
       let low : f.0 < n = subst (λ i. f.0 < length i) same is.inside in
       let e = opposite d in
-      let most = place_on n e (on d) (neighbour n p d) + 1 + (n - 2) in
+      let at = is_ahead d f low t in
       let circuit : spoken_of ids cs m e is.k ≡ on d =
       heard_speaks e is.k f is.heard is.found ∙ meets-own n cs ring peopled d p m f inside low t in
-      let lag : spoken_lag ids cs m e is.k (neighbour n p e) ≡ protection_lag n e (on d) (Some f) (neighbour n p e) =
-      (λ j. protection_lag n e (circuit j) (heard_source e is.k f is.heard is.found j) (neighbour n p e)) in
-      sooner (protection_lag n e (on d) (Some f) (neighbour n p e)) most (is_ahead d f low t).less (on d) e (value (Protection e))
+      let lag : spoken_lag ids cs m e is.k (neighbour n p e) ≡ exactly (protection_rounds n e (on d) (Some f) (neighbour n p e)) =
+      (λ j. exactly (protection_rounds n e (circuit j) (heard_source e is.k f is.heard is.found j) (neighbour n p e))) in
+      gone_round (place_on n e (on d) (neighbour n p d) + 1) at.past (protection_rounds n e (on d) (Some f) (neighbour n p e)) at.some at.few
+      at.rounds (on d) e (value (Protection e))
       (subst (λ i. Fine (Was i) (on d) e (value (Protection e))) lag
       (subst (λ o. Fine (Was (spoken_lag ids cs m e is.k (neighbour n p e))) o e (value (Protection e))) circuit
       (protection_in_fine e is.k is.heard)))
 
   -- a node that is switched on a side takes what stands for the arrival from protection
-  taken : (d : Side) (f : Option Pos) (i j : ℕ) → by_slot (Switch d f) d i j ≡ j
+  taken : (d : Side) (f : Option Pos) (i j : Lag) → by_slot (Switch d f) d i j ≡ j
   taken West f i j = refl
   taken East f i j = refl
 
   -- on the other side it takes it from the working slot
-  straight : (x : NodeState) (d : Side) (i j : ℕ) → is_open x d ≡ true → by_slot x d i j ≡ i
-  straight (state.Isolated x) d i j o = refl
-  straight (state.PassThrough x) d i j o = refl
-  straight (state.Idle x) d i j o = refl
-  straight (state.SwitchWest f) West i j o = cc
-  straight (state.SwitchWest f) East i j o = refl
-  straight (state.SwitchEast f) West i j o = refl
-  straight (state.SwitchEast f) East i j o = cc
+  untaken : (x : NodeState) (d : Side) (i j : Lag) → is_open x d ≡ true → by_slot x d i j ≡ i
+  untaken (state.Isolated x) d i j o = refl
+  untaken (state.PassThrough x) d i j o = refl
+  untaken (state.Idle x) d i j o = refl
+  untaken (state.SwitchWest f) West i j o = cc
+  untaken (state.SwitchWest f) East i j o = refl
+  untaken (state.SwitchEast f) West i j o = refl
+  untaken (state.SwitchEast f) East i j o = cc
+
+  -- the lag of what comes in the working slot from a side, after its span, and of what has gone round the ring instead
+  abbrev came_lag : Side → Lag
+  came_lag d = next_lag (working_lag n (opposite d) (on d) (came d) (neighbour n p d))
+
+  abbrev round_lag : Side → Lag
+  round_lag d = or_round n (place_on n (opposite d) (on d) (neighbour n p d) + 1)
 
   switched_fine : (d : Side) (f : Option Pos) → state_after s ≡ Switch d f
       → Fine (Own (arrival_lag (Switch d f) d)) (on d) (opposite d) (value (stands_in n cs p (Switch d f) d m))
   switched_fine d f h =
-      let a = place_on n (opposite d) (on d) (neighbour n p d) + 1 in
-      let i = extra_lag n (opposite d) (on d) (came d) (neighbour n p d) in
-      subst (λ j. Fine (Own (a + j)) (on d) (opposite d) (value (stands_in n cs p (Switch d f) d m))) (sym (taken d f i (n - 2)))
+      subst (λ j. Fine (Own j) (on d) (opposite d) (value (stands_in n cs p (Switch d f) d m))) (sym (taken d f (came_lag d) (round_lag d)))
       (elim (cases_Bool (carries_in n cs p d m f)) [
         | inl t ↦ by_origin _ (on d) (opposite d) _ (Protection (opposite d)) (switched-stands n cs p d m f true t) (in_place d f h t)
         | inr t ↦ by_origin _ (on d) (opposite d) _ Ais (switched-stands n cs p d m f false t) (silent_is_fine _ (on d) (opposite d))
@@ -322,12 +343,9 @@ module _ (Was Own : ℕ → Option PortId → Au → Type 0) (lags : AreLags Was
   open_fine : (x : NodeState) (d : Side) → is_open x d ≡ true
       → Fine (Own (arrival_lag x d)) (on d) (opposite d) (value (stands_in n cs p x d m))
   open_fine x d o =
-      let q = neighbour n p d in
-      let a = place_on n (opposite d) (on d) q in
-      let i = extra_lag n (opposite d) (on d) (came d) q in
-      let less : a + i < a + 1 + by_slot x d i (n - 2) = (let e = straight x d i (n - 2) o in omega arith) in
       by_origin _ (on d) (opposite d) _ (Working d) (open-stands n cs p x d m o)
-      (sooner (a + i) (arrival_lag x d) less (on d) (opposite d) (value (Working d)) (working_in_fine d))
+      (subst (λ j. Fine (Own j) (on d) (opposite d) (value (Working d))) (sym (untaken x d (came_lag d) (round_lag d) o))
+      (later (working_lag n (opposite d) (on d) (came d) (neighbour n p d)) (on d) (opposite d) (value (Working d)) (working_in_fine d)))
 
   stands_by : (x : NodeState) → state_after s ≡ x → (d : Side)
       → Fine (Own (arrival_lag x d)) (on d) (opposite d) (value (stands_in n cs p x d m))
@@ -357,7 +375,7 @@ module _ (Was Own : ℕ → Option PortId → Au → Type 0) (lags : AreLags Was
   stands_fine d = stands_by st refl d
 
   -- a node that stands aside puts nothing on protection
-  pub aside_protection : (x : NodeState) → IsAside x → (i : ℕ) (o : Option OnSpan) (d : Side)
+  pub aside_protection : (x : NodeState) → IsAside x → (i : Lag) (o : Option OnSpan) (d : Side)
       → Fine (Own i) o (opposite d) (value (protection_in n cs p x d m))
   aside_protection (state.Isolated i) a j o d = by_origin j o (opposite d) _ Ais (isolated-leaves n cs p d m) (silent_is_fine j o (opposite d))
   aside_protection (state.Idle i) a j o d = by_origin j o (opposite d) _ Ais (idle-leaves n cs p d m) (silent_is_fine j o (opposite d))
@@ -367,103 +385,126 @@ module _ (Was Own : ℕ → Option PortId → Au → Type 0) (lags : AreLags Was
 
   -- ---- what is sent
 
-  module _ (added_own : (j i : ℕ) (c : Provisioned) (e : End) → slice_get cs i ≡ Some c → port_at c e ≡ p
-      → Own j (Some (port_id i e)) (value (port i e)).au) where
+  module _ (added_own : (i : ℕ) (c : Provisioned) (e : End) → slice_get cs i ≡ Some c → port_at c e ≡ p
+      → Own (exactly 0) (Some (port_id i e)) (value (port i e)).au) where
     -- the lag of what leaves in the working slot, beside the word that is sent
-    abbrev leaving_lag : Side → ℕ
+    abbrev leaving_lag : Side → Lag
     leaving_lag d = working_lag n d (on d) (source_in ids (word s d)) p
 
-    abbrev WorkingFine : ℕ → NodeState → Side → Type 0
+    abbrev WorkingFine : Lag → NodeState → Side → Type 0
     WorkingFine j x d = Fine (Own j) (on d) d (value (working_in n cs p x d m))
 
-    -- where a circuit goes on here, what stands for its arrival, with lag i, lags no more than this
-    abbrev GoesWithin : ℕ → ℕ → Side → Type 0
-    GoesWithin i j d = on (opposite d) ≡ on d → place_on n d (on d) p ≡ place_on n d (on d) (neighbour n p (opposite d)) + 1 → i ≤ j
+    -- lag j fits what a port here puts in, and what goes on here where what stands for its arrival has lag i
+    record LeavesWith (i j : Lag) (d : Side) : Type 0 where
+      begins : place_on n d (on d) p ≡ 0 → Fits (exactly 0) j
+      goes : on (opposite d) ≡ on d → place_on n d (on d) p ≡ place_on n d (on d) (neighbour n p (opposite d)) + 1 → Fits i j
 
-    working_by : (x : NodeState) (d : Side) (i j : ℕ) → GoesWithin i j d
+    working_by : (x : NodeState) (d : Side) (i j : Lag) → LeavesWith i j d
         → Fine (Own i) (on (opposite d)) (opposite (opposite d)) (value (stands_in n cs p x (opposite d) m)) → Meets n cs p m d
         → WorkingFine j x d
-    working_by x d i j within stands (nothing e) = by_origin j (on d) d _ Ais (leaves-unused n cs p x d m e) (silent_is_fine j (on d) d)
-    working_by x d i j within stands (ends index c e h get there) = elim (leaves-own_or_none n cs p x index c (sender d) d m e h) [
+    working_by x d i j leaves stands (nothing e) =
+        by_origin j (on d) d _ Ais (leaves-unused n cs p x d m e) (silent_is_fine j (on d) d)
+    working_by x d i j leaves stands (ends index c e h get there) = elim (leaves-own_or_none n cs p x index c (sender d) d m e h) [
       | inl none ↦ by_origin j (on d) d _ Ais none (silent_is_fine j (on d) d)
-      | inr own ↦ by_origin j (on d) d _ (port index (sender d)) own
-          (subst (λ o. Fine (Own j) o d (value (port index (sender d)))) (sym e) (inr (added_own j index c (sender d) get there)))
+      | inr own ↦ (
+          let start : start_of d (entry index c) ≡ p = starts_there index c d ∙ there in
+          let none : place_on n d (on d) p ≡ 0 =
+          ap (λ o. place_on n d o p) e ∙ ap (λ q. steps n d q p) start ∙ steps_none n peopled d p inside in
+          by_origin j (on d) d _ (port index (sender d)) own
+          (fitting (exactly 0) j (leaves.begins none) (on d) d (value (port index (sender d)))
+          (subst (λ o. Fine (Own (exactly 0)) o d (value (port index (sender d)))) (sym e)
+          (inr (added_own index c (sender d) get there)))))
     ]
-    working_by x d i j within stands (goes_on index c e h other next) =
+    working_by x d i j leaves stands (goes_on index c e h other next) =
         let o = stands_in n cs p x (opposite d) m in
         let one : on (opposite d) ≡ on d = other ∙ sym e in
         let farther : place_on n d (on d) p ≡ place_on n d (on d) (neighbour n p (opposite d)) + 1 =
         subst (λ r. place_on n d r p ≡ place_on n d r (neighbour n p (opposite d)) + 1) (sym e) next in
         by_origin j (on d) d _ o (leaves-on n cs p x index c d m e h)
-        (longer i j (within one farther) (on d) d (value o)
+        (fitting i j (leaves.goes one farther) (on d) d (value o)
         (subst (λ y. Fine (Own i) (on d) y (value o)) (opposite_twice d)
         (subst (λ r. Fine (Own i) r (opposite (opposite d)) (value o)) one stands)))
 
     -- what a node in any state sends in the working slot is fine, where what stands for its arrival is
-    pub working_from : (x : NodeState) (d : Side) (i j : ℕ) → GoesWithin i j d
+    working_from : (x : NodeState) (d : Side) (i j : Lag) → LeavesWith i j d
         → Fine (Own i) (on (opposite d)) (opposite (opposite d)) (value (stands_in n cs p x (opposite d) m)) → WorkingFine j x d
-    working_from x d i j within stands = working_by x d i j within stands (meets n cs ring p m inside d)
+    working_from x d i j leaves stands = working_by x d i j leaves stands (meets n cs ring p m inside d)
 
-    -- at the neighbour behind, where a circuit goes on
-    behind_is : (d : Side) → on (opposite d) ≡ on d → place_on n (opposite (opposite d)) (on (opposite d)) (neighbour n p (opposite d))
-        ≡ place_on n d (on d) (neighbour n p (opposite d))
-    behind_is d one = (λ i. place_on n (opposite_twice d i) (one i) (neighbour n p (opposite d)))
+    -- where it doesn't matter how far AU-4s lag
+    pub working_anyhow : (x : NodeState) (d : Side)
+        → Fine (Own (exactly 0)) (on (opposite d)) (opposite (opposite d)) (value (stands_in n cs p x (opposite d) m))
+        → WorkingFine (exactly 0) x d
+    working_anyhow x d stands =
+        working_from x d (exactly 0) (exactly 0) (record { begins = λ none. lag.same refl; goes = λ one farther. lag.same refl }) stands
 
-    -- what goes on with the word that is sent has gone round only where that word says so
-    extra_by : (d : Side) (g : Pos) → Sourced s p ids same at are inside d g → on (opposite d) ≡ on d
-        → place_on n d (on d) p ≡ place_on n d (on d) (neighbour n p (opposite d)) + 1
-        → extra_lag n (opposite (opposite d)) (on (opposite d)) (came (opposite d)) (neighbour n p (opposite d)) ≤ extra_lag n d (on d) (Some g) p
-    extra_by d g (saying.here is) one next =
-        let few = extra_few n (opposite (opposite d)) (on (opposite d)) (came (opposite d)) (neighbour n p (opposite d)) in
-        let all : extra_lag n d (on d) (Some g) p ≡ n - 2 =
-        extra_behind n d (on d) g p (let same_place = ap (place_on n d (on d)) is in omega arith) in
-        omega arith
-    extra_by d g (saying.passed k h from) one next =
-        let q = neighbour n p (opposite d) in
-        let same_extra : extra_lag n (opposite (opposite d)) (on (opposite d)) (came (opposite d)) q ≡ extra_lag n d (on d) (Some g) q =
-        (λ i. extra_lag n (opposite_twice d i) (one i) ((heard (opposite d) k h ∙ from) i) q) in
-        let grows : extra_lag n d (on d) (Some g) q ≤ extra_lag n d (on d) (Some g) p = extra_on n d (on d) g q p (omega arith) in
-        omega arith
+    -- ---- what goes on here
 
-    extra_goes : (d : Side) (o : Option Pos) → source_in ids (word s d) ≡ o → on (opposite d) ≡ on d
-        → place_on n d (on d) p ≡ place_on n d (on d) (neighbour n p (opposite d)) + 1
-        → extra_lag n (opposite (opposite d)) (on (opposite d)) (came (opposite d)) (neighbour n p (opposite d)) ≤ extra_lag n d (on d) o p
-    extra_goes d None h one next = extra_few n (opposite (opposite d)) (on (opposite d)) (came (opposite d)) (neighbour n p (opposite d))
-    extra_goes d (Some g) h one next = extra_by d g (saying.sourced s p ids same at are inside d g h) one next
+    slot_goes : (x : NodeState) → state_after s ≡ x → (d : Side) (i j k : Lag) → Fits i k
+        → ((f : Option Pos) → state_after s ≡ Switch (opposite d) f → Fits j k) → Fits (by_slot x (opposite d) i j) k
+    slot_goes (state.Isolated x) h d i j k fits other = fits
+    slot_goes (state.PassThrough x) h d i j k fits other = fits
+    slot_goes (state.Idle x) h d i j k fits other = fits
+    slot_goes (state.SwitchWest f) h West i j k fits other = fits
+    slot_goes (state.SwitchWest f) h East i j k fits other = other f h
+    slot_goes (state.SwitchEast f) h West i j k fits other = other f h
+    slot_goes (state.SwitchEast f) h East i j k fits other = fits
 
-    -- a node that is switched on a side says so the other way, with its own word
-    extra_switched : (d : Side) (f : Option Pos) → state_after s ≡ Switch (opposite d) f
-        → extra_lag n d (on d) (source_in ids (word s d)) p ≡ n - 2
-    extra_switched d f h =
-        ap (λ g. extra_lag n d (on d) g p) (switched_source s p ids same at are inside d f h)
-        ∙ extra_behind n d (on d) (position_of p) p (omega arith)
+    module _ (d : Side) (one : on (opposite d) ≡ on d) (farther : place_on n d (on d) p ≡ place_on n d (on d) (neighbour n p (opposite d)) + 1) where
+      abbrev behind : ℕ
+      behind = neighbour n p (opposite d)
 
-    slot_goes : (x : NodeState) → state_after s ≡ x → (d : Side) (i j : ℕ) → i ≤ j
-        → ((f : Option Pos) → state_after s ≡ Switch (opposite d) f → n - 2 ≤ j) → by_slot x (opposite d) i (n - 2) ≤ j
-    slot_goes (state.Isolated x) h d i j less other = less
-    slot_goes (state.PassThrough x) h d i j less other = less
-    slot_goes (state.Idle x) h d i j less other = less
-    slot_goes (state.SwitchWest f) h West i j less other = less
-    slot_goes (state.SwitchWest f) h East i j less other = other f h
-    slot_goes (state.SwitchEast f) h West i j less other = other f h
-    slot_goes (state.SwitchEast f) h East i j less other = less
+      -- the lag of what comes from the neighbour behind
+      came_there : came_lag (opposite d) ≡ next_lag (working_lag n d (on d) (came (opposite d)) behind)
+      came_there = (λ i. next_lag (working_lag n (opposite_twice d i) (one i) (came (opposite d)) behind))
 
-    goes_within : (d : Side) → GoesWithin (arrival_lag st (opposite d)) (leaving_lag d) d
-    goes_within d one next =
-        let i = extra_lag n (opposite (opposite d)) (on (opposite d)) (came (opposite d)) (neighbour n p (opposite d)) in
-        let j = extra_lag n d (on d) (source_in ids (word s d)) p in
-        let place = behind_is d one in
-        let less : by_slot st (opposite d) i (n - 2) ≤ j =
-        slot_goes st refl d i j (extra_goes d (source_in ids (word s d)) refl one next)
-        (λ f h. (let all = extra_switched d f h in omega arith)) in
-        omega arith
+      round_there : round_lag (opposite d) ≡ or_round n (place_on n d (on d) p)
+      round_there = (λ i. or_round n (place_on n (opposite_twice d i) (one i) behind + 1)) ∙ ap (or_round n) (sym farther)
+
+      -- it has gone round once at most
+      came_round : Fits (came_lag (opposite d)) (or_round n (place_on n d (on d) p))
+      came_round =
+          subst (λ i. Fits i (or_round n (place_on n d (on d) p))) (sym came_there)
+          (subst (λ spans. Fits (next_lag (working_lag n d (on d) (came (opposite d)) behind)) (or_round n spans)) (sym farther)
+          (next_fits (working_lag n d (on d) (came (opposite d)) behind) (or_round n (place_on n d (on d) behind))
+          (working_fits n d (on d) (came (opposite d)) behind)))
+
+      -- it has gone round only where the word says so that is sent
+      goes_by : (g : Pos) → Sourced s p ids same at are inside d g → Fits (came_lag (opposite d)) (working_lag n d (on d) (Some g) p)
+      goes_by g (saying.here is) =
+          subst (Fits (came_lag (opposite d)))
+          (sym (lag_behind n d (on d) g p (let same_place = ap (place_on n d (on d)) is in omega arith))) came_round
+      goes_by g (saying.passed k h from) =
+          subst (λ i. Fits i (working_lag n d (on d) (Some g) p))
+          (sym (came_there ∙ ap (λ o. next_lag (working_lag n d (on d) o behind)) (heard (opposite d) k h ∙ from)))
+          (lag_on n d (on d) g p behind farther)
+
+      goes_with : (o : Option Pos) → source_in ids (word s d) ≡ o → Fits (came_lag (opposite d)) (working_lag n d (on d) o p)
+      goes_with None h = came_round
+      goes_with (Some g) h = goes_by g (saying.sourced s p ids same at are inside d g h)
+
+      -- a node that is switched on a side says so the other way, with its own word
+      goes_switched : (f : Option Pos) → state_after s ≡ Switch (opposite d) f → round_lag (opposite d) ≡ leaving_lag d
+      goes_switched f h =
+          round_there ∙ sym (ap (λ g. working_lag n d (on d) g p) (switched_source s p ids same at are inside d f h)
+          ∙ lag_behind n d (on d) (position_of p) p (omega arith))
+
+      goes_out : (x : NodeState) → state_after s ≡ x → Fits (arrival_lag x (opposite d)) (leaving_lag d)
+      goes_out x h =
+          slot_goes x h d (came_lag (opposite d)) (round_lag (opposite d)) (leaving_lag d) (goes_with (source_in ids (word s d)) refl)
+          (λ f switched. lag.same (goes_switched f switched))
+
+    leaves_with : (d : Side) → LeavesWith (arrival_lag st (opposite d)) (leaving_lag d) d
+    leaves_with d = record {
+      begins = λ none. subst (λ spans. Fits (exactly spans) (leaving_lag d)) none (straight_fits n d (on d) (source_in ids (word s d)) p);
+      goes = λ one farther. goes_out d one farther st refl;
+    }
 
     -- what leaves in the working slot
     pub working_fine : (d : Side) → WorkingFine (leaving_lag d) st d
-    working_fine d = working_from st d (arrival_lag st (opposite d)) (leaving_lag d) (goes_within d) (stands_fine (opposite d))
+    working_fine d = working_from st d (arrival_lag st (opposite d)) (leaving_lag d) (leaves_with d) (stands_fine (opposite d))
 
     -- the lag of what leaves in the protection slot, beside the word that is sent
-    abbrev pub beside_lag : Side → ℕ
+    abbrev pub beside_lag : Side → Lag
     beside_lag d = spoken_lag ids cs m (opposite d) (word s d) p
 
     -- the own long word speaks of the circuit on the span of the switched side
@@ -480,7 +521,8 @@ module _ (Was Own : ℕ → Option PortId → Au → Type 0) (lags : AreLags Was
     -- what a switched node puts on protection has come straight: its far end is ahead, and that is where the word has its
     -- source that came with what stands for the arrival
     straight_on : (e : Side) (f : Option Pos) → state_after s ≡ Switch e f → carries_in n cs p e m f ≡ true
-        → GoesWithin (arrival_lag (Switch e f) (opposite e)) (place_on n e (on e) p) e
+        → on (opposite e) ≡ on e → place_on n e (on e) p ≡ place_on n e (on e) (neighbour n p (opposite e)) + 1
+        → arrival_lag (Switch e f) (opposite e) ≡ exactly (place_on n e (on e) p)
     straight_on e None h t one next = absurd (no (sym (no_far n cs p e m) ∙ t))
       where
         no : false ≡ true → ⊥
@@ -489,15 +531,19 @@ module _ (Was Own : ℕ → Option PortId → Au → Type 0) (lags : AreLags Was
         let is = far_from s e f (sym (switched_one s e (Some f) h).end) in
         let low : f.0 < n = subst (λ i. f.0 < length i) same is.inside in
         let q = neighbour n p (opposite e) in
-        let i = extra_lag n (opposite (opposite e)) (on (opposite e)) (came (opposite e)) q in
         let ahead = (is_ahead e f low t).ahead in
-        let place = behind_is e one in
-        let same_extra : i ≡ extra_lag n e (on e) (Some f) q =
-        (λ j. extra_lag n (opposite_twice e j) (one j)
-        ((heard (opposite e) is.k is.heard ∙ heard_source (opposite e) is.k f is.heard is.found) j) q) in
-        let none : extra_lag n e (on e) (Some f) q ≡ 0 = extra_ahead n e (on e) f q (omega arith) in
-        let slot = straight (Switch e (Some f)) (opposite e) i (n - 2) (other_open e (Some f)) in
-        omega arith
+        untaken (Switch e (Some f)) (opposite e) (came_lag (opposite e)) (round_lag (opposite e)) (other_open e (Some f))
+        ∙ came_there e one next
+        ∙ ap (λ o. next_lag (working_lag n e (on e) o q))
+        (heard (opposite e) is.k is.heard ∙ heard_source (opposite e) is.k f is.heard is.found)
+        ∙ ap next_lag (lag_ahead n e (on e) f q (omega arith)) ∙ ap exactly (sym next)
+
+    bridged_with : (e : Side) (f : Option Pos) → state_after s ≡ Switch e f → carries_in n cs p e m f ≡ true
+        → LeavesWith (arrival_lag (Switch e f) (opposite e)) (exactly (place_on n e (on e) p)) e
+    bridged_with e f h t = record {
+      begins = λ none. lag.same (ap exactly (sym none));
+      goes = λ one next. lag.same (straight_on e f h t one next);
+    }
 
     bridged_fine : (e : Side) (f : Option Pos) → state_after s ≡ Switch e f
         → Fine (Own (spoken_lag ids cs m e (word s (opposite e)) p)) (spoken_of ids cs m e (word s (opposite e))) e
@@ -505,21 +551,22 @@ module _ (Was Own : ℕ → Option PortId → Au → Type 0) (lags : AreLags Was
     bridged_fine e f h = elim (cases_Bool (carries_in n cs p e m f)) [
       | inl t ↦ (
           let x = working_in n cs p (Switch e f) e m in
-          let lag : protection_lag n e (on e) (Some (position_of p)) p ≡ spoken_lag ids cs m e (word s (opposite e)) p =
-          sym (λ k. protection_lag n e (own_speaks e f h k) (own_source e f h k) p) in
-          let more : place_on n e (on e) p ≤ protection_lag n e (on e) (Some (position_of p)) p = omega arith in
+          let none : steps n (opposite e) p p ≡ 0 = steps_none n peopled (opposite e) p inside in
+          let here : exactly (place_on n e (on e) p) ≡ exactly (protection_rounds n e (on e) (Some (position_of p)) p) =
+          ap exactly (omega arith) in
+          let lag : exactly (protection_rounds n e (on e) (Some (position_of p)) p) ≡ spoken_lag ids cs m e (word s (opposite e)) p =
+          sym (λ k. exactly (protection_rounds n e (own_speaks e f h k) (own_source e f h k) p)) in
           by_origin _ _ e _ x (bridged-leaves n cs p e m f t)
           (subst (λ o. Fine (Own (spoken_lag ids cs m e (word s (opposite e)) p)) o e (value x)) (sym (own_speaks e f h))
-          (subst (λ j. Fine (Own j) (on e) e (value x)) lag
-          (longer (place_on n e (on e) p) (protection_lag n e (on e) (Some (position_of p)) p) more (on e) e (value x)
-          (working_from (Switch e f) e (arrival_lag (Switch e f) (opposite e)) (place_on n e (on e) p) (straight_on e f h t)
-          (stands_by (Switch e f) h (opposite e)))))))
+          (subst (λ j. Fine (Own j) (on e) e (value x)) (here ∙ lag)
+          (working_from (Switch e f) e (arrival_lag (Switch e f) (opposite e)) (exactly (place_on n e (on e) p)) (bridged_with e f h t)
+          (stands_by (Switch e f) h (opposite e))))))
       | inr t ↦ by_origin _ _ e _ Ais (blocked-leaves n cs p e m f t) (silent_is_fine _ _ e)
     ]
 
     -- a relayed word has come a span farther from its source
     relayed_lag : (d : Side) (k : K) → relayed s d ≡ Some k
-        → spoken_lag ids cs m (opposite d) k p ≡ spoken_lag ids cs m (opposite d) k (neighbour n p (opposite d)) + 1
+        → spoken_lag ids cs m (opposite d) k p ≡ next_lag (spoken_lag ids cs m (opposite d) k (neighbour n p (opposite d)))
     relayed_lag d k r =
         let is = relayed_from s d k r in
         let e = opposite d in
@@ -533,10 +580,10 @@ module _ (Was Own : ℕ → Option PortId → Au → Type 0) (lags : AreLags Was
         let other : g ≢ p = λ z. is.foreign (sym member.2 ∙ ap (slice_index ids) z ∙ sym own) in
         let next : steps n (opposite e) g p ≡ steps n (opposite e) g (neighbour n p e) + 1 =
         subst (λ y. steps n y g p ≡ steps n y g (neighbour n p e) + 1) (sym back) (steps_next n peopled d g p member.1 inside other) in
-        ap (λ o. protection_lag n e (spoken_of ids cs m e k) o p) source
-        ∙ (let z : protection_lag n e (spoken_of ids cs m e k) (Some (position_of g)) p
-        ≡ protection_lag n e (spoken_of ids cs m e k) (Some (position_of g)) (neighbour n p e) + 1 = omega arith in z)
-        ∙ ap (λ o. protection_lag n e (spoken_of ids cs m e k) o (neighbour n p e) + 1) (sym source)
+        ap exactly (ap (λ o. protection_rounds n e (spoken_of ids cs m e k) o p) source
+        ∙ (let z : protection_rounds n e (spoken_of ids cs m e k) (Some (position_of g)) p
+        ≡ protection_rounds n e (spoken_of ids cs m e k) (Some (position_of g)) (neighbour n p e) + 1 = omega arith in z)
+        ∙ ap (λ o. protection_rounds n e (spoken_of ids cs m e k) o (neighbour n p e) + 1) (sym source))
 
     passed_fine : (d : Side) → state_after s ≡ state.PassThrough tt
         → Fine (Own (beside_lag d)) (spoken_of ids cs m (opposite d) (word s d)) (opposite d)
@@ -546,12 +593,11 @@ module _ (Was Own : ℕ → Option PortId → Au → Type 0) (lags : AreLags Was
         let e = opposite d in
         let from : protection_in n cs p (state.PassThrough tt) d m ≡ Protection e =
         ap (λ x. protection_in n cs p (state.PassThrough tt) x m) (sym (opposite_twice d)) ∙ passed-leaves n cs p e m in
-        let less : spoken_lag ids cs m e r.k (neighbour n p e) < spoken_lag ids cs m e r.k p =
-        (let lag = relayed_lag d r.k r.relayed_is in omega arith) in
         by_origin _ _ e _ (Protection e) from
         (subst (λ k. Fine (Own (spoken_lag ids cs m e k p)) (spoken_of ids cs m e k) e (value (Protection e))) (sym r.says)
-        (sooner (spoken_lag ids cs m e r.k (neighbour n p e)) (spoken_lag ids cs m e r.k p) less (spoken_of ids cs m e r.k) e
-        (value (Protection e)) (protection_in_fine e r.k r.heard)))
+        (subst (λ i. Fine (Own i) (spoken_of ids cs m e r.k) e (value (Protection e))) (sym (relayed_lag d r.k r.relayed_is))
+        (later (spoken_lag ids cs m e r.k (neighbour n p e)) (spoken_of ids cs m e r.k) e (value (Protection e))
+        (protection_in_fine e r.k r.heard))))
 
     protection_by : (x : NodeState) → state_after s ≡ x → (d : Side)
         → Fine (Own (beside_lag d)) (spoken_of ids cs m (opposite d) (word s d)) (opposite d) (value (protection_in n cs p x d m))
@@ -584,6 +630,29 @@ module _ (n : ℕ) (cs : List Provisioned) (ring : AreOnRing n cs) (i : ℕ) (c 
   at_port e =
       let seen = seen-on n cs ring i c get (inward e) in
       ap (λ q. circuits_at n cs q c.slot.0 (inward e)) (starts_at e) ∙ seen.on_arc 0 seen.long
+
+  far_is : (e : End) → other_end (near_end (opposite (inward e))) ≡ e
+  far_is A = refl
+  far_is B = refl
+
+  -- what comes to a port has come over all spans of the arc
+  pub last_place : (e : End) → place_on n (opposite (inward e)) (Some (entry i c)) (neighbour n (port_at c e) (inward e)) + 1
+      ≡ arc_length n c
+  last_place e =
+      let d = opposite (inward e) in
+      let b = near_at n c d in
+      let seen = seen-on n cs ring i c get d in
+      let long = seen.long in
+      let short = seen.short in
+      let last : suc (arc_length n c - 1) ≡ arc_length n c = omega arith in
+      let there : port_at c e ≡ going n d b (suc (arc_length n c - 1)) =
+      ap (port_at c) (sym (far_is e)) ∙ seen.distant_at ∙ ap (going n d b) (sym last) in
+      let low = near_inside n cs ring i c get d in
+      let before : neighbour n (port_at c e) (inward e) ≡ going n d b (arc_length n c - 1) =
+      (λ k. neighbour n (there k) (sym (opposite_twice (inward e)) k)) ∙ going-back n plenty d b (arc_length n c - 1) in
+      let place : place_on n d (Some (entry i c)) (neighbour n (port_at c e) (inward e)) ≡ arc_length n c - 1 =
+      (λ k. steps n d (starts_near n cs ring i c get d k) (before k)) ∙ steps_going n plenty d b (arc_length n c - 1) low (omega arith) in
+      omega arith
 
 -- the stream that comes from there is the other port's
 pub sent_to : (e : End) → sender (opposite (inward e)) ≡ other_end e

@@ -1,8 +1,7 @@
 -- The laws over rounds that any plant ran, over settle steps, and over stretches from a new ring on.
-use Rattle.std.proofs.Common.{◌≡◌, ℕ, zero, suc, ◌+◌, ◌-◌, ◌*◌, ◌<◌, ◌≤◌, List, [], ◌∷◌, length, Some, ap, sym, ◌∙◌, subst}
+use Rattle.std.proofs.Common.{◌≡◌, ℕ, zero, suc, ◌+◌, ◌-◌, ◌*◌, ◌<◌, ◌≤◌, List, [], ◌∷◌, length, Some, refl, ap, sym, ◌∙◌, subst}
 use Rattle.std.proofs.Common.{arith, inl, inr}
 use Rattle.std.specs.Prelude.{◌/◌, slice_get}
-use Rattle.std.proofs.lemmas.Bool.{cases_lt}
 use Rattle.sdh_frame.specs.Aus.{Au}
 use Rattle.sdh_ringmap.specs.Rates.{n_of}
 use Rattle.sdh_ringmap.specs.Ids.{AreIds}
@@ -16,7 +15,7 @@ use Rattle.sdh_payload.specs.Outlet.{Outlet}
 use Rattle.sdh_plant.specs.Fibres.{Fibres, IsHonest}
 use Rattle.sdh_request.specs.declared.settings.Settings.{Settings}
 use Rattle.sdh_node.specs.Stations.{adm}
-use Rattle.sdh_node.specs.Rings.Held.{HeldRing}
+use Rattle.sdh_node.specs.Rings.Held.{outlet_at}
 use Rattle.sdh_node.specs.Rings.Rounds.{World, round}
 use Rattle.sdh_node.specs.Rings.Runs.{run}
 use Rattle.sdh_restoration.specs.Changes.{Stretch, rounds_in}
@@ -27,6 +26,7 @@ use Rattle.sdh_node.specs.Rings.Laws.{MayHappen}
 use Rattle.sdh_node.specs.Rings.Sides.{world_in}
 use Rattle.sdh_node.proofs.RingLaws.Clocks.{clocks_go_on, goes_run}
 use Rattle.sdh_rounds.specs.Runs as any_run
+use Rattle.sdh_rounds.specs.Rounds as any_round
 use Rattle.sdh_rounds.proofs.Laws.{known_rounds_are, known_steps}
 use Rattle.sdh_laws.proofs.hearing.Staying.{left_run, left_in, world_low}
 use Rattle.sdh_laws.specs.Hearing.Laws.{IsWhole}
@@ -34,21 +34,28 @@ use Rattle.sdh_laws.specs.Carrying.Windows.{Layout, layout_of, slots_of, HasCirc
 use Rattle.sdh_laws.proofs.carrying.Ways.{layout_run}
 use Rattle.sdh_laws.proofs.carrying.Owed.{port_is_there}
 use Rattle.sdh_signal.proofs.Ways.{end_inside}
-use Rattle.sdh_laws.specs.Strangers.Owners.{Holds, MeetsNoStranger, NoneMeetsAStranger, AreClocksOf, AreClocksBetween}
-use Rattle.sdh_laws.specs.Strangers.Owners as owner
+use Rattle.sdh_laws.specs.Strangers.Owners.{other_port, NoneMeetsAStranger, AreClocksOf, AreClocksBetween}
 use Rattle.sdh_laws.specs.Strangers.Ages.{HoldsSince, MeetsNoStrangerSince, NoneMeetsAStrangerSince}
 use Rattle.sdh_laws.specs.Strangers.Ages as since
+use Rattle.sdh_laws.specs.Strangers.Transit.{IsTransit, HoldsAfterTransit, ComesAfterTransit, AllComeAfterTransit}
+use Rattle.sdh_laws.specs.Strangers.Transit as transit_of
 use Rattle.sdh_laws.specs.Strangers.Vouched.{IsVouched}
 use Rattle.sdh_laws.specs.Strangers.Laws.{NoneHolds, HoldsAside, HeldAside, KeepsStrangersOutInAll, VouchedRingsStay}
 use Rattle.sdh_laws.specs.Strangers.Laws.{RoundsKeepStrangersOut, NodesAsideMayBeHeld, HeldBesidePassing, NodesThatDoNotPassMayBeHeld}
 use Rattle.sdh_laws.specs.Strangers.Laws.{StepsKeepStrangersOut, NoPortEverMeetsAStranger, RingsComeToBeVouchedFor}
-use Rattle.sdh_laws.specs.Strangers.Laws.{SettledRingsAreVouchedFor, StrangersAreGoneSoon, DeliversRecentBytes, StepsDeliverRecentBytes, NothingComesLate}
-use Rattle.sdh_laws.proofs.strangers.Vouched.{vouched_changed, new_free, vouched_new, vouched_after, ready_aside, none_meets}
+use Rattle.sdh_laws.specs.Strangers.Laws.{SettledRingsAreVouchedFor, BytesComeAfterTransit, TransitsAreShort, StrangersAreGoneSoon}
+use Rattle.sdh_laws.specs.Strangers.Laws.{DeliversAfterTransit, StepsDeliverAfterTransit, DeliversRecentBytes, StepsDeliverRecentBytes}
+use Rattle.sdh_laws.specs.Strangers.Laws.{BytesAlwaysComeAfterTransit, NothingComesLate}
+use Rattle.sdh_laws.proofs.strangers.Vouched.{vouched_changed, new_free, nothing_sent, vouched_new, vouched_after, ready_aside, none_meets}
 use Rattle.sdh_laws.proofs.strangers.Safe.{IsSafe, safe_of, safe_ready}
 use Rattle.sdh_laws.proofs.strangers.Windows.{window_vouched}
 use Rattle.sdh_laws.proofs.strangers.Quiet.{safe_in}
 use Rattle.sdh_laws.proofs.strangers.Keeping.{none_aside, layout_in, kept_run, kept_in}
-use Rattle.sdh_laws.proofs.strangers.Clearing.{clearing_in, cleared, none_comes_late}
+use Rattle.sdh_laws.proofs.strangers.Clearing.{arc_is, transit_few, transit_some, Clears, clears_none, clearing_in, cleared, all_come}
+use Rattle.sdh_laws.proofs.hearing.Nodes.{one_more}
+use Rattle.sdh_signal.proofs.Views.{AreOnRing, on-ring, arc_length}
+use Rattle.sdh_signal.proofs.OnArcs.{seen-on}
+use Rattle.sdh_ringmap.specs.declared.Side.TheVariants.{East}
 use Rattle.sdh_laws.proofs.hearing.Stretches.{ran_at}
 use Rattle.sdh_laws.proofs.hearing.Changes.{each_new}
 
@@ -143,52 +150,99 @@ settled_rings_are_vouched_for law w left limit clocks whole form settles =
 -- from any ring in its place, whatever it carried, once no controller was held for long enough
 pub rings_come_to_be_vouched_for : RingsComeToBeVouchedFor
 rings_come_to_be_vouched_for most w ss clocks whole form held may none tells t long few =
-    cleared clocks most 0 (world_in ss w t) (0 + t) (subst HasCircuits (sym (layout_in ss w t)) form)
-    (clearing_in clocks most 0 ss w t whole form (omega arith) held may none tells few)
+    cleared clocks most 0 (inr refl) (world_in ss w t) (0 + t) (subst HasCircuits (sym (layout_in ss w t)) form)
+    (clearing_in clocks most 0 (inr refl) ss w t whole form (clears_none clocks w) held may none tells few)
     (subst (λ (n : ℕ). most + 2 * n ≤ 0 + t + 2) (ap (λ ids. length ids) (sym (left_in ss w t few).ids)) (omega arith))
 
--- Each round has 2n - 3 rounds before it in which no controller missed its turn. What is put in from the first of these on
--- is all that is delivered.
-pub strangers_are_gone_soon : StrangersAreGoneSoon
-strangers_are_gone_soon most w ss clocks whole form held may none tells t long few =
-    let n = length w.ring.ids in
+-- So each AU-4 holds what was put in as many rounds ago as it lags, as soon as these are over.
+pub bytes_come_after_transit : BytesComeAfterTransit
+bytes_come_after_transit most w ss clocks whole form held may none tells t long few =
     let two = whole.placed.ids.enough in
-    let until = t + 3 - 2 * n in
-    let first = w.ring.rounds + until in
     let soon : t ≤ rounds_in ss = omega arith in
-    let size : n ≡ length (world_in ss w t).ring.ids = ap (λ ids. length ids) (sym (left_in ss w t soon).ids) in
-    subst (λ i. NoneMeetsAStrangerSince i clocks (round (world_in ss w t)).ring)
-    (let e : first ≡ w.ring.rounds + t + 3 - 2 * n = omega arith in e)
-    (none_comes_late clocks until first (world_in ss w t) (0 + t) (subst HasCircuits (sym (layout_in ss w t)) form)
-    (clearing_in clocks until first ss w t whole form (omega arith) (λ p h. (let few = held p h in omega arith)) may none tells soon)
-    (omega arith) (omega arith))
+    let size : length w.ring.ids ≡ length (world_in ss w t).ring.ids = ap (λ ids. length ids) (sym (left_in ss w t soon).ids) in
+    all_come clocks most 0 (inr refl) (world_in ss w t) (0 + t) (subst HasCircuits (sym (layout_in ss w t)) form)
+    (clearing_in clocks most 0 (inr refl) ss w t whole form (clears_none clocks w) held may none tells soon) (omega arith)
+    (omega arith)
+
+-- ---- transits are short
+
+module _ (clocks : PortId → ℕ → Clock) (n : ℕ) (cs : List Provisioned) (ring : AreOnRing n cs) (t : ℕ) where
+  holds_recent : (port : PortId) (a : Au) → HoldsAfterTransit n cs clocks t port a → HoldsSince cs clocks (t + 3 - 2 * n) t port a
+  holds_recent port a (transit_of.nobodys h) = since.nobodys h
+  holds_recent port a (transit_of.customers c r rounds get transit then h) =
+      let seen = seen-on n cs ring port.circuit c get East in
+      let long = seen.long in
+      let short = seen.short in
+      let few = transit_few n (arc_length n c) rounds (omega arith) short (subst (λ spans. IsTransit n spans rounds) (sym (arc_is n c)) transit) in
+      let some = transit_some n (arc_length n c) rounds long short (subst (λ spans. IsTransit n spans rounds) (sym (arc_is n c)) transit) in
+      since.customers c r get (omega arith) (omega arith) h
+
+  meets_recent : (port : PortId) (o : Outlet) → ComesAfterTransit n cs clocks t port o
+      → MeetsNoStrangerSince cs clocks (t + 3 - 2 * n) t port o
+  meets_recent port o (transit_of.ais_comes is) = since.ais_comes is
+  meets_recent port o (transit_of.bytes_come value form a is own) =
+      since.bytes_come value form a is (holds_recent (other_port port) a own)
+
+pub transits_are_short : TransitsAreShort
+transits_are_short w clocks form come i c get e =
+    let n = length w.ring.ids in
+    let cs = w.ring.circuits.circuits in
+    let ring = on-ring n (slots_of (layout_of w)) cs form in
+    let short = (seen-on n cs ring i c get East).short in
+    let long = (seen-on n cs ring i c get East).long in
+    let first : w.ring.rounds - 1 + 3 - 2 * n ≡ w.ring.rounds + 2 - 2 * n = omega arith in
+    subst (λ r. MeetsNoStrangerSince cs clocks r (w.ring.rounds - 1) (port_id i e) (outlet_at w.ring (port_id i e))) first
+    (meets_recent clocks n cs ring (w.ring.rounds - 1) (port_id i e) (outlet_at w.ring (port_id i e)) (come i c get e))
+
+pub strangers_are_gone_soon : StrangersAreGoneSoon
+unfolding any_round.round any_round.round_with
+strangers_are_gone_soon most w ss clocks whole form held may none tells t long few =
+    let v = round (world_in ss w t) in
+    let soon : t ≤ rounds_in ss = omega arith in
+    let size : length v.ring.ids ≡ length w.ring.ids = ap (λ ids. length ids) (left_in ss w t soon).ids in
+    let first : v.ring.rounds + 2 - 2 * length v.ring.ids ≡ w.ring.rounds + t + 3 - 2 * length w.ring.ids =
+    omega (arith, size, one_more (world_in ss w t), (left_in ss w t soon).rounds) in
+    subst (λ i. NoneMeetsAStrangerSince i clocks v.ring) first
+    (transits_are_short v clocks (subst HasCircuits (sym (layout_in ss w t)) form)
+    (bytes_come_after_transit most w ss clocks whole form held may none tells t long few))
 
 -- ---- over rounds alone
 
-run_recent : (w : World) → HasCircuits (layout_of w) → (many : ℕ) → DeliversRecentBytes w (run many w)
+run_after_transit : (w : World) → HasCircuits (layout_of w) → (many : ℕ) → DeliversAfterTransit w (run many w)
 unfolding any_run.run
-run_recent w form many most clocks whole held told zero long low =
+run_after_transit w form many most clocks whole held told zero long low =
     (let two = whole.placed.ids.enough in absurd (omega arith))
-run_recent w form many most clocks whole held told (suc t) long low =
+run_after_transit w form many most clocks whole held told (suc t) long low =
     let few : t < many = omega (arith, (left_run many w).rounds) in
     let alone : List Stretch = record { changes = []; rounds = many } ∷ [] in
     let on : (j : ℕ) → j < many → world_in alone w j ≡ run j w = λ j h. world_low (record { changes = []; rounds = many }) [] w j h in
-    subst (λ (v : World). NoneMeetsAStrangerSince (w.ring.rounds + suc t + 2 - 2 * length w.ring.ids) clocks (round v).ring) (on t few)
-    (subst (λ i. NoneMeetsAStrangerSince i clocks (round (world_in alone w t)).ring)
-    (let e : w.ring.rounds + t + 3 - 2 * length w.ring.ids ≡ w.ring.rounds + suc t + 2 - 2 * length w.ring.ids = omega arith in e)
-    (strangers_are_gone_soon most w alone clocks whole form held (tt, tt) (tt, tt)
+    subst (λ (v : World). AllComeAfterTransit clocks (round v).ring) (on t few)
+    (bytes_come_after_transit most w alone clocks whole form held (tt, tt) (tt, tt)
     (λ j h. (let h_many : j < many = omega arith in
     subst (λ (v : World). AreClocksOf clocks v.ring) (sym (on j h_many)) (tells_run w form many clocks whole told j h_many)))
-    t (omega arith) (omega arith)))
+    t (omega arith) (omega arith))
+
+recent_by : (w left : World) → HasCircuits (layout_of w) → DeliversAfterTransit w left → DeliversRecentBytes w left
+recent_by w left form come most clocks whole held told j long low =
+    let first : (run j w).ring.rounds + 2 - 2 * length (run j w).ring.ids ≡ w.ring.rounds + j + 2 - 2 * length w.ring.ids =
+    omega (arith, (left_run j w).rounds, ap (λ (ids : List ℕ). length ids) (left_run j w).ids) in
+    subst (λ i. NoneMeetsAStrangerSince i clocks (run j w).ring) first
+    (transits_are_short (run j w) clocks (subst HasCircuits (sym (layout_run w j)) form) (come most clocks whole held told j long low))
+
+pub steps_deliver_after_transit : StepsDeliverAfterTransit
+steps_deliver_after_transit = record {
+  settled =
+      λ w left limit form settles most clocks whole. (let n = (known_steps adm).settled w left limit (inl whole.paired.honest.honest) settles in
+      subst (DeliversAfterTransit w) (sym n.2) (run_after_transit w form n.0) most clocks whole);
+  unsettled =
+      λ w left limit form never most clocks whole. (let n = (known_steps adm).unsettled w left limit (inl whole.paired.honest.honest) never in
+      subst (DeliversAfterTransit w) (sym n.1) (run_after_transit w form limit) most clocks whole);
+}
 
 pub steps_deliver_recent_bytes : StepsDeliverRecentBytes
 steps_deliver_recent_bytes = record {
-  settled =
-      λ w left limit form settles most clocks whole. (let n = (known_steps adm).settled w left limit (inl whole.paired.honest.honest) settles in
-      subst (DeliversRecentBytes w) (sym n.2) (run_recent w form n.0) most clocks whole);
-  unsettled =
-      λ w left limit form never most clocks whole. (let n = (known_steps adm).unsettled w left limit (inl whole.paired.honest.honest) never in
-      subst (DeliversRecentBytes w) (sym n.1) (run_recent w form limit) most clocks whole);
+  settled = λ w left limit form settles. recent_by w left form (steps_deliver_after_transit.settled w left limit form settles);
+  unsettled = λ w left limit form never. recent_by w left form (steps_deliver_after_transit.unsettled w left limit form never);
 }
 
 -- ---- from a new ring on
@@ -224,15 +278,22 @@ module _ (s : Settings) (ids : List ℕ) (circuits : Provisioning) (f : Fibres) 
   pub no_stranger : MayHappen w ss → HeldAside w ss → (t : ℕ) → t < rounds_in ss → NoneMeetsAStranger clocks (round (world_in ss w t)).ring
   no_stranger happen aside t h = none_met t h (vouched_in clocks ss w t ring begins happen aside tells (omega arith))
 
-  -- as no controller is held in a new ring
-  pub new_late : MayHappen w ss → NoneHolds ss → (t : ℕ) → t < rounds_in ss → 2 * length ids ≤ t + 3
-      → NoneMeetsAStrangerSince (t + 3 - 2 * length ids) clocks (round (world_in ss w t)).ring
-  new_late happen none t h long =
-      subst (λ i. NoneMeetsAStrangerSince i clocks (round (world_in ss w t)).ring)
-      (let e : 0 + t + 3 - 2 * length ids ≡ t + 3 - 2 * length ids = omega arith in e)
-      (strangers_are_gone_soon 0 w ss clocks begins.whole ring
-      (each_new (λ p n. n.held ≤ 0) s ids cs (λ p low. (let free = new_free clocks s ids circuits f are honest p in omega arith))) happen none tells t
-      (omega arith) h)
+  -- as nothing is under way in a new ring
+  clears_new : (ahead : ℕ) → Clears clocks w ahead
+  clears_new ahead = record {
+    working = λ p h m d line there low high. absurd (nothing_sent clocks s ids circuits f are honest line p d h there);
+    protection = λ p h m d line there low high. absurd (nothing_sent clocks s ids circuits f are honest line p d h there);
+  }
+
+  -- and no controller is held
+  pub new_come : MayHappen w ss → NoneHolds ss → (t : ℕ) → t < rounds_in ss → AllComeAfterTransit clocks (round (world_in ss w t)).ring
+  new_come happen none t h =
+      let size : length w.ring.ids ≡ length (world_in ss w t).ring.ids = ap (λ ids. length ids) (sym (left_in ss w t (omega arith)).ids) in
+      let ahead = 2 * length ids in
+      all_come clocks 0 ahead (inl refl) (world_in ss w t) (0 + t) (subst HasCircuits (sym (layout_in ss w t)) ring)
+      (clearing_in clocks 0 ahead (inl refl) ss w t begins.whole ring (clears_new ahead)
+      (each_new (λ p n. n.held ≤ 0) s ids cs (λ p low. (let free = new_free clocks s ids circuits f are honest p in omega arith))) happen none tells
+      (omega arith)) (omega arith) (omega (arith, size))
 
   -- where controllers are held of nodes that don't pass traffic through
   pub no_stranger_beside : StillRingsAreSettled → MayHappen w ss → HeldBesidePassing ⊥ w ss → (t : ℕ) → t < rounds_in ss
@@ -247,27 +308,22 @@ pub no_port_ever_meets_a_stranger : NoPortEverMeetsAStranger
 no_port_ever_meets_a_stranger s ids circuits f ss are honest happen none ring t h =
     no_stranger s ids circuits f ss are honest ring happen (none_aside (new_world s ids circuits f) ss none) t h
 
--- from any ring on in its place, where nothing was ever sent before
-since_first : (clocks : PortId → ℕ → Clock) (r : HeldRing) → NoneMeetsAStranger clocks r → NoneMeetsAStrangerSince 0 clocks r
-since_first clocks r none i c get e = meets_since (none i c get e)
-  where
-    holds_since : {cs : List Provisioned} {t : ℕ} {port : PortId} {a : Au} → Holds cs clocks t port a → HoldsSince cs clocks 0 t port a
-    holds_since (owner.nobodys h) = since.nobodys h
-    holds_since (owner.customers c r get low h) = since.customers c r get (omega arith) low h
-
-    meets_since : {cs : List Provisioned} {t : ℕ} {port : PortId} {o : Outlet} → MeetsNoStranger cs clocks t port o
-        → MeetsNoStrangerSince cs clocks 0 t port o
-    meets_since (owner.ais_comes is) = since.ais_comes is
-    meets_since (owner.bytes_come value form a is own) = since.bytes_come value form a is (holds_since own)
+pub bytes_always_come_after_transit : BytesAlwaysComeAfterTransit
+bytes_always_come_after_transit s ids circuits f ss are honest happen none ring t h =
+    new_come s ids circuits f ss are honest ring happen none t h
 
 pub nothing_comes_late : NothingComesLate
-nothing_comes_late s ids circuits f ss are honest happen none ring t h = elim (cases_lt (t + 3) (2 * length ids)) [
-  | inl early ↦ subst (λ i. NoneMeetsAStrangerSince i (clocks_by circuits.circuits ss) (round (world_in ss (new_world s ids circuits f) t)).ring)
-      (let e : 0 ≡ t + 3 - 2 * length ids = omega arith in e)
-      (since_first (clocks_by circuits.circuits ss) (round (world_in ss (new_world s ids circuits f) t)).ring
-      (no_port_ever_meets_a_stranger s ids circuits f ss are honest happen none ring t h))
-  | inr late ↦ new_late s ids circuits f ss are honest ring happen none t h (omega arith)
-]
+unfolding any_round.round any_round.round_with
+nothing_comes_late s ids circuits f ss are honest happen none ring t h =
+    let w = new_world s ids circuits f in
+    let v = round (world_in ss w t) in
+    let soon : t ≤ rounds_in ss = omega arith in
+    let size : length v.ring.ids ≡ length ids = ap (λ ids. length ids) (left_in ss w t soon).ids in
+    let first : v.ring.rounds + 2 - 2 * length v.ring.ids ≡ t + 3 - 2 * length ids =
+    omega (arith, size, one_more (world_in ss w t), ran_at s ids circuits f ss t soon) in
+    subst (λ i. NoneMeetsAStrangerSince i (clocks_by circuits.circuits ss) v.ring) first
+    (transits_are_short v (clocks_by circuits.circuits ss) (subst HasCircuits (sym (layout_in ss w t)) ring)
+    (bytes_always_come_after_transit s ids circuits f ss are honest happen none ring t h))
 
 pub nodes_aside_may_be_held : NodesAsideMayBeHeld
 nodes_aside_may_be_held s ids circuits f ss are honest happen aside ring t h =

@@ -33,7 +33,7 @@ use Rattle.sdh_laws.proofs.carrying.Connections.{brings_protection}
 use Rattle.sdh_laws.specs.Strangers.Owners.{AreClocksOf}
 use Rattle.sdh_laws.specs.Strangers.Vouched.{told_of, spoken_of, HoldsAtMost, IsAside, MissesAside, IsVouched}
 use Rattle.sdh_laws.proofs.strangers.Content.{Fine}
-use Rattle.sdh_laws.proofs.strangers.Lags.{steps, steps_few}
+use Rattle.sdh_laws.proofs.strangers.Lags.{steps, steps_few, exactly}
 use Rattle.sdh_laws.proofs.strangers.Worlds.{Vouches, StandsAt, SaysAt, received_fine, working_comes, works_from, aside_delivers, aside_says}
 use Rattle.sdh_laws.proofs.strangers.Vouched.{Anyhow, IsReady, state_kept, adds_own, lags_now, lags_more, fine_more, vouches_of}
 use Rattle.sdh_laws.proofs.strangers.Vouched.{ready_goes}
@@ -107,7 +107,7 @@ module _ (clocks : PortId → ℕ → Clock) where
         taken =
             subst (λ y. Fine (Own t) (circuits_at n cs p m (opposite e)) y (value_at w p m (Protection e))) (sym (opposite_twice e))
             (subst (Fine (Own t) (circuits_at n cs p m (opposite e)) e) (sym (brings_protection w k.whole p m e (below p h)))
-            (received_fine (λ i. Own t) (λ i. Own t) (lags_now clocks w form) w k.whole p h 0 (circuits_at n cs p m (opposite e)) e e
+            (received_fine (λ i. Own t) (λ i. Own t) (lags_now clocks w form) w k.whole p h (exactly 0) (circuits_at n cs p m (opposite e)) e e
             (slots + m) (omega arith) (omega arith)
             (λ line kept there. sh.content (neighbour n p e) m line (neighbour_inside w k.whole p e) (few e) there low high)))
           where
@@ -142,8 +142,8 @@ module _ (clocks : PortId → ℕ → Clock) where
             (bridged-leaves n cs p (opposite e) m f carries) in
             subst (λ z. Fine (Own (t + 1)) (circuits_at n cs p m (opposite e)) (opposite e) (value_at w p m z)) (sym leaves)
             (works_from (λ i. Own t) (λ i. Own (t + 1)) (lags_more clocks w form) w k.whole p h k.vouches m low high ring_is
-            (λ j i c e get at. subst (λ y. Own (t + 1) (Some (port_id i e)) (added_by (node_at w.ring.nodes y).ports (port_id i e)).au) at
-            (adds_own clocks w k.whole form tells i c e get)) this (opposite e) 0 0 (omega arith) (goes_on (opposite (opposite e))))
+            (λ i c e get at. subst (λ y. Own (t + 1) (Some (port_id i e)) (added_by (node_at w.ring.nodes y).ports (port_id i e)).au) at
+            (adds_own clocks w k.whole form tells i c e get)) this (opposite e) (goes_on (opposite (opposite e))))
 
         spoken_is : spoken_of w.ring.ids cs m (opposite e) (word_of e (node_at w.ring.nodes p)) ≡ circuits_at n cs p m (opposite e)
         spoken_is = ap (told_of w.ring.ids cs m (opposite e)) (sh.says (let g = k.whole.placed.ids.enough in omega arith))

@@ -42,7 +42,7 @@ use Rattle.sdh_laws.specs.Strangers.Owners.{AreClocksOf}
 use Rattle.sdh_laws.specs.Strangers.Vouched.{HoldsAtMost, IsAside, au_in}
 use Rattle.sdh_laws.proofs.strangers.Arrivals.{heard_came}
 use Rattle.sdh_laws.proofs.strangers.Content.{Bears, Fine}
-use Rattle.sdh_laws.proofs.strangers.Lags.{steps, steps_few, steps_none, steps_next, source_in}
+use Rattle.sdh_laws.proofs.strangers.Lags.{steps, steps_few, steps_none, steps_next, exactly, source_in}
 use Rattle.sdh_laws.proofs.strangers.Rules.{switched_one, heard_is_long, far_from}
 use Rattle.sdh_laws.proofs.strangers.Nodes.{no_far}
 use Rattle.sdh_laws.proofs.strangers.Worlds.{received_fine, working_goes, sent_bears}
@@ -231,7 +231,7 @@ module _ (clocks : PortId → ℕ → Clock) (w : World) where
           let other : x ≢ q = λ same. no_pass (opposite e) f (sym stays ∙ ap (λ y. (node_at (round w).ring.nodes y).state) same ∙ is) in
           let came : Fine (Own t) (circuits_at n cs x m (opposite e)) e (value_at w q m (Protection e)) =
           subst (Fine (Own t) (circuits_at n cs x m (opposite e)) e) (sym (brings_protection w whole q m e (below whole q h)))
-          (received_fine (λ i. Own t) (λ i. Own t) (lags_now clocks w form) w whole q h 0 (circuits_at n cs x m (opposite e)) e e
+          (received_fine (λ i. Own t) (λ i. Own t) (lags_now clocks w form) w whole q h (exactly 0) (circuits_at n cs x m (opposite e)) e e
           (slots + m) (omega arith) (omega arith) (λ line kept there. comes other is line there)) in
           sends (state.PassThrough tt) (Protection e) is (passed-leaves n cs q e m)
           (fine_more clocks w form (circuits_at n cs x m (opposite e)) e (value_at w q m (Protection e)) came)
@@ -274,7 +274,7 @@ module _ (clocks : PortId → ℕ → Clock) (w : World) where
     works : (q m : ℕ) (d : Side) → q < length w.ring.nodes → 1 ≤ m → m ≤ slots → Fine (Own (t + 1)) (circuits_at n cs q m d) d (sent_at w q d m)
     works q m d h low high =
         working_goes (λ i. Own t) (λ i. Own (t + 1)) (lags_more clocks w form) w k.whole q h k.vouches m low high ring_is
-        (λ j i c e get at. subst (λ y. Own (t + 1) (Some (port_id i e)) (added_by (node_at w.ring.nodes y).ports (port_id i e)).au) at
+        (λ i c e get at. subst (λ y. Own (t + 1) (Some (port_id i e)) (added_by (node_at w.ring.nodes y).ports (port_id i e)).au) at
         (adds_own clocks w k.whole form tells i c e get)) (λ held y. ready_works clocks w form k tells q m y h low high held) d
 
     -- one switched node x, which has a shield

@@ -60,7 +60,7 @@ use Rattle.sdh_laws.specs.Strangers.Owners.{ais_comes, bytes_come, NoneMeetsAStr
 use Rattle.sdh_laws.specs.Strangers.Vouched.{streams_to, spoken_of, HoldsAtMost, au_in, IsVouched, IsAside, MissesAside}
 use Rattle.sdh_laws.specs.Strangers.Laws.{HoldsNone, HoldsAside}
 use Rattle.sdh_laws.proofs.strangers.Content.{IsCarried, Bears, Fine}
-use Rattle.sdh_laws.proofs.strangers.Lags.{working_lag, source_in, spoken_lag, AreLags}
+use Rattle.sdh_laws.proofs.strangers.Lags.{Lag, working_lag, source_in, spoken_lag, AreLags}
 use Rattle.sdh_laws.proofs.strangers.Nodes.{at_port, sent_to}
 use Rattle.sdh_laws.proofs.strangers.Worlds.{Vouches, WorksOn, SpeaksOf, HeldStand, HeldWork, HeldSay, vouched_round, delivers_fine}
 use Rattle.sdh_laws.proofs.strangers.Worlds.{aside_delivers, aside_says, works_from}
@@ -105,7 +105,7 @@ word_commanded d e c n = ap (λ x. x.word) (sending_commanded d e c n)
 pub word_left : (f : Node → Node) → LeavesSides f → (e : Side) (n : Node) → word_of e (f n) ≡ word_of e n
 word_left f leaves e n = ap (λ x. x.word) (leaves.sending e n)
 
-module _ (Own : ℕ → Option PortId → Au → Type 0) where
+module _ (Own : Lag → Option PortId → Au → Type 0) where
   -- a change of one node that leaves its words
   vouches_node : (f : Node → Node) → ((d : Side) (n : Node) → word_of d (f n) ≡ word_of d n) → (p : ℕ) (w : World) → Vouches Own w
       → Vouches Own (with_node p f w)
@@ -166,7 +166,7 @@ aside_changed (Now t) w may k = k
 
 module _ (clocks : PortId → ℕ → Clock) where
   -- in a ring that is vouched for it doesn't matter how far AU-4s lag
-  abbrev pub Anyhow : World → ℕ → Option PortId → Au → Type 0
+  abbrev pub Anyhow : World → Lag → Option PortId → Au → Type 0
   Anyhow w i = HoldsAtMost w.ring.circuits.circuits clocks w.ring.rounds
 
   pub vouches_of : (w : World) → IsVouched clocks w → Vouches (Anyhow w) w
@@ -214,7 +214,7 @@ module _ (clocks : PortId → ℕ → Clock) where
     new_whole : IsWhole (new_world s ids circuits f)
     new_whole = new_worlds_are_whole s ids circuits f are honest
 
-    nothing_sent : (line : List ℕ) (p : ℕ) (d : Side) → p < length (new_world s ids circuits f).ring.nodes
+    pub nothing_sent : (line : List ℕ) (p : ℕ) (d : Side) → p < length (new_world s ids circuits f).ring.nodes
         → carried_on (new_world s ids circuits f).fibres (fibre p d) ≡ Some line → ⊥
     nothing_sent line p d h there = no (sym ((new_whole.paired.carried p h).dark d refl) ∙ there)
       where
@@ -316,16 +316,18 @@ module _ (clocks : PortId → ℕ → Clock) (w : World) (form_is : HasCircuits 
   lags_now = record {
     was = λ i. carried_holds cs clocks t;
     own = λ i. carried_holds cs clocks t;
-    later = λ i j q a less x. x;
-    longer = λ i j q a less x. x;
+    later = λ i q a x. x;
+    round = λ size spans past i q a some few is x. x;
+    fitting = λ i j q a fits x. x;
   }
 
   pub lags_more : AreLags (λ i. Own t) (λ i. Own (t + 1))
   lags_more = record {
     was = λ i. carried_holds cs clocks t;
     own = λ i. carried_holds cs clocks (t + 1);
-    later = λ i j q a less x. holds_more cs clocks t q a x;
-    longer = λ i j q a less x. x;
+    later = λ i q a x. holds_more cs clocks t q a x;
+    round = λ size spans past i q a some few is x. holds_more cs clocks t q a x;
+    fitting = λ i j q a fits x. x;
   }
 
   -- what is fine stays so
@@ -337,15 +339,15 @@ module _ (clocks : PortId → ℕ → Clock) (w : World) (form_is : HasCircuits 
   pub ready_works : IsReady clocks w → AreClocksOf clocks w.ring → HeldWork (λ i. Own (t + 1)) w
   ready_works k tells p m d h low high held =
       works_from (λ i. Own t) (λ i. Own (t + 1)) lags_more w k.whole p h k.vouches m low high ring_is
-      (λ j i c e get at. subst (λ y. Own (t + 1) (Some (port_id i e)) (added_by (node_at w.ring.nodes y).ports (port_id i e)).au) at
-      (adds_own clocks w k.whole form_is tells i c e get)) (node_at w.ring.nodes p).state d 0 0 (omega arith)
+      (λ i c e get at. subst (λ y. Own (t + 1) (Some (port_id i e)) (added_by (node_at w.ring.nodes y).ports (port_id i e)).au) at
+      (adds_own clocks w k.whole form_is tells i c e get)) (node_at w.ring.nodes p).state d
       (fine_more (circuits_at size cs p m (opposite d)) (opposite (opposite d))
       (value_at w p m (stands_in size cs p (node_at w.ring.nodes p).state (opposite d) m)) (k.stand p m (opposite d) h low high held))
 
   pub ready_goes : IsReady clocks w → AreClocksOf clocks w.ring → Vouches (λ i. Own (t + 1)) (round w)
   ready_goes k tells =
       vouched_round (λ i. Own t) (λ i. Own (t + 1)) lags_more w k.whole ring_is (ready_works k tells) k.say k.vouches
-      (λ j i c e get. adds_own clocks w k.whole form_is tells i c e get)
+      (λ i c e get. adds_own clocks w k.whole form_is tells i c e get)
 
   -- ---- a ring in which only nodes that stand aside miss their turns
 
@@ -402,9 +404,11 @@ module _ (P : Option PortId → Au → Type 0) where
   own_of i c e x (inr is) = inr (subst (λ y. P (Some (port_id i y)) x.au) (sent_to e) is)
 
   module _ (w : World) (form_is : HasCircuits (layout_of w)) (whole : IsWhole w)
-      (stands : (p m : ℕ) (d : Side) → p < length w.ring.nodes → 1 ≤ m → m ≤ slots_of (layout_of w)
-      → Fine P (circuits_at (length w.ring.ids) w.ring.circuits.circuits p m d) (opposite d)
-      (value_at w p m (stands_in (length w.ring.ids) w.ring.circuits.circuits p (node_at (round w).ring.nodes p).state d m))) where
+      (stands : (i : ℕ) (c : Provisioned) → slice_get w.ring.circuits.circuits i ≡ Some c → (e : End)
+      → port_at c e < length w.ring.nodes → 1 ≤ c.slot.0 → c.slot.0 ≤ slots_of (layout_of w)
+      → Fine P (circuits_at (length w.ring.ids) w.ring.circuits.circuits (port_at c e) c.slot.0 (inward e)) (opposite (inward e))
+      (value_at w (port_at c e) c.slot.0 (stands_in (length w.ring.ids) w.ring.circuits.circuits (port_at c e)
+      (node_at (round w).ring.nodes (port_at c e)).state (inward e) c.slot.0))) where
     still_there : (i : ℕ) (c : Provisioned) → slice_get (round w).ring.circuits.circuits i ≡ Some c
         → slice_get w.ring.circuits.circuits i ≡ Some c
     unfolding any_round.round any_round.round_with
@@ -433,7 +437,7 @@ module _ (P : Option PortId → Au → Type 0) where
         ∙ found_arrives w whole i c e h st (state_in_turn w whole p h) found_at in
         let own : Fine P (Some (entry i c)) (opposite (inward e)) input =
         subst (λ o. Fine P o (opposite (inward e)) input)
-        (at_port size cs (on-ring size (slots_of (layout_of w)) cs form_is) i c get e) (stands p m (inward e) h slot.from_1 slot.small) in
+        (at_port size cs (on-ring size (slots_of (layout_of w)) cs form_is) i c get e) (stands i c get e h slot.from_1 slot.small) in
         delivers_from (port_id i e) input _ out (own_of i c e input own)
 
 module _ (clocks : PortId → ℕ → Clock) (w : World) (form_is : HasCircuits (layout_of w)) where
@@ -446,9 +450,9 @@ module _ (clocks : PortId → ℕ → Clock) (w : World) (form_is : HasCircuits 
       → Delivers (HoldsAtMost w.ring.circuits.circuits clocks w.ring.rounds) (port_id i e) (outlet_at (round w).ring (port_id i e))
   ready_delivers k =
       delivers (HoldsAtMost w.ring.circuits.circuits clocks w.ring.rounds) w form_is k.whole
-      (λ p m d h low high. delivers_fine (λ i. HoldsAtMost w.ring.circuits.circuits clocks w.ring.rounds)
-      (λ i. HoldsAtMost w.ring.circuits.circuits clocks w.ring.rounds) (lags_now clocks w form_is) w k.whole p h k.vouches m low high
-      (ring_is clocks w form_is) (λ held d. k.stand p m d h low high held) d)
+      (λ i c get e h low high. delivers_fine (λ i. HoldsAtMost w.ring.circuits.circuits clocks w.ring.rounds)
+      (λ i. HoldsAtMost w.ring.circuits.circuits clocks w.ring.rounds) (lags_now clocks w form_is) w k.whole (port_at c e) h k.vouches
+      c.slot.0 low high (ring_is clocks w form_is) (λ held d. k.stand (port_at c e) c.slot.0 d h low high held) (inward e))
 
   pub none_meets : IsReady clocks w → NoneMeetsAStranger clocks (round w).ring
   unfolding any_round.round any_round.round_with

@@ -41,15 +41,15 @@ use Rattle.sdh_signal.specs.Walks.{port, port_at, stands_in, working_in, protect
 use Rattle.sdh_signal.proofs.Views.{AreOnRing}
 use Rattle.sdh_laws.specs.Strangers.Vouched.{streams_to, spoken_of, au_in, IsAside}
 use Rattle.sdh_laws.proofs.strangers.Content.{IsCarried, Bears, Fine, bears_sent}
-use Rattle.sdh_laws.proofs.strangers.Lags.{working_lag, stand_lag, source_in, spoken_lag, AreLags}
+use Rattle.sdh_laws.proofs.strangers.Lags.{Lag, exactly, working_lag, stand_lag, source_in, spoken_lag, AreLags}
 use Rattle.sdh_signal.proofs.OneNode.{long_from}
 use Rattle.sdh_rounds.specs.Rounds as any_round
 use Rattle.sdh_laws.proofs.strangers.Arrivals.{span_across, lost, silent_first, au_received, ones_received, heard_came}
-use Rattle.sdh_laws.proofs.strangers.Nodes.{stands_fine, working_fine, protection_fine, aside_stands, aside_protection, working_from}
+use Rattle.sdh_laws.proofs.strangers.Nodes.{stands_fine, working_fine, protection_fine, aside_stands, aside_protection, working_anyhow}
 
 -- ---- what is fine at a node in a state, of what comes in and by its word
 
-module _ (Own : ℕ → Option PortId → Au → Type 0) (w : World) (p m : ℕ) (d : Side) where
+module _ (Own : Lag → Option PortId → Au → Type 0) (w : World) (p m : ℕ) (d : Side) where
   abbrev pub StandsAt : NodeState → Type 0
   StandsAt x =
       (let n = length w.ring.ids in let cs = w.ring.circuits.circuits in
@@ -69,16 +69,16 @@ module _ (Own : ℕ → Option PortId → Au → Type 0) (w : World) (p m : ℕ)
       (value_at w p m (protection_in n cs p x d m)))
 
 -- at the nodes whose controllers miss the turn
-abbrev pub HeldStand : (ℕ → Option PortId → Au → Type 0) → World → Type 0
+abbrev pub HeldStand : (Lag → Option PortId → Au → Type 0) → World → Type 0
 HeldStand Own w = (p m : ℕ) (d : Side) → p < length w.ring.nodes → 1 ≤ m → m ≤ slots_of (layout_of w)
     → is_held (node_at w.ring.nodes p) ≡ true → StandsAt Own w p m d (node_at w.ring.nodes p).state
 
-abbrev pub HeldWork : (ℕ → Option PortId → Au → Type 0) → World → Type 0
+abbrev pub HeldWork : (Lag → Option PortId → Au → Type 0) → World → Type 0
 HeldWork Own w = (p m : ℕ) (d : Side) → p < length w.ring.nodes → 1 ≤ m → m ≤ slots_of (layout_of w)
     → is_held (node_at w.ring.nodes p) ≡ true
     → WorksAt Own w p m d (word_of d (node_at w.ring.nodes p)) (node_at w.ring.nodes p).state
 
-abbrev pub HeldSay : (ℕ → Option PortId → Au → Type 0) → World → Type 0
+abbrev pub HeldSay : (Lag → Option PortId → Au → Type 0) → World → Type 0
 HeldSay Own w = (p m : ℕ) (d : Side) → p < length w.ring.nodes → 1 ≤ m → m ≤ slots_of (layout_of w)
     → is_held (node_at w.ring.nodes p) ≡ true
     → SaysAt Own w p m d (word_of d (node_at w.ring.nodes p)) (node_at w.ring.nodes p).state
@@ -86,7 +86,7 @@ HeldSay Own w = (p m : ℕ) (d : Side) → p < length w.ring.nodes → 1 ≤ m �
 -- ---- the invariant
 
 -- each frame that is under way holds at most what it vouches for, by its lag
-module _ (Own : ℕ → Option PortId → Au → Type 0) where
+module _ (Own : Lag → Option PortId → Au → Type 0) where
   abbrev pub WorksOn : World → ℕ → Node → Type 0
   WorksOn w p node = (m : ℕ) (d : Side) (line : List ℕ) → carried_on w.fibres (fibre p d) ≡ Some line → 1 ≤ m → m ≤ slots_of (layout_of w)
       → (let o = circuits_at (length w.ring.ids) w.ring.circuits.circuits p m d in
@@ -115,7 +115,7 @@ sent_bears Own own w whole o y p au d line h low high there fine =
     (bears_sent Own own o y (state_at w whole p d h k) (sent_at w p d (k + 1))
     (subst (λ a. Fine Own o y (sent_at w p d a)) (sym back) fine)))
 
-module _ (Was Own : ℕ → Option PortId → Au → Type 0) (lags : AreLags Was Own) where
+module _ (Was Own : Lag → Option PortId → Au → Type 0) (lags : AreLags Was Own) where
   -- ---- what comes in
 
   module _ (w : World) (whole : IsWhole w) (p : ℕ) (h : p < length w.ring.nodes) where
@@ -140,7 +140,7 @@ module _ (Was Own : ℕ → Option PortId → Au → Type 0) (lags : AreLags Was
     abbrev back : Side → ℕ
     back d = neighbour n p d
 
-    pub received_fine : (i : ℕ) (o : Option OnSpan) (y d : Side) (au : ℕ) → 1 ≤ au → au ≤ n_of rate
+    pub received_fine : (i : Lag) (o : Option OnSpan) (y d : Side) (au : ℕ) → 1 ≤ au → au ≤ n_of rate
         → ((line : List ℕ) → lost w whole p h d ≡ false → carried_on w.fibres (fibre (back d) (opposite d)) ≡ Some line
         → Bears (Was i) o y (au_in w au line))
         → Fine (Was i) o y (received l d au)
@@ -245,16 +245,17 @@ module _ (Was Own : ℕ → Option PortId → Au → Type 0) (lags : AreLags Was
                 (value_at w p m) came working_comes protection_comes sourced_words heard silence d)
           ]
 
-        module _ (added : (j i : ℕ) (c : Provisioned) (e : End) → slice_get cs i ≡ Some c → port_at c e ≡ p
-            → Own j (Some (port_id i e)) (value_at w p m (port i e)).au) where
-          -- what leaves in the working slot of a node in any state, where what stands for its arrival is fine, and lags no
-          -- more
-          pub works_from : (x : NodeState) (d : Side) (i j : ℕ) → i ≤ j
-              → Fine (Own i) (circuits_at n cs p m (opposite d)) (opposite (opposite d)) (value_at w p m (stands_in n cs p x (opposite d) m))
-              → Fine (Own j) (circuits_at n cs p m d) d (value_at w p m (working_in n cs p x d m))
-          works_from x d i j less stands =
-              working_from Was Own lags ids cs whole.placed.ids ring s (scene_ids w whole p h) p (scene_place w whole p h) inside m
-              (value_at w p m) came working_comes protection_comes sourced_words heard silence added x d i j (λ one next. less) stands
+        module _ (added : (i : ℕ) (c : Provisioned) (e : End) → slice_get cs i ≡ Some c → port_at c e ≡ p
+            → Own (exactly 0) (Some (port_id i e)) (value_at w p m (port i e)).au) where
+          -- what leaves in the working slot of a node in any state, where what stands for its arrival is fine, and where it
+          -- doesn't matter how far AU-4s lag
+          pub works_from : (x : NodeState) (d : Side)
+              → Fine (Own (exactly 0)) (circuits_at n cs p m (opposite d)) (opposite (opposite d))
+              (value_at w p m (stands_in n cs p x (opposite d) m))
+              → Fine (Own (exactly 0)) (circuits_at n cs p m d) d (value_at w p m (working_in n cs p x d m))
+          works_from x d stands =
+              working_anyhow Was Own lags ids cs whole.placed.ids ring s (scene_ids w whole p h) p (scene_place w whole p h) inside m
+              (value_at w p m) came working_comes protection_comes sourced_words heard silence added x d stands
 
           abbrev Works : Side → K → Input → Type 0
           Works d k i = Fine (Own (working_lag n d (circuits_at n cs p m d) (source_in ids k) p)) (circuits_at n cs p m d) d i
@@ -291,15 +292,15 @@ module _ (Was Own : ℕ → Option PortId → Au → Type 0) (lags : AreLags Was
   -- the ports add what is their own
   abbrev pub AddOwn : World → Type 0
   AddOwn w =
-      (j i : ℕ) (c : Provisioned) (e : End) → slice_get w.ring.circuits.circuits i ≡ Some c
-      → Own j (Some (port_id i e)) (added_by (node_at w.ring.nodes (port_at c e)).ports (port_id i e)).au
+      (i : ℕ) (c : Provisioned) (e : End) → slice_get w.ring.circuits.circuits i ≡ Some c
+      → Own (exactly 0) (Some (port_id i e)) (added_by (node_at w.ring.nodes (port_at c e)).ports (port_id i e)).au
 
   module _ (w : World) (whole : IsWhole w) (ring : AreOnRing (length w.ring.ids) w.ring.circuits.circuits)
       (held_work : HeldWork Own w) (held_say : HeldSay Own w) (vouched : Vouches Was w) (add : AddOwn w) where
-    pub added_at : (p m j i : ℕ) (c : Provisioned) (e : End) → slice_get w.ring.circuits.circuits i ≡ Some c → port_at c e ≡ p
-        → Own j (Some (port_id i e)) (value_at w p m (port i e)).au
-    added_at p m j i c e get at =
-        subst (λ q. Own j (Some (port_id i e)) (added_by (node_at w.ring.nodes q).ports (port_id i e)).au) at (add j i c e get)
+    pub added_at : (p m i : ℕ) (c : Provisioned) (e : End) → slice_get w.ring.circuits.circuits i ≡ Some c → port_at c e ≡ p
+        → Own (exactly 0) (Some (port_id i e)) (value_at w p m (port i e)).au
+    added_at p m i c e get at =
+        subst (λ q. Own (exactly 0) (Some (port_id i e)) (added_by (node_at w.ring.nodes q).ports (port_id i e)).au) at (add i c e get)
 
     pub vouched_round : Vouches Own (round w)
     unfolding any_round.round any_round.round_with

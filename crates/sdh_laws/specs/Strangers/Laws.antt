@@ -28,6 +28,7 @@ use Rattle.sdh_laws.specs.Hearing.Laws.{IsWhole, MayStart}
 use Rattle.sdh_laws.specs.Carrying.Windows.{layout_of, HasCircuits}
 use Rattle.sdh_laws.specs.Strangers.Owners.{NoneMeetsAStranger, AreClocksOf, AreClocksBetween}
 use Rattle.sdh_laws.specs.Strangers.Ages.{NoneMeetsAStrangerSince}
+use Rattle.sdh_laws.specs.Strangers.Transit.{AllComeAfterTransit}
 use Rattle.sdh_laws.specs.Strangers.Vouched.{IsAside, IsVouched}
 
 -- ---- no controller is held
@@ -225,8 +226,24 @@ RingsComeToBeVouchedFor =
     → ((j : ℕ) → j < rounds_in ss → AreClocksOf clocks (world_in ss w j).ring)
     → (t : ℕ) → most + 2 * length w.ring.ids ≤ t + 2 → t ≤ rounds_in ss → IsVouched clocks (world_in ss w t)
 
--- Its ports meet no stranger as soon as 2n - 3 rounds are over in which no controller missed its turn. From then on no
--- port delivers bytes that are older than 2n - 3 rounds.
+-- As soon as 2n - 3 rounds are over in which no controller missed its turn, each port delivers AIS, ones, or what its
+-- circuit's other port sent exactly one transit before: straight over the arc, or once round the ring.
+abbrev pub BytesComeAfterTransit : Type 0
+BytesComeAfterTransit =
+    (most : ℕ) (w : World) (ss : List Stretch) (clocks : PortId → ℕ → Clock) → IsWhole w → HasCircuits (layout_of w)
+    → AtEach (λ p n. n.held ≤ most) w.ring.nodes → MayHappen w ss → NoneHolds ss
+    → ((j : ℕ) → j < rounds_in ss → AreClocksOf clocks (world_in ss w j).ring)
+    → (t : ℕ) → most + 2 * length w.ring.ids ≤ t + 3 → t < rounds_in ss → AllComeAfterTransit clocks (round (world_in ss w t)).ring
+
+-- A transit takes 2n - 3 rounds at most: ports that deliver what was sent one transit before meet no stranger, nor bytes
+-- that are older than 2n - 3 rounds.
+abbrev pub TransitsAreShort : Type 0
+TransitsAreShort =
+    (w : World) (clocks : PortId → ℕ → Clock) → HasCircuits (layout_of w) → AllComeAfterTransit clocks w.ring
+    → NoneMeetsAStrangerSince (w.ring.rounds + 2 - 2 * length w.ring.ids) clocks w.ring
+
+-- So the ports of such a ring meet no stranger as soon as those 2n - 3 rounds are over. From then on no port delivers
+-- bytes that are older than 2n - 3 rounds.
 abbrev pub StrangersAreGoneSoon : Type 0
 StrangersAreGoneSoon =
     (most : ℕ) (w : World) (ss : List Stretch) (clocks : PortId → ℕ → Clock) → IsWhole w → HasCircuits (layout_of w)
@@ -236,18 +253,38 @@ StrangersAreGoneSoon =
     → NoneMeetsAStrangerSince (w.ring.rounds + t + 3 - 2 * length w.ring.ids) clocks (round (world_in ss w t)).ring
 
 -- Over rounds alone, from a whole ring on in which no controller misses more than `most` turns, from 2n - 3 rounds after
--- these on no port delivers bytes that are older than 2n - 3 rounds, whatever the ring carried. These are the ports'
--- clocks before each round.
+-- these on each port delivers AIS, ones, or what its circuit's other port sent exactly one transit before, whatever the
+-- ring carried. These are the ports' clocks before each round.
+abbrev pub DeliversAfterTransit : World → World → Type 0
+DeliversAfterTransit w left =
+    (most : ℕ) (clocks : PortId → ℕ → Clock) → IsWhole w → AtEach (λ p n. n.held ≤ most) w.ring.nodes → AreClocksBetween clocks w left
+    → (j : ℕ) → most + 2 * length w.ring.ids ≤ j + 2 → w.ring.rounds + j ≤ left.ring.rounds → AllComeAfterTransit clocks (run j w).ring
+
+-- so does every settle step, whether it ended with a window or ran all its rounds
+pub record StepsDeliverAfterTransit : Type 0 where
+  pub settled : (w left : World) (limit : ℕ) → HasCircuits (layout_of w) → Settles w limit left → DeliversAfterTransit w left
+  pub unsettled : (w left : World) (limit : ℕ) → HasCircuits (layout_of w) → Unsettles w limit left → DeliversAfterTransit w left
+
+-- In the same rounds no port delivers bytes that are older than 2n - 3 rounds.
 abbrev pub DeliversRecentBytes : World → World → Type 0
 DeliversRecentBytes w left =
     (most : ℕ) (clocks : PortId → ℕ → Clock) → IsWhole w → AtEach (λ p n. n.held ≤ most) w.ring.nodes → AreClocksBetween clocks w left
     → (j : ℕ) → most + 2 * length w.ring.ids ≤ j + 2 → w.ring.rounds + j ≤ left.ring.rounds
     → NoneMeetsAStrangerSince (w.ring.rounds + j + 2 - 2 * length w.ring.ids) clocks (run j w).ring
 
--- so does every settle step, whether it ended with a window or ran all its rounds
+-- so it is in every settle step, whether it ended with a window or ran all its rounds
 pub record StepsDeliverRecentBytes : Type 0 where
   pub settled : (w left : World) (limit : ℕ) → HasCircuits (layout_of w) → Settles w limit left → DeliversRecentBytes w left
   pub unsettled : (w left : World) (limit : ℕ) → HasCircuits (layout_of w) → Unsettles w limit left → DeliversRecentBytes w left
+
+-- Where no controller is ever held, each port delivers AIS, ones, or what its circuit's other port sent exactly one
+-- transit before, from the first round of a new ring on, whatever else happens.
+abbrev pub BytesAlwaysComeAfterTransit : Type 0
+BytesAlwaysComeAfterTransit =
+    (s : Settings) (ids : List ℕ) (circuits : Provisioning) (f : Fibres) (ss : List Stretch) → AreIds ids → IsHonest f
+    → MayHappen (new_world s ids circuits f) ss → NoneHolds ss
+    → AreCircuits (length ids) (n_of s.rate / 2) circuits.circuits
+    → (t : ℕ) → t < rounds_in ss → AllComeAfterTransit (clocks_by circuits.circuits ss) (round (world_in ss (new_world s ids circuits f) t)).ring
 
 -- Where no controller is ever held, no port delivers bytes that are older than 2n - 3 rounds, from the first round of a
 -- new ring on, whatever else happens: each port delivers AIS, ones, or what its circuit's other port sent in one of the

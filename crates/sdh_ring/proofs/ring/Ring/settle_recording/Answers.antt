@@ -37,6 +37,7 @@ returns-clause-laws g c =
       followed = c.steps_leave_followed.ensures;
       answers = c.steps_answer.ensures;
       strangers = c.steps_keep_strangers_out.ensures;
+      transit = c.steps_deliver_after_transit.ensures;
       recent = c.steps_deliver_recent_bytes.ensures;
     }) (world c.into_form-running.result f) (world c.settle_recording-ended.new.ring end) c.args.limit ended fit rested
     step.outcome step.breaks)
