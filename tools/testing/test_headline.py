@@ -50,7 +50,7 @@ def below(crate, lines):
 class Headline(unittest.TestCase):
     def test_definitions_are_those_of_the_source(self):
         found = list(quoted(PAGE.read_text()))
-        self.assertEqual(len(found), 32)
+        self.assertEqual(len(found), 36)
         for file, words in found:
             with self.subTest(file=file, words=words[:3]):
                 self.assertTrue(words)

@@ -6,7 +6,7 @@
 ghost use Rattle.sdh_laws.specs.Strangers.Laws.{VouchedRingsStay, RoundsKeepStrangersOut, StepsKeepStrangersOut, NoPortEverMeetsAStranger};
 ghost use Rattle.sdh_laws.specs.Strangers.Laws.{NodesAsideMayBeHeld, NodesThatDoNotPassMayBeHeld, SettledRingsAreVouchedFor};
 ghost use Rattle.sdh_laws.specs.Strangers.Laws.{AHoldSpoilsItsOwnStepAlone, RingsComeToBeVouchedFor, StrangersAreGoneSoon};
-ghost use Rattle.sdh_laws.specs.Strangers.Laws.{BytesComeAfterTransit, TransitsAreShort, StepsDeliverAfterTransit};
+ghost use Rattle.sdh_laws.specs.Strangers.Laws.{BytesComeAfterTransit, RoutesAreTransits, TransitsAreShort, StepsDeliverAfterTransit};
 ghost use Rattle.sdh_laws.specs.Strangers.Laws.{BytesAlwaysComeAfterTransit, StepsDeliverRecentBytes, NothingComesLate};
 ghost use Rattle.sdh_laws.specs.Strangers.Undisturbed.{UndisturbedPortsDeliver};
 
@@ -73,6 +73,11 @@ pub fn rings_come_to_be_vouched_for()
 /// there are spans on the arc, or on the way once round the ring past some of these.
 pub fn bytes_come_after_transit()
     ensures { BytesComeAfterTransit }
+{}
+
+/// The route between a circuit's ends has as many spans as a transit has rounds, whichever spans are applied.
+pub fn routes_are_transits()
+    ensures { RoutesAreTransits }
 {}
 
 /// Bytes that were sent one transit before are at most 2n - 3 rounds old.

@@ -2,6 +2,7 @@
 use Rattle.std.proofs.Common.{◌≡◌, ℕ, zero, suc, ◌+◌, ◌-◌, ◌*◌, ◌<◌, ◌≤◌, List, [], ◌∷◌, length, Some, refl, ap, sym, ◌∙◌, subst}
 use Rattle.std.proofs.Common.{arith, inl, inr}
 use Rattle.std.specs.Prelude.{◌/◌, slice_get}
+use Rattle.std.proofs.lemmas.Bool.{cases_Bool}
 use Rattle.sdh_frame.specs.Aus.{Au}
 use Rattle.sdh_ringmap.specs.Rates.{n_of}
 use Rattle.sdh_ringmap.specs.Ids.{AreIds}
@@ -43,7 +44,7 @@ use Rattle.sdh_laws.specs.Strangers.Vouched.{IsVouched}
 use Rattle.sdh_laws.specs.Strangers.Laws.{NoneHolds, HoldsAside, HeldAside, KeepsStrangersOutInAll, VouchedRingsStay}
 use Rattle.sdh_laws.specs.Strangers.Laws.{RoundsKeepStrangersOut, NodesAsideMayBeHeld, HeldBesidePassing, NodesThatDoNotPassMayBeHeld}
 use Rattle.sdh_laws.specs.Strangers.Laws.{StepsKeepStrangersOut, NoPortEverMeetsAStranger, RingsComeToBeVouchedFor}
-use Rattle.sdh_laws.specs.Strangers.Laws.{SettledRingsAreVouchedFor, BytesComeAfterTransit, TransitsAreShort, StrangersAreGoneSoon}
+use Rattle.sdh_laws.specs.Strangers.Laws.{SettledRingsAreVouchedFor, BytesComeAfterTransit, RoutesAreTransits, TransitsAreShort, StrangersAreGoneSoon}
 use Rattle.sdh_laws.specs.Strangers.Laws.{DeliversAfterTransit, StepsDeliverAfterTransit, DeliversRecentBytes, StepsDeliverRecentBytes}
 use Rattle.sdh_laws.specs.Strangers.Laws.{BytesAlwaysComeAfterTransit, NothingComesLate}
 use Rattle.sdh_laws.proofs.strangers.Vouched.{vouched_changed, new_free, nothing_sent, vouched_new, vouched_after, ready_aside, none_meets}
@@ -55,6 +56,11 @@ use Rattle.sdh_laws.proofs.strangers.Clearing.{arc_is, transit_few, transit_some
 use Rattle.sdh_laws.proofs.hearing.Nodes.{one_more}
 use Rattle.sdh_signal.proofs.Views.{AreOnRing, on-ring, arc_length}
 use Rattle.sdh_signal.proofs.OnArcs.{seen-on}
+use Rattle.sdh_signal.proofs.Lengths.{clear-is, straight-hops, around-hops}
+use Rattle.sdh_signal.proofs.RouteMarks.{last-place}
+use Rattle.sdh_circuits.specs.Provisioned.{arc_of}
+use Rattle.sdh_restoration.specs.Routes.{applied_at_place, hops, last_place, places_before}
+use Rattle.sdh_ringmap.specs.Arcs.{is_clear}
 use Rattle.sdh_ringmap.specs.declared.Side.TheVariants.{East}
 use Rattle.sdh_laws.proofs.hearing.Stretches.{ran_at}
 use Rattle.sdh_laws.proofs.hearing.Changes.{each_new}
@@ -182,6 +188,23 @@ module _ (clocks : PortId → ℕ → Clock) (n : ℕ) (cs : List Provisioned) (
   meets_recent port o (transit_of.ais_comes is) = since.ais_comes is
   meets_recent port o (transit_of.bytes_come value form a is own) =
       since.bytes_come value form a is (holds_recent (other_port port) a own)
+
+pub routes_are_transits : RoutesAreTransits
+routes_are_transits n slots cs form applied i c get =
+    let seen = seen-on n cs (on-ring n slots cs form) i c get East in
+    let long = seen.long in
+    let short = seen.short in
+    subst (λ spans. IsTransit n spans (hops n applied (arc_of n c))) (arc_is n c) (elim (cases_Bool (is_clear n applied (arc_of n c))) [
+      | inl clear ↦ transit_of.straight (straight-hops n applied c clear)
+      | inr other ↦ (
+          let some = sym (clear-is n applied c) ∙ other in
+          let on = applied_at_place n applied (arc_of n c) in
+          let last = last-place on (arc_length n c) some in
+          let from = last.from in
+          let below = last.below in
+          let is = around-hops n applied c other in
+          transit_of.once_round (last_place on (arc_length n c) + 1 - places_before on 0 (arc_length n c)) (omega arith) (omega arith) (omega arith))
+    ])
 
 pub transits_are_short : TransitsAreShort
 transits_are_short w clocks form come i c get e =

@@ -1,7 +1,7 @@
 -- No port ever delivers another customer's byte: the laws, for every round of a ring over honest fibres in which only
 -- controllers of certain nodes are held. These are nodes that stand aside, and after a quiet window all nodes but those
 -- that pass traffic through.
-use Rattle.std.specs.Prelude.{ℕ, ◌≡◌, ◌⊎◌, ◌+◌, ◌-◌, ◌*◌, ◌<◌, ◌≤◌, ◌/◌, List, [], ◌∷◌, ◌++◌, length}
+use Rattle.std.specs.Prelude.{ℕ, ◌≡◌, ◌⊎◌, ◌+◌, ◌-◌, ◌*◌, ◌<◌, ◌≤◌, ◌/◌, Bool, Some, List, [], ◌∷◌, ◌++◌, length, slice_get}
 use Rattle.sdh_ringmap.specs.Rates.{n_of}
 use Rattle.sdh_nodestate.specs.declared.NodeState.{NodeState}
 use Rattle.sdh_nodestate.specs.declared.NodeState.TheVariants as state
@@ -28,7 +28,9 @@ use Rattle.sdh_laws.specs.Hearing.Laws.{IsWhole, MayStart}
 use Rattle.sdh_laws.specs.Carrying.Windows.{layout_of, HasCircuits}
 use Rattle.sdh_laws.specs.Strangers.Owners.{NoneMeetsAStranger, AreClocksOf, AreClocksBetween}
 use Rattle.sdh_laws.specs.Strangers.Ages.{NoneMeetsAStrangerSince}
-use Rattle.sdh_laws.specs.Strangers.Transit.{AllComeAfterTransit}
+use Rattle.sdh_laws.specs.Strangers.Transit.{IsTransit, AllComeAfterTransit}
+use Rattle.sdh_circuits.specs.Provisioned.{Provisioned, arc_of}
+use Rattle.sdh_restoration.specs.Routes.{hops}
 use Rattle.sdh_laws.specs.Strangers.Vouched.{IsAside, IsVouched}
 
 -- ---- no controller is held
@@ -234,6 +236,13 @@ BytesComeAfterTransit =
     → AtEach (λ p n. n.held ≤ most) w.ring.nodes → MayHappen w ss → NoneHolds ss
     → ((j : ℕ) → j < rounds_in ss → AreClocksOf clocks (world_in ss w j).ring)
     → (t : ℕ) → most + 2 * length w.ring.ids ≤ t + 3 → t < rounds_in ss → AllComeAfterTransit clocks (round (world_in ss w t)).ring
+
+-- The route between the ends of a circuit, over which a port is owed its bytes once the ring is at rest, is a transit too,
+-- whichever spans are applied.
+abbrev pub RoutesAreTransits : Type 0
+RoutesAreTransits =
+    (n slots : ℕ) (cs : List Provisioned) → AreCircuits n slots cs → (applied : ℕ → Bool) (index : ℕ) (c : Provisioned)
+    → slice_get cs index ≡ Some c → IsTransit n (arc_of n c).spans (hops n applied (arc_of n c))
 
 -- A transit takes 2n - 3 rounds at most: ports that deliver what was sent one transit before meet no stranger, nor bytes
 -- that are older than 2n - 3 rounds.

@@ -3,7 +3,6 @@ use Rattle.sdh_node.specs.Rings.Held.{HeldRing, node_at}
 use Rattle.sdh_node.specs.Rings.Rounds.{world}
 use Rattle.sdh_laws.specs.Hearing.Laws.{IsWhole}
 use Rattle.sdh_laws.specs.Strangers.Vouched.{IsVouched, IsAside}
-use Rattle.sdh_node.specs.Node.{Node, held_for}
 use Rattle.sdh_ring.proofs.Whole.{whole_held, vouched_held}
 use Rattle.sdh_ring.proofs.There.{there}
 use Rattle.sdh_ring.proofs.ring.Ring.hold.Goals as goal

@@ -1,6 +1,5 @@
 use Rattle.std.proofs.Common.{◌≡◌, sym, subst, ◌+◌, ◌≤◌}
-use Rattle.sdh_node.specs.Node.{Node, slips_at}
-use Rattle.sdh_node.specs.Rings.Held.{HeldRing, place_of_port}
+use Rattle.sdh_node.specs.Rings.Held.{HeldRing}
 use Rattle.sdh_node.specs.Rings.Rounds.{world}
 use Rattle.sdh_node.specs.Rings.Clocks.{waiting_at}
 use Rattle.sdh_laws.specs.Hearing.Laws.{IsWhole}
