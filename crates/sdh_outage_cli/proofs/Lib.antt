@@ -9,3 +9,4 @@ pub mod Stages
 pub mod Holding
 pub mod Counting
 pub mod Nodes
+pub mod Own

@@ -9,3 +9,4 @@ pub mod Running
 pub mod Plans
 pub mod Words
 pub mod Headline
+pub mod Own

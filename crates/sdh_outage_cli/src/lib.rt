@@ -6,6 +6,7 @@
 //! in `sdh_outage`. What is listed of that is `listed` in `specs/Lines.antt`.
 #![tactic(auto)]
 
+pub mod laws;
 mod lines;
 mod listeners;
 mod listing;
