@@ -9,8 +9,8 @@ use Rattle.sdh_payload.specs.Stream.{stream_from}
 abbrev pub near_from : ℕ → ℕ
 near_from round = 2349 * (round - 71)
 
--- the far customer's bytes from 71 chunks before a round's own to 6 after it: no port's clock is off by more than 6
--- chunks, and nothing is longer on its way than 64 rounds
+-- the far customer's bytes from 71 chunks before a round's own to 6 after it: what was on its way for up to 65 rounds, by
+-- a clock that is off by up to 6 chunks
 unfoldable pub near : Customer → ℕ → List ℕ
 near port round = stream_from port (near_from round) (2349 * 78)
 
