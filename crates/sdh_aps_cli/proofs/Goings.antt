@@ -1,35 +1,39 @@
 -- What a call comes to with a plan.
-use Rattle.std.proofs.Common.{◌≡◌, ◌≢◌, true, false, ℕ, ◌<◌, None, Some, List, ◌++◌, length, refl, ap, sym, subst, ◌∙◌, inl, inr, arith}
+use Rattle.std.proofs.Common.{◌≡◌, ◌≢◌, true, false, ℕ, ◌<◌, None, Some, List, length, refl, ap, sym, subst, ◌∙◌, arith}
 use Rattle.std.specs.Prelude.{◌==◌, Bool, Option, option_map, position, if◌then◌else◌}
-use Rattle.std.proofs.KnownBytes.{Appends-trans}
 use Rattle.sdh_ringmap.specs.declared.Pos.{Pos}
 use Rattle.sdh_ringmap.specs.Places.{found_at}
-use Rattle.sdh_plant.specs.Fibres.{Fibres}
 use Rattle.sdh_plan.specs.Planned.{Planned}
 use Rattle.sdh_status.specs.declared.Status.{Status}
 use Rattle.sdh_status.specs.declared.Status.TheVariants as status
-use Rattle.sdh_shell.specs.Calls.{HasRun}
-use Rattle.sdh_shell.specs.Writing.{WroteEnding}
 use Rattle.sdh_shell.proofs.Endings.{one_status}
-use Rattle.sdh_shell.proofs.Failing.{counted_none, counted_as}
-use Rattle.sdh_outside.proofs.Pieces.{fewer_behind}
+use Rattle.sdh_scripts.specs.NewRuns.{IsOf}
+use Rattle.sdh_scripts.specs.Texts.{WriteFailed}
+use Rattle.sdh_scripts.specs.Streams.{WroteSteps}
+use Rattle.sdh_scripts.specs.declared.run.NewRun.{NewRun}
+use Rattle.sdh_scripts.proofs.Plans.{of_plan}
 use Rattle.sdh_programs.specs.Programs.{Refuses, Runs}
-use Rattle.sdh_programs.specs.Headline.{may_do}
-use Rattle.sdh_programs.specs.Calls.{Goes}
-use Rattle.sdh_aps_cli.specs.Endings.{line_of, signalling_endings, frames_end}
+use Rattle.sdh_programs.specs.Deeds.{IsOnly}
+use Rattle.sdh_programs.specs.Laws.{StepsAreReported, CutsAreReported, FaultsAreReported}
+use Rattle.sdh_owed.specs.Laws.{ScriptsSettle}
+use Rattle.sdh_owed.specs.Plans.{world_of}
+use Rattle.sdh_aps_cli.specs.Endings.{signalling_endings, frames_end}
 use Rattle.sdh_aps_cli.specs.Words.{has_node, window_at, listing_of}
-use Rattle.sdh_aps_cli.specs.Plans.{Piece, pieces_text, rounds_in, IsCutRun, ends_by, line_after, has_rounds}
-use Rattle.sdh_aps_cli.specs.Plans.{Failures, CameOfRun, IsPlaced}
+use Rattle.sdh_aps_cli.specs.Scripts.{signalling_walk}
+use Rattle.sdh_aps_cli.specs.Listing.{begun_of, ended_of}
+use Rattle.sdh_aps_cli.specs.Laws.{ScriptsGoAsSignals, StepsGoAsSignals}
+use Rattle.sdh_aps_cli.specs.Plans.{Piece, signalling_account, rounds_in, IsCutRun, ends_by, has_rounds, IsPlaced, HasRounds}
+use Rattle.sdh_aps_cli.specs.Running.{running_ring, listing_in}
 use Rattle.sdh_aps_cli.specs.Headline.{deed_of, signalling}
-use Rattle.sdh_aps_cli.specs.declared.ending.Ending.{Ending}
 use Rattle.sdh_aps_cli.specs.declared.ending.Ending.TheVariants as ending
+use Rattle.sdh_aps_cli.specs.declared.running.PlanRun.{PlanRun}
 use Rattle.sdh_aps_cli.specs.declared.window.FrameAsk.{FrameAsk}
 use Rattle.sdh_aps_cli.specs.declared.listing.SignalListing.{SignalListing}
 use Rattle.sdh_aps_cli.specs.declared.listing.SignalAsk.{SignalAsk}
 use Rattle.sdh_aps_cli.specs.declared.listing.SignalAsk.TheVariants as asked
 use Rattle.sdh_aps_cli.specs.declared.listing.PlanListing.{PlanListing}
 use Rattle.sdh_aps_cli.specs.declared.listing.PlanListing.TheVariants as listed
-use Rattle.sdh_aps_cli.proofs.Plans.{run_ends, run_done}
+use Rattle.sdh_aps_cli.proofs.Plans.{signalled, cut_run}
 use Rattle.sdh_laws.proofs.strangers.Rules.{found_inside}
 
 -- ---- the node that is asked for
@@ -55,114 +59,71 @@ is_placed (asked.Lines s) ids l e = lines_placed (length ids) (has_node s ids) s
 is_placed (asked.Frames a) ids l e =
     frames_placed (length ids) (found_at ids a.id) a l (λ p h. found_inside ids a.id p (position (λ x. x == a.id) ids) refl h) e
 
+-- ---- what is done with a plan
+
+pub run_only : (ask : SignalAsk) (plan : Planned) (listing : PlanListing) → listing_of ask plan.nodes ≡ Some listing
+    → IsOnly signalling ask plan (Runs listing)
+run_only ask plan listing is =
+    let does : Runs listing ≡ deed_of (listing_of ask plan.nodes) = sym (ap deed_of is) in
+    record { does = does; only = λ other d. d ∙ sym does }
+
+-- a plan that doesn't have the node is refused
+pub none_only : (ask : SignalAsk) (plan : Planned) → listing_of ask plan.nodes ≡ None
+    → IsOnly signalling ask plan (Refuses ending.NoSuchNode)
+none_only ask plan is =
+    let does : Refuses ending.NoSuchNode ≡ deed_of (listing_of ask plan.nodes) = sym (ap deed_of is) in
+    record { does = does; only = λ other d. d ∙ sym does }
+
 -- ---- endings
 
--- a run that ends with a plant fault is of a script that ended with one
-pub fault_is : (listing : PlanListing) (rounds : ℕ) (s : Status) → HasRun s → ends_by listing rounds s ≡ ending.Shared status.PlantFault
-    → s ≡ status.PlantFault
-fault_is (listed.Lines l) rounds s h e = one_status signalling_endings s status.PlantFault e
-fault_is (listed.Frames ask) rounds s h e = by (has_rounds ask rounds) s h e
+-- a run ends with a plant fault where its script did
+pub run_faults : FaultsAreReported signalling
+run_faults listing told end = record { ends = ends listing; back = back listing }
   where
-    by : (came : Bool) (s : Status) → HasRun s → frames_end came s ≡ ending.Shared status.PlantFault → s ≡ status.PlantFault
-    by came status.PlantFault h e = refl
-    by true s h e = absurd (let x = one_status signalling_endings status.Ok status.PlantFault e in grind arith)
-    by false s h e = absurd (grind arith)
+    ends : (l : PlanListing) → end ≡ status.PlantFault → ends_by l (rounds_in told) end ≡ ending.Shared status.PlantFault
+    ends (listed.Lines l) e = ap ending.Shared e
+    ends (listed.Frames ask) e = ap (frames_end (has_rounds ask (rounds_in told))) e
 
-pub is_fault : (listing : PlanListing) (rounds : ℕ) (s : Status) → s ≡ status.PlantFault
-    → ends_by listing rounds s ≡ ending.Shared status.PlantFault
-is_fault (listed.Lines l) rounds s e = ap ending.Shared e
-is_fault (listed.Frames ask) rounds s e = ap (frames_end (has_rounds ask rounds)) e
+    by : (came : Bool) (s : Status) → frames_end came s ≡ ending.Shared status.PlantFault → s ≡ status.PlantFault
+    by came status.PlantFault e = refl
+    by true s e = absurd (let x = one_status signalling_endings status.Ok status.PlantFault e in grind arith)
+    by false s e = absurd (grind arith)
 
--- ---- with a plan
+    back : (l : PlanListing) → ends_by l (rounds_in told) end ≡ ending.Shared status.PlantFault → end ≡ status.PlantFault
+    back (listed.Lines l) e = one_status signalling_endings end status.PlantFault e
+    back (listed.Frames ask) e = by (has_rounds ask (rounds_in told)) end e
 
--- a plan that has the node is run
-pub runs : (ask : SignalAsk) (plan : Planned) (listing : PlanListing) → listing_of ask plan.nodes ≡ Some listing
-    → Runs listing ≡ deed_of (listing_of ask plan.nodes)
-runs ask plan listing is = sym (ap deed_of is)
+-- how a run ended, by what is reported of it, where the ring that it left has run as many rounds
+pub ends_reported : (l : PlanListing) (rounds : ℕ) (s : Status) (pieces : List Piece) → (s ≢ status.PlantFault → rounds ≡ rounds_in pieces)
+    → ends_by l rounds s ≡ ends_by l (rounds_in pieces) s
+ends_reported (listed.Lines l) rounds s pieces same = refl
+ends_reported (listed.Frames ask) rounds status.PlantFault pieces same = refl
+ends_reported (listed.Frames ask) rounds s pieces same = ap (λ n. frames_end (has_rounds ask n) s) (same (λ e. grind arith))
 
-module _ (ask : SignalAsk) (plan : Planned) (f : Fibres) where
-  -- the plan doesn't have the node, and the line of that ending was to be written
-  pub goes_none : (exact : Bool) (faults : ℕ) (end : Ending) (old new : Option (List ℕ)) → listing_of ask plan.nodes ≡ None
-      → WroteEnding signalling_endings ending.NoSuchNode (line_of ending.NoSuchNode) end old new
-      → Goes signalling IsCutRun ask plan f f exact (record { before = faults; after = faults }) end old new
-  goes_none exact faults end old new none wrote =
-      let deed = sym (ap deed_of none) in
-      inl (record {
-        how = ending.NoSuchNode;
-        text = line_of ending.NoSuchNode;
-        outcome = (Refuses ending.NoSuchNode, deed, (refl, tt, (refl, refl)));
-        wrote = wrote;
-        failed = λ e. absurd (own_shared status.PlantFault e);
-        counted = counted_none exact faults faults (own_shared status.PlantFault) (λ e. refl);
-        complete = λ may fine. absurd (subst (λ d. may_do signalling d plan f) (may.1 ∙ sym deed) may.2);
-      })
-    where
-      own_shared : (s : Status) → ending.NoSuchNode ≡ ending.Shared s → ⊥
-      own_shared s e = grind arith
+-- ---- what was written of a run
 
-  module _ (listing : PlanListing) (is : listing_of ask plan.nodes ≡ Some listing) where
-    module _ (left : Fibres) (failures : Failures) (s : Status) (rounds : ℕ) (old mid : Option (List ℕ))
-        (came : CameOfRun plan listing f left failures s rounds old mid) where
-      -- the script came to its end
-      pub came_ends : s ≢ status.WriteFault → HasRun s
-      came_ends other = let x = came.whole other in run_ends plan f left x.0 s x.1
+module _ (settles : ScriptsSettle) (signals : ScriptsGoAsSignals) (steps : StepsGoAsSignals) where
+  abbrev Begins : PlanListing → Planned → NewRun PlanRun → Type 0
+  Begins listing plan run = IsOf running_ring signalling_account plan run × (listing_in run.runner ≡ listing)
 
-      -- how it ended, by what is reported of it
-      reported_end : (other : s ≢ status.WriteFault) → ends_by listing rounds s ≡ ends_by listing (rounds_in (came.whole other).0) s
-      reported_end other = by listing s (came.whole other).0 (came.whole other).3
-        where
-          by : (l : PlanListing) (s : Status) (pieces : List Piece) → (s ≢ status.PlantFault → rounds ≡ rounds_in pieces)
-              → ends_by l rounds s ≡ ends_by l (rounds_in pieces) s
-          by (listed.Lines l) s pieces same = refl
-          by (listed.Frames ask) status.PlantFault pieces same = refl
-          by (listed.Frames ask) s pieces same = ap (λ n. frames_end (has_rounds ask n) s) (same (λ e. grind arith))
+  pub steps_reported : StepsAreReported signalling signalling_walk running_ring (λ r told. ended_of (listing_in r) told)
+      (λ r told. begun_of (listing_in r) told) Begins HasRounds
+  steps_reported listing plan run f old new end left begins fresh x =
+      let own = listing_in run.runner in
+      let of = of_plan running_ring signalling_account plan run begins.0 f
+      (λ k l w. WroteSteps signalling_walk k (ended_of own) (begun_of own) l w f old new end left) x in
+      let r = signalled settles signals steps plan listing f begins.0.form fresh.honest old new end left
+      (subst (λ (p : PlanListing). WroteSteps signalling_walk plan.limit (ended_of p) (begun_of p) plan.steps (world_of plan f) f old new end left)
+      begins.1 of) in
+      record { told = r.0; came = r.1; text = r.2; leaves = r.3 }
 
-      -- the last line was to be written after what is reported of it
-      pub goes_run : (other : s ≢ status.WriteFault) (how end : Ending) (line : List ℕ) (new : Option (List ℕ))
-          → how ≡ ends_by listing rounds s → line ≡ line_after listing how
-          → WroteEnding signalling_endings how line end mid new
-          → Goes signalling IsCutRun ask plan f left failures.calls_exact failures.calls end old new
-      goes_run other how end line new is_how is_line wrote =
-          let x = came.whole other in
-          let h = came_ends other in
-          let first = pieces_text listing x.0 in
-          let to : how ≡ ending.Shared status.PlantFault → s ≡ status.PlantFault =
-          λ e. fault_is listing rounds s h (sym is_how ∙ e) in
-          inl (record {
-            how = how;
-            text = first ++ line;
-            outcome = (
-              Runs listing,
-              runs ask plan listing is,
-              record {
-                status = s;
-                ends = h;
-                told = x.0;
-                how_is = is_how ∙ reported_end other;
-                text_is = ap (λ l. first ++ l) is_line;
-                came = x.1;
-              },
-            );
-            wrote = elim wrote [
-              | inl whole ↦ inl (whole.0, Appends-trans old mid new first line x.2 whole.1)
-              | inr front ↦ inr (front.0, fewer_behind old mid new first line x.2 front.1)
-            ];
-            failed = λ e. came.failed (to e);
-            counted =
-                counted_as failures.calls_exact failures.calls.before failures.calls.after to (λ e. is_how ∙ is_fault listing rounds s e)
-                came.counted;
-            complete = λ may fine. is_how ∙ reported_end other
-                ∙ run_done listing plan f left x.0 s x.1 (subst (λ d. may_do signalling d plan f) (may.1 ∙ sym (runs ask plan listing is)) may.2)
-                (λ e. fine (came.failed e));
-          })
-
-      -- a write failed while the plan ran
-      pub goes_cut : (end : Ending) → s ≡ status.WriteFault → end ≡ ending.Shared status.WriteFault
-          → Goes signalling IsCutRun ask plan f left failures.calls_exact failures.calls end old mid
-      goes_cut end fault is_end =
-          let x = came.cut fault in
-          inr (record {
-            end_is = is_end;
-            breaks = (listing, runs ask plan listing is, x.0, x.1, x.2);
-            none = λ e. came.counted.none e (λ h. let z = sym h ∙ fault in grind arith);
-          })
+  pub cuts_reported : {O : Type 0} (written : O → Option (List ℕ)) (faults : O → ℕ)
+      → CutsAreReported signalling IsCutRun written faults signalling_walk running_ring (λ r told. ended_of (listing_in r) told)
+      (λ r told. begun_of (listing_in r) told) Begins
+  cuts_reported written faults listing plan run f before after left begins fresh rose x =
+      let own = listing_in run.runner in
+      let of = of_plan running_ring signalling_account plan run begins.0 f
+      (λ k l w. WriteFailed signalling_walk k (ended_of own) (begun_of own) l w (written before) (written after) left) x in
+      cut_run settles signals steps plan listing f begins.0.form fresh.honest (written before) (written after) left
+      (subst (λ (p : PlanListing). WriteFailed signalling_walk plan.limit (ended_of p) (begun_of p) plan.steps (world_of plan f) (written before)
+      (written after) left) begins.1 of)

@@ -1,16 +1,14 @@
 -- What is reported of a plan that is run.
-use Rattle.std.proofs.Common.{◌≡◌, ◌≢◌, ◌≤◌, true, ℕ, zero, suc, ◌+◌, List, [], ◌∷◌, ◌++◌, length, refl, ap, ap₂, sym, subst, ◌∙◌, arith, inl, inr}
+use Rattle.std.proofs.Common.{◌≡◌, ◌≢◌, true, ℕ, zero, suc, ◌+◌, List, [], ◌∷◌, ◌++◌, length, refl, ap, ap₂, sym, subst, ◌∙◌, arith, inl, inr}
 use Rattle.std.proofs.Common.{append_assoc}
 use Rattle.std.specs.Prelude.{◌⊎◌, Option, map, All}
 use Rattle.std.specs.List.{flat_map}
 use Rattle.std.specs.Io.KnownBytes.{Appends}
 use Rattle.std.proofs.lemmas.Grind.{flat_map-append}
-use Rattle.sdh_basics.specs.Causes.{IsCounted}
 use Rattle.sdh_outside.specs.Writing.{AppendsFewer}
 use Rattle.sdh_plant.specs.Fibres.{Fibres, IsHonest}
 use Rattle.sdh_plant.specs.Arrivals.{Knows}
 use Rattle.sdh_ringmap.specs.declared.terms.Rate.{Rate}
-use Rattle.sdh_node.specs.Rings.Held.{HeldRing}
 use Rattle.sdh_node.specs.Rings.Rounds.{World}
 use Rattle.sdh_owed.specs.Steps.{after_step}
 use Rattle.sdh_plan.specs.Planned.{Planned, IsPlanned, provisioning_of}
@@ -20,26 +18,21 @@ use Rattle.sdh_plan.specs.declared.step.Step.TheVariants as step
 use Rattle.sdh_plan.specs.Scripts.{AreSteps}
 use Rattle.sdh_status.specs.declared.Status.{Status}
 use Rattle.sdh_status.specs.declared.Status.TheVariants as status
-use Rattle.sdh_shell.specs.Calls.{HasRun}
-use Rattle.sdh_shell.specs.Failing.{HaveFailed}
-use Rattle.sdh_shell.proofs.Endings.{has_run}
 use Rattle.sdh_promise.specs.Scenes.{scenes}
 use Rattle.sdh_promise.specs.Plans.{ring_of}
 use Rattle.sdh_scripts.specs.Scripts.{Runs}
 use Rattle.sdh_scripts.specs.Scripts as scripts
-use Rattle.sdh_scripts.specs.Outcomes.{with_fibres}
 use Rattle.sdh_scripts.specs.Texts.{WriteFailed}
 use Rattle.sdh_scripts.specs.Streams.{NoneMade, WroteSteps, LastTold, StoppedTold, CutTold}
-use Rattle.sdh_scripts.specs.declared.run.NewScript.{NewScript}
 use Rattle.sdh_scripts.proofs.Outcomes.{refused_ends}
 use Rattle.sdh_scripts.proofs.Streams.{stopped_told, cut_told}
 use Rattle.sdh_scripts.specs.Plans.{Comes}
 use Rattle.sdh_scripts.specs.Plans as plans
-use Rattle.sdh_scripts.proofs.Plans.{comes_of, known_then, settles_then, ends_of, done_of}
+use Rattle.sdh_scripts.proofs.Plans.{comes_of, known_then, settles_then, done_of}
 use Rattle.sdh_scripts.proofs.Reporting.{reported}
 use Rattle.sdh_owed.specs.Laws.{ScriptsSettle}
 use Rattle.sdh_owed.specs.Reports.{report_of}
-use Rattle.sdh_owed.specs.Plans.{new_ring_of, world_of}
+use Rattle.sdh_owed.specs.Plans.{world_of}
 use Rattle.sdh_owed.proofs.Plans.{adm_new, may_start, circuits_fit}
 use Rattle.sdh_aps_cli.specs.Endings.{frames_end}
 use Rattle.sdh_aps_cli.specs.Signalled.{Signalled}
@@ -48,7 +41,7 @@ use Rattle.sdh_aps_cli.specs.Listing.{begun_of, ended_of}
 use Rattle.sdh_aps_cli.specs.Owed.{AreSignalled, AreOfTheNext}
 use Rattle.sdh_aps_cli.specs.Laws.{ScriptsGoAsSignals, StepsGoAsSignals}
 use Rattle.sdh_aps_cli.specs.Plans.{signalling_account, Owes, IsRunOf, Piece, Ended, Begun, piece_text, pieces_text, pieces_of, rounds_in}
-use Rattle.sdh_aps_cli.specs.Plans.{AreFirstRounds, IsSignalledRun, CutOwes, IsCutRun, has_rounds, ends_by, MaySettle, IsScriptOf, Failures, CameOfRun}
+use Rattle.sdh_aps_cli.specs.Plans.{AreFirstRounds, IsSignalledRun, CutOwes, IsCutRun, has_rounds, ends_by, MaySettle}
 use Rattle.sdh_aps_cli.specs.declared.ending.Ending.TheVariants as ending
 use Rattle.sdh_aps_cli.specs.declared.listing.PlanListing.{PlanListing}
 use Rattle.sdh_aps_cli.specs.declared.listing.PlanListing.TheVariants as listed
@@ -188,12 +181,12 @@ module _ (settles : ScriptsSettle) (signals : ScriptsGoAsSignals) (steps_go : St
 
   -- a run in which no write failed
   module _ (old new : Option (List ℕ)) (end : Status) (left : World) where
-    abbrev Reported : Type 0
+    abbrev pub Reported : Type 0
     Reported =
         (pieces : List Piece) × IsSignalledRun plan f pieces end left.fibres × Appends old new (pieces_text listing pieces)
         × (end ≢ status.PlantFault → left.ring.rounds ≡ rounds_in pieces)
 
-    signalled : WroteSteps signalling_walk plan.limit (ended_of listing) (begun_of listing) plan.steps (world_of plan f) f old new end left
+    pub signalled : WroteSteps signalling_walk plan.limit (ended_of listing) (begun_of listing) plan.steps (world_of plan f) f old new end left
         → Reported
     signalled y =
         let came = run_of left.fibres y.reports end
@@ -291,7 +284,7 @@ module _ (settles : ScriptsSettle) (signals : ScriptsGoAsSignals) (steps_go : St
       ShownOf gone rs = AreSignalled (ring_of plan) plan.nodes plan.limit [] 0 (scenes [] gone) rs status.Ok
 
   -- a run in which a write failed
-  cut_run : (old new : Option (List ℕ)) (left : World)
+  pub cut_run : (old new : Option (List ℕ)) (left : World)
       → WriteFailed signalling_walk plan.limit (ended_of listing) (begun_of listing) plan.steps (world_of plan f) old new left
       → (pieces : List Piece) × IsCutRun plan f pieces left.fibres × AppendsFewer old new (pieces_text listing pieces)
   cut_run old new left y =
@@ -309,69 +302,7 @@ module _ (settles : ScriptsSettle) (signals : ScriptsGoAsSignals) (steps_go : St
         subst (AppendsFewer old new) (sym (all_pieces listing told.0 told.1)) told.3,
       )
 
-  -- the run of the plan's script over its ring
-  module _ (script : NewScript) (is : IsScriptOf plan script) (r : HeldRing) (ring : r ≡ new_ring_of plan) (failures : Failures)
-      (end : Status) (rounds : ℕ) (old new : Option (List ℕ)) (left : World) where
-    as_plan : (Holds : ℕ → List Step → World → Type 0) → Holds script.limit script.steps.items (with_fibres r f)
-        → Holds plan.limit plan.steps (world_of plan f)
-    as_plan Holds x =
-        subst (λ (v : HeldRing). Holds plan.limit plan.steps (with_fibres v f)) ring
-        (subst (λ (l : List Step). Holds plan.limit l (with_fibres r f)) is.steps
-        (subst (λ (k : ℕ). Holds k script.steps.items (with_fibres r f)) is.limit x))
-
-    pub came_of_run : rounds ≡ left.ring.rounds
-        → (end ≢ status.WriteFault → WroteSteps signalling_walk script.limit (ended_of listing) (begun_of listing) script.steps.items
-        (with_fibres r f) f old new end left)
-        → (end ≡ status.WriteFault → WriteFailed signalling_walk script.limit (ended_of listing) (begun_of listing) script.steps.items
-        (with_fibres r f) old new left)
-        → (end ≡ status.PlantFault → HaveFailed failures.calls) → (end ≡ status.WriteFault → HaveFailed failures.writes)
-        → IsCounted failures.calls_exact (end ≡ status.PlantFault) failures.calls.before failures.calls.after
-        → IsCounted failures.writes_exact (end ≡ status.WriteFault) failures.writes.before failures.writes.after
-        → CameOfRun plan listing f left.fibres failures end rounds old new
-    came_of_run same wrote breaks failed broke counted writes = record {
-      whole = λ other. (
-          let x = signalled old new end left
-          (as_plan (λ k l w. WroteSteps signalling_walk k (ended_of listing) (begun_of listing) l w f old new end left) (wrote other)) in
-          (x.0, x.1, x.2, λ fine. same ∙ x.3 fine));
-      cut = λ fault. cut_run old new left
-          (as_plan (λ k l w. WriteFailed signalling_walk k (ended_of listing) (begun_of listing) l w old new left) (breaks fault));
-      failed = failed;
-      broke = broke;
-      counted = counted;
-      writes_counted = writes;
-    }
-
--- the plan's script may start over the plan's ring, by its numbers
-pub record FitsRing (r : HeldRing) (script : NewScript) : Type 0 where
-  pub rate : script.rate ≡ r.settings.rate
-  pub nodes : script.nodes ≡ length r.ids
-  pub enough : 2 ≤ script.nodes
-  pub few : script.nodes ≤ 16
-  pub limit_from_1 : 1 ≤ script.limit
-  pub limit_small : script.limit ≤ 65536
-
-pub fits_ring : (plan : Planned) (r : HeldRing) (script : NewScript) → IsPlanned plan → IsScriptOf plan script → r ≡ new_ring_of plan
-    → FitsRing r script
-fits_ring plan r script form is same =
-    let ids : length r.ids ≡ length plan.nodes = ap (λ (v : HeldRing). length v.ids) same in
-    let least = form.nodes_fit.enough in
-    let most = form.nodes_fit.few in
-    let low = form.limit_from_1 in
-    let high = form.limit_small in
-    record {
-      rate = is.rate ∙ sym (ap (λ (v : HeldRing). v.settings.rate) same);
-      nodes = is.nodes ∙ sym ids;
-      enough = omega (arith, is.nodes, least);
-      few = omega (arith, is.nodes, most);
-      limit_from_1 = omega (arith, is.limit, low);
-      limit_small = omega (arith, is.limit, high);
-    }
-
 -- ---- how it ends
-
--- the status with which a run ends is one of a script that was run
-pub run_ends : (plan : Planned) (f left : Fibres) (pieces : List Piece) (end : Status) → IsSignalledRun plan f pieces end left → HasRun end
-run_ends plan f left pieces end x = has_run end (ends_of signalling_account plan f left end x.reports x.came)
 
 -- a run that settles and that no fault broke off is done
 lines_done : (plan : Planned) (f left : Fibres) (pieces : List Piece) (end : Status) → IsSignalledRun plan f pieces end left

@@ -15,7 +15,9 @@ use Rattle.sdh_rounds.specs.Observed.{Hears, RanSome, HearsSome}
 use Rattle.sdh_report.specs.Lines.{settle_line}
 use Rattle.sdh_report.specs.Written.{Written}
 use Rattle.sdh_scripts.specs.Runners.{WroteStep}
-use Rattle.sdh_scripts.specs.Tellers.{Begun, InStep, WasToWrite}
+use Rattle.sdh_rounds.specs.declared.faults.SettleError.{SettleError}
+use Rattle.sdh_rounds.specs.declared.faults.SettleError.TheVariants as settling
+use Rattle.sdh_scripts.specs.Tellers.{Begun, InStep, WasToWrite, WroteBegun, step_error}
 use Rattle.sdh_scripts.proofs.Reporting.{ended_with}
 use Rattle.sdh_owed.proofs.Steps.{settled_held}
 use Rattle.sdh_report.specs.Written.{room_in}
@@ -94,6 +96,14 @@ module _ (w left : World) (limit number : ℕ) (text_of begun_of : Signalled →
         refl,
         wrote at k x.kept,
       )
+
+  -- a settle step over a ring didn't end, for one of two reasons
+  pub not_ended : (why : SettleError) (r : Result (Unit {0}) SettleError) → r ≡ Err why
+      → (r ≡ Err settling.Unsettled → RanSome adm kept_of w limit left) → OnErr r (HearsSome adm kept_of w limit left)
+      → ((at : ℕ → World) (k : ℕ) → kept_of at k → Appends old new (begun_of (signalled_in number at k)))
+      → WroteBegun signalling_walk limit number text_of begun_of w (step_error why) left old new
+  not_ended settling.Unsettled r is ran some wrote = unsettled_some (ran is) wrote
+  not_ended settling.PlantFault r is ran some wrote = begun_some (on_err_is r settling.PlantFault is some) wrote
 
   -- a settle step in which a write failed: only the first bytes of what is written of its rounds were written
   pub cut_some : RanSome adm kept_of w limit left

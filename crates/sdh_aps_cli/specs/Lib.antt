@@ -8,6 +8,7 @@ pub mod Keeping
 pub mod FrameRecording
 pub mod FrameKeeping
 pub mod Scripts
+pub mod Running
 pub mod ByScript
 pub mod Owed
 pub mod Laws

@@ -1,10 +1,7 @@
 -- What is written of the run of a plan whose signalling is shown. The run begins with a plant that has made no fibres.
-use Rattle.std.specs.Prelude.{ℕ, ◌≡◌, ◌≢◌, ◌⊎◌, ◌+◌, ◌<◌, ◌≤◌, nat_le, Bool, true, List, [], ◌∷◌, ◌++◌, length, map, All, Option}
+use Rattle.std.specs.Prelude.{ℕ, ◌≡◌, ◌≢◌, ◌⊎◌, ◌+◌, ◌<◌, ◌≤◌, nat_le, Bool, true, List, [], ◌∷◌, ◌++◌, map, All}
 use mathlib.Core.Logic.{inl}
 use Rattle.std.specs.List.{flat_map}
-use Rattle.std.specs.Io.KnownBytes.{Appends}
-use Rattle.sdh_basics.specs.Causes.{IsCounted}
-use Rattle.sdh_outside.specs.Writing.{AppendsFewer}
 use Rattle.sdh_plant.specs.Fibres.{Fibres}
 use Rattle.sdh_plant.specs.Arrivals.{Knows}
 use Rattle.sdh_node.specs.Node.{Node}
@@ -16,12 +13,10 @@ use Rattle.sdh_status.specs.declared.Status.TheVariants as status
 use Rattle.sdh_promise.specs.Scenes.{scenes}
 use Rattle.sdh_promise.specs.Plans.{ring_of}
 use Rattle.sdh_shell.specs.Calls.{HasRun}
-use Rattle.sdh_shell.specs.Failing.{Counts, HaveFailed}
 use Rattle.sdh_programs.specs.Programs.{IsRunEnd, Closing}
 use Rattle.sdh_scripts.specs.Plans.{Account, ReportsOwe}
 use Rattle.sdh_scripts.specs.Plans as plans
 use Rattle.sdh_scripts.specs.Streams.{StoppedTold, CutTold}
-use Rattle.sdh_scripts.specs.declared.run.NewScript.{NewScript}
 use Rattle.sdh_owed.specs.Plans.{new_ring_of, world_of}
 use Rattle.sdh_aps_cli.specs.Signalled.{Signalled}
 use Rattle.sdh_aps_cli.specs.Scripts.{signalling_walk}
@@ -164,35 +159,11 @@ MaySettle (listing.Frames ask) plan f =
 
 -- ---- a run in the code
 
--- the script is that of a plan
-pub record IsScriptOf (plan : Planned) (script : NewScript) : Type 0 where
-  pub rate : script.rate ≡ plan.settings.rate
-  pub nodes : script.nodes ≡ length plan.nodes
-  pub steps : script.steps.items ≡ plan.steps
-  pub limit : script.limit ≡ plan.limit
-
--- calls of a plant and writes that failed; a count is exact where `calls_exact` or `writes_exact` says so
-pub record Failures : Type 0 where
-  pub calls : Counts
-  pub writes : Counts
-  pub calls_exact : Bool
-  pub writes_exact : Bool
-
--- What came of a run of a plan. Either the script ended with the status `end`, and all pieces that are reported of the
--- run were written. Or a write failed: `end` is WriteFault, only the first bytes were written, and nothing more was
--- run.
-pub record CameOfRun (plan : Planned) (listing : PlanListing) (f left : Fibres) (failures : Failures) (end : Status) (rounds : ℕ)
-    (old new : Option (List ℕ)) : Type 0 where
-  pub whole : end ≢ status.WriteFault → (pieces : List Piece) × IsSignalledRun plan f pieces end left
-      × Appends old new (pieces_text listing pieces) × (end ≢ status.PlantFault → rounds ≡ rounds_in pieces)
-  pub cut : end ≡ status.WriteFault → (pieces : List Piece) × IsCutRun plan f pieces left
-      × AppendsFewer old new (pieces_text listing pieces)
-  pub failed : end ≡ status.PlantFault → HaveFailed failures.calls
-  pub broke : end ≡ status.WriteFault → HaveFailed failures.writes
-  pub counted : IsCounted failures.calls_exact (end ≡ status.PlantFault) failures.calls.before failures.calls.after
-  pub writes_counted : IsCounted failures.writes_exact (end ≡ status.WriteFault) failures.writes.before failures.writes.after
-
 -- the node whose frames are written is one of n
 abbrev pub IsPlaced : ℕ → PlanListing → Type 0
 IsPlaced n (listing.Lines l) = Unit {0}
 IsPlaced n (listing.Frames ask) = ask.at.0 < n
+
+-- a run with these pieces ran as many rounds as they say, if no fault of the plant broke it off
+abbrev pub HasRounds : List Piece → Status → ℕ → Type 0
+HasRounds pieces end rounds = end ≢ status.PlantFault → rounds ≡ rounds_in pieces

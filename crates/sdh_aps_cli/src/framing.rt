@@ -1,16 +1,15 @@
 //! A ring over which a script is run, with the frames of one fibre written.
-ghost use Rattle.std.specs.Prelude.{◌<◌, length};
 ghost use Rattle.sdh_node.specs.Node.{Node as AddDrop};
-ghost use Rattle.sdh_owed.specs.Running.{MayRun as MayRunRing};
 ghost use Rattle.sdh_aps_cli.specs.Frames.{frames_bytes};
 ghost use Rattle.sdh_aps_cli.specs.Signalled.{Signalled};
 ghost use Rattle.sdh_aps_cli.specs.Scripts.{signalling_walk};
+ghost use Rattle.sdh_aps_cli.specs.Running.{MaySend};
 
 use crate::frames::FrameRecorder;
 use sdh_outside::Sink;
 use sdh_plan::Step;
 use sdh_plant::LendingPlant;
-use sdh_ring::{PlantFault, Ring, SettleError};
+use sdh_ring::{PlantFault, Ring};
 use sdh_scripts::{StepError, Teller, change};
 
 /// A ring, and the recorder that writes its frames.
@@ -35,7 +34,7 @@ impl<W: Sink, P: LendingPlant> Teller<W, P> for FrameRun {
 
     ghost room = { λ r. 0 };
 
-    ghost MayRun = { λ number steps r f. MayRunRing 65536 number steps r.ring f × (r.recorder.ask.at.0 < length r.ring.ids) };
+    ghost MayRun = { MaySend };
 
     fn change(&mut self, plant: &mut P, step: Step) -> Result<(), PlantFault> {
         change(&mut self.ring, plant, step)?;
@@ -55,11 +54,8 @@ impl<W: Sink, P: LendingPlant> Teller<W, P> for FrameRun {
         else {
             return Err(StepError::WriteFault);
         };
-        match ended {
-            Ok(()) => Ok(()),
-            Err(SettleError::Unsettled) => Err(StepError::Unsettled),
-            Err(SettleError::PlantFault) => Err(StepError::PlantFault),
-        }
+        ended?;
+        Ok(())
     }
 
     ghost few = { λ number later r f may. may.0.steps_fit.0.few_settles };

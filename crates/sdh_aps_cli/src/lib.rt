@@ -19,6 +19,7 @@ mod program;
 mod recorder;
 mod recording;
 mod run;
+mod running;
 mod script;
 mod showing;
 mod top;

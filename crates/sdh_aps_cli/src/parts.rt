@@ -2,7 +2,7 @@
 ghost use Rattle.std.specs.Prelude.{◌≡◌, IfOk};
 ghost use Rattle.sdh_plan.specs.Planned.{IsPlanned};
 ghost use Rattle.sdh_owed.specs.Plans.{new_ring_of};
-ghost use Rattle.sdh_aps_cli.specs.Plans.{IsScriptOf};
+ghost use Rattle.sdh_scripts.specs.NewRuns.{IsScriptOf};
 
 use sdh_plan::Plan;
 use sdh_ring::Ring;

@@ -1,16 +1,15 @@
 //! A ring over which a script is run, with the lines of each round written.
 ghost use Rattle.sdh_node.specs.Node.{Node as AddDrop};
-ghost use Rattle.sdh_owed.specs.Running.{MayRun as MayRunRing};
 ghost use Rattle.sdh_aps_cli.specs.Signalled.{Signalled};
 ghost use Rattle.sdh_aps_cli.specs.Scripts.{signalling_walk};
 ghost use Rattle.sdh_aps_cli.specs.Listing.{begun_text, ended_text};
-ghost use Rattle.sdh_aps_cli.specs.Recording.{IsReady};
+ghost use Rattle.sdh_aps_cli.specs.Running.{MayShow};
 
 use crate::recorder::SignalRecorder;
 use sdh_outside::{Sink, write_text};
 use sdh_plan::Step;
 use sdh_plant::Plant;
-use sdh_ring::{PlantFault, Ring, SettleError};
+use sdh_ring::{PlantFault, Ring};
 use sdh_scripts::{StepError, Teller, change};
 
 /// A ring, and what records its rounds.
@@ -35,7 +34,7 @@ impl<W: Sink, P: Plant> Teller<W, P> for SignalRun {
 
     ghost room = { λ r. 0 };
 
-    ghost MayRun = { λ number steps r f. MayRunRing 65536 number steps r.ring f × IsReady r.ring r.recorder.before.items r.recorder.text };
+    ghost MayRun = { MayShow };
 
     fn change(&mut self, plant: &mut P, step: Step) -> Result<(), PlantFault> {
         change(&mut self.ring, plant, step)?;
@@ -56,11 +55,7 @@ impl<W: Sink, P: Plant> Teller<W, P> for SignalRun {
         else {
             return Err(StepError::WriteFault);
         };
-        match ended {
-            Ok(()) => {}
-            Err(SettleError::Unsettled) => return Err(StepError::Unsettled),
-            Err(SettleError::PlantFault) => return Err(StepError::PlantFault),
-        }
+        ended?;
         self.recorder.end(&self.ring, number + 1);
         match write_text(output, self.recorder.text.bytes()) {
             Ok(()) => Ok(()),

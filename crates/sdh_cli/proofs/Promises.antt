@@ -12,14 +12,12 @@ use Rattle.sdh_report.specs.Statuses.{last_line}
 use Rattle.sdh_shell.specs.Calls.{HasRun}
 use Rattle.sdh_shell.specs.Failing.{Counts}
 use Rattle.sdh_shell.specs.Writing.{Writes}
-use Rattle.sdh_programs.specs.Outcome as outcome
-use Rattle.sdh_programs.specs.Headline as headline
 use Rattle.sdh_programs.proofs.Promises.{SettlesLarge, EndsKnown, shows}
 use Rattle.sdh_owed.specs.Plans.{world_of}
 use Rattle.sdh_cli.specs.Plans.{IsRunOf, ran_of, AreAsPromised}
 use Rattle.sdh_cli.specs.Words.{Ask}
-use Rattle.sdh_cli.specs.Outcome.{ringing, told, MayEnd}
-use Rattle.sdh_cli.specs.Headline.{Lists, IsAsPromised, EndsAsItRuns, AlwaysSettles, MayBeDone}
+use Rattle.sdh_cli.specs.Outcome.{ringing, MayEnd}
+use Rattle.sdh_cli.specs.Headline.{Lists, IsAsPromised, EndsAsItRuns, AlwaysSettles}
 use Rattle.sdh_cli.proofs.Deeds.{listed_deed, run_alone}
 
 -- what is so of each run, by its plan, its reports and its end
@@ -53,9 +51,3 @@ module _ (ask : Option Ask) (f left : Fibres) (reads calls : Counts) (bytes : Li
   settles honest plan listing is large k e =
       (shown ask f left reads calls bytes how old new x (SettlesLarge Report) (λ plan reports end came. came.settles honest) plan listing is
       (subst HasRun (sym e) tt)).2 large k e
-
--- what is asked, where all is given for it
-pub given : (ask : Option Ask) (source : Option (List ℕ)) (f : Fibres) → MayBeDone ask (told ask source) f
-    → (a : Ask) × (ask ≡ Some a) × headline.MayBeDone ringing a (outcome.told ringing (Some a) source) f
-given None source f x = absurd x
-given (Some ask) source f x = (ask, refl, x)

@@ -12,9 +12,9 @@ use Rattle.sdh_report.specs.Reports.{Report, text_of}
 use Rattle.sdh_report.specs.Statuses.{last_line}
 use Rattle.sdh_rounds.specs.Quiet.{enough_for}
 use Rattle.sdh_owed.specs.Plans.{world_of}
-use Rattle.sdh_cli.specs.Plans.{ran_of, MaySettle, AreAsPromised}
+use Rattle.sdh_cli.specs.Plans.{ran_of, AreAsPromised}
 use Rattle.sdh_cli.specs.Words.{Ask, listing_of}
-use Rattle.sdh_cli.specs.Outcome.{own_plan, Does}
+use Rattle.sdh_cli.specs.Outcome.{own_plan}
 use Rattle.sdh_programs.specs.Headline as headline
 use Rattle.sdh_shell.specs.Calls.{HasRun}
 
@@ -46,9 +46,3 @@ EndsAsItRuns ask bytes f how = (plan : Planned) (listing : Listing) → Lists as
 abbrev pub AlwaysSettles : Option Ask → List ℕ → Status → Type 0
 AlwaysSettles ask bytes how = (plan : Planned) (listing : Listing) → Lists ask bytes plan listing
     → enough_for (length plan.nodes) ≤ plan.limit → (k : ℕ) → how ≢ status.Unsettled k
-
--- The words are one of the forms, and all is given for what is asked. The tables need a plan. A run needs a plan, in it
--- the port that `drop` names, and a script that settles, as it does over honest fibres where the limit is large.
-abbrev pub MayBeDone : Option Ask → Option (List ℕ) → Fibres → Type 0
-MayBeDone None left f = ⊥
-MayBeDone (Some ask) left f = headline.may_be_done_by own_plan (headline.may_go_by Does (λ listing. MaySettle)) ask left f

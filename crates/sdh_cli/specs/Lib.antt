@@ -1,4 +1,5 @@
 pub mod Room
+pub mod Running
 pub mod Plans
 pub mod Tables
 pub mod Words

@@ -1,5 +1,5 @@
 -- What the program does with a plan, and how a call of it ends.
-use Rattle.std.specs.Prelude.{◌≡◌, ℕ, false, List, Option, Some, None}
+use Rattle.std.specs.Prelude.{◌≡◌, ℕ, List, Option, Some, None}
 use Rattle.sdh_plant.specs.Fibres.{Fibres}
 use Rattle.sdh_plan.specs.Planned.{Planned}
 use Rattle.sdh_report.specs.declared.listing.Listing.{Listing}
@@ -8,7 +8,6 @@ use Rattle.sdh_report.specs.Reports.{Report, text_of}
 use Rattle.sdh_report.specs.Statuses.{usage}
 use Rattle.sdh_shell.specs.Endings.{statuses}
 use Rattle.sdh_shell.specs.Failing.{Counts}
-use Rattle.sdh_shell.specs.Reading as reading
 use Rattle.sdh_programs.specs.Programs.{Deed, Writes, deed_listing, as_script, Program}
 use Rattle.sdh_programs.specs.Outcome as outcome
 use Rattle.sdh_plan.specs.Big.{big_planned}

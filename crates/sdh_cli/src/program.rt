@@ -1,58 +1,35 @@
 //! What the program does with a plan.
-ghost use Rattle.std.specs.Prelude.{◌≡◌, ◌≤◌, true, ◌++◌, refl, IfOk, OnErr, IfSome, length};
-ghost use Rattle.sdh_basics.specs.Causes.{Rose, IsCounted};
-ghost use Rattle.sdh_plant.specs.Fibres.{HasNoFibres};
+ghost use Rattle.std.specs.Prelude.{◌≡◌, ◌+◌, ◌≤◌, refl, IfOk, IfSome, length};
 ghost use Rattle.sdh_report.specs.Reports.{Report};
-ghost use Rattle.sdh_report.specs.Statuses.{last_line};
-ghost use Rattle.sdh_report.specs.declared.listing.Listing.{Listing as Listed};
-ghost use Rattle.sdh_programs.specs.Outcome.{IsRunOutcome};
+ghost use Rattle.sdh_scripts.specs.NewRuns.{IsOf};
+ghost use Rattle.sdh_programs.specs.Calls.{never_cut};
 ghost use Rattle.sdh_cli.specs.Tables.{tables_of};
 ghost use Rattle.sdh_cli.specs.Room.{MayList};
-ghost use Rattle.sdh_cli.specs.Plans.{MaySettle};
+ghost use Rattle.sdh_cli.specs.Running.{running_ring};
+ghost use Rattle.sdh_cli.specs.Plans.{adm_account};
 ghost use Rattle.sdh_cli.specs.Words.{Ask as Asked, ask_of as what_is_asked, listing_of};
 ghost use Rattle.sdh_cli.specs.Outcome.{ringing};
 
-use crate::run::run_plan;
+use crate::run::new_run;
+use crate::script::RingRun;
 use crate::tables::table_text;
 use crate::words::{Command, command_of};
 use sdh_circuits::PortId;
 use sdh_plan::{Plan, big_plan};
 use sdh_plant::Plant;
-use sdh_programs::RunsPlans;
-use sdh_report::{Listing, Status};
-use sdh_shell::{EndedText, ended, ended_line};
+use sdh_programs::{Deed, Program, end_as_script};
+use sdh_report::{LINE_MAX, Listing, Status, Text};
 use std::alloc::{AllocError, Global};
 
-// Returns the squelch tables of a plan.
-fn ended_tables(alloc: Global, plan: &Plan) -> Result<EndedText<Status>, AllocError>
-    ensures { IfOk result (λ report. (report.ending ≡ Status.Ok) × (report.text.bytes ≡ tables_of plan.now ++ last_line report.ending)) }
+// Returns the squelch tables of a plan, with room for a last line, and makes room for both in the text that is written.
+fn tables_for(alloc: Global, plan: &Plan, text: &mut Text) -> Result<Text, AllocError>
+    ensures text { IfOk result (λ tables. tables.bytes ≡ tables_of plan.now) }
+    ensures room { IfOk result (λ tables. (length tables.bytes + 96 ≤ text.new.room) × (96 ≤ tables.room)) }
+    ensures bytes { text.new.bytes ≡ text.old.bytes }
 {
-    let text = table_text(alloc, plan)?;
-    Ok(ended(Status::Ok, text))
-}
-
-// Runs a plan. Returns the text of what is listed of its reports, and how the run ended.
-fn ended_run<P: Plant>(
-    alloc: Global,
-    plan: Plan,
-    plant: &mut P,
-    listing: Listing,
-) -> Result<EndedText<Status>, AllocError>
-    requires fresh { HasNoFibres (P.fibres plant.old) }
-    requires listing { MayList (length plan.circuits) listing }
-    ensures outcome { IfOk result
-        (λ report. IsRunOutcome ringing listing plan (P.fibres plant.old) report.ending report.text.bytes (P.fibres plant.new)) }
-    ensures failed { IfOk result (λ report. report.ending ≡ Status.PlantFault → Rose (P.faults plant.old) (P.faults plant.new)) }
-    ensures calls { IfOk result
-        (λ report. IsCounted P.exact (report.ending ≡ Status.PlantFault) (P.faults plant.old) (P.faults plant.new)) }
-    ensures without { OnErr result (P.exact ≡ true → P.faults plant.new ≡ P.faults plant.old) }
-    ensures complete { IfOk result
-        (λ report. MaySettle plan (P.fibres plant.old) → ¬ (Rose (P.faults plant.old) (P.faults plant.new)) → report.ending ≡ Status.Ok) }
-    ensures later { P.faults plant.old ≤ P.faults plant.new }
-    ensures unsent { OnErr result (P.fibres plant.new ≡ P.fibres plant.old) }
-{
-    let run = run_plan(alloc, plan, plant, listing)?;
-    Ok(ended(run.status, run.text))
+    let tables = table_text(alloc, plan)?;
+    text.make_room(tables.bytes().len() + LINE_MAX)?;
+    Ok(tables)
 }
 
 // Returns what is listed of each report, or `None` for `check` and where the plan has no circuit of the name that is
@@ -72,20 +49,31 @@ fn listing_of(command: Command<'_>, plan: &Plan) -> Option<Listing>
     }
 }
 
-impl<'a> RunsPlans<'a> for Command<'a> {
+impl<'a, P: Plant> Program<'a, Text, P> for Command<'a> {
     type Ending = Status;
 
-    ghost Ask = { Asked };
+    type Listing = Listing;
 
-    ghost Listing = { Listed };
+    type Run = RingRun;
+
+    ghost Ask = { Asked };
 
     ghost Told = { Report };
 
     ghost program = { ringing };
 
+    // The text is written once the run has ended, so that no write that fails cuts the run off.
+    ghost cut = { never_cut };
+
     ghost ask_of = { what_is_asked };
 
-    fn usage() -> &'static [u8]
+    ghost Begins = { λ listing plan run. IsOf running_ring adm_account plan run × (run.runner.listing ≡ listing) };
+
+    ghost Leaves = { λ told end ring. Unit {0} };
+
+    ghost Reserves = { λ old new. Unit {0} };
+
+    fn usage() -> &'a [u8]
         ensures line { result.now ≡ ringing.usage }
         ensures short { length result.now ≤ 95 }
     {
@@ -96,8 +84,8 @@ impl<'a> RunsPlans<'a> for Command<'a> {
         command_of(words)
     }
 
-    fn own_plan(self, alloc: Global) -> Result<Option<Plan>, AllocError> {
-        match self {
+    fn own_plan(&self, alloc: Global) -> Result<Option<Plan>, AllocError> {
+        match *self {
             Command::Big(number) => {
                 let plan = big_plan(alloc, number)?;
                 Ok(Some(plan))
@@ -106,20 +94,37 @@ impl<'a> RunsPlans<'a> for Command<'a> {
         }
     }
 
-    fn run<P: Plant>(
+    fn deed(
         self,
         alloc: Global,
         plan: Plan,
-        plant: &mut P,
-    ) -> Result<EndedText<Status>, AllocError> {
+        output: &mut Text,
+    ) -> Result<Deed<Listing, RingRun, Status>, AllocError> {
         if let Command::Check = self {
-            return ended_tables(alloc, &plan);
+            let tables = tables_for(alloc, &plan, output)?;
+            return Ok(Deed::Write(tables));
         }
         match listing_of(self, &plan) {
-            Some(listing) => ended_run(alloc, plan, plant, listing),
-            None => ended_line(alloc, Status::NoSuchPort),
+            Some(listing) => {
+                let run = new_run(alloc, plan, listing, output)?;
+                Ok(Deed::Run(listing, run))
+            }
+            None => Ok(Deed::Refuse(Status::NoSuchPort)),
         }
     }
 
+    fn close(self, _listing: Listing, _run: &RingRun, status: Status, line: &mut Text) -> Status {
+        end_as_script(status, line)
+    }
+
+    fn laws(self) {
+        sdh_owed::reports_are_owed();
+        sdh_owed::scripts_settle();
+        sdh_owed::healthy_scripts();
+        sdh_owed::courses_are_told();
+    }
+
     ghost same_endings = { refl };
+
+    ghost reserves_none = { λ o. tt };
 }

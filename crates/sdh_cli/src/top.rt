@@ -68,5 +68,5 @@ pub fn sdhring<R: Source, W: Sink, P: Plant>(
         (around R.faults R.exact R.left source.old source.new)
         (around W.faults W.exact W.written sink.old sink.new) (around P.faults P.exact P.fibres plant.old plant.new) result }
 {
-    call::<Command<'_>, R, W, P>(alloc, words, source, sink, plant)
+    call::<P, Command<'_>, R, W>(alloc, words, source, sink, plant)
 }

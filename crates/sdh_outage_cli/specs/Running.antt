@@ -1,13 +1,14 @@
 -- When a script may be run whose outages are listed.
-use Rattle.std.specs.Prelude.{ℕ, ◌+◌, ◌*◌, ◌<◌, List}
+use Rattle.std.specs.Prelude.{ℕ, ◌≡◌, ◌+◌, ◌*◌, ◌<◌, List, length}
 use Rattle.sdh_plant.specs.Fibres.{Fibres}
 use Rattle.sdh_node.specs.Rings.Held.{HeldRing}
 use Rattle.sdh_plan.specs.declared.step.Step.{Step}
 use Rattle.sdh_owed.specs.Running as ring
-use Rattle.sdh_outage_cli.specs.Ports.{AreReady}
+use Rattle.sdh_outage_cli.specs.Ports.{AreReady, ports_in}
 use Rattle.sdh_outage_cli.specs.declared.listing.OutageListing.{OutageListing}
 use Rattle.sdh_outage_cli.specs.declared.listing.OutageListing.TheVariants as listing
 use Rattle.sdh_outage_cli.specs.declared.ports.ListenerPair.{ListenerPair}
+use Rattle.sdh_outage_cli.specs.declared.script.OutageRun.{OutageRun}
 use Rattle.sdh_outage_cli.specs.declared.streams.StreamPair.{StreamPair}
 
 -- the port that is listed is one of `circuits` circuits
@@ -27,3 +28,12 @@ lines_room (listing.Trace port) circuits = 16596
 pub record MayRun (before : ℕ) (steps : List Step) (r : HeldRing) (items : List ListenerPair) (streams : List StreamPair) (f : Fibres) : Type 0 where
   pub ring_may : ring.MayRun 65536 before steps r f
   pub ready : AreReady r.circuits.circuits r.rounds items streams
+
+abbrev pub running_ring : OutageRun → HeldRing
+running_ring r = r.ring
+
+-- these steps may run over these fibres, and the port that is listed is one of the ring's
+abbrev pub MayListen : ℕ → List Step → OutageRun → Fibres → Type 0
+MayListen number steps r f =
+    MayList (length r.ring.circuits.circuits) r.listing
+    × MayRun number steps r.ring r.listeners.items.items r.listeners.streams.pairs.items f × (r.listeners.rooms.counts ≡ ports_in r.ring)

@@ -1,63 +1,48 @@
 //! What the program does with a plan.
-ghost use Rattle.std.specs.Prelude.{◌≡◌, ◌≤◌, true, refl, length, IfOk, OnErr};
-ghost use Rattle.sdh_basics.specs.Causes.{Rose, IsCounted};
-ghost use Rattle.sdh_plant.specs.Fibres.{HasNoFibres};
-ghost use Rattle.sdh_programs.specs.Outcome.{IsRunOutcome};
+ghost use Rattle.std.specs.Prelude.{◌≡◌, ◌≤◌, refl, length};
+ghost use Rattle.sdh_scripts.specs.NewRuns.{IsOf};
+ghost use Rattle.sdh_programs.specs.Calls.{never_cut};
 ghost use Rattle.sdh_outage_cli.specs.Outages.{Outaged};
-ghost use Rattle.sdh_outage_cli.specs.Running.{MayList};
-ghost use Rattle.sdh_outage_cli.specs.Plans.{MaySettle};
-ghost use Rattle.sdh_outage_cli.specs.declared.listing.OutageListing.{OutageListing as Listed};
+ghost use Rattle.sdh_outage_cli.specs.Running.{running_ring};
+ghost use Rattle.sdh_outage_cli.specs.Plans.{outage_account};
 ghost use Rattle.sdh_outage_cli.specs.Words.{Ask as Asked, ask_of as what_is_asked};
 ghost use Rattle.sdh_outage_cli.specs.Headline.{listening};
 
 use crate::listing::OutageListing;
-use crate::run::run_plan;
+use crate::run::new_run;
+use crate::script::OutageRun;
 use crate::words::{Command, command_of, listing_of};
 use sdh_plan::Plan;
 use sdh_plant::Plant;
-use sdh_programs::RunsPlans;
-use sdh_report::Status;
-use sdh_shell::{EndedText, ended, ended_line};
+use sdh_programs::{Deed, Program, end_as_script};
+use sdh_report::{Status, Text};
 use std::alloc::{AllocError, Global};
 
-// Runs a plan. Returns the text of what is listed of its settle steps, with the last line, and how the run ended.
-fn ended_run<P: Plant>(
-    alloc: Global,
-    plan: Plan,
-    plant: &mut P,
-    listing: OutageListing,
-) -> Result<EndedText<Status>, AllocError>
-    requires fresh { HasNoFibres (P.fibres plant.old) }
-    requires listing { MayList (length plan.circuits) listing }
-    ensures outcome { IfOk result
-        (λ report. IsRunOutcome listening listing plan (P.fibres plant.old) report.ending report.text.bytes (P.fibres plant.new)) }
-    ensures failed { IfOk result (λ report. report.ending ≡ Status.PlantFault → Rose (P.faults plant.old) (P.faults plant.new)) }
-    ensures calls { IfOk result
-        (λ report. IsCounted P.exact (report.ending ≡ Status.PlantFault) (P.faults plant.old) (P.faults plant.new)) }
-    ensures without { OnErr result (P.exact ≡ true → P.faults plant.new ≡ P.faults plant.old) }
-    ensures complete { IfOk result
-        (λ report. MaySettle plan (P.fibres plant.old) → ¬ (Rose (P.faults plant.old) (P.faults plant.new)) → report.ending ≡ Status.Ok) }
-    ensures later { P.faults plant.old ≤ P.faults plant.new }
-    ensures unsent { OnErr result (P.fibres plant.new ≡ P.fibres plant.old) }
-{
-    let run = run_plan(alloc, plan, plant, listing)?;
-    Ok(ended(run.status, run.text))
-}
-
-impl<'a> RunsPlans<'a> for Command<'a> {
+impl<'a, P: Plant> Program<'a, Text, P> for Command<'a> {
     type Ending = Status;
 
-    ghost Ask = { Asked };
+    type Listing = OutageListing;
 
-    ghost Listing = { Listed };
+    type Run = OutageRun;
+
+    ghost Ask = { Asked };
 
     ghost Told = { Outaged };
 
     ghost program = { listening };
 
+    // The text is written once the run has ended, so that no write that fails cuts the run off.
+    ghost cut = { never_cut };
+
     ghost ask_of = { what_is_asked };
 
-    fn usage() -> &'static [u8]
+    ghost Begins = { λ listing plan run. IsOf running_ring outage_account plan run × (run.runner.listing ≡ listing) };
+
+    ghost Leaves = { λ told end ring. Unit {0} };
+
+    ghost Reserves = { λ old new. Unit {0} };
+
+    fn usage() -> &'a [u8]
         ensures line { result.now ≡ listening.usage }
         ensures short { length result.now ≤ 95 }
     {
@@ -68,21 +53,40 @@ impl<'a> RunsPlans<'a> for Command<'a> {
         command_of(words)
     }
 
-    fn own_plan(self, _alloc: Global) -> Result<Option<Plan>, AllocError> {
+    fn own_plan(&self, _alloc: Global) -> Result<Option<Plan>, AllocError> {
         Ok(None)
     }
 
-    fn run<P: Plant>(
+    fn deed(
         self,
         alloc: Global,
         plan: Plan,
-        plant: &mut P,
-    ) -> Result<EndedText<Status>, AllocError> {
+        output: &mut Text,
+    ) -> Result<Deed<OutageListing, OutageRun, Status>, AllocError> {
         match listing_of(self, &plan) {
-            Some(listing) => ended_run(alloc, plan, plant, listing),
-            None => ended_line(alloc, Status::NoSuchPort),
+            Some(listing) => {
+                let run = new_run(alloc, plan, listing, output)?;
+                Ok(Deed::Run(listing, run))
+            }
+            None => Ok(Deed::Refuse(Status::NoSuchPort)),
         }
     }
 
+    fn close(
+        self,
+        _listing: OutageListing,
+        _run: &OutageRun,
+        status: Status,
+        line: &mut Text,
+    ) -> Status {
+        end_as_script(status, line)
+    }
+
+    fn laws(self) {
+        sdh_owed::scripts_settle();
+    }
+
     ghost same_endings = { refl };
+
+    ghost reserves_none = { λ o. tt };
 }

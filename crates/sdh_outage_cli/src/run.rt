@@ -1,10 +1,9 @@
-//! A whole run: the room, the listeners and the ring are made, and the script runs.
-ghost use Rattle.std.specs.Prelude.{◌≡◌, ◌≤◌, true, length, IfOk, OnErr};
-ghost use Rattle.sdh_basics.specs.Causes.{Rose, IsCounted};
-ghost use Rattle.sdh_plant.specs.Fibres.{HasNoFibres};
-ghost use Rattle.sdh_scripts.specs.NewRuns.{MayBegin, IsOf};
-ghost use Rattle.sdh_outage_cli.specs.Running.{MayList, lines_room};
-ghost use Rattle.sdh_outage_cli.specs.Plans.{outage_account, MaySettle, Tells};
+//! The run of a plan, before its fibres are there: its listeners and its ring are made, and room for what is listed.
+ghost use Rattle.std.specs.Prelude.{◌≡◌, ◌≤◌, length, IfOk};
+ghost use Rattle.sdh_scripts.specs.NewRuns.{MayStart, IsOf};
+ghost use Rattle.sdh_scripts.specs.Texts.{room_for};
+ghost use Rattle.sdh_outage_cli.specs.Running.{MayList, lines_room, running_ring, MayListen};
+ghost use Rattle.sdh_outage_cli.specs.Plans.{outage_account};
 
 use crate::listeners::Listeners;
 use crate::listing::OutageListing;
@@ -15,10 +14,9 @@ use crate::streams::new_streams;
 use sdh_circuits::CircuitMap;
 use sdh_outage::LINE_MAX as PORT_LINE_MAX;
 use sdh_plan::Plan;
-use sdh_plant::Plant;
-use sdh_report::{LINE_MAX, Status};
+use sdh_report::{LINE_MAX, Text};
 use sdh_ring::Ring;
-use sdh_scripts::{NewRun, Run, Runner, start, text_for};
+use sdh_scripts::{NewRun, NewScript, script_room};
 use std::alloc::{AllocError, Global};
 
 // Returns the number of bytes that is room enough for what is listed of a settle step. Of one port that is 64 changes,
@@ -33,20 +31,24 @@ fn lines_room(listing: OutageListing, circuits: &CircuitMap) -> usize
     }
 }
 
-// Returns the run of a plan, before its fibres are there.
-fn new_run(
+/// Returns the run of a plan. All memory is taken here, that for the text of all that is listed too.
+pub fn new_run(
     alloc: Global,
     plan: Plan,
     listing: OutageListing,
+    text: &mut Text,
 ) -> Result<NewRun<OutageRun>, AllocError>
     requires listing { MayList (length plan.circuits) listing }
-    ensures may { IfOk result (MayBegin ⟦<OutageRun as Runner>⟧.ring ⟦<OutageRun as Runner>⟧.room ⟦<OutageRun as Runner>⟧.MayRun) }
-    ensures is_of { IfOk result (IsOf ⟦<OutageRun as Runner>⟧.ring outage_account plan) }
-    ensures listing { IfOk result (λ run. run.runner.listing ≡ listing) }
+    ensures is_of { IfOk result (IsOf running_ring outage_account plan) }
+    ensures ready { IfOk result (λ new. MayStart running_ring MayListen new.runner new.script) }
+    ensures listing { IfOk result (λ new. new.runner.listing ≡ listing) }
+    ensures room { IfOk result
+        (λ new. room_for (lines_room listing (length new.runner.ring.circuits.circuits)) 0 ≤ text.new.room) }
+    ensures bytes { text.new.bytes ≡ text.old.bytes }
 {
     let settings = plan.settings();
     let limit = plan.limit();
-    let text = text_for(alloc, lines_room(listing, plan.circuits()))?;
+    text.make_room(script_room(lines_room(listing, plan.circuits())))?;
     let items = new_listeners(alloc, plan.circuits())?;
     let streams = new_streams(alloc, plan.circuits())?;
     let nodes = plan.map().len();
@@ -58,52 +60,18 @@ fn new_run(
         streams,
         rooms,
     };
+    let script = NewScript {
+        rate: settings.rate,
+        nodes,
+        steps,
+        limit,
+    };
     Ok(NewRun {
         runner: OutageRun {
             ring,
             listeners,
             listing,
         },
-        rate: settings.rate,
-        nodes,
-        steps,
-        limit,
-        text,
+        script,
     })
-}
-
-/// Runs the script of a plan over new fibres, and lists the outages of its ports, or the changes of one. Returns the
-/// text and how the run ended. All memory is taken before the first round.
-pub fn run_plan<P: Plant>(
-    alloc: Global,
-    plan: Plan,
-    plant: &mut P,
-    listing: OutageListing,
-) -> Result<Run, AllocError>
-    requires fresh { HasNoFibres (P.fibres plant.old) }
-    requires listing { MayList (length plan.circuits) listing }
-
-    // The text is what is listed of one list of settle steps. The clause says what holds of these over every plant,
-    // where the arrivals are known, and over honest fibres.
-    ensures came { IfOk result (λ run. Tells plan listing (P.fibres plant.old) run.text.bytes run.status (P.fibres plant.new)) }
-
-    // A plant fault has its cause in a call that failed. Where no call fails, a script that settles is done.
-    ensures failed { IfOk result (λ run. run.status ≡ Status.PlantFault → Rose (P.faults plant.old) (P.faults plant.new)) }
-
-    // Where the plant's count of faults is exact, one call failed if the run ended with a plant fault. None failed with
-    // any other ending, and none where memory ran out.
-    ensures counted { IfOk result (λ run. IsCounted P.exact (run.status ≡ Status.PlantFault) (P.faults plant.old) (P.faults plant.new)) }
-    ensures uncounted { OnErr result (P.exact ≡ true → P.faults plant.new ≡ P.faults plant.old) }
-    ensures complete { IfOk result
-        (λ run. MaySettle plan (P.fibres plant.old) → ¬ (Rose (P.faults plant.old) (P.faults plant.new)) → run.status ≡ Status.Ok) }
-    ensures later { P.faults plant.old ≤ P.faults plant.new }
-    ensures room { IfOk result (λ run. 96 ≤ run.text.room) }
-
-    // Where memory ran out no fibre was made, and no round has run.
-    ensures unsent { OnErr result (P.fibres plant.new ≡ P.fibres plant.old) }
-{
-    sdh_owed::scripts_settle();
-    prove!(plan.steps().len() <= 1000);
-    let run = new_run(alloc, plan, listing)?;
-    start(alloc, plant, run)
 }

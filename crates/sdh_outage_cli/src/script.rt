@@ -1,5 +1,5 @@
 //! A ring with listeners on its ports, over which a script is run.
-ghost use Rattle.std.specs.Prelude.{ℕ, ◌≡◌, ◌+◌, ◌^◌, ◌≤◌, false, OnOk, length};
+ghost use Rattle.std.specs.Prelude.{ℕ, ◌≡◌, ◌+◌, ◌^◌, ◌≤◌, false, [], OnOk, length};
 ghost use Rattle.sdh_plant.specs.Fibres.{IsPrepared};
 ghost use Rattle.sdh_rounds.specs.Outcome.{IsStep};
 ghost use Rattle.sdh_node.specs.Rings.Rounds.{World, world};
@@ -11,7 +11,7 @@ ghost use Rattle.sdh_outage_cli.specs.Outages.{Outaged};
 ghost use Rattle.sdh_outage_cli.specs.Scripts.{outage_walk};
 ghost use Rattle.sdh_outage_cli.specs.Lines.{listed};
 ghost use Rattle.sdh_outage_cli.specs.Ports.{AreListening, ports_in};
-ghost use Rattle.sdh_outage_cli.specs.Running.{MayList, lines_room, MayRun as MayListen};
+ghost use Rattle.sdh_outage_cli.specs.Running.{lines_room, MayListen};
 
 use crate::lines::put_step;
 use crate::listeners::Listeners;
@@ -22,7 +22,7 @@ use sdh_plant::Plant;
 use sdh_report::Text;
 use sdh_ring::{PlantFault, Ring, SettleError};
 use sdh_rounds::{Nowhere, Stopped};
-use sdh_scripts::{Runner, change};
+use sdh_scripts::{StepError, Teller, change};
 
 /// A ring, the listeners on its ports, and what is listed of each settle step.
 #[derive(Drop)]
@@ -61,7 +61,7 @@ fn settle_with<P: Plant>(
     }
 }
 
-impl Runner for OutageRun {
+impl<P: Plant> Teller<Text, P> for OutageRun {
     ghost Node = { AddDrop };
 
     ghost Told = { Outaged };
@@ -72,26 +72,28 @@ impl Runner for OutageRun {
 
     ghost text_of = { λ r told. listed r.listing told };
 
+    ghost begun_of = { λ r told. [] };
+
     ghost room = { λ r. lines_room r.listing (length r.ring.circuits.circuits) };
 
-    ghost MayRun = { λ number steps r f. MayList (length r.ring.circuits.circuits) r.listing × MayListen number steps r.ring r.listeners.items.items r.listeners.streams.pairs.items f × (r.listeners.rooms.counts ≡ ports_in r.ring) };
+    ghost MayRun = { MayListen };
 
-    fn change<P: Plant>(&mut self, plant: &mut P, step: Step) -> Result<(), PlantFault> {
+    fn change(&mut self, plant: &mut P, step: Step) -> Result<(), PlantFault> {
         change(&mut self.ring, plant, step)?;
         Ok(())
     }
 
-    fn settle<P: Plant>(
+    fn settle(
         &mut self,
         plant: &mut P,
         limit: u32,
         number: u32,
-        text: &mut Text,
-    ) -> Result<(), SettleError> {
+        output: &mut Text,
+    ) -> Result<(), StepError> {
         begin_all(&self.ring, &mut self.listeners.items);
         settle_with(&mut self.ring, plant, limit, &mut self.listeners)?;
         put_step(
-            text,
+            output,
             &self.ring,
             number + 1,
             &self.listeners.items,

@@ -1,7 +1,7 @@
 -- A call that writes its reports as they come.
 use Rattle.std.proofs.Common.{◌≡◌, ◌≢◌, ℕ, Bool, true, None, Some, List, [], ◌++◌, refl, ap, sym, ◌∙◌, subst, inl, inr, arith}
 use Rattle.std.specs.Prelude.{◌⊎◌, Option, IfSome, Result, Ok, Err, IsOk}
-use Rattle.std.specs.Io.KnownBytes.{IsAtEnd}
+use Rattle.std.specs.Io.KnownBytes.{Keeps, IsAtEnd}
 use Rattle.std.proofs.lemmas.Bool.{false≢true}
 use Rattle.sdh_basics.specs.Causes.{IsCounted}
 use Rattle.sdh_outside.specs.Reading.{TakesCount}
@@ -11,7 +11,7 @@ use Rattle.sdh_report.specs.Lines.{own_line}
 use Rattle.sdh_status.specs.declared.Status.{Status}
 use Rattle.sdh_status.specs.declared.Status.TheVariants as status
 use Rattle.sdh_shell.specs.Endings.{Endings}
-use Rattle.sdh_shell.specs.Reading.{HasNoPlan, HasPlan, TellsPlan, IsWhyNone, Refuses, IsRefusal, told_if}
+use Rattle.sdh_shell.specs.Reading.{HasNoPlan, HasPlan, TellsPlan, Refuses, told_if}
 use Rattle.sdh_shell.specs.declared.reading.NoPlan.{NoPlan}
 use Rattle.sdh_shell.specs.declared.reading.NoPlan.TheVariants as noplan
 use Rattle.sdh_shell.specs.Failing.{Counts, HaveFailed, HasCause, cause_of}
@@ -23,7 +23,7 @@ use Rattle.sdh_programs.specs.Programs.{Program}
 use Rattle.sdh_shell.specs.Reading.{HasRead}
 use Rattle.sdh_programs.specs.Outcome.{IsOutcome, MayEnd, reads_without, reads_source, told}
 use Rattle.sdh_programs.specs.Headline.{MayBeDone}
-use Rattle.sdh_programs.specs.Calls.{CutRun, Finishes, Goes, breaks_own, IsCutShort, Seen, CameTo, HasToTell, IsAnswer}
+use Rattle.sdh_programs.specs.Calls.{CutRun, Finishes, Goes, breaks_own, IsCutShort, Seen, HasToTell, IsAnswer}
 use Rattle.sdh_programs.proofs.Stages.{plan_ends, own_outcome, own_may_go, own_read, plan_outcome, refused_outcome, read_may_go, read_has_plan, all_read, asked_done}
 
 -- ---- endings
@@ -83,6 +83,42 @@ module _ {A L T E : Type 0} (program : Program A L T E) where
       (λ (bytes : List ℕ). WritesWith program.endings (λ h text. MayEnd program asked bytes f reads calls h text left) how old new)
       (λ bytes is. writes_at_end (telling_in program.endings how) (λ h text. MayEnd program asked bytes f reads calls h text left)
       (IsCutShort program (λ plan g reports h. ⊥) asked bytes f old new left) how old new (never_cut asked bytes f old new left) is) x
+
+-- ---- memory ran out
+
+keeps_same : (old new : Option (List ℕ)) → new ≡ old → Keeps old new
+keeps_same None new is = tt
+keeps_same (Some bytes) new is = subst (Keeps (Some bytes)) (sym is) refl
+
+-- nothing was written
+pub memory_writes : {A L T E : Type 0} (program : Program A L T E) (asked : Option A) (source : Option (List ℕ)) (f left : Fibres)
+    (reads calls : Counts) (end : E) (old new : Option (List ℕ)) → end ≡ program.endings.of status.Memory → new ≡ old
+    → IfSome (told program asked source) (λ bytes. WritesWith program.endings
+    (λ h text. MayEnd program asked bytes f reads calls h text left) end old new)
+memory_writes program asked source f left reads calls end old new is same =
+    by (told program asked source)
+  where
+    by : (o : Option (List ℕ)) → IfSome o (λ bytes. WritesWith program.endings
+        (λ h text. MayEnd program asked bytes f reads calls h text left) end old new)
+    by None = tt
+    by (Some bytes) =
+        subst (λ t. WritesAs t (λ h text. MayEnd program asked bytes f reads calls h text left) end old new)
+        (sym (ap (telling_in program.endings) is ∙ ap telling_if (program.endings.shared_of status.Memory))) (keeps_same old new same)
+
+pub memory_tells : {A L T E : Type 0} (program : Program A L T E) (Cut : CutRun T) (asked : Option A) (source : Option (List ℕ))
+    (f left : Fibres) (reads calls : Counts) (end : E) (old new : Option (List ℕ)) → end ≡ program.endings.of status.Memory → new ≡ old
+    → IfSome (told program asked source) (λ bytes. TellsWith program.endings
+    (λ h text. MayEnd program asked bytes f reads calls h text left) (IsCutShort program Cut asked bytes f old new left) end old new)
+memory_tells program Cut asked source f left reads calls end old new is same =
+    by (told program asked source)
+  where
+    by : (o : Option (List ℕ)) → IfSome o (λ bytes. TellsWith program.endings
+        (λ h text. MayEnd program asked bytes f reads calls h text left) (IsCutShort program Cut asked bytes f old new left) end old new)
+    by None = tt
+    by (Some bytes) =
+        subst (λ t. TellsAs t (λ h text. MayEnd program asked bytes f reads calls h text left) (IsCutShort program Cut asked bytes f old new left)
+        end old new) (sym (ap (telling_in program.endings) is ∙ ap telling_if (program.endings.shared_of status.Memory)))
+        (keeps_same old new same)
 
 -- ---- what an answer says
 
@@ -352,12 +388,6 @@ module _ {A L T E : Type 0} (program : Program A L T E) (Cut : CutRun T) (seen :
 -- ---- what reading a plan returned
 
 module _ (why : NoPlan) (s : Status) (is : why ≡ noplan.Refused s) where
-  pub why_refuses : IsRefusal why → Refuses s
-  why_refuses kind = subst IsRefusal is kind
-
-  pub why_none : (source : Option (List ℕ)) → IfSome source (λ bytes. IsWhyNone bytes why) → IfSome source (λ bytes. HasNoPlan bytes s)
-  why_none source x = subst (λ (w : NoPlan). IfSome source (λ bytes. IsWhyNone bytes w)) is x
-
   pub why_is : (t : Status) → s ≡ t → ◌≡◌ {A = Result Planned NoPlan} (Err why) (Err (noplan.Refused t))
   why_is t e = ap (λ (w : NoPlan). Err w) (is ∙ ap noplan.Refused e)
 
@@ -410,6 +440,15 @@ module _ {E : Type 0} (own its : Endings E) (same : own ≡ its) where
       subst (λ (e : Endings E). WroteEnding e how text end old new) (sym same)
       (subst (λ (h : E). WroteEnding its h text end old new) is
       (subst (λ (t : List ℕ). WroteEnding its said t end old new) line x))
+
+  -- a text and its last line were to be written
+  pub wrote_given : (how said : E) (told start text : List ℕ) (end : E) (old mid new : Option (List ℕ)) → said ≡ how → start ≡ told
+      → text ≡ start ++ its.line how → mid ≡ old → WroteEnding its said text end mid new
+      → WroteEnding own how (told ++ own.line how) end old new
+  wrote_given how said told start text end old mid new as_said is line before x =
+      wrote_as said how text (told ++ own.line how) end old new as_said
+      (line ∙ ap (λ l. l ++ its.line how) is ∙ ap (λ (e : Endings E). told ++ e.line how) (sym same))
+      (subst (λ (o : Option (List ℕ)). WroteEnding its said text end o new) before x)
 
   -- a line alone was to be written
   pub wrote_line : (s : Status) (said given : E) (start text : List ℕ) (end : E) (old new : Option (List ℕ)) → said ≡ given → given ≡ own.of s

@@ -1,5 +1,5 @@
 //! The call of a program that runs plans, over any source, sink and plant.
-ghost use Rattle.std.specs.Prelude.{IfSome};
+ghost use Rattle.std.specs.Prelude.{◌≡◌, IfSome};
 ghost use Rattle.sdh_plant.specs.Fibres.{HasNoFibres};
 ghost use Rattle.sdh_shell.specs.Calls.{words_of};
 ghost use Rattle.sdh_shell.specs.Failing.{Counts};
@@ -8,19 +8,19 @@ ghost use Rattle.sdh_shell.specs.Writing.{WritesWith, TellsWith};
 ghost use Rattle.sdh_programs.specs.Outcome.{MayEnd, told};
 ghost use Rattle.sdh_programs.specs.Calls.{IsCutShort, KeepsCall, never_cut};
 
-use crate::answering::{answer, ending_of};
-use crate::at_end::AtEnd;
-use crate::program::RunsPlans;
-use crate::streaming::StreamsPlans;
+use crate::answering::answer;
+use crate::carrying::{ending_of, endings_agree};
+use crate::program::Program;
 use sdh_outside::{Sink, Source};
 use sdh_plant::Plant;
-use sdh_report::Status;
+use sdh_report::{LINE_MAX, Status, Text};
+use sdh_shell::{EndedText, write_ended};
 use std::alloc::{AllocError, Global};
 
 /// Does all that a program does, and returns how it ended. The program writes its reports as they come. Where its words
 /// ask for something, it reads a plan from the source, unless what is asked names one, and runs it over the plant, or
 /// writes a text of it. The last line says how it ended. After a write that failed nothing more is run.
-pub fn call_over<'a, W: Sink, P: Plant, M: StreamsPlans<'a, W, P>, R: Source>(
+pub fn call_over<'a, W: Sink, P: Plant, M: Program<'a, W, P>, R: Source>(
     alloc: Global,
     words: &'a [String],
     source: &mut R,
@@ -28,6 +28,7 @@ pub fn call_over<'a, W: Sink, P: Plant, M: StreamsPlans<'a, W, P>, R: Source>(
     plant: &mut P,
 ) -> M::Ending
     requires fresh { HasNoFibres (P.fibres plant.old) }
+    requires same { (old new : W) → M.Reserves old new → new ≡ old }
 
     // The ending and the text that is written, where the bytes of a source that is read are known, and where the sink
     // shows what was written. Where a write failed while a plan was run, only the first bytes of what was to be
@@ -56,7 +57,7 @@ pub fn call_over<'a, W: Sink, P: Plant, M: StreamsPlans<'a, W, P>, R: Source>(
 /// Does all that a program does, and returns how it ended. Where its words ask for something, it reads a plan from the
 /// source, unless what is asked names one, and runs it over the plant, or writes a text of it. The last line says how
 /// it ended. All is written once, at the end.
-pub fn call<'a, M: RunsPlans<'a>, R: Source, W: Sink, P: Plant>(
+pub fn call<'a, P: Plant, M: Program<'a, Text, P>, R: Source, W: Sink>(
     alloc: Global,
     words: &'a [String],
     source: &mut R,
@@ -81,5 +82,12 @@ pub fn call<'a, M: RunsPlans<'a>, R: Source, W: Sink, P: Plant>(
         (around R.faults R.exact R.left source.old source.new) (around W.faults W.exact W.written sink.old sink.new)
         (around P.faults P.exact P.fibres plant.old plant.new) result }
 {
-    call_over::<W, P, AtEnd<M>, R>(alloc, words, source, sink, plant)
+    endings_agree::<Text, P, M>();
+    let Ok(mut text) = Text::try_new(alloc, LINE_MAX) else {
+        return ending_of::<Text, P, M>(Status::Memory);
+    };
+    match answer::<Text, P, M, R>(alloc, words, source, &mut text, plant) {
+        Ok(ending) => write_ended(sink, EndedText { ending, text }),
+        Err(AllocError) => ending_of::<Text, P, M>(Status::Memory),
+    }
 }

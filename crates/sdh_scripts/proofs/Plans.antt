@@ -1,8 +1,9 @@
 -- What is reported of a plan, by the laws of its ring.
-use Rattle.std.proofs.Common.{◌≡◌, true, ℕ, ◌≤◌, List, [], ◌++◌, length, refl, ap, sym, ◌∙◌, subst, arith, inl, inr, Some}
+use Rattle.std.proofs.Common.{◌≡◌, true, ℕ, ◌≤◌, List, [], ◌++◌, length, refl, ap, sym, ◌∙◌, subst, arith, inl, inr}
 use Rattle.std.proofs.Common.{append-nil}
 use Rattle.std.specs.Prelude.{◌⊎◌, Option}
 use Rattle.std.specs.List.{flat_map}
+use Rattle.std.specs.Io.KnownBytes.{Appends}
 use Rattle.std.proofs.KnownBytes.{Appends-nil}
 use Rattle.sdh_plant.specs.Fibres.{Fibres}
 use Rattle.sdh_plant.specs.Calls.{prepared}
@@ -16,12 +17,12 @@ use Rattle.sdh_status.specs.declared.Status.TheVariants as status
 use Rattle.sdh_ringmap.specs.declared.terms.Rate.{Rate}
 use Rattle.sdh_scripts.specs.Walks.{Walk}
 use Rattle.sdh_scripts.specs.Scripts.{Runs}
-use Rattle.sdh_scripts.specs.Texts.{HasRoom, Lists}
+use Rattle.sdh_scripts.specs.Texts.{Lists}
 use Rattle.sdh_scripts.specs.Streams.{NoneMade, WroteSteps}
 use Rattle.sdh_scripts.specs.Outcomes.{with_fibres, Came, ComesOfSteps, IsSettled, ComesOfKnownRun}
 use Rattle.sdh_scripts.specs.Laws.{KeepsRounds}
 use Rattle.sdh_scripts.specs.Plans.{Account, ReportsOwe, world_of, ran_of, Comes, ComesKnown, MaySettle, IsRunOf, Tells}
-use Rattle.sdh_scripts.specs.NewRuns.{MayBegin, MayStart, IsOf}
+use Rattle.sdh_scripts.specs.NewRuns.{MayStart, IsOf}
 use Rattle.sdh_scripts.specs.declared.run.NewRun.{NewRun}
 use Rattle.sdh_scripts.proofs.Texts.{silent_tail}
 use Rattle.sdh_scripts.proofs.Outcomes.{EndsIn, comes_ends, known_comes, settled_done, known_done, settled_by, fault_settles}
@@ -67,36 +68,17 @@ pub comes_of : {N T : Type 0} (walk : Walk N T) (limit : ℕ) (steps : List Step
 comes_of walk limit steps w f reports end left (inl none) = inl none
 comes_of walk limit steps w f reports end left (inr runs) = inr (left, refl, runs)
 
--- a text in memory has nothing of a step that didn't end
-pub came_wrote : {N T : Type 0} (walk : Walk N T) (limit : ℕ) (text_of : T → List ℕ) (steps : List Step) (w : World N) (f : Fibres)
-    (left : World N) (old new : List ℕ) (end : Status) → old ≡ []
-    → WroteSteps walk limit text_of (λ told. []) steps w f (Some old) (Some new) end left
-    → Came walk limit text_of steps w f new end left.fibres
-came_wrote walk limit text_of steps w f left old new end empty x =
-    let text = flat_map text_of x.reports in
-    let all : new ≡ old ++ (text ++ x.tail) = x.text in
-    record {
-      reports = x.reports;
-      text_is =
-          all ∙ ap (λ (t : List ℕ). t ++ (text ++ x.tail)) empty
-          ∙ ap (λ (t : List ℕ). text ++ t) (silent_tail walk limit steps w f x.reports x.tail end left x.tail_is)
-          ∙ append-nil text;
-      ran = comes_of walk limit steps w f x.reports end left x.ran;
-    }
-
--- the script of a run that may begin may start
-pub starts : {N R : Type 0} (ring : R → HeldRing N) (room : R → ℕ) (MayRun : ℕ → List Step → R → Fibres → Type 0) (run : NewRun R)
-    → MayBegin ring room MayRun run
-    → MayStart ring MayRun run.runner (record { rate = run.rate; nodes = run.nodes; steps = run.steps; limit = run.limit })
-starts ring room MayRun run x = record {
-  rate = x.rate;
-  nodes = x.nodes;
-  enough = x.enough;
-  few = x.few;
-  may = x.may;
-  limit_from_1 = x.limit_from_1;
-  limit_small = x.limit_small;
-}
+-- where nothing is written of a step that didn't end, the text is that of the settle steps that ended
+pub came_silent : {N T : Type 0} (walk : Walk N T) (limit : ℕ) (text_of : T → List ℕ) (steps : List Step) (w : World N) (f : Fibres)
+    (left : World N) (old new : Option (List ℕ)) (end : Status) → WroteSteps walk limit text_of (λ told. []) steps w f old new end left
+    → (text : List ℕ) × Came walk limit text_of steps w f text end left.fibres × Appends old new text
+came_silent walk limit text_of steps w f left old new end x =
+    let text = flat_map text_of x.reports in (
+      text,
+      record { reports = x.reports; text_is = refl; ran = comes_of walk limit steps w f x.reports end left x.ran },
+      subst (Appends old new)
+          (ap (λ (t : List ℕ). text ++ t) (silent_tail walk limit steps w f x.reports x.tail end left x.tail_is) ∙ append-nil text) x.text,
+    )
 
 -- ---- the run of a plan
 
@@ -115,36 +97,42 @@ as_planned {N} Holds plan new r rate n steps f ring rates size same x =
     subst (λ (t : List Step × HeldRing N × Rate × ℕ). Holds t.0 t.1 (prepared t.2 t.3 f)) (sym (λ i. (same i, ring i, rates i, size i))) x
 
 module _ {N T R : Type 0} (ring : R → HeldRing N) (t : Account N T) (plan : Planned) (run : NewRun R) (is : IsOf ring t plan run) where
-  -- the run of a plan may begin
-  pub may_begin : (room : R → ℕ) (MayRun : ℕ → List Step → R → Fibres → Type 0) → IsPlanned plan → IsNew t.new_ring
-      → run.rate ≡ plan.settings.rate → run.nodes ≡ length plan.nodes
-      → ((f : Fibres) → MayRun 0 run.steps.items run.runner (prepared run.rate run.nodes f)) → HasRoom (room run.runner) 0 run.text.room
-      → run.text.bytes ≡ [] → MayBegin ring room MayRun run
-  may_begin room MayRun form new rates size may has_room empty =
-      let least = form.nodes_fit.enough in
-      let most = form.nodes_fit.few in
-      let low = form.limit_from_1 in
-      let high = form.limit_small in
+  -- the run of a plan may start
+  pub may_start_of : (MayRun : ℕ → List Step → R → Fibres → Type 0) → IsNew t.new_ring
+      → ((f : Fibres) → MayRun 0 run.script.steps.items run.runner (prepared run.script.rate run.script.nodes f))
+      → MayStart ring MayRun run.runner run.script
+  may_start_of MayRun new may =
+      let least = is.form.nodes_fit.enough in
+      let most = is.form.nodes_fit.few in
+      let low = is.form.limit_from_1 in
+      let high = is.form.limit_small in
+      let nodes = is.script_is.nodes in
+      let limit = is.script_is.limit in
       record {
-        rate = rates ∙ sym (ap (λ (r : HeldRing N). r.settings.rate) is.ring_is ∙ new.rate plan);
-        nodes = size ∙ sym (ap (λ (r : HeldRing N). length r.ids) is.ring_is ∙ ap (λ (l : List ℕ). length l) (new.ids plan));
-        enough = omega (arith, size, least);
-        few = omega (arith, size, most);
+        rate = is.script_is.rate ∙ sym (ap (λ (r : HeldRing N). r.settings.rate) is.ring_is ∙ new.rate plan);
+        nodes = nodes ∙ sym (ap (λ (r : HeldRing N). length r.ids) is.ring_is ∙ ap (λ (l : List ℕ). length l) (new.ids plan));
+        enough = omega (arith, nodes, least);
+        few = omega (arith, nodes, most);
         may = may;
-        limit_from_1 = omega (arith, is.limit_is, low);
-        limit_small = omega (arith, is.limit_is, high);
-        has_room = has_room;
-        empty = empty;
+        limit_from_1 = omega (arith, limit, low);
+        limit_small = omega (arith, limit, high);
       }
 
-  -- what the run of a plan came to is what the plan's script comes to
-  pub came_of : (text_of : T → List ℕ) (f left : Fibres) (text : List ℕ) (end : Status)
-      → Came t.walk run.limit text_of run.steps.items (with_fibres (ring run.runner) f) f text end left
-      → Came t.walk plan.limit text_of plan.steps (world_of t plan f) f text end left
-  came_of text_of f left text end x =
-      subst (λ (r : HeldRing N). Came t.walk plan.limit text_of plan.steps (with_fibres r f) f text end left) is.ring_is
-      (subst (λ (k : ℕ). Came t.walk k text_of plan.steps (with_fibres (ring run.runner) f) f text end left) is.limit_is
-      (subst (λ (l : List Step). Came t.walk run.limit text_of l (with_fibres (ring run.runner) f) f text end left) is.steps_are x))
+  -- what holds of the limit, the steps and the new world of the run holds of those of the plan
+  pub of_plan : (f : Fibres) (Holds : ℕ → List Step → World N → Type 0)
+      → Holds run.script.limit run.script.steps.items (with_fibres (ring run.runner) f) → Holds plan.limit plan.steps (world_of t plan f)
+  of_plan f Holds x =
+      subst (λ (r : HeldRing N). Holds plan.limit plan.steps (with_fibres r f)) is.ring_is
+      (subst (λ (l : List Step). Holds plan.limit l (with_fibres (ring run.runner) f)) is.script_is.steps
+      (subst (λ (k : ℕ). Holds k run.script.steps.items (with_fibres (ring run.runner) f)) is.script_is.limit x))
+
+  -- what the run of a plan wrote is what the plan's script comes to, where nothing is written of a step that didn't end
+  pub came_of : (text_of : T → List ℕ) (f : Fibres) (left : World N) (old new : Option (List ℕ)) (end : Status)
+      → WroteSteps t.walk run.script.limit text_of (λ told. []) run.script.steps.items (with_fibres (ring run.runner) f) f old new end left
+      → (text : List ℕ) × Came t.walk plan.limit text_of plan.steps (world_of t plan f) f text end left.fibres × Appends old new text
+  came_of text_of f left old new end x =
+      came_silent t.walk plan.limit text_of plan.steps (world_of t plan f) f left old new end
+      (of_plan f (λ k l w. WroteSteps t.walk k text_of (λ told. []) l w f old new end left) x)
 
 -- ---- all that is reported
 

@@ -1,28 +1,13 @@
 -- What is true of a run before its fibres are made.
-use Rattle.std.specs.Prelude.{ℕ, ◌≡◌, ◌≤◌, List, [], length}
+use Rattle.std.specs.Prelude.{ℕ, ◌≡◌, ◌≤◌, List, length}
 use Rattle.sdh_plant.specs.Fibres.{Fibres}
 use Rattle.sdh_plant.specs.Calls.{prepared}
 use Rattle.sdh_rounds.specs.Held.{HeldRing}
-use Rattle.sdh_plan.specs.Planned.{Planned}
+use Rattle.sdh_plan.specs.Planned.{Planned, IsPlanned}
 use Rattle.sdh_plan.specs.declared.step.Step.{Step}
-use Rattle.sdh_scripts.specs.Texts.{HasRoom}
 use Rattle.sdh_scripts.specs.Plans.{Account}
 use Rattle.sdh_scripts.specs.declared.run.NewRun.{NewRun}
 use Rattle.sdh_scripts.specs.declared.run.NewScript.{NewScript}
-
--- a run may begin: the rate and the number of nodes are those of its ring, its steps may be run over fibres that are
--- prepared for these, and nothing is written yet
-pub record MayBegin {N R : Type 0} (ring : R → HeldRing N) (room : R → ℕ) (MayRun : ℕ → List Step → R → Fibres → Type 0)
-    (run : NewRun R) : Type 0 where
-  pub rate : run.rate ≡ (ring run.runner).settings.rate
-  pub nodes : run.nodes ≡ length (ring run.runner).ids
-  pub enough : 2 ≤ run.nodes
-  pub few : run.nodes ≤ 16
-  pub may : (f : Fibres) → MayRun 0 run.steps.items run.runner (prepared run.rate run.nodes f)
-  pub limit_from_1 : 1 ≤ run.limit
-  pub limit_small : run.limit ≤ 65536
-  pub has_room : HasRoom (room run.runner) 0 run.text.room
-  pub empty : run.text.bytes ≡ []
 
 -- the rate and the number of nodes of the script are those of the ring that it is run over, and its steps may be run
 -- over fibres that are prepared for these
@@ -36,8 +21,15 @@ pub record MayStart {N R : Type 0} (ring : R → HeldRing N) (MayRun : ℕ → L
   pub limit_from_1 : 1 ≤ script.limit
   pub limit_small : script.limit ≤ 65536
 
+-- the script is that of a plan
+pub record IsScriptOf (plan : Planned) (script : NewScript) : Type 0 where
+  pub rate : script.rate ≡ plan.settings.rate
+  pub nodes : script.nodes ≡ length plan.nodes
+  pub steps : script.steps.items ≡ plan.steps
+  pub limit : script.limit ≡ plan.limit
+
 -- the run is of the script of a plan over the plan's ring
 pub record IsOf {N T R : Type 0} (ring : R → HeldRing N) (t : Account N T) (plan : Planned) (run : NewRun R) : Type 0 where
+  pub form : IsPlanned plan
   pub ring_is : ring run.runner ≡ t.new_ring plan
-  pub limit_is : run.limit ≡ plan.limit
-  pub steps_are : run.steps.items ≡ plan.steps
+  pub script_is : IsScriptOf plan run.script

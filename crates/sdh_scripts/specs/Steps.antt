@@ -1,7 +1,6 @@
 -- What a step of a script changes in a ring of any kind and its fibres before any round runs, and what a script has led
 -- to so far.
 use Rattle.std.specs.Prelude.{ℕ}
-use Rattle.sdh_circuits.specs.declared.PortId.{PortId}
 use Rattle.sdh_plant.specs.Calls.{after_apply}
 use Rattle.sdh_rounds.specs.Held.{HeldRing, World}
 use Rattle.sdh_rounds.specs.Changing.{Changing, at_moment}

@@ -10,6 +10,8 @@ use Rattle.sdh_status.specs.declared.Status.{Status}
 use Rattle.sdh_status.specs.declared.Status.TheVariants as status
 use Rattle.sdh_scripts.specs.Walks.{Walk}
 use Rattle.sdh_scripts.specs.Scripts.{Ended, Breaks}
+use Rattle.sdh_rounds.specs.declared.faults.SettleError.{SettleError}
+use Rattle.sdh_rounds.specs.declared.faults.SettleError.TheVariants as settling
 use Rattle.sdh_scripts.specs.declared.teller.StepError.{StepError}
 use Rattle.sdh_scripts.specs.declared.teller.StepError.TheVariants.{Unsettled, PlantFault, WriteFault}
 
@@ -53,6 +55,11 @@ abbrev pub StopsBy : {N T : Type 0} → Walk N T → ℕ → World N → StepErr
 StopsBy walk limit w Unsettled left = Unsettles walk.station w limit left
 StopsBy walk limit w PlantFault left = Breaks walk limit w left.fibres
 StopsBy walk limit w WriteFault left = Unit {0}
+
+-- a settle step over a ring ends for one of two reasons; no write of its own fails
+abbrev pub step_error : SettleError → StepError
+step_error settling.Unsettled = Unsettled
+step_error settling.PlantFault = PlantFault
 
 -- how a script ends with settle step `number`, by why the step didn't end
 abbrev pub ended_by : StepError → ℕ → Status

@@ -1,55 +1,33 @@
 //! A whole run: the fibres of a script are made, and it runs.
-ghost use Rattle.std.specs.Prelude.{◌≡◌, ◌≢◌, ◌+◌, ◌*◌, ◌≤◌, ◌^◌, true, [], IfOk, OnOk, OnErr};
+ghost use Rattle.std.specs.Prelude.{◌≡◌, ◌≢◌, ◌≤◌, ◌^◌, true, IfOk, OnOk, OnErr};
 ghost use Rattle.sdh_basics.specs.Causes.{Rose, IsCounted};
 ghost use Rattle.sdh_plant.specs.Fibres.{HasNoFibres};
 ghost use Rattle.sdh_status.specs.declared.Status.{Status};
 ghost use Rattle.sdh_rounds.specs.Held.{world};
-ghost use Rattle.sdh_scripts.specs.Texts.{HasRoom, room_for, WriteFailed};
-ghost use Rattle.sdh_scripts.specs.Outcomes.{with_fibres, Came};
+ghost use Rattle.sdh_scripts.specs.Texts.{room_for, WriteFailed};
+ghost use Rattle.sdh_scripts.specs.Outcomes.{with_fibres};
 ghost use Rattle.sdh_scripts.specs.Streams.{WroteSteps};
-ghost use Rattle.sdh_scripts.specs.NewRuns.{MayBegin, MayStart};
+ghost use Rattle.sdh_scripts.specs.NewRuns.{MayStart};
 
-use crate::runner::Runner;
 use crate::script::run_script;
 use crate::teller::Teller;
 use sdh_outside::Output;
 use sdh_plan::Step;
 use sdh_plant::{Plant, PrepareError};
-use sdh_report::{LINE_MAX, Status, Text};
+use sdh_report::{LINE_MAX, Status};
 use sdh_ringmap::Rate;
 use std::alloc::{AllocError, Global};
 
 /// The largest number of settle steps in a script.
 const SETTLES_MAX: usize = 64;
 
-/// A run before its fibres are there: a ring in which no round has run, the rate and the number of its nodes, the
-/// steps, the most rounds that a settle step may run, and a text in which nothing is written.
-#[derive(Drop)]
-pub struct NewRun<R> {
-    pub runner: R,
-    pub rate: Rate,
-    pub nodes: usize,
-    pub steps: Vec<Step>,
-    pub limit: u32,
-    pub text: Text,
-}
-
-/// What a run wrote, and how it ended: `Ok`, `Unsettled` or `PlantFault`. There is room for one more line.
-#[derive(Debug, Drop)]
-pub struct Run {
-    pub status: Status,
-    pub text: Text,
-}
-
-/// Returns an empty text with room for what is written of all settle steps of a script, `each` bytes of each, and for a
-/// last line.
-pub fn text_for(alloc: Global, each: usize) -> Result<Text, AllocError>
+/// Returns room enough, in bytes, for what is written of all settle steps of a script, `each` of each, and for a last
+/// line.
+pub fn script_room(each: usize) -> usize
     requires { each ≤ 2 ^ 32 }
-    ensures empty { IfOk result (λ text. text.bytes ≡ []) }
-    ensures room { IfOk result (λ text. HasRoom each 0 text.room) }
+    ensures { result ≡ room_for each 0 }
 {
-    let text = Text::try_new(alloc, each * SETTLES_MAX + LINE_MAX)?;
-    Ok(text)
+    each * SETTLES_MAX + LINE_MAX
 }
 
 /// A script before its fibres are there: the rate and the number of the nodes of its ring, the steps, and the number of
@@ -62,10 +40,17 @@ pub struct NewScript {
     pub limit: u32,
 }
 
+/// A run before its fibres are there: a ring in which no round has run, with what reports it, and its script.
+#[derive(Drop)]
+pub struct NewRun<R> {
+    pub runner: R,
+    pub script: NewScript,
+}
+
 /// Makes the fibres of a script, runs it over them, and writes what is reported of each settle step as it comes.
 /// Returns how the script ended: `Ok`, `Unsettled` or `PlantFault`; or `WriteFault`, where a write failed, and nothing
 /// more was run. The plant's memory is taken before the first round.
-pub fn start_over<O: Output, P: Plant, R: Teller<O, P>>(
+pub fn run_over<O: Output, P: Plant, R: Teller<O, P>>(
     alloc: Global,
     plant: &mut P,
     runner: &mut R,
@@ -104,48 +89,4 @@ pub fn start_over<O: Output, P: Plant, R: Teller<O, P>>(
         Err(PrepareError::Memory) => Err(AllocError),
         Err(PrepareError::Failed) => Ok(Status::PlantFault),
     }
-}
-
-/// Makes the fibres of a run, and runs its script over them. Returns what it wrote and how it ended. The plant's memory
-/// is taken before the first round.
-pub fn start<R: Runner + Drop, P: Plant>(
-    alloc: Global,
-    plant: &mut P,
-    new_run: NewRun<R>,
-) -> Result<Run, AllocError>
-    requires fresh { HasNoFibres (P.fibres plant.old) }
-    requires ready { MayBegin R.ring R.room R.MayRun new_run }
-
-    // The text is that of one list of reports, which came over the fibres that were prepared for the ring. Where no
-    // fibres could be prepared the list is empty.
-    ensures came { IfOk result (λ run. Came R.walk new_run.limit (R.text_of new_run.runner) new_run.steps.items
-        (with_fibres (R.ring new_run.runner) (P.fibres plant.old)) (P.fibres plant.old) run.text.bytes run.status (P.fibres plant.new)) }
-    ensures failed { IfOk result (λ run. run.status ≡ Status.PlantFault → Rose (P.faults plant.old) (P.faults plant.new)) }
-
-    // Where the plant's count of faults is exact, one call failed if the run ended with a plant fault. None failed with
-    // any other ending, and none where memory ran out.
-    ensures counted { IfOk result (λ run. IsCounted P.exact (run.status ≡ Status.PlantFault) (P.faults plant.old) (P.faults plant.new)) }
-    ensures uncounted { OnErr result (P.exact ≡ true → P.faults plant.new ≡ P.faults plant.old) }
-    ensures later { P.faults plant.old ≤ P.faults plant.new }
-    ensures room { IfOk result (λ run. 96 ≤ run.text.room) }
-
-    // Where memory ran out no fibre was made, and no round has run.
-    ensures unsent { OnErr result (P.fibres plant.new ≡ P.fibres plant.old) }
-{
-    let NewRun {
-        mut runner,
-        rate,
-        nodes,
-        steps,
-        limit,
-        mut text,
-    } = new_run;
-    let script = NewScript {
-        rate,
-        nodes,
-        steps,
-        limit,
-    };
-    let status = start_over(alloc, plant, &mut runner, script, &mut text)?;
-    Ok(Run { status, text })
 }

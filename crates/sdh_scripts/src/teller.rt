@@ -10,7 +10,7 @@ ghost use Rattle.sdh_scripts.specs.Runners.{Refused, WroteStep};
 use sdh_outside::Output;
 use sdh_plan::Step;
 use sdh_plant::Plant;
-use sdh_rounds::PlantFault;
+use sdh_rounds::{PlantFault, SettleError};
 
 /// Why a settle step, with the rounds after it, didn't end.
 #[derive(Clone, Copy, Debug, PartialEq, Eq)]
@@ -23,7 +23,21 @@ pub enum StepError {
     WriteFault,
 }
 
-/// A ring over which the steps of a script run, with fibres of this kind of plant. All that is reported of it is written to an output as it comes.
+impl From<SettleError> for StepError {
+    ghost use Rattle.sdh_scripts.specs.Tellers.{step_error};
+
+    ghost from_gives = { λ why e. e ≡ step_error why };
+
+    fn from(why: SettleError) -> StepError {
+        match why {
+            SettleError::Unsettled => StepError::Unsettled,
+            SettleError::PlantFault => StepError::PlantFault,
+        }
+    }
+}
+
+/// A ring over which the steps of a script run, with fibres of this kind of plant. All that is reported of it is written
+/// to an output as it comes.
 pub trait Teller<O: Output, P: Plant> {
     ghost use Rattle.sdh_scripts.specs.Tellers.{StopsBy, WroteBegun};
 

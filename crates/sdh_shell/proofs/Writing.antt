@@ -1,7 +1,9 @@
 -- What is written, where the source shows its bytes.
-use Rattle.std.proofs.Common.{◌≡◌, ℕ, List, sym, subst}
-use Rattle.std.specs.Prelude.{Option, IfSome}
+use Rattle.std.proofs.Common.{◌≡◌, ℕ, Bool, true, List, sym, subst}
+use Rattle.std.specs.Prelude.{Option, IfSome, Result, Ok, Err, IsErr, OnOk, OnErr}
 use Rattle.std.specs.Io.KnownBytes.{Appends}
+use Rattle.std.proofs.lemmas.Bool.{false≢true}
+use Rattle.sdh_outside.specs.Writing.{AppendsFewer, Wrote}
 use Rattle.sdh_shell.specs.Endings.{Endings}
 use Rattle.sdh_shell.specs.Failing.{Counts, EndsWithCause}
 use Rattle.sdh_shell.specs.Writing.{Telling, Whole, WritesAs, WritesWith, IsShown}
@@ -27,3 +29,19 @@ module _ {E : Type 0} (endings : Endings E) (o : Option (List ℕ)) (is : List �
       (λ how text. is bytes how text × EndsWithCause endings reads calls how) how old new)
       (λ bytes x. writes_whole _ (λ how text. is bytes how text × EndsWithCause endings reads calls how) how text old new shown
       (x, cause) appends) outcome
+
+-- ---- a piece that was put
+
+module _ {T E : Type 0} (exact : Bool) (old new : Option (List ℕ)) (before after : ℕ) (text : List ℕ) (r : Result T E)
+    (w : Wrote exact old new before after text r) where
+  pub put_whole : (x : T) → r ≡ Ok x → Appends old new text
+  put_whole x is = subst (λ (s : Result T E). OnOk s (Appends old new text)) is w.ok
+
+  pub put_front : (e : E) → r ≡ Err e → AppendsFewer old new text
+  put_front e is = subst (λ (s : Result T E). OnErr s (AppendsFewer old new text)) is w.front
+
+  pub put_none : (x : T) → r ≡ Ok x → exact ≡ true → after ≡ before
+  put_none x is e = w.counted.none e (λ h. not_err x (subst (λ (s : Result T E). IsErr s) is h))
+    where
+      not_err : (x : T) → IsErr {T = T} {E = E} (Ok x) → ⊥
+      not_err x h = false≢true h

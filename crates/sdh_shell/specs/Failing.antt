@@ -4,7 +4,7 @@ use Rattle.sdh_basics.specs.Causes.{Rose, IsCounted}
 use Rattle.sdh_outside.specs.Reading.{TakesCount}
 use Rattle.sdh_status.specs.declared.Status.{Status}
 use Rattle.sdh_status.specs.declared.Status.TheVariants as status
-use Rattle.sdh_shell.specs.Endings.{Endings, statuses}
+use Rattle.sdh_shell.specs.Endings.{Endings}
 
 -- the count of failed calls of a source or a plant, before and after a call of the program
 pub record Counts : Type 0 where

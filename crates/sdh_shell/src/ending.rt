@@ -1,5 +1,5 @@
 //! How a program ends.
-ghost use Rattle.std.specs.Prelude.{◌≡◌, ◌≤◌, ◌++◌};
+ghost use Rattle.std.specs.Prelude.{◌≡◌, ◌≤◌, ◌++◌, length};
 ghost use Rattle.sdh_shell.specs.Endings.{Endings, statuses};
 
 use sdh_report::laws::last_line_is_short;
@@ -14,10 +14,11 @@ pub trait Ends: Copy {
     fn of(status: Status) -> Self
         ensures { result ≡ endings.of status };
 
-    /// Appends the last line of the text that goes with an ending. The text has room for 96 bytes more.
+    /// Appends the last line of the text that goes with an ending, which has at most 96 bytes.
     fn put_line(&self, text: &mut Text)
         requires room { 96 ≤ text.old.room }
-        ensures bytes { text.new.bytes ≡ text.old.bytes ++ endings.line self.now };
+        ensures bytes { text.new.bytes ≡ text.old.bytes ++ endings.line self.now }
+        ensures short { length (endings.line self.now) ≤ 96 };
 }
 
 impl Ends for Status {

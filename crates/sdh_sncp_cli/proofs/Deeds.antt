@@ -1,27 +1,31 @@
 -- What is done with a plan.
-use Rattle.std.proofs.Common.{◌≡◌, ℕ, Some, None, List, ◌++◌, refl, ap, sym, ◌∙◌, subst, arith}
-use Rattle.std.specs.Prelude.{Result, Err}
-use Rattle.sdh_plant.specs.Fibres.{Fibres}
+use Rattle.std.proofs.Common.{◌≡◌, ℕ, Some, None, List, [], refl, ap, ap₂, sym, ◌∙◌, subst, arith, inl, inr}
+use Rattle.std.specs.Prelude.{Option, Result, Err}
+use Rattle.std.proofs.lemmas.Bool.{cases_order}
+use Rattle.std.specs.Io.KnownBytes.{Appends}
+use Rattle.sdh_circuits.specs.Provisioned.{Provisioned}
 use Rattle.sdh_plan.specs.Planned.{Planned}
 use Rattle.sdh_report.specs.Reports.{report_text}
-use Rattle.sdh_status.specs.declared.Status.{Status}
-use Rattle.sdh_report.specs.Statuses.{last_line}
-use Rattle.sdh_shell.specs.Endings.{RefusesPlan}
+use Rattle.sdh_scripts.specs.NewRuns.{IsOf}
+use Rattle.sdh_scripts.proofs.Plans.{came_of}
 use Rattle.sdh_programs.specs.Programs.{Deed, Refuses, Writes, Runs}
-use Rattle.sdh_programs.specs.Outcome.{OfPlan}
-use Rattle.sdh_programs.specs.Headline.{MayGo, may_do}
+use Rattle.sdh_programs.specs.Deeds.{IsOnly}
+use Rattle.sdh_programs.specs.Laws.{StepsAreReported}
 use Rattle.sdh_programs.proofs.Promises.{RunsAlone}
-use Rattle.sdh_programs.proofs.Deeds.{run_outcome}
 use Rattle.sdh_sncp.specs.Fixed.{AreAlone}
-use Rattle.sdh_sncp.specs.Sharing.{AreFirstToShare}
+use Rattle.sdh_sncp.specs.Sharing.{Share, AreFirstToShare}
 use Rattle.sdh_sncp.specs.declared.ring.PathError.{PathError}
 use Rattle.sdh_sncp.specs.declared.ring.PathError.TheVariants.{SameSlot}
 use Rattle.sdh_sncp_cli.specs.Steps.{first_strange, AreKnown}
-use Rattle.sdh_sncp_cli.specs.Plans.{path_account, Tells}
-use Rattle.sdh_sncp_cli.specs.Endings.{line_of, path_endings}
+use Rattle.sdh_sncp_cli.specs.Walking.{path_walk}
+use Rattle.sdh_sncp_cli.specs.Running.{running_ring}
+use Rattle.sdh_sncp_cli.specs.Laws.{ReportsAreDue, PathScriptsSettle}
+use Rattle.sdh_sncp_cli.specs.Plans.{path_account}
 use Rattle.sdh_sncp_cli.specs.Outcome.{Does, pathing}
 use Rattle.sdh_sncp_cli.specs.declared.ending.Ending.{Ending}
 use Rattle.sdh_sncp_cli.specs.declared.ending.Ending.TheVariants as ending
+use Rattle.sdh_sncp_cli.specs.declared.script.PathRun.{PathRun}
+use Rattle.sdh_sncp_cli.proofs.Plans.{tells}
 
 -- ---- one thing is done with it
 
@@ -45,43 +49,66 @@ run_alone plan listing (Refuses (ending.Shared how)) does other = absurd other
 run_alone plan listing (Writes told) does other = absurd other
 run_alone plan listing (Runs listed) does other = refl
 
--- ---- what it comes to
+pub run_only : (plan : Planned) → AreKnown plan.steps → AreAlone plan.circuits → IsOnly pathing tt plan (Runs tt)
+run_only plan known alone = record { does = (known, alone); only = λ other d. run_alone plan tt other (known, alone) d }
+
+-- a number is one number
+some_same : (a b : ℕ) → ◌≡◌ {A = Option ℕ} (Some a) (Some b) → a ≡ b
+some_same a b e = grind arith
+
+-- the first step that a path ring doesn't have is one step
+pub strange_only : (plan : Planned) (step : ℕ) → first_strange plan.steps ≡ Some step
+    → IsOnly pathing tt plan (Refuses (ending.NoSuchStep step))
+strange_only plan step is = record { does = is; only = only }
+  where
+    only : (other : Deed (Unit {0}) Ending) → Does plan other → other ≡ Refuses (ending.NoSuchStep step)
+    only (Refuses (ending.NoSuchStep found)) d = ap (λ k. Refuses (ending.NoSuchStep k)) (some_same found step (sym d ∙ is))
+    only (Refuses (ending.SameSlot first second)) d = none_strange plan step _ d.0 is
+    only (Refuses (ending.Shared how)) d = absurd d
+    only (Writes told) d = absurd d
+    only (Runs listing) d = none_strange plan step _ d.0 is
+
+-- no other two circuits are the first that share a slot
+first_shared : (cs : List Provisioned) (i j k l : ℕ) → AreFirstToShare cs i j → AreFirstToShare cs k l → (i ≡ k) × (j ≡ l)
+first_shared cs i j k l x y =
+    let second : j ≡ l = elim (cases_order j l) [
+      | inl same ↦ same
+      | inr (inl before) ↦ absurd (y.least_second i j x.order before x.share)
+      | inr (inr after) ↦ absurd (x.least_second k l y.order after y.share)
+    ] in (
+      elim (cases_order i k) [
+        | inl same ↦ same
+        | inr (inl before) ↦ absurd (y.least_first i before (subst (Share cs i) second x.share))
+        | inr (inr after) ↦ absurd (x.least_first k after (subst (Share cs k) (sym second) y.share))
+      ],
+      second,
+    )
+
+-- the first two circuits that share a slot are two circuits
+pub share_only : (plan : Planned) (first second : ℕ) → AreKnown plan.steps → AreFirstToShare plan.circuits first second
+    → IsOnly pathing tt plan (Refuses (ending.SameSlot first second))
+share_only plan first second known share = record { does = (known, share); only = only }
+  where
+    only : (other : Deed (Unit {0}) Ending) → Does plan other → other ≡ Refuses (ending.SameSlot first second)
+    only (Refuses (ending.NoSuchStep step)) d = none_strange plan step _ known d
+    only (Refuses (ending.SameSlot i j)) d =
+        let same = first_shared plan.circuits i j first second d.1 share in
+        ap₂ (λ a b. Refuses (ending.SameSlot a b)) same.0 same.1
+    only (Refuses (ending.Shared how)) d = absurd d
+    only (Writes told) d = absurd d
+    only (Runs listing) d = none_share plan first second _ d.1 share
 
 pub slot_error : {T : Type 0} (why : PathError) (first second : ℕ) → why ≡ SameSlot first second
     → ◌≡◌ {A = Result T PathError} (Err why) (Err (SameSlot first second))
 slot_error why first second is = ap (λ (w : PathError). Err w) is
 
-module _ (plan : Planned) (f : Fibres) where
-  pub ran_deed : (left : Fibres) (run text : List ℕ) (now : Status) (how : Ending) → AreKnown plan.steps → AreAlone plan.circuits
-      → how ≡ ending.Shared now → text ≡ run ++ last_line now → Tells plan f run now left → OfPlan pathing tt plan f how text left
-  ran_deed left run text now how known alone is text_is x = (
-    Runs tt,
-    (known, alone),
-    run_outcome pathing refl path_account tt plan f left report_text (λ told. refl) (λ told end came. came) run text
-        now how is (text_is ∙ ap (λ e. run ++ line_of e) (sym is)) x,
-  )
+-- ---- what its run comes to
 
-  refused_deed : (why how : Ending) (text : List ℕ) (left : Fibres) → RefusesPlan path_endings why → Does plan (Refuses why) → how ≡ why
-      → text ≡ line_of why → left ≡ f → OfPlan pathing tt plan f how text left
-  refused_deed why how text left refuses does is text_is same =
-      (Refuses why, does, (is, subst (RefusesPlan path_endings) (sym is) refuses, (text_is ∙ ap line_of (sym is), same)))
-
-  pub slot_deed : (first second : ℕ) (how : Ending) (text : List ℕ) (left : Fibres) → AreKnown plan.steps
-      → AreFirstToShare plan.circuits first second → how ≡ ending.SameSlot first second → text ≡ line_of (ending.SameSlot first second)
-      → left ≡ f → OfPlan pathing tt plan f how text left
-  slot_deed first second how text left known share is text_is same =
-      refused_deed (ending.SameSlot first second) how text left tt (known, share) is text_is same
-
-  pub step_deed : (step : ℕ) (how : Ending) (text : List ℕ) → first_strange plan.steps ≡ Some step → how ≡ ending.NoSuchStep step
-      → text ≡ line_of (ending.NoSuchStep step) → OfPlan pathing tt plan f how text f
-  step_deed step how text strange is text_is = refused_deed (ending.NoSuchStep step) how text f tt strange is text_is refl
-
-  -- ---- with which it may go
-
-  may_deed : (deed : Deed (Unit {0}) Ending) → Does plan deed → may_do pathing deed plan f → AreAlone plan.circuits
-  may_deed (Refuses why) does may = absurd may
-  may_deed (Writes told) does may = absurd does
-  may_deed (Runs listing) does may = does.1
-
-  pub share_stays : (first second : ℕ) (A : Type 0) → AreFirstToShare plan.circuits first second → MayGo pathing tt plan f → A
-  share_stays first second A share x = none_share plan first second A (may_deed x.0 x.1 x.2) share
+-- what was written of the steps of a plan is what is listed of a run of the plan
+pub reported : ReportsAreDue → PathScriptsSettle
+    → StepsAreReported pathing path_walk running_ring (λ (r : PathRun) told. report_text told) (λ r told. [])
+    (λ listing plan run. IsOf running_ring path_account plan run × AreKnown plan.steps × AreAlone plan.circuits) (λ told end ring. Unit {0})
+reported owed settles listing plan run f old new end left begins fresh x =
+    let y = came_of running_ring path_account plan run begins.0 report_text f left old new end x in
+    let t = tells owed settles plan f left.fibres y.0 end begins.0.form begins.1 begins.2 fresh.honest y.1 in
+    record { told = t.reports; came = t.came; text = subst (Appends old new) t.text_is y.2; leaves = tt }

@@ -15,16 +15,14 @@ use Rattle.sdh_shell.specs.Calls as shell
 use Rattle.sdh_shell.specs.Failing.{Counts}
 use Rattle.sdh_shell.specs.Writing.{WritesWith}
 use Rattle.sdh_shell.proofs.Asked.{is_asked}
-use Rattle.sdh_programs.specs.Programs.{Runs}
 use Rattle.sdh_programs.specs.Outcome.{MayEnd}
 use Rattle.sdh_programs.specs.Outcome as outcome
-use Rattle.sdh_programs.specs.Headline as headline
 use Rattle.sdh_programs.proofs.Promises.{SettlesLarge, EndsKnown, shows}
 use Rattle.sdh_sncp_cli.specs.Plans.{world_of, ran_of}
 use Rattle.sdh_sncp_cli.specs.Promise.{OwesAll}
 use Rattle.sdh_sncp_cli.specs.Endings.{number_of, line_of, path_endings}
 use Rattle.sdh_sncp_cli.specs.Outcome.{pathing, told}
-use Rattle.sdh_sncp_cli.specs.Headline.{IsRunPlan, RanTo, HasRun, Delivers, EndsAsItRuns, AlwaysSettles, MayBeDone}
+use Rattle.sdh_sncp_cli.specs.Headline.{IsRunPlan, RanTo, HasRun, Delivers, EndsAsItRuns, AlwaysSettles}
 use Rattle.sdh_sncp_cli.specs.declared.ending.Ending.{Ending}
 use Rattle.sdh_sncp_cli.specs.declared.ending.Ending.TheVariants as ending
 use Rattle.sdh_sncp_cli.proofs.Deeds.{run_alone}
@@ -126,10 +124,3 @@ pub told_then : (words : List (List ℕ)) (o : Option (List ℕ)) (Q R : List �
 told_then words None Q R h x = tt
 told_then words (Some bytes) Q R h x =
     h bytes (λ run. subst (λ a. IfSome (outcome.told pathing a (Some bytes)) Q) (is_asked words run) x)
-
--- all that a run needs is given for what is asked
-pub given : (words : List (List ℕ)) (o : Option (List ℕ)) (f : Fibres) → MayBeDone words o f
-    → (asked_to_run words ≡ Some tt) × headline.MayBeDone pathing tt o f
-given words None f x = absurd x
-given words (Some bytes) f x =
-    (is_asked words x.1.words_are, (x.0, x.1.tells, (Runs tt, (x.1.known, x.1.alone), x.2)))

@@ -1,5 +1,5 @@
 -- What the program promises of a plan that is run: what each port is owed over honest fibres, and how it ends.
-use Rattle.std.specs.Prelude.{◌≡◌, ◌≢◌, ◌⊎◌, ℕ, ◌≤◌, List, ◌++◌, length, Option, Some, None}
+use Rattle.std.specs.Prelude.{◌≡◌, ◌≢◌, ◌⊎◌, ℕ, ◌≤◌, List, ◌++◌, length, Option}
 use Rattle.std.specs.Io.KnownBytes.{Appends}
 use Rattle.sdh_plant.specs.Fibres.{Fibres}
 use Rattle.sdh_plant.specs.Arrivals.{Knows}
@@ -14,7 +14,7 @@ use Rattle.sdh_shell.specs.Reading.{TellsPlan}
 use Rattle.sdh_sncp.specs.Fixed.{AreAlone}
 use Rattle.sdh_sncp_cli.specs.Steps.{AreKnown}
 use Rattle.sdh_sncp_cli.specs.Promise.{OwesAll}
-use Rattle.sdh_sncp_cli.specs.Plans.{world_of, ran_of, MaySettle}
+use Rattle.sdh_sncp_cli.specs.Plans.{world_of, ran_of}
 use Rattle.sdh_shell.specs.Calls.{AreRun}
 
 -- The words ask for a run, and these are the bytes of this plan. All its steps are those of a path ring, and no two of
@@ -54,9 +54,3 @@ EndsAsItRuns words bytes f number =
 -- no settle step is unsettled if the limit is large enough
 abbrev pub AlwaysSettles : List (List ℕ) → List ℕ → ℕ → Type 0
 AlwaysSettles words bytes number = (plan : Planned) → IsRunPlan words bytes plan → enough_for (length plan.nodes) ≤ plan.limit → number ≢ 7
-
--- The words ask for a run, the bytes of the source are known and are those of a plan, and its script settles. Over
--- honest fibres it does so where the limit is large.
-abbrev pub MayBeDone : List (List ℕ) → Option (List ℕ) → Fibres → Type 0
-MayBeDone words None f = ⊥
-MayBeDone words (Some bytes) f = (plan : Planned) × IsRunPlan words bytes plan × MaySettle plan f

@@ -1,11 +1,11 @@
 -- How a call of the program ends: each ending, when it comes, and the text that goes with it.
-use Rattle.std.specs.Prelude.{◌≡◌, ℕ, Bool, List, codes, Option, Some, None}
+use Rattle.std.specs.Prelude.{◌≡◌, ℕ, List, codes, Option, Some, None}
 use Rattle.sdh_plant.specs.Fibres.{Fibres}
 use Rattle.sdh_plan.specs.Planned.{Planned}
 use Rattle.sdh_report.specs.Reports.{Report, text_of}
 use Rattle.sdh_report.specs.declared.listing.Listing.TheVariants as listing
 use Rattle.sdh_shell.specs.Calls.{asked_to_run}
-use Rattle.sdh_shell.specs.Failing.{Counts, CameToEnding}
+use Rattle.sdh_shell.specs.Failing.{Counts}
 use Rattle.sdh_programs.specs.Programs.{Deed, Refuses, Writes, Runs, as_script, Program}
 use Rattle.sdh_programs.specs.Outcome as outcome
 use Rattle.sdh_sncp.specs.Fixed.{AreAlone}

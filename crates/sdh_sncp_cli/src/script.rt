@@ -1,17 +1,17 @@
 //! A path ring over which a script is run.
-ghost use Rattle.std.specs.Prelude.{length};
+ghost use Rattle.std.specs.Prelude.{[], length};
 ghost use Rattle.sdh_report.specs.Reports.{Report, report_text};
 ghost use Rattle.sdh_scripts.specs.Ports.{lines_room};
 ghost use Rattle.sdh_sncp.specs.Node.{PathNode};
 ghost use Rattle.sdh_sncp_cli.specs.Walking.{path_walk};
-ghost use Rattle.sdh_sncp_cli.specs.Running.{MayRun as MayRunPath};
+ghost use Rattle.sdh_sncp_cli.specs.Running.{MayRunPath};
 
 use crate::reports::put_report;
 use sdh_plan::Step;
 use sdh_plant::Plant;
 use sdh_report::Text;
-use sdh_rounds::{PlantFault, SettleError};
-use sdh_scripts::Runner;
+use sdh_rounds::PlantFault;
+use sdh_scripts::{StepError, Teller};
 use sdh_sncp::PathRing;
 
 /// A path ring, which writes a report of each settle step.
@@ -20,7 +20,7 @@ pub struct PathRun {
     pub ring: PathRing,
 }
 
-impl Runner for PathRun {
+impl<P: Plant> Teller<Text, P> for PathRun {
     ghost Node = { PathNode };
 
     ghost Told = { Report };
@@ -31,26 +31,28 @@ impl Runner for PathRun {
 
     ghost text_of = { λ r told. report_text told };
 
+    ghost begun_of = { λ r told. [] };
+
     ghost room = { λ r. lines_room (length r.ring.circuits.circuits) };
 
-    ghost MayRun = { λ number steps r f. MayRunPath number steps r.ring f };
+    ghost MayRun = { MayRunPath };
 
-    fn change<P: Plant>(&mut self, plant: &mut P, step: Step) -> Result<(), PlantFault> {
+    fn change(&mut self, plant: &mut P, step: Step) -> Result<(), PlantFault> {
         match step {
             Step::Fibre(event) => Ok(plant.apply(event)?),
             _ => Ok(()),
         }
     }
 
-    fn settle<P: Plant>(
+    fn settle(
         &mut self,
         plant: &mut P,
         limit: u32,
         number: u32,
-        text: &mut Text,
-    ) -> Result<(), SettleError> {
+        output: &mut Text,
+    ) -> Result<(), StepError> {
         self.ring.settle(plant, limit)?;
-        put_report(text, &self.ring, number + 1);
+        put_report(output, &self.ring, number + 1);
         Ok(())
     }
 

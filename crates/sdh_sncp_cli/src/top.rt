@@ -55,5 +55,5 @@ pub fn sdhpath<R: Source, W: Sink, P: Plant>(
         (around R.faults R.exact R.left source.old source.new)
         (around W.faults W.exact W.written sink.old sink.new) (around P.faults P.exact P.fibres plant.old plant.new) how }
 {
-    call::<Pathing, R, W, P>(alloc, words, source, sink, plant).number()
+    call::<P, Pathing, R, W>(alloc, words, source, sink, plant).number()
 }

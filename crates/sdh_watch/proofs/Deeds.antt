@@ -1,16 +1,22 @@
 -- What the program does with a plan.
-use Rattle.std.proofs.Common.{◌≡◌, ℕ, Some, List, ◌++◌, refl, ap, sym, ◌∙◌}
-use Rattle.sdh_plant.specs.Fibres.{Fibres}
+use Rattle.std.proofs.Common.{Some, [], refl, sym, subst, ◌∙◌}
+use Rattle.std.specs.Io.KnownBytes.{Appends}
 use Rattle.sdh_plan.specs.Planned.{Planned}
-use Rattle.sdh_status.specs.declared.Status.{Status}
-use Rattle.sdh_report.specs.Statuses.{last_line}
+use Rattle.sdh_scripts.specs.NewRuns.{IsOf}
+use Rattle.sdh_scripts.proofs.Plans.{came_of}
 use Rattle.sdh_programs.specs.Programs.{Runs}
-use Rattle.sdh_programs.specs.Outcome.{OfPlan}
+use Rattle.sdh_programs.specs.Deeds.{IsOnly}
+use Rattle.sdh_programs.specs.Laws.{StepsAreReported}
 use Rattle.sdh_programs.proofs.Promises.{RunsAlone, NeverWrites}
-use Rattle.sdh_programs.proofs.Deeds.{run_outcome, listing_writes}
+use Rattle.sdh_programs.proofs.Deeds.{listing_writes}
+use Rattle.sdh_watch.specs.Scripts.{watch_walk}
+use Rattle.sdh_watch.specs.Running.{running_ring}
+use Rattle.sdh_watch.specs.Laws.{WatchesAreClean, ScriptsSettle}
 use Rattle.sdh_watch.specs.Lines.{watched_text}
-use Rattle.sdh_watch.specs.Plans.{watch_account, Tells}
+use Rattle.sdh_watch.specs.Plans.{watch_account}
 use Rattle.sdh_watch.specs.Headline.{watching}
+use Rattle.sdh_watch.specs.declared.script.WatchRun.{WatchRun}
+use Rattle.sdh_watch.proofs.Plans.{tells}
 
 pub run_alone : RunsAlone watching tt
 run_alone plan listing deed does other = other ∙ sym does
@@ -18,12 +24,14 @@ run_alone plan listing deed does other = other ∙ sym does
 pub never_writes : NeverWrites watching tt
 never_writes plan told does = listing_writes (Some tt) told does
 
--- the run of a plan is what is asked
-pub run_of_plan : (plan : Planned) (f left : Fibres) (run text : List ℕ) (now how : Status) → how ≡ now → text ≡ run ++ last_line now
-    → Tells plan f run now left → OfPlan watching tt plan f how text left
-run_of_plan plan f left run text now how is text_is x = (
-  Runs tt,
-  refl,
-  run_outcome watching refl watch_account tt plan f left watched_text (λ told. refl) (λ told end came. came) run text now how is
-      (text_is ∙ ap (λ e. run ++ last_line e) (sym is)) x,
-)
+pub run_only : (plan : Planned) → IsOnly watching tt plan (Runs tt)
+run_only plan = record { does = refl; only = λ other d. d }
+
+-- what was written of the steps of a plan is what is listed of a run of the plan
+pub reported : WatchesAreClean → ScriptsSettle
+    → StepsAreReported watching watch_walk running_ring (λ (r : WatchRun) told. watched_text told) (λ r told. [])
+    (λ listing plan run. IsOf running_ring watch_account plan run) (λ told end ring. Unit {0})
+reported clean settles listing plan run f old new end left is fresh x =
+    let y = came_of running_ring watch_account plan run is watched_text f left old new end x in
+    let t = tells clean settles plan f left.fibres y.0 end is.form fresh.honest y.1 in
+    record { told = t.reports; came = t.came; text = subst (Appends old new) t.text_is y.2; leaves = tt }

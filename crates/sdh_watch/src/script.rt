@@ -1,5 +1,5 @@
 //! A ring with watches on its ports, over which a script is run.
-ghost use Rattle.std.specs.Prelude.{◌≡◌, ◌+◌, ◌≤◌, ◌++◌, List, length};
+ghost use Rattle.std.specs.Prelude.{◌≡◌, ◌+◌, ◌≤◌, ◌++◌, List, [], length};
 ghost use Rattle.sdh_circuits.specs.declared.PortId.{PortId};
 ghost use Rattle.sdh_node.specs.Node.{Node as AddDrop};
 ghost use Rattle.sdh_node.specs.Rings.Held.{HeldRing};
@@ -10,14 +10,14 @@ ghost use Rattle.sdh_watch.specs.Scripts.{watch_walk};
 ghost use Rattle.sdh_watch.specs.Lines.{watched_text};
 ghost use Rattle.sdh_watch.specs.Ports.{AreWatching};
 ghost use Rattle.sdh_scripts.specs.Ports.{lines_room};
-ghost use Rattle.sdh_watch.specs.Running.{MayRun as MayWatch};
+ghost use Rattle.sdh_watch.specs.Running.{MayWatch};
 
 use crate::ports::{WatchPair, put_watches, watch_rounds};
 use sdh_plan::Step;
 use sdh_plant::Plant;
 use sdh_report::Text;
-use sdh_ring::{PlantFault, Ring, SettleError};
-use sdh_scripts::{Runner, change, put_settle};
+use sdh_ring::{PlantFault, Ring};
+use sdh_scripts::{StepError, Teller, change, put_settle};
 
 /// A ring, and the watches on its ports.
 #[derive(Drop)]
@@ -41,7 +41,7 @@ fn put_step(text: &mut Text, ring: &Ring, number: u32, rounds: u64, watches: &Ve
     put_watches(text, ring, watches);
 }
 
-impl Runner for WatchRun {
+impl<P: Plant> Teller<Text, P> for WatchRun {
     ghost Node = { AddDrop };
 
     ghost Told = { Watched };
@@ -52,30 +52,32 @@ impl Runner for WatchRun {
 
     ghost text_of = { λ r told. watched_text told };
 
+    ghost begun_of = { λ r told. [] };
+
     ghost room = { λ r. lines_room (length r.ring.circuits.circuits) };
 
-    ghost MayRun = { λ number steps r f. MayWatch number steps r.ring r.watches.items f };
+    ghost MayRun = { MayWatch };
 
-    fn change<P: Plant>(&mut self, plant: &mut P, step: Step) -> Result<(), PlantFault> {
+    fn change(&mut self, plant: &mut P, step: Step) -> Result<(), PlantFault> {
         change(&mut self.ring, plant, step)?;
         Ok(())
     }
 
-    fn settle<P: Plant>(
+    fn settle(
         &mut self,
         plant: &mut P,
         limit: u32,
         number: u32,
-        text: &mut Text,
-    ) -> Result<(), SettleError> {
+        output: &mut Text,
+    ) -> Result<(), StepError> {
         self.ring.settle(plant, limit)?;
         let rounds = self.ring.rounds();
         match watch_rounds(&mut self.ring, plant, &mut self.watches) {
             Ok(()) => {
-                put_step(text, &self.ring, number + 1, rounds, &self.watches);
+                put_step(output, &self.ring, number + 1, rounds, &self.watches);
                 Ok(())
             }
-            Err(_) => Err(SettleError::PlantFault),
+            Err(_) => Err(StepError::PlantFault),
         }
     }
 

@@ -40,6 +40,7 @@ write_ended-requires g c =
       shown =
           subst (IsShown bench_endings) (sym (c.ended.ensures.ending ∙ c.ending_of.ensures))
           (stop_shown stopped.stop stopped.number c.in_default.not-WriteFault);
+      room = tt;
     }
 
 pub returns-in_default-clause-outcome : goal.returns-in_default-clause-outcome
@@ -48,7 +49,7 @@ returns-in_default-clause-outcome g c = λ ask plan at found is.
     let now = g.R.Source.left c.serve-stopped.new.source in
     let old = g.W.Sink.written c.args.sink.now in
     let mid = g.W.Sink.written c.serve-stopped.new.sink in
-    let new = g.W.Sink.written c.write_ended.new.sink in
+    let new = g.W.Sink.written c.write_ended.new.output in
     let stopped = c.serve-stopped.result in
     let not = c.in_default.not-WriteFault in
     let served = c.serve-stopped.ensures.served not in

@@ -6,7 +6,6 @@ use Rattle.sdh_shell.specs.Failing.{Counts}
 use Rattle.sdh_shell.specs.Reading.{told_if}
 use Rattle.sdh_shell.specs.Writing.{Writes}
 use Rattle.sdh_owed.specs.Plans.{world_of}
-use Rattle.sdh_shell.specs.Reading.{HasRead}
 use Rattle.sdh_programs.specs.Outcome.{MayEnd}
 use Rattle.sdh_programs.specs.Headline.{AlwaysSettles}
 use Rattle.sdh_programs.proofs.Stages.{reads_all}

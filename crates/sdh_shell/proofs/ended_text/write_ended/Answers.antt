@@ -3,6 +3,7 @@ use Rattle.std.specs.Io.KnownBytes.{Appends}
 use Rattle.sdh_outside.specs.Writing.{AppendsFewer}
 use Rattle.sdh_status.specs.declared.Status.TheVariants as status
 use Rattle.sdh_shell.specs.Writing.{Whole, Front, telling_in, telling_if}
+use Rattle.sdh_shell.proofs.Writing.{put_whole, put_front, put_none}
 use Rattle.sdh_shell.proofs.ended_text.write_ended.Goals as goal
 
 front_whole : Front ≡ Whole → ⊥
@@ -10,7 +11,12 @@ front_whole h = grind arith
 
 pub returns-in-Ok-clause-wrote : goal.returns-in-Ok-clause-wrote
 returns-in-Ok-clause-wrote g c =
-    inl (refl, subst (Appends (g.W.Sink.written c.args.sink.now) (g.W.Sink.written c.write_text.new.sink)) c.bytes.ensures c.in-Ok.ensures.ok)
+    inl (
+      refl,
+      subst (Appends (g.O.Output.written c.args.output.now) (g.O.Output.written c.put.new.self)) c.bytes.ensures
+          (put_whole g.O.Output.exact (g.O.Output.written c.args.output.now) (g.O.Output.written c.put.new.self) (g.O.Output.faults c.args.output.now)
+          (g.O.Output.faults c.put.new.self) c.bytes.result.now c.put.result c.put.ensures.wrote _ c.in-Ok.is),
+    )
 
 -- what is shown is no write fault
 pub returns-in-Ok-clause-fault : goal.returns-in-Ok-clause-fault
@@ -22,12 +28,15 @@ pub returns-in-Ok-clause-writes : goal.returns-in-Ok-clause-writes
 returns-in-Ok-clause-writes g c = record {
   one = λ x e. absurd (front_whole (sym (ap (telling_in g.E.Ends.endings) e ∙ ap telling_if (g.E.Ends.endings.shared_of status.WriteFault))
       ∙ c.requires.shown));
-  none = λ x no. c.in-Ok.ensures.counted.none x (λ e. cc);
+  none = λ x no. put_none g.O.Output.exact (g.O.Output.written c.args.output.now) (g.O.Output.written c.put.new.self) (g.O.Output.faults c.args.output.now)
+      (g.O.Output.faults c.put.new.self) c.bytes.result.now c.put.result c.put.ensures.wrote _ c.in-Ok.is x;
 }
 
 pub returns-clause-wrote : goal.returns-clause-wrote
 returns-clause-wrote g c =
     inr (
       c.of.ensures,
-      subst (AppendsFewer (g.W.Sink.written c.args.sink.now) (g.W.Sink.written c.write_text.new.sink)) c.bytes.ensures c.in-Err.ensures.front,
+      subst (AppendsFewer (g.O.Output.written c.args.output.now) (g.O.Output.written c.put.new.self)) c.bytes.ensures
+          (put_front g.O.Output.exact (g.O.Output.written c.args.output.now) (g.O.Output.written c.put.new.self) (g.O.Output.faults c.args.output.now)
+          (g.O.Output.faults c.put.new.self) c.bytes.result.now c.put.result c.put.ensures.wrote _ c.in-Err.is),
     )

@@ -1,10 +1,10 @@
-use Rattle.std.proofs.Common.{List, ℕ, ap, ◌∙◌, inl, inr}
+use Rattle.std.proofs.Common.{List, ℕ}
 use Rattle.sdh_shell.specs.Calls.{words_of, asked_to_run}
 use Rattle.sdh_shell.specs.Failing.{Counts}
 use Rattle.sdh_shell.specs.Writing.{WritesWith}
 use Rattle.sdh_shell.proofs.Told.{told_all}
 use Rattle.sdh_programs.specs.Outcome.{MayEnd}
-use Rattle.sdh_sncp_cli.specs.Endings.{number_of, path_endings}
+use Rattle.sdh_sncp_cli.specs.Endings.{path_endings}
 use Rattle.sdh_sncp_cli.specs.Outcome.{pathing, Answers, told}
 use Rattle.sdh_sncp_cli.specs.Headline.{Delivers, EndsAsItRuns, AlwaysSettles}
 use Rattle.sdh_sncp_cli.specs.declared.ending.Ending.{Ending}

@@ -2,7 +2,6 @@ use Rattle.std.proofs.Common.{List, ℕ, refl, subst, inl, inr}
 use Rattle.std.specs.Prelude.{IfSome}
 use Rattle.sdh_plant.specs.Arrivals.{Knows}
 use Rattle.sdh_status.specs.declared.Status.{Status}
-use Rattle.sdh_status.specs.Numbers.{number_of}
 use Rattle.sdh_shell.specs.Calls.{words_of}
 use Rattle.sdh_shell.specs.Endings.{statuses}
 use Rattle.sdh_shell.specs.Failing.{Counts}

@@ -1,7 +1,7 @@
-use Rattle.std.proofs.Common.{◌≡◌, ℕ, ◌+◌, List, Err, length, ap, refl, subst, arith, le_refl}
+use Rattle.std.proofs.Common.{◌≡◌, ℕ, ◌+◌, List, length, ap, refl, arith, le_refl}
 use Rattle.std.proofs.KnownBytes.{Appends-nil}
 use Rattle.sdh_circuits.specs.declared.PortId.{PortId}
-use Rattle.sdh_rounds.specs.declared.faults.SettleError.{SettleError}
+use Rattle.std.proofs.lemmas.Result.{err_from_is_err_and}
 use Rattle.sdh_node.specs.Rings.Held.{HeldRing}
 use Rattle.sdh_node.specs.Rings.Rounds.{World, world}
 use Rattle.sdh_owed.proofs.Standing.{long_step}
@@ -9,7 +9,7 @@ use Rattle.sdh_owed.proofs.Steps.{settled_held, settled_whole, next_by}
 use Rattle.sdh_aps_cli.specs.Frames.{frames_bytes}
 use Rattle.sdh_aps_cli.specs.Signalled.{Signalled}
 use Rattle.sdh_aps_cli.specs.declared.window.FrameWindow.{FrameWindow}
-use Rattle.sdh_aps_cli.proofs.Steps.{on_err_is, on_ok_is, begun_some, unsettled_some, cut_some, wrote_ended}
+use Rattle.sdh_aps_cli.proofs.Steps.{on_ok_is, not_ended, cut_some, wrote_ended}
 use Rattle.sdh_aps_cli.proofs.framing.FrameRunTeller.settle.Goals as goal
 
 pub settle_recording-requires-clause-ready : goal.settle_recording-requires-clause-ready
@@ -34,48 +34,37 @@ returns-in_default-clause-begun g c =
     cut_some w left c.args.limit (c.args._number + 1) text text (g.W.Sink.written c.args.output.now)
     (g.W.Sink.written c.settle_recording.new.log) _ c.in_default.ensures.stopped.ran (λ at k x. x.0)
 
-pub returns-in-Err-Unsettled-clause-begun : goal.returns-in-Err-Unsettled-clause-begun
-returns-in-Err-Unsettled-clause-begun g c =
+pub returns-in_err-ended-clause-begun : goal.returns-in_err-ended-clause-begun
+returns-in_err-ended-clause-begun g c =
     let means = g.P.Plant.fibres in
     let text = λ (s : Signalled). frames_bytes c.args.self.now.recorder.ask s.sent in
     let w = world c.args.self.now.ring (means c.args.plant.now) in
     let left = world c.settle_recording.new.self (means c.settle_recording.new.plant) in
-    unsettled_some w left c.args.limit (c.args._number + 1) text text (g.W.Sink.written c.args.output.now)
-    (g.W.Sink.written c.settle_recording.new.log) _
-    (c.in-Ok.ensures.unsettled
-    (let same = rw c.in-Err-Unsettled.is at c.in-Err-Unsettled.field-0-is in
-    subst (λ (why : SettleError). c.in-Ok.ended ≡ Err why) same c.in-Err-Unsettled.is)) (λ at k x. x.1.written)
+    let p = err_from_is_err_and c.from_residual.result c.from_residual.ensures.1 in
+    rw (p.1, p.2) (not_ended w left c.args.limit (c.args._number + 1) text text (g.W.Sink.written c.args.output.now)
+    (g.W.Sink.written c.settle_recording.new.log) _ c.in_err-ended.field-0.0 c.in-Ok.ended c.in_err-ended.was c.in-Ok.ensures.unsettled
+    c.in-Ok.ensures.begun (λ at k x. x.1.written))
 
-pub returns-in-Err-PlantFault-clause-begun : goal.returns-in-Err-PlantFault-clause-begun
-returns-in-Err-PlantFault-clause-begun g c =
-    let means = g.P.Plant.fibres in
-    let text = λ (s : Signalled). frames_bytes c.args.self.now.recorder.ask s.sent in
-    let w = world c.args.self.now.ring (means c.args.plant.now) in
-    let left = world c.settle_recording.new.self (means c.settle_recording.new.plant) in
-    begun_some w left c.args.limit (c.args._number + 1) text text (g.W.Sink.written c.args.output.now)
-    (g.W.Sink.written c.settle_recording.new.log) _
-    (on_err_is c.in-Ok.ended c.in-Err-PlantFault.field-0 c.in-Err-PlantFault.is c.in-Ok.ensures.begun) (λ at k x. x.1.written)
-
-pub returns-in-Ok-ended-clause-ok : goal.returns-in-Ok-ended-clause-ok
-returns-in-Ok-ended-clause-ok g c =
+pub returns-clause-ok : goal.returns-clause-ok
+returns-clause-ok g c =
     let means = g.P.Plant.fibres in
     let text = λ (s : Signalled). frames_bytes c.args.self.now.recorder.ask s.sent in
     let w = world c.args.self.now.ring (means c.args.plant.now) in
     let left = world c.settle_recording.new.self (means c.settle_recording.new.plant) in
     wrote_ended w left c.args.limit (c.args._number + 1) text text (g.W.Sink.written c.args.output.now)
     (g.W.Sink.written c.settle_recording.new.log) _
-    (on_ok_is c.in-Ok.ended c.in-Ok-ended.field-0 c.in-Ok-ended.is c.in-Ok.ensures.heard) (λ at k x. x.1.written)
+    (on_ok_is c.in-Ok.ended c.in_ok-ended.field-0 c.in_ok-ended.was c.in-Ok.ensures.heard) (λ at k x. x.1.written)
 
-pub returns-in-Ok-ended-clause-next : goal.returns-in-Ok-ended-clause-next
-returns-in-Ok-ended-clause-next g c later may =
+pub returns-clause-next : goal.returns-clause-next
+returns-clause-next g c later may =
     let means = g.P.Plant.fibres in
     let w = world c.args.self.now.ring (means c.args.plant.now) in
     let left = world c.settle_recording.new.self (means c.settle_recording.new.plant) in
-    let x = on_ok_is c.in-Ok.ended c.in-Ok-ended.field-0 c.in-Ok-ended.is c.in-Ok.ensures.heard in
+    let x = on_ok_is c.in-Ok.ended c.in_ok-ended.field-0 c.in_ok-ended.was c.in-Ok.ensures.heard in
     let s = x.settles in
     let held = settled_held w left c.args.limit s in
-    let numbers = on_ok_is c.in-Ok.ended c.in-Ok-ended.field-0 c.in-Ok-ended.is c.in-Ok.ensures.step.numbers in
-    let slips = on_ok_is c.in-Ok.ended c.in-Ok-ended.field-0 c.in-Ok-ended.is c.in-Ok.ensures.laws.slips in
+    let numbers = on_ok_is c.in-Ok.ended c.in_ok-ended.field-0 c.in_ok-ended.was c.in-Ok.ensures.step.numbers in
+    let slips = on_ok_is c.in-Ok.ended c.in_ok-ended.field-0 c.in_ok-ended.was c.in-Ok.ensures.laws.slips in
     let long = long_step w.ring left.ring c.args.limit may.0.begins numbers in
     let none = λ (port : PortId). slips port (omega (arith, long.1)) in
     let most = s.settles.within in
@@ -86,14 +75,14 @@ returns-in-Ok-ended-clause-next g c later may =
     )
 
 -- the frames that are asked for stay the same
-pub returns-in-Ok-ended-clause-writes : goal.returns-in-Ok-ended-clause-writes
-returns-in-Ok-ended-clause-writes g c =
-    let x = on_ok_is c.in-Ok.ended c.in-Ok-ended.field-0 c.in-Ok-ended.is c.in-Ok.ensures.heard in
+pub returns-clause-writes : goal.returns-clause-writes
+returns-clause-writes g c =
+    let x = on_ok_is c.in-Ok.ended c.in_ok-ended.field-0 c.in_ok-ended.was c.in-Ok.ensures.heard in
     let text : FrameWindow → Signalled → List ℕ = λ a s. frames_bytes a s.sent in
     ap text x.kept.0
 
-pub returns-in-Ok-ended-clause-begins : goal.returns-in-Ok-ended-clause-begins
-returns-in-Ok-ended-clause-begins g c =
-    let x = on_ok_is c.in-Ok.ended c.in-Ok-ended.field-0 c.in-Ok-ended.is c.in-Ok.ensures.heard in
+pub returns-clause-begins : goal.returns-clause-begins
+returns-clause-begins g c =
+    let x = on_ok_is c.in-Ok.ended c.in_ok-ended.field-0 c.in_ok-ended.was c.in-Ok.ensures.heard in
     let text : FrameWindow → Signalled → List ℕ = λ a s. frames_bytes a s.sent in
     ap text x.kept.0

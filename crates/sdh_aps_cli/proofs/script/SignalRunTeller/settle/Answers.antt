@@ -1,8 +1,8 @@
-use Rattle.std.proofs.Common.{◌≡◌, ◌+◌, Err, length, refl, ap, sym, subst, ◌∙◌, arith, le_refl}
+use Rattle.std.proofs.Common.{◌≡◌, ◌+◌, length, refl, ap, sym, subst, ◌∙◌, arith, le_refl}
 use Rattle.std.specs.Io.KnownBytes.{Appends}
 use Rattle.sdh_outside.specs.Writing.{AppendsFewer}
 use Rattle.sdh_circuits.specs.declared.PortId.{PortId}
-use Rattle.sdh_rounds.specs.declared.faults.SettleError.{SettleError}
+use Rattle.std.proofs.lemmas.Result.{err_from_is_err_and}
 use Rattle.sdh_node.specs.Rings.Held.{HeldRing}
 use Rattle.sdh_node.specs.Rings.Rounds.{World, world}
 use Rattle.sdh_owed.proofs.Standing.{long_step}
@@ -11,7 +11,7 @@ use Rattle.sdh_aps_cli.specs.Recording.{IsCut}
 use Rattle.sdh_aps_cli.proofs.Rounds.{recorded_none}
 use Rattle.sdh_aps_cli.specs.Signalled.{changes_in}
 use Rattle.sdh_aps_cli.specs.Listing.{changes_text, begun_text, ended_text}
-use Rattle.sdh_aps_cli.proofs.Steps.{on_err_is, on_ok_is, ids_at, begun_some, unsettled_some, cut_some, wrote_step, cut_line, ready_as}
+use Rattle.sdh_aps_cli.proofs.Steps.{on_ok_is, ids_at, not_ended, cut_some, wrote_step, cut_line, ready_as}
 use Rattle.sdh_aps_cli.proofs.script.SignalRunTeller.settle.Goals as goal
 
 pub begin-requires : goal.begin-requires
@@ -39,38 +39,25 @@ returns-in_default-clause-begun g c =
     cut_some w left c.args.limit (c.args.number + 1) (ended_text listing) (begun_text listing) old new _ c.in_default.ensures.stopped.ran
     (λ at k x. subst (λ l. IsCut l at k old new) c.begin.ensures.listing x.0)
 
-pub returns-in-Err-Unsettled-clause-begun : goal.returns-in-Err-Unsettled-clause-begun
-returns-in-Err-Unsettled-clause-begun g c =
+pub returns-in_err-ended-clause-begun : goal.returns-in_err-ended-clause-begun
+returns-in_err-ended-clause-begun g c =
     let means = g.P.Plant.fibres in
     let listing = c.args.self.now.recorder.listing in
     let w = world c.args.self.now.ring (means c.args.plant.now) in
     let left = world c.settle_recording.new.self (means c.settle_recording.new.plant) in
     let old = g.W.Sink.written c.args.output.now in
     let new = g.W.Sink.written c.settle_recording.new.log in
-    unsettled_some w left c.args.limit (c.args.number + 1) (ended_text listing) (begun_text listing) old new _
-    (c.in-Ok.ensures.unsettled
-    (let same = rw c.in-Err-Unsettled.is at c.in-Err-Unsettled.field-0-is in
-    subst (λ (why : SettleError). c.in-Ok.ended ≡ Err why) same c.in-Err-Unsettled.is))
-    (λ at k x. subst (λ l. Appends old new (changes_text l (changes_in k at))) c.begin.ensures.listing x.1.written)
-
-pub returns-in-Err-PlantFault-clause-begun : goal.returns-in-Err-PlantFault-clause-begun
-returns-in-Err-PlantFault-clause-begun g c =
-    let means = g.P.Plant.fibres in
-    let listing = c.args.self.now.recorder.listing in
-    let w = world c.args.self.now.ring (means c.args.plant.now) in
-    let left = world c.settle_recording.new.self (means c.settle_recording.new.plant) in
-    let old = g.W.Sink.written c.args.output.now in
-    let new = g.W.Sink.written c.settle_recording.new.log in
-    begun_some w left c.args.limit (c.args.number + 1) (ended_text listing) (begun_text listing) old new _
-    (on_err_is c.in-Ok.ended c.in-Err-PlantFault.field-0 c.in-Err-PlantFault.is c.in-Ok.ensures.begun)
-    (λ at k x. subst (λ l. Appends old new (changes_text l (changes_in k at))) c.begin.ensures.listing x.1.written)
+    let p = err_from_is_err_and c.from_residual.result c.from_residual.ensures.1 in
+    rw (p.1, p.2) (not_ended w left c.args.limit (c.args.number + 1) (ended_text listing) (begun_text listing) old new _
+    c.in_err-ended.field-0.0 c.in-Ok.ended c.in_err-ended.was c.in-Ok.ensures.unsettled c.in-Ok.ensures.begun
+    (λ at k x. subst (λ l. Appends old new (changes_text l (changes_in k at))) c.begin.ensures.listing x.1.written))
 
 pub end-requires-clause-room : goal.end-requires-clause-room
 end-requires-clause-room g c =
     let means = g.P.Plant.fibres in
     let w = world c.args.self.now.ring (means c.args.plant.now) in
     let left = world c.settle_recording.new.self (means c.settle_recording.new.plant) in
-    let x = on_ok_is c.in-Ok.ended c.in-Ok-ended.field-0 c.in-Ok-ended.is c.in-Ok.ensures.heard in
+    let x = on_ok_is c.in-Ok.ended c.in_ok-ended.field-0 c.in_ok-ended.was c.in-Ok.ensures.heard in
     let size = ids_at w left c.args.limit x.settles in
     let enough = c.requires.may.1.0.prepared.enough in
     omega (arith, size, enough, x.kept.1.ready.room)
@@ -84,7 +71,7 @@ returns-in-Ok-write_text-clause-ok g c =
     let old = g.W.Sink.written c.args.output.now in
     let mid = g.W.Sink.written c.settle_recording.new.log in
     let new = g.W.Sink.written c.write_text.new.sink in
-    let x = on_ok_is c.in-Ok.ended c.in-Ok-ended.field-0 c.in-Ok-ended.is c.in-Ok.ensures.heard in
+    let x = on_ok_is c.in-Ok.ended c.in_ok-ended.field-0 c.in_ok-ended.was c.in-Ok.ensures.heard in
     wrote_step w left c.args.limit (c.args.number + 1) listing old new _ x c.begin.new.self.listing c.begin.ensures.listing mid
     x.kept.1.written (subst (Appends mid new)
     (c.bytes.ensures ∙ c.end.ensures.bytes)
@@ -95,11 +82,11 @@ returns-in-Ok-write_text-clause-next g c later may =
     let means = g.P.Plant.fibres in
     let w = world c.args.self.now.ring (means c.args.plant.now) in
     let left = world c.settle_recording.new.self (means c.settle_recording.new.plant) in
-    let x = on_ok_is c.in-Ok.ended c.in-Ok-ended.field-0 c.in-Ok-ended.is c.in-Ok.ensures.heard in
+    let x = on_ok_is c.in-Ok.ended c.in_ok-ended.field-0 c.in_ok-ended.was c.in-Ok.ensures.heard in
     let s = x.settles in
     let held = settled_held w left c.args.limit s in
-    let numbers = on_ok_is c.in-Ok.ended c.in-Ok-ended.field-0 c.in-Ok-ended.is c.in-Ok.ensures.step.numbers in
-    let slips = on_ok_is c.in-Ok.ended c.in-Ok-ended.field-0 c.in-Ok-ended.is c.in-Ok.ensures.laws.slips in
+    let numbers = on_ok_is c.in-Ok.ended c.in_ok-ended.field-0 c.in_ok-ended.was c.in-Ok.ensures.step.numbers in
+    let slips = on_ok_is c.in-Ok.ended c.in_ok-ended.field-0 c.in_ok-ended.was c.in-Ok.ensures.laws.slips in
     let long = long_step w.ring left.ring c.args.limit may.0.begins numbers in
     let none = λ (port : PortId). slips port (omega (arith, long.1)) in
     let most = s.settles.within in
@@ -119,7 +106,7 @@ returns-in-Err-clause-begun g c =
     let old = g.W.Sink.written c.args.output.now in
     let mid = g.W.Sink.written c.settle_recording.new.log in
     let new = g.W.Sink.written c.write_text.new.sink in
-    let x = on_ok_is c.in-Ok.ended c.in-Ok-ended.field-0 c.in-Ok-ended.is c.in-Ok.ensures.heard in
+    let x = on_ok_is c.in-Ok.ended c.in_ok-ended.field-0 c.in_ok-ended.was c.in-Ok.ensures.heard in
     cut_line w left c.args.limit (c.args.number + 1) listing old new _ x c.begin.new.self.listing c.begin.ensures.listing mid
     x.kept.1.written (subst (AppendsFewer mid new)
     (c.bytes.ensures ∙ c.end.ensures.bytes)
