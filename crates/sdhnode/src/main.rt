@@ -2,16 +2,14 @@
 #![tactic(auto)]
 
 use sdh_node_cli::sdhnode;
-use sdh_outside::{StdSink, StdSource};
+use sdh_shell::called_with;
 use std::process::ExitCode;
 
 fn main(rt: HostRuntime) -> ExitCode {
-    let words = match sdh_outside::words(&rt) {
-        Ok(words) => words,
+    let (words, mut source, mut sink) = match called_with(&rt) {
+        Ok(given) => given,
         Err(number) => return ExitCode::from(number),
     };
-    let mut source = StdSource::new(rt.stdin());
-    let mut sink = StdSink::new(rt.stdout());
     let ending = sdhnode(rt.alloc(), &words, &mut source, &mut sink);
     ExitCode::from(ending.number())
 }
