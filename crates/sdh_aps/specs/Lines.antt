@@ -40,9 +40,9 @@ heard_and_asked_text s =
     ++ codes " " ++ code_text s.asks_east
 
 -- the round, and the identifier of the node
-abbrev pub place_text : ℕ → ℕ → List ℕ
-place_text round id = codes "round " ++ decimal round ++ codes " node " ++ decimal id ++ codes " "
+abbrev pub node_place_text : ℕ → ℕ → List ℕ
+node_place_text round id = codes "round " ++ decimal round ++ codes " node " ++ decimal id ++ codes " "
 
 -- the line of the node with this identifier in a round
 abbrev pub signal_line : ℕ → ℕ → Shown → List ℕ
-signal_line round id s = place_text round id ++ sent_text s ++ heard_and_asked_text s ++ codes "\n"
+signal_line round id s = node_place_text round id ++ sent_text s ++ heard_and_asked_text s ++ codes "\n"

@@ -15,18 +15,18 @@ pub record HasWords (s : Shown) : Type 0 where
   pub heard_east : IfSome s.heard_east IsSpellable
 
 -- the far end is the same in both rounds, or there is none in both
-abbrev pub same_far : Option ℕ → Option ℕ → Bool
-same_far None None = true
-same_far (Some a) (Some b) = a == b
-same_far a b = false
+abbrev pub same_shown_far : Option ℕ → Option ℕ → Bool
+same_shown_far None None = true
+same_shown_far (Some a) (Some b) = a == b
+same_shown_far a b = false
 
-abbrev pub same_state : StateWord → StateWord → Bool
-same_state word.Idle word.Idle = true
-same_state word.Pass word.Pass = true
-same_state word.SwitchWest word.SwitchWest = true
-same_state word.SwitchEast word.SwitchEast = true
-same_state word.Isolated word.Isolated = true
-same_state s t = false
+abbrev pub same_state_word : StateWord → StateWord → Bool
+same_state_word word.Idle word.Idle = true
+same_state_word word.Pass word.Pass = true
+same_state_word word.SwitchWest word.SwitchWest = true
+same_state_word word.SwitchEast word.SwitchEast = true
+same_state_word word.Isolated word.Isolated = true
+same_state_word s t = false
 
 -- the words sent, those heard, and the requests are equal
 abbrev pub same_words : Shown → Shown → Bool
@@ -36,4 +36,4 @@ same_words a b =
     && (code_number a.asks_east == code_number b.asks_east)))))
 
 abbrev pub same_shown : Shown → Shown → Bool
-same_shown a b = same_state a.state b.state && (same_far a.far b.far && same_words a b)
+same_shown a b = same_state_word a.state b.state && (same_shown_far a.far b.far && same_words a b)

@@ -3,7 +3,7 @@ ghost use Rattle.std.specs.Prelude.{◌≡◌, ℕ, ◌+◌, ◌^◌, ◌<◌, �
 ghost use Rattle.sdh_kbytes.specs.KBytes.{IsSpellable};
 ghost use Rattle.sdh_report.specs.Written.{with_part};
 ghost use Rattle.sdh_aps.specs.Shown.{HasWords};
-ghost use Rattle.sdh_aps.specs.Lines.{code_text, far_text, heard_text, sent_text, heard_and_asked_text, place_text, signal_line};
+ghost use Rattle.sdh_aps.specs.Lines.{code_text, far_text, heard_text, sent_text, heard_and_asked_text, node_place_text, signal_line};
 
 use crate::shown::Shown;
 use sdh_kbytes::K;
@@ -84,8 +84,8 @@ fn put_heard_and_asked(text: &mut Text, shown: &Shown)
 
 // Appends the round, and the identifier of the node.
 fn put_place(text: &mut Text, round: u64, id: u8)
-    requires { length (place_text round id) ≤ text.old.room }
-    ensures { text.new ≡ with_part text.old (place_text round id) }
+    requires { length (node_place_text round id) ≤ text.old.room }
+    ensures { text.new ≡ with_part text.old (node_place_text round id) }
 {
     text.put(b"round ");
     text.put_number(round);

@@ -1,6 +1,6 @@
 //! What a node shows in a round.
 ghost use Rattle.std.specs.Prelude.{◌≡◌};
-ghost use Rattle.sdh_aps.specs.Shown.{same_far, same_state, same_words, same_shown};
+ghost use Rattle.sdh_aps.specs.Shown.{same_shown_far, same_state_word, same_words, same_shown};
 
 use sdh_kbytes::{K, same_heard, same_word};
 use sdh_report::StateWord;
@@ -28,7 +28,7 @@ pub struct Shown {
 
 // Returns whether `left` and `right` are the same far end, or both are none.
 fn same_far(left: Option<u8>, right: Option<u8>) -> bool
-    ensures { result ≡ same_far left right }
+    ensures { result ≡ same_shown_far left right }
 {
     match (left, right) {
         (None, None) => true,
@@ -39,7 +39,7 @@ fn same_far(left: Option<u8>, right: Option<u8>) -> bool
 
 // Returns whether two states are shown by the same word.
 fn same_state(left: StateWord, right: StateWord) -> bool
-    ensures { result ≡ same_state left right }
+    ensures { result ≡ same_state_word left right }
 {
     match (left, right) {
         (StateWord::Idle, StateWord::Idle) => true,

@@ -7,7 +7,7 @@ use Rattle.sdh_rounds.specs.Runs.{run_with, course_with}
 use Rattle.sdh_rounds.proofs.Runs.{course_whole, held_run}
 use Rattle.sdh_node.specs.Rings.Held.{HeldRing}
 use Rattle.sdh_node.specs.Rings.Rounds.{World}
-use Rattle.sdh_owed.specs.Steps.{after_step}
+use Rattle.sdh_owed.specs.Steps.{world_after_step}
 use Rattle.sdh_plan.specs.declared.step.Step.{Step}
 use Rattle.sdh_plan.specs.declared.step.Step.TheVariants as step
 use Rattle.sdh_status.specs.declared.Status.{Status}
@@ -19,7 +19,7 @@ use Rattle.sdh_scripts.proofs.Outcomes.{refused_ends}
 use Rattle.sdh_owed.proofs.Known.{no_round}
 use Rattle.sdh_aps_cli.specs.Signalled.{Signalled, signalled_in}
 use Rattle.sdh_aps_cli.specs.Scripts.{signalling_walk}
-use Rattle.sdh_aps_cli.specs.Plans.{Piece, Ended as Done, Begun as Open, rounds_after, rounds_from, rounds_in, pieces_of}
+use Rattle.sdh_aps_cli.specs.Plans.{Piece, Ended as Done, Begun as Open, rounds_after, rounds_from, rounds_of_pieces, pieces_of}
 
 rounds_append : (n : ℕ) (xs ys : List Piece) → rounds_from n (xs ++ ys) ≡ rounds_from (rounds_from n xs) ys
 rounds_append n [] ys = refl
@@ -68,7 +68,7 @@ runs_rounds limit before (step.Settle ∷ later) w reports left (inr (inl x)) = 
 runs_rounds limit before (step.Settle ∷ later) w reports left (inr (inr x)) = absurd (let e = x.1.1 in grind arith)
 runs_rounds limit before (this ∷ later) w reports left x =
     elim x [
-      | inl goes ↦ runs_rounds limit before later (after_step this w) reports left goes
+      | inl goes ↦ runs_rounds limit before later (world_after_step this w) reports left goes
           ∙ ap (λ n. rounds_from n (map Done reports)) (no_round.rounds this w)
       | inr refused ↦ absurd (let e = (refused_ends this w reports status.Ok left refused).1 in grind arith)
     ]
@@ -95,16 +95,16 @@ all_ran limit before k mid left end is (inr (inr x)) = absurd (let e = sym x.1.1
 
 -- a script over a ring in which no round had run
 module _ (limit : ℕ) (steps : List Step) (w : World) (new : w.ring.rounds ≡ 0) (reports : List Signalled) (left : World) where
-  from_none : (n : ℕ) (pieces : List Piece) → n ≡ rounds_from w.ring.rounds pieces → n ≡ rounds_in pieces
+  from_none : (n : ℕ) (pieces : List Piece) → n ≡ rounds_from w.ring.rounds pieces → n ≡ rounds_of_pieces pieces
   from_none n pieces is = is ∙ ap (λ m. rounds_from m pieces) new
 
-  pub done_rounds : Runs signalling_walk limit 0 steps w reports status.Ok left → left.ring.rounds ≡ rounds_in (pieces_of reports [])
+  pub done_rounds : Runs signalling_walk limit 0 steps w reports status.Ok left → left.ring.rounds ≡ rounds_of_pieces (pieces_of reports [])
   done_rounds x =
       from_none left.ring.rounds (pieces_of reports [])
       (runs_rounds limit 0 steps w reports left x ∙ sym (rounds_append w.ring.rounds (map Done reports) []))
 
   pub stopped_rounds : (begun : List Signalled) (end : Status) → StoppedTold signalling_walk limit steps w reports begun end left
-      → end ≢ status.PlantFault → left.ring.rounds ≡ rounds_in (pieces_of reports begun)
+      → end ≢ status.PlantFault → left.ring.rounds ≡ rounds_of_pieces (pieces_of reports begun)
   stopped_rounds begun end x other =
       from_none left.ring.rounds (pieces_of reports begun)
       (last_rounds limit (length reports) x.stops x.mid begun end left x.last other

@@ -16,12 +16,12 @@ use Rattle.sdh_rounds.specs.Rounds.{sent_all, after_given, round_with}
 use Rattle.sdh_node.specs.Rings.Held.{HeldRing}
 use Rattle.sdh_node.specs.Rings.Rounds.{World}
 use Rattle.sdh_ring.specs.Observed.{RanOne}
-use Rattle.sdh_aps_cli.specs.Frames.{Sent, sent_last, sent_in, is_wanted, frame_of, frames_of, frames_bytes, FramesAreSent}
-use Rattle.sdh_aps_cli.specs.FrameRecording.{HasPlace, AreWritten, AreCut}
+use Rattle.sdh_aps_cli.specs.Frames.{Sent, sent_last, frames_sent_in, is_wanted, frame_of, frames_of, frames_bytes, FramesAreSent}
+use Rattle.sdh_aps_cli.specs.FrameRecording.{HasAskedNode, FramesAreWritten, AreCut}
 use Rattle.sdh_aps_cli.specs.declared.window.FrameWindow.{FrameWindow}
 
 -- a node's position is one of the ring's after a round too
-pub place_stays : (ask : FrameWindow) (w : World) (arrivals : List Arrival) → HasPlace ask w → HasPlace ask (round_with adm arrivals w)
+pub place_stays : (ask : FrameWindow) (w : World) (arrivals : List Arrival) → HasAskedNode ask w → HasAskedNode ask (round_with adm arrivals w)
 unfolding round_with sent_all after_given
 place_stays ask w arrivals h = h
 
@@ -54,31 +54,31 @@ module _ (ask : FrameWindow) where
     abbrev last : Sent
     last = sent_last (at (suc k))
 
-    one_more : frames_bytes ask (sent_in (suc k) at) ≡ frames_bytes ask (sent_in k at) ++ bytes (frame_of ask last)
+    one_more : frames_bytes ask (frames_sent_in (suc k) at) ≡ frames_bytes ask (frames_sent_in k at) ++ bytes (frame_of ask last)
     one_more =
-        ap bytes (flat_map-append (frame_of ask) (sent_in k at) (last ∷ [])
-        ∙ ap (λ l. frames_of ask (sent_in k at) ++ l) (append-nil (frame_of ask last)))
-        ∙ flat_map-append (λ (frame : List ℕ). frame) (frames_of ask (sent_in k at)) (frame_of ask last)
+        ap bytes (flat_map-append (frame_of ask) (frames_sent_in k at) (last ∷ [])
+        ∙ ap (λ l. frames_of ask (frames_sent_in k at) ++ l) (append-nil (frame_of ask last)))
+        ∙ flat_map-append (λ (frame : List ℕ). frame) (frames_of ask (frames_sent_in k at)) (frame_of ask last)
 
     module _ (ring : HeldRing) (ran : RanOne at k ring) where
-      pub place_next : HasPlace ask (at k) → HasPlace ask (at (suc k))
-      place_next h = subst (HasPlace ask) (sym ran.round.after_is) (place_stays ask (at k) ran.round.arrivals h)
+      pub place_next : HasAskedNode ask (at k) → HasAskedNode ask (at (suc k))
+      place_next h = subst (HasAskedNode ask) (sym ran.round.after_is) (place_stays ask (at k) ran.round.arrivals h)
 
       -- the frame of one more round was written, or that round gives none
-      pub written_more : (text : List ℕ) (old mid new : Option (List ℕ)) → bytes (frame_of ask last) ≡ text → AreWritten ask at k old mid
-          → Appends mid new text → AreWritten ask at (suc k) old new
+      pub written_more : (text : List ℕ) (old mid new : Option (List ℕ)) → bytes (frame_of ask last) ≡ text → FramesAreWritten ask at k old mid
+          → Appends mid new text → FramesAreWritten ask at (suc k) old new
       written_more text old mid new is x wrote = record {
         place = place_next x.place;
         written =
-            subst (Appends old new) (sym (one_more ∙ ap (λ l. frames_bytes ask (sent_in k at) ++ l) is))
-            (Appends-trans old mid new (frames_bytes ask (sent_in k at)) text x.written wrote);
+            subst (Appends old new) (sym (one_more ∙ ap (λ l. frames_bytes ask (frames_sent_in k at) ++ l) is))
+            (Appends-trans old mid new (frames_bytes ask (frames_sent_in k at)) text x.written wrote);
       }
 
-      pub cut_more : (text : List ℕ) (old mid new : Option (List ℕ)) → bytes (frame_of ask last) ≡ text → AreWritten ask at k old mid
+      pub cut_more : (text : List ℕ) (old mid new : Option (List ℕ)) → bytes (frame_of ask last) ≡ text → FramesAreWritten ask at k old mid
           → AppendsFewer mid new text → AreCut ask at (suc k) old new
       cut_more text old mid new is x front =
-          subst (AppendsFewer old new) (sym (one_more ∙ ap (λ l. frames_bytes ask (sent_in k at) ++ l) is))
-          (fewer_behind old mid new (frames_bytes ask (sent_in k at)) text x.written front)
+          subst (AppendsFewer old new) (sym (one_more ∙ ap (λ l. frames_bytes ask (frames_sent_in k at) ++ l) is))
+          (fewer_behind old mid new (frames_bytes ask (frames_sent_in k at)) text x.written front)
 
 -- ---- what was asked of the ring and of the plant, in the course
 

@@ -7,7 +7,7 @@ use Rattle.sdh_plan.specs.Planned.{Planned}
 use Rattle.sdh_status.specs.declared.Status.{Status}
 use Rattle.sdh_status.specs.declared.Status.TheVariants as status
 use Rattle.sdh_shell.proofs.Endings.{one_status}
-use Rattle.sdh_scripts.specs.NewRuns.{IsOf}
+use Rattle.sdh_scripts.specs.NewRuns.{IsRunOfPlan}
 use Rattle.sdh_scripts.specs.Texts.{WriteFailed}
 use Rattle.sdh_scripts.specs.Streams.{WroteSteps}
 use Rattle.sdh_scripts.specs.declared.run.NewRun.{NewRun}
@@ -22,9 +22,9 @@ use Rattle.sdh_aps_cli.specs.Words.{has_node, window_at, listing_of}
 use Rattle.sdh_aps_cli.specs.Scripts.{signalling_walk}
 use Rattle.sdh_aps_cli.specs.Listing.{begun_of, ended_of}
 use Rattle.sdh_aps_cli.specs.Laws.{ScriptsGoAsSignals, StepsGoAsSignals}
-use Rattle.sdh_aps_cli.specs.Plans.{Piece, signalling_account, rounds_in, IsCutRun, ends_by, has_rounds, IsPlaced, HasRounds}
+use Rattle.sdh_aps_cli.specs.Plans.{Piece, signalling_account, rounds_of_pieces, IsCutRun, ends_by, has_rounds, IsPlaced, HasRounds}
 use Rattle.sdh_aps_cli.specs.Running.{running_ring, listing_in}
-use Rattle.sdh_aps_cli.specs.Headline.{deed_of, signalling}
+use Rattle.sdh_aps_cli.specs.Headline.{signal_deed_of, signalling}
 use Rattle.sdh_aps_cli.specs.declared.ending.Ending.TheVariants as ending
 use Rattle.sdh_aps_cli.specs.declared.running.PlanRun.{PlanRun}
 use Rattle.sdh_aps_cli.specs.declared.window.FrameAsk.{FrameAsk}
@@ -64,14 +64,14 @@ is_placed (asked.Frames a) ids l e =
 pub run_only : (ask : SignalAsk) (plan : Planned) (listing : PlanListing) → listing_of ask plan.nodes ≡ Some listing
     → IsOnly signalling ask plan (Runs listing)
 run_only ask plan listing is =
-    let does : Runs listing ≡ deed_of (listing_of ask plan.nodes) = sym (ap deed_of is) in
+    let does : Runs listing ≡ signal_deed_of (listing_of ask plan.nodes) = sym (ap signal_deed_of is) in
     record { does = does; only = λ other d. d ∙ sym does }
 
 -- a plan that doesn't have the node is refused
 pub none_only : (ask : SignalAsk) (plan : Planned) → listing_of ask plan.nodes ≡ None
     → IsOnly signalling ask plan (Refuses ending.NoSuchNode)
 none_only ask plan is =
-    let does : Refuses ending.NoSuchNode ≡ deed_of (listing_of ask plan.nodes) = sym (ap deed_of is) in
+    let does : Refuses ending.NoSuchNode ≡ signal_deed_of (listing_of ask plan.nodes) = sym (ap signal_deed_of is) in
     record { does = does; only = λ other d. d ∙ sym does }
 
 -- ---- endings
@@ -80,22 +80,22 @@ none_only ask plan is =
 pub run_faults : FaultsAreReported signalling
 run_faults listing told end = record { ends = ends listing; back = back listing }
   where
-    ends : (l : PlanListing) → end ≡ status.PlantFault → ends_by l (rounds_in told) end ≡ ending.Shared status.PlantFault
+    ends : (l : PlanListing) → end ≡ status.PlantFault → ends_by l (rounds_of_pieces told) end ≡ ending.Shared status.PlantFault
     ends (listed.Lines l) e = ap ending.Shared e
-    ends (listed.Frames ask) e = ap (frames_end (has_rounds ask (rounds_in told))) e
+    ends (listed.Frames ask) e = ap (frames_end (has_rounds ask (rounds_of_pieces told))) e
 
     by : (came : Bool) (s : Status) → frames_end came s ≡ ending.Shared status.PlantFault → s ≡ status.PlantFault
     by came status.PlantFault e = refl
     by true s e = absurd (let x = one_status signalling_endings status.Ok status.PlantFault e in grind arith)
     by false s e = absurd (grind arith)
 
-    back : (l : PlanListing) → ends_by l (rounds_in told) end ≡ ending.Shared status.PlantFault → end ≡ status.PlantFault
+    back : (l : PlanListing) → ends_by l (rounds_of_pieces told) end ≡ ending.Shared status.PlantFault → end ≡ status.PlantFault
     back (listed.Lines l) e = one_status signalling_endings end status.PlantFault e
-    back (listed.Frames ask) e = by (has_rounds ask (rounds_in told)) end e
+    back (listed.Frames ask) e = by (has_rounds ask (rounds_of_pieces told)) end e
 
 -- how a run ended, by what is reported of it, where the ring that it left has run as many rounds
-pub ends_reported : (l : PlanListing) (rounds : ℕ) (s : Status) (pieces : List Piece) → (s ≢ status.PlantFault → rounds ≡ rounds_in pieces)
-    → ends_by l rounds s ≡ ends_by l (rounds_in pieces) s
+pub ends_reported : (l : PlanListing) (rounds : ℕ) (s : Status) (pieces : List Piece) → (s ≢ status.PlantFault → rounds ≡ rounds_of_pieces pieces)
+    → ends_by l rounds s ≡ ends_by l (rounds_of_pieces pieces) s
 ends_reported (listed.Lines l) rounds s pieces same = refl
 ends_reported (listed.Frames ask) rounds status.PlantFault pieces same = refl
 ends_reported (listed.Frames ask) rounds s pieces same = ap (λ n. frames_end (has_rounds ask n) s) (same (λ e. grind arith))
@@ -104,7 +104,7 @@ ends_reported (listed.Frames ask) rounds s pieces same = ap (λ n. frames_end (h
 
 module _ (settles : ScriptsSettle) (signals : ScriptsGoAsSignals) (steps : StepsGoAsSignals) where
   abbrev Begins : PlanListing → Planned → NewRun PlanRun → Type 0
-  Begins listing plan run = IsOf running_ring signalling_account plan run × (listing_in run.runner ≡ listing)
+  Begins listing plan run = IsRunOfPlan running_ring signalling_account plan run × (listing_in run.runner ≡ listing)
 
   pub steps_reported : StepsAreReported signalling signalling_walk running_ring (λ r told. ended_of (listing_in r) told)
       (λ r told. begun_of (listing_in r) told) Begins HasRounds

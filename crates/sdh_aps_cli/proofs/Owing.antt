@@ -38,7 +38,7 @@ use Rattle.sdh_owed.specs.Laws.{ring_by}
 use Rattle.sdh_owed.proofs.Standing.{Stands, whole, changed_then, Ended, settled_then, stands_new, happens_last}
 use Rattle.sdh_owed.proofs.Steps.{settled_held}
 use Rattle.sdh_aps_cli.specs.Signalled as signalled
-use Rattle.sdh_aps_cli.specs.Signalled.{Signalled, signalled_in, changes_in}
+use Rattle.sdh_aps_cli.specs.Signalled.{Signalled, signalled_in, changes_shown_in}
 use Rattle.sdh_aps_cli.specs.Scripts.{signalling_walk}
 use Rattle.sdh_aps_cli.specs.ByScript.{signals_by}
 use Rattle.sdh_aps_cli.specs.Owed.{all_changes_by, ShowsSignals, AreSignalled, AreOfTheNext}
@@ -126,7 +126,7 @@ module _ (laws : Laws) (s : Settings) (ids : List ℕ) (circuits : Provisioning)
 
     -- these rounds show what the ring of signals does
     shows : (rounds : List (List Arrival)) → ArriveIn rounds w
-        → changes_in (length rounds) (course_with rounds w) ≡ all_changes_by ring ids (with_rounds (length rounds)) ran (length rounds)
+        → changes_shown_in (length rounds) (course_with rounds w) ≡ all_changes_by ring ids (with_rounds (length rounds)) ran (length rounds)
     shows rounds arrive =
         let k = length rounds in
         let all = rounds_together earlier (last k ∷ []) in
@@ -152,7 +152,7 @@ module _ (laws : Laws) (s : Settings) (ids : List ℕ) (circuits : Provisioning)
           let long = ended.last.window in
           omega (arith, grown, ran_is, long, may.ids_ok.enough)
 
-      changes_are : changes_in (length x.rounds) (course_with x.rounds w) ≡ all_changes_by ring ids (with_rounds many) ran many
+      changes_are : changes_shown_in (length x.rounds) (course_with x.rounds w) ≡ all_changes_by ring ids (with_rounds many) ran many
       changes_are = shows x.rounds x.arrive ∙ ap (λ k. all_changes_by ring ids (with_rounds k) ran k) count
 
       all_rounds : rounds_in (with_rounds many) ≡ t + 1
@@ -198,7 +198,7 @@ module _ (laws : Laws) (s : Settings) (ids : List ℕ) (circuits : Provisioning)
           subst (λ (all : ℕ). Then all (all - 1)) (sym (last_round (before + 1) one is)) here
 
       next_then : (number : ℕ) (one : Signalled) → one ≡ signalled_in number (course_with x.rounds w) (length x.rounds)
-          → (later : List (List Change)) (rest : List Signalled) (k : ℕ) (shown : List signalled.Change)
+          → (later : List (List Change)) (rest : List Signalled) (k : ℕ) (shown : List signalled.ShownChange)
           → AreOfTheNext ring ids (with_rounds many) later rest k shown
           → AreOfTheNext ring ids earlier (changes ∷ later) (one ∷ rest) k shown
       next_then number one is later rest k shown more =

@@ -10,7 +10,7 @@ use Rattle.sdh_plant.specs.Fibres.{Fibres, IsHonest}
 use Rattle.sdh_plant.specs.Arrivals.{Knows}
 use Rattle.sdh_ringmap.specs.declared.terms.Rate.{Rate}
 use Rattle.sdh_node.specs.Rings.Rounds.{World}
-use Rattle.sdh_owed.specs.Steps.{after_step}
+use Rattle.sdh_owed.specs.Steps.{world_after_step}
 use Rattle.sdh_plan.specs.Planned.{Planned, IsPlanned, provisioning_of}
 use Rattle.sdh_plan.specs.Steps.{Past, new_past, after}
 use Rattle.sdh_plan.specs.declared.step.Step.{Step}
@@ -40,7 +40,7 @@ use Rattle.sdh_aps_cli.specs.Scripts.{signalling_walk}
 use Rattle.sdh_aps_cli.specs.Listing.{begun_of, ended_of}
 use Rattle.sdh_aps_cli.specs.Owed.{AreSignalled, AreOfTheNext}
 use Rattle.sdh_aps_cli.specs.Laws.{ScriptsGoAsSignals, StepsGoAsSignals}
-use Rattle.sdh_aps_cli.specs.Plans.{signalling_account, Owes, IsRunOf, Piece, Ended, Begun, piece_text, pieces_text, pieces_of, rounds_in}
+use Rattle.sdh_aps_cli.specs.Plans.{signalling_account, Owes, IsRunOf, Piece, Ended, Begun, piece_text, pieces_text, pieces_of, rounds_of_pieces}
 use Rattle.sdh_aps_cli.specs.Plans.{AreFirstRounds, IsSignalledRun, CutOwes, IsCutRun, has_rounds, ends_by, MaySettle}
 use Rattle.sdh_aps_cli.specs.declared.ending.Ending.TheVariants as ending
 use Rattle.sdh_aps_cli.specs.declared.listing.PlanListing.{PlanListing}
@@ -103,7 +103,7 @@ settled_more limit before (step.Settle ∷ gone) w mid told one left number is (
 settled_more limit before (step.Settle ∷ gone) w mid told one left number is (inr (inr x)) done = absurd (let e = x.1.1 in grind arith)
 settled_more limit before (this ∷ gone) w mid told one left number is x done =
     elim x [
-      | inl goes ↦ inl (settled_more limit before gone (after_step this w) mid told one left number is goes done)
+      | inl goes ↦ inl (settled_more limit before gone (world_after_step this w) mid told one left number is goes done)
       | inr refused ↦ absurd (let e = (refused_ends {T = Signalled} this w told status.Ok mid refused).1 in grind arith)
     ]
 
@@ -184,7 +184,7 @@ module _ (settles : ScriptsSettle) (signals : ScriptsGoAsSignals) (steps_go : St
     abbrev pub Reported : Type 0
     Reported =
         (pieces : List Piece) × IsSignalledRun plan f pieces end left.fibres × Appends old new (pieces_text listing pieces)
-        × (end ≢ status.PlantFault → left.ring.rounds ≡ rounds_in pieces)
+        × (end ≢ status.PlantFault → left.ring.rounds ≡ rounds_of_pieces pieces)
 
     pub signalled : WroteSteps signalling_walk plan.limit (ended_of listing) (begun_of listing) plan.steps (world_of plan f) f old new end left
         → Reported
@@ -226,7 +226,7 @@ module _ (settles : ScriptsSettle) (signals : ScriptsGoAsSignals) (steps_go : St
       where
         done : (reports : List Signalled) → (end ≡ status.Ok) ⊎ NoneMade f reports end left
             → NoneMade f reports end left ⊎ Runs signalling_walk plan.limit 0 plan.steps (world_of plan f) reports end left
-            → end ≢ status.PlantFault → left.ring.rounds ≡ rounds_in (pieces_of reports [])
+            → end ≢ status.PlantFault → left.ring.rounds ≡ rounds_of_pieces (pieces_of reports [])
         done reports (inr none) ran other = absurd (other none.0)
         done reports (inl ok) (inl none) other = absurd (other none.0)
         done reports (inl ok) (inr runs) other =
@@ -327,10 +327,10 @@ known_pieces plan f left pieces end x knows done =
 -- with all that is needed, and no fault, a run ends with Ok
 pub run_done : (listing : PlanListing) (plan : Planned) (f left : Fibres) (pieces : List Piece) (end : Status)
     → IsSignalledRun plan f pieces end left → MaySettle listing plan f → (end ≡ status.PlantFault → ⊥)
-    → ends_by listing (rounds_in pieces) end ≡ ending.Shared status.Ok
+    → ends_by listing (rounds_of_pieces pieces) end ≡ ending.Shared status.Ok
 run_done (listed.Lines l) plan f left pieces end x may fine = ap ending.Shared (lines_done plan f left pieces end x may fine)
 run_done (listed.Frames ask) plan f left pieces end x may fine =
     let done = lines_done plan f left pieces end x (inl (may.0, may.1)) fine in
-    let all : has_rounds ask (rounds_in pieces) ≡ true =
-    ap (λ (p : List Piece). has_rounds ask (rounds_in p)) (known_pieces plan f left pieces end x may.0 done) ∙ may.2 in
+    let all : has_rounds ask (rounds_of_pieces pieces) ≡ true =
+    ap (λ (p : List Piece). has_rounds ask (rounds_of_pieces p)) (known_pieces plan f left pieces end x may.0 done) ∙ may.2 in
     ap₂ frames_end all done

@@ -14,7 +14,7 @@ use Rattle.sdh_ring.specs.Observed.{RanOne}
 use Rattle.sdh_report.specs.Written.{Written}
 use Rattle.sdh_report.specs.Written.{room_in}
 use Rattle.sdh_aps.specs.declared.shown.Shown.{Shown}
-use Rattle.sdh_aps_cli.specs.Signalled.{shown_at, changes_to, changes_of, changes_in}
+use Rattle.sdh_aps_cli.specs.Signalled.{shown_at, changes_to, shown_changes, changes_shown_in}
 use Rattle.sdh_aps_cli.specs.Listing.{change_text, changes_text}
 use Rattle.sdh_aps_cli.specs.Recording.{AreShown, IsReady, IsRecorded, IsCut, NoneFailed, OneFailed}
 use Rattle.sdh_aps_cli.specs.declared.listing.SignalListing.{SignalListing}
@@ -37,15 +37,15 @@ module _ (at : ℕ → World) (k : ℕ) (ring : HeldRing) (ran : RanOne at k rin
   -- the lines of the round's changes
   module _ (listing : SignalListing) (text : List ℕ) (items : List Shown) (are : AreShown (shown_at (at k).ring) items)
       (made : (was : ℕ → Shown) → AreShown was items → text ≡ changes_text listing (changes_to was ring (length ring.ids))) where
-    text_is : text ≡ changes_text listing (changes_of (at k).ring (at (suc k)).ring)
+    text_is : text ≡ changes_text listing (shown_changes (at k).ring (at (suc k)).ring)
     text_is =
         made (shown_at (at k).ring) are
         ∙ ap (λ (r : HeldRing). changes_text listing (changes_to (shown_at (at k).ring) r (length r.ids))) ran.ring_is
 
-    all_text : changes_text listing (changes_in k at) ++ text ≡ changes_text listing (changes_in (suc k) at)
+    all_text : changes_text listing (changes_shown_in k at) ++ text ≡ changes_text listing (changes_shown_in (suc k) at)
     all_text =
-        ap (λ l. changes_text listing (changes_in k at) ++ l) text_is
-        ∙ sym (flat_map-append (change_text listing) (changes_in k at) (changes_of (at k).ring (at (suc k)).ring))
+        ap (λ l. changes_text listing (changes_shown_in k at) ++ l) text_is
+        ∙ sym (flat_map-append (change_text listing) (changes_shown_in k at) (shown_changes (at k).ring (at (suc k)).ring))
 
     -- what is recorded with one more round, once its lines were written
     pub recorded_more : (now : List Shown) (before after : Written) (old mid new : Option (List ℕ))
@@ -61,14 +61,14 @@ module _ (at : ℕ → World) (k : ℕ) (ring : HeldRing) (ran : RanOne at k rin
           };
           shown = subst (λ (r : HeldRing). AreShown (shown_at r) now) ran.ring_is shown;
           written =
-              subst (Appends old new) all_text (Appends-trans old mid new (changes_text listing (changes_in k at)) text x.written wrote);
+              subst (Appends old new) all_text (Appends-trans old mid new (changes_text listing (changes_shown_in k at)) text x.written wrote);
         }
 
     -- what is recorded where only the first bytes of the round's lines were written
     pub cut_more : (before : Written) (old mid new : Option (List ℕ)) → IsRecorded listing at k items before old mid
         → AppendsFewer mid new text → IsCut listing at (suc k) old new
     cut_more before old mid new x front =
-        subst (AppendsFewer old new) all_text (fewer_behind old mid new (changes_text listing (changes_in k at)) text x.written front)
+        subst (AppendsFewer old new) all_text (fewer_behind old mid new (changes_text listing (changes_shown_in k at)) text x.written front)
 
 -- ---- writes
 

@@ -43,7 +43,7 @@ use Rattle.sdh_laws.proofs.hearing.Stretches.{ran_at, fits_new}
 use Rattle.sdh_owed.specs.Laws.{ring_by}
 use Rattle.sdh_aps.specs.Shown.{same_shown}
 use Rattle.sdh_aps.specs.Showing.{shown_by, shown_of}
-use Rattle.sdh_aps_cli.specs.Signalled.{Change, shown_at, is_told, change_of, change_at, changes_of, changes_in}
+use Rattle.sdh_aps_cli.specs.Signalled.{ShownChange, shown_at, is_changed, change_of, change_at, shown_changes, changes_shown_in}
 use Rattle.sdh_aps_cli.specs.ByScript.{fails_in, needs_at, needs_by, turns_in, held_by, signals_by}
 use Rattle.sdh_aps_cli.specs.Owed.{shown_in, is_news, change_by, changes_by, all_changes_by}
 use Rattle.sdh_aps_cli.proofs.Cells.{as_cells, flat_more, flat_same}
@@ -246,8 +246,8 @@ module _ (laws : Laws) (s : Settings) (ids : List ℕ) (circuits : Provisioning)
       let needs = needed_at v p inside ∙ ap (λ l. get_or l p no_needs) (needs_then t h) ∙ get_or-cells (needs_at ring ss t) n p no_needs low in
       λ i. shown_by (names i) (states i) (words i) (heard_through (filters i)) (needs i)
 
-  told_is : (t : ℕ) → t < rounds_in ss → (p : ℕ) → p < n → is_told (shown_at (at t).ring p) (at (suc t)).ring p ≡ is_news ring ids ss t p
-  unfolding is_told
+  told_is : (t : ℕ) → t < rounds_in ss → (p : ℕ) → p < n → is_changed (shown_at (at t).ring p) (at (suc t)).ring p ≡ is_news ring ids ss t p
+  unfolding is_changed
   told_is zero h p low =
       ap (λ (b : Bool). b || not (same_shown (shown_at (at zero).ring p) (shown_at (at (suc zero)).ring p)))
       (eq-eqb (at (suc zero)).ring.rounds 1 (ran_at s ids circuits f ss (suc zero) (omega arith)))
@@ -278,7 +278,7 @@ module _ (laws : Laws) (s : Settings) (ids : List ℕ) (circuits : Provisioning)
       λ i. if told i then change i ∷ [] else []
 
   -- a round shows what the ring of signals does in it
-  round_shows : (t : ℕ) → t < rounds_in ss → changes_of (at t).ring (at (suc t)).ring ≡ changes_by ring ids ss t
+  round_shows : (t : ℕ) → t < rounds_in ss → shown_changes (at t).ring (at (suc t)).ring ≡ changes_by ring ids ss t
   round_shows t h =
       let was = shown_at (at t).ring in
       let now = (at (suc t)).ring in
@@ -287,13 +287,13 @@ module _ (laws : Laws) (s : Settings) (ids : List ℕ) (circuits : Provisioning)
 
   -- the first k rounds of a course show what the ring of signals does in them
   pub rounds_show : (course : ℕ → World) (first k : ℕ) → ((j : ℕ) → j ≤ k → course j ≡ at (first + j)) → first + k ≤ rounds_in ss
-      → changes_in k course ≡ all_changes_by ring ids ss first k
+      → changes_shown_in k course ≡ all_changes_by ring ids ss first k
   rounds_show course first zero same h = sym (ap (flat_map (changes_by ring ids ss)) (cells-zero (λ j. first + j)))
   rounds_show course first (suc k) same h =
       let low : first + k < rounds_in ss = omega arith in
       let next : first + suc k ≡ suc (first + k) = omega arith in
-      let now : changes_of (course k).ring (course (suc k)).ring ≡ changes_by ring ids ss (first + k) =
-      ap₂ (λ (a b : World). changes_of a.ring b.ring) (same k (omega arith)) (same (suc k) (omega arith) ∙ ap (world_in ss from) next)
+      let now : shown_changes (course k).ring (course (suc k)).ring ≡ changes_by ring ids ss (first + k) =
+      ap₂ (λ (a b : World). shown_changes a.ring b.ring) (same k (omega arith)) (same (suc k) (omega arith) ∙ ap (world_in ss from) next)
       ∙ round_shows (first + k) low in
-      ap₂ (λ (a b : List Change). a ++ b) (rounds_show course first k (λ j less. same j (omega arith)) (omega arith)) now
+      ap₂ (λ (a b : List ShownChange). a ++ b) (rounds_show course first k (λ j less. same j (omega arith)) (omega arith)) now
       ∙ sym (flat_more (changes_by ring ids ss) (λ j. first + j) k)

@@ -22,7 +22,7 @@ use Rattle.sdh_scripts.proofs.Reporting.{ended_with}
 use Rattle.sdh_owed.proofs.Steps.{settled_held}
 use Rattle.sdh_report.specs.Written.{room_in}
 use Rattle.sdh_aps.specs.declared.shown.Shown.{Shown}
-use Rattle.sdh_aps_cli.specs.Signalled.{Signalled, signalled_in, changes_in}
+use Rattle.sdh_aps_cli.specs.Signalled.{Signalled, signalled_in, changes_shown_in}
 use Rattle.sdh_aps_cli.specs.Scripts.{signalling_walk}
 use Rattle.sdh_aps_cli.specs.Listing.{changes_text, begun_text, ended_text}
 use Rattle.sdh_aps_cli.specs.Recording.{IsReady}
@@ -152,27 +152,27 @@ module _ (w left : World) (limit number : ℕ) (listing : SignalListing) (old ne
   line_is = ap (λ (v : World). settle_line number (v.ring.rounds - 1)) left_at
 
   -- the lines of its rounds were written, and its own line
-  pub wrote_step : (first : SignalListing) → first ≡ listing → (mid : Option (List ℕ)) → Appends old mid (changes_text first (changes_in ran at))
+  pub wrote_step : (first : SignalListing) → first ≡ listing → (mid : Option (List ℕ)) → Appends old mid (changes_text first (changes_shown_in ran at))
       → Appends mid new (settle_line number (left.ring.rounds - 1))
       → WroteStep signalling_walk limit number (ended_text listing) w left old new
   wrote_step first same mid before line = record {
     told = signalled_in number at ran;
     ended = ended_with signalling_walk refl limit number w left x.settles;
     text =
-        Appends-trans old mid new (changes_text listing (changes_in ran at)) (settle_line number ((at ran).ring.rounds - 1))
-        (subst (λ l. Appends old mid (changes_text l (changes_in ran at))) same before) (subst (Appends mid new) line_is line);
+        Appends-trans old mid new (changes_text listing (changes_shown_in ran at)) (settle_line number ((at ran).ring.rounds - 1))
+        (subst (λ l. Appends old mid (changes_text l (changes_shown_in ran at))) same before) (subst (Appends mid new) line_is line);
   }
 
   -- only the first bytes of these lines were written
-  pub cut_line : (first : SignalListing) → first ≡ listing → (mid : Option (List ℕ)) → Appends old mid (changes_text first (changes_in ran at))
+  pub cut_line : (first : SignalListing) → first ≡ listing → (mid : Option (List ℕ)) → Appends old mid (changes_text first (changes_shown_in ran at))
       → AppendsFewer mid new (settle_line number (left.ring.rounds - 1))
       → (text : List ℕ) × WasToWrite signalling_walk limit number (ended_text listing) (begun_text listing) w text left
       × AppendsFewer old new text
   cut_line first same mid before line = (
     ended_text listing (signalled_in number at ran),
     inr (signalled_in number at ran, ended_with signalling_walk refl limit number w left x.settles, refl),
-    fewer_behind old mid new (changes_text listing (changes_in ran at)) (settle_line number ((at ran).ring.rounds - 1))
-        (subst (λ l. Appends old mid (changes_text l (changes_in ran at))) same before) (subst (AppendsFewer mid new) line_is line),
+    fewer_behind old mid new (changes_text listing (changes_shown_in ran at)) (settle_line number ((at ran).ring.rounds - 1))
+        (subst (λ l. Appends old mid (changes_text l (changes_shown_in ran at))) same before) (subst (AppendsFewer mid new) line_is line),
   )
 
 -- ---- room stays

@@ -23,9 +23,9 @@ abbrev pub sent_last : World → Sent
 sent_last w = record { round = w.ring.rounds - 1; frames = w.fibres.carried }
 
 -- the frames of the first k rounds of a course, which gives the world after each number of rounds
-abbrev pub sent_in : ℕ → (ℕ → World) → List Sent
-sent_in zero at = []
-sent_in (suc k) at = sent_in k at ++ sent_last (at (suc k)) ∷ []
+abbrev pub frames_sent_in : ℕ → (ℕ → World) → List Sent
+frames_sent_in zero at = []
+frames_sent_in (suc k) at = frames_sent_in k at ++ sent_last (at (suc k)) ∷ []
 
 -- ---- the frames that are asked for
 

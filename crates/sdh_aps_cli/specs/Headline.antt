@@ -14,9 +14,9 @@ abbrev pub usage : List ℕ
 usage = codes "usage: sdhaps run, node ID, frames ID SIDE FIRST COUNT"
 
 -- a plan is run where it has the node that is asked for
-abbrev pub deed_of : Option PlanListing → Deed PlanListing Ending
-deed_of (Some listing) = Runs listing
-deed_of None = Refuses ending.NoSuchNode
+abbrev pub signal_deed_of : Option PlanListing → Deed PlanListing Ending
+signal_deed_of (Some listing) = Runs listing
+signal_deed_of None = Refuses ending.NoSuchNode
 
 abbrev pub signalling : Program SignalAsk PlanListing Piece Ending
 signalling = record {
@@ -25,7 +25,7 @@ signalling = record {
   endings = signalling_endings;
   closing = closing;
   own_plan = λ ask. None;
-  Does = λ ask plan deed. deed ≡ deed_of (listing_of ask plan.nodes);
+  Does = λ ask plan deed. deed ≡ signal_deed_of (listing_of ask plan.nodes);
   text_of = pieces_text;
   IsRunOf = IsSignalledRun;
   MaySettle = MaySettle;

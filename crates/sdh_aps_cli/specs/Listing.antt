@@ -4,7 +4,7 @@ use Rattle.std.specs.List.{flat_map}
 use Rattle.sdh_report.specs.Lines.{settle_line}
 use Rattle.sdh_aps.specs.Lines.{signal_line}
 use Rattle.sdh_aps_cli.specs.Frames.{frames_bytes}
-use Rattle.sdh_aps_cli.specs.Signalled.{Change, Signalled}
+use Rattle.sdh_aps_cli.specs.Signalled.{ShownChange, Signalled}
 use Rattle.sdh_aps_cli.specs.declared.listing.SignalListing.{SignalListing}
 use Rattle.sdh_aps_cli.specs.declared.listing.SignalListing.TheVariants as lines
 use Rattle.sdh_aps_cli.specs.declared.listing.PlanListing.{PlanListing}
@@ -16,11 +16,11 @@ lists lines.All id = true
 lists (lines.Node one) id = one == id
 
 -- the line of a change, where it is listed
-abbrev pub change_text : SignalListing → Change → List ℕ
+abbrev pub change_text : SignalListing → ShownChange → List ℕ
 change_text listing c = if lists listing c.id then signal_line c.round c.id c.shown else []
 
 -- the lines of changes
-abbrev pub changes_text : SignalListing → List Change → List ℕ
+abbrev pub changes_text : SignalListing → List ShownChange → List ℕ
 changes_text listing changes = flat_map (change_text listing) changes
 
 -- ---- lines

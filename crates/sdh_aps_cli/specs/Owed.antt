@@ -13,7 +13,7 @@ use Rattle.sdh_promise.specs.Owed.{Ring, requests_by, IsLast}
 use Rattle.sdh_aps.specs.declared.shown.Shown.{Shown}
 use Rattle.sdh_aps.specs.Shown.{same_shown}
 use Rattle.sdh_aps.specs.Showing.{shown_by}
-use Rattle.sdh_aps_cli.specs.Signalled.{Change, Signalled}
+use Rattle.sdh_aps_cli.specs.Signalled.{ShownChange, Signalled}
 use Rattle.sdh_aps_cli.specs.ByScript.{needs_at, signals_by}
 
 -- ---- a round
@@ -29,24 +29,24 @@ abbrev pub is_news : Ring → List ℕ → List Stretch → ℕ → ℕ → Bool
 is_news r ids stretches t p = (t == 0) || not (same_shown (shown_in r ids stretches (t - 1) p) (shown_in r ids stretches t p))
 
 -- the change of the node at position p in round t
-abbrev pub change_by : Ring → List ℕ → List Stretch → ℕ → ℕ → Change
+abbrev pub change_by : Ring → List ℕ → List Stretch → ℕ → ℕ → ShownChange
 change_by r ids stretches t p = record { round = t; id = get_or ids p 0; shown = shown_in r ids stretches t p }
 
 -- the changes in round t, in ring order: in round 0 those of all nodes, and later those of each node that shows
 -- something else than in the round before
-abbrev pub changes_by : Ring → List ℕ → List Stretch → ℕ → List Change
+abbrev pub changes_by : Ring → List ℕ → List Stretch → ℕ → List ShownChange
 changes_by r ids stretches t =
     flat_map (λ p. if is_news r ids stretches t p then change_by r ids stretches t p ∷ [] else []) (cells (λ p. p) (length ids))
 
 -- all changes in `count` rounds from round `first` on
-abbrev pub all_changes_by : Ring → List ℕ → List Stretch → ℕ → ℕ → List Change
+abbrev pub all_changes_by : Ring → List ℕ → List Stretch → ℕ → ℕ → List ShownChange
 all_changes_by r ids stretches first count = flat_map (changes_by r ids stretches) (cells (λ j. first + j) count)
 
 -- ---- settle steps
 
 -- A settle step, before which `ran` rounds had run, has this last round, and shows these changes: all that the ring of
 -- signals has in the rounds of the step. In its last round all states are settled, under the requests of the history.
-pub record ShowsSignals (r : Ring) (ids : List ℕ) (stretches : List Stretch) (ran round : ℕ) (shown : List Change) : Type 0 where
+pub record ShowsSignals (r : Ring) (ids : List ℕ) (stretches : List Stretch) (ran round : ℕ) (shown : List ShownChange) : Type 0 where
   pub changes : shown ≡ all_changes_by r ids stretches ran (round + 1 - ran)
   pub settled : (signals_by r ids stretches (round + 1)).states ≡ settled_states (requests_by r stretches round)
 
@@ -63,7 +63,7 @@ AreSignalled ring ids limit earlier before (changes ∷ later) (s ∷ told) end 
 
 -- these are all changes of the ring of signals in the first `count` rounds of the settle step that comes after those in
 -- `told`
-abbrev pub AreOfTheNext : Ring → List ℕ → List Stretch → List (List script.Change) → List Signalled → ℕ → List Change → Type 0
+abbrev pub AreOfTheNext : Ring → List ℕ → List Stretch → List (List script.Change) → List Signalled → ℕ → List ShownChange → Type 0
 AreOfTheNext ring ids earlier [] told count shown = shown ≡ []
 AreOfTheNext ring ids earlier (changes ∷ later) [] count shown =
     shown ≡ all_changes_by ring ids (earlier ++ record { changes = changes; rounds = count } ∷ []) (rounds_in earlier) count

@@ -67,8 +67,8 @@ abbrev pub rounds_from : ℕ → List Piece → ℕ
 rounds_from n [] = n
 rounds_from n (p ∷ more) = rounds_from (rounds_after p) more
 
-abbrev pub rounds_in : List Piece → ℕ
-rounds_in pieces = rounds_from 0 pieces
+abbrev pub rounds_of_pieces : List Piece → ℕ
+rounds_of_pieces pieces = rounds_from 0 pieces
 
 -- the pieces of the settle steps that ended, and then those of a settle step that didn't
 abbrev pub pieces_of : List Signalled → List Signalled → List Piece
@@ -77,8 +77,8 @@ pieces_of ended begun = map Ended ended ++ map Begun begun
 -- `begun` is what is reported after the settle steps that ended. It is empty where the script was done, or where the
 -- plant made no fibres. Otherwise it reports the step with which the script ended: of a settle step the rounds that
 -- ran, of a step that was refused nothing.
-abbrev pub IsLast : Planned → Fibres → List Signalled → List Signalled → Status → Fibres → Type 0
-IsLast plan f reports begun end left =
+abbrev pub IsLastSignalled : Planned → Fibres → List Signalled → List Signalled → Status → Fibres → Type 0
+IsLastSignalled plan f reports begun end left =
     ((begun ≡ []) × ((end ≡ status.Ok) ⊎ ((end ≡ status.PlantFault) × (reports ≡ []) × (left ≡ f))))
     ⊎ ((last : World) × (last.fibres ≡ left)
     × StoppedTold signalling_walk plan.limit plan.steps (world_of plan f) reports begun end last)
@@ -97,7 +97,7 @@ pub record IsSignalledRun (plan : Planned) (f : Fibres) (pieces : List Piece) (e
   pub reports : List Signalled
   pub came : IsRunOf plan f reports end left
   pub begun : List Signalled
-  pub begun_is : IsLast plan f reports begun end left
+  pub begun_is : IsLastSignalled plan f reports begun end left
   pub begun_owed : f.honest ≡ true → All (AreFirstRounds plan reports end) begun
   pub pieces_are : pieces ≡ pieces_of reports begun
 
@@ -137,15 +137,15 @@ ends_run (listing.Lines l) rounds end h = inl (end, (λ i. ending.Shared end), h
 ends_run (listing.Frames ask) rounds end h = frames_run (has_rounds ask rounds) end h
 
 -- the last line, after what is written of the run
-abbrev pub line_after : PlanListing → Ending → List ℕ
-line_after (listing.Lines l) end = line_of end
-line_after (listing.Frames ask) end = frames_line end
+abbrev pub last_line_after : PlanListing → Ending → List ℕ
+last_line_after (listing.Lines l) end = line_of end
+last_line_after (listing.Frames ask) end = frames_line end
 
 abbrev pub closing : Closing PlanListing Piece signalling_endings
 closing = record {
-  ends = λ listing pieces end. ends_by listing (rounds_in pieces) end;
-  ends_run = λ listing pieces end h. ends_run listing (rounds_in pieces) end h;
-  line = line_after;
+  ends = λ listing pieces end. ends_by listing (rounds_of_pieces pieces) end;
+  ends_run = λ listing pieces end h. ends_run listing (rounds_of_pieces pieces) end h;
+  line = last_line_after;
 }
 
 -- what a run needs to come to its end: where the arrivals are known each settle step has a quiet window within the
@@ -155,7 +155,7 @@ abbrev pub MaySettle : PlanListing → Planned → Fibres → Type 0
 MaySettle (listing.Lines l) plan f = plans.MaySettle signalling_account plan f
 MaySettle (listing.Frames ask) plan f =
     let ran = plans.ran_of signalling_account plan f in
-    Knows (world_of plan f).fibres × (ran.ending ≡ status.Ok) × (has_rounds ask (rounds_in (pieces_of ran.reports [])) ≡ true)
+    Knows (world_of plan f).fibres × (ran.ending ≡ status.Ok) × (has_rounds ask (rounds_of_pieces (pieces_of ran.reports [])) ≡ true)
 
 -- ---- a run in the code
 
@@ -166,4 +166,4 @@ IsPlaced n (listing.Frames ask) = ask.at.0 < n
 
 -- a run with these pieces ran as many rounds as they say, if no fault of the plant broke it off
 abbrev pub HasRounds : List Piece → Status → ℕ → Type 0
-HasRounds pieces end rounds = end ≢ status.PlantFault → rounds ≡ rounds_in pieces
+HasRounds pieces end rounds = end ≢ status.PlantFault → rounds ≡ rounds_of_pieces pieces

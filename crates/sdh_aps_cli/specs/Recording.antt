@@ -8,7 +8,7 @@ use Rattle.sdh_node.specs.Rings.Rounds.{World}
 use Rattle.sdh_report.specs.Written.{Written}
 use Rattle.sdh_report.specs.Written.{room_in}
 use Rattle.sdh_aps.specs.declared.shown.Shown.{Shown}
-use Rattle.sdh_aps_cli.specs.Signalled.{shown_at, changes_in}
+use Rattle.sdh_aps_cli.specs.Signalled.{shown_at, changes_shown_in}
 use Rattle.sdh_aps_cli.specs.Listing.{changes_text}
 use Rattle.sdh_aps_cli.specs.declared.listing.SignalListing.{SignalListing}
 
@@ -30,12 +30,12 @@ pub record IsRecorded (listing : SignalListing) (at : ℕ → World) (k : ℕ) (
     (old new : Option (List ℕ)) : Type 0 where
   pub ready : IsReady (at k).ring items text
   pub shown : AreShown (shown_at (at k).ring) items
-  pub written : Appends old new (changes_text listing (changes_in k at))
+  pub written : Appends old new (changes_text listing (changes_shown_in k at))
 
 -- a write failed in the k-th round of a settle step: only the first bytes of the lines of its first k rounds were
 -- written
 abbrev pub IsCut : SignalListing → (ℕ → World) → ℕ → Option (List ℕ) → Option (List ℕ) → Type 0
-IsCut listing at k old new = AppendsFewer old new (changes_text listing (changes_in k at))
+IsCut listing at k old new = AppendsFewer old new (changes_text listing (changes_shown_in k at))
 
 -- ---- writes that failed, by a count of faults, which is exact where `exact` holds
 

@@ -1,7 +1,7 @@
 //! What looks at the plant after each round, and writes the frames that are asked for.
 ghost use Rattle.std.specs.Prelude.{◌≡◌};
 ghost use Rattle.sdh_aps_cli.specs.Frames.{is_wanted};
-ghost use Rattle.sdh_aps_cli.specs.FrameRecording.{AreWritten, AreCut};
+ghost use Rattle.sdh_aps_cli.specs.FrameRecording.{FramesAreWritten, AreCut};
 ghost use Rattle.sdh_aps_cli.specs.FrameKeeping.{written_same};
 ghost use Rattle.sdh_aps_cli.specs.Recording.{NoneFailed, OneFailed};
 
@@ -26,7 +26,7 @@ fn is_wanted(ask: &FrameWindow, round: u64) -> bool
 }
 
 impl<W: Sink, P: LendingPlant> Recorder<Running, P, W> for FrameRecorder {
-    ghost Records = { λ first begun at k r w. (r.ask ≡ first.ask) × AreWritten first.ask at k (W.written begun) (W.written w)
+    ghost Records = { λ first begun at k r w. (r.ask ≡ first.ask) × FramesAreWritten first.ask at k (W.written begun) (W.written w)
         × NoneFailed W.exact (W.faults begun) (W.faults w) };
 
     ghost Stops = { λ first begun at k r w. AreCut first.ask at k (W.written begun) (W.written w)

@@ -1,8 +1,8 @@
 //! What the program does with a plan.
 ghost use Rattle.std.specs.Prelude.{◌≡◌, ◌≤◌, ◌++◌, refl, length};
-ghost use Rattle.sdh_scripts.specs.NewRuns.{IsOf};
+ghost use Rattle.sdh_scripts.specs.NewRuns.{IsRunOfPlan};
 ghost use Rattle.sdh_aps_cli.specs.Endings.{frames_end, frames_line};
-ghost use Rattle.sdh_aps_cli.specs.Plans.{Piece, IsCutRun, HasRounds, signalling_account, has_rounds, ends_by, line_after};
+ghost use Rattle.sdh_aps_cli.specs.Plans.{Piece, IsCutRun, HasRounds, signalling_account, has_rounds, ends_by, last_line_after};
 ghost use Rattle.sdh_aps_cli.specs.Running.{running_ring, listing_in};
 ghost use Rattle.sdh_aps_cli.specs.Headline.{signalling};
 ghost use Rattle.sdh_aps_cli.specs.declared.listing.SignalAsk.{SignalAsk as Asked};
@@ -60,8 +60,8 @@ fn put_after_frames(ending: Ending, line: &mut Text)
 // Appends the last line, after what is written of a run.
 fn put_after(listing: &PlanListing, ending: Ending, line: &mut Text)
     requires room { 96 ≤ line.old.room }
-    ensures line { line.new.bytes ≡ line.old.bytes ++ line_after listing.now ending }
-    ensures short { length (line_after listing.now ending) ≤ 96 }
+    ensures line { line.new.bytes ≡ line.old.bytes ++ last_line_after listing.now ending }
+    ensures short { length (last_line_after listing.now ending) ≤ 96 }
 {
     match listing {
         PlanListing::Lines(_) => ending.put_line(line),
@@ -86,7 +86,7 @@ impl<'a, W: Sink, P: LendingPlant> Program<'a, W, P> for SignalAsk {
 
     ghost ask_of = { λ ask. ask };
 
-    ghost Begins = { λ listing plan run. IsOf running_ring signalling_account plan run × (listing_in run.runner ≡ listing) };
+    ghost Begins = { λ listing plan run. IsRunOfPlan running_ring signalling_account plan run × (listing_in run.runner ≡ listing) };
 
     ghost Leaves = { HasRounds };
 

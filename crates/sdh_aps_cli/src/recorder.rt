@@ -4,7 +4,7 @@ ghost use Rattle.sdh_report.specs.Lines.{settle_line};
 ghost use Rattle.sdh_report.specs.Written.{room_in};
 ghost use Rattle.sdh_aps.specs.declared.shown.Shown.{Shown};
 ghost use Rattle.sdh_aps.specs.Shown.{HasWords};
-ghost use Rattle.sdh_aps_cli.specs.Signalled.{shown_at, is_told, change_of, changes_to};
+ghost use Rattle.sdh_aps_cli.specs.Signalled.{shown_at, is_changed, change_of, changes_to};
 ghost use Rattle.sdh_aps_cli.specs.Listing.{lists, change_text, changes_text};
 ghost use Rattle.sdh_aps_cli.specs.Recording.{AreShown};
 
@@ -54,13 +54,13 @@ fn put_change(text: &mut Text, ring: &Running, at: Pos, now: &Shown, listing: Si
 
 // Appends the line of the node at a position, where the last round was the ring's first, or the node shows something
 // else after it than `was`.
-#[tactic(auto, unfolding(crate::specs::Signalled::is_told))]
+#[tactic(auto, unfolding(crate::specs::Signalled::is_changed))]
 fn put_new(text: &mut Text, ring: &Running, at: Pos, was: &Shown, listing: SignalListing)
     requires at { at.0 < length ring.now.ids }
     requires ran { 1 ≤ ring.now.rounds }
     requires room { 128 ≤ text.old.room }
     ensures bytes { text.new.bytes ≡ text.old.bytes
-        ++ (if is_told was.now ring.now at.0 then change_text listing (change_of ring.now at.0) else []) }
+        ++ (if is_changed was.now ring.now at.0 then change_text listing (change_of ring.now at.0) else []) }
     ensures room { text.old.room ≤ text.new.room + 128 }
     ensures kept { room_in text.new ≡ room_in text.old }
 {

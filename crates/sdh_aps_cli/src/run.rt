@@ -1,6 +1,6 @@
 //! The run of a plan, before its fibres are there: its ring is made, and what records its rounds.
 ghost use Rattle.std.specs.Prelude.{◌≡◌, ◌<◌, length, IfOk};
-ghost use Rattle.sdh_scripts.specs.NewRuns.{MayStart, IsOf};
+ghost use Rattle.sdh_scripts.specs.NewRuns.{MayStartRun, IsRunOfPlan};
 ghost use Rattle.sdh_aps_cli.specs.Plans.{signalling_account, IsPlaced};
 ghost use Rattle.sdh_aps_cli.specs.Running.{running_ring, listing_in, MaySignal};
 ghost use Rattle.sdh_aps_cli.specs.declared.listing.PlanListing.TheVariants as listed;
@@ -19,8 +19,8 @@ use std::alloc::{AllocError, Global};
 
 // Returns a run of a plan that writes the lines of nodes.
 fn lines_run(alloc: Global, plan: Plan, lines: SignalListing) -> Result<NewRun<PlanRun>, AllocError>
-    ensures is_of { IfOk result (IsOf running_ring signalling_account plan) }
-    ensures ready { IfOk result (λ new. MayStart running_ring MaySignal new.runner new.script) }
+    ensures is_of { IfOk result (IsRunOfPlan running_ring signalling_account plan) }
+    ensures ready { IfOk result (λ new. MayStartRun running_ring MaySignal new.runner new.script) }
     ensures listing { IfOk result (λ new. listing_in new.runner ≡ listed.Lines lines) }
 {
     let parts = parts_of(alloc, plan)?;
@@ -35,8 +35,8 @@ fn lines_run(alloc: Global, plan: Plan, lines: SignalListing) -> Result<NewRun<P
 // Returns a run of a plan that writes the frames that are asked for, each whole and as it was sent.
 fn frames_run(alloc: Global, plan: Plan, ask: FrameWindow) -> Result<NewRun<PlanRun>, AllocError>
     requires at { ask.at.0 < length plan.nodes }
-    ensures is_of { IfOk result (IsOf running_ring signalling_account plan) }
-    ensures ready { IfOk result (λ new. MayStart running_ring MaySignal new.runner new.script) }
+    ensures is_of { IfOk result (IsRunOfPlan running_ring signalling_account plan) }
+    ensures ready { IfOk result (λ new. MayStartRun running_ring MaySignal new.runner new.script) }
     ensures listing { IfOk result (λ new. listing_in new.runner ≡ listed.Frames ask) }
 {
     let parts = parts_of(alloc, plan)?;
@@ -55,8 +55,8 @@ pub fn new_run(
     listing: PlanListing,
 ) -> Result<NewRun<PlanRun>, AllocError>
     requires placed { IsPlaced (length plan.nodes) listing }
-    ensures is_of { IfOk result (IsOf running_ring signalling_account plan) }
-    ensures ready { IfOk result (λ new. MayStart running_ring MaySignal new.runner new.script) }
+    ensures is_of { IfOk result (IsRunOfPlan running_ring signalling_account plan) }
+    ensures ready { IfOk result (λ new. MayStartRun running_ring MaySignal new.runner new.script) }
     ensures listing { IfOk result (λ new. listing_in new.runner ≡ listing) }
 {
     match listing {

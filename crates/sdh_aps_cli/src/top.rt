@@ -11,7 +11,7 @@ ghost use Rattle.sdh_aps_cli.specs.Words.{asked};
 ghost use Rattle.sdh_aps_cli.specs.Plans.{IsCutRun};
 ghost use Rattle.sdh_aps_cli.specs.Headline.{signalling};
 ghost use Rattle.sdh_aps_cli.specs.declared.ending.Ending.{Ending};
-ghost use Rattle.sdh_shell.specs.Kept.{around};
+ghost use Rattle.sdh_shell.specs.Kept.{seen_around};
 ghost use Rattle.sdh_programs.specs.Calls.{KeepsCall};
 
 use crate::ending::Ending;
@@ -55,8 +55,8 @@ pub fn sdhaps<R: Source, W: Sink, P: LendingPlant>(
     // cause, what isn't asked for stays as it was, and where all that a run needs is given, and no call fails, all is
     // done.
     ensures kept { KeepsCall signalling IsCutRun (asked (words_of words.now))
-        (around R.faults R.exact R.left source.old source.new)
-        (around W.faults W.exact W.written sink.old sink.new) (around P.faults P.exact P.fibres plant.old plant.new) result }
+        (seen_around R.faults R.exact R.left source.old source.new)
+        (seen_around W.faults W.exact W.written sink.old sink.new) (seen_around P.faults P.exact P.fibres plant.old plant.new) result }
 {
     call_over::<W, P, SignalAsk, R>(alloc, words, source, sink, plant)
 }

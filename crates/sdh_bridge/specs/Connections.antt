@@ -17,9 +17,9 @@ use Rattle.sdh_bridge.specs.declared.Origin.TheVariants.{Add, Working, Protectio
 
 -- what a node at p sends of the circuit on a side: the stream of its own port where the circuit ends there, else what
 -- comes through; AIS where there is no circuit
-abbrev pub sent_of : Pos → Option OnSpan → Origin → Origin
-sent_of p None through = Ais
-sent_of p (Some r) through =
+abbrev pub origin_sent : Pos → Option OnSpan → Origin → Origin
+origin_sent p None through = Ais
+origin_sent p (Some r) through =
     if r.from.0 == p.0 then Add (record { circuit = r.circuit; end = A }) else
     if r.to.0 == p.0 then Add (record { circuit = r.circuit; end = B }) else through
 
@@ -51,7 +51,7 @@ module _ (n : ℕ) (p : Pos) (on : Side → Option OnSpan) where
   -- what leaves on side d in the working slot
   unfoldable pub leaves_working : NodeState → Side → Origin
   leaves_working (state.Isolated x) d = Ais
-  leaves_working s d = sent_of p (on d) (stands_for s (opposite d))
+  leaves_working s d = origin_sent p (on d) (stands_for s (opposite d))
 
   -- what leaves on side d in the protection slot
   unfoldable pub leaves_protection : NodeState → Side → Origin

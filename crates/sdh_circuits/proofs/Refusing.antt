@@ -4,7 +4,7 @@ use Rattle.std.specs.List.{list_any}
 use Rattle.sdh_circuits.specs.Provisioned.{Provisioned}
 use Rattle.sdh_circuits.specs.Provisioning.{Provisioning}
 use Rattle.sdh_circuits.specs.Checks.{Wish, circuit_of, do_share, has_slot, has_ends, has_two_ends, has_offsets, has_texts, has_traces}
-use Rattle.sdh_circuits.specs.Checks.{is_free_name, has_room, checks, refusal}
+use Rattle.sdh_circuits.specs.Checks.{is_free_name, has_room, wish_checks, refusal}
 use Rattle.sdh_circuits.specs.declared.AddError.{AddError}
 use Rattle.sdh_circuits.specs.declared.AddError.TheVariants as refused
 
@@ -31,7 +31,7 @@ pub last_check : (p : Provisioning) (ids : List ℕ) (wish : Wish) (c : Provisio
     → has_offsets wish ≡ true → has_texts wish ≡ true → has_traces wish ≡ true → is_free_name p.circuits wish.name ≡ true
     → c ≡ circuit_of ids wish → taken ≡ list_any (do_share (length ids) c) p.circuits
     → refusal p ids wish ≡ cond taken (Some refused.Overlap) None
-unfolding refusal checks
+unfolding refusal wish_checks
 last_check p ids wish c taken i j k l m n o is e =
     let room : has_room ids p.circuits wish ≡ not taken =
     ap (λ d. not (list_any (do_share (length ids) d) p.circuits)) (sym is) ∙ ap not (sym e) in

@@ -108,8 +108,8 @@ abbrev pub has_room : List ℕ → List Provisioned → Wish → Bool
 has_room ids circuits wish = not (list_any (do_share (length ids) (circuit_of ids wish)) circuits)
 
 -- the checks in their order, each with the error that is returned where it fails
-unfoldable pub checks : Provisioning → List ℕ → Wish → List (Bool × AddError)
-checks before ids wish =
+unfoldable pub wish_checks : Provisioning → List ℕ → Wish → List (Bool × AddError)
+wish_checks before ids wish =
     (has_slot before.slots wish, refused.Slot)
     ∷ ((has_ends ids wish, refused.End)
     ∷ ((has_two_ends wish, refused.SameEnds)
@@ -127,7 +127,7 @@ first_failing (check ∷ later) = if check.0 then first_failing later else Some 
 
 -- why the circuit that is asked for can't be added: the error of the first check that fails
 unfoldable pub refusal : Provisioning → List ℕ → Wish → Option AddError
-refusal before ids wish = first_failing (checks before ids wish)
+refusal before ids wish = first_failing (wish_checks before ids wish)
 
 -- the circuit map after the circuit was added: it stands after the others, and the map keeps the ring
 abbrev pub with_circuit : Provisioning → List ℕ → Provisioned → Provisioning

@@ -56,7 +56,7 @@ impl CircuitMap {
     }
 
     // Returns the circuit that is asked for, or the error of the first check that fails.
-    #[tactic(auto, using(crate::proofs::Kept::inside_kept, crate::proofs::Kept::in_ring, crate::proofs::Refusing::last_check), unfolding(crate::specs::Checks::refusal, crate::specs::Checks::checks))]
+    #[tactic(auto, using(crate::proofs::Kept::inside_kept, crate::proofs::Kept::in_ring, crate::proofs::Refusing::last_check), unfolding(crate::specs::Checks::refusal, crate::specs::Checks::wish_checks))]
     fn check(&self, map: &RingMap, asked: &Asked<'_>) -> Result<Circuit, AddError>
         requires { IfSome self.now.ring (λ ids. ids ≡ map.now) }
         ensures ok { IfOk result (λ c. c ≡ circuit_of map.now (wish_of asked.now)) }

@@ -6,7 +6,7 @@ use Rattle.sdh_report.specs.declared.listing.Listing.{Listing}
 use Rattle.sdh_status.specs.declared.Status.{Status}
 use Rattle.sdh_status.specs.declared.Status.TheVariants as status
 use Rattle.sdh_report.specs.Reports.{listed, text_of}
-use Rattle.sdh_scripts.specs.NewRuns.{IsOf}
+use Rattle.sdh_scripts.specs.NewRuns.{IsRunOfPlan}
 use Rattle.sdh_scripts.proofs.Plans.{came_of}
 use Rattle.sdh_programs.specs.Programs.{Deed, Refuses, Writes, Runs, deed_listing}
 use Rattle.sdh_programs.specs.Deeds.{IsOnly}
@@ -28,7 +28,7 @@ use Rattle.sdh_cli.proofs.Plans.{tells}
 -- what was written of the steps of a plan is what is listed of a run of the plan
 pub reported : ReportsAreOwed → ScriptsSettle → HealthyScripts → CoursesAreTold
     → StepsAreReported ringing adm_walk running_ring (λ (r : RingRun) told. listed r.listing told) (λ r told. [])
-    (λ listing plan run. IsOf running_ring adm_account plan run × (run.runner.listing ≡ listing)) (λ told end ring. Unit {0})
+    (λ listing plan run. IsRunOfPlan running_ring adm_account plan run × (run.runner.listing ≡ listing)) (λ told end ring. Unit {0})
 reported owed settles healthy courses listing plan run f old new end left begins fresh x =
     let y = came_of running_ring adm_account plan run begins.0 (listed run.runner.listing) f left old new end x in
     let t : Tells plan run.runner.listing f y.0 end left.fibres =

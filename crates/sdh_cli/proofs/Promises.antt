@@ -17,7 +17,7 @@ use Rattle.sdh_owed.specs.Plans.{world_of}
 use Rattle.sdh_cli.specs.Plans.{IsRunOf, ran_of, AreAsPromised}
 use Rattle.sdh_cli.specs.Words.{Ask}
 use Rattle.sdh_cli.specs.Outcome.{ringing, MayEnd}
-use Rattle.sdh_cli.specs.Headline.{Lists, IsAsPromised, EndsAsItRuns, AlwaysSettles}
+use Rattle.sdh_cli.specs.Headline.{RunsAndLists, IsAsPromised, EndsAsItRuns, AlwaysSettles}
 use Rattle.sdh_cli.proofs.Deeds.{listed_deed, run_alone}
 
 -- what is so of each run, by its plan, its reports and its end
@@ -28,7 +28,7 @@ Said = Planned → List Report → Status → Type 0
 shown : (ask : Option Ask) (f left : Fibres) (reads calls : Counts) (bytes : List ℕ) (how : Status) (old new : Option (List ℕ))
     → Writes (λ how text. MayEnd ask bytes f reads calls how text left) how old new → (P : Said)
     → ((plan : Planned) (reports : List Report) (end : Status) → IsRunOf plan f reports end left → P plan reports end)
-    → (plan : Planned) (listing : Listing) → Lists ask bytes plan listing → HasRun how
+    → (plan : Planned) (listing : Listing) → RunsAndLists ask bytes plan listing → HasRun how
     → (reports : List Report) × Appends old new (text_of listing reports ++ last_line how) × P plan reports how
 shown None f left reads calls bytes how old new x P so plan listing is h = absurd is
 shown (Some ask) f left reads calls bytes how old new x P so plan listing is h =

@@ -44,7 +44,7 @@ ringing = record {
 
 -- what must be known of a source: its bytes, or nothing where it isn't read
 abbrev pub told : Option Ask → Option (List ℕ) → Option (List ℕ)
-told = outcome.told_by own_plan
+told = outcome.known_by own_plan
 
 -- an outcome that, if it is a read fault or a plant fault, has its cause in a call that failed
 abbrev pub MayEnd : Option Ask → List ℕ → Fibres → Counts → Counts → Status → List ℕ → Fibres → Type 0

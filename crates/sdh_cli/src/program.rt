@@ -1,7 +1,7 @@
 //! What the program does with a plan.
 ghost use Rattle.std.specs.Prelude.{◌≡◌, ◌+◌, ◌≤◌, refl, IfOk, IfSome, length};
 ghost use Rattle.sdh_report.specs.Reports.{Report};
-ghost use Rattle.sdh_scripts.specs.NewRuns.{IsOf};
+ghost use Rattle.sdh_scripts.specs.NewRuns.{IsRunOfPlan};
 ghost use Rattle.sdh_programs.specs.Calls.{never_cut};
 ghost use Rattle.sdh_cli.specs.Tables.{tables_of};
 ghost use Rattle.sdh_cli.specs.Room.{MayList};
@@ -67,7 +67,7 @@ impl<'a, P: Plant> Program<'a, Text, P> for Command<'a> {
 
     ghost ask_of = { what_is_asked };
 
-    ghost Begins = { λ listing plan run. IsOf running_ring adm_account plan run × (run.runner.listing ≡ listing) };
+    ghost Begins = { λ listing plan run. IsRunOfPlan running_ring adm_account plan run × (run.runner.listing ≡ listing) };
 
     ghost Leaves = { λ told end ring. Unit {0} };
 

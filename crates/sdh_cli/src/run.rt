@@ -1,6 +1,6 @@
 //! The run of a plan, before its fibres are there: its ring is made, and room for what is listed.
 ghost use Rattle.std.specs.Prelude.{◌≡◌, ◌≤◌, length, IfOk};
-ghost use Rattle.sdh_scripts.specs.NewRuns.{MayStart, IsOf};
+ghost use Rattle.sdh_scripts.specs.NewRuns.{MayStartRun, IsRunOfPlan};
 ghost use Rattle.sdh_scripts.specs.Texts.{room_for};
 ghost use Rattle.sdh_cli.specs.Room.{report_room, MayList};
 ghost use Rattle.sdh_cli.specs.Running.{running_ring, MayRun};
@@ -35,8 +35,8 @@ pub fn new_run(
     text: &mut Text,
 ) -> Result<NewRun<RingRun>, AllocError>
     requires listing { MayList (length plan.circuits) listing }
-    ensures is_of { IfOk result (IsOf running_ring adm_account plan) }
-    ensures ready { IfOk result (λ new. MayStart running_ring MayRun new.runner new.script) }
+    ensures is_of { IfOk result (IsRunOfPlan running_ring adm_account plan) }
+    ensures ready { IfOk result (λ new. MayStartRun running_ring MayRun new.runner new.script) }
     ensures listing { IfOk result (λ new. new.runner.listing ≡ listing) }
     ensures room { IfOk result
         (λ new. room_for (report_room listing (length new.runner.ring.ids) (length new.runner.ring.circuits.circuits)) 0 ≤ text.new.room) }

@@ -8,7 +8,7 @@ ghost use Rattle.sdh_shell.specs.Writing.{Writes};
 ghost use Rattle.sdh_cli.specs.Words.{asked};
 ghost use Rattle.sdh_cli.specs.Outcome.{told, MayEnd};
 ghost use Rattle.sdh_cli.specs.Headline.{IsAsPromised, EndsAsItRuns, AlwaysSettles};
-ghost use Rattle.sdh_shell.specs.Kept.{around};
+ghost use Rattle.sdh_shell.specs.Kept.{seen_around};
 ghost use Rattle.sdh_programs.specs.Calls.{KeepsCall, never_cut};
 ghost use Rattle.sdh_cli.specs.Outcome.{ringing};
 
@@ -65,8 +65,8 @@ pub fn sdhring<R: Source, W: Sink, P: Plant>(
     // cause, what isn't asked for stays as it was, and where all that a run needs is given, and no call fails, all is
     // done.
     ensures kept { KeepsCall ringing never_cut (asked (words_of words.now))
-        (around R.faults R.exact R.left source.old source.new)
-        (around W.faults W.exact W.written sink.old sink.new) (around P.faults P.exact P.fibres plant.old plant.new) result }
+        (seen_around R.faults R.exact R.left source.old source.new)
+        (seen_around W.faults W.exact W.written sink.old sink.new) (seen_around P.faults P.exact P.fibres plant.old plant.new) result }
 {
     call::<P, Command<'_>, R, W>(alloc, words, source, sink, plant)
 }

@@ -10,15 +10,15 @@ use Rattle.sdh_elastic.specs.declared.stage.Stage.{Stage}
 use Rattle.sdh_elastic.specs.declared.lengths.Lengths.{Lengths}
 use Rattle.sdh_elastic.specs.Turns.{given, moves, next_action, is_held, value_after, word_for}
 use Rattle.sdh_elastic.specs.Lengths.{is_steady, is_last_steady, last_lengths, with_length, keeps_steady}
-use Rattle.sdh_elastic.specs.History.{actions, fill, lasts, lengths, taken_in, count_given, held, last_action, last_given, value_of}
+use Rattle.sdh_elastic.specs.History.{actions, fill, lasts, lengths, bytes_taken, count_given, bytes_held, last_action, last_given, value_of}
 use Rattle.sdh_elastic.specs.History.{last_word}
-use Rattle.sdh_elastic.specs.Store.{Store, empty, stage_of, action_in, stage_after, action_at, fill_after, given_at, after_turn, store_of}
-use Rattle.sdh_elastic.specs.Store.{CameBy, GoesOn}
+use Rattle.sdh_elastic.specs.Store.{Store, empty, stage_of, stage_action, stage_after, action_at, fill_after, given_at, after_turn, store_of}
+use Rattle.sdh_elastic.specs.Store.{StoreCameBy, GoesOn}
 use Rattle.sdh_elastic.proofs.Near.{held_bounds}
 
 -- ---- stages
 
-pub same_action : (acts : List Action) (f : ℕ) → action_in (stage_of acts) f ≡ next_action acts f
+pub same_action : (acts : List Action) (f : ℕ) → stage_action (stage_of acts) f ≡ next_action acts f
 same_action [] f = refl
 same_action (a ∷ []) f = refl
 same_action (a ∷ b ∷ []) f =
@@ -71,22 +71,22 @@ same_steady n (a ∷ b ∷ c ∷ earlier) = refl
 pub swapped : (a b : ℕ) → a + b ≡ b + a
 swapped a b = omega arith
 
-pub length-taken_in : (past : List (List ℕ)) → length (taken_in past) ≡ sum (lengths past)
+pub length-taken_in : (past : List (List ℕ)) → length (bytes_taken past) ≡ sum (lengths past)
 length-taken_in [] = refl
 length-taken_in (x ∷ past) =
-    length-append (taken_in past) x ∙ ap (λ (n : ℕ). n + length x) (length-taken_in past) ∙ swapped (sum (lengths past)) (length x)
+    length-append (bytes_taken past) x ∙ ap (λ (n : ℕ). n + length x) (length-taken_in past) ∙ swapped (sum (lengths past)) (length x)
     ∙ sym (sum_by-cons (λ (n : ℕ). n) (length x) (lengths past))
 
 -- no more was given than was taken in
-pub enough : (past : List (List ℕ)) → lasts (lengths past) ≡ true → count_given past ≤ length (taken_in past)
+pub enough : (past : List (List ℕ)) → lasts (lengths past) ≡ true → count_given past ≤ length (bytes_taken past)
 unfolding actions
 enough [] h = omega arith
 enough (x ∷ past) h =
     let bound = held_bounds (fill (lengths (x ∷ past))) (and_parts (lasts (lengths past)) (is_held (fill (lengths (x ∷ past)))) h).1 in
     omega (arith, bound.0, length-taken_in (x ∷ past))
 
-pub length-held : (past : List (List ℕ)) → length (held past) ≡ fill (lengths past)
-length-held past = length-drop (count_given past) (taken_in past) ∙ ap (λ n. n - count_given past) (length-taken_in past)
+pub length-held : (past : List (List ℕ)) → length (bytes_held past) ≡ fill (lengths past)
+length-held past = length-drop (count_given past) (bytes_taken past) ∙ ap (λ n. n - count_given past) (length-taken_in past)
 
 -- what was given before a turn, and by it
 pub count_after : (x : List ℕ) (past : List (List ℕ)) → count_given (x ∷ past) ≡ given (last_action (x ∷ past)) + count_given past
@@ -111,12 +111,12 @@ fill_step x past h =
 pub action_of_turn : (first : ℕ) (x : List ℕ) (past : List (List ℕ)) → action_at (store_of first past) ≡ last_action (x ∷ past)
 unfolding store_of
 action_of_turn first x past =
-    ap (action_in (stage_of (actions (lengths past)))) (length-held past) ∙ same_action (actions (lengths past)) (fill (lengths past))
+    ap (stage_action (stage_of (actions (lengths past)))) (length-held past) ∙ same_action (actions (lengths past)) (fill (lengths past))
 
 -- the bytes held and one more chunk
 pub held_and : (x : List ℕ) (past : List (List ℕ)) → lasts (lengths past) ≡ true
-    → held past ++ x ≡ drop (count_given past) (taken_in past ++ x)
-held_and x past h = sym (drop-append-le (count_given past) (taken_in past) x (enough past h))
+    → bytes_held past ++ x ≡ drop (count_given past) (bytes_taken past ++ x)
+held_and x past h = sym (drop-append-le (count_given past) (bytes_taken past) x (enough past h))
 
 same_fields : (h h' : List ℕ) (st st' : Stage) (v v' w w' : ℕ) (ls ls' : Lengths) (b b' : Bool) → h ≡ h' → st ≡ st' → v ≡ v' → w ≡ w'
     → ls ≡ ls' → b ≡ b'
@@ -130,9 +130,9 @@ unfolding store_of after_turn actions
 store_after first x past h =
     let a : Action = action_at (store_of first past) in
     let is : a ≡ last_action (x ∷ past) = action_of_turn first x past in
-    let bytes : drop (given a) (held past ++ x) ≡ held (x ∷ past) =
-    ap (drop (given a)) (held_and x past h) ∙ drop-drop (given a) (count_given past) (taken_in past ++ x)
-    ∙ ap (λ (n : ℕ). drop n (taken_in past ++ x)) (swapped (count_given past) (given a)
+    let bytes : drop (given a) (bytes_held past ++ x) ≡ bytes_held (x ∷ past) =
+    ap (drop (given a)) (held_and x past h) ∙ drop-drop (given a) (count_given past) (bytes_taken past ++ x)
+    ∙ ap (λ (n : ℕ). drop n (bytes_taken past ++ x)) (swapped (count_given past) (given a)
     ∙ ap (λ (b : Action). given b + count_given past) is ∙ sym (count_after x past)) in
     same_fields _ _ _ _ _ _ _ _ _ _ _ _ bytes
     (ap (stage_after (stage_of (actions (lengths past)))) is ∙ sym (next_stage (actions (lengths past)) (fill (lengths past))))
@@ -154,7 +154,7 @@ pub same_given : (first : ℕ) (x : List ℕ) (past : List (List ℕ)) → lasts
     → given_at (store_of first past) x ≡ last_given (x ∷ past)
 unfolding store_of
 same_given first x past h =
-    ap (λ (b : Action). take (given b) (held past ++ x)) (action_of_turn first x past)
+    ap (λ (b : Action). take (given b) (bytes_held past ++ x)) (action_of_turn first x past)
     ∙ ap (take (given (last_action (x ∷ past)))) (held_and x past h)
 
 goes_on_from : (first : ℕ) (x : List ℕ) (past : List (List ℕ)) → lasts (lengths past) ≡ true
@@ -169,12 +169,12 @@ goes_on_from first x past h fits = record {
   action = action_of_turn first x past;
 }
 
-pub goes_on : (s : Store) (x : List ℕ) (first : ℕ) (past : List (List ℕ)) → is_held (fill_after s (length x)) ≡ true → CameBy first past s
+pub goes_on : (s : Store) (x : List ℕ) (first : ℕ) (past : List (List ℕ)) → is_held (fill_after s (length x)) ≡ true → StoreCameBy first past s
     → GoesOn first past x (given_at s x) (action_at s) (after_turn s x)
 goes_on s x first past fits came = rw came.kept (goes_on_from first x past came.lasts (rw came.kept at fits))
 
 -- a steady history keeps its store steady
-pub steady_now : (s : Store) (n first : ℕ) (past : List (List ℕ)) → CameBy first past s → is_steady (n ∷ lengths past) ≡ true
+pub steady_now : (s : Store) (n first : ℕ) (past : List (List ℕ)) → StoreCameBy first past s → is_steady (n ∷ lengths past) ≡ true
     → (s.steady ≡ true) × (keeps_steady n s.lengths ≡ true)
 unfolding store_of
 steady_now s n first past came h =
@@ -185,27 +185,27 @@ steady_now s n first past came h =
     )
 
 -- a new store has taken nothing in
-pub new_store : (first : ℕ) → CameBy first [] (empty first)
+pub new_store : (first : ℕ) → StoreCameBy first [] (empty first)
 unfolding store_of actions
 new_store first = record { lasts = refl; kept = refl }
 
 -- ---- what a store shows of its history
 
-pub word_of_history : (s : Store) (first : ℕ) (past : List (List ℕ)) → CameBy first past s
+pub word_of_history : (s : Store) (first : ℕ) (past : List (List ℕ)) → StoreCameBy first past s
     → s.word ≡ last_word first (actions (lengths past))
 unfolding store_of
 word_of_history s first past came = ap (λ (t : Store). t.word) came.kept
 
-pub fill_of_history : (s : Store) (first : ℕ) (past : List (List ℕ)) → CameBy first past s → length s.held ≡ fill (lengths past)
+pub fill_of_history : (s : Store) (first : ℕ) (past : List (List ℕ)) → StoreCameBy first past s → length s.held ≡ fill (lengths past)
 unfolding store_of
 fill_of_history s first past came = ap (λ (t : Store). length t.held) came.kept ∙ length-held past
 
-pub steady_of_history : (s : Store) (first : ℕ) (past : List (List ℕ)) → CameBy first past s → s.steady ≡ is_steady (lengths past)
+pub steady_of_history : (s : Store) (first : ℕ) (past : List (List ℕ)) → StoreCameBy first past s → s.steady ≡ is_steady (lengths past)
 unfolding store_of
 steady_of_history s first past came = ap (λ (t : Store). t.steady) came.kept
 
 -- a drift of a store is one of its history
-pub drift_of_history : (s : Store) (x : List ℕ) (first : ℕ) (past : List (List ℕ)) → CameBy first past s
+pub drift_of_history : (s : Store) (x : List ℕ) (first : ℕ) (past : List (List ℕ)) → StoreCameBy first past s
     → is_held (fill_after s (length x)) ≡ false → lasts (lengths (x ∷ past)) ≡ false
 drift_of_history s x first past came h =
     let same = same_fill first x past came.lasts in

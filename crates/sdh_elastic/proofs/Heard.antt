@@ -9,7 +9,7 @@ use Rattle.sdh_pointer.specs.declared.reading.Action.{Action}
 use Rattle.sdh_pointer.specs.declared.reading.Action.TheVariants as action
 use Rattle.sdh_pointer.specs.declared.word.Form.TheVariants as form
 use Rattle.sdh_pointer.specs.Words.{word_of, one_up, one_down}
-use Rattle.sdh_pointer.specs.Reading.{event_of, after_in, action_in, after_word, action_on, start, settled, later}
+use Rattle.sdh_pointer.specs.Reading.{event_of, after_in, action_in, after_word, action_on, start, nothing_counted, later}
 use Rattle.sdh_pointer.proofs.Forms.{of_normal, of_enabled, of_up, of_down, of_ais, same_event}
 use Rattle.sdh_pointer.proofs.Rows.{norm_same, norm_up, norm_down, ais_ais, ais_ndf, norm_same_action, norm_up_action, norm_down_action}
 use Rattle.sdh_pointer.proofs.Rows.{ais_ais_action, ais_ndf_action}
@@ -35,34 +35,34 @@ heard_ais : (v : ℕ) → IsHeard start (word_of form.Ais v) action.Ais start
 heard_ais v =
     by_row start (word_of form.Ais v) mode.Ais event.Ais action.Ais start refl (of_ais start v) (ais_ais_action start) (ais_ais start)
 
-heard_new : (v : ℕ) → v ≤ 782 → IsHeard start (word_of form.Enabled v) action.New (settled mode.Norm v 0)
+heard_new : (v : ℕ) → v ≤ 782 → IsHeard start (word_of form.Enabled v) action.New (nothing_counted mode.Norm v 0)
 heard_new v small =
-    by_row start (word_of form.Enabled v) mode.Ais (event.Ndf v) action.New (settled mode.Norm v 0) refl (of_enabled start v small)
+    by_row start (word_of form.Enabled v) mode.Ais (event.Ndf v) action.New (nothing_counted mode.Norm v 0) refl (of_enabled start v small)
     (ais_ndf_action start v) (ais_ndf start v)
 
-heard_normal : (v since : ℕ) → v ≤ 782 → IsHeard (settled mode.Norm v since) (word_of form.Normal v) action.Normal
-    (settled mode.Norm v (later since))
+heard_normal : (v since : ℕ) → v ≤ 782 → IsHeard (nothing_counted mode.Norm v since) (word_of form.Normal v) action.Normal
+    (nothing_counted mode.Norm v (later since))
 heard_normal v since small =
-    let r : Reading = settled mode.Norm v since in
-    by_row r (word_of form.Normal v) mode.Norm event.Same action.Normal (settled mode.Norm v (later since)) refl
+    let r : Reading = nothing_counted mode.Norm v since in
+    by_row r (word_of form.Normal v) mode.Norm event.Same action.Normal (nothing_counted mode.Norm v (later since)) refl
     (of_normal r v small ∙ same_event r v refl refl) (norm_same_action r) (norm_same r)
 
-heard_up : (v : ℕ) → v ≤ 782 → IsHeard (settled mode.Norm v 3) (word_of form.Up v) action.Up (settled mode.Norm (one_up v) 0)
+heard_up : (v : ℕ) → v ≤ 782 → IsHeard (nothing_counted mode.Norm v 3) (word_of form.Up v) action.Up (nothing_counted mode.Norm (one_up v) 0)
 heard_up v small =
-    let r : Reading = settled mode.Norm v 3 in
-    by_row r (word_of form.Up v) mode.Norm event.Up action.Up (settled mode.Norm (one_up v) 0) refl (of_up r refl (omega arith) small)
+    let r : Reading = nothing_counted mode.Norm v 3 in
+    by_row r (word_of form.Up v) mode.Norm event.Up action.Up (nothing_counted mode.Norm (one_up v) 0) refl (of_up r refl (omega arith) small)
     (norm_up_action r) (norm_up r)
 
-heard_down : (v : ℕ) → v ≤ 782 → IsHeard (settled mode.Norm v 3) (word_of form.Down v) action.Down (settled mode.Norm (one_down v) 0)
+heard_down : (v : ℕ) → v ≤ 782 → IsHeard (nothing_counted mode.Norm v 3) (word_of form.Down v) action.Down (nothing_counted mode.Norm (one_down v) 0)
 heard_down v small =
-    let r : Reading = settled mode.Norm v 3 in
-    by_row r (word_of form.Down v) mode.Norm event.Down action.Down (settled mode.Norm (one_down v) 0) refl
+    let r : Reading = nothing_counted mode.Norm v 3 in
+    by_row r (word_of form.Down v) mode.Norm event.Down action.Down (nothing_counted mode.Norm (one_down v) 0) refl
     (of_down r refl (omega arith) small) (norm_down_action r) (norm_down r)
 
 -- the word of a turn in a stage is read as what the turn does
 pub turn_is_heard : (st : Stage) (v f : ℕ) → v ≤ 782
-    → IsHeard (reading_in st v) (word_for (store.action_in st f) v) (store.action_in st f)
-    (reading_in (stage_after st (store.action_in st f)) (value_after (store.action_in st f) v))
+    → IsHeard (reading_in st v) (word_for (store.stage_action st f) v) (store.stage_action st f)
+    (reading_in (stage_after st (store.stage_action st f)) (value_after (store.stage_action st f) v))
 unfolding reading_in word_for value_after
 turn_is_heard First v f small = heard_ais v
 turn_is_heard Second v f small = heard_new v small

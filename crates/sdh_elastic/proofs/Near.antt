@@ -11,7 +11,7 @@ use Rattle.sdh_elastic.specs.declared.lengths.Lengths.{Lengths}
 use Rattle.sdh_elastic.specs.declared.lengths.Lengths.TheVariants.{Empty, One, Two, Three}
 use Rattle.sdh_elastic.specs.Turns.{given, justified, is_held, value_after, IsChunk}
 use Rattle.sdh_elastic.specs.Lengths.{are_four, with_length, keeps_steady}
-use Rattle.sdh_elastic.specs.Store.{Store, action_in, action_at, fill_after, after_turn, stage_after, AreChunks, IsNear, IsAt, IsBounded}
+use Rattle.sdh_elastic.specs.Store.{Store, stage_action, action_at, fill_after, after_turn, stage_after, AreChunks, LengthsAreNear, IsAt, StoreIsBounded}
 
 -- what a turn that may justify does, by cases on the fill
 pub record Justifies (fill : ℕ) : Type 0 where
@@ -49,8 +49,8 @@ four_bounds : (a b c d : ℕ) → are_four a b c d ≡ true → (9393 ≤ a + b 
 four_bounds a b c d h = (grind (arith, common_steps), grind (arith, common_steps))
 
 -- where a store is after a turn that isn't a drift
-pub at_after : (st : Stage) (ls : Lengths) (f n : ℕ) → IsAt st ls f → is_held (f + n - given (action_in st f)) ≡ true
-    → IsAt (stage_after st (action_in st f)) (with_length n ls) (f + n - given (action_in st f))
+pub at_after : (st : Stage) (ls : Lengths) (f n : ℕ) → IsAt st ls f → is_held (f + n - given (stage_action st f)) ≡ true
+    → IsAt (stage_after st (stage_action st f)) (with_length n ls) (f + n - given (stage_action st f))
 at_after First Empty f n at held = omega arith
 at_after Second (One a) f n at held = held_bounds _ held
 at_after Moved (Two a b) f n at held = held_bounds _ held
@@ -65,8 +65,8 @@ at_after Free (Three a b c) f n at held =
 at_after _ _ f n at held = absurd at
 
 -- how far from a frame's bytes the fill of a steady run is after one more turn
-pub near_after : (st : Stage) (ls : Lengths) (f n : ℕ) → IsAt st ls f → IsNear st ls f → AreChunks ls → IsChunk n → keeps_steady n ls ≡ true
-    → IsNear (stage_after st (action_in st f)) (with_length n ls) (f + n - given (action_in st f))
+pub near_after : (st : Stage) (ls : Lengths) (f n : ℕ) → IsAt st ls f → LengthsAreNear st ls f → AreChunks ls → IsChunk n → keeps_steady n ls ≡ true
+    → LengthsAreNear (stage_after st (stage_action st f)) (with_length n ls) (f + n - given (stage_action st f))
 near_after First Empty f n at near chunks chunk four = omega arith
 near_after Second (One a) f n at near chunks chunk four = (omega arith, omega arith)
 near_after Moved (Two a b) f n at near chunks chunk four = (omega arith, omega arith)
@@ -82,8 +82,8 @@ near_after Free (Three a b c) f n at near chunks chunk four =
 near_after _ _ f n at near chunks chunk four = absurd at
 
 -- the fill of a steady run is within its bounds after one more turn
-pub held_after : (st : Stage) (ls : Lengths) (f n : ℕ) → IsAt st ls f → IsNear st ls f → AreChunks ls → IsChunk n → keeps_steady n ls ≡ true
-    → (2340 ≤ f + n - given (action_in st f)) × (f + n - given (action_in st f) ≤ 2358)
+pub held_after : (st : Stage) (ls : Lengths) (f n : ℕ) → IsAt st ls f → LengthsAreNear st ls f → AreChunks ls → IsChunk n → keeps_steady n ls ≡ true
+    → (2340 ≤ f + n - given (stage_action st f)) × (f + n - given (stage_action st f) ≤ 2358)
 held_after First Empty f n at near chunks chunk four = (omega arith, omega arith)
 held_after Second (One a) f n at near chunks chunk four = (omega arith, omega arith)
 held_after Moved (Two a b) f n at near chunks chunk four = (omega arith, omega arith)
@@ -119,8 +119,8 @@ left_over : (k : ℕ) (xs ys : List ℕ) → length (drop k (xs ++ ys)) ≡ leng
 left_over k xs ys = omega (arith, length-drop k (xs ++ ys), length-append xs ys)
 
 -- a turn keeps a store bounded
-pub bounded_after : (s : Store) (input : List ℕ) → IsBounded s → IsChunk (length input) → is_held (fill_after s (length input)) ≡ true
-    → IsBounded (after_turn s input)
+pub bounded_after : (s : Store) (input : List ℕ) → StoreIsBounded s → IsChunk (length input) → is_held (fill_after s (length input)) ≡ true
+    → StoreIsBounded (after_turn s input)
 unfolding after_turn
 bounded_after s input b chunk held =
     let len : length (drop (given (action_at s)) (s.held ++ input)) ≡ fill_after s (length input) =
@@ -135,6 +135,6 @@ bounded_after s input b chunk held =
     }
 
 -- a steady turn isn't a drift
-pub no_drift : (s : Store) (n : ℕ) → IsBounded s → IsChunk n → s.steady ≡ true → keeps_steady n s.lengths ≡ true
+pub no_drift : (s : Store) (n : ℕ) → StoreIsBounded s → IsChunk n → s.steady ≡ true → keeps_steady n s.lengths ≡ true
     → (2340 ≤ fill_after s n) × (fill_after s n ≤ 2358)
 no_drift s n b chunk steady four = held_after s.stage s.lengths (length s.held) n b.at (b.near steady) b.chunks chunk four

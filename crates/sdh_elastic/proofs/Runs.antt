@@ -7,9 +7,9 @@ use Rattle.sdh_pointer.specs.declared.reading.Action.{Action}
 use Rattle.sdh_pointer.specs.Reading.{action_on, after_word}
 use Rattle.sdh_elastic.specs.Turns.{given, next_action, is_held, value_after, word_for, IsChunk}
 use Rattle.sdh_elastic.specs.Lengths.{is_steady, is_last_steady}
-use Rattle.sdh_elastic.specs.History.{actions, fill, lasts, lengths, taken_in, count_given, held, last_action, last_given, given_in_all}
-use Rattle.sdh_elastic.specs.History.{value_of, last_word, heard}
-use Rattle.sdh_elastic.specs.Store.{Store, empty, stage_of, stage_after, fill_after, store_of, reading_in, IsBounded}
+use Rattle.sdh_elastic.specs.History.{actions, fill, lasts, lengths, bytes_taken, count_given, bytes_held, last_action, last_given, given_in_all}
+use Rattle.sdh_elastic.specs.History.{value_of, last_word, heard_actions}
+use Rattle.sdh_elastic.specs.Store.{Store, empty, stage_of, stage_after, fill_after, store_of, reading_in, StoreIsBounded}
 use Rattle.sdh_elastic.proofs.Near.{bounded_after, no_drift, is_held_by, small_value}
 use Rattle.sdh_elastic.proofs.Course.{count_after, held_and, store_after, same_fill, same_action, next_stage, steady_now, new_store}
 use Rattle.sdh_elastic.proofs.Course.{swapped}
@@ -22,28 +22,28 @@ cut g G xs =
     ap (λ (l : List ℕ). take g (drop G xs) ++ l) (ap (λ (n : ℕ). drop n xs) (swapped g G) ∙ sym (drop-drop g G xs))
     ∙ take-append-drop g (drop G xs)
 
-pub given_is_a_front : (past : List (List ℕ)) → lasts (lengths past) ≡ true → given_in_all past ++ held past ≡ taken_in past
+pub given_is_a_front : (past : List (List ℕ)) → lasts (lengths past) ≡ true → given_in_all past ++ bytes_held past ≡ bytes_taken past
 unfolding actions
 given_is_a_front [] h = refl
 given_is_a_front (x ∷ past) h =
     let before = (and_parts (lasts (lengths past)) (is_held (fill (lengths (x ∷ past)))) h).0 in
     let g = given (last_action (x ∷ past)) in
     let G = count_given past in
-    let bytes = taken_in past ++ x in
-    append_assoc (given_in_all past) (last_given (x ∷ past)) (held (x ∷ past))
+    let bytes = bytes_taken past ++ x in
+    append_assoc (given_in_all past) (last_given (x ∷ past)) (bytes_held (x ∷ past))
     ∙ ap (λ (n : ℕ). given_in_all past ++ (take g (drop G bytes) ++ drop n bytes)) (count_after x past)
     ∙ ap (λ (l : List ℕ). given_in_all past ++ l) (cut g G bytes ∙ sym (held_and x past before))
-    ∙ sym (append_assoc (given_in_all past) (held past) x)
+    ∙ sym (append_assoc (given_in_all past) (bytes_held past) x)
     ∙ ap (λ (l : List ℕ). l ++ x) (given_is_a_front past before)
 
 -- ---- steady runs
 
-empty_is_bounded : (first : ℕ) → first ≤ 782 → IsBounded (empty first)
+empty_is_bounded : (first : ℕ) → first ≤ 782 → StoreIsBounded (empty first)
 empty_is_bounded first small = record { at = refl; chunks = tt; value = small; near = λ _. refl }
 
 record IsGood (past : List (List ℕ)) : Type 0 where
   lasts : lasts (lengths past) ≡ true
-  bounded : IsBounded (store_of 0 past)
+  bounded : StoreIsBounded (store_of 0 past)
 
 good : (past : List (List ℕ)) → All (λ (chunk : List ℕ). IsChunk (length chunk)) past → is_steady (lengths past) ≡ true → IsGood past
 good [] all h = record { lasts = refl; bounded = rw (sym (new_store 0).kept) (empty_is_bounded 0 (omega arith)) }
@@ -59,7 +59,7 @@ good (x ∷ past) all h =
       lasts =
           and_from (lasts (lengths past)) (is_held (fill (lengths (x ∷ past)))) before.lasts
           (sym (ap is_held (same_fill 0 x past before.lasts)) ∙ fits);
-      bounded = subst IsBounded (store_after 0 x past before.lasts) (bounded_after s x before.bounded chunk fits);
+      bounded = subst StoreIsBounded (store_after 0 x past before.lasts) (bounded_after s x before.bounded chunk fits);
     }
 
 pub steady_runs_last : (past : List (List ℕ)) → All (λ (chunk : List ℕ). IsChunk (length chunk)) past → is_steady (lengths past) ≡ true
@@ -73,7 +73,7 @@ small_of first [] h = h
 small_of first (a ∷ acts) h = small_value a (value_of first acts) (small_of first acts h)
 
 -- an interpreter that has read all words is where the store's stage and value say
-pub heard_so_far : (first : ℕ) (ls : List ℕ) → first ≤ 782 → heard first (actions ls)
+pub heard_so_far : (first : ℕ) (ls : List ℕ) → first ≤ 782 → heard_actions first (actions ls)
     ≡ reading_in (stage_of (actions ls)) (value_of first (actions ls))
 unfolding actions reading_in
 heard_so_far first [] h = refl
@@ -90,7 +90,7 @@ heard_so_far first (n ∷ ls) h =
     ∙ ap (λ st. reading_in st (value_after a v)) (sym (next_stage acts (fill ls)))
 
 pub words_tell_actions : (first n : ℕ) (earlier : List ℕ) → first ≤ 782
-    → action_on (heard first (actions earlier)) (last_word first (actions (n ∷ earlier))) ≡ next_action (actions earlier) (fill earlier)
+    → action_on (heard_actions first (actions earlier)) (last_word first (actions (n ∷ earlier))) ≡ next_action (actions earlier) (fill earlier)
 unfolding actions
 words_tell_actions first n earlier h =
     let acts = actions earlier in

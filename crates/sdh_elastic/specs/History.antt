@@ -30,17 +30,17 @@ abbrev pub lengths : List (List ℕ) → List ℕ
 lengths history = map length history
 
 -- all bytes taken in, in their order
-abbrev pub taken_in : List (List ℕ) → List ℕ
-taken_in [] = []
-taken_in (chunk ∷ earlier) = taken_in earlier ++ chunk
+abbrev pub bytes_taken : List (List ℕ) → List ℕ
+bytes_taken [] = []
+bytes_taken (chunk ∷ earlier) = bytes_taken earlier ++ chunk
 
 -- the number of bytes that were given
 abbrev pub count_given : List (List ℕ) → ℕ
 count_given history = sum_by given (actions (lengths history))
 
 -- the bytes held: all that weren't given
-abbrev pub held : List (List ℕ) → List ℕ
-held history = drop (count_given history) (taken_in history)
+abbrev pub bytes_held : List (List ℕ) → List ℕ
+bytes_held history = drop (count_given history) (bytes_taken history)
 
 -- what the last turn did, and Ais before the first
 abbrev pub last_action : List (List ℕ) → Action
@@ -50,7 +50,7 @@ last_action (chunk ∷ earlier) = next_action (actions (lengths earlier)) (fill 
 -- the bytes that the last turn gave: the next ones of all bytes taken in
 abbrev pub last_given : List (List ℕ) → List ℕ
 last_given [] = []
-last_given (chunk ∷ earlier) = take (given (last_action (chunk ∷ earlier))) (drop (count_given earlier) (taken_in (chunk ∷ earlier)))
+last_given (chunk ∷ earlier) = take (given (last_action (chunk ∷ earlier))) (drop (count_given earlier) (bytes_taken (chunk ∷ earlier)))
 
 -- all bytes given, in their order
 abbrev pub given_in_all : List (List ℕ) → List ℕ
@@ -68,6 +68,6 @@ last_word first [] = 0xFFFF
 last_word first (a ∷ earlier) = word_for a (value_of first earlier)
 
 -- what an interpreter keeps that has read the words of all turns with these actions
-abbrev pub heard : ℕ → List Action → Reading
-heard first [] = start
-heard first (a ∷ earlier) = after_word (heard first earlier) (last_word first (a ∷ earlier))
+abbrev pub heard_actions : ℕ → List Action → Reading
+heard_actions first [] = start
+heard_actions first (a ∷ earlier) = after_word (heard_actions first earlier) (last_word first (a ∷ earlier))

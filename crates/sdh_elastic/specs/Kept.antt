@@ -2,7 +2,7 @@
 use Rattle.std.specs.Prelude.{◌≡◌, ℕ, ◌+◌, ◌≤◌, ◌⊎◌, List, [], ◌∷◌, length}
 
 -- the last three chunks, of whose bytes the first `given` were given
-pub record AreKept (a b c : List ℕ) (given : ℕ) : Type 0 where
+pub record ChunksAreKept (a b c : List ℕ) (given : ℕ) : Type 0 where
   -- all bytes of the oldest chunk are given
   pub oldest : length a ≤ given
   pub there : given ≤ length a + (length b + length c)
@@ -12,5 +12,5 @@ pub record AreKept (a b c : List ℕ) (given : ℕ) : Type 0 where
 
 -- these are the last three chunks, of whose bytes the first `given` were given
 abbrev pub IsKept : List (List ℕ) → ℕ → Type 0
-IsKept (a ∷ b ∷ c ∷ []) given = AreKept a b c given
+IsKept (a ∷ b ∷ c ∷ []) given = ChunksAreKept a b c given
 IsKept chunks given = ⊥

@@ -4,7 +4,7 @@ use Rattle.sdh_pointer.specs.declared.reading.Reading.{Reading}
 use Rattle.sdh_pointer.specs.declared.reading.Mode.TheVariants as mode
 use Rattle.sdh_pointer.specs.declared.reading.Action.{Action}
 use Rattle.sdh_pointer.specs.declared.reading.Action.TheVariants as action
-use Rattle.sdh_pointer.specs.Reading.{start, settled}
+use Rattle.sdh_pointer.specs.Reading.{start, nothing_counted}
 use Rattle.sdh_elastic.specs.declared.stage.Stage.{Stage}
 use Rattle.sdh_elastic.specs.declared.stage.Stage.TheVariants.{First, Second, Moved, OneLater, TwoLater, Free}
 use Rattle.sdh_elastic.specs.declared.lengths.Lengths.{Lengths}
@@ -45,13 +45,13 @@ stage_of (a ∷ b ∷ []) = if moves a then Moved else if moves b then OneLater 
 stage_of (a ∷ b ∷ c ∷ earlier) = if moves a then Moved else if moves b then OneLater else if moves c then TwoLater else Free
 
 -- what a turn in a stage does, by the fill before it
-abbrev pub action_in : Stage → ℕ → Action
-action_in First fill = action.Ais
-action_in Second fill = action.New
-action_in Moved fill = action.Normal
-action_in OneLater fill = action.Normal
-action_in TwoLater fill = action.Normal
-action_in Free fill = justified fill
+abbrev pub stage_action : Stage → ℕ → Action
+stage_action First fill = action.Ais
+stage_action Second fill = action.New
+stage_action Moved fill = action.Normal
+stage_action OneLater fill = action.Normal
+stage_action TwoLater fill = action.Normal
+stage_action Free fill = justified fill
 
 -- the stage after a turn with this action
 abbrev pub stage_after : Stage → Action → Stage
@@ -66,7 +66,7 @@ stage_after Free a = if moves a then Moved else Free
 
 -- what the next turn of a store does
 abbrev pub action_at : Store → Action
-action_at s = action_in s.stage (length s.held)
+action_at s = stage_action s.stage (length s.held)
 
 -- the fill after a turn that takes in n bytes
 abbrev pub fill_after : Store → ℕ → ℕ
@@ -92,7 +92,7 @@ after_turn s input = record {
 -- what a store keeps of a history, from the first pointer value on
 unfoldable pub store_of : ℕ → List (List ℕ) → Store
 store_of first past = record {
-  held = history.held past;
+  held = history.bytes_held past;
   stage = stage_of (history.actions (history.lengths past));
   value = history.value_of first (history.actions (history.lengths past));
   word = history.last_word first (history.actions (history.lengths past));
@@ -101,13 +101,13 @@ store_of first past = record {
 }
 
 -- s is what a store keeps after a history without drifts, from the first pointer value on
-pub record CameBy (first : ℕ) (past : List (List ℕ)) (s : Store) : Type 0 where
+pub record StoreCameBy (first : ℕ) (past : List (List ℕ)) (s : Store) : Type 0 where
   pub lasts : history.lasts (history.lengths past) ≡ true
   pub kept : s ≡ store_of first past
 
 -- a turn that took this chunk in goes on with a history: it gave the bytes `out`, did `a`, and left the store s
 pub record GoesOn (first : ℕ) (past : List (List ℕ)) (chunk out : List ℕ) (a : Action) (s : Store) : Type 0 where
-  pub store : CameBy first (chunk ∷ past) s
+  pub store : StoreCameBy first (chunk ∷ past) s
   pub bytes : out ≡ history.last_given (chunk ∷ past)
   pub action : a ≡ history.last_action (chunk ∷ past)
 
@@ -117,10 +117,10 @@ pub record GoesOn (first : ℕ) (past : List (List ℕ)) (chunk out : List ℕ) 
 unfoldable pub reading_in : Stage → ℕ → Reading
 reading_in First value = start
 reading_in Second value = start
-reading_in Moved value = settled mode.Norm value 0
-reading_in OneLater value = settled mode.Norm value 1
-reading_in TwoLater value = settled mode.Norm value 2
-reading_in Free value = settled mode.Norm value 3
+reading_in Moved value = nothing_counted mode.Norm value 0
+reading_in OneLater value = nothing_counted mode.Norm value 1
+reading_in TwoLater value = nothing_counted mode.Norm value 2
+reading_in Free value = nothing_counted mode.Norm value 3
 
 -- what an interpreter that has read all words of a store so far keeps
 abbrev pub reading_of : Store → Reading
@@ -138,15 +138,15 @@ AreChunks (Three a b c) = IsChunk a × IsChunk b × IsChunk c
 -- How far the fill of a steady run can be from a frame's 2349 bytes. After turn 2, and after a justification, it is at
 -- most three bytes from the length of the last chunk. In the next turns each chunk moves it by as much as its length
 -- differs from 2349. Over four turns in a row these differences come to three bytes at most.
-abbrev pub IsNear : Stage → Lengths → ℕ → Type 0
-IsNear First Empty fill = fill ≡ 0
-IsNear Second (One a) fill = fill ≡ a
-IsNear Moved (Two a b) fill = (fill ≤ a + 3) × (a ≤ fill + 3)
-IsNear Moved (Three a b c) fill = (fill ≤ a + 3) × (a ≤ fill + 3)
-IsNear OneLater (Three a b c) fill = (fill + 2349 ≤ a + b + 3) × (a + b ≤ fill + 2352)
-IsNear TwoLater (Three a b c) fill = (fill + 4698 ≤ a + b + c + 3) × (a + b + c ≤ fill + 4701)
-IsNear Free (Three a b c) fill = (2343 ≤ fill) × (fill ≤ 2355)
-IsNear stage lengths fill = ⊥
+abbrev pub LengthsAreNear : Stage → Lengths → ℕ → Type 0
+LengthsAreNear First Empty fill = fill ≡ 0
+LengthsAreNear Second (One a) fill = fill ≡ a
+LengthsAreNear Moved (Two a b) fill = (fill ≤ a + 3) × (a ≤ fill + 3)
+LengthsAreNear Moved (Three a b c) fill = (fill ≤ a + 3) × (a ≤ fill + 3)
+LengthsAreNear OneLater (Three a b c) fill = (fill + 2349 ≤ a + b + 3) × (a + b ≤ fill + 2352)
+LengthsAreNear TwoLater (Three a b c) fill = (fill + 4698 ≤ a + b + c + 3) × (a + b + c ≤ fill + 4701)
+LengthsAreNear Free (Three a b c) fill = (2343 ≤ fill) × (fill ≤ 2355)
+LengthsAreNear stage lengths fill = ⊥
 
 -- what holds in a stage: how many lengths are kept, and how many bytes are held
 abbrev pub IsAt : Stage → Lengths → ℕ → Type 0
@@ -160,8 +160,8 @@ IsAt Free (Three a b c) fill = (2340 ≤ fill) × (fill ≤ 2358)
 IsAt stage lengths fill = ⊥
 
 -- what is true of every store
-pub record IsBounded (s : Store) : Type 0 where
+pub record StoreIsBounded (s : Store) : Type 0 where
   pub at : IsAt s.stage s.lengths (length s.held)
   pub chunks : AreChunks s.lengths
   pub value : s.value ≤ 782
-  pub near : s.steady ≡ true → IsNear s.stage s.lengths (length s.held)
+  pub near : s.steady ≡ true → LengthsAreNear s.stage s.lengths (length s.held)

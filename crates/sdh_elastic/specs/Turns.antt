@@ -35,17 +35,17 @@ justified fill = if nat_le 2352 fill then Down else if nat_le fill 2346 then Up 
 -- A list of actions says what the turns so far did, the last one first.
 
 -- none of the last three turns was turn 2 or a justification
-abbrev pub may_justify : List Action → Bool
-may_justify [] = true
-may_justify (a ∷ []) = not (moves a)
-may_justify (a ∷ b ∷ []) = not (moves a || moves b)
-may_justify (a ∷ b ∷ c ∷ earlier) = not (moves a || moves b || moves c)
+abbrev pub turn_may_justify : List Action → Bool
+turn_may_justify [] = true
+turn_may_justify (a ∷ []) = not (moves a)
+turn_may_justify (a ∷ b ∷ []) = not (moves a || moves b)
+turn_may_justify (a ∷ b ∷ c ∷ earlier) = not (moves a || moves b || moves c)
 
 -- what the next turn does, by what the turns before it did and the fill before it
 abbrev pub next_action : List Action → ℕ → Action
 next_action [] fill = Ais
 next_action (a ∷ []) fill = New
-next_action (a ∷ b ∷ earlier) fill = if may_justify (a ∷ b ∷ earlier) then justified fill else Normal
+next_action (a ∷ b ∷ earlier) fill = if turn_may_justify (a ∷ b ∷ earlier) then justified fill else Normal
 
 -- the fill after a turn is within its bounds; where it isn't, the turn is a drift
 unfoldable pub is_held : ℕ → Bool

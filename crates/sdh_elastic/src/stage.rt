@@ -1,7 +1,7 @@
 //! What the next turn of a store does.
 ghost use Rattle.std.specs.Prelude.{◌≡◌, ◌≤◌};
 ghost use Rattle.sdh_elastic.specs.Turns.{given, justified, value_after, word_for};
-ghost use Rattle.sdh_elastic.specs.Store.{action_in, stage_after};
+ghost use Rattle.sdh_elastic.specs.Store.{stage_action, stage_after};
 
 use sdh_pointer::{Action, Form, Word, word_of};
 
@@ -48,7 +48,7 @@ fn justified(fill: usize) -> Action
 impl Stage {
     /// Returns what the next turn does, by the number of bytes held before it.
     pub(crate) fn action(self, fill: usize) -> Action
-        ensures { result ≡ action_in self fill }
+        ensures { result ≡ stage_action self fill }
     {
         match self {
             Stage::First => Action::Ais,

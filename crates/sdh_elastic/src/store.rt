@@ -5,7 +5,7 @@ ghost use Rattle.sdh_pointer.specs.Reading.{action_on, after_word};
 ghost use Rattle.sdh_elastic.specs.Turns.{value_after, word_for, IsChunk};
 ghost use Rattle.sdh_elastic.specs.Lengths.{is_steady, with_length, keeps_steady};
 ghost use Rattle.sdh_elastic.specs.History.{actions, fill, lasts, lengths, last_word};
-ghost use Rattle.sdh_elastic.specs.Store.{empty, room_of, action_at, fill_after, given_at, after_turn, stage_after, reading_of, AreChunks, CameBy};
+ghost use Rattle.sdh_elastic.specs.Store.{empty, room_of, action_at, fill_after, given_at, after_turn, stage_after, reading_of, AreChunks, StoreCameBy};
 ghost use Rattle.sdh_elastic.specs.Store.{GoesOn};
 
 use crate::held::Held;
@@ -69,13 +69,13 @@ pub struct Elastic {
 }
 
 impl Model for Elastic {
-    ghost use Rattle.sdh_elastic.specs.Store.{Store, IsBounded};
+    ghost use Rattle.sdh_elastic.specs.Store.{Store, StoreIsBounded};
 
     ghost Value = { Store };
 
     ghost view = { λ e. record { held = e.held; stage = e.course.stage; value = e.course.value; word = e.course.word.0; lengths = e.course.lengths; steady = e.course.steady } };
 
-    ghost invariant = { λ e. IsBounded (record { held = e.held; stage = e.course.stage; value = e.course.value; word = e.course.word.0; lengths = e.course.lengths; steady = e.course.steady }) };
+    ghost invariant = { λ e. StoreIsBounded (record { held = e.held; stage = e.course.stage; value = e.course.value; word = e.course.word.0; lengths = e.course.lengths; steady = e.course.steady }) };
 }
 
 impl Elastic {
@@ -85,7 +85,7 @@ impl Elastic {
         requires { value ≤ 782 }
         ensures empty { IfOk result (λ store. store ≡ empty value) }
         ensures room { IfOk result (λ store. 4710 ≤ room_of store) }
-        ensures history { IfOk result (λ store. CameBy value [] store) }
+        ensures history { IfOk result (λ store. StoreCameBy value [] store) }
     {
         let course = Course {
             stage: Stage::First,
@@ -107,7 +107,7 @@ impl Elastic {
         ensures ok { IfOk result
             (λ a. (a ≡ action_at self.old) × (out.new ≡ given_at self.old input.now) × (self.new ≡ after_turn self.old input.now)) }
         ensures history { IfOk result
-            (λ a. (first : ℕ) (past : List (List ℕ)) → CameBy first past self.old → GoesOn first past input.now out.new a self.new) }
+            (λ a. (first : ℕ) (past : List (List ℕ)) → StoreCameBy first past self.old → GoesOn first past input.now out.new a self.new) }
         ensures bytes { OnOk result (self.old.held ++ input.now ≡ out.new ++ self.new.held) }
         ensures heard { IfOk result (λ a. (action_on (reading_of self.old) self.new.word ≡ a)
             × (after_word (reading_of self.old) self.new.word ≡ reading_of self.new)) }
@@ -116,9 +116,9 @@ impl Elastic {
         ensures drift { IsErr result ↔ ((fill_after self.old (length input.now) < 2340) ⊎ (2358 < fill_after self.old (length input.now))) }
         ensures err { OnErr result ((self.new ≡ self.old) × (out.new ≡ out.old)) }
         ensures history_err { OnErr result
-            ((first : ℕ) (past : List (List ℕ)) → CameBy first past self.old → lasts (lengths (input.now ∷ past)) ≡ false) }
+            ((first : ℕ) (past : List (List ℕ)) → StoreCameBy first past self.old → lasts (lengths (input.now ∷ past)) ≡ false) }
         ensures steady { self.old.steady ≡ true → keeps_steady (length input.now) self.old.lengths ≡ true → IsOk result }
-        ensures steady_run { (first : ℕ) (past : List (List ℕ)) → CameBy first past self.old
+        ensures steady_run { (first : ℕ) (past : List (List ℕ)) → StoreCameBy first past self.old
             → is_steady (lengths (input.now ∷ past)) ≡ true → IsOk result }
     {
         let action = self.course.stage.action(self.held.len());
@@ -141,7 +141,7 @@ impl Elastic {
     /// Returns the pointer word of the last turn, and all ones before the first.
     pub fn word(&self) -> Word
         ensures kept { result.0 ≡ self.now.word }
-        ensures history { (first : ℕ) (past : List (List ℕ)) → CameBy first past self.now
+        ensures history { (first : ℕ) (past : List (List ℕ)) → StoreCameBy first past self.now
             → result.0 ≡ last_word first (actions (lengths past)) }
     {
         self.course.word
@@ -150,7 +150,7 @@ impl Elastic {
     /// Returns how many bytes are held.
     pub fn fill(&self) -> usize
         ensures kept { result ≡ length self.now.held }
-        ensures history { (first : ℕ) (past : List (List ℕ)) → CameBy first past self.now → result ≡ fill (lengths past) }
+        ensures history { (first : ℕ) (past : List (List ℕ)) → StoreCameBy first past self.now → result ≡ fill (lengths past) }
     {
         self.held.len()
     }
@@ -158,7 +158,7 @@ impl Elastic {
     /// Returns whether the run was steady so far: each four turns in a row took in 9393 to 9399 bytes together.
     pub fn is_steady(&self) -> bool
         ensures kept { result ≡ self.now.steady }
-        ensures history { (first : ℕ) (past : List (List ℕ)) → CameBy first past self.now → result ≡ is_steady (lengths past) }
+        ensures history { (first : ℕ) (past : List (List ℕ)) → StoreCameBy first past self.now → result ≡ is_steady (lengths past) }
     {
         self.course.steady
     }

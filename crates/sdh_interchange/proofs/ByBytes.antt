@@ -14,7 +14,7 @@ use Rattle.sdh_frame.specs.Sizes.{size_of}
 use Rattle.sdh_ringmap.specs.Rates.{n_of}
 use Rattle.sdh_frame.specs.Fields.{index_of, payload_place, place_of_pointer}
 use Rattle.sdh_frame.specs.Aus.{payload_of, pointers_of, Au, au_of, ones}
-use Rattle.sdh_interchange.specs.Choosing.{payload_in, au_from, chosen, IsSource, AreSources, own_byte, picked, picked_at, is_au_byte}
+use Rattle.sdh_interchange.specs.Choosing.{payload_in, au_from, assembled_frame, IsSource, AreSources, own_byte, picked, picked_at, is_au_byte}
 use Rattle.sdh_interchange.specs.Lanes.{IsPlain}
 use Rattle.sdh_frame.proofs.PlaceProofs.{IsIn, IsPointerByte}
 use Rattle.sdh_frame.proofs.AuProofs.{au_byte, payload_byte-here, payload_byte-other, payload_byte-before, pointer_byte-here}
@@ -201,9 +201,9 @@ module _ (rate : Rate) (i x : ℕ) (inside : i < size_of rate) where
 -- byte by byte
 pub chosen-at : (rate : Rate) (sources : List Source) (first second : List ℕ) (own : List (List ℕ)) (old : List ℕ) (i : ℕ)
     → length old ≡ size_of rate → i < size_of rate → AreSources (n_of rate) sources
-    → get_or (chosen (n_of rate) sources first second own old) i 0
+    → get_or (assembled_frame (n_of rate) sources first second own old) i 0
     ≡ (if is_au_byte (n_of rate) i then picked_at (n_of rate) sources first second own i else get_or old i 0)
-unfolding chosen
+unfolding assembled_frame
 chosen-at rate sources first second own old i whole inside are =
     at_aus rate 1 (map (au_from (n_of rate) first second own) sources) old i whole inside
     ∙ chosen_byte rate i (get_or old i 0) inside sources first second own are
@@ -216,7 +216,7 @@ PickedAt rate sources first second own old new =
 
 abbrev pub ChosenAt : Rate → List Source → List ℕ → List ℕ → List (List ℕ) → List ℕ → List ℕ → Type 0
 ChosenAt rate sources first second own old new =
-    (i : ℕ) → i < size_of rate → get_or new i 0 ≡ get_or (chosen (n_of rate) sources first second own old) i 0
+    (i : ℕ) → i < size_of rate → get_or new i 0 ≡ get_or (assembled_frame (n_of rate) sources first second own old) i 0
 
 pub chosen-all : (rate : Rate) (sources : List Source) (first second : List ℕ) (own : List (List ℕ)) (old new : List ℕ)
     → length old ≡ size_of rate → AreSources (n_of rate) sources → PickedAt rate sources first second own old new

@@ -13,7 +13,7 @@ use Rattle.sdh_frame.proofs.AuProofs.{au_byte, at_pointer, pointer_byte-other}
 use Rattle.sdh_frame.proofs.AllAus.{at_aus, in_rate}
 use Rattle.sdh_interchange.specs.declared.choose.Source.{Source}
 use Rattle.sdh_interchange.specs.declared.choose.Source.TheVariants.{First, Second, Own, Ones}
-use Rattle.sdh_interchange.specs.Choosing.{au_from, chosen}
+use Rattle.sdh_interchange.specs.Choosing.{au_from, assembled_frame}
 use Rattle.sdh_interchange.specs.Assembled.{payload_from, assembled}
 use Rattle.sdh_interchange.proofs.ByBytes.{aus_byte-at}
 
@@ -79,8 +79,8 @@ pub assembled-byte : (rate : Rate) (sources : List Source) (first second : List 
     (i : ℕ) → length old ≡ size_of rate → i < size_of rate → length sources ≡ n_of rate
     → get_or (with_aus (n_of rate) 1 (assembled (n_of rate) first second own sources ps) old) i 0
     ≡ pointer_byte (n_of rate) (i % n_of rate + 1) (get_or ps (i % n_of rate) []) i
-    (get_or (chosen (n_of rate) sources first second own old) i 0)
-unfolding assembled chosen
+    (get_or (assembled_frame (n_of rate) sources first second own old) i 0)
+unfolding assembled assembled_frame
 assembled-byte rate sources first second own ps old i whole inside many =
     let n = n_of rate in
     let j : ℕ = i % n in
@@ -94,11 +94,11 @@ assembled-byte rate sources first second own ps old i whole inside many =
     at_aus rate 1 (assembled n first second own sources ps) old i whole inside
     ∙ aus_byte-at n 1 j (assembled n first second own sources ps) ones i x turn (omega (arith, length-map_from g 0 sources, few))
     ∙ ap (λ a. au_byte n (1 + j) a i x) (get_or-placed g sources j Ones ones few) in
-    let right : get_or (chosen n sources first second own old) i 0 ≡ au_byte n (1 + j) (f (get_or sources j Ones)) i x
+    let right : get_or (assembled_frame n sources first second own old) i 0 ≡ au_byte n (1 + j) (f (get_or sources j Ones)) i x
     =
     at_aus rate 1 (map f sources) old i whole inside ∙ aus_byte-at n 1 j (map f sources) ones i x turn
     (omega (arith, length-map sources f, few)) ∙ ap (λ a. au_byte n (1 + j) a i x) (get_or-map f sources j Ones ones few) in
     left ∙ ap (λ p. au_byte n (1 + j) (record { pointers = get_or ps j []; payload = p }) i x)
     (sym (same_payload n first second own (get_or sources j Ones)))
     ∙ au_pointed n (1 + j) (get_or ps j []) (f (get_or sources j Ones)) i x ∙ ap (pointer_byte n (1 + j) (get_or ps j []) i) (sym right)
-    ∙ ap (λ m. pointer_byte n m (get_or ps j []) i (get_or (chosen n sources first second own old) i 0)) (sym turn)
+    ∙ ap (λ m. pointer_byte n m (get_or ps j []) i (get_or (assembled_frame n sources first second own old) i 0)) (sym turn)

@@ -8,7 +8,7 @@ use Rattle.std.proofs.Math.Nat.{mul-mod_right}
 use Rattle.sdh_interchange.specs.declared.pass.Pass.{Pass}
 use Rattle.sdh_interchange.specs.Choosing.{is_au_byte, picked_at}
 use Rattle.sdh_interchange.specs.Passes.{byte_by_source, HasPassed, AreColumns}
-use Rattle.sdh_interchange.specs.Tables.{cell, IsTable}
+use Rattle.sdh_interchange.specs.Tables.{cell, IsLaneTable}
 use Rattle.sdh_interchange.proofs.ByBytes.{own_byte-at}
 use Rattle.sdh_frame.proofs.ByColumns.{by_rate}
 
@@ -170,7 +170,7 @@ module _ (n : ℕ) (pass : Pass n) where
 -- ---- vectors of sixteen columns of row r, from payload column q on
 
 module _ (own columns : List (List ℕ)) (r q upto : ℕ) (row : r < 9) (few : q ≤ 245) where
-  pub columns-four : IsTable 4 columns → ((k j : ℕ) → k < 4 → j < 16 → j % 4 < upto
+  pub columns-four : IsLaneTable 4 columns → ((k j : ℕ) → k < 4 → j < 16 → j % 4 < upto
       → cell columns k j ≡ cell own (j % 4) (261 * r + q + (4 * k + j / 4)))
       → AreColumns 4 upto own (4 * (270 * r + (9 + q))) columns
   columns-four table each = record {
@@ -184,7 +184,7 @@ module _ (own columns : List (List ℕ)) (r q upto : ℕ) (row : r < 9) (few : q
         each k j small h low ∙ sym (own_byte-at 4 own i (j % 4) (261 * r + q + (4 * k + j / 4)) behind lane column));
   }
 
-  pub columns-sixteen : IsTable 16 columns → ((k a : ℕ) → k < 16 → a < upto → cell columns k a ≡ cell own a (261 * r + q + k))
+  pub columns-sixteen : IsLaneTable 16 columns → ((k a : ℕ) → k < 16 → a < upto → cell columns k a ≡ cell own a (261 * r + q + k))
       → AreColumns 16 upto own (16 * (270 * r + (9 + q))) columns
   columns-sixteen table each = record {
     rows = table.rows;

@@ -18,8 +18,8 @@ au_from n first second own (Own k) = record { pointers = replicate 9 0; payload 
 au_from n first second own Ones = ones
 
 -- the frame whose AU-4s, from number 1 on, come from these sources
-unfoldable pub chosen : ℕ → List Source → List ℕ → List ℕ → List (List ℕ) → List ℕ → List ℕ
-chosen n sources first second own bytes = with_aus n 1 (map (au_from n first second own) sources) bytes
+unfoldable pub assembled_frame : ℕ → List Source → List ℕ → List ℕ → List (List ℕ) → List ℕ → List ℕ
+assembled_frame n sources first second own bytes = with_aus n 1 (map (au_from n first second own) sources) bytes
 
 -- a source of AU-4 number `to` of N: an AU-4 of either frame, the own payload for it, or ones
 abbrev pub IsSource : ℕ → ℕ → Source → Type 0

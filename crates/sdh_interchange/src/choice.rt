@@ -3,7 +3,7 @@ ghost use Rattle.std.specs.Prelude.{◌≡◌, ℕ, ◌<◌, length, slice_index
 ghost use Rattle.std.specs.List.{list_any};
 ghost use Rattle.sdh_frame.specs.Sizes.{size_of};
 ghost use Rattle.sdh_ringmap.specs.Rates.{n_of};
-ghost use Rattle.sdh_interchange.specs.Choosing.{chosen, AreSources, is_passed, is_own};
+ghost use Rattle.sdh_interchange.specs.Choosing.{assembled_frame, AreSources, is_passed, is_own};
 ghost use Rattle.sdh_interchange.specs.Lanes.{AreLanes};
 ghost use Rattle.sdh_interchange.specs.Passes.{IsPass};
 
@@ -104,7 +104,7 @@ impl<'a> Choice<'a> {
         requires first { length inputs.now.first.now ≡ size_of self.now.rate }
         requires second { length inputs.now.second.now ≡ size_of self.now.rate }
         ensures chosen { (i : ℕ) → i < size_of self.now.rate → slice_index bytes.new i ≡ slice_index
-            (chosen (n_of self.now.rate) self.now.sources inputs.now.first.now inputs.now.second.now inputs.now.own.now bytes.old) i }
+            (assembled_frame (n_of self.now.rate) self.now.sources inputs.now.first.now inputs.now.second.now inputs.now.own.now bytes.old) i }
         ensures many { length self.now.sources ≡ n_of self.now.rate }
     {
         match self.rate {

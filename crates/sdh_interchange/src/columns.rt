@@ -1,6 +1,6 @@
 //! Payloads as columns: sixteen bytes of each payload become vectors over whole columns of a frame.
 ghost use Rattle.std.specs.Prelude.{◌≡◌, ℕ, ◌+◌, ◌*◌, ◌/◌, ◌%◌, ◌<◌, ◌≤◌, ◌⊎◌};
-ghost use Rattle.sdh_interchange.specs.Tables.{cell, IsTable};
+ghost use Rattle.sdh_interchange.specs.Tables.{cell, IsLaneTable};
 
 use crate::own::Payloads;
 use crate::table::{apart, spread, transpose, transpose4, transpose8};
@@ -23,7 +23,7 @@ pub(crate) fn byte_of<const N: usize>(column: usize) -> usize
 fn rows_of<const A: usize>(own: &Payloads, from: usize) -> [u8x16; A]
     requires few { A ≤ 16 }
     requires room { from + 16 ≤ 2349 }
-    ensures table { IsTable A result }
+    ensures table { IsLaneTable A result }
     ensures each { (a k : ℕ) → a < A → k < 16 → cell result a k ≡ cell own.now a (from + k) }
 {
     let mut rows = [u8x16::splat(0); A];
@@ -39,7 +39,7 @@ fn rows_of<const A: usize>(own: &Payloads, from: usize) -> [u8x16; A]
 pub(crate) fn columns16(own: &Payloads, from: usize, upto: usize) -> [u8x16; 16]
     requires room { from + 16 ≤ 2349 }
     requires few { (upto ≡ 8) ⊎ (upto ≡ 16) }
-    ensures table { IsTable 16 result }
+    ensures table { IsLaneTable 16 result }
     ensures each { (k a : ℕ) → k < 16 → a < upto → cell result k a ≡ cell own.now a (from + k) }
 {
     if upto == 8 {
@@ -55,7 +55,7 @@ pub(crate) fn columns16(own: &Payloads, from: usize, upto: usize) -> [u8x16; 16]
 pub(crate) fn columns4(own: &Payloads, from: usize, upto: usize) -> [u8x16; 4]
     requires room { from + 16 ≤ 2349 }
     requires few { (upto ≡ 2) ⊎ (upto ≡ 4) }
-    ensures table { IsTable 4 result }
+    ensures table { IsLaneTable 4 result }
     ensures each { (k j : ℕ) → k < 4 → j < 16 → j % 4 < upto → cell result k j ≡ cell own.now (j % 4) (from + (4 * k + j / 4)) }
 {
     if upto == 2 {

@@ -4,7 +4,7 @@ ghost use Rattle.std.specs.Prelude.{◌≡◌, ℕ, ◌+◌, ◌*◌, ◌-◌, �
 ghost use Rattle.sdh_frame.specs.Sizes.{size_of};
 ghost use Rattle.sdh_ringmap.specs.Rates.{n_of};
 ghost use Rattle.sdh_frame.specs.Aus.{payload_of};
-ghost use Rattle.sdh_interchange.specs.Tables.{cell, IsTable};
+ghost use Rattle.sdh_interchange.specs.Tables.{cell, IsLaneTable};
 ghost use Rattle.sdh_interchange.specs.Taking.{HaveRoom, KeepsOthers, HasTaken};
 
 use crate::columns::byte_of;
@@ -45,7 +45,7 @@ fn put_in(out: &mut [Cells], a: usize, at: usize, lanes: u8x16)
 fn load<const V: usize>(bytes: &[u8], at: usize) -> [u8x16; V]
     requires few { V ≤ 16 }
     requires room { at + 16 * V ≤ length bytes.now }
-    ensures table { IsTable V result }
+    ensures table { IsLaneTable V result }
     ensures each { (k j : ℕ) → k < V → j < 16 → cell result k j ≡ slice_index bytes.now (at + (16 * k + j)) }
 {
     let mut rows = [u8x16::splat(0); V];

@@ -1,7 +1,7 @@
 //! Tables that turn payloads of several AU-4s into columns of a frame, and back, sixteen columns at a time. A table is
 //! a list of rows, each a vector of sixteen lanes.
 ghost use Rattle.std.specs.Prelude.{◌≡◌, ℕ, ◌+◌, ◌*◌, ◌/◌, ◌%◌, ◌<◌, ◌⊎◌, ◌==◌, length, slice_index};
-ghost use Rattle.sdh_interchange.specs.Tables.{IsTable, cell};
+ghost use Rattle.sdh_interchange.specs.Tables.{IsLaneTable, cell};
 
 use std::simd::prelude::*;
 
@@ -9,8 +9,8 @@ use std::simd::prelude::*;
 // of eight bits. The number of the new place is that of the old place, rotated left by one bit.
 #[inline(always)]
 fn turn(v: [u8x16; 16]) -> [u8x16; 16]
-    requires { IsTable 16 v }
-    ensures table { IsTable 16 result }
+    requires { IsLaneTable 16 v }
+    ensures table { IsLaneTable 16 result }
     ensures each { (i j : ℕ) → i < 16 → j < 16 → cell result i j ≡ cell v (8 * (j % 2) + i / 2) (8 * (i % 2) + j / 2) }
 {
     let mut out = v;
@@ -25,8 +25,8 @@ fn turn(v: [u8x16; 16]) -> [u8x16; 16]
 // Returns the table transposed: its rows become lanes.
 #[inline(always)]
 pub(crate) fn transpose(v: [u8x16; 16]) -> [u8x16; 16]
-    requires { IsTable 16 v }
-    ensures table { IsTable 16 result }
+    requires { IsLaneTable 16 v }
+    ensures table { IsLaneTable 16 result }
     ensures each { (i j : ℕ) → i < 16 → j < 16 → cell result i j ≡ cell v j i }
 {
     turn(turn(turn(turn(v))))
@@ -36,8 +36,8 @@ pub(crate) fn transpose(v: [u8x16; 16]) -> [u8x16; 16]
 // number of seven bits. The number of the new place is that of the old place, rotated left by one bit.
 #[inline(always)]
 fn turn8(v: [u8x16; 8]) -> [u8x16; 8]
-    requires { IsTable 8 v }
-    ensures table { IsTable 8 result }
+    requires { IsLaneTable 8 v }
+    ensures table { IsLaneTable 8 result }
     ensures each { (i j : ℕ) → i < 8 → j < 16 → cell result i j ≡ cell v (4 * (j % 2) + i / 2) (8 * (i % 2) + j / 2) }
 {
     let mut out = v;
@@ -53,8 +53,8 @@ fn turn8(v: [u8x16; 8]) -> [u8x16; 8]
 // of the result.
 #[inline(always)]
 pub(crate) fn transpose8(v: [u8x16; 8]) -> [u8x16; 8]
-    requires { IsTable 8 v }
-    ensures table { IsTable 8 result }
+    requires { IsLaneTable 8 v }
+    ensures table { IsLaneTable 8 result }
     ensures each { (i j : ℕ) → i < 8 → j < 16 → cell result i j ≡ cell v (j % 8) (2 * i + j / 8) }
 {
     turn8(turn8(turn8(v)))
@@ -63,8 +63,8 @@ pub(crate) fn transpose8(v: [u8x16; 8]) -> [u8x16; 8]
 // Returns the two columns that share each vector as two vectors. Only the first eight lanes of these count.
 #[inline(always)]
 pub(crate) fn apart(v: [u8x16; 8]) -> [u8x16; 16]
-    requires { IsTable 8 v }
-    ensures table { IsTable 16 result }
+    requires { IsLaneTable 8 v }
+    ensures table { IsLaneTable 16 result }
     ensures each { (k a : ℕ) → k < 16 → a < 8 → cell result k a ≡ cell v (k / 2) (8 * (k % 2) + a) }
 {
     let last = u8x16::from_array([8, 9, 10, 11, 12, 13, 14, 15, 8, 9, 10, 11, 12, 13, 14, 15]);
@@ -79,8 +79,8 @@ pub(crate) fn apart(v: [u8x16; 8]) -> [u8x16; 16]
 // Returns the first eight lanes of sixteen rows. Row i of the result interleaves those of rows i and i + 8.
 #[inline(always)]
 fn lower(v: [u8x16; 16]) -> [u8x16; 8]
-    requires { IsTable 16 v }
-    ensures table { IsTable 8 result }
+    requires { IsLaneTable 16 v }
+    ensures table { IsLaneTable 8 result }
     ensures each { (i j : ℕ) → i < 8 → j < 16 → cell result i j ≡ cell v (8 * (j % 2) + i) (j / 2) }
 {
     let mut out = [u8x16::splat(0); 8];
@@ -94,8 +94,8 @@ fn lower(v: [u8x16; 16]) -> [u8x16; 8]
 // Returns the last eight lanes of sixteen rows. Row i of the result interleaves those of rows i and i + 8.
 #[inline(always)]
 fn upper(v: [u8x16; 16]) -> [u8x16; 8]
-    requires { IsTable 16 v }
-    ensures table { IsTable 8 result }
+    requires { IsLaneTable 16 v }
+    ensures table { IsLaneTable 8 result }
     ensures each { (i j : ℕ) → i < 8 → j < 16 → cell result i j ≡ cell v (8 * (j % 2) + i) (8 + j / 2) }
 {
     let mut out = [u8x16::splat(0); 8];
@@ -109,9 +109,9 @@ fn upper(v: [u8x16; 16]) -> [u8x16; 8]
 // Returns eight lanes of sixteen rows, from lane `base` on, as rows.
 #[inline(always)]
 pub(crate) fn lanes_from(v: [u8x16; 16], base: usize) -> [u8x16; 8]
-    requires rows { IsTable 16 v }
+    requires rows { IsLaneTable 16 v }
     requires base { (base ≡ 0) ⊎ (base ≡ 8) }
-    ensures table { IsTable 8 result }
+    ensures table { IsLaneTable 8 result }
     ensures each { (i j : ℕ) → i < 8 → j < 16 → cell result i j ≡ cell v j (base + i) }
 {
     if base == 0 {
@@ -125,8 +125,8 @@ pub(crate) fn lanes_from(v: [u8x16; 16], base: usize) -> [u8x16; 8]
 // number of six bits. The number of the new place is that of the old place, rotated left by one bit.
 #[inline(always)]
 fn turn4(v: [u8x16; 4]) -> [u8x16; 4]
-    requires { IsTable 4 v }
-    ensures table { IsTable 4 result }
+    requires { IsLaneTable 4 v }
+    ensures table { IsLaneTable 4 result }
     ensures each { (i j : ℕ) → i < 4 → j < 16 → cell result i j ≡ cell v (2 * (j % 2) + i / 2) (8 * (i % 2) + j / 2) }
 {
     let (a, b) = v[0].interleave(v[2]);
@@ -137,8 +137,8 @@ fn turn4(v: [u8x16; 4]) -> [u8x16; 4]
 // Returns the bytes of four rows, interleaved byte by byte.
 #[inline(always)]
 pub(crate) fn transpose4(v: [u8x16; 4]) -> [u8x16; 4]
-    requires { IsTable 4 v }
-    ensures table { IsTable 4 result }
+    requires { IsLaneTable 4 v }
+    ensures table { IsLaneTable 4 result }
     ensures each { (i j : ℕ) → i < 4 → j < 16 → cell result i j ≡ cell v (j % 4) (4 * i + j / 4) }
 {
     turn4(turn4(v))
@@ -168,8 +168,8 @@ fn high_twice(v: u8x16) -> u8x16
 // nothing.
 #[inline(always)]
 pub(crate) fn spread(v: [u8x16; 2]) -> [u8x16; 4]
-    requires { IsTable 2 v }
-    ensures table { IsTable 4 result }
+    requires { IsLaneTable 2 v }
+    ensures table { IsLaneTable 4 result }
     ensures each { (k j : ℕ) → k < 4 → j < 16 → j % 4 < 2 → cell result k j ≡ cell v (j % 4) (4 * k + j / 4) }
 {
     let (low, high) = v[0].interleave(v[1]);
@@ -199,8 +199,8 @@ fn last_pairs(a: u8x16, b: u8x16) -> u8x16
 // Returns two rows: the third of each four lanes of four rows, and the fourth of each.
 #[inline(always)]
 pub(crate) fn last_two(v: [u8x16; 4]) -> [u8x16; 2]
-    requires { IsTable 4 v }
-    ensures table { IsTable 2 result }
+    requires { IsLaneTable 4 v }
+    ensures table { IsLaneTable 2 result }
     ensures each { (a j : ℕ) → a < 2 → j < 16 → cell result a j ≡ cell v (j / 4) (4 * (j % 4) + (2 + a)) }
 {
     let first = last_pairs(v[0], v[1]);

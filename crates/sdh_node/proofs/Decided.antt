@@ -7,7 +7,7 @@ use Rattle.sdh_kbytes.specs.declared.K.{K}
 use Rattle.sdh_nodestate.specs.Rules.{Scene, scene, state_after, word}
 use Rattle.sdh_node.specs.Crossing.{scene_of, after_decision, next_word}
 use Rattle.sdh_terminal.specs.Sending.{after_sending}
-use Rattle.sdh_node.specs.Node.{Node, is_held, crossing, after_crossing, with_calm, node_round, needed, heard_by, word_of}
+use Rattle.sdh_node.specs.Node.{Node, is_held, crossing, after_crossing, with_calm, node_round, needed, heard_by, last_word_on}
 
 -- the scene of the last round
 unfoldable pub scene_in : Node → Scene
@@ -24,9 +24,9 @@ state_is now n = refl
 
 -- the word of the round
 abbrev pub word_next : ℕ → Node → Side → K
-word_next now n d = next_word (is_held n) (crossing now n) d (word_of d n)
+word_next now n d = next_word (is_held n) (crossing now n) d (last_word_on d n)
 
-pub word_turned : (now : ℕ) (n : Node) (d : Side) → word_of d (node_round now n).0 ≡ word_next now n d
+pub word_turned : (now : ℕ) (n : Node) (d : Side) → last_word_on d (node_round now n).0 ≡ word_next now n d
 unfolding node_round with_calm after_crossing after_sending
 word_turned now n West = refl
 word_turned now n East = refl
@@ -34,11 +34,11 @@ word_turned now n East = refl
 by_turn : (b : Bool) (s t : Scene) (d : Side) (k : K) → s ≡ t → (if b then k else word s d) ≡ (if b then k else word t d)
 by_turn b s t d k same = ap (λ x. if b then k else word x d) same
 
-pub word_is : (now : ℕ) (n : Node) (d : Side) → word_of d (node_round now n).0
-    ≡ (if is_held n then word_of d n else word (scene_in (node_round now n).0) d)
+pub word_is : (now : ℕ) (n : Node) (d : Side) → last_word_on d (node_round now n).0
+    ≡ (if is_held n then last_word_on d n else word (scene_in (node_round now n).0) d)
 unfolding next_word
 word_is now n d =
-    word_turned now n d ∙ by_turn (is_held n) (scene_of (crossing now n)) (scene_in (node_round now n).0) d (word_of d n)
+    word_turned now n d ∙ by_turn (is_held n) (scene_of (crossing now n)) (scene_in (node_round now n).0) d (last_word_on d n)
     (sym (scene_is now n))
 
 pub turns_left : (now : ℕ) (n : Node) → (node_round now n).0.held ≡ n.held - 1

@@ -41,9 +41,9 @@ pub record Cross : Type 0 where
   pub west_in : Intake
   pub east_in : Intake
 
-abbrev pub on_side : Cross → Side → Receiving
-on_side x West = x.west
-on_side x East = x.east
+abbrev pub receiving_side : Cross → Side → Receiving
+receiving_side x West = x.west
+receiving_side x East = x.east
 
 -- a cross-connect with a change on one side
 abbrev pub at_side : Side → (Receiving → Receiving) → Cross → Cross

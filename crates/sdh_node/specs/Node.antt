@@ -241,5 +241,5 @@ abbrev pub heard_by : Node → Heard
 heard_by n = record { west = hears n.west.brought; east = hears n.east.brought }
 
 -- the last word of a node on a side
-abbrev pub word_of : Side → Node → K
-word_of d n = (sending_on d n).word
+abbrev pub last_word_on : Side → Node → K
+last_word_on d n = (sending_on d n).word

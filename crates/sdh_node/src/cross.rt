@@ -13,7 +13,7 @@ ghost use Rattle.sdh_node.specs.Same.{same_in};
 ghost use Rattle.sdh_plant.specs.Arrivals.{as_arrival, arrived_in};
 ghost use Rattle.sdh_node.specs.Receiving.{commanded_by, arrived_on};
 ghost use Rattle.sdh_node.specs.Node.{new_cross, new_receiving, compared_in};
-ghost use Rattle.sdh_node.specs.Crossing.{on_side, at_side, half_of, after_intakes, scene_of, after_decision, next_word, feeder_of};
+ghost use Rattle.sdh_node.specs.Crossing.{receiving_side, at_side, half_of, after_intakes, scene_of, after_decision, next_word, feeder_of};
 ghost use Rattle.sdh_node.specs.Crossing.{lines_of, leads, drops, all_delivered};
 ghost use Rattle.sdh_terminal.specs.Lines.{IsFeeder};
 ghost use Rattle.sdh_terminal.specs.Receiving.{new_intake};
@@ -248,7 +248,7 @@ impl CrossConnect {
 
     /// Returns the receiving half of a side.
     pub fn receiver(&self, side: Side) -> &Receiver
-        ensures side { result.now ≡ on_side self.now side }
+        ensures side { result.now ≡ receiving_side self.now side }
         ensures rate { result.now.section.rate ≡ self.now.west.section.rate }
     {
         match side {

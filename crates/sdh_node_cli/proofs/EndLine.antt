@@ -5,7 +5,7 @@ use Rattle.std.specs.Str.{bytes_eq}
 use Rattle.std.proofs.lemmas.Slice.Eq.{bytes_eq-Decides}
 use Rattle.std.proofs.lemmas.List.{length-append, take_more, append_cancel_right}
 use Rattle.std.proofs.Math.Seq.{get_or-append_seam}
-use Rattle.sdh_node_cli.specs.Streams.{end_of_plan, AreLines, EndsPlan, HasNoEnd, IsDocument}
+use Rattle.sdh_node_cli.specs.Streams.{end_of_plan, AreLines, EndsPlan, HasNoEnd, IsPlanDocument}
 
 -- ---- the line at the end of some bytes
 
@@ -90,7 +90,7 @@ clash false e f = cc
 
 -- a document, and the line that ends it for the first time
 is_document : (bytes document before : List ℕ) → bytes ≡ document ++ end_of_plan → bytes ≡ before ++ codes "\n" → HasNoEnd before
-    → EndsPlan bytes → IsDocument document
+    → EndsPlan bytes → IsPlanDocument document
 is_document bytes document before is line none (other, ends, lines) =
     let same : other ≡ document = append_cancel_right other document end_of_plan (sym ends ∙ is) in
     let front : before ≡ document ++ codes "end of plan" =
@@ -100,7 +100,7 @@ is_document bytes document before is line none (other, ends, lines) =
 
 -- where the last byte is the first one with which a plan is ended, the bytes are a document and the line that ends it
 pub ended_by : (before bytes : List ℕ) (x : ℕ) → bytes ≡ before ++ x ∷ [] → HasNoEnd before → EndsPlan bytes
-    → (document : List ℕ) × (bytes ≡ document ++ end_of_plan) × IsDocument document
+    → (document : List ℕ) × (bytes ≡ document ++ end_of_plan) × IsPlanDocument document
 ended_by before bytes x is none ends =
     let line : bytes ≡ before ++ codes "\n" = is ∙ ap (λ y. before ++ y ∷ []) (last_byte before x (subst EndsPlan is ends)) in
     (ends.0, ends.1, is_document bytes ends.0 before ends.1 line none ends)

@@ -10,10 +10,10 @@ use Rattle.sdh_node_cli.specs.declared.head.NoHead.{NoHead}
 use Rattle.sdh_node_cli.specs.declared.head.NoHead.TheVariants as none
 use Rattle.sdh_node_cli.specs.declared.head.HeadEnd.{HeadEnd}
 use Rattle.sdh_node_cli.specs.declared.head.HeadEnd.TheVariants as end
-use Rattle.sdh_node_cli.specs.Streams.{end_of_plan, EndsPlan, IsDocument}
+use Rattle.sdh_node_cli.specs.Streams.{end_of_plan, EndsPlan, IsPlanDocument}
 use Rattle.sdh_node_cli.specs.Outcome.{HasHead, TakesHead, IsNoPlan, TellsNone}
 
-pub tells_none : (left now : Option (List ℕ)) (why : NoHead) (document : List ℕ) → IsDocument document
+pub tells_none : (left now : Option (List ℕ)) (why : NoHead) (document : List ℕ) → IsPlanDocument document
     → Consumes left now (document ++ end_of_plan) → IsNoPlan document why → TellsNone left now why
 tells_none left now none.Memory document is read because = tt
 tells_none left now none.Cut document is read because = absurd because

@@ -4,14 +4,14 @@ use Rattle.sdh_frame.specs.Sizes.{Frame}
 use Rattle.sdh_node.specs.Node.{Node, node_round}
 use Rattle.sdh_aps.specs.Lines.{signal_line}
 use Rattle.sdh_aps.specs.Showing.{shown_of}
-use Rattle.sdh_node_cli.specs.Bench.{Bench, after_round, frames_in, ports_from, lines_of, frames_if, answer_to}
+use Rattle.sdh_node_cli.specs.Bench.{Bench, after_round, bench_frames, ports_from, lines_of, frames_if, answer_to}
 
 pub round_is : (b before : Bench) (n : Node) → b ≡ before → n ≡ (node_round b.moment b.node).0 → record b { node = n } ≡ after_round before
 round_is b before n same is = ap (λ (m : Node). record b { node = m }) is ∙ ap after_round same
 
 -- the line of what the node shows, the lines of its ports, and the frames
 pub answered : (b before : Bench) (n : Node) (west east : Frame) (round : ℕ) (none first second third : List ℕ)
-    → b ≡ before → n ≡ (node_round b.moment b.node).0 → west ≡ (frames_in b).west → east ≡ (frames_in b).east → round ≡ n.rounds - 1
+    → b ≡ before → n ≡ (node_round b.moment b.node).0 → west ≡ (bench_frames b).west → east ≡ (bench_frames b).east → round ≡ n.rounds - 1
     → none ≡ [] → first ≡ none ++ signal_line round b.id (shown_of n) → second ≡ first ++ ports_from n b.at 0 b.circuits
     → third ≡ second ++ frames_if b.mode (record { west = west; east = east }) → third ≡ answer_to before
 unfolding answer_to lines_of

@@ -11,39 +11,39 @@ use Rattle.sdh_node_cli.specs.declared.ending.Flaw.TheVariants as flaw
 use Rattle.sdh_node_cli.specs.declared.stop.Stop.{Stop}
 use Rattle.sdh_node_cli.specs.declared.stop.Stop.TheVariants as stop
 use Rattle.sdh_node_cli.specs.Bench.{Bench}
-use Rattle.sdh_node_cli.specs.Streams.{Given, IsGiven, bytes_of, after, answer, AreGiven, after_all, answers, stream_of, records_max}
-use Rattle.sdh_node_cli.specs.Turns.{Goes, Halts, Fails, StopsSo, StopsBy}
+use Rattle.sdh_node_cli.specs.Streams.{GivenRecord, IsGiven, bytes_of, bench_after, record_answer, AreGiven, after_records, answers, stream_of, records_max}
+use Rattle.sdh_node_cli.specs.Turns.{RecordGoes, Halts, Fails, StopsSo, TurnStopsBy}
 use Rattle.sdh_node_cli.specs.Outcome.{Served, CutShort}
 
 -- ---- one record more
 
-are_more : (b : Bench) (gs : List Given) (g : Given) → AreGiven b gs → IsGiven (after_all b gs) g → AreGiven b (gs ++ g ∷ [])
+are_more : (b : Bench) (gs : List GivenRecord) (g : GivenRecord) → AreGiven b gs → IsGiven (after_records b gs) g → AreGiven b (gs ++ g ∷ [])
 are_more b [] g are is = (is, tt)
-are_more b (h ∷ gs) g are is = (are.0, are_more (after h b) gs g are.1 is)
+are_more b (h ∷ gs) g are is = (are.0, are_more (bench_after h b) gs g are.1 is)
 
-after_more : (b : Bench) (gs : List Given) (g : Given) → after_all b (gs ++ g ∷ []) ≡ after g (after_all b gs)
+after_more : (b : Bench) (gs : List GivenRecord) (g : GivenRecord) → after_records b (gs ++ g ∷ []) ≡ bench_after g (after_records b gs)
 after_more b [] g = refl
-after_more b (h ∷ gs) g = after_more (after h b) gs g
+after_more b (h ∷ gs) g = after_more (bench_after h b) gs g
 
-answers_more : (b : Bench) (gs : List Given) (g : Given) → answers b (gs ++ g ∷ []) ≡ answers b gs ++ answer g (after_all b gs)
-answers_more b [] g = append-nil (answer g b)
+answers_more : (b : Bench) (gs : List GivenRecord) (g : GivenRecord) → answers b (gs ++ g ∷ []) ≡ answers b gs ++ record_answer g (after_records b gs)
+answers_more b [] g = append-nil (record_answer g b)
 answers_more b (h ∷ gs) g =
-    ap (λ l. answer h b ++ l) (answers_more (after h b) gs g)
-    ∙ sym (append_assoc (answer h b) (answers (after h b) gs) (answer g (after_all (after h b) gs)))
+    ap (λ l. record_answer h b ++ l) (answers_more (bench_after h b) gs g)
+    ∙ sym (append_assoc (record_answer h b) (answers (bench_after h b) gs) (record_answer g (after_records (bench_after h b) gs)))
 
-stream_more : (gs : List Given) (g : Given) → stream_of (gs ++ g ∷ []) ≡ stream_of gs ++ bytes_of g
+stream_more : (gs : List GivenRecord) (g : GivenRecord) → stream_of (gs ++ g ∷ []) ≡ stream_of gs ++ bytes_of g
 stream_more gs g = flat_map-append bytes_of gs (g ∷ []) ∙ ap (λ l. stream_of gs ++ l) (append-nil (bytes_of g))
 
 -- ---- a run
 
 -- this number of records was done: the bench, what was read and what was written are theirs
 pub record Went (first b : Bench) (left now old_text new_text : Option (List ℕ)) (count : ℕ) : Type 0 where
-  pub records : List Given
+  pub records : List GivenRecord
   pub are : AreGiven first records
   pub counted : length records ≡ count
   pub read : Consumes left now (stream_of records)
   pub wrote : Appends old_text new_text (answers first records)
-  pub bench : b ≡ after_all first records
+  pub bench : b ≡ after_records first records
 
 pub went_none : (b : Bench) (left text : Option (List ℕ)) → Went b b left left text text 0
 went_none b left text = record {
@@ -56,9 +56,9 @@ went_none b left text = record {
 }
 
 pub went_on : (first b c : Bench) (left mid now old_text mid_text new_text : Option (List ℕ)) (count : ℕ)
-    → Went first b left mid old_text mid_text count → Goes b c mid now mid_text new_text → Went first c left now old_text new_text (count + 1)
+    → Went first b left mid old_text mid_text count → RecordGoes b c mid now mid_text new_text → Went first c left now old_text new_text (count + 1)
 went_on first b c left mid now old_text mid_text new_text count w go =
-    let is : IsGiven (after_all first w.records) go.given = subst (λ x. IsGiven x go.given) w.bench go.is in
+    let is : IsGiven (after_records first w.records) go.given = subst (λ x. IsGiven x go.given) w.bench go.is in
     record {
       records = w.records ++ go.given ∷ [];
       are = are_more first w.records go.given w.are is;
@@ -67,9 +67,9 @@ went_on first b c left mid now old_text mid_text new_text count w go =
           subst (Consumes left now) (sym (stream_more w.records go.given)) (Consumes-trans left mid now _ _ w.read go.read);
       wrote =
           subst (Appends old_text new_text) (sym (answers_more first w.records go.given
-          ∙ ap (λ x. answers first w.records ++ answer go.given x) (sym w.bench)))
+          ∙ ap (λ x. answers first w.records ++ record_answer go.given x) (sym w.bench)))
           (Appends-trans old_text mid_text new_text _ _ w.wrote go.wrote);
-      bench = go.bench ∙ ap (after go.given) w.bench ∙ sym (after_more first w.records go.given);
+      bench = go.bench ∙ ap (bench_after go.given) w.bench ∙ sym (after_more first w.records go.given);
     }
 
 -- ---- where it ends
@@ -81,7 +81,7 @@ keeps_behind (Some x) (Some y) None bs p q = absurd q
 keeps_behind (Some x) (Some y) (Some z) bs p q = q ∙ p
 
 halts : (b : Bench) (why : Stop) (left now old_text new_text : Option (List ℕ)) → why ≢ stop.WriteFault
-    → StopsBy b why left now old_text new_text → Halts b why left now × Keeps old_text new_text
+    → TurnStopsBy b why left now old_text new_text → Halts b why left now × Keeps old_text new_text
 halts b stop.Done left now old_text new_text not s = s
 halts b (stop.Bad f) left now old_text new_text not s = s
 halts b stop.ReadFault left now old_text new_text not s = s
@@ -89,7 +89,7 @@ halts b stop.WriteFault left now old_text new_text not s = absurd (not refl)
 
 -- the records so far, and why there were no more
 pub served_by : (first b : Bench) (left mid now old_text mid_text new_text : Option (List ℕ)) (count : ℕ) (why : Stop) → count < records_max
-    → Went first b left mid old_text mid_text count → why ≢ stop.WriteFault → StopsBy b why mid now mid_text new_text
+    → Went first b left mid old_text mid_text count → why ≢ stop.WriteFault → TurnStopsBy b why mid now mid_text new_text
     → (text : List ℕ) × Served first [] left now (count + 1) why text × Appends old_text new_text text
 served_by first b left mid now old_text mid_text new_text count why few w not s =
     let h = halts b why mid now mid_text new_text not s in (
@@ -116,8 +116,8 @@ cut_by first b left mid now old_text mid_text new_text count w f = record {
   is = subst (λ x. IsGiven x f.given) w.bench f.is;
   read = Consumes-trans left mid now _ _ w.read f.read;
   front =
-      subst (λ x. AppendsFewer old_text new_text (answers first w.records ++ answer f.given x)) w.bench
-      (fewer_behind old_text mid_text new_text (answers first w.records) (answer f.given b) w.wrote f.front);
+      subst (λ x. AppendsFewer old_text new_text (answers first w.records ++ record_answer f.given x)) w.bench
+      (fewer_behind old_text mid_text new_text (answers first w.records) (record_answer f.given b) w.wrote f.front);
 }
 
 -- the most records that may be done were done

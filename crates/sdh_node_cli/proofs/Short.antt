@@ -3,7 +3,7 @@ use Rattle.std.proofs.Common.{ℕ, ◌^◌, ◌<◌, ◌≤◌, ◌++◌, length
 use Rattle.std.proofs.lemmas.List.{length-append}
 use Rattle.std.proofs.lemmas.Fmt.{length-decimal-le}
 use Rattle.sdh_node_cli.specs.Endings.{bad_record_text}
-use Rattle.sdh_node_cli.specs.Bench.{count_line}
+use Rattle.sdh_node_cli.specs.Bench.{bytes_line}
 
 pub short_bad : (why number : ℕ) → why < 2 ^ 8 → number < 2 ^ 64 → length (bad_record_text why number) ≤ 96
 short_bad why number h k =
@@ -20,7 +20,7 @@ short_bad why number h k =
       length-decimal-le 20 number (omega arith) (omega arith) k,
     )
 
-pub short_count : (count : ℕ) → count < 2 ^ 64 → length (count_line count) ≤ 32
+pub short_count : (count : ℕ) → count < 2 ^ 64 → length (bytes_line count) ≤ 32
 short_count count h =
     let a = codes "bytes " ++ decimal count in
     omega (

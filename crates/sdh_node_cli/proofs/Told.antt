@@ -19,7 +19,7 @@ use Rattle.sdh_node_cli.specs.declared.stop.Stop.TheVariants as stop
 use Rattle.sdh_node_cli.specs.Endings.{line_of, bench_endings}
 use Rattle.sdh_node_cli.specs.Bench.{Bench, new_bench}
 use Rattle.sdh_node_cli.specs.Streams.{bytes_of, end_of_plan, stream_of}
-use Rattle.sdh_node_cli.specs.Outcome.{usage, HasHead, Served, CutShort, ending_of, OfPlan, IsOutcome}
+use Rattle.sdh_node_cli.specs.Outcome.{usage, HasHead, Served, CutShort, ending_of, OfBenchPlan, IsOutcome}
 use Rattle.sdh_node_cli.specs.Outcome.{IsCutPlan, MayBeCut, TellsPlanned, Tells}
 
 -- ---- endings
@@ -82,7 +82,7 @@ module _ (ask : Ask) (plan : Planned) (head : List ℕ) (left mid now : Option (
     front = s.front;
   }
 
-  plan_behind : (how : Ending) (text : List ℕ) → OfPlan ask plan [] mid now how text → OfPlan ask plan head left now how text
+  plan_behind : (how : Ending) (text : List ℕ) → OfBenchPlan ask plan [] mid now how text → OfBenchPlan ask plan head left now how text
   plan_behind how text (inl x) =
       inl (record {
         none = x.none;
@@ -105,7 +105,7 @@ module _ (ask : Ask) (plan : Planned) (head : List ℕ) (left mid now : Option (
   pub planned_behind : (how : Ending) (old new : Option (List ℕ)) → TellsPlanned ask plan [] mid now how old new
       → TellsPlanned ask plan head left now how old new
   planned_behind how old new x =
-      map_as (telling_in bench_endings how) (λ h text. OfPlan ask plan [] mid now h text) (λ h text. OfPlan ask plan head left now h text)
+      map_as (telling_in bench_endings how) (λ h text. OfBenchPlan ask plan [] mid now h text) (λ h text. OfBenchPlan ask plan head left now h text)
       (IsCutPlan ask plan [] mid now old new) (IsCutPlan ask plan head left now old new) how old new plan_behind
       (λ y. record { at = y.at; found = y.found; cut = cut_behind _ old new y.cut }) x
 
@@ -115,7 +115,7 @@ pub tells_planned : (ask : Ask) (plan : Planned) (left mid now : Option (List �
     → HasHead left mid plan → TellsPlanned ask plan [] mid now how old new → Tells (Some ask) left now how old new
 tells_planned ask plan left mid now how old new head x =
     let bytes = head.document ++ end_of_plan in
-    map_as (telling_in bench_endings how) (λ h text. OfPlan ask plan bytes left now h text) (λ h text. IsOutcome (Some ask) left now h text)
+    map_as (telling_in bench_endings how) (λ h text. OfBenchPlan ask plan bytes left now h text) (λ h text. IsOutcome (Some ask) left now h text)
     (IsCutPlan ask plan bytes left now old new) (MayBeCut (Some ask) left now old new) how old new
     (λ h text y. inr (record { document = head.document; first = head.first; plan = plan; plan_is = head.plan_is; of_plan = y }))
     (λ y. record { document = head.document; first = head.first; plan = plan; plan_is = head.plan_is; cut = y })
@@ -137,7 +137,7 @@ wrote_line said how end bytes line old new same is wrote =
 -- the node was found, and records were done for it
 pub of_served : (ask : Ask) (plan : Planned) (at : Pos) (b : Bench) (left now : Option (List ℕ)) (number : ℕ) (why : Stop) (told : List ℕ)
     → found_at plan.nodes ask.id ≡ Some at → b ≡ new_bench ask.mode ask.id at plan → Served b [] left now number why told
-    → OfPlan ask plan [] left now (ending_of why number) (told ++ line_of (ending_of why number))
+    → OfBenchPlan ask plan [] left now (ending_of why number) (told ++ line_of (ending_of why number))
 of_served ask plan at b left now number why told found is served =
     inr (record {
       at = at;

@@ -23,8 +23,8 @@ use Rattle.sdh_node_cli.specs.declared.stop.Stop.TheVariants as stop
 use Rattle.sdh_node_cli.specs.Records.{record_of}
 use Rattle.sdh_node_cli.proofs.Long.{line_long}
 use Rattle.sdh_node_cli.specs.Bench.{Bench, refusal_of, after_told, after_coming, after_round, answer_to}
-use Rattle.sdh_node_cli.specs.Streams.{Given, after_record, after, west_of, IsLine, IsBehind, IsRefusedFor, IsRefused, most_ahead}
-use Rattle.sdh_node_cli.specs.Turns.{with_ahead, IsAhead, ReadsLine, HasLine, TakesPart, TakesBoth, both_sizes, Ran, RanCut, StopsRound, Goes, Halts, StopsBy}
+use Rattle.sdh_node_cli.specs.Streams.{GivenRecord, after_record, bench_after, west_of, IsLine, IsBehind, IsRefusedFor, IsRefusedLine, most_ahead}
+use Rattle.sdh_node_cli.specs.Turns.{with_ahead, IsAhead, ReadsLine, HasLine, TakesPart, TakesBoth, both_sizes, Ran, RanCut, StopsRound, RecordGoes, Halts, TurnStopsBy}
 
 -- ---- what stays
 
@@ -65,7 +65,7 @@ abbrev came_node : Came → List ℕ → Came → List ℕ → Bench → Node
 came_node west w east e b = after_coming East east e (after_coming West west w b.node)
 
 -- a record leaves the settings and the circuits, and runs at most one round
-pub after_settings : (g : Given) (b : Bench) → (after g b).node.settings ≡ b.node.settings
+pub after_settings : (g : GivenRecord) (b : Bench) → (bench_after g b).node.settings ≡ b.node.settings
 after_settings g b = by g.record_is
   where
     by : (r : Record) → (after_record r g.west g.east b).node.settings ≡ b.node.settings
@@ -75,7 +75,7 @@ after_settings g b = by g.record_is
         ∙ coming_settings East east g.east (after_coming West west g.west b.node)
         ∙ coming_settings West west g.west b.node
 
-pub after_rounds : (g : Given) (b : Bench) → (after g b).node.rounds ≤ b.node.rounds + 1
+pub after_rounds : (g : GivenRecord) (b : Bench) → (bench_after g b).node.rounds ≤ b.node.rounds + 1
 after_rounds g b = by g.record_is
   where
     by : (r : Record) → (after_record r g.west g.east b).node.rounds ≤ b.node.rounds + 1
@@ -89,7 +89,7 @@ after_rounds g b = by g.record_is
         )
 
 -- a record leaves the rate
-pub rate_after : (g : Given) (b d : Bench) → d ≡ after g b → d.node.settings.rate ≡ b.node.settings.rate
+pub rate_after : (g : GivenRecord) (b d : Bench) → d ≡ bench_after g b → d.node.settings.rate ≡ b.node.settings.rate
 rate_after g b d is = ap (λ (x : Bench). x.node.settings.rate) is ∙ ap (λ (s : Settings). s.rate) (after_settings g b)
 
 -- ---- a round
@@ -148,7 +148,7 @@ both_stay b d west east left now both =
 
 pub goes_round : (b new : Bench) (line : List ℕ) (west east : Came) (first : Option ℕ) (left mid now old_text new_text : Option (List ℕ))
     → HasLine b line (what.Round west east) first left mid → Ran b new west east (with_ahead first mid) now old_text new_text
-    → Goes b new left now old_text new_text
+    → RecordGoes b new left now old_text new_text
 goes_round b new line west east first left mid now old_text new_text l ran = record {
   given = record { line = line; record_is = what.Round west east; west = ran.from_west; east = ran.from_east };
   is = record {
@@ -167,7 +167,7 @@ alone : (line : List ℕ) (first : Option ℕ) (left now : Option (List ℕ)) �
 alone line first left now none read = subst (λ f. Consumes left (with_ahead f now) (whole_line line)) none read
 
 pub goes_told : (b new : Bench) (line : List ℕ) (t : Told) (first : Option ℕ) (left now text : Option (List ℕ))
-    → HasLine b line (what.Told t) first left now → refusal_of b t ≡ None → new ≡ after_told t b → Goes b new left now text text
+    → HasLine b line (what.Told t) first left now → refusal_of b t ≡ None → new ≡ after_told t b → RecordGoes b new left now text text
 goes_told b new line t first left now text l may is = record {
   given = record { line = line; record_is = what.Told t; west = []; east = [] };
   is = record { said = record { line_is = l.line_is; reads = l.reads; may = may }; west_whole = refl; east_whole = refl };
@@ -180,7 +180,7 @@ goes_told b new line t first left now text l may is = record {
 
 -- a line that can't be done
 refused_line : (b : Bench) (line more : List ℕ) (why : Reason) → IsLine line → IsRefusedFor b line why → IsBehind line more
-    → {tail : List ℕ} → whole_line line ++ more ≡ tail → IsRefused b why tail
+    → {tail : List ℕ} → whole_line line ++ more ≡ tail → IsRefusedLine b why tail
 refused_line b line more why is refused few e = record { line = line; more = more; tail_is = sym e; line_is = is; refused = refused; few = few }
 
 -- bytes that were read with a line and are no more than there may be of what came from the west
@@ -229,14 +229,14 @@ pub no_record : (b : Bench) (line : List ℕ) (why : Reason) (first : Option ℕ
 no_record b line why first left now l reads =
     (whole_line line ++ l.more, (refused_line b line l.more why l.line_is (inl reads) l.few refl, tt), l.read)
 
-pub line_stops : (b : Bench) (why : Stop) (left now text : Option (List ℕ)) → Halts b why left now → StopsBy b why left now text text
+pub line_stops : (b : Bench) (why : Stop) (left now text : Option (List ℕ)) → Halts b why left now → TurnStopsBy b why left now text text
 line_stops b stop.Done left now text h = (h, Keeps-refl text)
 line_stops b (stop.Bad f) left now text h = (h, Keeps-refl text)
 line_stops b stop.ReadFault left now text h = (h, Keeps-refl text)
 line_stops b stop.WriteFault left now text h = absurd h.1
 
 pub told_stops : (b : Bench) (line : List ℕ) (t : Told) (why : Reason) (first : Option ℕ) (left now text : Option (List ℕ))
-    → HasLine b line (what.Told t) first left now → refusal_of b t ≡ Some why → StopsBy b (stop.Bad (flaw.Said why)) left now text text
+    → HasLine b line (what.Told t) first left now → refusal_of b t ≡ Some why → TurnStopsBy b (stop.Bad (flaw.Said why)) left now text text
 told_stops b line t why first left now text l refused = (
   (
     whole_line line,
@@ -248,7 +248,7 @@ told_stops b line t why first left now text l refused = (
 
 pub round_stops : (b : Bench) (line : List ℕ) (west east : Came) (why : Stop) (first : Option ℕ) (left mid now old_text new_text : Option (List ℕ))
     → HasLine b line (what.Round west east) first left mid → StopsRound b west east why (with_ahead first mid) now old_text new_text
-    → StopsBy b why left now old_text new_text
+    → TurnStopsBy b why left now old_text new_text
 round_stops b line west east stop.WriteFault first left mid now old_text new_text l cut = record {
   given = record { line = line; record_is = what.Round west east; west = cut.from_west; east = cut.from_east };
   is = record {

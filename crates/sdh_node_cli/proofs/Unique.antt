@@ -12,8 +12,8 @@ use Rattle.sdh_node_cli.specs.declared.stop.Stop.{Stop}
 use Rattle.sdh_node_cli.specs.declared.stop.Stop.TheVariants as stop
 use Rattle.sdh_node_cli.specs.Records.{record_of}
 use Rattle.sdh_node_cli.specs.Bench.{Bench, size_after}
-use Rattle.sdh_node_cli.specs.Streams.{Given, IsGiven, west_of, east_of, refusal, bytes_of, after, AreGiven, after_all, stream_of}
-use Rattle.sdh_node_cli.specs.Streams.{IsLine, IsRefusedFor, IsRefused, IsCutLine, IsCutFrame}
+use Rattle.sdh_node_cli.specs.Streams.{GivenRecord, IsGiven, west_of, east_of, refusal, bytes_of, bench_after, AreGiven, after_records, stream_of}
+use Rattle.sdh_node_cli.specs.Streams.{IsLine, IsRefusedFor, IsRefusedLine, IsCutLine, IsCutFrame}
 use Rattle.sdh_node_cli.specs.Turns.{StopsSo}
 use Rattle.sdh_node_cli.specs.Outcome.{StopsAfter}
 use Rattle.sdh_node_cli.specs.Laws.{RecordsAreTold}
@@ -58,7 +58,7 @@ ok_same x r s p q = cc
 reads_same : (b : Bench) (l m : List ℕ) (r s : Record) → l ≡ m → record_of b.circuits b.at l ≡ Ok r → record_of b.circuits b.at m ≡ Ok s → r ≡ s
 reads_same b l m r s same p q = ok_same (record_of b.circuits b.at l) r s p (ap (record_of b.circuits b.at) same ∙ q)
 
-parts_same : (g h : Given) → g.line ≡ h.line → g.record_is ≡ h.record_is → g.west ≡ h.west → g.east ≡ h.east → g ≡ h
+parts_same : (g h : GivenRecord) → g.line ≡ h.line → g.record_is ≡ h.record_is → g.west ≡ h.west → g.east ≡ h.east → g ≡ h
 parts_same g h a b c d =
     let first : g ≡ record g { line = h.line } = ap (λ (l : List ℕ). record g { line = l }) a in
     let second : record g { line = h.line } ≡ record g { line = h.line; record_is = h.record_is } =
@@ -68,7 +68,7 @@ parts_same g h a b c d =
     first ∙ second ∙ third ∙ ap (λ (e : List ℕ). record h { east = e }) d
 
 -- two records, and what comes after them
-given_same : (b : Bench) (g h : Given) (x y : List ℕ) → IsGiven b g → IsGiven b h → bytes_of g ++ x ≡ bytes_of h ++ y → (g ≡ h) × (x ≡ y)
+given_same : (b : Bench) (g h : GivenRecord) (x y : List ℕ) → IsGiven b g → IsGiven b h → bytes_of g ++ x ≡ bytes_of h ++ y → (g ≡ h) × (x ≡ y)
 given_same b g h x y p q e =
     let rate = b.node.settings.rate in
     let lines : (g.line ≡ h.line) × ((g.west ++ g.east) ++ x ≡ (h.west ++ h.east) ++ y) =
@@ -91,7 +91,7 @@ ok_err : (x : Result Record Reason) (r : Record) (why : Reason) → x ≡ Ok r �
 ok_err x r why p q = cc
 
 -- a part of a record isn't a record and what comes after it
-no_part : (b : Bench) (g : Given) (x tail : List ℕ) → IsGiven b g → IsCutFrame b tail → bytes_of g ++ x ≡ tail → ⊥
+no_part : (b : Bench) (g : GivenRecord) (x tail : List ℕ) → IsGiven b g → IsCutFrame b tail → bytes_of g ++ x ≡ tail → ⊥
 no_part b g x tail p f e =
     let rate = b.node.settings.rate in
     let lines : (g.line ≡ f.line) × ((g.west ++ g.east) ++ x ≡ f.part) =
@@ -110,12 +110,12 @@ no_part b g x tail p f e =
       ap (λ s. size_after rate (east_of s)) r,
     )
 
-no_line : (b : Bench) (g : Given) (x tail : List ℕ) → IsOneLine tail → bytes_of g ++ x ≡ tail → ⊥
+no_line : (b : Bench) (g : GivenRecord) (x tail : List ℕ) → IsOneLine tail → bytes_of g ++ x ≡ tail → ⊥
 no_line b g x tail one e =
     never_whole g.line ((g.west ++ g.east) ++ x) tail one (sym (opened g.line (g.west ++ g.east) x) ∙ e)
 
 -- a record that can't be done isn't a record that can and what comes after it
-no_refused : (b : Bench) (g : Given) (x tail : List ℕ) (why : Reason) → IsGiven b g → IsRefused b why tail → bytes_of g ++ x ≡ tail → ⊥
+no_refused : (b : Bench) (g : GivenRecord) (x tail : List ℕ) (why : Reason) → IsGiven b g → IsRefusedLine b why tail → bytes_of g ++ x ≡ tail → ⊥
 no_refused b g x tail why p n e = by n.refused
   where
     line : List ℕ
@@ -131,7 +131,7 @@ no_refused b g x tail why p n e = by n.refused
         none_some (refusal b g.record_is) why p.said.may (ap (refusal b) (reads_same b g.line line g.record_is r same p.said.reads ok) ∙ refused)
 
 -- what was read where no more records were done doesn't begin with a record that can be done
-no_stop : (b : Bench) (g : Given) (x tail : List ℕ) (why : Stop) (now : Option (List ℕ)) → IsGiven b g → StopsSo b why tail now
+no_stop : (b : Bench) (g : GivenRecord) (x tail : List ℕ) (why : Stop) (now : Option (List ℕ)) → IsGiven b g → StopsSo b why tail now
     → bytes_of g ++ x ≡ tail → ⊥
 no_stop b g x tail stop.Done now p s e =
     omega (
@@ -159,14 +159,14 @@ no_stop b g x tail stop.WriteFault now p s e = absurd s
 
 -- ---- records, one after the other
 
-given_first : (b : Bench) (g h : Given) (gs hs : List Given) (x y : List ℕ) → AreGiven b (g ∷ gs) → AreGiven b (h ∷ hs)
+given_first : (b : Bench) (g h : GivenRecord) (gs hs : List GivenRecord) (x y : List ℕ) → AreGiven b (g ∷ gs) → AreGiven b (h ∷ hs)
     → stream_of (g ∷ gs) ++ x ≡ stream_of (h ∷ hs) ++ y → (g ≡ h) × (stream_of gs ++ x ≡ stream_of hs ++ y)
 given_first b g h gs hs x y p q e =
     given_same b g h (stream_of gs ++ x) (stream_of hs ++ y) p.0 q.0
     (sym (append_assoc (bytes_of g) (stream_of gs) x) ∙ e ∙ append_assoc (bytes_of h) (stream_of hs) y)
 
 -- where there are as many records on both sides, they are equal
-same_long : (b : Bench) (gs hs : List Given) (x y : List ℕ) → AreGiven b gs → AreGiven b hs → length gs ≡ length hs
+same_long : (b : Bench) (gs hs : List GivenRecord) (x y : List ℕ) → AreGiven b gs → AreGiven b hs → length gs ≡ length hs
     → stream_of gs ++ x ≡ stream_of hs ++ y → (gs ≡ hs) × (x ≡ y)
 same_long b [] [] x y p q n e = (refl, e)
 same_long b [] (h ∷ hs) x y p q n e = absurd (omega arith)
@@ -174,23 +174,23 @@ same_long b (g ∷ gs) [] x y p q n e = absurd (omega arith)
 same_long b (g ∷ gs) (h ∷ hs) x y p q n e =
     let first : (g ≡ h) × (stream_of gs ++ x ≡ stream_of hs ++ y) = given_first b g h gs hs x y p q e in
     let rest : (gs ≡ hs) × (x ≡ y) =
-    same_long (after g b) gs hs x y p.1 (subst (λ z. AreGiven (after z b) hs) (sym first.0) q.1) (omega arith) first.1 in
+    same_long (bench_after g b) gs hs x y p.1 (subst (λ z. AreGiven (bench_after z b) hs) (sym first.0) q.1) (omega arith) first.1 in
     (ap (λ z. z ∷ gs) first.0 ∙ ap (λ zs. h ∷ zs) rest.0, rest.1)
 
 -- where no more records were done on one side, there aren't more on the other
-no_more : (b : Bench) (gs hs : List Given) (x y : List ℕ) (why : Stop) (now : Option (List ℕ)) → AreGiven b gs → AreGiven b hs
-    → StopsSo (after_all b gs) why x now → stream_of gs ++ x ≡ stream_of hs ++ y → length hs ≤ length gs
+no_more : (b : Bench) (gs hs : List GivenRecord) (x y : List ℕ) (why : Stop) (now : Option (List ℕ)) → AreGiven b gs → AreGiven b hs
+    → StopsSo (after_records b gs) why x now → stream_of gs ++ x ≡ stream_of hs ++ y → length hs ≤ length gs
 no_more b gs [] x y why now p q s e = omega arith
 no_more b [] (h ∷ hs) x y why now p q s e =
     absurd (no_stop b h (stream_of hs ++ y) x why now q.0 s (sym (append_assoc (bytes_of h) (stream_of hs) y) ∙ sym e))
 no_more b (g ∷ gs) (h ∷ hs) x y why now p q s e =
     let first : (g ≡ h) × (stream_of gs ++ x ≡ stream_of hs ++ y) = given_first b g h gs hs x y p q e in
     let rest : length hs ≤ length gs =
-    no_more (after g b) gs hs x y why now p.1 (subst (λ z. AreGiven (after z b) hs) (sym first.0) q.1) s first.1 in
+    no_more (bench_after g b) gs hs x y why now p.1 (subst (λ z. AreGiven (bench_after z b) hs) (sym first.0) q.1) s first.1 in
     omega (arith, rest)
 
 -- so there are as many on both
-as_many : (b : Bench) (gs hs : List Given) (x y : List ℕ) (why how : Stop) (left now : Option (List ℕ)) → AreGiven b gs → AreGiven b hs
+as_many : (b : Bench) (gs hs : List GivenRecord) (x y : List ℕ) (why how : Stop) (left now : Option (List ℕ)) → AreGiven b gs → AreGiven b hs
     → StopsAfter b gs why x left → StopsAfter b hs how y now → stream_of gs ++ x ≡ stream_of hs ++ y → length gs ≡ length hs
 as_many b gs hs x y why how left now p q (inl s) (inl t) e =
     omega (arith, no_more b gs hs x y why left p q s.1 e, no_more b hs gs y x how now q p t.1 (sym e))

@@ -90,8 +90,8 @@ with_arrivals west from_west east from_east b =
 abbrev pub after_round : Bench → Bench
 after_round b = record b { node = (node_round b.moment b.node).0 }
 
-abbrev pub frames_in : Bench → Frames
-frames_in b = (node_round b.moment b.node).1
+abbrev pub bench_frames : Bench → Frames
+bench_frames b = (node_round b.moment b.node).1
 
 -- ---- what is written for a round
 
@@ -117,12 +117,12 @@ unfoldable pub lines_of : Bench → List ℕ
 lines_of b = signal_line (b.node.rounds - 1) b.id (shown_of b.node) ++ ports_from b.node b.at 0 b.circuits
 
 -- the line that says that this number of bytes follows
-abbrev pub count_line : ℕ → List ℕ
-count_line count = codes "bytes " ++ decimal count ++ codes "\n"
+abbrev pub bytes_line : ℕ → List ℕ
+bytes_line count = codes "bytes " ++ decimal count ++ codes "\n"
 
 -- the number of bytes of the frames that leave, and the frames, the one to the west first
 unfoldable pub frames_text : Frames → List ℕ
-frames_text f = count_line (length f.west.bytes + length f.east.bytes) ++ f.west.bytes ++ f.east.bytes
+frames_text f = bytes_line (length f.west.bytes + length f.east.bytes) ++ f.west.bytes ++ f.east.bytes
 
 abbrev pub frames_if : Mode → Frames → List ℕ
 frames_if mode.Lines f = []
@@ -130,7 +130,7 @@ frames_if mode.Frames f = frames_text f
 
 -- the answer to a round, by the bench before it
 unfoldable pub answer_to : Bench → List ℕ
-answer_to b = lines_of (after_round b) ++ frames_if b.mode (frames_in b)
+answer_to b = lines_of (after_round b) ++ frames_if b.mode (bench_frames b)
 
 -- ---- what is true of every bench
 

@@ -7,14 +7,14 @@ use Rattle.sdh_node_cli.specs.declared.record.Record.{Record}
 use Rattle.sdh_node_cli.specs.declared.stop.Stop.{Stop}
 use Rattle.sdh_node_cli.specs.Records.{record_of}
 use Rattle.sdh_node_cli.specs.Bench.{Bench}
-use Rattle.sdh_node_cli.specs.Streams.{Given, AreGiven, west_of, stream_of, fewest, most_ahead}
+use Rattle.sdh_node_cli.specs.Streams.{GivenRecord, AreGiven, west_of, stream_of, fewest, most_ahead}
 use Rattle.sdh_node_cli.specs.Outcome.{StopsAfter}
 
 -- The bytes that were read, up to a record that wasn't done, determine which records were done and which bytes were
 -- read after these. There is no other way to split them.
 abbrev pub RecordsAreTold : Type 0
 RecordsAreTold =
-    (b : Bench) (one other : List Given) (first second : List ℕ) (why how : Stop) (left now : Option (List ℕ))
+    (b : Bench) (one other : List GivenRecord) (first second : List ℕ) (why how : Stop) (left now : Option (List ℕ))
     → AreGiven b one → AreGiven b other → StopsAfter b one why first left → StopsAfter b other how second now
     → stream_of one ++ first ≡ stream_of other ++ second → (one ≡ other) × (first ≡ second)
 

@@ -23,7 +23,7 @@ use Rattle.sdh_node_cli.specs.declared.stop.Stop.{Stop}
 use Rattle.sdh_node_cli.specs.declared.stop.Stop.TheVariants as stop
 use Rattle.sdh_node_cli.specs.Endings.{line_of, bench_endings}
 use Rattle.sdh_node_cli.specs.Bench.{Bench, new_bench}
-use Rattle.sdh_node_cli.specs.Streams.{end_of_plan, HasNoEnd, IsDocument, head_max, Given, IsGiven, bytes_of, answer, AreGiven, after_all}
+use Rattle.sdh_node_cli.specs.Streams.{end_of_plan, HasNoEnd, IsPlanDocument, head_max, GivenRecord, IsGiven, bytes_of, record_answer, AreGiven, after_records}
 use Rattle.sdh_node_cli.specs.Streams.{answers, stream_of, records_max}
 use Rattle.sdh_node_cli.specs.Turns.{StopsSo}
 
@@ -37,7 +37,7 @@ usage = codes "usage: sdhnode ID, frames, lines"
 -- this plan
 pub record HasHead (left now : Option (List ℕ)) (plan : Planned) : Type 0 where
   pub document : List ℕ
-  pub first : IsDocument document
+  pub first : IsPlanDocument document
   pub plan_is : TellsPlan document plan
   pub read : Consumes left now (document ++ end_of_plan)
 
@@ -52,14 +52,14 @@ pub record HasNoHead (left now : Option (List ℕ)) (bytes : List ℕ) : Type 0 
 -- after them; or the source ended before that; or there was no room for more.
 abbrev pub TakesHead : Option (List ℕ) → Option (List ℕ) → List ℕ → HeadEnd → Type 0
 TakesHead left now bytes end.Whole =
-    (document : List ℕ) × (bytes ≡ document ++ end_of_plan) × IsDocument document × Consumes left now bytes
+    (document : List ℕ) × (bytes ≡ document ++ end_of_plan) × IsPlanDocument document × Consumes left now bytes
 TakesHead left now bytes end.Ended = HasNoHead left now bytes × IsAtEnd now
 TakesHead left now bytes end.Full = HasNoHead left now bytes
 
 -- a document was read, and it is refused with this status
 pub record HasBadHead (left now : Option (List ℕ)) (how : Status) : Type 0 where
   pub document : List ℕ
-  pub first : IsDocument document
+  pub first : IsPlanDocument document
   pub why : HasNoPlan document how
   pub read : Consumes left now (document ++ end_of_plan)
 
@@ -93,19 +93,19 @@ TellsNone left now (none.Refused how) = RefusesHead left now how
 -- ---- records, one after the other, after the bytes `head`
 
 -- the most records that may be done were done, and nothing was read after them
-pub record IsFull (records : List Given) (why : Stop) (tail : List ℕ) : Type 0 where
+pub record IsFull (records : List GivenRecord) (why : Stop) (tail : List ℕ) : Type 0 where
   pub many : why ≡ stop.Bad flaw.Many
   pub all : length records ≡ records_max
   pub unread : tail ≡ []
 
 -- why no more records were done after these; `tail` is what was read of the next one
-abbrev pub StopsAfter : Bench → List Given → Stop → List ℕ → Option (List ℕ) → Type 0
+abbrev pub StopsAfter : Bench → List GivenRecord → Stop → List ℕ → Option (List ℕ) → Type 0
 StopsAfter b records why tail now =
-    ((length records < records_max) × StopsSo (after_all b records) why tail now) ⊎ IsFull records why tail
+    ((length records < records_max) × StopsSo (after_records b records) why tail now) ⊎ IsFull records why tail
 
 -- records were done up to one that wasn't, whose number is `number`, and their answers are `text`
 pub record Served (b : Bench) (head : List ℕ) (left now : Option (List ℕ)) (number : ℕ) (why : Stop) (text : List ℕ) : Type 0 where
-  pub records : List Given
+  pub records : List GivenRecord
   pub are : AreGiven b records
   pub numbered : number ≡ length records + 1
   pub tail : List ℕ
@@ -116,12 +116,12 @@ pub record Served (b : Bench) (head : List ℕ) (left now : Option (List ℕ)) (
 -- After some records a write failed in the answer to the next one. A front of the answers was written, and nothing was
 -- read after that record.
 pub record CutShort (b : Bench) (head : List ℕ) (left now old_text new_text : Option (List ℕ)) : Type 0 where
-  pub records : List Given
+  pub records : List GivenRecord
   pub are : AreGiven b records
-  pub given : Given
-  pub is : IsGiven (after_all b records) given
+  pub given : GivenRecord
+  pub is : IsGiven (after_records b records) given
   pub read : Consumes left now (head ++ (stream_of records ++ bytes_of given))
-  pub front : AppendsFewer old_text new_text (answers b records ++ answer given (after_all b records))
+  pub front : AppendsFewer old_text new_text (answers b records ++ record_answer given (after_records b records))
 
 -- ---- an outcome
 
@@ -150,27 +150,27 @@ pub record HasServed (ask : Ask) (plan : Planned) (head : List ℕ) (left now : 
   pub served : Served (new_bench ask.mode ask.id at plan) head left now number why told
   pub text_is : text ≡ told ++ line_of how
 
-abbrev pub OfPlan : Ask → Planned → List ℕ → Option (List ℕ) → Option (List ℕ) → Ending → List ℕ → Type 0
-OfPlan ask plan head left now how text =
+abbrev pub OfBenchPlan : Ask → Planned → List ℕ → Option (List ℕ) → Option (List ℕ) → Ending → List ℕ → Type 0
+OfBenchPlan ask plan head left now how text =
     HasNoNode ask plan head left now how text ⊎ HasServed ask plan head left now how text
 
 -- there is no plan
-pub record HasRefused (left now : Option (List ℕ)) (how : Ending) (text : List ℕ) : Type 0 where
+pub record HasRefusedPlan (left now : Option (List ℕ)) (how : Ending) (text : List ℕ) : Type 0 where
   pub why : NoHead
   pub none : TellsNone left now why
   pub how_is : Some how ≡ refusal_of why
   pub text_is : text ≡ line_of how
 
 -- a document is that of a plan
-pub record HasPlan (ask : Ask) (left now : Option (List ℕ)) (how : Ending) (text : List ℕ) : Type 0 where
+pub record HasPlanDocument (ask : Ask) (left now : Option (List ℕ)) (how : Ending) (text : List ℕ) : Type 0 where
   pub document : List ℕ
-  pub first : IsDocument document
+  pub first : IsPlanDocument document
   pub plan : Planned
   pub plan_is : TellsPlan document plan
-  pub of_plan : OfPlan ask plan (document ++ end_of_plan) left now how text
+  pub of_plan : OfBenchPlan ask plan (document ++ end_of_plan) left now how text
 
 -- the node that is asked for in a plan's ring, before any record
-pub record IsNodeOf (ask : Ask) (plan : Planned) (b : Bench) : Type 0 where
+pub record IsAskedNode (ask : Ask) (plan : Planned) (b : Bench) : Type 0 where
   pub at : Pos
   pub found : found_at plan.nodes ask.id ≡ Some at
   pub new : b ≡ new_bench ask.mode ask.id at plan
@@ -179,13 +179,13 @@ pub record IsNodeOf (ask : Ask) (plan : Planned) (b : Bench) : Type 0 where
 pub record HasNode (ask : Ask) (left now : Option (List ℕ)) (b : Bench) : Type 0 where
   pub plan : Planned
   pub head : HasHead left now plan
-  pub node : IsNodeOf ask plan b
+  pub node : IsAskedNode ask plan b
 
 -- What is asked, if anything, leads to this ending with this text, and the source goes from `left` to `now`. A write
 -- fault and out of memory aren't outcomes: either may come in place of any outcome.
 abbrev pub IsOutcome : Option Ask → Option (List ℕ) → Option (List ℕ) → Ending → List ℕ → Type 0
 IsOutcome None left now how text = (how ≡ ending.Shared status.Usage) × (text ≡ own_line usage) × (now ≡ left)
-IsOutcome (Some ask) left now how text = HasRefused left now how text ⊎ HasPlan ask left now how text
+IsOutcome (Some ask) left now how text = HasRefusedPlan left now how text ⊎ HasPlanDocument ask left now how text
 
 -- a write failed in the answer to a record for the node of a plan
 pub record IsCutPlan (ask : Ask) (plan : Planned) (head : List ℕ) (left now old_text new_text : Option (List ℕ)) : Type 0 where
@@ -195,7 +195,7 @@ pub record IsCutPlan (ask : Ask) (plan : Planned) (head : List ℕ) (left now ol
 
 pub record IsCutShort (ask : Ask) (left now old_text new_text : Option (List ℕ)) : Type 0 where
   pub document : List ℕ
-  pub first : IsDocument document
+  pub first : IsPlanDocument document
   pub plan : Planned
   pub plan_is : TellsPlan document plan
   pub cut : IsCutPlan ask plan (document ++ end_of_plan) left now old_text new_text
@@ -209,7 +209,7 @@ MayBeCut (Some ask) left now old_text new_text = IsCutShort ask left now old_tex
 -- when this ending was returned for the node of a plan, where the records came after the bytes `head`
 abbrev pub TellsPlanned : Ask → Planned → List ℕ → Option (List ℕ) → Option (List ℕ) → Ending → Option (List ℕ) → Option (List ℕ) → Type 0
 TellsPlanned ask plan head left now how old_text new_text =
-    TellsWith bench_endings (λ h text. OfPlan ask plan head left now h text) (IsCutPlan ask plan head left now old_text new_text) how
+    TellsWith bench_endings (λ h text. OfBenchPlan ask plan head left now h text) (IsCutPlan ask plan head left now old_text new_text) how
     old_text new_text
 
 -- What was written is the whole text of an outcome. Where a write failed, it is fewer bytes: a front of that text, or

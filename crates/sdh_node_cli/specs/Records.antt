@@ -67,19 +67,19 @@ side_in (word ∷ []) = or_why reason.StepSide (side_at word)
 side_in (word ∷ more ∷ others) = Err reason.StepForm
 
 -- a number in a range
-abbrev pub number_in : ℕ → ℕ → List (List ℕ) → Result ℕ Reason
-number_in low high [] = Err reason.StepForm
-number_in low high (word ∷ []) = or_why reason.StepNumber (numeral_in low high word)
-number_in low high (word ∷ more ∷ others) = Err reason.StepForm
+abbrev pub number_in_words : ℕ → ℕ → List (List ℕ) → Result ℕ Reason
+number_in_words low high [] = Err reason.StepForm
+number_in_words low high (word ∷ []) = or_why reason.StepNumber (numeral_in low high word)
+number_in_words low high (word ∷ more ∷ others) = Err reason.StepForm
 
 abbrev pub command_in : Command → List (List ℕ) → Result Record Reason
 command_in c others = when_ok (λ side. what.Told (told.Command side c)) (side_in others)
 
 abbrev pub moment_in : List (List ℕ) → Result Record Reason
-moment_in others = when_ok (λ number. what.Told (told.Moment (record { 0 = number }))) (number_in 0 1000000000 others)
+moment_in others = when_ok (λ number. what.Told (told.Moment (record { 0 = number }))) (number_in_words 0 1000000000 others)
 
 abbrev pub hold_in : List (List ℕ) → Result Record Reason
-hold_in others = when_ok (λ turns. what.Told (told.Hold turns)) (number_in 1 100 others)
+hold_in others = when_ok (λ turns. what.Told (told.Hold turns)) (number_in_words 1 100 others)
 
 -- slips of a port, by the port that the circuit's name gives, the direction and the number
 abbrev pub slip_by : Option PortId → Option Turn → Option ℕ → Result Record Reason

@@ -34,7 +34,7 @@ HasNoEnd bytes = (front rest : List ℕ) → bytes ≡ front ++ rest → EndsPla
 
 -- The document is what comes before the first line `end of plan`. So no front of the document and that line ends a
 -- plan, as long as the line's newline byte is missing.
-pub record IsDocument (document : List ℕ) : Type 0 where
+pub record IsPlanDocument (document : List ℕ) : Type 0 where
   pub lines : AreLines document
   pub first : HasNoEnd (document ++ codes "end of plan")
 
@@ -45,7 +45,7 @@ head_max = 1048588
 -- ---- records
 
 -- a record with the frames that follow it
-pub record Given : Type 0 where
+pub record GivenRecord : Type 0 where
   pub line : List ℕ
   pub record_is : Record
   pub west : List ℕ
@@ -77,13 +77,13 @@ pub record MayBe (b : Bench) (line : List ℕ) (r : Record) : Type 0 where
   pub may : refusal b r ≡ None
 
 -- the record can be done, and its frames are whole
-pub record IsGiven (b : Bench) (g : Given) : Type 0 where
+pub record IsGiven (b : Bench) (g : GivenRecord) : Type 0 where
   pub said : MayBe b g.line g.record_is
   pub west_whole : length g.west ≡ size_after b.node.settings.rate (west_of g.record_is)
   pub east_whole : length g.east ≡ size_after b.node.settings.rate (east_of g.record_is)
 
 -- its bytes: the line with its newline byte, and the frames
-abbrev pub bytes_of : Given → List ℕ
+abbrev pub bytes_of : GivenRecord → List ℕ
 bytes_of g = whole_line g.line ++ (g.west ++ g.east)
 
 -- the bench after a record, and what is written for the record
@@ -95,27 +95,27 @@ abbrev pub answer_of : Record → List ℕ → List ℕ → Bench → List ℕ
 answer_of (what.Told t) from_west from_east b = []
 answer_of (what.Round west east) from_west from_east b = answer_to (with_arrivals west from_west east from_east b)
 
-abbrev pub after : Given → Bench → Bench
-after g b = after_record g.record_is g.west g.east b
+abbrev pub bench_after : GivenRecord → Bench → Bench
+bench_after g b = after_record g.record_is g.west g.east b
 
-abbrev pub answer : Given → Bench → List ℕ
-answer g b = answer_of g.record_is g.west g.east b
+abbrev pub record_answer : GivenRecord → Bench → List ℕ
+record_answer g b = answer_of g.record_is g.west g.east b
 
 -- ---- records, one after the other
 
-abbrev pub AreGiven : Bench → List Given → Type 0
+abbrev pub AreGiven : Bench → List GivenRecord → Type 0
 AreGiven b [] = Unit {0}
-AreGiven b (g ∷ gs) = IsGiven b g × AreGiven (after g b) gs
+AreGiven b (g ∷ gs) = IsGiven b g × AreGiven (bench_after g b) gs
 
-abbrev pub after_all : Bench → List Given → Bench
-after_all b [] = b
-after_all b (g ∷ gs) = after_all (after g b) gs
+abbrev pub after_records : Bench → List GivenRecord → Bench
+after_records b [] = b
+after_records b (g ∷ gs) = after_records (bench_after g b) gs
 
-abbrev pub answers : Bench → List Given → List ℕ
+abbrev pub answers : Bench → List GivenRecord → List ℕ
 answers b [] = []
-answers b (g ∷ gs) = answer g b ++ answers (after g b) gs
+answers b (g ∷ gs) = record_answer g b ++ answers (bench_after g b) gs
 
-abbrev pub stream_of : List Given → List ℕ
+abbrev pub stream_of : List GivenRecord → List ℕ
 stream_of gs = flat_map bytes_of gs
 
 -- the most records that are done
@@ -137,7 +137,7 @@ most_ahead came.Nothing = 0
 most_ahead came.Dark = 0
 most_ahead came.Frame = 1
 
--- `more` was read after the newline byte of a line. It is at most what the line lacks to the smallest number of bytes
+-- `more` was read bench_after the newline byte of a line. It is at most what the line lacks to the smallest number of bytes
 -- of a record that begins so.
 abbrev pub IsBehind : List ℕ → List ℕ → Type 0
 IsBehind line more = length more ≤ fewest line - length (whole_line line)
@@ -164,11 +164,11 @@ pub record IsCutFrame (b : Bench) (tail : List ℕ) : Type 0 where
   pub short : length part < size_after b.node.settings.rate (west_of record_is) + size_after b.node.settings.rate (east_of record_is)
 
 -- part of a record: a front of its line, without the newline byte, or the line and not all of its frames
-abbrev pub IsPart : Bench → List ℕ → Type 0
-IsPart b tail = IsLine tail ⊎ IsCutFrame b tail
+abbrev pub IsPartOfRecord : Bench → List ℕ → Type 0
+IsPartOfRecord b tail = IsLine tail ⊎ IsCutFrame b tail
 
 -- a line that can't be done for this reason, and what was read after its newline byte
-pub record IsRefused (b : Bench) (why : Reason) (tail : List ℕ) : Type 0 where
+pub record IsRefusedLine (b : Bench) (why : Reason) (tail : List ℕ) : Type 0 where
   pub line : List ℕ
   pub more : List ℕ
   pub tail_is : tail ≡ whole_line line ++ more
@@ -178,7 +178,7 @@ pub record IsRefused (b : Bench) (why : Reason) (tail : List ℕ) : Type 0 where
 
 -- what was read of a record that can't be done
 abbrev pub IsFlawed : Bench → Flaw → List ℕ → Type 0
-IsFlawed b (flaw.Said why) tail = IsRefused b why tail
+IsFlawed b (flaw.Said why) tail = IsRefusedLine b why tail
 IsFlawed b flaw.Cut tail = IsCutLine tail ⊎ IsCutFrame b tail
 IsFlawed b flaw.Long tail = IsOneLine tail × (length tail ≡ 65)
 IsFlawed b flaw.Many tail = ⊥

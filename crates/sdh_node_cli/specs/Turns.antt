@@ -15,7 +15,7 @@ use Rattle.sdh_node_cli.specs.declared.stop.Stop.{Stop}
 use Rattle.sdh_node_cli.specs.declared.stop.Stop.TheVariants as stop
 use Rattle.sdh_node_cli.specs.Records.{record_of}
 use Rattle.sdh_node_cli.specs.Bench.{Bench, size_after, with_arrivals, after_round, answer_to}
-use Rattle.sdh_node_cli.specs.Streams.{IsBehind, IsLine, Given, IsGiven, west_of, bytes_of, after, answer, IsPart, IsFlawed, EndsIf}
+use Rattle.sdh_node_cli.specs.Streams.{IsBehind, IsLine, GivenRecord, IsGiven, west_of, bytes_of, bench_after, record_answer, IsPartOfRecord, IsFlawed, EndsIf}
 
 -- ---- the byte that comes with a line
 
@@ -117,19 +117,19 @@ StopsRound b west east why left now old_text new_text =
 -- ---- a record
 
 -- A record was done: its bytes were read and nothing more, and its answer was written whole.
-pub record Goes (b new : Bench) (left now old_text new_text : Option (List ℕ)) : Type 0 where
-  pub given : Given
+pub record RecordGoes (b new : Bench) (left now old_text new_text : Option (List ℕ)) : Type 0 where
+  pub given : GivenRecord
   pub is : IsGiven b given
   pub read : Consumes left now (bytes_of given)
-  pub wrote : Appends old_text new_text (answer given b)
-  pub bench : new ≡ after given b
+  pub wrote : Appends old_text new_text (record_answer given b)
+  pub bench : new ≡ bench_after given b
 
 -- Why no more records are done; `tail` is what was read of the next one. The source has ended, the next record is
 -- flawed, or a read failed within it. A write fault isn't one of these, since the record was done.
 abbrev pub StopsSo : Bench → Stop → List ℕ → Option (List ℕ) → Type 0
 StopsSo b stop.Done tail now = (tail ≡ []) × IsAtEnd now
 StopsSo b (stop.Bad f) tail now = IsFlawed b f tail × EndsIf f now
-StopsSo b stop.ReadFault tail now = IsPart b tail
+StopsSo b stop.ReadFault tail now = IsPartOfRecord b tail
 StopsSo b stop.WriteFault tail now = ⊥
 
 -- no more records are done, and the source was read from `left` to `now`
@@ -138,12 +138,12 @@ Halts b why left now = (tail : List ℕ) × StopsSo b why tail now × Consumes l
 
 -- a write failed in the answer to a record: a front of the answer was written, and nothing was read after the record
 pub record Fails (b : Bench) (left now old_text new_text : Option (List ℕ)) : Type 0 where
-  pub given : Given
+  pub given : GivenRecord
   pub is : IsGiven b given
   pub read : Consumes left now (bytes_of given)
-  pub front : AppendsFewer old_text new_text (answer given b)
+  pub front : AppendsFewer old_text new_text (record_answer given b)
 
 -- no more records were done and nothing was written, or a write failed
-abbrev pub StopsBy : Bench → Stop → Option (List ℕ) → Option (List ℕ) → Option (List ℕ) → Option (List ℕ) → Type 0
-StopsBy b stop.WriteFault left now old_text new_text = Fails b left now old_text new_text
-StopsBy b why left now old_text new_text = Halts b why left now × Keeps old_text new_text
+abbrev pub TurnStopsBy : Bench → Stop → Option (List ℕ) → Option (List ℕ) → Option (List ℕ) → Option (List ℕ) → Type 0
+TurnStopsBy b stop.WriteFault left now old_text new_text = Fails b left now old_text new_text
+TurnStopsBy b why left now old_text new_text = Halts b why left now × Keeps old_text new_text

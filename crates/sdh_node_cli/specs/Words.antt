@@ -15,12 +15,12 @@ mode_named word =
 abbrev pub asked_as : List ℕ → Mode → Option Ask
 asked_as id m = option_map (λ number. record { id = number; mode = m }) (numeral_in 0 15 id)
 
-abbrev pub asked_in : List ℕ → List ℕ → Option Ask
-asked_in id word = option_and_then (asked_as id) (mode_named word)
+abbrev pub asked_with : List ℕ → List ℕ → Option Ask
+asked_with id word = option_and_then (asked_as id) (mode_named word)
 
 -- what the words ask for, where they have one of the two forms
 abbrev pub asked : List (List ℕ) → Option Ask
 asked [] = None
 asked (id ∷ []) = asked_as id mode.Lines
-asked (id ∷ word ∷ []) = asked_in id word
+asked (id ∷ word ∷ []) = asked_with id word
 asked (id ∷ word ∷ more ∷ others) = None

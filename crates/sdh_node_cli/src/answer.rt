@@ -7,7 +7,7 @@ ghost use Rattle.sdh_report.specs.Written.{room_in};
 ghost use Rattle.sdh_aps.specs.Lines.{signal_line};
 ghost use Rattle.sdh_aps.specs.Showing.{shown_of};
 ghost use Rattle.sdh_node_cli.specs.Records.{IsOwn};
-ghost use Rattle.sdh_node_cli.specs.Bench.{text_of, ports_from, count_line, frames_if};
+ghost use Rattle.sdh_node_cli.specs.Bench.{text_of, ports_from, bytes_line, frames_if};
 ghost use Rattle.sdh_node_cli.specs.Pairs.{frames_of, written};
 
 use crate::pair::{LINES_MAX, Pair};
@@ -65,8 +65,8 @@ pub fn put_shown(text: &mut Text, node: &Adm<WhenAsked>, round: u64, id: u8)
 
 // Appends the line that gives the number of bytes that follow.
 fn put_count(text: &mut Text, count: usize)
-    requires { length (count_line count) ≤ text.old.room }
-    ensures { text.new ≡ with_part text.old (count_line count) }
+    requires { length (bytes_line count) ≤ text.old.room }
+    ensures { text.new ≡ with_part text.old (bytes_line count) }
 {
     text.put(b"bytes ");
     text.put_number(count as u64);

@@ -2,7 +2,7 @@
 ghost use Rattle.std.specs.Prelude.{◌≡◌, ◌≤◌, List, map, Some, IfOk, IfSome};
 ghost use Rattle.sdh_ringmap.specs.declared.Pos.{Pos};
 ghost use Rattle.sdh_circuits.specs.Provisioned.{Provisioned};
-ghost use Rattle.sdh_node_cli.specs.Records.{came_at, end_here, port_here, own_port, side_in, number_in, slip_in, round_in, command_in, moment_in, hold_in};
+ghost use Rattle.sdh_node_cli.specs.Records.{came_at, end_here, port_here, own_port, side_in, number_in_words, slip_in, round_in, command_in, moment_in, hold_in};
 ghost use Rattle.sdh_node_cli.specs.Records.{record_by, record_in, record_of, IsOwn, IsRecord};
 
 use sdh_circuits::{Circuit, CircuitMap, End, PortId};
@@ -113,7 +113,7 @@ fn side_in(others: &[&[u8]]) -> Result<Side, Reason>
 
 // Returns the number that the only word is, from `low` to `high`.
 fn number_in(others: &[&[u8]], low: u32, high: u32) -> Result<u32, Reason>
-    ensures number { result ≡ number_in low high (map (λ word. word.now) others.now) }
+    ensures number { result ≡ number_in_words low high (map (λ word. word.now) others.now) }
     ensures range { IfOk result (λ number. (low ≤ number) × (number ≤ high)) }
 {
     match others {

@@ -12,7 +12,7 @@ ghost use Rattle.sdh_node_cli.specs.Endings.{line_of, bench_endings};
 ghost use Rattle.sdh_node_cli.specs.Words.{asked};
 ghost use Rattle.sdh_node_cli.specs.Faults.{CountsFault};
 ghost use Rattle.sdh_node_cli.specs.Bench.{new_bench};
-ghost use Rattle.sdh_node_cli.specs.Outcome.{usage, ending_of, refusal_of, IsNodeOf, HasNode, IsOutcome, TellsPlanned, Tells};
+ghost use Rattle.sdh_node_cli.specs.Outcome.{usage, ending_of, refusal_of, IsAskedNode, HasNode, IsOutcome, TellsPlanned, Tells};
 ghost use Rattle.sdh_node_cli.specs.declared.ending.Ending.{Ending};
 ghost use Rattle.sdh_node_cli.specs.declared.words.Ask.{Ask};
 
@@ -84,7 +84,7 @@ fn answer_records<R: Source, W: Sink>(
 
 // Returns the node that is asked for in a plan's ring, before any record, or `None` where the ring has no such node.
 fn bench_of(alloc: Global, plan: Plan, ask: Ask) -> Result<Option<Bench>, AllocError>
-    ensures node { IfOk result (λ made. IfSome made (IsNodeOf ask plan)) }
+    ensures node { IfOk result (λ made. IfSome made (IsAskedNode ask plan)) }
     ensures none { IfOk result (λ made. made ≡ None → found_at plan.nodes ask.id ≡ None) }
 {
     match plan.map().find(ask.id) {

@@ -6,7 +6,7 @@ ghost use Rattle.sdh_report.specs.Written.{room_in};
 ghost use Rattle.sdh_node_cli.specs.Faults.{CountsFault};
 ghost use Rattle.sdh_node_cli.specs.Records.{IsRecord};
 ghost use Rattle.sdh_node_cli.specs.Bench.{after_round, answer_to};
-ghost use Rattle.sdh_node_cli.specs.Turns.{with_ahead, IsAhead, HasLine, Ran, StopsRound, Goes, Halts, StopsBy};
+ghost use Rattle.sdh_node_cli.specs.Turns.{with_ahead, IsAhead, HasLine, Ran, StopsRound, RecordGoes, Halts, TurnStopsBy};
 
 use crate::answer::Answer;
 use crate::arriving::{Coming, take_both};
@@ -104,9 +104,9 @@ pub fn turn<R: Source, W: Sink>(
 ) -> Result<(), Stop>
     requires few { bench.old.node.rounds < 2 ^ 32 }
     requires rate { rooms.old.inbox.rate ≡ bench.old.node.settings.rate }
-    ensures goes { OnOk result (Goes bench.old bench.new (R.left source.old) (R.left source.new) (W.written sink.old) (W.written sink.new)) }
+    ensures goes { OnOk result (RecordGoes bench.old bench.new (R.left source.old) (R.left source.new) (W.written sink.old) (W.written sink.new)) }
     ensures stops { IfErr result
-        (λ why. StopsBy bench.old why (R.left source.old) (R.left source.new) (W.written sink.old) (W.written sink.new)) }
+        (λ why. TurnStopsBy bench.old why (R.left source.old) (R.left source.new) (W.written sink.old) (W.written sink.new)) }
     ensures rate { rooms.new.inbox.rate ≡ rooms.old.inbox.rate }
     ensures reads { CountsFault R.exact (R.faults source.old) (R.faults source.new) (result ≡ Err Stop.ReadFault) }
     ensures writes { CountsFault W.exact (W.faults sink.old) (W.faults sink.new) (result ≡ Err Stop.WriteFault) }

@@ -1,7 +1,7 @@
 //! What the words of the command line ask for.
 ghost use Rattle.std.specs.Prelude.{◌≡◌};
 ghost use Rattle.sdh_shell.specs.Calls.{words_of};
-ghost use Rattle.sdh_node_cli.specs.Words.{mode_named, asked_as, asked_in, asked};
+ghost use Rattle.sdh_node_cli.specs.Words.{mode_named, asked_as, asked_with, asked};
 
 use sdh_plan::numeral_in;
 
@@ -48,7 +48,7 @@ fn asked_as(id: &str, mode: Mode) -> Option<Ask>
 
 // Returns what an identifier and the word of a mode ask for.
 fn asked_in(id: &str, mode: &str) -> Option<Ask>
-    ensures { result ≡ asked_in id.now mode.now }
+    ensures { result ≡ asked_with id.now mode.now }
 {
     match mode_named(mode) {
         Some(mode) => asked_as(id, mode),

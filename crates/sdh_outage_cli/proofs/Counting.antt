@@ -23,12 +23,12 @@ use Rattle.sdh_request.specs.declared.settings.Settings.{Settings}
 use Rattle.sdh_node.specs.Rings.Held.{HeldRing, new_nodes, node_at, nowhere}
 use Rattle.sdh_node.specs.Rings.Rounds.{World}
 use Rattle.sdh_node.specs.Rings.Runs.{IsRound}
-use Rattle.sdh_owed.specs.Steps.{after_step}
+use Rattle.sdh_owed.specs.Steps.{world_after_step}
 use Rattle.sdh_node.specs.Rings.Changes.{changed}
 use Rattle.sdh_node.specs.Rings.Fixed.{Fixed, fixed}
 use Rattle.sdh_node.proofs.RingLaws.Keeping.{fixed_with, fixed_next, all_commanded, all_held, all_slipped}
 use Rattle.sdh_ring.specs.Observed.{RanOne}
-use Rattle.sdh_outage_cli.specs.Ports.{ports_in}
+use Rattle.sdh_outage_cli.specs.Ports.{ports_by_node}
 use Rattle.sdh_outage_cli.specs.Rooms.{ports_at}
 use Rattle.sdh_outage_cli.proofs.Holding.{rest_from}
 
@@ -87,13 +87,13 @@ pub room_at : (rooms : List (List Outlet)) (k : ℕ) (d : List Outlet) → map l
 room_at rooms k d sized low =
     sym (get_or-map length rooms k d 0 low) ∙ ap (λ l. get_or l k 0) sized ∙ get_or-cells (λ j. j) (length rooms) k 0 low
 
-count_at : (r : HeldRing) (counts : List ℕ) (at : ℕ) (n : Node) → counts ≡ ports_in r → slice_get r.nodes at ≡ Some n
+count_at : (r : HeldRing) (counts : List ℕ) (at : ℕ) (n : Node) → counts ≡ ports_by_node r → slice_get r.nodes at ≡ Some n
     → get_or counts at 0 ≡ length n.ports
 count_at r counts at n counted there =
     ap (λ l. get_or l at 0) counted ∙ get_or-map ports_of r.nodes at n 0 (slice_get_within r.nodes at n there)
     ∙ ap ports_of (get_or_from_slice_get r.nodes at n n there)
 
-count_within : (r : HeldRing) (counts : List ℕ) (at : ℕ) (n : Node) → counts ≡ ports_in r → slice_get r.nodes at ≡ Some n
+count_within : (r : HeldRing) (counts : List ℕ) (at : ℕ) (n : Node) → counts ≡ ports_by_node r → slice_get r.nodes at ≡ Some n
     → at < length counts
 count_within r counts at n counted there =
     let low = slice_get_within r.nodes at n there in
@@ -101,7 +101,7 @@ count_within r counts at n counted there =
     omega arith
 
 -- k is how many ports the node at this position has, and there is room for them
-pub room_for : (r : HeldRing) (counts : List ℕ) (rooms : List (List Outlet)) (at k : ℕ) (n : Node) → counts ≡ ports_in r
+pub room_for : (r : HeldRing) (counts : List ℕ) (rooms : List (List Outlet)) (at k : ℕ) (n : Node) → counts ≡ ports_by_node r
     → slice_get r.nodes at ≡ Some n → ((i : ℕ) → i < length counts → get_or counts i 0 < length rooms) → k ≡ get_or counts at k
     → (k ≡ length n.ports) × (k < length rooms)
 room_for r counts rooms at k n counted there fit is =
@@ -132,10 +132,10 @@ same_ports old new same =
     (λ j. map (λ n. ports_fixed n j) new) ∙ sym (map-map count fixed new) ∙ ap (map count) same ∙ map-map count fixed old
     ∙ sym (λ j. map (λ n. ports_fixed n j) old)
 
-pub ports_round : (w left : World) → IsRound w left → ports_in left.ring ≡ ports_in w.ring
+pub ports_round : (w left : World) → IsRound w left → ports_by_node left.ring ≡ ports_by_node w.ring
 ports_round w left is = same_ports w.ring.nodes left.ring.nodes (keeps_round adm fixed fixed_with fixed_next w left is)
 
-ports_step : (s : Step) (w : World) → ports_in (after_step s w).ring ≡ ports_in w.ring
+ports_step : (s : Step) (w : World) → ports_by_node (world_after_step s w).ring ≡ ports_by_node w.ring
 unfolding changed
 ports_step (step.Fibre e) w = refl
 ports_step (step.Order p d command) w = same_ports w.ring.nodes _ (all_commanded p.0 d command w.ring.nodes)
@@ -144,12 +144,12 @@ ports_step (step.Hold p turns) w = same_ports w.ring.nodes _ (all_held p.0 turns
 ports_step (step.Slip port turn count) w = same_ports w.ring.nodes _ (all_slipped _ port turn count w.ring.nodes)
 ports_step step.Settle w = refl
 
-pub ports_changed : (s : Step) (w left : World) → left ≡ after_step s w → ports_in w.ring ≡ ports_in left.ring
-ports_changed s w left is = sym (ap (λ (v : World). ports_in v.ring) is ∙ ports_step s w)
+pub ports_changed : (s : Step) (w left : World) → left ≡ world_after_step s w → ports_by_node w.ring ≡ ports_by_node left.ring
+ports_changed s w left is = sym (ap (λ (v : World). ports_by_node v.ring) is ∙ ports_step s w)
 
 -- after one round more
-pub ports_ran : (at : ℕ → World) (k : ℕ) (r : HeldRing) → RanOne at k r → ports_in (at k).ring ≡ ports_in r
-ports_ran at k r ran = sym (ap (λ (v : HeldRing). ports_in v) ran.ring_is ∙ ports_round (at k) (at (suc k)) ran.round)
+pub ports_ran : (at : ℕ → World) (k : ℕ) (r : HeldRing) → RanOne at k r → ports_by_node (at k).ring ≡ ports_by_node r
+ports_ran at k r ran = sym (ap (λ (v : HeldRing). ports_by_node v) ran.ring_is ∙ ports_round (at k) (at (suc k)) ran.round)
 
 -- ---- a new ring
 

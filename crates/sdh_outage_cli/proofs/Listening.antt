@@ -23,9 +23,9 @@ use Rattle.sdh_outage.specs.Kept.{Nearby, Heard, heard}
 use Rattle.sdh_scripts.proofs.Lists.{some_at}
 use Rattle.sdh_outage_cli.specs.Outages.{delivered_at, kinds_in, outage_in, whose_in, ports_out, trace_at, trace_in}
 use Rattle.sdh_outage_cli.specs.Streams.{AreNear, HaveStepped}
-use Rattle.sdh_outage_cli.specs.Lines.{told_line, changes_text, trace_text}
-use Rattle.sdh_outage_cli.specs.Ports.{AreReady, delivered_in, heard_in, IsListening, AreListening, AreFew, HaveBegun, Listens, Looked}
-use Rattle.sdh_outage_cli.specs.Ports.{shown, listener_at, heard_text, port_text}
+use Rattle.sdh_outage_cli.specs.Lines.{told_line, outage_changes_text, trace_text}
+use Rattle.sdh_outage_cli.specs.Ports.{AreReady, delivered_in, listener_after, IsListening, AreListening, AreFew, HaveBegun, Listens, ListenersLooked}
+use Rattle.sdh_outage_cli.specs.Ports.{outages_shown, listener_at, heard_lines, outage_port_lines}
 use Rattle.sdh_outage_cli.specs.declared.ports.ListenerPair.{ListenerPair}
 use Rattle.sdh_outage_cli.specs.declared.streams.StreamPair.{StreamPair}
 
@@ -39,7 +39,7 @@ length-delivered port (suc k) at = ap suc (length-delivered port k at)
 
 -- a listener that began anew
 began_is : (far : Customer) (whose : Whose) (r : HeldRing) (port : PortId) (at : ℕ → World) (rounds : ℕ) (after : Heard) → r ≡ (at 0).ring
-    → rounds ≡ r.rounds → after ≡ heard far whose rounds (delivered_at r port) [] → after ≡ heard_in far whose port 0 at
+    → rounds ≡ r.rounds → after ≡ heard far whose rounds (delivered_at r port) [] → after ≡ listener_after far whose port 0 at
 began_is far whose r port at rounds after is round began =
     began ∙ ap (λ n. heard far whose n (delivered_at r port) []) round
     ∙ ap (λ (x : HeldRing). heard far whose x.rounds (delivered_at x port) []) is
@@ -77,7 +77,7 @@ circuits_kept : (w after : World) → IsRound w after → after.ring.circuits �
 circuits_kept w after is = ap (λ (r : HeldRing). r.circuits) (rounds_keep adm w after is).0.ring
 
 -- how many rounds a listener has heard of
-rounds_of : (far : Customer) (whose : Whose) (port : PortId) (k : ℕ) (at : ℕ → World) (h : Heard) → h ≡ heard_in far whose port k at
+rounds_of : (far : Customer) (whose : Whose) (port : PortId) (k : ℕ) (at : ℕ → World) (h : Heard) → h ≡ listener_after far whose port k at
     → h.round ≡ (at 0).ring.rounds + k
 rounds_of far whose port k at h is = ap (λ (x : Heard). x.round) is ∙ ap (λ n. (at 0).ring.rounds + n) (length-delivered port k at)
 
@@ -108,8 +108,8 @@ module _ (at : ℕ → World) (k : ℕ) (r : HeldRing) (streams : List StreamPai
   abbrev own : PortId
   own = port_id i end
 
-  hears_more : (before after : Heard) → before ≡ heard_in far (whose_in at i) own k at → Listens r own streams before after
-      → after ≡ heard_in far (whose_in at i) own (suc k) at
+  hears_more : (before after : Heard) → before ≡ listener_after far (whose_in at i) own k at → Listens r own streams before after
+      → after ≡ listener_after far (whose_in at i) own (suc k) at
   hears_more before after is listens =
       let cs = (at 0).ring.circuits.circuits in
       let first = (at 0).ring.rounds in
@@ -122,7 +122,7 @@ module _ (at : ℕ → World) (k : ℕ) (r : HeldRing) (streams : List StreamPai
 pub listening_more : (at : ℕ → World) (k : ℕ) (r : HeldRing) (old new : List ListenerPair) (streams later : List StreamPair)
     → AreListening at k old streams → RanOne at k r
     → length new ≡ length old
-    → ((i : ℕ) (before after : ListenerPair) → slice_get old i ≡ Some before → slice_get new i ≡ Some after → Looked r streams i before after)
+    → ((i : ℕ) (before after : ListenerPair) → slice_get old i ≡ Some before → slice_get new i ≡ Some after → ListenersLooked r streams i before after)
     → length later ≡ length streams
     → ((i : ℕ) (before after : StreamPair) → slice_get streams i ≡ Some before → slice_get later i ≡ Some after → HaveStepped before after)
     → AreListening at (suc k) new later
@@ -225,7 +225,7 @@ module _ (at : ℕ → World) where
 
   outage_is : (far : Customer) (whose : Whose) (port : PortId) (k : ℕ) (h : Heard)
       → ((j : ℕ) → j ≤ k → (at j).ring.rounds ≡ (at 0).ring.rounds + j)
-      → h ≡ heard_in far whose port k at → h.outage ≡ outage_in far whose port k at
+      → h ≡ listener_after far whose port k at → h.outage ≡ outage_in far whose port k at
   outage_is far whose port k h rounds is =
       ap (λ (x : Heard). x.outage) is ∙ ap (outage_of (at 0).ring.rounds) (kinds_are far whose port k rounds)
 
@@ -233,7 +233,7 @@ module _ (at : ℕ → World) where
   shown_from : (k : ℕ) → ((j : ℕ) → j ≤ k → (at j).ring.rounds ≡ (at 0).ring.rounds + j)
       → (cs : List Provisioned) (items : List ListenerPair) (index : ℕ) → length items ≡ length cs
       → ((i : ℕ) (c : Provisioned) (both : ListenerPair) → slice_get cs i ≡ Some c → slice_get items i ≡ Some both
-      → IsListening k at c (index + i) both) → shown cs items ≡ ports_out k at index cs
+      → IsListening k at c (index + i) both) → outages_shown cs items ≡ ports_out k at index cs
   shown_from k rounds [] items index many each = refl
   shown_from k rounds (c ∷ cs) [] index many each = absurd (omega arith)
   shown_from k rounds (c ∷ cs) (both ∷ items) index many each =
@@ -248,7 +248,7 @@ module _ (at : ℕ → World) where
       λ i. record { name = c.name; end = A; outage = a i } ∷ record { name = c.name; end = B; outage = b i } ∷ rest i
 
   pub shown_is : (k : ℕ) (items : List ListenerPair) (streams : List StreamPair) → ((j : ℕ) → j ≤ k → (at j).ring.rounds ≡ (at 0).ring.rounds + j)
-      → AreListening at k items streams → shown (at k).ring.circuits.circuits items ≡ ports_out k at 0 (at k).ring.circuits.circuits
+      → AreListening at k items streams → outages_shown (at k).ring.circuits.circuits items ≡ ports_out k at 0 (at k).ring.circuits.circuits
   shown_is k items streams rounds x =
       shown_from k rounds (at k).ring.circuits.circuits items 0 x.many
       (λ i c both there here. (let none : i ≡ 0 + i = omega arith in subst (λ n. IsListening k at c n both) none
@@ -256,27 +256,27 @@ module _ (at : ℕ → World) where
 
   -- the listener on a port shows what the port went through
   heard_is : (cs : List Provisioned) (far : Customer) (index : ℕ) (end : End) (name : List ℕ) (k : ℕ) (h : Heard)
-      → ((j : ℕ) → j ≤ k → (at j).ring.rounds ≡ (at 0).ring.rounds + j) → h ≡ heard_in far (whose_in at index) (port_id index end) k at
-      → heard_text cs name end h ≡ trace_text cs (Some (record {
+      → ((j : ℕ) → j ≤ k → (at j).ring.rounds ≡ (at 0).ring.rounds + j) → h ≡ listener_after far (whose_in at index) (port_id index end) k at
+      → heard_lines cs name end h ≡ trace_text cs (Some (record {
         changes = kind_changes (at 0).ring.rounds (kinds_in far (whose_in at index) (port_id index end) k at);
         out = record { name = name; end = end; outage = outage_in far (whose_in at index) (port_id index end) k at };
       }))
   heard_is cs far index end name k h rounds is =
       let first = (at 0).ring.rounds in
-      ap (heard_text cs name end) is
-      ∙ ap (λ kinds. changes_text (take 64 (kind_changes first kinds)) (length (kind_changes first kinds) - 64)
+      ap (heard_lines cs name end) is
+      ∙ ap (λ kinds. outage_changes_text (take 64 (kind_changes first kinds)) (length (kind_changes first kinds) - 64)
       ++ told_line cs (record { name = name; end = end; outage = outage_of first kinds }))
       (kinds_are far (whose_in at index) (port_id index end) k rounds)
 
   end_is : (c : Provisioned) (index : ℕ) (k : ℕ) (both : ListenerPair) (end : End) → IsListening k at c index both
-      → listener_at both end ≡ heard_in (customer_at c (other_end end)) (whose_in at index) (port_id index end) k at
+      → listener_at both end ≡ listener_after (customer_at c (other_end end)) (whose_in at index) (port_id index end) k at
   end_is c index k both A x = x.at_a
   end_is c index k both B x = x.at_b
 
   trace_shown : (cs : List Provisioned) (k index : ℕ) (end : End) (c : Option Provisioned) (both : Option ListenerPair)
       → ((j : ℕ) → j ≤ k → (at j).ring.rounds ≡ (at 0).ring.rounds + j)
       → is_some c ≡ is_some both → ((d : Provisioned) (b : ListenerPair) → c ≡ Some d → both ≡ Some b → IsListening k at d index b)
-      → port_text cs c both end ≡ trace_text cs (option_map (λ d. trace_at k at index d end) c)
+      → outage_port_lines cs c both end ≡ trace_text cs (option_map (λ d. trace_at k at index d end) c)
   trace_shown cs k index end None None rounds same each = refl
   trace_shown cs k index end None (Some both) rounds same each = refl
   trace_shown cs k index end (Some c) None rounds same each = absurd (grind arith)
@@ -286,7 +286,7 @@ module _ (at : ℕ → World) where
 
   pub trace_is : (k : ℕ) (items : List ListenerPair) (streams : List StreamPair) → ((j : ℕ) → j ≤ k → (at j).ring.rounds ≡ (at 0).ring.rounds + j)
       → AreListening at k items streams → (port : PortId)
-      → port_text (at k).ring.circuits.circuits (slice_get (at k).ring.circuits.circuits port.circuit) (slice_get items port.circuit) port.end
+      → outage_port_lines (at k).ring.circuits.circuits (slice_get (at k).ring.circuits.circuits port.circuit) (slice_get items port.circuit) port.end
       ≡ trace_text (at k).ring.circuits.circuits (trace_in k at (at k).ring.circuits.circuits port)
   trace_is k items streams rounds x port =
       let cs = (at k).ring.circuits.circuits in

@@ -12,7 +12,7 @@ use Rattle.sdh_circuits.specs.Provisioning.{IsInRing, AreCircuits}
 use Rattle.sdh_node.specs.Rings.Held.{HeldRing, place_of_port}
 use Rattle.sdh_outage.specs.Kept.{Heard}
 use Rattle.sdh_scripts.proofs.Lists.{some_at}
-use Rattle.sdh_outage_cli.specs.Ports.{Listens, HeardAt, LookedAt, Looked, AreFewAt}
+use Rattle.sdh_outage_cli.specs.Ports.{Listens, HeardAt, LookedAt, ListenersLooked, AreFewAt}
 use Rattle.sdh_outage_cli.specs.declared.ports.ListenerPair.{ListenerPair}
 use Rattle.sdh_outage_cli.specs.declared.streams.StreamPair.{StreamPair}
 
@@ -97,7 +97,7 @@ in_ring_at r slots i c fit there =
     subst (IsInRing (length r.ids)) (get_or_from_slice_get cs i c c there) (fit.in_ring i c (slice_get_within cs i c there))
 
 pub looked_all : (r : HeldRing) (slots low : ℕ) (streams : List StreamPair) (index : ℕ) (before after : ListenerPair) → AreCircuits (length r.ids) slots r.circuits.circuits
-    → index < length r.circuits.circuits → low ≡ 0 → LookedFrom r low streams index before after → Looked r streams index before after
+    → index < length r.circuits.circuits → low ≡ 0 → LookedFrom r low streams index before after → ListenersLooked r streams index before after
 looked_all r slots low streams index before after fit inside none were =
     let c = some_at r.circuits.circuits index inside in
     let ring = in_ring_at r slots index c.0 fit c.1 in

@@ -5,7 +5,7 @@ use Rattle.std.specs.Io.KnownBytes.{Appends}
 use Rattle.sdh_plan.specs.Planned.{Planned}
 use Rattle.sdh_status.specs.declared.Status.{Status}
 use Rattle.sdh_status.specs.declared.Status.TheVariants as status
-use Rattle.sdh_scripts.specs.NewRuns.{IsOf}
+use Rattle.sdh_scripts.specs.NewRuns.{IsRunOfPlan}
 use Rattle.sdh_scripts.proofs.Plans.{came_of}
 use Rattle.sdh_programs.specs.Programs.{Deed, Refuses, Runs, deed_listing}
 use Rattle.sdh_programs.specs.Deeds.{IsOnly}
@@ -14,21 +14,21 @@ use Rattle.sdh_programs.proofs.Promises.{RunsAlone, NeverWrites}
 use Rattle.sdh_programs.proofs.Deeds.{listing_writes}
 use Rattle.sdh_owed.specs.Laws.{ScriptsSettle}
 use Rattle.sdh_outage_cli.specs.Scripts.{outage_walk}
-use Rattle.sdh_outage_cli.specs.Lines.{listed}
+use Rattle.sdh_outage_cli.specs.Lines.{outages_listed}
 use Rattle.sdh_outage_cli.specs.Running.{running_ring}
 use Rattle.sdh_outage_cli.specs.Plans.{outage_account, Tells}
 use Rattle.sdh_outage_cli.specs.declared.listing.OutageListing.{OutageListing}
 use Rattle.sdh_outage_cli.specs.declared.script.OutageRun.{OutageRun}
-use Rattle.sdh_outage_cli.specs.Words.{Ask, listing_of}
+use Rattle.sdh_outage_cli.specs.Words.{OutageAsk, listing_of}
 use Rattle.sdh_outage_cli.specs.Headline.{listening}
 use Rattle.sdh_outage_cli.proofs.Plans.{tells}
 
 -- what was written of the steps of a plan is what is listed of a run of the plan
 pub reported : ScriptsSettle
-    → StepsAreReported listening outage_walk running_ring (λ (r : OutageRun) told. listed r.listing told) (λ r told. [])
-    (λ listing plan run. IsOf running_ring outage_account plan run × (run.runner.listing ≡ listing)) (λ told end ring. Unit {0})
+    → StepsAreReported listening outage_walk running_ring (λ (r : OutageRun) told. outages_listed r.listing told) (λ r told. [])
+    (λ listing plan run. IsRunOfPlan running_ring outage_account plan run × (run.runner.listing ≡ listing)) (λ told end ring. Unit {0})
 reported settles listing plan run f old new end left begins fresh x =
-    let y = came_of running_ring outage_account plan run begins.0 (listed run.runner.listing) f left old new end x in
+    let y = came_of running_ring outage_account plan run begins.0 (outages_listed run.runner.listing) f left old new end x in
     let t : Tells plan run.runner.listing f y.0 end left.fibres =
     tells settles plan run.runner.listing f left.fibres y.0 end begins.0.form fresh.honest y.1 in
     record {
@@ -39,16 +39,16 @@ reported settles listing plan run f old new end left begins fresh x =
     }
 
 -- what is listed is what is done
-pub listed_deed : (plan : Planned) (listing : OutageListing) (ask : Ask) → listing_of ask plan ≡ Some listing
+pub listed_deed : (plan : Planned) (listing : OutageListing) (ask : OutageAsk) → listing_of ask plan ≡ Some listing
     → ◌≡◌ {A = Deed OutageListing Status} (Runs listing) (deed_listing (listing_of ask plan))
 listed_deed plan listing ask is = sym (ap deed_listing is)
 
-pub run_only : (plan : Planned) (listing : OutageListing) (ask : Ask) → listing_of ask plan ≡ Some listing
+pub run_only : (plan : Planned) (listing : OutageListing) (ask : OutageAsk) → listing_of ask plan ≡ Some listing
     → IsOnly listening ask plan (Runs listing)
 run_only plan listing ask is = let does = listed_deed plan listing ask is in record { does = does; only = λ other d. d ∙ sym does }
 
 -- a plan that has no such port is refused
-pub none_only : (plan : Planned) (ask : Ask) → ◌≡◌ {A = Option OutageListing} (listing_of ask plan) None
+pub none_only : (plan : Planned) (ask : OutageAsk) → ◌≡◌ {A = Option OutageListing} (listing_of ask plan) None
     → IsOnly listening ask plan (Refuses status.NoSuchPort)
 none_only plan ask is =
     let does : ◌≡◌ {A = Deed OutageListing Status} (Refuses status.NoSuchPort) (deed_listing (listing_of ask plan)) = sym (ap deed_listing is) in
@@ -56,8 +56,8 @@ none_only plan ask is =
 
 -- ---- what is done with a plan
 
-pub run_alone : (ask : Ask) → RunsAlone listening ask
+pub run_alone : (ask : OutageAsk) → RunsAlone listening ask
 run_alone ask plan listing deed does other = other ∙ sym does
 
-pub never_writes : (ask : Ask) → NeverWrites listening ask
+pub never_writes : (ask : OutageAsk) → NeverWrites listening ask
 never_writes ask plan told does = listing_writes (listing_of ask plan) told does

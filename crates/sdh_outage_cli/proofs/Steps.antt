@@ -15,14 +15,14 @@ use Rattle.sdh_ring.specs.Observed.{Hears}
 use Rattle.sdh_report.specs.Lines.{settle_line}
 use Rattle.sdh_plan.specs.declared.step.Step.{Step}
 use Rattle.sdh_plan.specs.declared.step.Step.TheVariants as step
-use Rattle.sdh_owed.specs.Steps.{after_step}
+use Rattle.sdh_owed.specs.Steps.{world_after_step}
 use Rattle.sdh_owed.proofs.Known.{no_round}
 use Rattle.sdh_owed.specs.Running as ring
 use Rattle.sdh_owed.specs.Running.{BeginsAtAMultiple}
 use Rattle.sdh_owed.proofs.Steps.{settled_held, next_by, changed_next, changed_circuits}
 use Rattle.sdh_outage_cli.specs.Outages.{Outaged, trace_in, outaged_in}
-use Rattle.sdh_outage_cli.specs.Lines.{listed}
-use Rattle.sdh_outage_cli.specs.Ports.{AreReady, AreListening, ports_in, shown, port_text, shown_text}
+use Rattle.sdh_outage_cli.specs.Lines.{outages_listed}
+use Rattle.sdh_outage_cli.specs.Ports.{AreReady, AreListening, ports_by_node, outages_shown, outage_port_lines, shown_text}
 use Rattle.sdh_outage_cli.specs.Running.{MayRun}
 use Rattle.sdh_outage_cli.specs.declared.listing.OutageListing.{OutageListing}
 use Rattle.sdh_outage_cli.specs.declared.listing.OutageListing.TheVariants as listing
@@ -36,14 +36,14 @@ few_before before steps r f may = let few = may.few in let rounds = may.rounds i
 
 -- what the listeners keep of a settle step, without the room for what ports deliver
 pub listens_only : {w left : World} {limit : ℕ} {items : List ListenerPair} {streams : List StreamPair} {counts : List ℕ}
-    → Hears (λ at k. AreListening at k items streams × (counts ≡ ports_in (at k).ring)) w limit left
+    → Hears (λ at k. AreListening at k items streams × (counts ≡ ports_by_node (at k).ring)) w limit left
     → Hears (λ at k. AreListening at k items streams) w limit left
 listens_only x = record { settles = x.settles; kept = x.kept.0 }
 
 pub rooms_left : (w left : World) (limit : ℕ) (items : List ListenerPair) (streams : List StreamPair) (counts : List ℕ)
-    → Hears (λ at k. AreListening at k items streams × (counts ≡ ports_in (at k).ring)) w limit left → counts ≡ ports_in left.ring
+    → Hears (λ at k. AreListening at k items streams × (counts ≡ ports_by_node (at k).ring)) w limit left → counts ≡ ports_by_node left.ring
 rooms_left w left limit items streams counts x =
-    x.kept.1 ∙ ap (λ (v : World). ports_in v.ring) (sym (x.settles.left_is ∙ course_whole adm x.settles.rounds w))
+    x.kept.1 ∙ ap (λ (v : World). ports_by_node v.ring) (sym (x.settles.left_is ∙ course_whole adm x.settles.rounds w))
 
 module _ (w left : World) (limit : ℕ) (items : List ListenerPair) (streams : List StreamPair)
     (x : Hears (λ at k. AreListening at k items streams) w limit left) where
@@ -71,7 +71,7 @@ module _ (w left : World) (limit : ℕ) (items : List ListenerPair) (streams : L
     number = number;
     round = left.ring.rounds - 1;
     circuits = left.ring.circuits.circuits;
-    ports = shown left.ring.circuits.circuits items;
+    ports = outages_shown left.ring.circuits.circuits items;
     trace =
         trace_in ran at (at ran).ring.circuits.circuits;
   } in told ≡ outaged_in number at ran)
@@ -80,7 +80,7 @@ module _ (w left : World) (limit : ℕ) (items : List ListenerPair) (streams : L
         number = number;
         round = v.ring.rounds - 1;
         circuits = v.ring.circuits.circuits;
-        ports = shown v.ring.circuits.circuits items;
+        ports = outages_shown v.ring.circuits.circuits items;
         trace = trace_in ran at (at ran).ring.circuits.circuits;
       }) left_at
       ∙ ap (λ ports. record {
@@ -93,11 +93,11 @@ module _ (w left : World) (limit : ℕ) (items : List ListenerPair) (streams : L
 
   -- what is written of the settle step
   pub listed_is : (listing : OutageListing) (number : ℕ) → shown_text listing number (left.ring.rounds - 1) left.ring.circuits.circuits items
-      ≡ listed listing (outaged_in number at ran)
-  listed_is listing.Ports number = ap (listed listing.Ports) (told_is number)
+      ≡ outages_listed listing (outaged_in number at ran)
+  listed_is listing.Ports number = ap (outages_listed listing.Ports) (told_is number)
   listed_is (listing.Trace port) number =
       ap (λ (v : World). settle_line number (v.ring.rounds - 1)
-      ++ port_text v.ring.circuits.circuits (slice_get v.ring.circuits.circuits port.circuit) (slice_get items port.circuit) port.end) left_at
+      ++ outage_port_lines v.ring.circuits.circuits (slice_get v.ring.circuits.circuits port.circuit) (slice_get items port.circuit) port.end) left_at
       ∙ ap (λ l. settle_line number ((at ran).ring.rounds - 1) ++ l) (trace_is at ran items streams numbered x.kept port)
 
   -- the script goes on after the settle step
@@ -117,7 +117,7 @@ module _ (w left : World) (limit : ℕ) (items : List ListenerPair) (streams : L
 
 -- ---- any other step
 
-pub changed_ready : (before : ℕ) (s : Step) (w left : World) (items : List ListenerPair) (streams : List StreamPair) → (s ≡ step.Settle → ⊥) → left ≡ after_step s w
+pub changed_ready : (before : ℕ) (s : Step) (w left : World) (items : List ListenerPair) (streams : List StreamPair) → (s ≡ step.Settle → ⊥) → left ≡ world_after_step s w
     → (later : List Step) → MayRun before (s ∷ later) w.ring items streams w.fibres
     → MayRun before later left.ring items streams left.fibres
 changed_ready before s w left items streams other is later may =

@@ -10,11 +10,11 @@ use Rattle.sdh_outage.specs.declared.outage.Outage.{Outage}
 use Rattle.sdh_outage.specs.declared.summary.Summary.{Summary}
 use Rattle.sdh_outage.specs.Outages.{no_ports, with_outage, summary_of}
 use Rattle.sdh_outage_cli.specs.Outages.{PortOutage}
-use Rattle.sdh_outage_cli.specs.Ports.{both_shown, shown}
+use Rattle.sdh_outage_cli.specs.Ports.{both_shown, outages_shown}
 use Rattle.sdh_outage_cli.specs.declared.ports.ListenerPair.{ListenerPair}
 
 shown_suc : (cs : List Provisioned) (items : List ListenerPair) (i : ℕ) (c : Provisioned) (both : ListenerPair) → slice_get cs i ≡ Some c
-    → slice_get items i ≡ Some both → shown (take (suc i) cs) (take (suc i) items) ≡ shown (take i cs) (take i items) ++ both_shown c both
+    → slice_get items i ≡ Some both → outages_shown (take (suc i) cs) (take (suc i) items) ≡ outages_shown (take i cs) (take i items) ++ both_shown c both
 shown_suc [] items i c both there here = absurd (cc)
 shown_suc (d ∷ cs) [] i c both there here = absurd (cc)
 shown_suc (d ∷ cs) (other ∷ items) zero c both there here = ap₂ both_shown (same_Some d c there) (same_Some other both here)
@@ -23,9 +23,9 @@ shown_suc (d ∷ cs) (other ∷ items) (suc i) c both there here =
     (shown_suc cs items i c both there here)
 
 pub shown_more : (cs : List Provisioned) (items : List ListenerPair) (i : ℕ) (c : Provisioned) (both : ListenerPair) → slice_get cs i ≡ Some c
-    → slice_get items i ≡ Some both → shown (take (i + 1) cs) (take (i + 1) items) ≡ shown (take i cs) (take i items) ++ both_shown c both
+    → slice_get items i ≡ Some both → outages_shown (take (i + 1) cs) (take (i + 1) items) ≡ outages_shown (take i cs) (take i items) ++ both_shown c both
 shown_more cs items i c both there here =
-    (let next : i + 1 ≡ suc i = omega arith in ap (λ n. shown (take n cs) (take n items)) next) ∙ shown_suc cs items i c both there here
+    (let next : i + 1 ≡ suc i = omega arith in ap (λ n. outages_shown (take n cs) (take n items)) next) ∙ shown_suc cs items i c both there here
 
 -- the summary of all ports, with the two ports of one circuit more
 fold_two : (start : Summary) (outages : List Outage) (a b : Outage)

@@ -11,11 +11,11 @@ use Rattle.sdh_outage_cli.specs.Outages.{Outaged}
 use Rattle.sdh_outage_cli.specs.declared.listing.OutageListing.{OutageListing}
 use Rattle.sdh_outage_cli.specs.Lines.{text_of}
 use Rattle.sdh_outage_cli.specs.Plans.{IsRunOf, ran_of, MaySettle}
-use Rattle.sdh_outage_cli.specs.Words.{Ask, asked, listing_of}
+use Rattle.sdh_outage_cli.specs.Words.{OutageAsk, asked, listing_of}
 
 -- the program runs a plan, and lists of each settle step for how many rounds each port was without its own customer's
 -- bytes, or from which round on one port got what
-abbrev pub listening : Program Ask OutageListing Outaged Status
+abbrev pub listening : Program OutageAsk OutageListing Outaged Status
 listening = record {
   usage = codes "usage: sdhoutage run, trace NAME END";
   asked = asked;

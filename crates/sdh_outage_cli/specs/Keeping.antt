@@ -11,7 +11,7 @@ use Rattle.sdh_node.specs.Rings.Rounds.{World}
 use Rattle.sdh_outage.specs.Kept.{heard}
 use Rattle.sdh_outage_cli.specs.Outages.{delivered_at, whose_in}
 use Rattle.sdh_outage_cli.specs.Streams.{holder_of, AreNear}
-use Rattle.sdh_outage_cli.specs.Ports.{delivered_in, heard_in, AreListening, ports_in}
+use Rattle.sdh_outage_cli.specs.Ports.{delivered_in, listener_after, AreListening, ports_by_node}
 use Rattle.sdh_outage_cli.specs.declared.ports.ListenerPair.{ListenerPair}
 use Rattle.sdh_outage_cli.specs.declared.streams.StreamPair.{StreamPair}
 
@@ -23,7 +23,7 @@ delivered_same port (suc k) at bt same =
     (delivered_same port k at bt (λ j low. same j (le_step low)))
 
 heard_same : (far : Customer) (index : ℕ) (port : PortId) (k : ℕ) (at bt : ℕ → World) → ((j : ℕ) → j ≤ k → at j ≡ bt j)
-    → heard_in far (whose_in at index) port k at ≡ heard_in far (whose_in bt index) port k bt
+    → listener_after far (whose_in at index) port k at ≡ listener_after far (whose_in bt index) port k bt
 heard_same far index port k at bt same =
     let first = same 0 zero-le in
     let past = delivered_same port k at bt same in
@@ -46,6 +46,6 @@ listening_same at bt k items streams same x =
     }
 
 -- room for as many ports as there are in one course is room for as many as there are in an equal course
-pub rooms_same : (at bt : ℕ → World) (k : ℕ) (counts : List ℕ) → ((j : ℕ) → j ≤ k → at j ≡ bt j) → counts ≡ ports_in (at k).ring
-    → counts ≡ ports_in (bt k).ring
-rooms_same at bt k counts same x = x ∙ ap (λ (v : World). ports_in v.ring) (same k (le_refl k))
+pub rooms_same : (at bt : ℕ → World) (k : ℕ) (counts : List ℕ) → ((j : ℕ) → j ≤ k → at j ≡ bt j) → counts ≡ ports_by_node (at k).ring
+    → counts ≡ ports_by_node (bt k).ring
+rooms_same at bt k counts same x = x ∙ ap (λ (v : World). ports_by_node v.ring) (same k (le_refl k))

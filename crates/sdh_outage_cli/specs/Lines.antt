@@ -37,21 +37,21 @@ settle_step_text number round circuits ports = settle_line number round ++ ports
 -- ---- one port
 
 -- the lines of these changes, and where there are more, how many came after them
-abbrev pub changes_text : List Change → ℕ → List ℕ
-changes_text changes more = flat_map change_line changes ++ (if more == 0 then [] else more_line more)
+abbrev pub outage_changes_text : List Change → ℕ → List ℕ
+outage_changes_text changes more = flat_map change_line changes ++ (if more == 0 then [] else more_line more)
 
 -- the lines of what a port went through, with at most 64 changes
 abbrev pub trace_text : List Provisioned → Option PortTrace → List ℕ
 trace_text circuits None = []
-trace_text circuits (Some t) = changes_text (take 64 t.changes) (length t.changes - 64) ++ told_line circuits t.out
+trace_text circuits (Some t) = outage_changes_text (take 64 t.changes) (length t.changes - 64) ++ told_line circuits t.out
 
 -- ---- what is listed
 
 -- the lines of a settle step
-abbrev pub listed : OutageListing → Outaged → List ℕ
-listed listing.Ports r = settle_step_text r.number r.round r.circuits r.ports
-listed (listing.Trace port) r = settle_line r.number r.round ++ trace_text r.circuits (r.trace port)
+abbrev pub outages_listed : OutageListing → Outaged → List ℕ
+outages_listed listing.Ports r = settle_step_text r.number r.round r.circuits r.ports
+outages_listed (listing.Trace port) r = settle_line r.number r.round ++ trace_text r.circuits (r.trace port)
 
 -- the lines of all settle steps, in their order
 abbrev pub text_of : OutageListing → List Outaged → List ℕ
-text_of listing reports = flat_map (listed listing) reports
+text_of listing reports = flat_map (outages_listed listing) reports

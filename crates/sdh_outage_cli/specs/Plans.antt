@@ -9,7 +9,7 @@ use Rattle.sdh_scripts.specs.Plans as plans
 use Rattle.sdh_owed.specs.Plans.{new_ring_of}
 use Rattle.sdh_outage_cli.specs.Outages.{Outaged}
 use Rattle.sdh_outage_cli.specs.Scripts.{outage_walk, Ran}
-use Rattle.sdh_outage_cli.specs.Lines.{listed}
+use Rattle.sdh_outage_cli.specs.Lines.{outages_listed}
 use Rattle.sdh_outage_cli.specs.declared.listing.OutageListing.{OutageListing}
 
 abbrev pub outage_account : Account Node Outaged
@@ -34,4 +34,4 @@ IsRunOf = plans.IsRunOf outage_account Owes
 
 -- the text is what is listed of a run
 abbrev pub Tells : Planned → OutageListing → Fibres → List ℕ → Status → Fibres → Type 0
-Tells plan listing f text end left = plans.Tells outage_account Owes (listed listing) plan f text end left
+Tells plan listing f text end left = plans.Tells outage_account Owes (outages_listed listing) plan f text end left

@@ -16,7 +16,7 @@ use Rattle.sdh_outage.specs.Kinds.{Whose}
 use Rattle.sdh_outage.specs.Kept.{Heard, heard}
 use Rattle.sdh_outage_cli.specs.Outages.{delivered_at, whose_in, PortOutage}
 use Rattle.sdh_outage_cli.specs.Streams.{holder_of, AreNear}
-use Rattle.sdh_outage_cli.specs.Lines.{told_line, settle_step_text, changes_text}
+use Rattle.sdh_outage_cli.specs.Lines.{told_line, settle_step_text, outage_changes_text}
 use Rattle.sdh_outage_cli.specs.declared.listing.OutageListing.{OutageListing}
 use Rattle.sdh_outage_cli.specs.declared.listing.OutageListing.TheVariants as listing
 use Rattle.sdh_outage_cli.specs.declared.ports.ListenerPair.{ListenerPair}
@@ -43,13 +43,13 @@ delivered_in port zero at = []
 delivered_in port (suc k) at = delivered_at (at (suc k)).ring port ∷ delivered_in port k at
 
 -- the state of a listener on a port after these rounds, which it began with what the port delivered before them
-abbrev pub heard_in : Customer → Whose → PortId → ℕ → (ℕ → World) → Heard
-heard_in far whose port k at = heard far whose (at 0).ring.rounds (delivered_at (at 0).ring port) (delivered_in port k at)
+abbrev pub listener_after : Customer → Whose → PortId → ℕ → (ℕ → World) → Heard
+listener_after far whose port k at = heard far whose (at 0).ring.rounds (delivered_at (at 0).ring port) (delivered_in port k at)
 
 -- the listeners on both ports of a circuit are in the state that the first k rounds of a course give
 pub record IsListening (k : ℕ) (at : ℕ → World) (c : Provisioned) (index : ℕ) (both : ListenerPair) : Type 0 where
-  pub at_a : both.a ≡ heard_in c.b (whose_in at index) (port_id index A) k at
-  pub at_b : both.b ≡ heard_in c.a (whose_in at index) (port_id index B) k at
+  pub at_a : both.a ≡ listener_after c.b (whose_in at index) (port_id index A) k at
+  pub at_b : both.b ≡ listener_after c.a (whose_in at index) (port_id index B) k at
 
 -- the listeners of all circuits are in the state that the first k rounds of a course give
 pub record AreListening (at : ℕ → World) (k : ℕ) (items : List ListenerPair) (streams : List StreamPair) : Type 0 where
@@ -88,15 +88,15 @@ abbrev pub Listens : HeldRing → PortId → List StreamPair → Heard → Heard
 Listens r port streams before after = ListensTo (delivered_at r port) port streams before after
 
 -- the listeners of the circuit of this number heard what their ports delivered, where these bytes were near
-pub record Looked (r : HeldRing) (streams : List StreamPair) (index : ℕ) (before after : ListenerPair) : Type 0 where
+pub record ListenersLooked (r : HeldRing) (streams : List StreamPair) (index : ℕ) (before after : ListenerPair) : Type 0 where
   pub a : Listens r (port_id index A) streams before.a after.a
   pub b : Listens r (port_id index B) streams before.b after.b
 
 -- ---- node by node
 
 -- how many ports each node of a ring has
-abbrev pub ports_in : HeldRing → List ℕ
-ports_in r = map (λ (n : Node). length n.ports) r.nodes
+abbrev pub ports_by_node : HeldRing → List ℕ
+ports_by_node r = map (λ (n : Node). length n.ports) r.nodes
 
 -- the listener on a port heard what it delivered, if the port is at this position, and heard of nothing otherwise
 pub record HeardAt (r : HeldRing) (at : ℕ) (port : PortId) (streams : List StreamPair) (before after : Heard) : Type 0 where
@@ -121,11 +121,11 @@ both_shown c both = record { name = c.name; end = A; outage = both.a.outage } �
     ∷ []
 
 -- the outages that the listeners of all circuits counted
-abbrev pub shown : List Provisioned → List ListenerPair → List PortOutage
-shown [] items = []
-shown (c ∷ cs) [] = []
-shown (c ∷ cs) (both ∷ items) = record { name = c.name; end = A; outage = both.a.outage }
-    ∷ record { name = c.name; end = B; outage = both.b.outage } ∷ shown cs items
+abbrev pub outages_shown : List Provisioned → List ListenerPair → List PortOutage
+outages_shown [] items = []
+outages_shown (c ∷ cs) [] = []
+outages_shown (c ∷ cs) (both ∷ items) = record { name = c.name; end = A; outage = both.a.outage }
+    ∷ record { name = c.name; end = B; outage = both.b.outage } ∷ outages_shown cs items
 
 -- ---- what one of them shows
 
@@ -135,17 +135,17 @@ listener_at both A = both.a
 listener_at both B = both.b
 
 -- the lines of the port at that end of the circuit of this name
-abbrev pub heard_text : List Provisioned → List ℕ → End → Heard → List ℕ
-heard_text circuits name end h =
-    changes_text h.trace.changes (h.trace.count - 64) ++ told_line circuits (record { name = name; end = end; outage = h.outage })
+abbrev pub heard_lines : List Provisioned → List ℕ → End → Heard → List ℕ
+heard_lines circuits name end h =
+    outage_changes_text h.trace.changes (h.trace.count - 64) ++ told_line circuits (record { name = name; end = end; outage = h.outage })
 
 -- the lines of a port, where its circuit is one of these and its listeners are there
-abbrev pub port_text : List Provisioned → Option Provisioned → Option ListenerPair → End → List ℕ
-port_text circuits (Some c) (Some both) end = heard_text circuits c.name end (listener_at both end)
-port_text circuits c both end = []
+abbrev pub outage_port_lines : List Provisioned → Option Provisioned → Option ListenerPair → End → List ℕ
+outage_port_lines circuits (Some c) (Some both) end = heard_lines circuits c.name end (listener_at both end)
+outage_port_lines circuits c both end = []
 
 -- the lines of the settle step of this number, which ended with that round
 abbrev pub shown_text : OutageListing → ℕ → ℕ → List Provisioned → List ListenerPair → List ℕ
-shown_text listing.Ports number round cs items = settle_step_text number round cs (shown cs items)
+shown_text listing.Ports number round cs items = settle_step_text number round cs (outages_shown cs items)
 shown_text (listing.Trace port) number round cs items =
-    settle_line number round ++ port_text cs (slice_get cs port.circuit) (slice_get items port.circuit) port.end
+    settle_line number round ++ outage_port_lines cs (slice_get cs port.circuit) (slice_get items port.circuit) port.end

@@ -12,32 +12,32 @@ use Rattle.sdh_outage_cli.specs.declared.words.Command.TheVariants as command
 
 -- what the program is asked for: to run the plan and list the outages of all ports; or to run it and list the changes
 -- of the port at that end of the circuit of this name
-pub data Ask : Type 0 where
-  Run : Ask
-  Trace : List ℕ → End → Ask
+pub data OutageAsk : Type 0 where
+  Run : OutageAsk
+  Trace : List ℕ → End → OutageAsk
 
-abbrev pub ask_of : Command → Ask
-ask_of command.Run = Run
-ask_of (command.Trace name end) = Trace name.now end
+abbrev pub outage_ask_of : Command → OutageAsk
+outage_ask_of command.Run = Run
+outage_ask_of (command.Trace name end) = Trace name.now end
 
 -- one word
-abbrev pub asked_alone : List ℕ → Option Ask
+abbrev pub asked_alone : List ℕ → Option OutageAsk
 asked_alone word = if bytes_eq word (codes "run") then Some Run else None
 
 -- a word, any name and the letter of an end
-abbrev pub asked_with_port : List ℕ → List ℕ → List ℕ → Option Ask
-asked_with_port word name letter = if bytes_eq word (codes "trace") then option_map (Trace name) (end_lettered letter) else None
+abbrev pub outage_asked_with_port : List ℕ → List ℕ → List ℕ → Option OutageAsk
+outage_asked_with_port word name letter = if bytes_eq word (codes "trace") then option_map (Trace name) (end_lettered letter) else None
 
 -- what the words ask for, where they have one of the two forms
-abbrev pub asked : List (List ℕ) → Option Ask
+abbrev pub asked : List (List ℕ) → Option OutageAsk
 asked [] = None
 asked (word ∷ []) = asked_alone word
 asked (word ∷ name ∷ []) = None
-asked (word ∷ name ∷ letter ∷ []) = asked_with_port word name letter
+asked (word ∷ name ∷ letter ∷ []) = outage_asked_with_port word name letter
 asked (word ∷ name ∷ letter ∷ more ∷ others) = None
 
 -- what is listed of a plan; none where a port is asked for by a name that no circuit of the plan has
-abbrev pub listing_of : Ask → Planned → Option OutageListing
+abbrev pub listing_of : OutageAsk → Planned → Option OutageListing
 listing_of Run plan = Some listing.Ports
 listing_of (Trace name end) plan =
     option_map (λ circuit. listing.Trace (record { circuit = circuit; end = end })) (at_port (provisioning_of plan) name)

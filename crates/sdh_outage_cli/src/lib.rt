@@ -3,7 +3,7 @@
 //! through, counted round by round, in one line a port; or what one port went through, change by change.
 //!
 //! What is reported of a settle step is `Outaged` in `specs/Outages.antt`, and what a round is to a port is `kind_of`
-//! in `sdh_outage`. What is listed of that is `listed` in `specs/Lines.antt`.
+//! in `sdh_outage`. What is listed of that is `outages_listed` in `specs/Lines.antt`.
 #![tactic(auto)]
 
 pub mod laws;

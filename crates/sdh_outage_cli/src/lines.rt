@@ -4,9 +4,9 @@ ghost use Rattle.std.specs.List.{flat_map};
 ghost use Rattle.sdh_outage.specs.Outages.{with_outage};
 ghost use Rattle.sdh_outage.specs.Kept.{ports_in};
 ghost use Rattle.sdh_outage.specs.Lines.{change_line, more_line, summary_line};
-ghost use Rattle.sdh_outage_cli.specs.Lines.{whose_text, told_line, ports_text, changes_text};
-ghost use Rattle.sdh_outage_cli.specs.Ports.{both_shown, shown, heard_text, port_text, shown_text};
-ghost use Rattle.sdh_outage_cli.specs.Running.{MayList, lines_room};
+ghost use Rattle.sdh_outage_cli.specs.Lines.{whose_text, told_line, ports_text, outage_changes_text};
+ghost use Rattle.sdh_outage_cli.specs.Ports.{both_shown, outages_shown, heard_lines, outage_port_lines, shown_text};
+ghost use Rattle.sdh_outage_cli.specs.Running.{MayListOutages, outage_lines_room};
 
 use crate::listing::OutageListing;
 use crate::ports::ListenerPair;
@@ -83,7 +83,7 @@ fn put_summary(text: &mut Text, summary: &Summary)
 fn put_ports(text: &mut Text, circuits: &CircuitMap, items: &Vec<ListenerPair>)
     requires many { length items.now.items ≡ length circuits.now.circuits }
     requires room { 250 + 500 * length circuits.now.circuits ≤ text.old.room }
-    ensures bytes { text.new.bytes ≡ text.old.bytes ++ ports_text circuits.now.circuits (shown circuits.now.circuits items.now.items) }
+    ensures bytes { text.new.bytes ≡ text.old.bytes ++ ports_text circuits.now.circuits (outages_shown circuits.now.circuits items.now.items) }
     ensures room { text.old.room ≤ text.new.room + (250 + 500 * length circuits.now.circuits) }
 {
     let mut summary = Summary::new();
@@ -132,7 +132,7 @@ fn put_changes(text: &mut Text, changes: &[Change])
 // Appends the lines of the changes of a port.
 fn put_trace(text: &mut Text, trace: &Trace)
     requires room { 16250 ≤ text.old.room }
-    ensures bytes { text.new.bytes ≡ text.old.bytes ++ changes_text trace.now.changes (trace.now.count - 64) }
+    ensures bytes { text.new.bytes ≡ text.old.bytes ++ outage_changes_text trace.now.changes (trace.now.count - 64) }
     ensures room { text.old.room ≤ text.new.room + 16250 }
 {
     put_changes(text, trace.changes());
@@ -142,7 +142,7 @@ fn put_trace(text: &mut Text, trace: &Trace)
 // Appends the lines of one port.
 fn put_heard(text: &mut Text, circuits: &CircuitMap, named: &Circuit, end: End, listener: &Listener)
     requires room { 16500 ≤ text.old.room }
-    ensures bytes { text.new.bytes ≡ text.old.bytes ++ heard_text circuits.now.circuits named.now.name end listener.now }
+    ensures bytes { text.new.bytes ≡ text.old.bytes ++ heard_lines circuits.now.circuits named.now.name end listener.now }
     ensures room { text.old.room ≤ text.new.room + 16500 }
 {
     put_trace(text, listener.trace());
@@ -155,7 +155,7 @@ fn put_listed(text: &mut Text, circuits: &CircuitMap, items: &Vec<ListenerPair>,
     requires port { port.circuit < length circuits.now.circuits }
     requires room { 16500 ≤ text.old.room }
     ensures bytes { text.new.bytes ≡ text.old.bytes
-        ++ port_text circuits.now.circuits (slice_get circuits.now.circuits port.circuit) (slice_get items.now.items port.circuit) port.end }
+        ++ outage_port_lines circuits.now.circuits (slice_get circuits.now.circuits port.circuit) (slice_get items.now.items port.circuit) port.end }
     ensures room { text.old.room ≤ text.new.room + 16500 }
 {
     let named = circuits.get(port.circuit);
@@ -173,11 +173,11 @@ pub fn put_step(
 )
     requires ran { 1 ≤ ring.now.rounds }
     requires many { length items.now.items ≡ length ring.now.circuits.circuits }
-    requires listing { MayList (length ring.now.circuits.circuits) listing }
-    requires room { lines_room listing (length ring.now.circuits.circuits) ≤ text.old.room }
+    requires listing { MayListOutages (length ring.now.circuits.circuits) listing }
+    requires room { outage_lines_room listing (length ring.now.circuits.circuits) ≤ text.old.room }
     ensures bytes { text.new.bytes ≡ text.old.bytes
         ++ shown_text listing number (ring.now.rounds - 1) ring.now.circuits.circuits items.now.items }
-    ensures room { text.old.room ≤ text.new.room + lines_room listing (length ring.now.circuits.circuits) }
+    ensures room { text.old.room ≤ text.new.room + outage_lines_room listing (length ring.now.circuits.circuits) }
 {
     put_settle(text, number, ring.rounds());
     match listing {

@@ -1,6 +1,6 @@
 //! The listeners, who look at the ring after each round.
 ghost use Rattle.std.specs.Prelude.{◌≡◌};
-ghost use Rattle.sdh_outage_cli.specs.Ports.{AreListening, ports_in};
+ghost use Rattle.sdh_outage_cli.specs.Ports.{AreListening, ports_by_node};
 ghost use Rattle.sdh_outage_cli.specs.Keeping.{listening_same, rooms_same};
 
 use crate::ports::{ListenerPair, look_all};
@@ -21,7 +21,7 @@ pub struct Listeners {
 // port's bytes are compared while they are in the processor's cache.
 impl Observer<Running> for Listeners {
     ghost Heard = { λ at k l. AreListening at k l.items.items l.streams.pairs.items
-        × (l.rooms.counts ≡ ports_in (at k).ring) };
+        × (l.rooms.counts ≡ ports_by_node (at k).ring) };
 
     fn look(&mut self, ring: &Running) {
         look_all(ring, &mut self.items, &mut self.streams, &mut self.rooms);

@@ -8,8 +8,8 @@ ghost use Rattle.sdh_outage.specs.Kept.{heard};
 ghost use Rattle.sdh_outage_cli.specs.Outages.{delivered_at};
 ghost use Rattle.sdh_terminal.specs.Tributaries.{outlets_of};
 ghost use Rattle.sdh_node.specs.Rings.Held.{node_at, place_of_port};
-ghost use Rattle.sdh_outage_cli.specs.Ports.{AreAt, AreFew, HaveBegun, Listens, Looked, listener_at};
-ghost use Rattle.sdh_outage_cli.specs.Ports.{ListensTo, HeardAt, LookedAt, AreFewAt, ports_in};
+ghost use Rattle.sdh_outage_cli.specs.Ports.{AreAt, AreFew, HaveBegun, Listens, ListenersLooked, listener_at};
+ghost use Rattle.sdh_outage_cli.specs.Ports.{ListensTo, HeardAt, LookedAt, AreFewAt, ports_by_node};
 ghost use Rattle.sdh_outage_cli.specs.Streams.{holder_of, AreNear, AreEarly};
 ghost use Rattle.sdh_outage_cli.specs.declared.ports.ListenerPair.{ListenerPair};
 
@@ -259,7 +259,7 @@ fn look_there(
     rooms: &mut DeliveryRooms,
 )
     requires at { at.0 < length ring.now.ids }
-    requires rooms { rooms.old.counts ≡ ports_in ring.now }
+    requires rooms { rooms.old.counts ≡ ports_by_node ring.now }
     requires many { length items.old.items ≡ length ring.now.circuits.circuits }
     requires streams { length streams.old.pairs.items ≡ length ring.now.circuits.circuits }
     requires early { AreEarly streams.old.pairs.items }
@@ -287,10 +287,10 @@ pub fn look_all(
     requires streams { length streams.old.pairs.items ≡ length ring.now.circuits.circuits }
     requires early { AreEarly streams.old.pairs.items }
     requires few { AreFew (2 ^ 31 + 65536) items.old.items }
-    requires rooms { rooms.old.counts ≡ ports_in ring.now }
+    requires rooms { rooms.old.counts ≡ ports_by_node ring.now }
     ensures many { length items.new.items ≡ length items.old.items }
     ensures each { (i : ℕ) (before after : ListenerPair) → slice_get items.old.items i ≡ Some before → slice_get items.new.items i ≡ Some after
-        → Looked ring.now streams.old.pairs.items i before after }
+        → ListenersLooked ring.now streams.old.pairs.items i before after }
     ensures streams { streams.new.pairs.items ≡ streams.old.pairs.items }
     ensures rooms { rooms.new.counts ≡ rooms.old.counts }
 {

@@ -1,11 +1,11 @@
 //! What the program does with a plan.
 ghost use Rattle.std.specs.Prelude.{◌≡◌, ◌≤◌, refl, length};
-ghost use Rattle.sdh_scripts.specs.NewRuns.{IsOf};
+ghost use Rattle.sdh_scripts.specs.NewRuns.{IsRunOfPlan};
 ghost use Rattle.sdh_programs.specs.Calls.{never_cut};
 ghost use Rattle.sdh_outage_cli.specs.Outages.{Outaged};
 ghost use Rattle.sdh_outage_cli.specs.Running.{running_ring};
 ghost use Rattle.sdh_outage_cli.specs.Plans.{outage_account};
-ghost use Rattle.sdh_outage_cli.specs.Words.{Ask as Asked, ask_of as what_is_asked};
+ghost use Rattle.sdh_outage_cli.specs.Words.{OutageAsk as Asked, outage_ask_of as what_is_asked};
 ghost use Rattle.sdh_outage_cli.specs.Headline.{listening};
 
 use crate::listing::OutageListing;
@@ -36,7 +36,7 @@ impl<'a, P: Plant> Program<'a, Text, P> for Command<'a> {
 
     ghost ask_of = { what_is_asked };
 
-    ghost Begins = { λ listing plan run. IsOf running_ring outage_account plan run × (run.runner.listing ≡ listing) };
+    ghost Begins = { λ listing plan run. IsRunOfPlan running_ring outage_account plan run × (run.runner.listing ≡ listing) };
 
     ghost Leaves = { λ told end ring. Unit {0} };
 

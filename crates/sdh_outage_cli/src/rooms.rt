@@ -5,7 +5,7 @@ ghost use Rattle.sdh_ringmap.specs.Places.{position_of};
 ghost use Rattle.sdh_terminal.specs.Tributaries.{outlets_of, tributaries_of};
 ghost use Rattle.sdh_node.specs.Rings.Held.{node_at};
 ghost use Rattle.sdh_outage_cli.specs.Rooms.{ports_at};
-ghost use Rattle.sdh_outage_cli.specs.Ports.{ports_in};
+ghost use Rattle.sdh_outage_cli.specs.Ports.{ports_by_node};
 
 use sdh_circuits::{Circuit, CircuitMap};
 use sdh_ring::Running;
@@ -127,7 +127,7 @@ impl DeliveryRooms {
     /// Takes what the ports of the node at a position delivered in the last round out of the frames in which it waits.
     pub fn take(&mut self, ring: &Running, at: Pos)
         requires at { at.0 < length ring.now.ids }
-        requires rooms { self.old.counts ≡ ports_in ring.now }
+        requires rooms { self.old.counts ≡ ports_by_node ring.now }
         ensures { self.new ≡ record self.old { taken = outlets_of (node_at ring.now.nodes at.0).ports } }
     {
         let node = ring.node(at);

@@ -1,8 +1,8 @@
 //! The run of a plan, before its fibres are there: its listeners and its ring are made, and room for what is listed.
 ghost use Rattle.std.specs.Prelude.{◌≡◌, ◌≤◌, length, IfOk};
-ghost use Rattle.sdh_scripts.specs.NewRuns.{MayStart, IsOf};
+ghost use Rattle.sdh_scripts.specs.NewRuns.{MayStartRun, IsRunOfPlan};
 ghost use Rattle.sdh_scripts.specs.Texts.{room_for};
-ghost use Rattle.sdh_outage_cli.specs.Running.{MayList, lines_room, running_ring, MayListen};
+ghost use Rattle.sdh_outage_cli.specs.Running.{MayListOutages, outage_lines_room, running_ring, MayListen};
 ghost use Rattle.sdh_outage_cli.specs.Plans.{outage_account};
 
 use crate::listeners::Listeners;
@@ -22,7 +22,7 @@ use std::alloc::{AllocError, Global};
 // Returns the number of bytes that is room enough for what is listed of a settle step. Of one port that is 64 changes,
 // how many more there were, and the line of its outage.
 fn lines_room(listing: OutageListing, circuits: &CircuitMap) -> usize
-    ensures room { result ≡ lines_room listing (length circuits.now.circuits) }
+    ensures room { result ≡ outage_lines_room listing (length circuits.now.circuits) }
     ensures few { result ≤ 65536 }
 {
     match listing {
@@ -38,12 +38,12 @@ pub fn new_run(
     listing: OutageListing,
     text: &mut Text,
 ) -> Result<NewRun<OutageRun>, AllocError>
-    requires listing { MayList (length plan.circuits) listing }
-    ensures is_of { IfOk result (IsOf running_ring outage_account plan) }
-    ensures ready { IfOk result (λ new. MayStart running_ring MayListen new.runner new.script) }
+    requires listing { MayListOutages (length plan.circuits) listing }
+    ensures is_of { IfOk result (IsRunOfPlan running_ring outage_account plan) }
+    ensures ready { IfOk result (λ new. MayStartRun running_ring MayListen new.runner new.script) }
     ensures listing { IfOk result (λ new. new.runner.listing ≡ listing) }
     ensures room { IfOk result
-        (λ new. room_for (lines_room listing (length new.runner.ring.circuits.circuits)) 0 ≤ text.new.room) }
+        (λ new. room_for (outage_lines_room listing (length new.runner.ring.circuits.circuits)) 0 ≤ text.new.room) }
     ensures bytes { text.new.bytes ≡ text.old.bytes }
 {
     let settings = plan.settings();

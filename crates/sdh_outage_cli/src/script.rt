@@ -9,9 +9,9 @@ ghost use Rattle.sdh_ring.specs.Promises.{KeepsPromises};
 ghost use Rattle.sdh_node.specs.Node.{Node as AddDrop};
 ghost use Rattle.sdh_outage_cli.specs.Outages.{Outaged};
 ghost use Rattle.sdh_outage_cli.specs.Scripts.{outage_walk};
-ghost use Rattle.sdh_outage_cli.specs.Lines.{listed};
-ghost use Rattle.sdh_outage_cli.specs.Ports.{AreListening, ports_in};
-ghost use Rattle.sdh_outage_cli.specs.Running.{lines_room, MayListen};
+ghost use Rattle.sdh_outage_cli.specs.Lines.{outages_listed};
+ghost use Rattle.sdh_outage_cli.specs.Ports.{AreListening, ports_by_node};
+ghost use Rattle.sdh_outage_cli.specs.Running.{outage_lines_room, MayListen};
 
 use crate::lines::put_step;
 use crate::listeners::Listeners;
@@ -46,13 +46,13 @@ fn settle_with<P: Plant>(
     requires room { ring.old.rounds + limit ≤ 2 ^ 32 }
     requires ready { (at : ℕ → World) → at 0 ≡ world ring.old (P.fibres plant.old)
         → AreListening at 0 listeners.old.items.items listeners.old.streams.pairs.items
-        × (listeners.old.rooms.counts ≡ ports_in (at 0).ring) }
+        × (listeners.old.rooms.counts ≡ ports_by_node (at 0).ring) }
     ensures step { IsStep adm P.exact (world ring.old (P.fibres plant.old)) limit result (world ring.new (P.fibres plant.new))
         (P.faults plant.old) (P.faults plant.new) }
     ensures laws { KeepsPromises (world ring.old (P.fibres plant.old)) limit result (world ring.new (P.fibres plant.new)) }
     ensures heard { OnOk result
         (Hears (λ at k. AreListening at k listeners.new.items.items listeners.new.streams.pairs.items
-        × (listeners.new.rooms.counts ≡ ports_in (at k).ring))
+        × (listeners.new.rooms.counts ≡ ports_by_node (at k).ring))
         (world ring.old (P.fibres plant.old)) limit (world ring.new (P.fibres plant.new))) }
 {
     match ring.settle_recording(plant, limit, listeners, &mut Nowhere) {
@@ -70,11 +70,11 @@ impl<P: Plant> Teller<Text, P> for OutageRun {
 
     ghost ring = { λ r. r.ring };
 
-    ghost text_of = { λ r told. listed r.listing told };
+    ghost text_of = { λ r told. outages_listed r.listing told };
 
     ghost begun_of = { λ r told. [] };
 
-    ghost room = { λ r. lines_room r.listing (length r.ring.circuits.circuits) };
+    ghost room = { λ r. outage_lines_room r.listing (length r.ring.circuits.circuits) };
 
     ghost MayRun = { MayListen };
 

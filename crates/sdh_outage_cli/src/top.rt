@@ -8,9 +8,9 @@ ghost use Rattle.sdh_shell.specs.Failing.{Counts};
 ghost use Rattle.sdh_shell.specs.Writing.{Writes};
 ghost use Rattle.sdh_programs.specs.Outcome.{MayEnd};
 ghost use Rattle.sdh_programs.specs.Headline.{AlwaysSettles};
-ghost use Rattle.sdh_outage_cli.specs.Words.{Ask, asked};
+ghost use Rattle.sdh_outage_cli.specs.Words.{OutageAsk, asked};
 ghost use Rattle.sdh_outage_cli.specs.Headline.{listening, EndsAsItRuns};
-ghost use Rattle.sdh_shell.specs.Kept.{around};
+ghost use Rattle.sdh_shell.specs.Kept.{seen_around};
 ghost use Rattle.sdh_programs.specs.Calls.{KeepsCall, never_cut};
 
 use crate::words::Command;
@@ -43,20 +43,20 @@ pub fn sdhoutage<R: Source, W: Sink, P: Plant>(
         (W.written sink.old) (W.written sink.new)) }
 
     // Over honest fibres with a large limit no settle step is unsettled.
-    ensures settles { (ask : Ask) → asked (words_of words.now) ≡ Some ask → (P.fibres plant.old).honest ≡ true
+    ensures settles { (ask : OutageAsk) → asked (words_of words.now) ≡ Some ask → (P.fibres plant.old).honest ≡ true
         → IfSome (R.left source.old) (λ bytes. AlwaysSettles bytes result) }
 
     // Where arrivals are known, unsettled comes at exactly the settle step in which no quiet window comes within the
     // limit.
-    ensures unsettled { (ask : Ask) → asked (words_of words.now) ≡ Some ask
+    ensures unsettled { (ask : OutageAsk) → asked (words_of words.now) ≡ Some ask
         → IfSome (R.left source.old) (λ bytes. EndsAsItRuns bytes (P.fibres plant.old) result) }
 
     // What the call keeps, over every source, sink and plant (`KeepsAll` in `sdh_shell/specs/Kept`): each fault has its
     // cause, what isn't asked for stays as it was, and where all that a run needs is given, and no call fails, all is
     // done.
     ensures kept { KeepsCall listening never_cut (asked (words_of words.now))
-        (around R.faults R.exact R.left source.old source.new)
-        (around W.faults W.exact W.written sink.old sink.new) (around P.faults P.exact P.fibres plant.old plant.new) result }
+        (seen_around R.faults R.exact R.left source.old source.new)
+        (seen_around W.faults W.exact W.written sink.old sink.new) (seen_around P.faults P.exact P.fibres plant.old plant.new) result }
 {
     call::<P, Command<'_>, R, W>(alloc, words, source, sink, plant)
 }

@@ -19,7 +19,7 @@ use Rattle.sdh_restoration.specs.Changes as change
 use Rattle.sdh_restoration.specs.Changes.{Change, Stretch, rounds_in}
 use Rattle.sdh_status.specs.declared.Status.TheVariants as status
 use Rattle.sdh_report.specs.Reports.{Report}
-use Rattle.sdh_owed.specs.Course.{WentThrough, HasSent}
+use Rattle.sdh_owed.specs.Course.{WentThrough, StretchesHaveSent}
 use Rattle.sdh_owed.specs.Counting.{ran_by, CoursesCountFrames}
 use Rattle.sdh_owed.proofs.Course.{alike_all}
 
@@ -102,7 +102,7 @@ rounds_all n limit ran (changes ∷ later) (r ∷ reports) ss (rest, is, are, x)
 same_count : (a b : List (List ℕ)) (o : Option (List (List ℕ))) → o ≡ Some a → o ≡ Some b → length a ≡ length b
 same_count a b o e g = ap (λ (x : Option (List (List ℕ))). option_map_or (λ (l : List (List ℕ)). length l) x 0) (sym e ∙ g)
 
-ended_well : (w : World) (ss : List Stretch) (left : Fibres) → HasSent w ss status.Ok left → left.sent ≡ (after_stretches ss w).fibres.sent
+ended_well : (w : World) (ss : List Stretch) (left : Fibres) → StretchesHaveSent w ss status.Ok left → left.sent ≡ (after_stretches ss w).fibres.sent
 ended_well w ss left (inl alike) = alike.sent
 ended_well w ss left (inr (is, x)) = absurd (grind (arith, is))
 

@@ -35,14 +35,14 @@ use Rattle.sdh_owed.specs.Reports.{report_of}
 use Rattle.sdh_scripts.specs.Scripts.{Refuses}
 use Rattle.sdh_scripts.proofs.Outcomes.{refused_ends}
 use Rattle.sdh_scripts.proofs.Reporting.{settles_by, reports_by, breaks_by}
-use Rattle.sdh_owed.specs.Steps.{after_step}
+use Rattle.sdh_owed.specs.Steps.{world_after_step}
 use Rattle.sdh_owed.specs.Scripts.{Runs}
 use Rattle.sdh_owed.specs.Laws.{ring_by}
 use Rattle.sdh_owed.proofs.Strangers.{come_after_transit, none_old_unheld, none_old}
 use Rattle.sdh_owed.specs.Strangers.{AllEverComeAfterTransit, NoneEverMeetsOldBytes}
 use Rattle.sdh_owed.proofs.Soon.{IsReady, RestoredSoon, happens_front, ready_then, followed_then, owed_soon, joined_soon}
 use Rattle.sdh_owed.proofs.Standing.{Stands, whole, stretch_to, changed_then, settled_then, stands_new}
-use Rattle.sdh_owed.specs.Course.{stretch, HaveCondition, IsLeftOff, WentThrough, AreSentAlike, HasSent, NoneEverMeetsAStranger}
+use Rattle.sdh_owed.specs.Course.{stretch, HaveCondition, IsLeftOff, WentThrough, AreSentAlike, StretchesHaveSent, NoneEverMeetsAStranger}
 use Rattle.sdh_owed.specs.Course.{AllIsOwedSoon, TrafficIsOwedSoon, HasCourse, CoursesAreTold}
 
 -- ---- stretches one after the other
@@ -160,7 +160,7 @@ module _ (s : Settings) (ids : List ℕ) (circuits : Provisioning) (f : Fibres) 
     pub through : WentThrough (length ids) limit (rounds_in earlier) later reports end stretches
     pub happens : MayHappen from (earlier ++ stretches)
     pub quiet : EndQuietly (after_stretches earlier from) stretches
-    pub sent : HasSent from (earlier ++ stretches) end left
+    pub sent : StretchesHaveSent from (earlier ++ stretches) end left
 
   -- nothing more ran
   ends_here : (limit : ℕ) (past : Past) (earlier : List Stretch) (changes : List Change) (later : List (List Change)) (w : World)
@@ -239,7 +239,7 @@ module _ (s : Settings) (ids : List ℕ) (circuits : Provisioning) (f : Fibres) 
           quiet =
               ends_quietly last (after_stretches earlier from) goes.stretches window
               (subst (λ (x : World). EndQuietly x goes.stretches) (after_last earlier last from) goes.quiet);
-          sent = subst (λ ss. HasSent from ss end left) behind goes.sent;
+          sent = subst (λ ss. StretchesHaveSent from ss end left) behind goes.sent;
         }
 
   walk : (limit before : ℕ) (past : Past) (earlier : List Stretch) (changes : List Change) (steps : List Step) (w : World)
@@ -252,9 +252,9 @@ module _ (s : Settings) (ids : List ℕ) (circuits : Provisioning) (f : Fibres) 
   walk limit before past earlier changes (step.Settle ∷ later) w reports end left h each (inl (told, mid, rest, ended, is, x)) =
       let there =
       settled_then s ids circuits f may past earlier changes w h mid limit
-      (settles_by adm after_step report_of w limit (before + 1) told mid ended) in
+      (settles_by adm world_after_step report_of w limit (before + 1) told mid ended) in
       subst (λ rs. GoesOn limit earlier (scenes changes (step.Settle ∷ later)) rs end left.fibres)
-      (sym (reports_by adm after_step report_of w limit (before + 1) told mid reports rest ended is))
+      (sym (reports_by adm world_after_step report_of w limit (before + 1) told mid reports rest ended is))
       (settled limit past earlier changes w h (scenes [] later) mid (before + 1) rest end left.fibres there.last there.window there.many
       (walk limit (before + 1) (after past step.Settle) _ [] later mid rest end left there.stands each.1 x))
   walk limit before past earlier changes (step.Settle ∷ later) w reports end left h each (inr (inl x)) =
@@ -263,7 +263,7 @@ module _ (s : Settings) (ids : List ℕ) (circuits : Provisioning) (f : Fibres) 
   walk limit before past earlier changes (step.Settle ∷ later) w reports end left h each (inr (inr x)) =
       subst (λ rs. GoesOn limit earlier (scenes changes (step.Settle ∷ later)) rs end left.fibres) (sym x.1.0)
       (broken_off limit past earlier changes w h (scenes [] later) end left.fibres x.1.1
-      (breaks_by adm after_step report_of w limit left.fibres x.0))
+      (breaks_by adm world_after_step report_of w limit left.fibres x.0))
   walk limit before past earlier changes (this ∷ later) w reports end left h each x =
       elim x [
         | inl goes ↦ walk limit before (after past this) earlier (changes ++ changes_of this) later _ reports end left

@@ -34,7 +34,7 @@ use Rattle.sdh_owed.specs.Scripts.{Runs}
 use Rattle.sdh_promise.specs.Owed.{owed_ports}
 use Rattle.sdh_owed.specs.Healthy.{AllSettle, AreHealthy}
 use Rattle.sdh_owed.specs.Laws.{HealthyScripts}
-use Rattle.sdh_owed.specs.Steps.{after_step}
+use Rattle.sdh_owed.specs.Steps.{world_after_step}
 use Rattle.sdh_scripts.proofs.Frames.{knows_after}
 use Rattle.sdh_scripts.proofs.Reporting.{settles_by, reports_by}
 use Rattle.sdh_owed.proofs.Ports.{due_told, ports_are}
@@ -136,9 +136,9 @@ module _ (settle : HealthyStepsSettle) (deliver : HealthyStepsDeliver) (s : Sett
   walk before m (step.Settle ∷ later) w reports end left all is reached some (inl (told, mid, rest, ended, shown, x)) =
       let known =
       known_settles adm w limit mid (subst (λ (v : World). Knows v.fibres) (sym is) (knows m))
-      (settles_by adm after_step report_of w limit (before + 1) told mid ended) in
+      (settles_by adm world_after_step report_of w limit (before + 1) told mid ended) in
       let all_are : reports ≡ report_of (before + 1) mid.ring ∷ rest =
-      reports_by adm after_step report_of w limit (before + 1) told mid reports rest ended shown in
+      reports_by adm world_after_step report_of w limit (before + 1) told mid reports rest ended shown in
       let k = known.0 in
       let e : settles_in (run m from) limit ≡ Some k =
       ap (λ v. settles_in v limit) (sym is) ∙ ((steps_are_computed adm).settled w limit k).1 known.1 in

@@ -11,7 +11,7 @@ use Rattle.sdh_node.specs.Rings.Changes.{new_world}
 use Rattle.sdh_node.specs.Rings.Clocks.{clocks_by}
 use Rattle.sdh_restoration.specs.Happened.{happened}
 use Rattle.sdh_laws.specs.Hearing.Laws.{MayStart}
-use Rattle.sdh_laws.specs.Carrying.Windows.{Layout, layout_in, layout_of, size_of, HasCircuits}
+use Rattle.sdh_laws.specs.Carrying.Windows.{Layout, layout_in, layout_of, positions_of, HasCircuits}
 use Rattle.sdh_laws.specs.Carrying.Laws.{IsRestored, SettledRingsRestore}
 use Rattle.sdh_plan.specs.declared.step.Step.{Step}
 use Rattle.sdh_plan.specs.declared.step.Step.TheVariants as step
@@ -24,7 +24,7 @@ use Rattle.sdh_owed.specs.Reports.{ports_of, report_of}
 use Rattle.sdh_scripts.proofs.Outcomes.{refused_ends}
 use Rattle.sdh_scripts.proofs.Reporting.{settles_by, reports_by}
 use Rattle.sdh_node.specs.Stations.{adm}
-use Rattle.sdh_owed.specs.Steps.{after_step}
+use Rattle.sdh_owed.specs.Steps.{world_after_step}
 use Rattle.sdh_owed.specs.Scripts.{Runs}
 use Rattle.sdh_promise.specs.Owed.{Ring, requests_by, IsOwed, AreOwed}
 use Rattle.sdh_owed.specs.Laws.{ring_by, ReportsAreOwed}
@@ -65,7 +65,7 @@ module _ (law : SettledRingsRestore) (s : Settings) (ids : List ℕ) (circuits :
       let same : layout_of mid ≡ layout_in (new_ring s ids circuits) =
       layout_is s ids circuits f may (after past step.Settle) now [] mid x.stands in
       let by = subst (λ (y : Layout). IsRestored (clocks_by y.circuits now) mid requests) (sym same) restored in
-      subst (λ (y : Layout). IsOwed (size_of y) requests (happened now) y.circuits (ports_of (report_of number mid.ring))) same
+      subst (λ (y : Layout). IsOwed (positions_of y) requests (happened now) y.circuits (ports_of (report_of number mid.ring))) same
       (owed_now now mid number requests (subst HasCircuits (sym same) form) by)
 
   walk : (limit before : ℕ) (past : Past) (earlier : List Stretch) (changes : List Change) (steps : List Step) (w : World)
@@ -77,9 +77,9 @@ module _ (law : SettledRingsRestore) (s : Settings) (ids : List ℕ) (circuits :
   walk limit before past earlier changes (step.Settle ∷ later) w reports end left h each (inl (told, mid, rest, ended, is, x)) =
       let there =
       settled_then s ids circuits f may past earlier changes w h mid limit
-      (settles_by adm after_step report_of w limit (before + 1) told mid ended) in
+      (settles_by adm world_after_step report_of w limit (before + 1) told mid ended) in
       let all : reports ≡ report_of (before + 1) mid.ring ∷ rest =
-      reports_by adm after_step report_of w limit (before + 1) told mid reports rest ended is in
+      reports_by adm world_after_step report_of w limit (before + 1) told mid reports rest ended is in
       subst (λ rs. AreOwed ring limit earlier before (scenes changes (step.Settle ∷ later)) (map ports_of rs) end) (sym all) (
         refl,
         there.last,

@@ -44,7 +44,7 @@ use Rattle.sdh_laws.proofs.carrying.Settles.{layout_all}
 use Rattle.sdh_laws.specs.Converging.Rings.{settings, three, c1, one_circuit, ARingOccurs}
 use Rattle.sdh_owed.specs.Course.{stretch, IsLate}
 use Rattle.sdh_owed.specs.Strangers.{IsOldest, IsUnheld}
-use Rattle.sdh_owed.specs.Occurring.{slipping, cutting, holding, ring_of_three, three_over, IsOwedBehind, ComesRound, ThreeAreOwedSoon}
+use Rattle.sdh_owed.specs.Occurring.{slipping, cutting, seven_held, ring_of_three, three_over, IsOwedBehind, ComesRound, ThreeAreOwedSoon}
 use Rattle.sdh_owed.specs.Occurring.{cutting_held, mending, mending_held, GetsItsOwn, GetsItAfterTransit, ThreeGetTheirOwn, ThreeMeetNoStrangers}
 use Rattle.sdh_owed.proofs.Soon.{RestoredSoon, ready_new, followed_new, owed_soon, joined_soon}
 use Rattle.sdh_owed.proofs.Course.{strangers, transit, recent}
@@ -91,7 +91,7 @@ three_are_owed_soon occurs laws f honest = record {
   slips = owed_behind occurs laws f honest slipping 85 (((occurs f honest).happen.0.0, tt), tt)
       (inr (inl ((tt, tt), omega arith, omega arith)));
   cut = owed_behind occurs laws f honest cutting 28 ((tt, (tt, tt)), tt) (inl ((tt, (tt, tt)), omega arith));
-  hold = owed_behind occurs laws f honest holding 35 ((omega arith, tt), tt) (inl ((tt, tt), omega arith));
+  hold = owed_behind occurs laws f honest seven_held 35 ((omega arith, tt), tt) (inl ((tt, tt), omega arith));
   round = comes_round occurs laws f honest;
 }
 

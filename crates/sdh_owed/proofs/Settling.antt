@@ -12,7 +12,7 @@ use Rattle.sdh_node.specs.Rings.Changes.{after_stretches, new_world}
 use Rattle.sdh_rounds.proofs.Runs.{known_unsettles}
 use Rattle.sdh_laws.specs.Hearing.Laws.{MayStart}
 use Rattle.sdh_laws.proofs.hearing.Requests.{after_last}
-use Rattle.sdh_laws.specs.Carrying.Windows.{layout_in, size_of, HasCircuits}
+use Rattle.sdh_laws.specs.Carrying.Windows.{layout_in, positions_of, HasCircuits}
 use Rattle.sdh_laws.specs.Converging.Laws.{Converges, StretchesConverge}
 use Rattle.sdh_rounds.specs.Quiet.{enough_for}
 use Rattle.sdh_plan.specs.declared.step.Step.{Step}
@@ -23,8 +23,8 @@ use Rattle.sdh_status.specs.declared.Status.{Status}
 use Rattle.sdh_status.specs.declared.Status.TheVariants as status
 use Rattle.sdh_report.specs.Reports.{Report}
 use Rattle.sdh_owed.specs.Scripts.{Runs}
-use Rattle.sdh_scripts.specs.Outcomes.{IsSettled}
-use Rattle.sdh_owed.specs.Steps.{after_step}
+use Rattle.sdh_scripts.specs.Outcomes.{AllSettled}
+use Rattle.sdh_owed.specs.Steps.{world_after_step}
 use Rattle.sdh_owed.specs.Reports.{report_of}
 use Rattle.sdh_owed.specs.Laws.{ScriptsSettle}
 use Rattle.sdh_scripts.proofs.Outcomes.{refused_ends, settled_by, ok_settles, fault_settles}
@@ -46,7 +46,7 @@ module _ (converge : StretchesConverge) (s : Settings) (ids : List ℕ) (circuit
       let from = new_world s ids circuits f in
       let last : Stretch = record { changes = changes; rounds = 0 } in
       let there : w ≡ after_stretches (earlier ++ last ∷ []) from = h.is ∙ sym (after_last earlier last from) in
-      let size : length w.ring.ids ≡ length ids = ap size_of (layout_is s ids circuits f may past earlier changes w h) in
+      let size : length w.ring.ids ≡ length ids = ap positions_of (layout_is s ids circuits f may past earlier changes w h) in
       let meets : Converges w =
       subst Converges (sym there) (converge s ids circuits f (earlier ++ last ∷ []) may
       (may_go s ids circuits f may past earlier changes w h) form) in
@@ -56,10 +56,10 @@ module _ (converge : StretchesConverge) (s : Settings) (ids : List ℕ) (circuit
   walk : (limit before : ℕ) (past : Past) (earlier : List Stretch) (changes : List Change) (steps : List Step) (w : World)
       (reports : List Report) (end : Status) (left : World)
       → Now past earlier changes w → AreSteps s.rate (length ids) (length circuits.circuits) past steps → enough_for (length ids) ≤ limit
-      → Runs limit before steps w reports end left → IsSettled end
+      → Runs limit before steps w reports end left → AllSettled end
   walk limit before past earlier changes [] w reports end left h each large x = settled_by end status.Ok x.1.1 ok_settles
   walk limit before past earlier changes (step.Settle ∷ later) w reports end left h each large (inl (told, mid, rest, ended, is, x)) =
-      let settles = settles_by adm after_step report_of w limit (before + 1) told mid ended in
+      let settles = settles_by adm world_after_step report_of w limit (before + 1) told mid ended in
       walk limit (before + 1) (after past step.Settle) _ [] later mid rest end left
       (settled_then s ids circuits f may past earlier changes w h mid limit settles).stands each.1 large x
   walk limit before past earlier changes (step.Settle ∷ later) w reports end left h each large (inr (inl x)) =

@@ -33,9 +33,9 @@ use Rattle.sdh_promise.specs.Owed.{Ring, owed_port, IsOwed}
 use Rattle.sdh_restoration.specs.Sides.{asked_in}
 use Rattle.sdh_laws.specs.Hearing.Laws.{IsWhole, MayStart, NoneWait}
 use Rattle.sdh_laws.specs.Carrying.Laws.{due_by_clocks, DeliversItsDue, IsRestored}
-use Rattle.sdh_laws.specs.Carrying.Windows.{Layout, layout_in, layout_of, size_of, HasCircuits, requests_of}
+use Rattle.sdh_laws.specs.Carrying.Windows.{Layout, layout_in, layout_of, positions_of, HasCircuits, span_requests_of}
 use Rattle.sdh_laws.specs.Converging.Steady.{IsUnslipped}
-use Rattle.sdh_laws.specs.Restoring.Laws.{NoneHeld, StretchesAreRestoredSoon, FreeRingsAreRestoredSoon}
+use Rattle.sdh_laws.specs.Restoring.Laws.{NoControllerHeld, StretchesAreRestoredSoon, FreeRingsAreRestoredSoon}
 use Rattle.sdh_laws.specs.Restoring.Followed.{IsFollowed, NewRingsAreFollowed, ChangesKeepFollowed, WindowsLeaveFollowed}
 use Rattle.sdh_laws.specs.Restoring.Followed.{HeldFollowedRingsAreRestoredSoon, FollowedPortsAreOwedSoon}
 use Rattle.sdh_laws.specs.Strangers.Laws.{HoldsNone, HoldNone, EndQuietly}
@@ -67,7 +67,7 @@ pub record RestoredSoon : Type 0 where
 -- ---- no controller is held, and no slip waits
 
 pub record IsReady (w : World) : Type 0 where
-  pub free : NoneHeld w
+  pub free : NoControllerHeld w
   pub none : IsUnslipped w
 
 new_free : (s : Settings) (ids : List ℕ) (cs : List Provisioned) (p : ℕ) → is_held (new_node s ids cs (position_of p)) ≡ false
@@ -85,7 +85,7 @@ ready_new s ids circuits f = record {
 }
 
 -- changes that hold no controller leave none held
-free_changed : (c : Change) (w : World) → HoldsNone c → NoneHeld w → NoneHeld (changed c w)
+free_changed : (c : Change) (w : World) → HoldsNone c → NoControllerHeld w → NoControllerHeld (changed c w)
 unfolding changed
 free_changed (change.Fibre p d condition) w none free = free
 free_changed (change.Order p d command) w none free =
@@ -96,7 +96,7 @@ free_changed (change.Slip port turn count) w none free =
     each_at_place (λ q n. is_held n ≡ false) (slips_at port turn count) (λ q n h. h) (place_of_port w.ring port) w.ring.nodes free
 free_changed (change.Now t) w none free = free
 
-pub free_all : (cs : List Change) (w : World) → HoldNone cs → NoneHeld w → NoneHeld (all_changed cs w)
+pub free_all : (cs : List Change) (w : World) → HoldNone cs → NoControllerHeld w → NoControllerHeld (all_changed cs w)
 free_all [] w none free = free
 free_all (c ∷ cs) w none free = free_all cs (changed c w) none.1 (free_changed c w none.0 free)
 
@@ -239,7 +239,7 @@ module _ (s : Settings) (ids : List ℕ) (circuits : Provisioning) (f : Fibres) 
     shows restored =
         let same : layout_of left ≡ layout_in (new_ring s ids circuits) = layout_stretches now from in
         let by = subst (λ (y : Layout). IsRestored (clocks_by y.circuits now) left requests) (sym same) restored in
-        subst (λ (y : Layout). IsOwed (size_of y) requests (happened now) y.circuits (ports_of (report_of 0 left.ring))) same
+        subst (λ (y : Layout). IsOwed (positions_of y) requests (happened now) y.circuits (ports_of (report_of 0 left.ring))) same
         (owed_now now left 0 requests (subst HasCircuits (sym same) form) by)
 
     many : 1 ≤ k → rounds_in now ≡ t + 1
@@ -254,16 +254,16 @@ module _ (s : Settings) (ids : List ℕ) (circuits : Provisioning) (f : Fibres) 
     layout_begun = layout_all last.changes (after_stretches earlier from) ∙ layout_stretches earlier from
 
     size_begun : length begun.ring.ids ≡ length ids
-    size_begun = ap size_of layout_begun
+    size_begun = ap positions_of layout_begun
 
     size_left : length (run k begun).ring.ids ≡ length ids
-    size_left = ap size_of (layout_run begun k) ∙ size_begun
+    size_left = ap positions_of (layout_run begun k) ∙ size_begun
 
     whole_begun : 1 ≤ k → IsWhole begun
     whole_begun some = whole_v s ids circuits f earlier (stretch last.changes k) t may happens form (many some)
 
     -- what the ring comes to by itself follows from the history
-    by_history : 1 ≤ k → 3 * length ids ≤ k → IsRestored (clocks_from begun) (run k begun) (requests_of (run k begun)) → Restored
+    by_history : 1 ≤ k → 3 * length ids ≤ k → IsRestored (clocks_from begun) (run k begun) (span_requests_of (run k begun)) → Restored
     by_history some long restored =
         restored_by_history s ids circuits f earlier (stretch last.changes k) t may happens form (many some)
         (omega (arith, size_left, long)) restored
@@ -291,7 +291,7 @@ module _ (s : Settings) (ids : List ℕ) (circuits : Provisioning) (f : Fibres) 
 
     -- ---- a port of a joined circuit
 
-    same_requests : 1 ≤ k → requests_of (run k begun) ≡ requests
+    same_requests : 1 ≤ k → span_requests_of (run k begun) ≡ requests
     same_requests some = requests_last s ids circuits f earlier (stretch last.changes k) may happens t (many some)
 
     abbrev held_begun : AllHeldFor (longest_hold last.changes) begun
@@ -305,9 +305,9 @@ module _ (s : Settings) (ids : List ℕ) (circuits : Provisioning) (f : Fibres) 
       Joined n rs =
           is_joined n (is_applied rs) (arc_of n c) ≡ true
           → 4 * n + longest_hold last.changes + 9 + hops n (is_applied rs) (arc_of n c) + 2 ≤ k
-          → DeliversItsDue (clocks_from begun) (run k begun) (requests_of (run k begun)) c index e
+          → DeliversItsDue (clocks_from begun) (run k begun) (span_requests_of (run k begun)) c index e
 
-      joined_begun : 1 ≤ k → Joined (length begun.ring.ids) (requests_of (run k begun))
+      joined_begun : 1 ≤ k → Joined (length begun.ring.ids) (span_requests_of (run k begun))
       joined_begun some joined enough =
           (laws.ports begun (whole_begun some) form_begun (longest_hold last.changes) held_begun
           (unslipped_all last.changes (after_stretches earlier from) none ready.none)
@@ -322,7 +322,7 @@ module _ (s : Settings) (ids : List ℕ) (circuits : Provisioning) (f : Fibres) 
           → outlet_at left.ring (port_id index e) ≡ (owed_port (length ids) (is_applied requests) (happened now) t index c e).outlet
       joined_owed joined enough =
           let some : 1 ≤ k = omega (arith, enough) in
-          let same : length left.ring.ids ≡ length ids = ap size_of (layout_stretches now from) in
+          let same : length left.ring.ids ≡ length ids = ap positions_of (layout_stretches now from) in
           port_by_history s ids circuits f earlier (stretch last.changes k) t may happens form (many some)
           (omega (arith, size_left, enough)) index c get e (joined_now some joined (omega (arith, enough)))
           ∙ ap (λ n. due_by_clocks n (is_applied requests) c e (clocks_by circuits.circuits now (port_id index (other_end e))) t) same

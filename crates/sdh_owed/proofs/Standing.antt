@@ -36,14 +36,14 @@ use Rattle.sdh_laws.proofs.hearing.Changes.{new_worlds_are_whole, whole_all}
 use Rattle.sdh_laws.proofs.hearing.Requests.{whole_stretches, after_last}
 use Rattle.sdh_laws.proofs.hearing.Staying.{left_all, left_run, left_stretches}
 use Rattle.sdh_laws.proofs.hearing.Steady.{none_wait}
-use Rattle.sdh_laws.specs.Carrying.Windows.{Layout, layout_in, layout_of, size_of}
+use Rattle.sdh_laws.specs.Carrying.Windows.{Layout, layout_in, layout_of, positions_of}
 use Rattle.sdh_laws.proofs.carrying.Settles.{layout_all, layout_stretches}
 use Rattle.sdh_plan.specs.declared.step.Step.{Step}
 use Rattle.sdh_plan.specs.declared.step.Step.TheVariants as step
 use Rattle.sdh_plan.specs.Steps.{Past, after, more_slips, is_settle}
 use Rattle.sdh_plan.specs.Scripts as plan
 use Rattle.sdh_promise.specs.Owed.{IsLast}
-use Rattle.sdh_owed.specs.Steps.{after_step}
+use Rattle.sdh_owed.specs.Steps.{world_after_step}
 use Rattle.sdh_node.specs.Stations.{adm}
 use Rattle.sdh_promise.proofs.Rounds.{rounds_last}
 use Rattle.sdh_owed.specs.Running.{BeginsAtAMultiple}
@@ -108,7 +108,7 @@ few_same c w slips same few port = omega (arith, waits_changed c w port, ap (λ 
 
 -- no more slips wait than `slips` gives after any step but a settle step either
 pub few_after : (this : Step) (past : Past) (w : World) → is_settle this ≡ false → WaitAtMost w past.slips
-    → WaitAtMost (after_step this w) (after past this).slips
+    → WaitAtMost (world_after_step this w) (after past this).slips
 few_after (step.Fibre e) past w other few = few_same (change.Fibre e.at.0 e.side e.condition) w past.slips (λ port. refl) few
 few_after (step.Order p d c) past w other few = few_same (change.Order p.0 d c) w past.slips (λ port. refl) few
 few_after (step.Hold p turns) past w other few = few_same (change.Hold p.0 turns) w past.slips (λ port. refl) few
@@ -155,7 +155,7 @@ module _ (s : Settings) (ids : List ℕ) (circuits : Provisioning) (f : Fibres) 
     layout_is = ap layout_of h.is ∙ layout_all changes (after_stretches earlier from) ∙ layout_stretches earlier from
 
     size : length w.ring.ids ≡ length ids
-    size = ap size_of layout_is
+    size = ap positions_of layout_is
 
     ran : w.ring.rounds ≡ rounds_in earlier
     ran =
@@ -174,9 +174,9 @@ module _ (s : Settings) (ids : List ℕ) (circuits : Provisioning) (f : Fibres) 
 
     -- after any step but a settle step
     pub changed_then : (this : Step) → is_settle this ≡ false → plan.Fits s.rate (length ids) (length circuits.circuits) past this
-        → Stands (after past this) earlier (changes ++ changes_of this) (after_step this w)
+        → Stands (after past this) earlier (changes ++ changes_of this) (world_after_step this w)
     changed_then this other fit = record {
-      is = ap (after_step this) h.is ∙ sym (changed_more changes (changes_of this) (after_stretches earlier from));
+      is = ap (world_after_step this) h.is ∙ sym (changed_more changes (changes_of this) (after_stretches earlier from));
       happened = h.happened;
       since =
           changes_more changes (changes_of this) (after_stretches earlier from) h.since

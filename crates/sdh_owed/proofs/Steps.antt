@@ -25,7 +25,7 @@ use Rattle.sdh_plan.specs.Steps.{Past, new_past, after, is_settle}
 use Rattle.sdh_plan.specs.Scripts.{HasRoom, AreSteps}
 use Rattle.sdh_scripts.specs.Steps.{stepped}
 use Rattle.sdh_scripts.proofs.Plans.{as_planned}
-use Rattle.sdh_owed.specs.Steps.{after_step, past_of}
+use Rattle.sdh_owed.specs.Steps.{world_after_step, past_of}
 use Rattle.sdh_owed.proofs.Standing.{WaitAtMost, few_after}
 use Rattle.sdh_owed.proofs.Known.{no_round}
 use Rattle.sdh_owed.specs.Running.{BeginsAtAMultiple, MayRun}
@@ -161,11 +161,11 @@ alone each before s later r f may =
     (may.steps_fit.0, tt)
 
 -- the past after a step bounds the slips that wait then
-few_now : (before : ℕ) (s : Step) (w : World) → is_settle s ≡ false → WaitAtMost (after_step s w) (after (past_of before w.ring) s).slips
+few_now : (before : ℕ) (s : Step) (w : World) → is_settle s ≡ false → WaitAtMost (world_after_step s w) (after (past_of before w.ring) s).slips
 few_now before s w other = few_after s (past_of before w.ring) w other (λ port. omega arith)
 
 less_changed : (before : ℕ) (s : Step) (w : World) → (s ≡ step.Settle → ⊥)
-    → IsLess (past_of before (after_step s w).ring) (after (past_of before w.ring) s)
+    → IsLess (past_of before (world_after_step s w).ring) (after (past_of before w.ring) s)
 unfolding changed
 less_changed before (step.Fibre e) w other = record {
   moment = refl;
@@ -196,9 +196,9 @@ less_changed before step.Settle w other = absurd (other refl)
 
 fit_changed : (each before : ℕ) (s : Step) (later : List Step) (w : World) → (s ≡ step.Settle → ⊥)
     → MayRun each before (s ∷ later) w.ring w.fibres
-    → AreSteps w.ring.settings.rate (length w.ring.ids) (length w.ring.circuits.circuits) (past_of before (after_step s w).ring) later
+    → AreSteps w.ring.settings.rate (length w.ring.ids) (length w.ring.circuits.circuits) (past_of before (world_after_step s w).ring) later
 fit_changed each before s later w other h =
-    steps_less w.ring.settings.rate (length w.ring.ids) (length w.ring.circuits.circuits) later (past_of before (after_step s w).ring)
+    steps_less w.ring.settings.rate (length w.ring.ids) (length w.ring.circuits.circuits) later (past_of before (world_after_step s w).ring)
     (after (past_of before w.ring) s) (less_changed before s w other) h.steps_fit.1
 
 -- a ring with other nodes at another moment, over fibres that are prepared for it, and steps that fit it
@@ -218,7 +218,7 @@ may_on each before steps later r nodes moment f g h laid fit = record {
 
 changed_may : (each before : ℕ) (s : Step) (later : List Step) (w : World) → (s ≡ step.Settle → ⊥)
     → MayRun each before (s ∷ later) w.ring w.fibres
-    → MayRun each before later (after_step s w).ring (after_step s w).fibres
+    → MayRun each before later (world_after_step s w).ring (world_after_step s w).fibres
 unfolding changed
 changed_may each before (step.Fibre e) later w other h =
     may_on each before (step.Fibre e ∷ later) later w.ring _ _ w.fibres _ h
@@ -238,25 +238,25 @@ changed_may each before (step.Moment m) later w other h =
     (fit_changed each before (step.Moment m) later w other h)
 changed_may each before step.Settle later w other h = absurd (other refl)
 
-pub changed_next : (each before : ℕ) (s : Step) (w left : World) → (s ≡ step.Settle → ⊥) → left ≡ after_step s w
+pub changed_next : (each before : ℕ) (s : Step) (w left : World) → (s ≡ step.Settle → ⊥) → left ≡ world_after_step s w
     → (later : List Step) → MayRun each before (s ∷ later) w.ring w.fibres → MayRun each before later left.ring left.fibres
 changed_next each before s w left other is later h =
     subst (λ (v : World). MayRun each before later v.ring v.fibres) (sym is) (changed_may each before s later w other h)
 
 -- a step leaves the nodes' identifiers and the circuits as they were
-circuits_step : (s : Step) (w : World) → (after_step s w).ring.circuits ≡ w.ring.circuits
+circuits_step : (s : Step) (w : World) → (world_after_step s w).ring.circuits ≡ w.ring.circuits
 unfolding changed
 circuits_step (step.Fibre e) w = refl
 circuits_step s w = refl
 
-pub changed_circuits : (s : Step) (w left : World) → left ≡ after_step s w → left.ring.circuits ≡ w.ring.circuits
+pub changed_circuits : (s : Step) (w left : World) → left ≡ world_after_step s w → left.ring.circuits ≡ w.ring.circuits
 changed_circuits s w left is = ap (λ (v : World). v.ring.circuits) is ∙ circuits_step s w
 
-pub changed_ids : (s : Step) (w left : World) → left ≡ after_step s w → left.ring.ids ≡ w.ring.ids
+pub changed_ids : (s : Step) (w left : World) → left ≡ world_after_step s w → left.ring.ids ≡ w.ring.ids
 changed_ids s w left is = ap (λ (v : World). v.ring.ids) is ∙ no_round.ids s w
 
 -- a step of a script over a ring of add-drop multiplexers makes the changes that it says
-pub stepped_is : (s : Step) (w : World) → stepped adm_changes s w ≡ after_step s w
+pub stepped_is : (s : Step) (w : World) → stepped adm_changes s w ≡ world_after_step s w
 unfolding changed
 stepped_is (step.Fibre e) w = refl
 stepped_is (step.Order at side command) w = refl

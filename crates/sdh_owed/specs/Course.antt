@@ -75,8 +75,8 @@ pub record AreSentAlike (f g : Fibres) : Type 0 where
 -- All frames that were sent, and all that are under way, are those that the rounds of these stretches sent. After a
 -- plant fault two more cases may be: the round after the stretches was broken off, or the plant made no fibres, so that
 -- no round ran.
-abbrev pub HasSent : World → List Stretch → Status → Fibres → Type 0
-HasSent w ss end left =
+abbrev pub StretchesHaveSent : World → List Stretch → Status → Fibres → Type 0
+StretchesHaveSent w ss end left =
     AreSentAlike left (after_stretches ss w).fibres ⊎ ((end ≡ status.PlantFault)
     × (IsBrokenOff (after_stretches ss w) left ⊎ ((ss ≡ []) × HasNoFibres left × (left.sent ≡ w.fibres.sent))))
 
@@ -155,7 +155,7 @@ pub record HasCourse (w : World) (ring : Ring) (limit : ℕ) (steps : List Step)
     (left : Fibres) : Type 0 where
   pub stretches : List Stretch
   pub through : WentThrough ring.nodes limit 0 (scenes [] steps) reports end stretches
-  pub sent : HasSent w stretches end left
+  pub sent : StretchesHaveSent w stretches end left
   pub strangers : NoneEverMeetsAStranger w ring stretches
   pub transit : AllEverComeAfterTransit w ring stretches
   pub recent : NoneEverMeetsOldBytes w ring stretches

@@ -16,7 +16,7 @@ use Rattle.sdh_plan.specs.Scripts.{AreSteps}
 use Rattle.sdh_status.specs.declared.Status.{Status}
 use Rattle.sdh_report.specs.Reports.{Report}
 use Rattle.sdh_promise.specs.Scenes.{scenes}
-use Rattle.sdh_scripts.specs.Outcomes.{IsSettled}
+use Rattle.sdh_scripts.specs.Outcomes.{AllSettled}
 use Rattle.sdh_owed.specs.Scripts.{Runs}
 use Rattle.sdh_promise.specs.Owed.{Ring, AreOwed}
 use Rattle.sdh_owed.specs.Reports.{ports_of}
@@ -40,7 +40,7 @@ ScriptsSettle = (s : Settings) (ids : List ℕ) (circuits : Provisioning) (f : F
     MayStart s ids f → HasCircuits l → (limit : ℕ) (past : Past) (steps : List Step)
     → AreSteps s.rate (length ids) (length circuits.circuits) past steps → enough_for (length ids) ≤ limit
     → (reports : List Report) (end : Status) (left : World) → Runs limit 0 steps (new_world s ids circuits f) reports end left
-    → IsSettled end)
+    → AllSettled end)
 
 -- a script of settle steps alone, from a new ring over new honest fibres, shows a healthy ring
 abbrev pub HealthyScripts : Type 0

@@ -36,8 +36,8 @@ abbrev pub cutting : List Change
 cutting = Fibre 0 East Cut ∷ Fibre 1 West Cut ∷ []
 
 -- a controller misses seven rounds
-abbrev pub holding : List Change
-holding = Hold 2 7 ∷ []
+abbrev pub seven_held : List Change
+seven_held = Hold 2 7 ∷ []
 
 abbrev pub ring_of_three : Ring
 ring_of_three = ring_by settings (length three) one_circuit.circuits
@@ -64,7 +64,7 @@ pub record ComesRound (f : Fibres) : Type 0 where
 pub record ThreeAreOwed (f : Fibres) : Type 0 where
   pub slips : IsOwedBehind f slipping 85
   pub cut : IsOwedBehind f cutting 28
-  pub hold : IsOwedBehind f holding 35
+  pub hold : IsOwedBehind f seven_held 35
   pub round : ComesRound f
 
 abbrev pub ThreeAreOwedSoon : Type 0

@@ -8,11 +8,11 @@ use Rattle.sdh_status.specs.declared.Status.{Status}
 use Rattle.sdh_report.specs.Reports.{Report}
 use Rattle.sdh_scripts.specs.Walks.{Walk, reporting}
 use Rattle.sdh_scripts.specs.Scripts as scripts
-use Rattle.sdh_owed.specs.Steps.{after_step}
+use Rattle.sdh_owed.specs.Steps.{world_after_step}
 use Rattle.sdh_owed.specs.Reports.{report_of}
 
 abbrev pub adm_walk : Walk Node Report
-adm_walk = reporting adm after_step report_of
+adm_walk = reporting adm world_after_step report_of
 
 -- A script from a world on, where each settle step may run at most this number of rounds, and this number of settle
 -- steps have ended before. The steps give these reports, end so, and leave that world.

@@ -8,8 +8,8 @@ use Rattle.sdh_plan.specs.declared.step.Step.{Step}
 use Rattle.sdh_plan.specs.Steps.{Past}
 use Rattle.sdh_promise.specs.Scenes.{changes_of}
 
-abbrev pub after_step : Step → World → World
-after_step s w = all_changed (changes_of s) w
+abbrev pub world_after_step : Step → World → World
+world_after_step s w = all_changed (changes_of s) w
 
 -- what the script has led to so far: the ring's moment, the number of settle steps, and the slips that wait at its
 -- ports

@@ -19,7 +19,7 @@ use Rattle.sdh_plan.specs.declared.reason.Reason.TheVariants as reason
 use Rattle.sdh_plan.specs.Verbs as verb
 use Rattle.sdh_plan.specs.Check.{Check, Refusal, Fault, answer, checks_at_place, first_fault}
 use Rattle.sdh_plan.specs.Document.{string_of, elements_in, is_array_of, is_string}
-use Rattle.sdh_plan.specs.Plans.{whole, last_check, texts_checks, is_script_length, script_checks}
+use Rattle.sdh_plan.specs.Plans.{check_of_document, last_check, texts_checks, is_script_length, script_checks}
 use Rattle.sdh_plan.specs.Words.{words, numeral_in, is_number, decimal_from}
 use Rattle.sdh_plan.specs.Verbs.{Verb, verb_of, Part, node, side, number, parts_of}
 use Rattle.sdh_plan.specs.Steps.{Past, node_identified, side_at, part_faults, position_in_words, number_in_word, word_at, verb_faults}
@@ -286,7 +286,7 @@ unfolding script_checks
 script_fits ms rate nodes circuits n steps h e made =
     let ds : List Data = elements_in (codes "script") ms in
     let first : (not (is_array_of is_string (codes "script") ms) ≡ false)
-    × (answer (whole reason.ScriptLength (not (is_script_length (length ds))) ∷ texts_checks n nodes circuits ds) ≡ None) =
+    × (answer (check_of_document reason.ScriptLength (not (is_script_length (length ds))) ∷ texts_checks n nodes circuits ds) ≡ None) =
     check_none _ _ _ e in
     let second : (not (is_script_length (length ds)) ≡ false) × (answer (texts_checks n nodes circuits ds) ≡ None) =
     check_none _ _ _ first.1 in

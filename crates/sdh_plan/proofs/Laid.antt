@@ -20,7 +20,7 @@ use Rattle.sdh_ringmap.proofs.Around.{eastwards-place, eastwards_self}
 use Rattle.sdh_circuits.specs.Provisioned.{Provisioned, arc_of}
 use Rattle.sdh_circuits.specs.Provisioning.{Provisioning}
 use Rattle.sdh_circuits.specs.Naming.{is_name}
-use Rattle.sdh_circuits.specs.Checks.{Wish, circuit_of, do_share, is_within, node_of, position_of_node, checks, refusal, with_circuit}
+use Rattle.sdh_circuits.specs.Checks.{Wish, circuit_of, do_share, is_within, node_of, position_of_node, wish_checks, refusal, with_circuit}
 use Rattle.sdh_circuits.specs.declared.AddError.{AddError}
 use Rattle.sdh_circuits.specs.declared.AddError.TheVariants as refused
 use Rattle.sdh_circuits.proofs.Shares.{not_both}
@@ -193,7 +193,7 @@ two_ends l is some =
 pub not_refused : (slot : ℕ) (l : Laying) (p : Provisioning) → p.slots ≡ 2 → 1 ≤ slot → slot ≤ 2 → IsLaying l → 0 < l.left
     → All (IsLaid slot l) p.circuits
     → refusal p big_nodes (wish_laid slot l.number l.at (spans_of l) (next l.state)) ≡ None
-unfolding refusal checks
+unfolding refusal wish_checks
 not_refused slot l p two low high is some were =
     let form = name_passes is_formed slot l.number all_formed low high is.from_1 (omega (arith, is.few)) in
     let name = name_in slot l.number in

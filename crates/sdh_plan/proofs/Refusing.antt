@@ -4,7 +4,7 @@ use Rattle.std.proofs.Common.{◌∙◌}
 use Rattle.std.specs.Option.{option_and_then}
 use Rattle.sdh_circuits.specs.Provisioned.{Provisioned}
 use Rattle.sdh_circuits.specs.Provisioning.{Provisioning}
-use Rattle.sdh_circuits.specs.Checks.{Wish, checks, refusal}
+use Rattle.sdh_circuits.specs.Checks.{Wish, wish_checks, refusal}
 use Rattle.sdh_circuits.specs.declared.AddError.{AddError}
 use Rattle.sdh_circuits.specs.declared.AddError.TheVariants as refused
 use Rattle.sdh_plan.specs.declared.reason.Reason.TheVariants as reason
@@ -34,7 +34,7 @@ eight true true true true true true true true = refl
 
 pub same_checks : (p : Provisioning) (nodes : List ℕ) (wish : Wish)
     → first_fault (wish_faults p.slots nodes p.circuits wish) ≡ option_and_then reason_of (refusal p nodes wish)
-unfolding wish_faults refusal checks
+unfolding wish_faults refusal wish_checks
 same_checks p nodes wish = eight _ _ _ _ _ _ _ _
 
 -- a circuit is refused for its first check that fails, and because memory ran out only where no check fails

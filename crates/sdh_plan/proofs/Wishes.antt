@@ -5,7 +5,7 @@ use Rattle.toml.specs.Data.{Members}
 use Rattle.sdh_circuits.specs.Checks.{Wish}
 use Rattle.sdh_plan.specs.Document.{◌>>=◌, integer_at, text_at}
 use Rattle.sdh_plan.specs.Circuits.{wish_in, text_or, integer_or_0}
-use Rattle.sdh_plan.specs.Wishes.{way_in, texts_in, traces_in, offsets_in}
+use Rattle.sdh_plan.specs.Wishes.{way_in, both_texts, traces_in, offsets_in}
 
 -- what is asked for
 abbrev asked : List ℕ → ℤ → ℤ → ℤ → List ℕ → List ℕ → List ℕ → List ℕ → ℤ → ℤ → Wish
@@ -53,8 +53,8 @@ unfolding wish_in
 without_name ms e = rw e refl
 
 pub with_name : (ms : Members) (name : List ℕ) → text_at (codes "name") ms ≡ Some name
-    → wish_in ms ≡ parted name (way_in ms) (texts_in ms) (traces_in name ms) (offsets_in ms)
-unfolding wish_in way_in texts_in traces_in offsets_in
+    → wish_in ms ≡ parted name (way_in ms) (both_texts ms) (traces_in name ms) (offsets_in ms)
+unfolding wish_in way_in both_texts traces_in offsets_in
 with_name ms name e =
     rw e (behind_name name (integer_at (codes "from") ms) (integer_at (codes "to") ms) (integer_at (codes "slot") ms)
     (text_at (codes "text_a") ms) (text_at (codes "text_b") ms)
@@ -67,22 +67,22 @@ pub without_way : (ms : Members) (name : List ℕ) → text_at (codes "name") ms
 without_way ms name n e = rw (with_name ms name n, e) refl
 
 pub without_texts : (ms : Members) (name : List ℕ) (way : (ℤ × ℤ) × ℤ)
-    → text_at (codes "name") ms ≡ Some name → way_in ms ≡ Some way → texts_in ms ≡ None → wish_in ms ≡ None
+    → text_at (codes "name") ms ≡ Some name → way_in ms ≡ Some way → both_texts ms ≡ None → wish_in ms ≡ None
 without_texts ms name way n w e = rw (with_name ms name n, w, e) refl
 
 pub without_traces : (ms : Members) (name : List ℕ) (way : (ℤ × ℤ) × ℤ) (texts : List ℕ × List ℕ)
-    → text_at (codes "name") ms ≡ Some name → way_in ms ≡ Some way → texts_in ms ≡ Some texts → traces_in name ms ≡ None
+    → text_at (codes "name") ms ≡ Some name → way_in ms ≡ Some way → both_texts ms ≡ Some texts → traces_in name ms ≡ None
     → wish_in ms ≡ None
 without_traces ms name way texts n w t e = rw (with_name ms name n, w, t, e) refl
 
 pub without_offsets : (ms : Members) (name : List ℕ) (way : (ℤ × ℤ) × ℤ) (texts traces : List ℕ × List ℕ)
-    → text_at (codes "name") ms ≡ Some name → way_in ms ≡ Some way → texts_in ms ≡ Some texts
+    → text_at (codes "name") ms ≡ Some name → way_in ms ≡ Some way → both_texts ms ≡ Some texts
     → traces_in name ms ≡ Some traces → offsets_in ms ≡ None → wish_in ms ≡ None
 without_offsets ms name way texts traces n w t r e = rw (with_name ms name n, w, t, r, e) refl
 
 -- what a table with all parts asks for
 pub with_all : (ms : Members) (name : List ℕ) (way : (ℤ × ℤ) × ℤ) (texts traces : List ℕ × List ℕ) (offsets : ℤ × ℤ)
-    → text_at (codes "name") ms ≡ Some name → way_in ms ≡ Some way → texts_in ms ≡ Some texts
+    → text_at (codes "name") ms ≡ Some name → way_in ms ≡ Some way → both_texts ms ≡ Some texts
     → traces_in name ms ≡ Some traces → offsets_in ms ≡ Some offsets
     → wish_in ms ≡ Some (asked name way.0.0 way.0.1 way.1 texts.0 texts.1 traces.0 traces.1 offsets.0 offsets.1)
 with_all ms name way texts traces offsets n w t r o = rw (with_name ms name n, w, t, r, o) refl

@@ -30,12 +30,12 @@ keys_of no_members = []
 keys_of (member k d ms) = k ∷ keys_of ms
 
 -- the key is one of these
-unfoldable pub is_among : List (List ℕ) → List ℕ → Bool
-is_among keys key = list_any (λ known. bytes_eq key known) keys
+unfoldable pub is_one_of_keys : List (List ℕ) → List ℕ → Bool
+is_one_of_keys keys key = list_any (λ known. bytes_eq key known) keys
 
 -- the table has no key but these
 unfoldable pub has_only : List (List ℕ) → Members → Bool
-has_only keys ms = list_all (is_among keys) (keys_of ms)
+has_only keys ms = list_all (is_one_of_keys keys) (keys_of ms)
 
 -- the number, where it is from low to high
 abbrev pub number_in : ℕ → ℕ → ℤ → Option ℕ

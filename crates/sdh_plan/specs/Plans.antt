@@ -59,8 +59,8 @@ abbrev pub steps_in : Members → List Step
 steps_in ms = map (λ d. step_of (n_in ms) (nodes_in ms) (circuits_in (nodes_in ms) ms) (string_of d)) (elements_in (codes "script") ms)
 
 -- a check of the document
-abbrev pub whole : Reason → Bool → Check
-whole reason fails = record { reason = reason; place = 0; fails = fails }
+abbrev pub check_of_document : Reason → Bool → Check
+check_of_document reason fails = record { reason = reason; place = 0; fails = fails }
 
 -- a check that fails where `at` is there: the place, counted from 0, of the first node that breaks a rule
 abbrev pub first_node : Reason → Option ℕ → Check
@@ -69,7 +69,7 @@ first_node reason at = record { reason = reason; place = option_map_or (λ i. i 
 -- the checks of the identifiers
 unfoldable pub number_checks : List ℤ → List Check
 number_checks numbers =
-    whole reason.NodeCount (not (is_ring_size (length numbers)))
+    check_of_document reason.NodeCount (not (is_ring_size (length numbers)))
     ∷ first_node reason.NodeId (first_unfit numbers)
     ∷ first_node reason.Repeat (first_repeat numbers)
     ∷ []
@@ -77,23 +77,23 @@ number_checks numbers =
 -- the checks of the keys, the rate and the nodes
 unfoldable pub ring_checks : Members → List Check
 ring_checks ms =
-    whole reason.UnknownKey (not (has_only document_keys ms))
-    ∷ whole reason.Rate (is_none (rate_at ms))
-    ∷ whole reason.Nodes (not (is_array_of is_integer (codes "nodes") ms))
+    check_of_document reason.UnknownKey (not (has_only document_keys ms))
+    ∷ check_of_document reason.Rate (is_none (rate_at ms))
+    ∷ check_of_document reason.Nodes (not (is_array_of is_integer (codes "nodes") ms))
     ∷ number_checks (numbers_in ms)
 
 -- the checks of the other numbers
 unfoldable pub settings_checks : ℕ → Members → List Check
 settings_checks n ms =
-    whole reason.Threshold (is_none (threshold_at n ms))
-    ∷ whole reason.Wait (is_none (wait_at ms))
-    ∷ whole reason.Limit (is_none (limit_at ms))
+    check_of_document reason.Threshold (is_none (threshold_at n ms))
+    ∷ check_of_document reason.Wait (is_none (wait_at ms))
+    ∷ check_of_document reason.Limit (is_none (limit_at ms))
     ∷ []
 
 -- the checks of the circuits, in a ring of these nodes at STM-n
 unfoldable pub provision_checks : ℕ → List ℕ → Members → List Check
 provision_checks n nodes ms =
-    whole reason.Circuits (is_some (get_member (codes "circuit") ms) && not (is_array_of is_table (codes "circuit") ms))
+    check_of_document reason.Circuits (is_some (get_member (codes "circuit") ms) && not (is_array_of is_table (codes "circuit") ms))
     ∷ circuits_checks (n / 2) nodes [] 1 (elements_in (codes "circuit") ms)
 
 -- the check of the last step
@@ -112,8 +112,8 @@ is_script_length k = nat_le 1 k && nat_le k 1000
 -- the checks of the script, in a ring of these nodes and circuits at STM-n
 unfoldable pub script_checks : ℕ → List ℕ → List Provisioned → Members → List Check
 script_checks n nodes circuits ms =
-    whole reason.Script (not (is_array_of is_string (codes "script") ms))
-    ∷ whole reason.ScriptLength (not (is_script_length (length (elements_in (codes "script") ms))))
+    check_of_document reason.Script (not (is_array_of is_string (codes "script") ms))
+    ∷ check_of_document reason.ScriptLength (not (is_script_length (length (elements_in (codes "script") ms))))
     ∷ texts_checks n nodes circuits (elements_in (codes "script") ms)
 
 -- all checks of a document, in their order

@@ -193,13 +193,13 @@ after past (step.Moment m) = record past { moment = m.0 }
 after past step.Settle = record past { settles = past.settles + 1; slips = λ port. 0 }
 
 -- the step sets a moment below that one
-abbrev pub is_back : ℕ → Step → Bool
-is_back moment (step.Fibre event) = false
-is_back moment (step.Order at on c) = false
-is_back moment (step.Hold at turns) = false
-is_back moment (step.Slip port turn count) = false
-is_back moment (step.Moment m) = nat_lt m.0 moment
-is_back moment step.Settle = false
+abbrev pub sets_moment_back : ℕ → Step → Bool
+sets_moment_back moment (step.Fibre event) = false
+sets_moment_back moment (step.Order at on c) = false
+sets_moment_back moment (step.Hold at turns) = false
+sets_moment_back moment (step.Slip port turn count) = false
+sets_moment_back moment (step.Moment m) = nat_lt m.0 moment
+sets_moment_back moment step.Settle = false
 
 -- the step runs rounds
 abbrev pub is_settle : Step → Bool
@@ -226,7 +226,7 @@ ends_settled steps = option_map_or is_settle (slice_get steps (length steps - 1)
 -- the checks of a step against what the script has led to
 unfoldable pub past_faults : Past → Step → List Fault
 past_faults past this =
-    (reason.MomentBack, is_back past.moment this)
+    (reason.MomentBack, sets_moment_back past.moment this)
     ∷ (reason.Slips, is_too_many past.slips this)
     ∷ (reason.Settles, is_settle this && nat_le 64 past.settles)
     ∷ []

@@ -11,8 +11,8 @@ way_in ms =
     option_zip (option_zip (integer_at (codes "from") ms) (integer_at (codes "to") ms)) (integer_at (codes "slot") ms)
 
 -- the texts of both ends
-unfoldable pub texts_in : Members → Option (List ℕ × List ℕ)
-texts_in ms = option_zip (text_at (codes "text_a") ms) (text_at (codes "text_b") ms)
+unfoldable pub both_texts : Members → Option (List ℕ × List ℕ)
+both_texts ms = option_zip (text_at (codes "text_a") ms) (text_at (codes "text_b") ms)
 
 -- the traces of both ends; a missing one is the name
 unfoldable pub traces_in : List ℕ → Members → Option (List ℕ × List ℕ)

@@ -8,10 +8,10 @@ ghost use Rattle.sdh_ringmap.specs.Rates.{n_of};
 ghost use Rattle.sdh_plan.specs.Plans.{circuits_in, provision_checks};
 ghost use Rattle.sdh_circuits.specs.Checks.{wish_of, with_circuit};
 ghost use Rattle.sdh_plan.specs.Check.{answer, first_fault};
-ghost use Rattle.sdh_plan.specs.Document.{is_among, has_only, is_table, elements};
+ghost use Rattle.sdh_plan.specs.Document.{is_one_of_keys, has_only, is_table, elements};
 ghost use Rattle.sdh_plan.specs.Circuits.{circuit_keys, wish_in, text_or, integer_or_0, circuit_of_table, circuit_faults, circuits_checks};
 ghost use Rattle.sdh_plan.specs.Circuits.{members_of, provisioned};
-ghost use Rattle.sdh_plan.specs.Wishes.{way_in, texts_in, traces_in, offsets_in};
+ghost use Rattle.sdh_plan.specs.Wishes.{way_in, both_texts, traces_in, offsets_in};
 ghost use Rattle.sdh_plan.specs.Refusals.{IsRefused, refusal_at, reason_of};
 
 use crate::check_error::{CheckError, of_document};
@@ -24,9 +24,9 @@ use toml::value::Array;
 use toml::{Table, Value};
 
 // Returns whether a circuit may have the key.
-#[tactic(auto, unfolding(crate::specs::Document::is_among))]
+#[tactic(auto, unfolding(crate::specs::Document::is_one_of_keys))]
 fn is_circuit_key(key: &str) -> bool
-    ensures { result ≡ is_among circuit_keys key.now }
+    ensures { result ≡ is_one_of_keys circuit_keys key.now }
 {
     let known = is_text(key, "name") || is_text(key, "from") || is_text(key, "to");
     let known = known || is_text(key, "slot") || is_text(key, "text_a") || is_text(key, "text_b");
@@ -36,7 +36,7 @@ fn is_circuit_key(key: &str) -> bool
 
 // Returns whether a circuit may have all the keys.
 fn has_circuit_keys(table: &Table) -> bool
-    ensures { result ≡ list_all (λ key. is_among circuit_keys (string_bytes key)) (keys table.now) }
+    ensures { result ≡ list_all (λ key. is_one_of_keys circuit_keys (string_bytes key)) (keys table.now) }
 {
     table.keys().all(|key| is_circuit_key(key.as_str()))
 }
@@ -71,9 +71,9 @@ fn way_under(table: &Table) -> Option<((i64, i64), i64)>
 }
 
 // Returns both texts, where each is there and a string.
-#[tactic(auto, unfolding(crate::specs::Wishes::texts_in))]
+#[tactic(auto, unfolding(crate::specs::Wishes::both_texts))]
 fn texts_under<'a>(table: &'a Table) -> Option<(&'a str, &'a str)>
-    ensures { option_map (λ both. (both.0.now, both.1.now)) result ≡ texts_in (table_view table.now) }
+    ensures { option_map (λ both. (both.0.now, both.1.now)) result ≡ both_texts (table_view table.now) }
 {
     text_under(table, "text_a").zip(text_under(table, "text_b"))
 }

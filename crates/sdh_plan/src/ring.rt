@@ -6,7 +6,7 @@ ghost use Rattle.toml.specs.View.{view, table_view};
 ghost use Rattle.sdh_ringmap.specs.Numbering.{magnitude};
 ghost use Rattle.sdh_ringmap.specs.Rates.{n_of};
 ghost use Rattle.sdh_plan.specs.Check.{answer};
-ghost use Rattle.sdh_plan.specs.Document.{is_among, has_only, is_integer, integer_of};
+ghost use Rattle.sdh_plan.specs.Document.{is_one_of_keys, has_only, is_integer, integer_of};
 ghost use Rattle.sdh_plan.specs.Plans.{document_keys, rate_at, rate_in, nodes_in, threshold_at, wait_at, limit_at, number_checks};
 ghost use Rattle.sdh_plan.specs.Plans.{ring_checks, settings_checks};
 ghost use Rattle.sdh_plan.specs.Refusals.{IsRefused};
@@ -20,9 +20,9 @@ use sdh_ringmap::{MapError, Rate, RingMap};
 use toml::{Table, Value};
 
 // Returns whether a document may have the key.
-#[tactic(auto, unfolding(crate::specs::Document::is_among))]
+#[tactic(auto, unfolding(crate::specs::Document::is_one_of_keys))]
 fn is_document_key(key: &str) -> bool
-    ensures { result ≡ is_among document_keys key.now }
+    ensures { result ≡ is_one_of_keys document_keys key.now }
 {
     let known = is_text(key, "rate") || is_text(key, "nodes") || is_text(key, "threshold");
     let known = known || is_text(key, "wait") || is_text(key, "limit");
@@ -31,7 +31,7 @@ fn is_document_key(key: &str) -> bool
 
 // Returns whether a document may have all the keys.
 fn has_document_keys(table: &Table) -> bool
-    ensures { result ≡ list_all (λ key. is_among document_keys (string_bytes key)) (keys table.now) }
+    ensures { result ≡ list_all (λ key. is_one_of_keys document_keys (string_bytes key)) (keys table.now) }
 {
     table.keys().all(|key| is_document_key(key.as_str()))
 }

@@ -9,7 +9,7 @@ use Rattle.sdh_pointer.specs.declared.reading.Event.{Event}
 use Rattle.sdh_pointer.specs.declared.reading.Event.TheVariants as event
 use Rattle.sdh_pointer.specs.Words.{is_normal, is_enabled, value_in, one_up, one_down}
 use Rattle.sdh_pointer.specs.Reading.{start, is_norm, goes_up, goes_down, normal_event, event_of, event_value, after_in, action_in}
-use Rattle.sdh_pointer.specs.Reading.{after_event, action_on_event, after_word, action_on, reading_row_of, reading_table, settled, with_ais}
+use Rattle.sdh_pointer.specs.Reading.{after_event, action_on_event, after_word, action_on, reading_row_of, reading_table, nothing_counted, with_ais}
 use Rattle.sdh_pointer.specs.Reading.{with_bad, with_new, news_with, later, IsBounded}
 use Rattle.sdh_pointer.specs.Laws.{is_ais_action}
 use Rattle.sdh_pointer.proofs.Rows.{can_come, comes}
@@ -52,7 +52,7 @@ fits r w =
 
 -- ---- bounds
 
-bounded_settled : (m : Mode) (v s : ℕ) → v ≤ 782 → s ≤ 3 → IsBounded (settled m v s)
+bounded_settled : (m : Mode) (v s : ℕ) → v ≤ 782 → s ≤ 3 → IsBounded (nothing_counted m v s)
 bounded_settled m v s h k = record {
   value = h;
   ais = omega arith;

@@ -7,7 +7,7 @@ use Rattle.sdh_pointer.specs.declared.reading.Mode.TheVariants as mode
 use Rattle.sdh_pointer.specs.declared.reading.Action.TheVariants as action
 use Rattle.sdh_pointer.specs.declared.word.Form.TheVariants as form
 use Rattle.sdh_pointer.specs.Words.{is_normal, is_enabled, value_in, word_of}
-use Rattle.sdh_pointer.specs.Reading.{after_word, action_on, settled, is_norm}
+use Rattle.sdh_pointer.specs.Reading.{after_word, action_on, nothing_counted, is_norm}
 use Rattle.sdh_pointer.specs.Repeated.{after_rounds}
 use Rattle.sdh_pointer.specs.Laws.{enabled_end, is_ais_action, IsSound, InputsLast, ComesToRest, RepeatedWordsRest}
 use Rattle.sdh_pointer.proofs.Bounds.{answer_tells_mode}
@@ -53,21 +53,21 @@ module _ (w : ℕ) (r : Reading) where
   rests_out last ends out = rests last ends (sound_out last w (kept_by last ends) out)
 
   rests_normal : is_normal w ≡ true → value_in w ≤ 782 → ComesToRest w r
-  rests_normal normal small = rests (settled mode.Norm (value_in w) 3) (λ k h. normal_word_settles r w k normal small h) (λ e. small)
+  rests_normal normal small = rests (nothing_counted mode.Norm (value_in w) 3) (λ k h. normal_word_settles r w k normal small h) (λ e. small)
 
   rests_enabled : (m : Mode) → r.mode ≡ m → is_enabled w ≡ true → value_in w ≤ 782 → ComesToRest w r
   rests_enabled mode.Norm is enabled small =
-      rests (settled mode.Norm (value_in w) 0) (λ k h. enabled_word_settles r w k enabled small (omega arith)
+      rests (nothing_counted mode.Norm (value_in w) 0) (λ k h. enabled_word_settles r w k enabled small (omega arith)
       ∙ ap (λ m. enabled_end m r.value (value_in w)) is) (λ e. small)
   rests_enabled mode.Ais is enabled small =
-      rests (settled mode.Norm (value_in w) 0) (λ k h. enabled_word_settles r w k enabled small (omega arith)
+      rests (nothing_counted mode.Norm (value_in w) 0) (λ k h. enabled_word_settles r w k enabled small (omega arith)
       ∙ ap (λ m. enabled_end m r.value (value_in w)) is) (λ e. small)
   rests_enabled mode.Lop is enabled small =
-      rests_out (settled mode.Lop r.value 0) (λ k h. enabled_word_settles r w k enabled small (omega arith)
+      rests_out (nothing_counted mode.Lop r.value 0) (λ k h. enabled_word_settles r w k enabled small (omega arith)
       ∙ ap (λ m. enabled_end m r.value (value_in w)) is) refl
 
   rests_ais : w ≡ 65535 → ComesToRest w r
-  rests_ais is = rests_out (settled mode.Ais r.value 0) (λ k h. ap (λ z. after_rounds k z r) is ∙ ais_settles r k (omega arith)) refl
+  rests_ais is = rests_out (nothing_counted mode.Ais r.value 0) (λ k h. ap (λ z. after_rounds k z r) is ∙ ais_settles r k (omega arith)) refl
 
 -- a new value for ever
 rests_new : (v : ℕ) → v ≤ 782 → (r : Reading) → ComesToRest (word_of form.Enabled v) r

@@ -14,7 +14,7 @@ use Rattle.sdh_pointer.specs.declared.word.Form.TheVariants as form
 use Rattle.sdh_pointer.specs.Words.{is_normal, is_enabled, value_in, one_up, one_down}
 use Rattle.sdh_pointer.specs.Reading.{is_norm, normal_event, event_of, after_in, action_in, after_event}
 use Rattle.sdh_pointer.specs.Reading.{action_on_event, after_word, action_on, reading_row_of, is_row_of, reading_table, after_row}
-use Rattle.sdh_pointer.specs.Reading.{action_row, settled, with_ais, with_new, news_with, later, is_same, is_up, is_down}
+use Rattle.sdh_pointer.specs.Reading.{action_row, nothing_counted, with_ais, with_new, news_with, later, is_same, is_up, is_down}
 use Rattle.sdh_pointer.specs.Reading.{ReadingRow}
 use Rattle.sdh_pointer.specs.Sending.{is_kept, is_raised, is_lowered, is_other, of_state, of_input, sends, sending_row, sending_row_of}
 use Rattle.sdh_pointer.specs.Sending.{sending_table, form_sent, value_sent, word_sent, next_sending}
@@ -22,57 +22,57 @@ use Rattle.sdh_pointer.specs.Laws.{HasRow, HasSendingRow}
 
 -- ---- the rows of mode Norm
 
-pub norm_same : (r : Reading) → after_in mode.Norm event.Same r ≡ settled mode.Norm r.value (later r.since)
+pub norm_same : (r : Reading) → after_in mode.Norm event.Same r ≡ nothing_counted mode.Norm r.value (later r.since)
 unfolding after_in reading_row_of reading_table
 norm_same r = refl
 
-pub norm_ndf : (r : Reading) (v : ℕ) → after_in mode.Norm (event.Ndf v) r ≡ settled mode.Norm v 0
+pub norm_ndf : (r : Reading) (v : ℕ) → after_in mode.Norm (event.Ndf v) r ≡ nothing_counted mode.Norm v 0
 unfolding after_in reading_row_of reading_table
 norm_ndf r v = refl
 
-pub norm_up : (r : Reading) → after_in mode.Norm event.Up r ≡ settled mode.Norm (one_up r.value) 0
+pub norm_up : (r : Reading) → after_in mode.Norm event.Up r ≡ nothing_counted mode.Norm (one_up r.value) 0
 unfolding after_in reading_row_of reading_table
 norm_up r = refl
 
-pub norm_down : (r : Reading) → after_in mode.Norm event.Down r ≡ settled mode.Norm (one_down r.value) 0
+pub norm_down : (r : Reading) → after_in mode.Norm event.Down r ≡ nothing_counted mode.Norm (one_down r.value) 0
 unfolding after_in reading_row_of reading_table
 norm_down r = refl
 
 pub norm_new : (r : Reading) (v : ℕ) → after_in mode.Norm (event.New v) r
-    ≡ (if nat_le 3 (news_with r v) then settled mode.Norm v (later r.since) else with_new r v (later r.since))
+    ≡ (if nat_le 3 (news_with r v) then nothing_counted mode.Norm v (later r.since) else with_new r v (later r.since))
 unfolding after_in reading_row_of reading_table
 norm_new r v = refl
 
 pub norm_ais : (r : Reading) → after_in mode.Norm event.Ais r
-    ≡ (if nat_le 3 (r.ais + 1) then settled mode.Ais r.value 0 else with_ais r (later r.since))
+    ≡ (if nat_le 3 (r.ais + 1) then nothing_counted mode.Ais r.value 0 else with_ais r (later r.since))
 unfolding after_in reading_row_of reading_table
 norm_ais r = refl
 
 -- ---- those of modes Ais and Lop
 
-pub ais_ais : (r : Reading) → after_in mode.Ais event.Ais r ≡ settled mode.Ais r.value 0
+pub ais_ais : (r : Reading) → after_in mode.Ais event.Ais r ≡ nothing_counted mode.Ais r.value 0
 unfolding after_in reading_row_of reading_table
 ais_ais r = let one : leb 1 (r.ais + 1) ≡ true = le-leb _ _ (omega arith) in rw one refl
 
-pub ais_ndf : (r : Reading) (v : ℕ) → after_in mode.Ais (event.Ndf v) r ≡ settled mode.Norm v 0
+pub ais_ndf : (r : Reading) (v : ℕ) → after_in mode.Ais (event.Ndf v) r ≡ nothing_counted mode.Norm v 0
 unfolding after_in reading_row_of reading_table
 ais_ndf r v = refl
 
 pub ais_new : (r : Reading) (v : ℕ) → after_in mode.Ais (event.New v) r
-    ≡ (if nat_le 3 (news_with r v) then settled mode.Norm v 0 else with_new r v 0)
+    ≡ (if nat_le 3 (news_with r v) then nothing_counted mode.Norm v 0 else with_new r v 0)
 unfolding after_in reading_row_of reading_table
 ais_new r v = refl
 
-pub lop_ais : (r : Reading) → after_in mode.Lop event.Ais r ≡ (if nat_le 3 (r.ais + 1) then settled mode.Ais r.value 0 else with_ais r 0)
+pub lop_ais : (r : Reading) → after_in mode.Lop event.Ais r ≡ (if nat_le 3 (r.ais + 1) then nothing_counted mode.Ais r.value 0 else with_ais r 0)
 unfolding after_in reading_row_of reading_table
 lop_ais r = refl
 
-pub lop_ndf : (r : Reading) (v : ℕ) → after_in mode.Lop (event.Ndf v) r ≡ settled mode.Lop r.value 0
+pub lop_ndf : (r : Reading) (v : ℕ) → after_in mode.Lop (event.Ndf v) r ≡ nothing_counted mode.Lop r.value 0
 unfolding after_in reading_row_of reading_table
 lop_ndf r v = refl
 
 pub lop_new : (r : Reading) (v : ℕ) → after_in mode.Lop (event.New v) r
-    ≡ (if nat_le 3 (news_with r v) then settled mode.Norm v 0 else with_new r v 0)
+    ≡ (if nat_le 3 (news_with r v) then nothing_counted mode.Norm v 0 else with_new r v 0)
 unfolding after_in reading_row_of reading_table
 lop_new r v = refl
 

@@ -10,7 +10,7 @@ use Rattle.sdh_pointer.specs.declared.reading.Event.TheVariants as event
 use Rattle.sdh_pointer.specs.declared.reading.Action.TheVariants as action
 use Rattle.sdh_pointer.specs.Words.{is_normal, is_enabled, value_in, one_up, one_down}
 use Rattle.sdh_pointer.specs.Reading.{normal_event, event_of, is_norm, goes_up, goes_down, after_in, action_in, after_event, after_word}
-use Rattle.sdh_pointer.specs.Reading.{action_on, action_on_event, settled, with_new, with_ais, news_with, later}
+use Rattle.sdh_pointer.specs.Reading.{action_on, action_on_event, nothing_counted, with_new, with_ais, news_with, later}
 use Rattle.sdh_pointer.specs.Repeated.{after_rounds}
 use Rattle.sdh_pointer.specs.Laws.{enabled_end}
 use Rattle.sdh_pointer.proofs.Forms.{of_normal_word, of_enabled_word, of_ones, same_event, new_outside, new_early, new_neither, up_event}
@@ -62,42 +62,42 @@ module _ (w v : ℕ) (normal : is_normal w ≡ true) (carries : value_in w ≡ v
   reads m r e norm is = by_event r w m e norm (of_normal_word r w normal ∙ ap (normal_event r) carries ∙ is)
 
   -- a value that is v
-  pub same : (r : Reading) → r.mode ≡ mode.Norm → r.value ≡ v → after_word r w ≡ settled mode.Norm v (later r.since)
+  pub same : (r : Reading) → r.mode ≡ mode.Norm → r.value ≡ v → after_word r w ≡ nothing_counted mode.Norm v (later r.since)
   same r norm at =
-      reads mode.Norm r event.Same norm (same_event r v norm at) ∙ norm_same r ∙ ap (λ x. settled mode.Norm x (later r.since)) at
+      reads mode.Norm r event.Same norm (same_event r v norm at) ∙ norm_same r ∙ ap (λ x. nothing_counted mode.Norm x (later r.since)) at
 
   pub same_action : (r : Reading) → r.mode ≡ mode.Norm → r.value ≡ v → action_on r w ≡ action.Normal
   same_action r norm at =
       action_by_event r w mode.Norm event.Same norm (of_normal_word r w normal ∙ ap (normal_event r) carries ∙ same_event r v norm at)
       ∙ norm_same_action r
 
-  pub stays : after_word (settled mode.Norm v 3) w ≡ settled mode.Norm v 3
-  stays = same (settled mode.Norm v 3) refl refl
+  pub stays : after_word (nothing_counted mode.Norm v 3) w ≡ nothing_counted mode.Norm v 3
+  stays = same (nothing_counted mode.Norm v 3) refl refl
 
   module _ (small : v ≤ 782) where
     -- within k rounds all is settled at v
     abbrev Within : ℕ → Reading → Type 0
-    Within k r = after_rounds k w r ≡ settled mode.Norm v 3
+    Within k r = after_rounds k w r ≡ nothing_counted mode.Norm v 3
 
     -- one round
     step : (k : ℕ) (r s : Reading) → after_word r w ≡ s → Within k s → Within (suc k) r
     step k r s e h = ap (after_rounds k w) e ∙ h
 
     longer : (n k : ℕ) (r : Reading) → n ≤ k → Within n r → Within k r
-    longer n k r h there = from_then n k w r (settled mode.Norm v 3) h there stays
+    longer n k r h there = from_then n k w r (nothing_counted mode.Norm v 3) h there stays
 
     -- at v all is settled within three rounds
     at_value : (r : Reading) → r.mode ≡ mode.Norm → r.value ≡ v → Within 3 r
     at_value r norm at =
-        let one = settled mode.Norm v (later r.since) in
-        let two = settled mode.Norm v (later (later r.since)) in
+        let one = nothing_counted mode.Norm v (later r.since) in
+        let two = nothing_counted mode.Norm v (later (later r.since)) in
         let full : later (later (later r.since)) ≡ 3 = omega arith in
         step 2 r one (same r norm at)
         (step 1 one two (same one refl refl)
-        (step 0 two (settled mode.Norm v 3) (same two refl refl ∙ ap (settled mode.Norm v) full) refl))
+        (step 0 two (nothing_counted mode.Norm v 3) (same two refl refl ∙ ap (nothing_counted mode.Norm v) full) refl))
 
     -- a new value outside mode Norm
-    out_third : (m : Mode) (r : Reading) → r.mode ≡ m → is_norm m ≡ false → 3 ≤ news_with r v → after_word r w ≡ settled mode.Norm v 0
+    out_third : (m : Mode) (r : Reading) → r.mode ≡ m → is_norm m ≡ false → 3 ≤ news_with r v → after_word r w ≡ nothing_counted mode.Norm v 0
     out_third mode.Norm r is out third = absurd (cc)
     out_third mode.Ais r is out third =
         reads mode.Ais r (event.New v) is (new_outside r v (ap is_norm is) small) ∙ ais_new r v ∙ (let e = le-leb _ _ third in rw e refl)
@@ -113,8 +113,8 @@ module _ (w v : ℕ) (normal : is_normal w ≡ true) (carries : value_in w ≡ v
 
     out_two : (m : Mode) (r : Reading) → r.mode ≡ m → is_norm m ≡ false → r.candidate ≡ v → 2 ≤ r.news → Within 4 r
     out_two m r is out at two =
-        step 3 r (settled mode.Norm v 0) (out_third m r is out (let more = news_more v r at (omega arith) in omega arith))
-        (at_value (settled mode.Norm v 0) refl refl)
+        step 3 r (nothing_counted mode.Norm v 0) (out_third m r is out (let more = news_more v r at (omega arith) in omega arith))
+        (at_value (nothing_counted mode.Norm v 0) refl refl)
 
     out_one : (m : Mode) (r : Reading) → r.mode ≡ m → is_norm m ≡ false → r.candidate ≡ v → r.news ≡ 1 → Within 5 r
     out_one m r is out at one =
@@ -124,8 +124,8 @@ module _ (w v : ℕ) (normal : is_normal w ≡ true) (carries : value_in w ≡ v
     outside : (m : Mode) (r : Reading) → r.mode ≡ m → is_norm m ≡ false → Within 6 r
     outside m r is out =
         elim (cases_lt (news_with r v) 3) [
-          | inr third ↦ longer 4 6 r (omega arith) (step 3 r (settled mode.Norm v 0) (out_third m r is out third)
-              (at_value (settled mode.Norm v 0) refl refl))
+          | inr third ↦ longer 4 6 r (omega arith) (step 3 r (nothing_counted mode.Norm v 0) (out_third m r is out third)
+              (at_value (nothing_counted mode.Norm v 0) refl refl))
           | inl less ↦ (let next = out_counted m r is out less in
               elim (cases_lt (news_with r v) 2) [
                 | inr two ↦ longer 5 6 r (omega arith) (step 4 r (with_new r v 0) next (out_two m (with_new r v 0) is out refl two))
@@ -136,7 +136,7 @@ module _ (w v : ℕ) (normal : is_normal w ≡ true) (carries : value_in w ≡ v
 
     -- a new value in mode Norm
     in_third : (r : Reading) → r.mode ≡ mode.Norm → normal_event r v ≡ event.New v → 3 ≤ news_with r v
-        → after_word r w ≡ settled mode.Norm v (later r.since)
+        → after_word r w ≡ nothing_counted mode.Norm v (later r.since)
     in_third r is new third = reads mode.Norm r (event.New v) is new ∙ norm_new r v ∙ (let e = le-leb _ _ third in rw e refl)
 
     pub in_counted : (r : Reading) → r.mode ≡ mode.Norm → normal_event r v ≡ event.New v → news_with r v < 3
@@ -148,19 +148,19 @@ module _ (w v : ℕ) (normal : is_normal w ≡ true) (carries : value_in w ≡ v
       counted n s = record { mode = mode.Norm; value = u; ais = 0; bad = 0; candidate = v; news = n; since = s }
 
       -- another value that was just taken; nothing else is known of it
-      fresh : Within 3 (settled mode.Norm u 0)
+      fresh : Within 3 (nothing_counted mode.Norm u 0)
       fresh =
-          step 2 (settled mode.Norm u 0) (counted 1 1) (in_counted (settled mode.Norm u 0) refl
-          (new_early (settled mode.Norm u 0) v refl other (omega arith) small) (omega arith))
+          step 2 (nothing_counted mode.Norm u 0) (counted 1 1) (in_counted (nothing_counted mode.Norm u 0) refl
+          (new_early (nothing_counted mode.Norm u 0) v refl other (omega arith) small) (omega arith))
           (step 1 (counted 1 1) (counted 2 2) (in_counted (counted 1 1) refl (new_early (counted 1 1) v refl other (omega arith) small)
           (omega (arith, news_more v (counted 1 1) refl (omega arith)))
           ∙ ap (λ n. counted n 2) (news_more v (counted 1 1) refl (omega arith)))
-          (step 0 (counted 2 2) (settled mode.Norm v 3) (in_third (counted 2 2) refl
+          (step 0 (counted 2 2) (nothing_counted mode.Norm v 3) (in_third (counted 2 2) refl
           (new_early (counted 2 2) v refl other (omega arith) small) (omega (arith, news_more v (counted 2 2) refl (omega arith)))) refl))
 
     -- any value that was just taken
-    taken : (u : ℕ) → Within 3 (settled mode.Norm u 0)
-    taken u = elim (cases_eq u v) [ inl e ↦ at_value (settled mode.Norm u 0) refl e | inr other ↦ fresh u other ]
+    taken : (u : ℕ) → Within 3 (nothing_counted mode.Norm u 0)
+    taken u = elim (cases_eq u v) [ inl e ↦ at_value (nothing_counted mode.Norm u 0) refl e | inr other ↦ fresh u other ]
 
     -- since 3, and the word justifies nothing
     late_new : (r : Reading) → r.mode ≡ mode.Norm → r.value ≢ v → goes_up v r.value ≡ false → goes_down v r.value ≡ false
@@ -172,7 +172,7 @@ module _ (w v : ℕ) (normal : is_normal w ≡ true) (carries : value_in w ≡ v
     late_two r norm other full up down at two =
         let end : later r.since ≡ 3 = omega arith in
         in_third r norm (late_new r norm other up down) (let more = news_more v r at (omega arith) in omega arith)
-        ∙ ap (settled mode.Norm v) end
+        ∙ ap (nothing_counted mode.Norm v) end
 
     late_one : (r : Reading) → r.mode ≡ mode.Norm → r.value ≢ v → 3 ≤ r.since → goes_up v r.value ≡ false → goes_down v r.value ≡ false
         → r.candidate ≡ v → r.news ≡ 1 → Within 2 r
@@ -187,7 +187,7 @@ module _ (w v : ℕ) (normal : is_normal w ≡ true) (carries : value_in w ≡ v
         let new = late_new r norm other up down in
         let end : later r.since ≡ 3 = omega arith in let end_le : 3 ≤ later r.since = omega arith in
         elim (cases_lt (news_with r v) 3) [
-          | inr third ↦ longer 1 3 r (omega arith) (in_third r norm new third ∙ ap (settled mode.Norm v) end)
+          | inr third ↦ longer 1 3 r (omega arith) (in_third r norm new third ∙ ap (nothing_counted mode.Norm v) end)
           | inl less ↦ (let next = in_counted r norm new less in
               elim (cases_lt (news_with r v) 2) [
                 | inr two ↦ longer 2 3 r (omega arith) (step 1 r (with_new r v (later r.since)) next
@@ -199,11 +199,11 @@ module _ (w v : ℕ) (normal : is_normal w ≡ true) (carries : value_in w ≡ v
 
     after_up : (r : Reading) → r.mode ≡ mode.Norm → normal_event r v ≡ event.Up → Within 4 r
     after_up r norm is =
-        step 3 r (settled mode.Norm (one_up r.value) 0) (reads mode.Norm r event.Up norm is ∙ norm_up r) (taken (one_up r.value))
+        step 3 r (nothing_counted mode.Norm (one_up r.value) 0) (reads mode.Norm r event.Up norm is ∙ norm_up r) (taken (one_up r.value))
 
     after_down : (r : Reading) → r.mode ≡ mode.Norm → normal_event r v ≡ event.Down → Within 4 r
     after_down r norm is =
-        step 3 r (settled mode.Norm (one_down r.value) 0) (reads mode.Norm r event.Down norm is ∙ norm_down r) (taken (one_down r.value))
+        step 3 r (nothing_counted mode.Norm (one_down r.value) 0) (reads mode.Norm r event.Down norm is ∙ norm_down r) (taken (one_down r.value))
 
     since_three : (r : Reading) → r.mode ≡ mode.Norm → r.value ≢ v → 3 ≤ r.since → Within 4 r
     since_three r norm other full =
@@ -221,8 +221,8 @@ module _ (w v : ℕ) (normal : is_normal w ≡ true) (carries : value_in w ≡ v
     before k r long norm other early next =
         let new = new_early r v norm other early small in
         elim (cases_lt (news_with r v) 3) [
-          | inr third ↦ step k r (settled mode.Norm v (later r.since)) (in_third r norm new third)
-              (longer 3 k (settled mode.Norm v (later r.since)) long (at_value (settled mode.Norm v (later r.since)) refl refl))
+          | inr third ↦ step k r (nothing_counted mode.Norm v (later r.since)) (in_third r norm new third)
+              (longer 3 k (nothing_counted mode.Norm v (later r.since)) long (at_value (nothing_counted mode.Norm v (later r.since)) refl refl))
           | inl less ↦ step k r (with_new r v (later r.since)) (in_counted r norm new less)
               (next (with_new r v (later r.since)) norm other refl)
         ]
@@ -259,11 +259,11 @@ module _ (w v : ℕ) (normal : is_normal w ≡ true) (carries : value_in w ≡ v
         ]
 
     -- whatever is kept, seven rounds are enough
-    pub settles : (r : Reading) (k : ℕ) → 7 ≤ k → after_rounds k w r ≡ settled mode.Norm v 3
+    pub settles : (r : Reading) (k : ℕ) → 7 ≤ k → after_rounds k w r ≡ nothing_counted mode.Norm v 3
     settles r k h = longer 7 k r h (by_mode r.mode r refl)
 
 pub normal_word_settles : (r : Reading) (w k : ℕ) → is_normal w ≡ true → value_in w ≤ 782 → 7 ≤ k
-    → after_rounds k w r ≡ settled mode.Norm (value_in w) 3
+    → after_rounds k w r ≡ nothing_counted mode.Norm (value_in w) 3
 normal_word_settles r w k normal small h = settles w (value_in w) normal refl small r k h
 
 -- ---- one enabled word for ever
@@ -292,11 +292,11 @@ enabled_word_settles r w k enabled small h =
 reads_ones : (m : Mode) (r : Reading) → r.mode ≡ m → after_word r 65535 ≡ after_in m event.Ais r
 reads_ones m r is = by_event r 65535 m event.Ais is (of_ones r)
 
-pub ais_stays : (x : ℕ) → after_word (settled mode.Ais x 0) 65535 ≡ settled mode.Ais x 0
-ais_stays x = reads_ones mode.Ais (settled mode.Ais x 0) refl ∙ ais_ais (settled mode.Ais x 0)
+pub ais_stays : (x : ℕ) → after_word (nothing_counted mode.Ais x 0) 65535 ≡ nothing_counted mode.Ais x 0
+ais_stays x = reads_ones mode.Ais (nothing_counted mode.Ais x 0) refl ∙ ais_ais (nothing_counted mode.Ais x 0)
 
 -- outside mode Ais the third AIS word in a row leads to it
-ais_third : (m : Mode) (r : Reading) → r.mode ≡ m → m ≢ mode.Ais → 2 ≤ r.ais → after_word r 65535 ≡ settled mode.Ais r.value 0
+ais_third : (m : Mode) (r : Reading) → r.mode ≡ m → m ≢ mode.Ais → 2 ≤ r.ais → after_word r 65535 ≡ nothing_counted mode.Ais r.value 0
 ais_third mode.Norm r is other two =
     reads_ones mode.Norm r is ∙ norm_ais r ∙ (let e : leb 3 (r.ais + 1) ≡ true = le-leb _ _ (omega arith) in rw e refl)
 ais_third mode.Lop r is other two =
@@ -311,10 +311,10 @@ ais_counted mode.Lop r is other less =
 ais_counted mode.Ais r is other less = absurd (other refl)
 
 abbrev IsAisIn : ℕ → Reading → Type 0
-IsAisIn k r = after_rounds k 65535 r ≡ settled mode.Ais r.value 0
+IsAisIn k r = after_rounds k 65535 r ≡ nothing_counted mode.Ais r.value 0
 
 ais_longer : (n k : ℕ) (r : Reading) → n ≤ k → IsAisIn n r → IsAisIn k r
-ais_longer n k r h there = from_then n k 65535 r (settled mode.Ais r.value 0) h there (ais_stays r.value)
+ais_longer n k r h there = from_then n k 65535 r (nothing_counted mode.Ais r.value 0) h there (ais_stays r.value)
 
 counted_then : (k : ℕ) (m : Mode) (r : Reading) → r.mode ≡ m → m ≢ mode.Ais → r.ais < 2 → ((s : ℕ) → IsAisIn k (with_ais r s))
     → IsAisIn (suc k) r
@@ -337,5 +337,5 @@ by_ais mode.Norm r is = out_of_ais mode.Norm r is (λ e. cc)
 by_ais mode.Lop r is = out_of_ais mode.Lop r is (λ e. cc)
 by_ais mode.Ais r is = ais_longer 1 3 r (omega arith) (reads_ones mode.Ais r is ∙ ais_ais r)
 
-pub ais_settles : (r : Reading) (k : ℕ) → 3 ≤ k → after_rounds k 65535 r ≡ settled mode.Ais r.value 0
+pub ais_settles : (r : Reading) (k : ℕ) → 3 ≤ k → after_rounds k 65535 r ≡ nothing_counted mode.Ais r.value 0
 ais_settles r k h = ais_longer 3 k r h (by_ais r.mode r refl)

@@ -9,7 +9,7 @@ use Rattle.sdh_pointer.specs.declared.reading.Event.TheVariants as event
 use Rattle.sdh_pointer.specs.declared.reading.Action.TheVariants as action
 use Rattle.sdh_pointer.specs.declared.word.Form.TheVariants as form
 use Rattle.sdh_pointer.specs.Words.{word_of}
-use Rattle.sdh_pointer.specs.Reading.{start, settled, later, after_word, action_on}
+use Rattle.sdh_pointer.specs.Reading.{start, nothing_counted, later, after_word, action_on}
 use Rattle.sdh_pointer.specs.Sending.{next_sending, word_sent}
 use Rattle.sdh_pointer.specs.Spreading.{action_over, word_over, sending_over, reading_over}
 use Rattle.sdh_pointer.specs.Laws.{ValuesSpread}
@@ -66,7 +66,7 @@ sending_after v h t late = let e = lt-ltb h t late in rw e refl
 reading_before : (v h t : ℕ) → t ≤ h → reading_over (Some v) h t ≡ start
 reading_before v h t le = let e = le-ltb h t le in rw e refl
 
-pub reading_after : (v h t : ℕ) → h < t → reading_over (Some v) h t ≡ settled mode.Norm v (min 3 (t - (h + 1)))
+pub reading_after : (v h t : ℕ) → h < t → reading_over (Some v) h t ≡ nothing_counted mode.Norm v (min 3 (t - (h + 1)))
 reading_after v h t late = let e = lt-ltb h t late in rw e refl
 
 -- ---- the generator
@@ -110,21 +110,21 @@ start_answer : action_on start 65535 ≡ action.Ais
 start_answer = action_by_event start 65535 mode.Ais event.Ais refl (of_ones start) ∙ ais_ais_action start
 
 module _ (v : ℕ) (small : v ≤ 782) where
-  enters : after_word start (word_of form.Enabled v) ≡ settled mode.Norm v 0
+  enters : after_word start (word_of form.Enabled v) ≡ nothing_counted mode.Norm v 0
   enters =
       enabled_word_settles start (word_of form.Enabled v) 1 (enabled_word v small) (let e = enabled_value v small in omega arith)
       (omega arith)
-      ∙ ap (λ u. settled mode.Norm u 0) (enabled_value v small)
+      ∙ ap (λ u. nothing_counted mode.Norm u 0) (enabled_value v small)
 
   enters_new : action_on start (word_of form.Enabled v) ≡ action.New
   enters_new =
       action_by_event start (word_of form.Enabled v) mode.Ais (event.Ndf v) refl (of_enabled start v small) ∙ ais_ndf_action start v
 
-  counts : (s : ℕ) → after_word (settled mode.Norm v s) (word_of form.Normal v) ≡ settled mode.Norm v (later s)
-  counts s = same (word_of form.Normal v) v (normal_word v small) (normal_value v small) (settled mode.Norm v s) refl refl
+  counts : (s : ℕ) → after_word (nothing_counted mode.Norm v s) (word_of form.Normal v) ≡ nothing_counted mode.Norm v (later s)
+  counts s = same (word_of form.Normal v) v (normal_word v small) (normal_value v small) (nothing_counted mode.Norm v s) refl refl
 
-  counts_normal : (s : ℕ) → action_on (settled mode.Norm v s) (word_of form.Normal v) ≡ action.Normal
-  counts_normal s = same_action (word_of form.Normal v) v (normal_word v small) (normal_value v small) (settled mode.Norm v s) refl refl
+  counts_normal : (s : ℕ) → action_on (nothing_counted mode.Norm v s) (word_of form.Normal v) ≡ action.Normal
+  counts_normal s = same_action (word_of form.Normal v) v (normal_word v small) (normal_value v small) (nothing_counted mode.Norm v s) refl refl
 
   module _ (h t : ℕ) where
     abbrev far : ℕ
@@ -139,11 +139,11 @@ module _ (v : ℕ) (small : v ≤ 782) where
           ∙ sym (reading_before v far (t + 2) (omega arith))
       | inr there ↦ elim (cases_eq t h) [
         | inl is ↦ ap₂ after_word (reading_before v far now (omega arith)) (word_first v h t is) ∙ enters
-            ∙ ap (settled mode.Norm v) {x = 0} {y = min 3 (t + 2 - (far + 1))} (omega arith)
+            ∙ ap (nothing_counted mode.Norm v) {x = 0} {y = min 3 (t + 2 - (far + 1))} (omega arith)
             ∙ sym (reading_after v far (t + 2) (omega arith))
         | inr other ↦ ap₂ after_word (reading_after v far now (omega arith)) (word_after v h t (omega arith))
             ∙ counts (min 3 (now - (far + 1)))
-            ∙ ap (settled mode.Norm v) {x = later (min 3 (now - (far + 1)))} {y = min 3 (t + 2 - (far + 1))} (omega arith)
+            ∙ ap (nothing_counted mode.Norm v) {x = later (min 3 (now - (far + 1)))} {y = min 3 (t + 2 - (far + 1))} (omega arith)
             ∙ sym (reading_after v far (t + 2) (omega arith))
       ]
     ]
@@ -198,7 +198,7 @@ reading_value v h t late = ap (λ (r : Reading). r.value) (reading_after v h t l
 pub reading_stays : (o : Option ℕ) (h t : ℕ) → h + 4 ≤ t → reading_over o h (t + 1) ≡ reading_over o h t
 reading_stays None h t late = refl
 reading_stays (Some v) h t late =
-    reading_after v h (t + 1) (omega arith) ∙ ap (settled mode.Norm v) {x = min 3 (t + 1 - (h + 1))} {y = min 3 (t - (h + 1))} (omega arith)
+    reading_after v h (t + 1) (omega arith) ∙ ap (nothing_counted mode.Norm v) {x = min 3 (t + 1 - (h + 1))} {y = min 3 (t - (h + 1))} (omega arith)
     ∙ sym (reading_after v h t (omega arith))
 
 pub sending_stays : (o : Option ℕ) (h t : ℕ) → h < t → sending_over o h (t + 1) ≡ sending_over o h t

@@ -9,7 +9,7 @@ use Rattle.sdh_pointer.specs.declared.reading.Event.TheVariants as event
 use Rattle.sdh_pointer.specs.declared.reading.Action.{Action}
 use Rattle.sdh_pointer.specs.declared.reading.Action.TheVariants as action
 use Rattle.sdh_pointer.specs.Words.{is_normal, value_in}
-use Rattle.sdh_pointer.specs.Reading.{Interpreter, after_word, after_step, action_on, same_mode, same_reading, settled, later}
+use Rattle.sdh_pointer.specs.Reading.{Interpreter, after_word, after_step, action_on, same_mode, same_reading, nothing_counted, later}
 use Rattle.sdh_pointer.specs.Sending.{Generator, after_action, same_sending}
 use Rattle.sdh_pointer.specs.Laws.{IsPassed, IsSteady}
 use Rattle.sdh_pointer.proofs.Forms.{of_ones}
@@ -110,7 +110,7 @@ generator_moves g a v = (
 pub unmoved_is_normal : (i : Interpreter) (w : ℕ) → is_normal w ≡ true → value_in w ≤ 782 → (after_step i w).moved ≡ false → IsPassed i w
 unmoved_is_normal i w normal small h =
     let still = unmoved i w h in
-    let there : i.reading ≡ settled mode.Norm (value_in w) 3 =
+    let there : i.reading ≡ nothing_counted mode.Norm (value_in w) 3 =
     sym (stays_for 7 w i.reading still) ∙ normal_word_settles i.reading w 7 normal small (omega arith) in
     record {
       kept = there;
@@ -121,7 +121,7 @@ unmoved_is_normal i w normal small h =
 pub unmoved_is_ais : (i : Interpreter) → (after_step i 65535).moved ≡ false → action_on i.reading 65535 ≡ action.Ais
 unmoved_is_ais i h =
     let still = unmoved i 65535 h in
-    let there : i.reading ≡ settled mode.Ais i.reading.value 0 =
+    let there : i.reading ≡ nothing_counted mode.Ais i.reading.value 0 =
     sym (stays_for 3 65535 i.reading still) ∙ ais_settles i.reading 3 (omega arith) in
     action_by_event i.reading 65535 mode.Ais event.Ais (ap (λ (r : Reading). r.mode) there) (of_ones i.reading) ∙ ais_ais_action i.reading
 
@@ -131,14 +131,14 @@ pub steady_is_normal : (i : Interpreter) (w : ℕ) → is_normal w ≡ true → 
     → IsSteady i w
 steady_is_normal i w normal norm at =
     let v = value_in w in
-    let next : (after_step i w).reading ≡ settled mode.Norm v (later i.reading.since) =
+    let next : (after_step i w).reading ≡ nothing_counted mode.Norm v (later i.reading.since) =
     step_reading i w ∙ same w v normal refl i.reading norm at in
-    let stays_at : (j : Interpreter) → j.reading ≡ settled mode.Norm v 3 → (after_step j w).moved ≡ false =
+    let stays_at : (j : Interpreter) → j.reading ≡ nothing_counted mode.Norm v 3 → (after_step j w).moved ≡ false =
     λ j there. kept_is_unmoved j w (ap (λ r. after_word r w) there ∙ stays w v normal refl ∙ sym there) in
     record {
       answer = same_action w v normal refl i.reading norm at;
       next = next;
       still = stays_at i;
       then_still =
-          λ late. (let full : later i.reading.since ≡ 3 = omega arith in stays_at (after_step i w) (next ∙ ap (settled mode.Norm v) full));
+          λ late. (let full : later i.reading.since ≡ 3 = omega arith in stays_at (after_step i w) (next ∙ ap (nothing_counted mode.Norm v) full));
     }

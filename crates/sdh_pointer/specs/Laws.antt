@@ -11,7 +11,7 @@ use Rattle.sdh_pointer.specs.declared.word.Form.{Form}
 use Rattle.sdh_pointer.specs.declared.word.Form.TheVariants as form
 use Rattle.sdh_pointer.specs.Words.{is_normal, is_enabled, value_in, word_of, one_up, one_down}
 use Rattle.sdh_pointer.specs.Reading.{ReadingRow, Interpreter, IsBounded, start, is_norm, event_of, after_word, action_on, after_step}
-use Rattle.sdh_pointer.specs.Reading.{settled, later, is_row_of, reading_table, after_row, action_row}
+use Rattle.sdh_pointer.specs.Reading.{nothing_counted, later, is_row_of, reading_table, after_row, action_row}
 use Rattle.sdh_pointer.specs.Sending.{SendingRow, Generator, sending_table, after_action, word_sent, next_sending}
 use Rattle.sdh_pointer.specs.Repeated.{after_rounds, after_inputs}
 use Rattle.sdh_pointer.specs.Spreading.{IsSmall, IsValueOver, action_over, word_over, sending_over, reading_over}
@@ -102,13 +102,13 @@ InputsLast = (s : Option ℕ) (a : Action) (v : ℕ) → IsSound a v → Lasts s
 -- one normal word for ever: after at most seven rounds the interpreter is in Norm at its value with `since` 3
 abbrev pub NormalWordSettles : Type 0
 NormalWordSettles =
-    (r : Reading) (w k : ℕ) → is_normal w ≡ true → value_in w ≤ 782 → 7 ≤ k → after_rounds k w r ≡ settled mode.Norm (value_in w) 3
+    (r : Reading) (w k : ℕ) → is_normal w ≡ true → value_in w ≤ 782 → 7 ≤ k → after_rounds k w r ≡ nothing_counted mode.Norm (value_in w) 3
 
 -- one enabled word for ever: after one round the interpreter is in Norm at its value, or stays in Lop
 abbrev pub enabled_end : Mode → ℕ → ℕ → Reading
-enabled_end mode.Norm old v = settled mode.Norm v 0
-enabled_end mode.Ais old v = settled mode.Norm v 0
-enabled_end mode.Lop old v = settled mode.Lop old 0
+enabled_end mode.Norm old v = nothing_counted mode.Norm v 0
+enabled_end mode.Ais old v = nothing_counted mode.Norm v 0
+enabled_end mode.Lop old v = nothing_counted mode.Lop old 0
 
 abbrev pub EnabledWordSettles : Type 0
 EnabledWordSettles =
@@ -116,7 +116,7 @@ EnabledWordSettles =
 
 -- all ones for ever: after at most three rounds the interpreter is in Ais
 abbrev pub AisSettles : Type 0
-AisSettles = (r : Reading) (k : ℕ) → 3 ≤ k → after_rounds k 0xFFFF r ≡ settled mode.Ais r.value 0
+AisSettles = (r : Reading) (k : ℕ) → 3 ≤ k → after_rounds k 0xFFFF r ≡ nothing_counted mode.Ais r.value 0
 
 -- one word for ever brings an interpreter to rest: after seven rounds it stays in one state, which that word leaves as
 -- it is, and answers one action with one value
@@ -134,7 +134,7 @@ RepeatedWordsRest = (a : Action) (v : ℕ) → IsSound a v → (r : Reading) →
 
 -- where a step reads a normal word and changes nothing, its answer is Normal at the value of the word
 pub record IsPassed (i : Interpreter) (w : ℕ) : Type 0 where
-  pub kept : i.reading ≡ settled mode.Norm (value_in w) 3
+  pub kept : i.reading ≡ nothing_counted mode.Norm (value_in w) 3
   pub answer : action_on i.reading w ≡ action.Normal
   pub value : (after_step i w).reading.value ≡ value_in w
 
@@ -150,8 +150,8 @@ UnmovedIsAis = (i : Interpreter) → (after_step i 0xFFFF).moved ≡ false → a
 -- further such words don't move it
 pub record IsSteady (i : Interpreter) (w : ℕ) : Type 0 where
   pub answer : action_on i.reading w ≡ action.Normal
-  pub next : (after_step i w).reading ≡ settled mode.Norm (value_in w) (later i.reading.since)
-  pub still : i.reading ≡ settled mode.Norm (value_in w) 3 → (after_step i w).moved ≡ false
+  pub next : (after_step i w).reading ≡ nothing_counted mode.Norm (value_in w) (later i.reading.since)
+  pub still : i.reading ≡ nothing_counted mode.Norm (value_in w) 3 → (after_step i w).moved ≡ false
   pub then_still : 2 ≤ i.reading.since → (after_step (after_step i w) w).moved ≡ false
 
 abbrev pub SteadyIsNormal : Type 0

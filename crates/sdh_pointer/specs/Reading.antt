@@ -65,8 +65,8 @@ abbrev pub later : ℕ → ℕ
 later since = min 3 (since + 1)
 
 -- nothing is counted
-abbrev pub settled : Mode → ℕ → ℕ → Reading
-settled m v since = record { mode = m; value = v; ais = 0; bad = 0; candidate = 0; news = 0; since = since }
+abbrev pub nothing_counted : Mode → ℕ → ℕ → Reading
+nothing_counted m v since = record { mode = m; value = v; ais = 0; bad = 0; candidate = 0; news = 0; since = since }
 
 -- one AIS word more in a row, one invalid word more, one equal new value more
 abbrev pub with_ais : Reading → ℕ → Reading
@@ -97,10 +97,10 @@ abbrev pub counted : Reading → Event → ℕ → Reading
 counted r event.Ais since = with_ais r since
 counted r event.Bad since = with_bad r since
 counted r (event.New v) since = with_new r v since
-counted r event.Same since = settled r.mode r.value since
-counted r event.Up since = settled r.mode r.value since
-counted r event.Down since = settled r.mode r.value since
-counted r (event.Ndf v) since = settled r.mode r.value since
+counted r event.Same since = nothing_counted r.mode r.value since
+counted r event.Up since = nothing_counted r.mode r.value since
+counted r event.Down since = nothing_counted r.mode r.value since
+counted r (event.Ndf v) since = nothing_counted r.mode r.value since
 
 -- `since` where an event is only counted: it grows in Norm, and is 0 elsewhere
 abbrev pub since_in : Mode → ℕ → ℕ
@@ -220,7 +220,7 @@ reading_row_of m e = find (is_row_of m e) reading_table
 -- what is kept after an event by a row, and the action
 abbrev pub after_row : ReadingRow → Reading → Event → Reading
 after_row row r e =
-    if nat_le row.needed (in_a_row r e) then settled row.next (row.value r e) (row.since r) else counted r e (since_in row.mode r.since)
+    if nat_le row.needed (in_a_row r e) then nothing_counted row.next (row.value r e) (row.since r) else counted r e (since_in row.mode r.since)
 
 abbrev pub action_row : ReadingRow → Reading → Event → Action
 action_row row r e = if nat_le row.needed (in_a_row r e) then row.action else action_while row.mode

@@ -8,7 +8,7 @@ use Rattle.sdh_pointer.specs.declared.reading.Mode.TheVariants as mode
 use Rattle.sdh_pointer.specs.declared.reading.Reading.{Reading}
 use Rattle.sdh_pointer.specs.declared.word.Form.TheVariants as form
 use Rattle.sdh_pointer.specs.Words.{word_of}
-use Rattle.sdh_pointer.specs.Reading.{start, settled}
+use Rattle.sdh_pointer.specs.Reading.{start, nothing_counted}
 
 abbrev pub IsSmall : Option ℕ → Type 0
 IsSmall None = Unit {0}
@@ -40,4 +40,4 @@ sending_over (Some v) h t = if nat_lt h t then Some v else None
 -- three rounds more
 abbrev pub reading_over : Option ℕ → ℕ → ℕ → Reading
 reading_over None h t = start
-reading_over (Some v) h t = if nat_lt h t then settled mode.Norm v (min 3 (t - (h + 1))) else start
+reading_over (Some v) h t = if nat_lt h t then nothing_counted mode.Norm v (min 3 (t - (h + 1))) else start

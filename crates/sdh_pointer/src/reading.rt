@@ -1,7 +1,7 @@
 //! What a pointer interpreter keeps, and how a word changes it.
 ghost use Rattle.std.specs.Prelude.{◌≡◌, ◌≤◌};
 ghost use Rattle.sdh_pointer.specs.Words.{one_up, one_down};
-ghost use Rattle.sdh_pointer.specs.Reading.{IsBounded, event_value, later, settled, with_ais, with_bad, with_new, news_with, goes_up};
+ghost use Rattle.sdh_pointer.specs.Reading.{IsBounded, event_value, later, nothing_counted, with_ais, with_bad, with_new, news_with, goes_up};
 ghost use Rattle.sdh_pointer.specs.Reading.{goes_down, normal_event, event_of, after_in, action_in, after_event, action_on_event};
 ghost use Rattle.sdh_pointer.specs.Reading.{same_mode, same_reading};
 ghost use Rattle.sdh_pointer.specs.declared.reading.Mode.TheVariants as mode;
@@ -74,7 +74,7 @@ const STEADY: u8 = 3;
 
 // Returns a state in which nothing is counted.
 fn settled(mode: Mode, value: u16, since: u8) -> Reading
-    ensures { result ≡ settled mode value since }
+    ensures { result ≡ nothing_counted mode value since }
 {
     Reading {
         mode,

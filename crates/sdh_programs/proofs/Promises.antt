@@ -7,7 +7,7 @@ use Rattle.sdh_plan.specs.Planned.{Planned}
 use Rattle.sdh_status.specs.declared.Status.{Status}
 use Rattle.sdh_status.specs.declared.Status.TheVariants as status
 use Rattle.sdh_rounds.specs.Quiet.{enough_for}
-use Rattle.sdh_scripts.specs.Outcomes.{IsSettled}
+use Rattle.sdh_scripts.specs.Outcomes.{AllSettled}
 use Rattle.sdh_shell.specs.Calls.{HasRun}
 use Rattle.sdh_shell.specs.Failing.{Counts}
 use Rattle.sdh_shell.specs.Writing.{WritesWith}
@@ -23,7 +23,7 @@ use Rattle.sdh_programs.specs.Headline.{is_plan_for, IsPlanFor, Shows}
 -- a run with a limit that is always enough settled each step, whatever it reports; `told` is named only to fit the
 -- form that `shows` takes
 abbrev pub SettlesLarge : (T : Type 0) → Planned → List T → Status → Type 0
-SettlesLarge T plan told how = enough_for (length plan.nodes) ≤ plan.limit → IsSettled how
+SettlesLarge T plan told how = enough_for (length plan.nodes) ≤ plan.limit → AllSettled how
 
 -- where `Known` holds of the plan, the run ended as is said of the plan, or by a fault
 abbrev pub EndsKnown : (T : Type 0) → (Planned → Type 0) → (Planned → Status) → Planned → List T → Status → Type 0

@@ -5,7 +5,7 @@ use Rattle.sdh_plan.specs.Planned.{Planned}
 use Rattle.sdh_plan.specs.declared.step.Step.{Step}
 use Rattle.sdh_rounds.specs.Held.{HeldRing}
 use Rattle.sdh_shell.specs.Endings.{RefusesPlan}
-use Rattle.sdh_scripts.specs.NewRuns.{MayStart}
+use Rattle.sdh_scripts.specs.NewRuns.{MayStartRun}
 use Rattle.sdh_scripts.specs.Texts.{room_for}
 use Rattle.sdh_scripts.specs.declared.run.NewRun.{NewRun}
 use Rattle.sdh_programs.specs.Programs.{Deed, Refuses, Writes, Runs, Program}
@@ -24,7 +24,7 @@ abbrev pub IsDeed : {A L T E N R : Type 0} → Program A L T E → (R → HeldRi
 IsDeed program ring MayRun Begins ask plan (made.Refuse why) = IsOnly program ask plan (Refuses why) × RefusesPlan program.endings why
 IsDeed program ring MayRun Begins ask plan (made.Write text) = IsOnly program ask plan (Writes text.bytes)
 IsDeed program ring MayRun Begins ask plan (made.Run listing run) =
-    IsOnly program ask plan (Runs listing) × Begins listing plan run × MayStart ring MayRun run.runner run.script
+    IsOnly program ask plan (Runs listing) × Begins listing plan run × MayStartRun ring MayRun run.runner run.script
 
 -- the output takes all that is to be written of the deed, with a last line
 abbrev pub TakesDeed : {L E O R : Type 0} → (ℕ → O → Type 0) → (R → ℕ) → Made L R E → O → Type 0

@@ -6,7 +6,7 @@ use Rattle.sdh_plan.specs.Planned.{Planned}
 use Rattle.sdh_status.specs.declared.Status.{Status}
 use Rattle.sdh_status.specs.declared.Status.TheVariants as status
 use Rattle.sdh_rounds.specs.Quiet.{enough_for}
-use Rattle.sdh_scripts.specs.Outcomes.{IsSettled}
+use Rattle.sdh_scripts.specs.Outcomes.{AllSettled}
 use Rattle.sdh_shell.specs.Reading.{TellsPlan}
 use Rattle.sdh_shell.specs.Calls.{HasRun}
 use Rattle.sdh_programs.specs.Programs.{Deed, Refuses, Writes, Runs, Program}
@@ -34,7 +34,7 @@ EndsAs Known ending bytes how =
 
 -- with a limit that is always enough no settle step is unsettled
 abbrev pub AlwaysSettles : List ℕ → Status → Type 0
-AlwaysSettles bytes how = (plan : Planned) → TellsPlan bytes plan → enough_for (length plan.nodes) ≤ plan.limit → IsSettled how
+AlwaysSettles bytes how = (plan : Planned) → TellsPlan bytes plan → enough_for (length plan.nodes) ≤ plan.limit → AllSettled how
 
 -- All that a deed needs is given. To write a text of the plan nothing is needed. To run the plan to its end `MaySettle`
 -- has to hold for what is listed. A deed that refuses the plan can't be done, whatever is given.

@@ -95,11 +95,11 @@ abbrev pub reads_source : {A L T E : Type 0} → Program A L T E → Option A �
 reads_source program = reads_by program.own_plan
 
 -- what has to be known of a source: its bytes, or nothing where it isn't read
-abbrev pub told_by : {A : Type 0} → (A → Option Planned) → Option A → Option (List ℕ) → Option (List ℕ)
-told_by own_plan asked left = told_if (reads_by own_plan asked) left
+abbrev pub known_by : {A : Type 0} → (A → Option Planned) → Option A → Option (List ℕ) → Option (List ℕ)
+known_by own_plan asked left = told_if (reads_by own_plan asked) left
 
 abbrev pub told : {A L T E : Type 0} → Program A L T E → Option A → Option (List ℕ) → Option (List ℕ)
-told program = told_by program.own_plan
+told program = known_by program.own_plan
 
 -- what is asked, if anything, runs no plan
 abbrev pub LeavesPlant : {A L T E : Type 0} → Program A L T E → Option A → Type 0

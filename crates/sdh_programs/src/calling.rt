@@ -3,7 +3,7 @@ ghost use Rattle.std.specs.Prelude.{◌≡◌, IfSome};
 ghost use Rattle.sdh_plant.specs.Fibres.{HasNoFibres};
 ghost use Rattle.sdh_shell.specs.Calls.{words_of};
 ghost use Rattle.sdh_shell.specs.Failing.{Counts};
-ghost use Rattle.sdh_shell.specs.Kept.{around};
+ghost use Rattle.sdh_shell.specs.Kept.{seen_around};
 ghost use Rattle.sdh_shell.specs.Writing.{WritesWith, TellsWith};
 ghost use Rattle.sdh_programs.specs.Outcome.{MayEnd, told};
 ghost use Rattle.sdh_programs.specs.Calls.{IsCutShort, KeepsCall, never_cut};
@@ -45,8 +45,8 @@ pub fn call_over<'a, W: Sink, P: Plant, M: Program<'a, W, P>, R: Source>(
     // cause, what isn't asked for stays as it was, and where all that is needed is given, and no call fails, everything
     // is done.
     ensures kept { KeepsCall M.program M.cut (M.program.asked (words_of words.now))
-        (around R.faults R.exact R.left source.old source.new) (around W.faults W.exact W.written sink.old sink.new)
-        (around P.faults P.exact P.fibres plant.old plant.new) result }
+        (seen_around R.faults R.exact R.left source.old source.new) (seen_around W.faults W.exact W.written sink.old sink.new)
+        (seen_around P.faults P.exact P.fibres plant.old plant.new) result }
 {
     match answer::<W, P, M, R>(alloc, words, source, sink, plant) {
         Ok(ending) => ending,
@@ -79,8 +79,8 @@ pub fn call<'a, P: Plant, M: Program<'a, Text, P>, R: Source, W: Sink>(
     // cause, what isn't asked for stays as it was, and where all that is needed is given, and no call fails, everything
     // is done.
     ensures kept { KeepsCall M.program never_cut (M.program.asked (words_of words.now))
-        (around R.faults R.exact R.left source.old source.new) (around W.faults W.exact W.written sink.old sink.new)
-        (around P.faults P.exact P.fibres plant.old plant.new) result }
+        (seen_around R.faults R.exact R.left source.old source.new) (seen_around W.faults W.exact W.written sink.old sink.new)
+        (seen_around P.faults P.exact P.fibres plant.old plant.new) result }
 {
     endings_agree::<Text, P, M>();
     let Ok(mut text) = Text::try_new(alloc, LINE_MAX) else {

@@ -9,11 +9,11 @@ use Rattle.sdh_retime_cli.specs.declared.status.Status.{Status}
 use Rattle.sdh_retime_cli.specs.declared.status.Status.TheVariants as status
 use Rattle.sdh_retime_cli.specs.Digits.{IsDigits, AreDigits, chunks}
 use Rattle.sdh_retime_cli.specs.Lines.{lines_of, drift_line}
-use Rattle.sdh_retime_cli.specs.Outcome.{IsRunOutcome, IsOutcome, HasCause, MayEnd, Writes, CameTo, TellsUnsteady}
+use Rattle.sdh_retime_cli.specs.Outcome.{IsRetimed, IsOutcome, HasCause, MayEnd, RetimingWrites, RetimingCameTo, TellsUnsteady}
 use Rattle.sdh_retime_cli.proofs.Unsteady.{drifts_are_unsteady}
 
 -- the turn of a run that ended with a drift
-pub unsteady_run : (digits bytes : List ℕ) (s : Status) (text : List ℕ) → IsDigits digits → IsRunOutcome digits bytes s text → (turn : ℕ)
+pub unsteady_run : (digits bytes : List ℕ) (s : Status) (text : List ℕ) → IsDigits digits → IsRetimed digits bytes s text → (turn : ℕ)
     → s ≡ status.Drift turn → TellsUnsteady digits turn text
 unsteady_run digits bytes (status.Drift t) text d run turn is =
     let same : t ≡ turn = cc in
@@ -42,7 +42,7 @@ cause_of reads status.Memory h = tt
 
 -- an outcome whose whole text was written
 pub whole : (words : List (List ℕ)) (bytes : List ℕ) (reads : Counts) (s : Status) (text : List ℕ) (old new : Option (List ℕ))
-    → MayEnd words bytes reads s text → Appends old new text → Writes words bytes reads s old new
+    → MayEnd words bytes reads s text → Appends old new text → RetimingWrites words bytes reads s old new
 whole words bytes reads status.Ok text old new is written = (text, is, written)
 whole words bytes reads status.Usage text old new is written = (text, is, written)
 whole words bytes reads status.ReadFault text old new is written = (text, is, written)
@@ -58,6 +58,6 @@ usage_is words s text other is line = subst (λ (how : Status). IsOutcome words 
 
 -- memory ran out, and no read failed
 pub came_without : (exact : Bool) (before after : ℕ) (left now : Option (List ℕ)) → (exact ≡ true → after ≡ before)
-    → CameTo exact before after left now status.Memory
+    → RetimingCameTo exact before after left now status.Memory
 came_without exact before after left now same =
     came_of_none exact (record { before = before; after = after }) left now same (λ e. cc) (λ e. cc)

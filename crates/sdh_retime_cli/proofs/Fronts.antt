@@ -4,14 +4,14 @@ use Rattle.std.proofs.lemmas.List.{take-append-drop, drop-drop, append_assoc}
 use Rattle.sdh_pointer.specs.declared.reading.Action.{Action}
 use Rattle.sdh_pointer.specs.declared.reading.Action.TheVariants.{Normal, New, Up, Down, Ais}
 use Rattle.sdh_elastic.specs.Turns.{given}
-use Rattle.sdh_elastic.specs.History.{fill, lengths, taken_in, count_given, held, last_action, last_given, given_in_all}
+use Rattle.sdh_elastic.specs.History.{fill, lengths, bytes_taken, count_given, bytes_held, last_action, last_given, given_in_all}
 use Rattle.sdh_elastic.proofs.Runs.{given_is_a_front}
 use Rattle.sdh_retime_cli.specs.declared.status.Status.{Status}
 use Rattle.sdh_retime_cli.specs.declared.status.Status.TheVariants as status
 use Rattle.sdh_retime_cli.specs.Digits.{size_at, offset_at, chunks}
 use Rattle.sdh_retime_cli.specs.Lines.{lines_of, turn_line, given_line, left_line, drift_line}
 use Rattle.sdh_retime_cli.specs.Front.{TurnTold, turns_text, shown_with, all_shown, IsLastLine, TellsFront}
-use Rattle.sdh_retime_cli.specs.Outcome.{Runs, IsRunOutcome}
+use Rattle.sdh_retime_cli.specs.Outcome.{Runs, IsRetimed}
 
 -- the turns of a history
 abbrev turns_of : List (List ℕ) → List TurnTold
@@ -49,16 +49,16 @@ all_shown_given (chunk ∷ earlier) =
     let past = chunk ∷ earlier in
     ap (λ (l : List ℕ). l ++ shown_with (last_action past) (last_given past)) (all_shown_given earlier)
     ∙ ap (λ (l : List ℕ). given_in_all earlier ++ l)
-    (shown_given (last_action past) (drop (count_given earlier) (taken_in past)))
+    (shown_given (last_action past) (drop (count_given earlier) (bytes_taken past)))
 
 -- the chunks, and the bytes after them
-taken_and_left : (digits bytes : List ℕ) (k : ℕ) → taken_in (chunks digits bytes k) ++ drop (offset_at digits k) bytes ≡ bytes
+taken_and_left : (digits bytes : List ℕ) (k : ℕ) → bytes_taken (chunks digits bytes k) ++ drop (offset_at digits k) bytes ≡ bytes
 unfolding chunks offset_at
 taken_and_left digits bytes zero = refl
 taken_and_left digits bytes (suc k) =
     let s = size_at digits k in
     let o = offset_at digits k in
-    let before = taken_in (chunks digits bytes k) in
+    let before = bytes_taken (chunks digits bytes k) in
     append_assoc before (take s (drop o bytes)) (drop (o + s) bytes)
     ∙ ap (λ (l : List ℕ). before ++ (take s (drop o bytes) ++ l)) (sym (drop-drop s o bytes))
     ∙ ap (λ (l : List ℕ). before ++ l) (take-append-drop s (drop o bytes))
@@ -74,16 +74,16 @@ front digits bytes k text last runs is ends =
       last = last;
       ends = ends;
       text_is = is ∙ ap (λ (l : List ℕ). l ++ last) (sym (turns_are_lines past));
-      rest = held past ++ behind;
+      rest = bytes_held past ++ behind;
       front =
-          ap (λ (l : List ℕ). l ++ (held past ++ behind)) (all_shown_given past)
-          ∙ sym (append_assoc (given_in_all past) (held past) behind)
+          ap (λ (l : List ℕ). l ++ (bytes_held past ++ behind)) (all_shown_given past)
+          ∙ sym (append_assoc (given_in_all past) (bytes_held past) behind)
           ∙ ap (λ (l : List ℕ). l ++ behind) (given_is_a_front past runs.lasts)
           ∙ taken_and_left digits bytes k;
     }
 
 -- in every run that came to its end
-pub run_front : (digits bytes : List ℕ) (s : Status) (text : List ℕ) → IsRunOutcome digits bytes s text → TellsFront bytes text
+pub run_front : (digits bytes : List ℕ) (s : Status) (text : List ℕ) → IsRetimed digits bytes s text → TellsFront bytes text
 run_front digits bytes status.Ok text (k, done) =
     let left = length bytes - offset_at digits k in
     front digits bytes k text (left_line left) done.runs done.written (inl (left, refl))

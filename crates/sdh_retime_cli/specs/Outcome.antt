@@ -28,7 +28,7 @@ pub record Runs (digits bytes : List ℕ) (k : ℕ) : Type 0 where
   pub lasts : lasts (lengths (chunks digits bytes k)) ≡ true
 
 -- all k chunks were taken in, and what is left is too little for one more
-pub record IsDone (digits bytes : List ℕ) (k : ℕ) (text : List ℕ) : Type 0 where
+pub record AllRetimed (digits bytes : List ℕ) (k : ℕ) (text : List ℕ) : Type 0 where
   pub runs : Runs digits bytes k
   pub short : length bytes < offset_at digits (suc k)
   pub written : text ≡ lines_of (chunks digits bytes k) ++ left_line (length bytes - offset_at digits k)
@@ -42,10 +42,10 @@ pub record IsDrift (digits bytes : List ℕ) (k turn : ℕ) (text : List ℕ) : 
   pub written : text ≡ lines_of (chunks digits bytes k) ++ drift_line (suc k)
 
 -- how the run of some bytes ends
-abbrev pub IsRunOutcome : List ℕ → List ℕ → Status → List ℕ → Type 0
-IsRunOutcome digits bytes status.Ok text = (k : ℕ) × IsDone digits bytes k text
-IsRunOutcome digits bytes (status.Drift turn) text = (k : ℕ) × IsDrift digits bytes k turn text
-IsRunOutcome digits bytes _ text = ⊥
+abbrev pub IsRetimed : List ℕ → List ℕ → Status → List ℕ → Type 0
+IsRetimed digits bytes status.Ok text = (k : ℕ) × AllRetimed digits bytes k text
+IsRetimed digits bytes (status.Drift turn) text = (k : ℕ) × IsDrift digits bytes k turn text
+IsRetimed digits bytes _ text = ⊥
 
 -- the words are digits, and the source has no more bytes than the program reads
 pub record IsRead (words : List (List ℕ)) (bytes digits : List ℕ) : Type 0 where
@@ -59,9 +59,9 @@ abbrev pub IsOutcome : List (List ℕ) → List ℕ → Status → List ℕ → 
 IsOutcome words bytes status.Usage text = (¬ AreDigits words) × (text ≡ own_line (codes "usage: sdhretime DIGITS"))
 IsOutcome words bytes status.ReadFault text = AreDigits words × (text ≡ own_line (codes "read fault"))
 IsOutcome words bytes status.TooLong text = AreDigits words × (1048576 < length bytes) × (text ≡ own_line (codes "too long"))
-IsOutcome words bytes status.Ok text = (digits : List ℕ) × IsRead words bytes digits × IsRunOutcome digits bytes status.Ok text
+IsOutcome words bytes status.Ok text = (digits : List ℕ) × IsRead words bytes digits × IsRetimed digits bytes status.Ok text
 IsOutcome words bytes (status.Drift turn) text =
-    (digits : List ℕ) × IsRead words bytes digits × IsRunOutcome digits bytes (status.Drift turn) text
+    (digits : List ℕ) × IsRead words bytes digits × IsRetimed digits bytes (status.Drift turn) text
 IsOutcome words bytes status.WriteFault text = ⊥
 IsOutcome words bytes status.Memory text = ⊥
 
@@ -76,27 +76,27 @@ MayEnd words bytes reads how text = IsOutcome words bytes how text × HasCause r
 
 -- what is written with a status: with a write fault a front of a text, nothing where memory ran out, and else a whole
 -- text
-abbrev pub telling_of : Status → Telling
-telling_of status.WriteFault = Front
-telling_of status.Memory = Nothing
-telling_of how = Whole
+abbrev pub retime_telling_of : Status → Telling
+retime_telling_of status.WriteFault = Front
+retime_telling_of status.Memory = Nothing
+retime_telling_of how = Whole
 
 -- what was written when a call ended with this status
-abbrev pub Writes : List (List ℕ) → List ℕ → Counts → Status → Option (List ℕ) → Option (List ℕ) → Type 0
-Writes words bytes reads how old new = WritesAs (telling_of how) (λ how text. MayEnd words bytes reads how text) how old new
+abbrev pub RetimingWrites : List (List ℕ) → List ℕ → Counts → Status → Option (List ℕ) → Option (List ℕ) → Type 0
+RetimingWrites words bytes reads how old new = WritesAs (retime_telling_of how) (λ how text. MayEnd words bytes reads how text) how old new
 
 -- what was written when a call returned this number
 pub record Answers (words : List (List ℕ)) (bytes : List ℕ) (reads : Counts) (number : ℕ) (old new : Option (List ℕ)) : Type 0 where
   pub status : Status
   pub numbered : number ≡ number_of status
-  pub writes : Writes words bytes reads status old new
+  pub writes : RetimingWrites words bytes reads status old new
 
 -- How many reads failed, and how many bytes were taken, by the time that the program came to the status `how`. It
 -- returns this status, or a write fault if writing the text fails. Where the source's count of faults is exact, one
 -- read failed if `how` is a read fault, and none otherwise. If `how` is `TooLong`, 1,048,577 bytes were taken, one more
 -- than the program accepts.
-abbrev pub CameTo : Bool → ℕ → ℕ → Option (List ℕ) → Option (List ℕ) → Status → Type 0
-CameTo exact before after left now how =
+abbrev pub RetimingCameTo : Bool → ℕ → ℕ → Option (List ℕ) → Option (List ℕ) → Status → Type 0
+RetimingCameTo exact before after left now how =
     CameOfSource exact (record { before = before; after = after }) left now (how ≡ status.ReadFault) (how ≡ status.TooLong)
 
 -- a status with which the source was read to its end, and the run came to an end
@@ -151,7 +151,7 @@ common = record {
 
 -- What a call keeps of its source and its sink when it ends with a status. With digits and at most 1,048,576 bytes, and
 -- no call that fails, the run comes to its end, or memory runs out.
-abbrev pub KeepsCall : {R W : Type 0} → List (List ℕ) → Around R (Option (List ℕ)) → Around W (Option (List ℕ)) → Status → Type 0
-KeepsCall words source sink end =
+abbrev pub KeepsRetiming : {R W : Type 0} → List (List ℕ) → Around R (Option (List ℕ)) → Around W (Option (List ℕ)) → Status → Type 0
+KeepsRetiming words source sink end =
     Keeps common (AreDigits words → ⊥) (AreDigits words → ⊥) (AreDigits words × TellsAtMost (source.shows source.before) 1048576)
     (λ how. Unit {0}) source sink end

@@ -3,12 +3,12 @@ ghost use Rattle.std.specs.Prelude.{◌≡◌, ℕ, ◌+◌, ◌*◌, ◌/◌, �
 ghost use Rattle.std.specs.Prelude.{OnErr};
 ghost use Rattle.sdh_elastic.specs.Turns.{IsChunk};
 ghost use Rattle.sdh_elastic.specs.History.{lasts, lengths};
-ghost use Rattle.sdh_elastic.specs.Store.{reading_of, CameBy};
+ghost use Rattle.sdh_elastic.specs.Store.{reading_of, StoreCameBy};
 ghost use Rattle.sdh_report.specs.Written.{with_part};
 ghost use Rattle.sdh_retime_cli.specs.Digits.{IsDigits};
 ghost use Rattle.sdh_retime_cli.specs.Lines.{action_word, turn_line, given_line, last_lines, left_line, drift_line};
 ghost use Rattle.sdh_retime_cli.specs.Front.{TellsFront};
-ghost use Rattle.sdh_retime_cli.specs.Outcome.{IsRunOutcome, HasRun, TellsUnsteady};
+ghost use Rattle.sdh_retime_cli.specs.Outcome.{IsRetimed, HasRun, TellsUnsteady};
 
 use crate::digits::{CHUNK_MIN, size_at};
 use crate::status::Status;
@@ -101,7 +101,7 @@ fn put_drift(text: &mut Text, number: usize)
 impl Retiming {
     // Returns an empty store with pointer value 0, and an interpreter that has read nothing.
     fn try_new(alloc: Global) -> Result<Retiming, AllocError>
-        ensures came { IfOk result (λ retiming. CameBy 0 [] retiming.store) }
+        ensures came { IfOk result (λ retiming. StoreCameBy 0 [] retiming.store) }
         ensures reads { IfOk result (λ retiming. retiming.interp.reading ≡ reading_of retiming.store) }
     {
         Ok(Retiming {
@@ -118,10 +118,10 @@ impl Retiming {
         requires reads { self.old.interp.reading ≡ reading_of self.old.store }
         ensures reads { OnOk result (self.new.interp.reading ≡ reading_of self.new.store) }
         ensures room { OnOk result (text.old.room ≤ text.new.room + 4801) }
-        ensures came { OnOk result ((past : List (List ℕ)) → CameBy 0 past self.old.store → CameBy 0 (input.now ∷ past) self.new.store) }
-        ensures lines { OnOk result ((past : List (List ℕ)) → CameBy 0 past self.old.store → number ≡ length past + 1
+        ensures came { OnOk result ((past : List (List ℕ)) → StoreCameBy 0 past self.old.store → StoreCameBy 0 (input.now ∷ past) self.new.store) }
+        ensures lines { OnOk result ((past : List (List ℕ)) → StoreCameBy 0 past self.old.store → number ≡ length past + 1
             → text.new.bytes ≡ text.old.bytes ++ last_lines (input.now ∷ past)) }
-        ensures drift { OnErr result ((past : List (List ℕ)) → CameBy 0 past self.old.store → lasts (lengths (input.now ∷ past)) ≡ false) }
+        ensures drift { OnErr result ((past : List (List ℕ)) → StoreCameBy 0 past self.old.store → lasts (lengths (input.now ∷ past)) ≡ false) }
         ensures err { OnErr result (text.new ≡ text.old) }
     {
         self.store.turn(input, &mut self.out)?;
@@ -138,9 +138,9 @@ impl Retiming {
         requires few { length bytes.now ≤ READ_MAX }
         requires room { 4801 * (length bytes.now / 2346) + 96 ≤ text.old.room }
         requires empty { text.old.bytes ≡ [] }
-        requires came { CameBy 0 [] self.old.store }
+        requires came { StoreCameBy 0 [] self.old.store }
         requires reads { self.old.interp.reading ≡ reading_of self.old.store }
-        ensures { IsRunOutcome digits.now bytes.now result text.new.bytes }
+        ensures { IsRetimed digits.now bytes.now result text.new.bytes }
     {
         let mut at = 0;
         let mut taken = 0;
@@ -164,7 +164,7 @@ impl Retiming {
 pub fn run(alloc: Global, digits: &[u8], bytes: &[u8]) -> Result<Outcome, AllocError>
     requires digits { IsDigits digits.now }
     requires few { length bytes.now ≤ READ_MAX }
-    ensures outcome { IfOk result (λ told. IsRunOutcome digits.now bytes.now told.status told.text.bytes) }
+    ensures outcome { IfOk result (λ told. IsRetimed digits.now bytes.now told.status told.text.bytes) }
     ensures unsteady { IfOk result
         (λ told. (turn : ℕ) → told.status ≡ Status.Drift turn → TellsUnsteady digits.now turn told.text.bytes) }
     ensures front { IfOk result (λ told. TellsFront bytes.now told.text.bytes) }

@@ -6,11 +6,11 @@ ghost use Rattle.sdh_outside.specs.Reading.{TakesCount, TellsAtMost};
 ghost use Rattle.sdh_report.specs.Lines.{own_line};
 ghost use Rattle.sdh_shell.specs.Calls.{words_of};
 ghost use Rattle.sdh_shell.specs.Failing.{Counts};
-ghost use Rattle.sdh_shell.specs.Kept.{around};
+ghost use Rattle.sdh_shell.specs.Kept.{seen_around};
 ghost use Rattle.sdh_retime_cli.specs.Digits.{AreDigits};
 ghost use Rattle.sdh_retime_cli.specs.declared.status.Status.{Status};
 ghost use Rattle.sdh_retime_cli.specs.Front.{TellsFront, WritesFront};
-ghost use Rattle.sdh_retime_cli.specs.Outcome.{number_of, IsOutcome, Writes, Answers, CameTo, HasRun, AreUnsteady, WritesUnsteady, KeepsCall};
+ghost use Rattle.sdh_retime_cli.specs.Outcome.{number_of, IsOutcome, RetimingWrites, Answers, RetimingCameTo, HasRun, AreUnsteady, WritesUnsteady, KeepsRetiming};
 
 use crate::digits::digits_of;
 use crate::retiming::{Outcome, run};
@@ -82,9 +82,9 @@ fn answer<R: Source, W: Sink>(
 ) -> Status
     ensures outcome { let reads : Counts = record { before = R.faults source.old; after = R.faults source.new } in
         IfSome (R.left source.old)
-        (λ bytes. Writes (words_of words.now) bytes reads result (W.written sink.old) (W.written sink.new)) }
+        (λ bytes. RetimingWrites (words_of words.now) bytes reads result (W.written sink.old) (W.written sink.new)) }
     ensures usage_text { let reads : Counts = record { before = R.faults source.old; after = R.faults source.new } in
-        (¬ AreDigits (words_of words.now)) → Writes (words_of words.now) [] reads result (W.written sink.old) (W.written sink.new) }
+        (¬ AreDigits (words_of words.now)) → RetimingWrites (words_of words.now) [] reads result (W.written sink.old) (W.written sink.new) }
     ensures alone { (¬ AreDigits (words_of words.now)) → source.new ≡ source.old }
     ensures usage { result ≡ Status.Usage → ¬ AreDigits (words_of words.now) }
     ensures usage_only { (¬ AreDigits (words_of words.now))
@@ -92,7 +92,7 @@ fn answer<R: Source, W: Sink>(
     ensures read_fault { result ≡ Status.ReadFault → Rose (R.faults source.old) (R.faults source.new) }
     ensures write_fault { result ≡ Status.WriteFault → Rose (W.faults sink.old) (W.faults sink.new) }
     ensures came { (how : Status) × ((result ≡ how) ⊎ (result ≡ Status.WriteFault))
-        × CameTo R.exact (R.faults source.old) (R.faults source.new) (R.left source.old) (R.left source.new) how }
+        × RetimingCameTo R.exact (R.faults source.old) (R.faults source.new) (R.left source.old) (R.left source.new) how }
     ensures writes { IsCounted W.exact (result ≡ Status.WriteFault) (W.faults sink.old) (W.faults sink.new) }
     ensures memory { result ≡ Status.Memory → sink.new ≡ sink.old }
     ensures read_whole { HasRun result → IsAtEnd (R.left source.new) }
@@ -145,8 +145,8 @@ pub fn retime<R: Source, W: Sink>(
 
     // What the call keeps, over every source and sink (`Keeps` in `sdh_shell/specs/Kept`): each fault has its cause, what
     // isn't asked for stays as it was, and with digits, at most 1,048,576 bytes and no call that fails all is done.
-    ensures kept { (how : Status) × (result ≡ number_of how) × KeepsCall (words_of words.now)
-        (around R.faults R.exact R.left source.old source.new) (around W.faults W.exact W.written sink.old sink.new) how }
+    ensures kept { (how : Status) × (result ≡ number_of how) × KeepsRetiming (words_of words.now)
+        (seen_around R.faults R.exact R.left source.old source.new) (seen_around W.faults W.exact W.written sink.old sink.new) how }
 {
     answer(alloc, words, source, sink).number()
 }

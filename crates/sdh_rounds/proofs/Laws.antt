@@ -9,7 +9,7 @@ use Rattle.sdh_rounds.specs.Stations.{Station}
 use Rattle.sdh_rounds.specs.Held.{HeldRing, World}
 use Rattle.sdh_rounds.specs.Rounds.{frames_with, sent_all, sent_some, after_given, round_with, round}
 use Rattle.sdh_rounds.specs.Runs.{run_with, course_with}
-use Rattle.sdh_rounds.specs.Laws.{KnownRounds, Keeps, Appends, RoundsKeep, FaultsKeep, frames_in, RunsKeep, SettledNumbers, BrokenStepsSend}
+use Rattle.sdh_rounds.specs.Laws.{KnownRounds, LeavesAsItWas, Appends, RoundsKeep, FaultsKeep, frames_in, RunsKeep, SettledNumbers, BrokenStepsSend}
 use Rattle.sdh_rounds.specs.Laws.{KnownSteps, StepsAreComputed}
 use Rattle.sdh_rounds.proofs.Runs.{knows_round, conditions_round, honest_round, held_round, count_round, prepared_round, course_whole}
 use Rattle.sdh_rounds.proofs.Runs.{held_run, conditions_run, honest_run, known_settles, known_unsettles}
@@ -52,7 +52,7 @@ module _ {N : Type 0} (st : Station N) where
   unfolding round_with sent_all after_given
   appends_round xs w = refl
 
-  keeps_round : (xs : List Arrival) (w : World N) → Keeps w (round_with st xs w) 1
+  keeps_round : (xs : List Arrival) (w : World N) → LeavesAsItWas w (round_with st xs w) 1
   keeps_round xs w = record {
     ring = held_round st xs w;
     size = count_round st xs w;
@@ -63,7 +63,7 @@ module _ {N : Type 0} (st : Station N) where
 
   pub rounds_keep : RoundsKeep st
   rounds_keep w after r = (
-    subst (λ x. Keeps w x 1) (sym r.after_is) (keeps_round r.arrivals w),
+    subst (λ x. LeavesAsItWas w x 1) (sym r.after_is) (keeps_round r.arrivals w),
     subst (λ x. Appends w.fibres (frames_with st r.arrivals w) x.fibres) (sym r.after_is) (appends_round r.arrivals w),
   )
 

@@ -17,7 +17,7 @@ abbrev pub KnownRounds : {N : Type 0} → Station N → Type 0
 KnownRounds {N} s = (w after : World N) → Knows w.fibres → IsRound s w after → (after ≡ round s w) × Knows after.fibres
 
 -- what this number of rounds leaves as it was
-pub record Keeps {N : Type 0} (w after : World N) (rounds : ℕ) : Type 0 where
+pub record LeavesAsItWas {N : Type 0} (w after : World N) (rounds : ℕ) : Type 0 where
   pub ring : after.ring ≡ record w.ring { nodes = after.ring.nodes; rounds = w.ring.rounds + rounds }
   pub size : length after.ring.nodes ≡ length w.ring.nodes
   pub conditions : after.fibres.conditions ≡ w.fibres.conditions
@@ -31,7 +31,7 @@ Appends f frames g = g.sent ≡ option_map (λ sent. sent ++ frames) f.sent
 -- what a round leaves as it was, and the frames that it appends
 abbrev pub RoundsKeep : {N : Type 0} → Station N → Type 0
 RoundsKeep {N} s =
-    (w after : World N) → (r : IsRound s w after) → Keeps w after 1 × Appends w.fibres (frames_with s r.arrivals w) after.fibres
+    (w after : World N) → (r : IsRound s w after) → LeavesAsItWas w after 1 × Appends w.fibres (frames_with s r.arrivals w) after.fibres
 
 -- what a round that was broken off keeps, and the first of its frames, which it appends
 pub record FaultsKeep {N : Type 0} (s : Station N) : Type 0 where
@@ -54,7 +54,7 @@ frames_in s (arrivals ∷ later) w = frames_with s arrivals w ++ frames_in s lat
 -- what rounds one after the other leave as it was, and the frames that they append
 abbrev pub RunsKeep : {N : Type 0} → Station N → Type 0
 RunsKeep {N} s =
-    (rounds : List (List Arrival)) (w : World N) → Keeps w (run_with s rounds w) (length rounds)
+    (rounds : List (List Arrival)) (w : World N) → LeavesAsItWas w (run_with s rounds w) (length rounds)
     × Appends w.fibres (frames_in s rounds w) (run_with s rounds w).fibres
 
 -- a settle step that ended with a window ran at least one round, and the number of the last is a multiple of 128 and

@@ -11,7 +11,7 @@ use Rattle.sdh_status.specs.declared.Status.{Status}
 use Rattle.sdh_status.specs.declared.Status.TheVariants as status
 use Rattle.sdh_scripts.specs.Walks.{Walk}
 use Rattle.sdh_scripts.specs.Scripts.{Stops, Refuses, Runs, Ran, script, reports_within, IsRan, IsCutShort}
-use Rattle.sdh_scripts.specs.Outcomes.{ComesOfSteps, ComesOfKnownRun, IsSettled}
+use Rattle.sdh_scripts.specs.Outcomes.{ComesOfSteps, ComesOfKnownRun, AllSettled}
 use Rattle.sdh_scripts.specs.Laws.{KeepsRounds}
 use Rattle.sdh_scripts.proofs.Known.{none_sent, known_scripts}
 
@@ -22,13 +22,13 @@ refused_ends (step.Fibre e) w reports end left x = x.1
 refused_ends s w reports end left x = absurd x
 
 -- an ending that equals a settled one is settled
-pub settled_by : (end how : Status) → end ≡ how → IsSettled how → IsSettled end
+pub settled_by : (end how : Status) → end ≡ how → AllSettled how → AllSettled end
 settled_by end how is h k e = h k (sym is ∙ e)
 
-pub ok_settles : IsSettled status.Ok
+pub ok_settles : AllSettled status.Ok
 ok_settles k e = grind arith
 
-pub fault_settles : IsSettled status.PlantFault
+pub fault_settles : AllSettled status.PlantFault
 fault_settles k e = grind arith
 
 -- the ways in which a script ends
@@ -56,7 +56,7 @@ module _ {N T : Type 0} (walk : Walk N T) where
 
   -- a script that settles, and that no fault broke off, is done
   pub settled_done : (limit : ℕ) (steps : List Step) (w : World N) (f left : Fibres) (reports : List T) (end : Status)
-      → ComesOfSteps walk limit steps w f reports end left → IsSettled end → (end ≡ status.PlantFault → ⊥) → end ≡ status.Ok
+      → ComesOfSteps walk limit steps w f reports end left → AllSettled end → (end ≡ status.PlantFault → ⊥) → end ≡ status.Ok
   settled_done limit steps w f left reports end x settled fine = elim (comes_ends limit steps w f left reports end x) [
     | inl done ↦ done
     | inr (inl at) ↦ absurd (settled at.0 at.1)

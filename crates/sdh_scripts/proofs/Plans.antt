@@ -19,10 +19,10 @@ use Rattle.sdh_scripts.specs.Walks.{Walk}
 use Rattle.sdh_scripts.specs.Scripts.{Runs}
 use Rattle.sdh_scripts.specs.Texts.{Lists}
 use Rattle.sdh_scripts.specs.Streams.{NoneMade, WroteSteps}
-use Rattle.sdh_scripts.specs.Outcomes.{with_fibres, Came, ComesOfSteps, IsSettled, ComesOfKnownRun}
+use Rattle.sdh_scripts.specs.Outcomes.{with_fibres, Came, ComesOfSteps, AllSettled, ComesOfKnownRun}
 use Rattle.sdh_scripts.specs.Laws.{KeepsRounds}
 use Rattle.sdh_scripts.specs.Plans.{Account, ReportsOwe, world_of, ran_of, Comes, ComesKnown, MaySettle, IsRunOf, Tells}
-use Rattle.sdh_scripts.specs.NewRuns.{MayStart, IsOf}
+use Rattle.sdh_scripts.specs.NewRuns.{MayStartRun, IsRunOfPlan}
 use Rattle.sdh_scripts.specs.declared.run.NewRun.{NewRun}
 use Rattle.sdh_scripts.proofs.Texts.{silent_tail}
 use Rattle.sdh_scripts.proofs.Outcomes.{EndsIn, comes_ends, known_comes, settled_done, known_done, settled_by, fault_settles}
@@ -96,11 +96,11 @@ pub as_planned : {N : Type 0} (Holds : List Step → HeldRing N → Fibres → T
 as_planned {N} Holds plan new r rate n steps f ring rates size same x =
     subst (λ (t : List Step × HeldRing N × Rate × ℕ). Holds t.0 t.1 (prepared t.2 t.3 f)) (sym (λ i. (same i, ring i, rates i, size i))) x
 
-module _ {N T R : Type 0} (ring : R → HeldRing N) (t : Account N T) (plan : Planned) (run : NewRun R) (is : IsOf ring t plan run) where
+module _ {N T R : Type 0} (ring : R → HeldRing N) (t : Account N T) (plan : Planned) (run : NewRun R) (is : IsRunOfPlan ring t plan run) where
   -- the run of a plan may start
   pub may_start_of : (MayRun : ℕ → List Step → R → Fibres → Type 0) → IsNew t.new_ring
       → ((f : Fibres) → MayRun 0 run.script.steps.items run.runner (prepared run.script.rate run.script.nodes f))
-      → MayStart ring MayRun run.runner run.script
+      → MayStartRun ring MayRun run.runner run.script
   may_start_of MayRun new may =
       let least = is.form.nodes_fit.enough in
       let most = is.form.nodes_fit.few in
@@ -149,14 +149,14 @@ module _ {N T : Type 0} (t : Account N T) (plan : Planned) (f left : Fibres) (en
 
   -- where each run of the script settles, so does what came over any plant
   pub settles_then : ((reports : List T) (last : World N) → Runs t.walk plan.limit 0 plan.steps (world_of t plan f) reports end last
-      → IsSettled end) → (reports : List T) → Comes t plan f reports end left → IsSettled end
+      → AllSettled end) → (reports : List T) → Comes t plan f reports end left → AllSettled end
   settles_then law reports (inl x) = settled_by end status.PlantFault x.0 fault_settles
   settles_then law reports (inr x) = law reports x.0 x.2
 
   pub tells_all : (Owes : ReportsOwe T) (text_of : T → List ℕ) (text : List ℕ) → KeepsRounds t.walk → IsNew t.new_ring → IsPlanned plan
       → (f.honest ≡ true → (reports : List T) → Comes t plan f reports end left → Owes plan f reports end left)
       → (f.honest ≡ true → enough_for (length plan.nodes) ≤ plan.limit → (reports : List T) (last : World N)
-      → Runs t.walk plan.limit 0 plan.steps (world_of t plan f) reports end last → IsSettled end)
+      → Runs t.walk plan.limit 0 plan.steps (world_of t plan f) reports end last → AllSettled end)
       → Came t.walk plan.limit text_of plan.steps (world_of t plan f) f text end left → Tells t Owes text_of plan f text end left
   tells_all Owes text_of text law new fits owes settled x = record {
     reports = x.reports;

@@ -11,7 +11,7 @@ use Rattle.sdh_scripts.specs.declared.run.NewScript.{NewScript}
 
 -- the rate and the number of nodes of the script are those of the ring that it is run over, and its steps may be run
 -- over fibres that are prepared for these
-pub record MayStart {N R : Type 0} (ring : R → HeldRing N) (MayRun : ℕ → List Step → R → Fibres → Type 0) (runner : R)
+pub record MayStartRun {N R : Type 0} (ring : R → HeldRing N) (MayRun : ℕ → List Step → R → Fibres → Type 0) (runner : R)
     (script : NewScript) : Type 0 where
   pub rate : script.rate ≡ (ring runner).settings.rate
   pub nodes : script.nodes ≡ length (ring runner).ids
@@ -29,7 +29,7 @@ pub record IsScriptOf (plan : Planned) (script : NewScript) : Type 0 where
   pub limit : script.limit ≡ plan.limit
 
 -- the run is of the script of a plan over the plan's ring
-pub record IsOf {N T R : Type 0} (ring : R → HeldRing N) (t : Account N T) (plan : Planned) (run : NewRun R) : Type 0 where
+pub record IsRunOfPlan {N T R : Type 0} (ring : R → HeldRing N) (t : Account N T) (plan : Planned) (run : NewRun R) : Type 0 where
   pub form : IsPlanned plan
   pub ring_is : ring run.runner ≡ t.new_ring plan
   pub script_is : IsScriptOf plan run.script

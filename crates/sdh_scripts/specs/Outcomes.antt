@@ -48,5 +48,5 @@ abbrev pub ComesOfKnownRun : {N T : Type 0} → Walk N T → Ran N T → ℕ →
 ComesOfKnownRun walk r n f reports end left = IsDone r reports end left ⊎ ((end ≡ status.PlantFault) × IsCut walk r n f reports left)
 
 -- no settle step was unsettled
-abbrev pub IsSettled : Status → Type 0
-IsSettled end = (k : ℕ) → end ≢ status.Unsettled k
+abbrev pub AllSettled : Status → Type 0
+AllSettled end = (k : ℕ) → end ≢ status.Unsettled k

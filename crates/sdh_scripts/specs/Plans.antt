@@ -10,7 +10,7 @@ use Rattle.sdh_status.specs.declared.Status.{Status}
 use Rattle.sdh_status.specs.declared.Status.TheVariants as status
 use Rattle.sdh_scripts.specs.Walks.{Walk}
 use Rattle.sdh_scripts.specs.Scripts.{Ran, script}
-use Rattle.sdh_scripts.specs.Outcomes.{with_fibres, IsSettled, ComesOfSteps, ComesOfKnownRun}
+use Rattle.sdh_scripts.specs.Outcomes.{with_fibres, AllSettled, ComesOfSteps, ComesOfKnownRun}
 
 -- how plans are run and reported over rings of some kind
 pub record Account (N T : Type 0) : Type 1 where
@@ -54,7 +54,7 @@ pub record IsRunOf {N T : Type 0} (t : Account N T) (Owes : ReportsOwe T) (plan 
   pub ran : Comes t plan f reports end left
   pub known : Knows (world_of t plan f).fibres → ComesKnown t plan f reports end left
   pub owed : f.honest ≡ true → Owes plan f reports end left
-  pub settles : f.honest ≡ true → enough_for (length plan.nodes) ≤ plan.limit → IsSettled end
+  pub settles : f.honest ≡ true → enough_for (length plan.nodes) ≤ plan.limit → AllSettled end
 
 -- the text is what is written of each report of a run
 pub record Tells {N T : Type 0} (t : Account N T) (Owes : ReportsOwe T) (text_of : T → List ℕ) (plan : Planned) (f : Fibres)

@@ -19,5 +19,5 @@ stepped changes step.Settle w = w
 
 -- what the script has led to so far: the ring's moment, the number of settle steps, and the slips that wait at its
 -- ports
-abbrev pub past_in : {N : Type 0} → Changing N → ℕ → HeldRing N → Past
-past_in changes before r = record { moment = r.moment; settles = before; slips = changes.waiting_at r }
+abbrev pub script_past : {N : Type 0} → Changing N → ℕ → HeldRing N → Past
+script_past changes before r = record { moment = r.moment; settles = before; slips = changes.waiting_at r }

@@ -5,7 +5,7 @@ ghost use Rattle.sdh_plant.specs.Fibres.{IsPrepared};
 ghost use Rattle.sdh_rounds.specs.Held.{world};
 ghost use Rattle.sdh_plan.specs.Scripts.{AreSteps};
 ghost use Rattle.sdh_scripts.specs.Runners.{Refused};
-ghost use Rattle.sdh_scripts.specs.Steps.{past_in, stepped};
+ghost use Rattle.sdh_scripts.specs.Steps.{script_past, stepped};
 
 use sdh_plan::Step;
 use sdh_plant::Plant;
@@ -20,7 +20,7 @@ pub fn change<R: TakesChanges, P: Plant>(
 ) -> Result<(), PlantFault>
     requires prepared { IsPrepared (R.ring ring.old).settings.rate (length (R.ring ring.old).ids) (P.fibres plant.old) }
     requires steps { AreSteps (R.ring ring.old).settings.rate (length (R.ring ring.old).ids)
-        (length (R.ring ring.old).circuits.circuits) (past_in R.changes 0 (R.ring ring.old)) (step ∷ []) }
+        (length (R.ring ring.old).circuits.circuits) (script_past R.changes 0 (R.ring ring.old)) (step ∷ []) }
     ensures ok { OnOk result (world (R.ring ring.new) (P.fibres plant.new)
         ≡ stepped R.changes step (world (R.ring ring.old) (P.fibres plant.old))) }
     ensures err { OnErr result (Refused step (P.fibres plant.old) (P.fibres plant.new)) }

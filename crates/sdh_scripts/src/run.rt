@@ -7,7 +7,7 @@ ghost use Rattle.sdh_rounds.specs.Held.{world};
 ghost use Rattle.sdh_scripts.specs.Texts.{room_for, WriteFailed};
 ghost use Rattle.sdh_scripts.specs.Outcomes.{with_fibres};
 ghost use Rattle.sdh_scripts.specs.Streams.{WroteSteps};
-ghost use Rattle.sdh_scripts.specs.NewRuns.{MayStart};
+ghost use Rattle.sdh_scripts.specs.NewRuns.{MayStartRun};
 
 use crate::script::run_script;
 use crate::teller::Teller;
@@ -58,7 +58,7 @@ pub fn run_over<O: Output, P: Plant, R: Teller<O, P>>(
     output: &mut O,
 ) -> Result<Status, AllocError>
     requires fresh { HasNoFibres (P.fibres plant.old) }
-    requires ready { MayStart R.ring R.MayRun runner.old script }
+    requires ready { MayStartRun R.ring R.MayRun runner.old script }
     requires room { O.Takes (room_for (R.room runner.old) 0) output.old }
 
     // Either no fibres were made. Or the text lists reports that came over the fibres prepared for the ring, and then

@@ -18,8 +18,8 @@ pub record Around (S V : Type 0) : Type 0 where
   -- what can be seen of it: the bytes that a source has left, the bytes that a sink holds, the fibres of a plant
   pub shows : S → V
 
-abbrev pub around : {S V : Type 0} → (S → ℕ) → Bool → (S → V) → S → S → Around S V
-around faults exact shows before after = record { before = before; after = after; faults = faults; exact = exact; shows = shows }
+abbrev pub seen_around : {S V : Type 0} → (S → ℕ) → Bool → (S → V) → S → S → Around S V
+seen_around faults exact shows before after = record { before = before; after = after; faults = faults; exact = exact; shows = shows }
 
 abbrev pub counts_of : {S V : Type 0} → Around S V → Counts
 counts_of x = record { before = x.faults x.before; after = x.faults x.after }

@@ -11,16 +11,16 @@ use Rattle.sdh_shell.specs.declared.reading.NoPlan.{NoPlan}
 use Rattle.sdh_shell.specs.declared.reading.NoPlan.TheVariants as none
 
 -- there are no more bytes than a plan may have, 1,048,576
-abbrev pub IsShort : List ℕ → Type 0
-IsShort bytes = length bytes ≤ 1048576
+abbrev pub HasPlanLength : List ℕ → Type 0
+HasPlanLength bytes = length bytes ≤ 1048576
 
 -- Why there is no plan: a read failed, of which the bytes say nothing; there are too many bytes; they are no document;
 -- or they are a document, and the first of its checks that fails has a reason of this number and this place.
 abbrev pub HasNoPlan : List ℕ → Status → Type 0
 HasNoPlan bytes status.ReadFault = Unit {0}
 HasNoPlan bytes status.TooLong = 1048576 < length bytes
-HasNoPlan bytes status.NotToml = IsShort bytes × IsNoDocument bytes
-HasNoPlan bytes (status.BadPlan number place) = IsShort bytes × IsWhy bytes (error.BadPlan number place)
+HasNoPlan bytes status.NotToml = HasPlanLength bytes × IsNoDocument bytes
+HasNoPlan bytes (status.BadPlan number place) = HasPlanLength bytes × IsWhy bytes (error.BadPlan number place)
 HasNoPlan bytes status.Ok = ⊥
 HasNoPlan bytes status.Usage = ⊥
 HasNoPlan bytes status.WriteFault = ⊥
@@ -31,7 +31,7 @@ HasNoPlan bytes status.Memory = ⊥
 
 -- these bytes are those of this plan, and no more than a plan may have
 abbrev pub TellsPlan : List ℕ → Planned → Type 0
-TellsPlan bytes plan = IsShort bytes × IsPlanOf bytes plan
+TellsPlan bytes plan = HasPlanLength bytes × IsPlanOf bytes plan
 
 -- the source shows the bytes of a plan
 abbrev pub HasPlan : Option (List ℕ) → Type 0

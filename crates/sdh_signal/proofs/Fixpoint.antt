@@ -14,7 +14,7 @@ use Rattle.sdh_nodestate.specs.Rules.{word, state_after, sent_after}
 use Rattle.sdh_restoration.specs.Applied.{span_requests}
 use Rattle.sdh_signal.specs.Settled.{settled, settled_states}
 use Rattle.sdh_signal.proofs.Placewise.{map_from-same}
-use Rattle.sdh_signal.specs.Signals.{Signals, request_on, is_held, state_in, words_in, scene_at, round, free_round, rounds, MayGo}
+use Rattle.sdh_signal.specs.Signals.{Signals, request_on, is_held, state_in, words_in, scene_at, round, free_round, unheld_rounds, MaySignal}
 use Rattle.sdh_signal.specs.Signals.{no_needs, requests_in}
 use Rattle.sdh_signal.specs.Runs.{Run, at_round, run_requests}
 use Rattle.sdh_signal.specs.Laws.{RunsSettle, WordsStay, StillRingsAreSettled, FreeRounds, RingsSettle}
@@ -37,7 +37,7 @@ held_by held p none (inr past) = get_or_past held p false past
 not_held : (held : List Bool) → All (λ b. b ≡ false) held → (p : ℕ) → is_held held p ≡ false
 not_held held none p = held_by held p none (cases_lt p (length held))
 
-module _ (needs : List Needs) (s : Signals) (may : MayGo needs s) where
+module _ (needs : List Needs) (s : Signals) (may : MaySignal needs s) where
   abbrev n : ℕ
   n = length s.ids
 
@@ -45,7 +45,7 @@ module _ (needs : List Needs) (s : Signals) (may : MayGo needs s) where
   run = run_of needs s may
 
   abbrev ring : ℕ → Signals
-  ring t = rounds needs t s
+  ring t = unheld_rounds needs t s
 
   same_requests : run_requests run ≡ requests_in needs
   same_requests = ap (λ m. span_requests m (λ p d. request_on (get_or needs p no_needs) d)) (sym may.size)
@@ -109,13 +109,13 @@ free_rounds needs held s none =
     (λ p x. if is_held [] p then words_in s p else sent_after (scene_at s p x)) needs no_needs
     (λ k h. ap (λ b. if b then words_in s k else sent_after (scene_at s k (get_or needs k no_needs))) (not_held held none k)))
 
-settled_from : (needs : List Needs) (s : Signals) → MayGo needs s → (t : ℕ) → 4 * length s.ids + 8 ≤ t
-    → (rounds needs t s).states ≡ settled_states (requests_in needs)
+settled_from : (needs : List Needs) (s : Signals) → MaySignal needs s → (t : ℕ) → 4 * length s.ids + 8 ≤ t
+    → (unheld_rounds needs t s).states ≡ settled_states (requests_in needs)
 settled_from needs s may zero h = absurd (omega arith)
 settled_from needs s may (suc t) h = settled_after needs s may t (omega arith)
 
-words_from : (needs : List Needs) (s : Signals) → MayGo needs s → (t : ℕ) → 5 * length s.ids + 8 ≤ t
-    → (rounds needs (suc t) s).words ≡ (rounds needs t s).words
+words_from : (needs : List Needs) (s : Signals) → MaySignal needs s → (t : ℕ) → 5 * length s.ids + 8 ≤ t
+    → (unheld_rounds needs (suc t) s).words ≡ (unheld_rounds needs t s).words
 words_from needs s may zero h = absurd (omega arith)
 words_from needs s may (suc t) h = words_after needs s may t (omega arith)
 

@@ -11,7 +11,7 @@ use Rattle.sdh_squelch.specs.declared.Row.{Row}
 use Rattle.sdh_squelch.specs.Table.{circuits_at}
 use Rattle.sdh_bridge.specs.declared.Origin.{Origin}
 use Rattle.sdh_bridge.specs.declared.Origin.TheVariants.{Protection, Ais}
-use Rattle.sdh_bridge.specs.Connections.{sent_of, stands_for, leaves_working, leaves_protection}
+use Rattle.sdh_bridge.specs.Connections.{origin_sent, stands_for, leaves_working, leaves_protection}
 use Rattle.sdh_restoration.specs.Applied.{is_applied, is_any_applied}
 use Rattle.sdh_signal.specs.Settled.{settled, settled_by, is_outranked, far_end}
 use Rattle.sdh_signal.specs.Walks.{port, carries_in, stands_in, working_in, protection_in}
@@ -32,7 +32,7 @@ module _ (rs : List ℕ) (cs : List Provisioned) (p : ℕ) where
   if_own false true i o h = tt
   if_own false false i o h = h
 
-  sent_free : (k : Option Row) (o : Origin) → IsFree n (is_applied rs) p o → IsFree n (is_applied rs) p (sent_of (position_of p) k o)
+  sent_free : (k : Option Row) (o : Origin) → IsFree n (is_applied rs) p o → IsFree n (is_applied rs) p (origin_sent (position_of p) k o)
   sent_free None o h = tt
   sent_free (Some r) o h = if_own (r.from.0 == p) (r.to.0 == p) r.circuit o h
 

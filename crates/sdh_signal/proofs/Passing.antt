@@ -2,7 +2,7 @@
 use Rattle.std.proofs.Common.{◌≡◌, ℕ, Bool, true, false, Option, Some, None, List, refl, ap, ◌∙◌, inl, inr, ◌⊎◌}
 use Rattle.std.specs.Prelude.{if◌then◌else◌}
 use Rattle.std.specs.Option.{option_map_or}
-use Rattle.sdh_bridge.specs.Connections.{chain_on, leaves_protection, leaves_working, may_carry, sent_of, stands_for}
+use Rattle.sdh_bridge.specs.Connections.{chain_on, leaves_protection, leaves_working, may_carry, origin_sent, stands_for}
 use Rattle.sdh_bridge.specs.declared.Origin.{Origin}
 use Rattle.sdh_bridge.specs.declared.Origin.TheVariants.{Ais, Protection, Working}
 use Rattle.sdh_circuits.specs.Provisioned.{Provisioned}
@@ -64,10 +64,10 @@ some_by false false i z x e = cc
 
 -- a circuit that ends at p, and one that doesn't
 sent-own : (p i : ℕ) (c : Provisioned) (z : Origin) (x : End) → end_at c p ≡ Some x
-    → sent_of (position_of p) (Some (entry i c)) z ≡ port i x
+    → origin_sent (position_of p) (Some (entry i c)) z ≡ port i x
 sent-own p i c z x e = some_by _ _ i z x e
 
-sent-on : (p i : ℕ) (c : Provisioned) (z : Origin) → end_at c p ≡ None → sent_of (position_of p) (Some (entry i c)) z ≡ z
+sent-on : (p i : ℕ) (c : Provisioned) (z : Origin) → end_at c p ≡ None → origin_sent (position_of p) (Some (entry i c)) z ≡ z
 sent-on p i c z e = none_by _ _ _ _ z e
 
 module _ (n : ℕ) (cs : List Provisioned) (q : ℕ) where
@@ -83,15 +83,15 @@ module _ (n : ℕ) (cs : List Provisioned) (q : ℕ) where
 
   -- what is taken from the other side goes on, if the circuit in the slot doesn't end here
   goes_by : (st : NodeState) (d : Side) (m : ℕ) (k : Option Row) → circuits_at n cs q m d ≡ k
-      → (sent_of (position_of q) k (stands_in n cs q st (opposite d) m) ≡ stands_in n cs q st (opposite d) m)
+      → (origin_sent (position_of q) k (stands_in n cs q st (opposite d) m) ≡ stands_in n cs q st (opposite d) m)
       → working_in n cs q st d m ≡ stands_in n cs q st (opposite d) m
   unfolding leaves_working stands_for
   goes_by (state.Isolated i) d m k h g = refl
-  goes_by (state.SwitchWest f) d m k h g = ap (λ o. sent_of (position_of q) o (stands_in n cs q (state.SwitchWest f) (opposite d) m)) h ∙ g
-  goes_by (state.SwitchEast f) d m k h g = ap (λ o. sent_of (position_of q) o (stands_in n cs q (state.SwitchEast f) (opposite d) m)) h ∙ g
+  goes_by (state.SwitchWest f) d m k h g = ap (λ o. origin_sent (position_of q) o (stands_in n cs q (state.SwitchWest f) (opposite d) m)) h ∙ g
+  goes_by (state.SwitchEast f) d m k h g = ap (λ o. origin_sent (position_of q) o (stands_in n cs q (state.SwitchEast f) (opposite d) m)) h ∙ g
   goes_by (state.PassThrough i) d m k h g =
-      ap (λ o. sent_of (position_of q) o (stands_in n cs q (state.PassThrough i) (opposite d) m)) h ∙ g
-  goes_by (state.Idle i) d m k h g = ap (λ o. sent_of (position_of q) o (stands_in n cs q (state.Idle i) (opposite d) m)) h ∙ g
+      ap (λ o. origin_sent (position_of q) o (stands_in n cs q (state.PassThrough i) (opposite d) m)) h ∙ g
+  goes_by (state.Idle i) d m k h g = ap (λ o. origin_sent (position_of q) o (stands_in n cs q (state.Idle i) (opposite d) m)) h ∙ g
 
   -- a circuit that doesn't end here goes on
   pub leaves-on : (st : NodeState) (i : ℕ) (c : Provisioned) (d : Side) (m : ℕ) → circuit_from n (span_at n q d) m 0 cs ≡ Some (entry i c)
@@ -99,7 +99,7 @@ module _ (n : ℕ) (cs : List Provisioned) (q : ℕ) where
   leaves-on st i c d m h e = goes_by st d m (Some (entry i c)) h (sent-on q i c (stands_in n cs q st (opposite d) m) e)
 
   own_or_none : (st : NodeState) (d : Side) (m : ℕ) → (working_in n cs q st d m ≡ Ais)
-      ⊎ (working_in n cs q st d m ≡ sent_of (position_of q) (circuits_at n cs q m d) (stands_in n cs q st (opposite d) m))
+      ⊎ (working_in n cs q st d m ≡ origin_sent (position_of q) (circuits_at n cs q m d) (stands_in n cs q st (opposite d) m))
   unfolding leaves_working
   own_or_none (state.Isolated i) d m = inl refl
   own_or_none (state.SwitchWest f) d m = inr refl
@@ -108,7 +108,7 @@ module _ (n : ℕ) (cs : List Provisioned) (q : ℕ) where
   own_or_none (state.Idle i) d m = inr refl
 
   open_sends : (st : NodeState) (y d : Side) (m : ℕ) → is_open st y ≡ true
-      → working_in n cs q st d m ≡ sent_of (position_of q) (circuits_at n cs q m d) (stands_in n cs q st (opposite d) m)
+      → working_in n cs q st d m ≡ origin_sent (position_of q) (circuits_at n cs q m d) (stands_in n cs q st (opposite d) m)
   unfolding leaves_working
   open_sends (state.Isolated i) y d m o = cc
   open_sends (state.SwitchWest f) y d m o = refl
@@ -118,9 +118,9 @@ module _ (n : ℕ) (cs : List Provisioned) (q : ℕ) where
 
   own_by : (st : NodeState) (i : ℕ) (c : Provisioned) (x : End) (d : Side) (m : ℕ)
       → circuit_from n (span_at n q d) m 0 cs ≡ Some (entry i c) → end_at c q ≡ Some x
-      → sent_of (position_of q) (circuits_at n cs q m d) (stands_in n cs q st (opposite d) m) ≡ port i x
+      → origin_sent (position_of q) (circuits_at n cs q m d) (stands_in n cs q st (opposite d) m) ≡ port i x
   own_by st i c x d m h e =
-      ap (λ o. sent_of (position_of q) o (stands_in n cs q st (opposite d) m)) h ∙ sent-own q i c (stands_in n cs q st (opposite d) m) x e
+      ap (λ o. origin_sent (position_of q) o (stands_in n cs q st (opposite d) m)) h ∙ sent-own q i c (stands_in n cs q st (opposite d) m) x e
 
   -- a circuit that begins at a node that isn't isolated is its port's own stream
   pub leaves-own : (st : NodeState) (i : ℕ) (c : Provisioned) (x : End) (y d : Side) (m : ℕ)
@@ -137,7 +137,7 @@ module _ (n : ℕ) (cs : List Provisioned) (q : ℕ) where
   leaves-unused st d m h = elim (own_or_none st d m) [
     | inl none ↦ none
     | inr own ↦ own
-        ∙ ap (λ o. sent_of (position_of q) o (stands_in n cs q st (opposite d) m)) h
+        ∙ ap (λ o. origin_sent (position_of q) o (stands_in n cs q st (opposite d) m)) h
   ]
 
   pub unused-carries : (d : Side) (m : ℕ) (f : Option Pos) → circuit_from n (span_at n q d) m 0 cs ≡ None → carries_in n cs q d m f ≡ false

@@ -14,7 +14,7 @@ use Rattle.sdh_nodestate.specs.Words.{first_words, IsSourced}
 use Rattle.sdh_nodestate.specs.Rules.{state_after, sent_after}
 use Rattle.sdh_signal.specs.Settled.{settled_states}
 use Rattle.sdh_signal.specs.Signals.{Signals, Filters, no_filters, no_needs, filters_after, is_held, state_in, words_in, scene_at, round}
-use Rattle.sdh_signal.specs.Signals.{free_round, MayGo, requests_in}
+use Rattle.sdh_signal.specs.Signals.{free_round, MaySignal, requests_in}
 use Rattle.sdh_signal.specs.Laws.{ChangesNoWord}
 use Rattle.sdh_signal.proofs.Placewise.{map_from-same}
 use Rattle.sdh_signal.proofs.RunRounds.{filters_in}
@@ -132,7 +132,7 @@ first_sourced ids words is = λ k d h.
 
 -- what a ring keeps is enough for a round
 pub may_go : {s : Signals} {rounds unchanged : ℕ} (needs : List Needs) → IsRing s rounds unchanged → length needs ≡ length s.ids
-    → All MayNeed needs → MayGo needs s
+    → All MayNeed needs → MaySignal needs s
 may_go needs ring size sound = record { ids_ok = ring.ids_ok; size = size; sound = sound; said = ring.words_len; sourced = ring.sourced }
 
 -- the rounds before
@@ -141,7 +141,7 @@ fewer : (k : ℕ) (s : Signals) → WereUnchanged (suc k) s → WereUnchanged k 
 fewer zero s w = tt
 fewer (suc k) s (before, needs, c, is, w) = (before, needs, c, is, fewer k before w)
 
-module _ (needs : List Needs) (held : List Bool) (s : Signals) (may : MayGo needs s) where
+module _ (needs : List Needs) (held : List Bool) (s : Signals) (may : MaySignal needs s) where
   -- a round that leaves the words is one without held nodes that changes none
   leaves : LeavesWords held s (round needs held s) → ChangesNoWord needs s
   leaves l = record {

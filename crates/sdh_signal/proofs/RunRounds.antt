@@ -23,7 +23,7 @@ use Rattle.sdh_nodestate.specs.Conditions.{MayNeed}
 use Rattle.sdh_nodestate.specs.Words.{IsMember, IsSourced}
 use Rattle.sdh_nodestate.proofs.Filtering.{heard_last}
 use Rattle.sdh_signal.specs.Signals.{Signals, Filters, no_filters, fails_on, sent_on, incoming, on_their_way, filters_after}
-use Rattle.sdh_signal.specs.Signals.{heard_through, is_held, words_in, unsaid, scene_at, round, rounds, MayGo, no_needs}
+use Rattle.sdh_signal.specs.Signals.{heard_through, is_held, words_in, unsaid, scene_at, round, unheld_rounds, MaySignal, no_needs}
 use Rattle.sdh_signal.specs.Runs.{Run, at_round, sent_here, bare, IsRun}
 use Rattle.sdh_ringmap.proofs.Sides.{neighbour_below}
 use Rattle.sdh_signal.proofs.OneNode.{if_not_some}
@@ -149,12 +149,12 @@ pub filters_in : (needs : List Needs) (held : List Bool) (s : Signals) (p : ℕ)
 unfolding round
 filters_in needs held s p h = get_or-placed (λ p x. filters_after s p x) needs p no_needs no_filters h
 
-module _ (needs : List Needs) (s : Signals) (may : MayGo needs s) where
+module _ (needs : List Needs) (s : Signals) (may : MaySignal needs s) where
   abbrev n : ℕ
   n = length s.ids
 
   abbrev ring : ℕ → Signals
-  ring t = rounds needs t s
+  ring t = unheld_rounds needs t s
 
   abbrev need : ℕ → Needs
   need p = get_or needs p no_needs
@@ -164,7 +164,7 @@ module _ (needs : List Needs) (s : Signals) (may : MayGo needs s) where
   run_of = record {
     ids = s.ids;
     need = λ p. get_or needs p no_needs;
-    heard = λ t p. heard_through (filters_after (rounds needs t s) p (get_or needs p no_needs));
+    heard = λ t p. heard_through (filters_after (unheld_rounds needs t s) p (get_or needs p no_needs));
   }
 
   abbrev at : ℕ → ℕ → Scene

@@ -15,7 +15,7 @@ use Rattle.sdh_nodestate.specs.Conditions.{MayNeed}
 use Rattle.sdh_nodestate.specs.Filtering.{Brought, with_brought}
 use Rattle.sdh_nodestate.specs.Rules.{scene, own_id, fails, word, state_after, sent_after}
 use Rattle.sdh_signal.specs.Signals.{Signals, Filters, fails_on, sent_on, incoming, on_their_way, filters_after, heard_through, is_held}
-use Rattle.sdh_signal.specs.Signals.{state_in, words_in, unsaid, scene_at, round, free_round, rounds, MayGo, no_needs}
+use Rattle.sdh_signal.specs.Signals.{state_in, words_in, unsaid, scene_at, round, free_round, unheld_rounds, MaySignal, no_needs}
 use Rattle.sdh_signal.specs.Laws.{ChangesNoWord}
 use Rattle.sdh_signal.proofs.Placewise.{map_from-same}
 use Rattle.sdh_signal.proofs.Marks.{same_failing}
@@ -29,7 +29,7 @@ abbrev came : List Needs → Signals → ℕ → Side → Option K
 came needs s p d = incoming (on_their_way s) (length s.ids) p (get_or needs p no_needs) d
 
 -- a ring may go on with the needs of the round before
-pub may_go_on : (needs : List Needs) (held : List Bool) (s : Signals) → MayGo needs s → MayGo needs (round needs held s)
+pub may_go_on : (needs : List Needs) (held : List Bool) (s : Signals) → MaySignal needs s → MaySignal needs (round needs held s)
 unfolding round
 may_go_on needs held s may = record {
   ids_ok = may.ids_ok;
@@ -210,6 +210,6 @@ module _ (first second third : List Needs) (s : Signals)
       ∙ ap (λ x. record { ids = s2.ids; states = s3.states; words = x; filters = (free_round third s3).filters; running = true }) words_stay
       ∙ ap (λ x. record { ids = s2.ids; states = s3.states; words = s3.words; filters = x; running = true }) filters_stay
 
-  pub stays_on : (t : ℕ) → rounds third t s3 ≡ s3
+  pub stays_on : (t : ℕ) → unheld_rounds third t s3 ≡ s3
   stays_on zero = refl
   stays_on (suc t) = ap (free_round third) (stays_on t) ∙ stays

@@ -7,7 +7,7 @@ use Rattle.sdh_nodestate.specs.declared.Needs.{Needs}
 use Rattle.sdh_nodestate.specs.declared.NodeState.TheVariants as state
 use Rattle.sdh_nodestate.specs.Rules.{word, chosen, relay, state_after}
 use Rattle.sdh_signal.specs.Settled.{settled, settled_states}
-use Rattle.sdh_signal.specs.Signals.{Signals, round, free_round, rounds, MayGo, requests_in}
+use Rattle.sdh_signal.specs.Signals.{Signals, round, free_round, unheld_rounds, MaySignal, requests_in}
 use Rattle.sdh_signal.specs.Runs.{Run, at_round, IsRun, run_requests}
 use Rattle.sdh_ringmap.specs.Steps.{going}
 
@@ -27,7 +27,7 @@ WordsStay =
 -- a round in which no node is held, which isn't the first one, and which changes no word
 pub record ChangesNoWord (needs : List Needs) (s : Signals) : Type 0 where
   pub running : s.running ≡ true
-  pub may : MayGo needs s
+  pub may : MaySignal needs s
   pub words : (free_round needs s).words ≡ s.words
 
 -- The fixpoint law, for a ring of signals. After three rounds, one after the other, that hold no node and change no
@@ -47,12 +47,12 @@ FreeRounds = (needs : List Needs) (held : List Bool) (s : Signals) → All (λ b
 -- rounds, and changes no word and no state after 5n + 8 rounds. That is so whatever its filters kept and whatever its
 -- words were, as long as each word had a source in the ring.
 pub record Settles (needs : List Needs) (s : Signals) : Type 0 where
-  pub settled : (t : ℕ) → 4 * length s.ids + 8 ≤ t → (rounds needs t s).states ≡ settled_states (requests_in needs)
-  pub words : (t : ℕ) → 5 * length s.ids + 8 ≤ t → (rounds needs (suc t) s).words ≡ (rounds needs t s).words
+  pub settled : (t : ℕ) → 4 * length s.ids + 8 ≤ t → (unheld_rounds needs t s).states ≡ settled_states (requests_in needs)
+  pub words : (t : ℕ) → 5 * length s.ids + 8 ≤ t → (unheld_rounds needs (suc t) s).words ≡ (unheld_rounds needs t s).words
 
 -- every ring of signals that may go converges
 abbrev pub RingsSettle : Type 0
-RingsSettle = (needs : List Needs) (s : Signals) → MayGo needs s → Settles needs s
+RingsSettle = (needs : List Needs) (s : Signals) → MaySignal needs s → Settles needs s
 
 -- no node of the run sends another word in round t + 1 than in round t
 abbrev pub IsStillAfter : Run → ℕ → Type 0

@@ -114,13 +114,13 @@ abbrev pub free_round : List Needs → Signals → Signals
 free_round needs s = round needs [] s
 
 -- t rounds in which no node is held, all with these needs
-abbrev pub rounds : List Needs → ℕ → Signals → Signals
-rounds needs zero s = s
-rounds needs (suc t) s = free_round needs (rounds needs t s)
+abbrev pub unheld_rounds : List Needs → ℕ → Signals → Signals
+unheld_rounds needs zero s = s
+unheld_rounds needs (suc t) s = free_round needs (unheld_rounds needs t s)
 
 -- A ring of signals with needs for each of its nodes: its identifiers are those of a ring, and the words that were sent
 -- have their sources in it. Its states may be any, since the rules look at no old state.
-pub record MayGo (needs : List Needs) (s : Signals) : Type 0 where
+pub record MaySignal (needs : List Needs) (s : Signals) : Type 0 where
   pub ids_ok : AreIds s.ids
   pub size : length needs ≡ length s.ids
   pub sound : All MayNeed needs

@@ -27,16 +27,16 @@ use Rattle.sdh_ringmap.specs.declared.terms.Condition.TheVariants.{Clear}
 use Rattle.sdh_terminal.specs.Passing.{Input, no_input}
 use Rattle.sdh_rounds.specs.Runs as any_run
 use Rattle.sdh_rounds.proofs.Runs.{known_unsettles, known_settles}
-use Rattle.sdh_spans.specs.Brought.{Brings}
-use Rattle.sdh_spans.specs.Spans.{TakesWord, word_behind, IsConstant, GoesBy, TakesBehind}
+use Rattle.sdh_spans.specs.Brought.{BringsDelivery}
+use Rattle.sdh_spans.specs.Spans.{TakesWord, word_behind, IsConstant, GeneratorGoesBy, TakesBehind}
 use Rattle.sdh_spans.specs.Laws.{RestsBehind}
 use Rattle.sdh_spans.proofs.Steady as spans
 use Rattle.sdh_spans.proofs.Steady.{constant_as, constant_later, spans_are_steady}
 use Rattle.sdh_sncp.specs.Stations.{path_node}
-use Rattle.sdh_sncp.specs.Node.{inlet_on, sending_on}
-use Rattle.sdh_sncp.specs.Ring.{node_at, World, run, course, is_calm, EndsWindow}
+use Rattle.sdh_sncp.specs.Node.{inlet_on, path_sending_on}
+use Rattle.sdh_sncp.specs.Ring.{path_node_at, World, run, course, is_calm, EndsWindow}
 use Rattle.sdh_sncp.specs.Fixed.{AreAlone}
-use Rattle.sdh_sncp.specs.Laws.{IsWhole, HasCircuits, cut_in, RoundsGetCalm, StepsAnswer, StepsDeliver, DeliversWhatIsDue}
+use Rattle.sdh_sncp.specs.Laws.{IsWholePathRing, HasPathCircuits, cut_in, PathRoundsGetCalm, PathStepsAnswer, StepsDeliver, PathDeliversWhatIsDue}
 use Rattle.sdh_sncp.proofs.Rounds.{neighbour_inside, whole_run, left_run}
 use Rattle.sdh_sncp.proofs.Calm.{AreSame, calm_where_same}
 use Rattle.sdh_sncp.proofs.Spans.{sent_at, came_at, generator_step, interpreter_step}
@@ -57,12 +57,12 @@ came w p d au k = came_at (run k w) p d au
 
 -- the states of the generator and of the interpreter of AU-4 number i + 1
 abbrev sending_in : World → ℕ → Side → ℕ → ℕ → Option ℕ
-sending_in w p d i k = get_or (sending_on d (node_at (run k w).ring.nodes p)).generators i None
+sending_in w p d i k = get_or (path_sending_on d (path_node_at (run k w).ring.nodes p)).generators i None
 
 abbrev reading_in : World → ℕ → Side → ℕ → ℕ → Reading
-reading_in w p d i k = get_or (inlet_on d (node_at (run k w).ring.nodes p)).readings i start
+reading_in w p d i k = get_or (inlet_on d (path_node_at (run k w).ring.nodes p)).readings i start
 
-module _ (w : World) (whole : IsWhole w) where
+module _ (w : World) (whole : IsWholePathRing w) where
   abbrev size : ℕ
   size = length w.ring.ids
 
@@ -81,7 +81,7 @@ module _ (w : World) (whole : IsWhole w) where
       ∙ ap (λ cs. is_cut (get_or cs (fibre_to size p d) Clear)) (left_run j w).conditions
 
   -- a generator goes on by what goes into its AU-4
-  generator_goes : (p : ℕ) (d : Side) (i : ℕ) → p < length w.ring.nodes → i < n → GoesBy (went w p d (i + 1)) (sending_in w p d i)
+  generator_goes : (p : ℕ) (d : Side) (i : ℕ) → p < length w.ring.nodes → i < n → GeneratorGoesBy (went w p d (i + 1)) (sending_in w p d i)
   unfolding any_run.run
   generator_goes p d i inside few j =
       generator_step (run j w) (whole_run w j whole) p d (omega (arith, nodes_there j)) i (omega (arith, rate_there j))
@@ -134,7 +134,7 @@ slot_cases (x ∷ cs) m = elim (cases_eq x.slot.0 m) [
     missing other none zero d is = let same : x ≡ d = cc in λ e. other (ap (λ (c : Provisioned). c.slot.0) same ∙ e)
     missing other none (suc j) d is = none j d is
 
-module _ (w : World) (whole : IsWhole w) (form : HasCircuits w.ring) where
+module _ (w : World) (whole : IsWholePathRing w) (form : HasPathCircuits w.ring) where
   abbrev cs : List Provisioned
   cs = w.ring.circuits.circuits
 
@@ -190,14 +190,14 @@ module _ (w : World) (whole : IsWhole w) (form : HasCircuits w.ring) where
         there j = let x = nodes_there w whole j in let i = inside_of ((end_of c e).0) h in omega arith
 
         sends : (j : ℕ) → sent_at (run j w) ((end_of c e).0) d m
-            ≡ added_by (node_at (run j w).ring.nodes ((end_of c e).0)).ports (port_id index e)
+            ≡ added_by (path_node_at (run j w).ring.nodes ((end_of c e).0)).ports (port_id index e)
         sends j =
             sends_ended (run j w) (whole_run w j whole) ((end_of c e).0) m (there j) low (let x = rate_there w whole j in omega arith) d
             (port_id index e)
             (use_is (run j w).ring.circuits.circuits (same_alone j) ((end_of c e).0) index c (same_circuits j index c get)
             ∙ use_ended index c e ring.two_ends)
 
-        brings : (j : ℕ) → Brings (added_by (node_at (run j w).ring.nodes ((end_of c e).0)).ports (port_id index e))
+        brings : (j : ℕ) → BringsDelivery (added_by (path_node_at (run j w).ring.nodes ((end_of c e).0)).ports (port_id index e))
             (sends_in (customer_at c e) (run j w).ring.rounds)
         brings j = port_sends (run j w) (whole_run w j whole) index c e (same_circuits j index c get) (there j)
 
@@ -260,14 +260,14 @@ module _ (w : World) (whole : IsWhole w) (form : HasCircuits w.ring) where
   limit = 9 * size w whole + 9
 
   generators_rest : (j q : ℕ) (d : Side) → limit ≤ j → q < size w whole
-      → (sending_on d (node_at (run (suc j) w).ring.nodes q)).generators ≡ (sending_on d (node_at (run j w).ring.nodes q)).generators
+      → (path_sending_on d (path_node_at (run (suc j) w).ring.nodes q)).generators ≡ (path_sending_on d (path_node_at (run j w).ring.nodes q)).generators
   generators_rest j q d late h =
       let many =
       λ (k : ℕ). ((whole_run w k whole).placed.places q
       (let e = nodes_there w whole k in let i = inside_of q h in omega arith)).senders d in
       let len = λ (k : ℕ). (many k).generators ∙ rate_there w whole k in
-      ext_get_or None (sending_on d (node_at (run (suc j) w).ring.nodes q)).generators
-      (sending_on d (node_at (run j w).ring.nodes q)).generators (len (suc j) ∙ sym (len j)) (λ i lt. (
+      ext_get_or None (path_sending_on d (path_node_at (run (suc j) w).ring.nodes q)).generators
+      (path_sending_on d (path_node_at (run j w).ring.nodes q)).generators (len (suc j) ∙ sym (len j)) (λ i lt. (
       let few : i < n w whole = (let e = len (suc j) in omega arith) in
       let c = sent_constant q d (i + 1) h (omega arith) (omega arith) in
       let goes = generator_goes w whole q d i (inside_of q h) few in
@@ -277,13 +277,13 @@ module _ (w : World) (whole : IsWhole w) (form : HasCircuits w.ring) where
       rests (suc j) (omega arith) ∙ sym (rests j (omega arith))))
 
   readings_rest : (j p : ℕ) (d : Side) → limit ≤ j → p < size w whole
-      → (inlet_on d (node_at (run (suc j) w).ring.nodes p)).readings ≡ (inlet_on d (node_at (run j w).ring.nodes p)).readings
+      → (inlet_on d (path_node_at (run (suc j) w).ring.nodes p)).readings ≡ (inlet_on d (path_node_at (run j w).ring.nodes p)).readings
   readings_rest j p d late h =
       let many =
       λ (k : ℕ). ((whole_run w k whole).placed.places p
       (let e = nodes_there w whole k in let i = inside_of p h in omega arith)).inlets d in
       let len = λ (k : ℕ). (many k).readings ∙ rate_there w whole k in
-      ext_get_or start (inlet_on d (node_at (run (suc j) w).ring.nodes p)).readings (inlet_on d (node_at (run j w).ring.nodes p)).readings
+      ext_get_or start (inlet_on d (path_node_at (run (suc j) w).ring.nodes p)).readings (inlet_on d (path_node_at (run j w).ring.nodes p)).readings
       (len (suc j) ∙ sym (len j)) (λ i lt. (
       let few : i < n w whole = (let e = len (suc j) in omega arith) in
       (span_rests w whole p d i (9 * size w whole) (inside_of p h) few
@@ -291,7 +291,7 @@ module _ (w : World) (whole : IsWhole w) (form : HasCircuits w.ring) where
       (omega arith))).stays j (omega arith)))
 
   same_next : (j : ℕ) → limit ≤ j → (p : ℕ) → p < length (run j w).ring.nodes
-      → AreSame (node_at (run (suc j) w).ring.nodes p) (node_at (run j w).ring.nodes p)
+      → AreSame (path_node_at (run (suc j) w).ring.nodes p) (path_node_at (run j w).ring.nodes p)
   same_next j late p h =
       let low : p < size w whole = (let e = nodes_there w whole j in let z = whole.placed.size in omega arith) in
       record { readings = λ d. readings_rest j p d late low; generators = λ d. generators_rest j p d late low }
@@ -305,7 +305,7 @@ module _ (w : World) (whole : IsWhole w) (form : HasCircuits w.ring) where
       calm_next i enough =
           calm_where_same (run i w) (whole_run w i whole) (let r = (left_run i w).rounds in omega arith) (same_next i enough)
 
-pub rounds_get_calm : RoundsGetCalm
+pub rounds_get_calm : PathRoundsGetCalm
 rounds_get_calm w whole form j late = gets_calm w whole form j (omega arith)
 
 -- ---- a window
@@ -338,7 +338,7 @@ calm_ends w first calm =
       window = record { long = omega arith; calm = λ j early late. calm j (omega arith); place = place };
     }
 
-pub steps_answer : StepsAnswer
+pub steps_answer : PathStepsAnswer
 steps_answer w left limit form whole enough unsettled =
     let never = (known_unsettles path_node w limit left (inl whole.paired.honest.honest) unsettled).0 in
     let by = calm_ends w (9 * length w.ring.ids + 20) (λ j late. rounds_get_calm w whole form j late) in
@@ -349,4 +349,4 @@ steps_answer w left limit form whole enough unsettled =
 pub steps_deliver : StepsDeliver
 steps_deliver w left limit form settles whole =
     let k = known_settles path_node w limit left (inl whole.paired.honest.honest) settles in
-    subst DeliversWhatIsDue (sym k.2) (quiet_delivers w k.0 whole form k.1.window)
+    subst PathDeliversWhatIsDue (sym k.2) (quiet_delivers w k.0 whole form k.1.window)

@@ -15,10 +15,10 @@ use Rattle.sdh_request.specs.declared.settings.Settings.{Settings}
 use Rattle.sdh_terminal.specs.Receiving.{after_taking}
 use Rattle.sdh_terminal.specs.Tributaries.{port_of, HasPort, outlet_of, outlets_of, tributaries_at}
 use Rattle.sdh_rounds.specs.Rounds as any_round
-use Rattle.sdh_sncp.specs.Node.{PathNode, new_node, path_node_told, crossing, after_crossing, with_calm, node_round}
-use Rattle.sdh_sncp.specs.Ring.{HeldPath, new_nodes, with_arrivals, all_with_arrivals, node_after, outlet_at}
+use Rattle.sdh_sncp.specs.Node.{PathNode, new_path_node, path_node_told, path_crossing, after_path_crossing, path_with_calm, path_node_round}
+use Rattle.sdh_sncp.specs.Ring.{HeldPath, new_nodes, with_arrivals, all_with_arrivals, path_node_after, outlet_at}
 use Rattle.sdh_terminal.specs.Fixed.{FixedPort, fixed_port}
-use Rattle.sdh_sncp.specs.Fixed.{Fixed, fixed, HaveRun}
+use Rattle.sdh_sncp.specs.Fixed.{FixedPath, fixed_path, HaveRun}
 use Rattle.sdh_terminal.proofs.Found.{names, fixed_found}
 use Rattle.sdh_terminal.proofs.Waiting.{count_outlets}
 use Rattle.sdh_sncp.proofs.Nodes.{fixed_ports_after, rounds_after}
@@ -26,29 +26,29 @@ use Rattle.sdh_sncp.proofs.New.{length-new, new_at}
 
 -- ---- one node
 
-pub fixed_told : (d : Side) (a : Arrival) (n : PathNode) → fixed (path_node_told d a n) ≡ fixed n
-unfolding fixed
+pub fixed_told : (d : Side) (a : Arrival) (n : PathNode) → fixed_path (path_node_told d a n) ≡ fixed_path n
+unfolding fixed_path
 fixed_told West a n = refl
 fixed_told East a n = refl
 
-pub fixed_next : (n : PathNode) → fixed (node_after n) ≡ fixed n
-unfolding fixed node_round with_calm after_crossing crossing after_taking
-fixed_next n = ap (λ (ps : List FixedPort). record (fixed n) { ports = ps }) (fixed_ports_after n)
+pub fixed_next : (n : PathNode) → fixed_path (path_node_after n) ≡ fixed_path n
+unfolding fixed_path path_node_round path_with_calm after_path_crossing path_crossing after_taking
+fixed_next n = ap (λ (ps : List FixedPort). record (fixed_path n) { ports = ps }) (fixed_ports_after n)
 
 -- as many ports deliver as the fixed part has
-pub ports_fixed : (n : PathNode) → length (outlets_of n.ports) ≡ length (fixed n).ports
-unfolding fixed
+pub ports_fixed : (n : PathNode) → length (outlets_of n.ports) ≡ length (fixed_path n).ports
+unfolding fixed_path
 ports_fixed n = count_outlets n.ports ∙ sym (length-map n.ports fixed_port)
 
 -- ---- all nodes
 
-pub length_fixed : (old now : List PathNode) → map fixed now ≡ map fixed old → length now ≡ length old
-length_fixed old now all = sym (length-map now fixed) ∙ ap length all ∙ length-map old fixed
+pub length_fixed : (old now : List PathNode) → map fixed_path now ≡ map fixed_path old → length now ≡ length old
+length_fixed old now all = sym (length-map now fixed_path) ∙ ap length all ∙ length-map old fixed_path
 
 -- ---- a new ring
 
 pub length-fixed : (s : Settings) (ids : List ℕ) (cs : List Provisioned) (n : ℕ) (ns : List PathNode)
-    → map fixed ns ≡ map fixed (new_nodes s ids cs n) → length ns ≡ n
+    → map fixed_path ns ≡ map fixed_path (new_nodes s ids cs n) → length ns ≡ n
 length-fixed s ids cs n ns same = length_fixed (new_nodes s ids cs n) ns same ∙ length-new s ids cs n
 
 get-map : {X Y : Type 0} (f : X → Y) (xs : List X) (i : ℕ) (d : X) → get_or (map f xs) i (f d) ≡ f (get_or xs i d)
@@ -58,23 +58,23 @@ get-map f (x ∷ xs) (suc i) d = get-map f xs i d
 
 -- the node at a position has the fixed part of the new node there
 pub node_is : (s : Settings) (ids : List ℕ) (cs : List Provisioned) (n : ℕ) (ns : List PathNode) (p : ℕ) (d : PathNode)
-    → map fixed ns ≡ map fixed (new_nodes s ids cs n) → p < n → fixed (get_or ns p d) ≡ fixed (new_node s ids cs (position_of p))
+    → map fixed_path ns ≡ map fixed_path (new_nodes s ids cs n) → p < n → fixed_path (get_or ns p d) ≡ fixed_path (new_path_node s ids cs (position_of p))
 node_is s ids cs n ns p d same low =
-    sym (get-map fixed ns p d) ∙ ap (λ fs. get_or fs p (fixed d)) same ∙ get-map fixed (new_nodes s ids cs n) p d
-    ∙ ap fixed (new_at s ids cs n p d low)
+    sym (get-map fixed_path ns p d) ∙ ap (λ fs. get_or fs p (fixed_path d)) same ∙ get-map fixed_path (new_nodes s ids cs n) p d
+    ∙ ap fixed_path (new_at s ids cs n p d low)
 
-rate_fixed : (m n : PathNode) → fixed m ≡ fixed n → m.west.section.rate ≡ n.west.section.rate
-unfolding fixed
-rate_fixed m n same = ap (λ (f : Fixed). f.rate) same
+rate_fixed : (m n : PathNode) → fixed_path m ≡ fixed_path n → m.west.section.rate ≡ n.west.section.rate
+unfolding fixed_path
+rate_fixed m n same = ap (λ (f : FixedPath). f.rate) same
 
-new_rate : (s : Settings) (ids : List ℕ) (cs : List Provisioned) (p : ℕ) → (new_node s ids cs (position_of p)).west.section.rate ≡ s.rate
-unfolding new_node
+new_rate : (s : Settings) (ids : List ℕ) (cs : List Provisioned) (p : ℕ) → (new_path_node s ids cs (position_of p)).west.section.rate ≡ s.rate
+unfolding new_path_node
 new_rate s ids cs p = refl
 
 pub all_rates : (s : Settings) (ids : List ℕ) (cs : List Provisioned) (n : ℕ) (ns : List PathNode)
-    → map fixed ns ≡ map fixed (new_nodes s ids cs n) → All (λ (n : PathNode). n.west.section.rate ≡ s.rate) ns
+    → map fixed_path ns ≡ map fixed_path (new_nodes s ids cs n) → All (λ (n : PathNode). n.west.section.rate ≡ s.rate) ns
 all_rates s ids cs n ns same =
-    λ p d lt. rate_fixed (get_or ns p d) (new_node s ids cs (position_of p))
+    λ p d lt. rate_fixed (get_or ns p d) (new_path_node s ids cs (position_of p))
     (node_is s ids cs n ns p d same (omega (arith, length-fixed s ids cs n ns same))) ∙ new_rate s ids cs p
 
 -- ---- rounds
@@ -91,12 +91,12 @@ all_run_heard (west ∷ east ∷ later) r (n ∷ ns) all zero d lt = run_both r 
 all_run_heard (west ∷ east ∷ later) r (n ∷ ns) all (suc i) d lt =
     all_run_heard later r ns (λ j e low. all (suc j) e (omega arith)) i d (omega arith)
 
-pub all_run_next : (r : ℕ) (ns : List PathNode) → HaveRun r ns → HaveRun (r + 1) (map node_after ns)
+pub all_run_next : (r : ℕ) (ns : List PathNode) → HaveRun r ns → HaveRun (r + 1) (map path_node_after ns)
 all_run_next r ns all =
-    All-map (λ (n : PathNode). n.rounds ≡ r + 1) node_after ns (λ i d lt. rounds_after (get_or ns i d) ∙ ap (λ k. k + 1) (all i d lt))
+    All-map (λ (n : PathNode). n.rounds ≡ r + 1) path_node_after ns (λ i d lt. rounds_after (get_or ns i d) ∙ ap (λ k. k + 1) (all i d lt))
 
-new_run : (s : Settings) (ids : List ℕ) (cs : List Provisioned) (p : ℕ) → (new_node s ids cs (position_of p)).rounds ≡ 0
-unfolding new_node
+new_run : (s : Settings) (ids : List ℕ) (cs : List Provisioned) (p : ℕ) → (new_path_node s ids cs (position_of p)).rounds ≡ 0
+unfolding new_path_node
 new_run s ids cs p = refl
 
 pub all_new : (s : Settings) (ids : List ℕ) (cs : List Provisioned) (n : ℕ) → HaveRun 0 (new_nodes s ids cs n)
@@ -115,17 +115,17 @@ some_before f None h = h
 some_before f (Some x) h = refl
 
 -- nodes with equal fixed parts have ports of the same names
-pub has_fixed : (id : PortId) (m n : PathNode) → fixed m ≡ fixed n → HasPort n.ports id → HasPort m.ports id
-unfolding fixed
+pub has_fixed : (id : PortId) (m n : PathNode) → fixed_path m ≡ fixed_path n → HasPort n.ports id → HasPort m.ports id
+unfolding fixed_path
 has_fixed id m n same h =
-    let ports : map fixed_port m.ports ≡ map fixed_port n.ports = ap (λ (f : Fixed). f.ports) same in
+    let ports : map fixed_port m.ports ≡ map fixed_port n.ports = ap (λ (f : FixedPath). f.ports) same in
     let found : option_map fixed_port (port_of id n.ports) ≡ option_map fixed_port (port_of id m.ports) =
     sym (fixed_found id n.ports) ∙ ap (find (names id)) (sym ports) ∙ fixed_found id m.ports in
     some_before fixed_port (port_of id m.ports) (subst IsSome found (some_mapped fixed_port (port_of id n.ports) h))
 
 pub new_has : (s : Settings) (ids : List ℕ) (cs : List Provisioned) (p : ℕ) (id : PortId) → HasPort (tributaries_at (position_of p) cs) id
-    → HasPort (new_node s ids cs (position_of p)).ports id
-unfolding new_node
+    → HasPort (new_path_node s ids cs (position_of p)).ports id
+unfolding new_path_node
 new_has s ids cs p id h = h
 
 -- what a port delivered is read at the node where it is

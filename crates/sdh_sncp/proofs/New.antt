@@ -19,10 +19,10 @@ use Rattle.sdh_plant.proofs.Calling.{stay_prepared, stay_honest, none_at}
 use Rattle.sdh_request.specs.declared.settings.Settings.{Settings}
 use Rattle.sdh_terminal.specs.Tributaries.{Tributary, tributaries_from, tributaries_at, port_of, outlet_of}
 use Rattle.sdh_spans.specs.Sides.{IsInletAt, IsSenderAt}
-use Rattle.sdh_sncp.specs.Node.{PathNode, new_node, inlet_on, sending_on}
+use Rattle.sdh_sncp.specs.Node.{PathNode, new_path_node, inlet_on, path_sending_on}
 use Rattle.sdh_sncp.specs.Ring.{new_nodes, new_ring, nowhere, AtEach, outlet_at}
-use Rattle.sdh_sncp.specs.Placed.{HasPlace, IsUnslipped, IsBetween, IsPlacedRing}
-use Rattle.sdh_sncp.specs.Laws.{StayPlaced, NewWorldsAreWhole, NewRingsAreSilent, StayWhole}
+use Rattle.sdh_sncp.specs.Placed.{HasPlace, IsUnslippedFeed, IsPathBetween, IsPlacedPathRing}
+use Rattle.sdh_sncp.specs.Laws.{PathNodesStayPlaced, NewPathRingsAreWhole, NewRingsAreSilent, PathRingsStayWhole}
 use Rattle.sdh_terminal.proofs.Found.{found_has, new_ports}
 use Rattle.sdh_sncp.proofs.Nodes.{placed_round}
 use Rattle.sdh_sncp.proofs.Rounds.{whole_round, whole_run}
@@ -31,30 +31,30 @@ use Rattle.sdh_sncp.proofs.Rounds.{whole_round, whole_run}
 
 module _ (s : Settings) (ids : List ℕ) (circuits : Provisioning) (p : ℕ) where
   abbrev one : PathNode
-  one = new_node s ids circuits.circuits (position_of p)
+  one = new_path_node s ids circuits.circuits (position_of p)
 
   new_place : HasPlace (new_ring s ids circuits) p one
-  unfolding new_node
+  unfolding new_path_node
   new_place = record { uses = refl; ports = refl; inlets = inlets; senders = senders; words = words }
     where
       inlets : (d : Side) → IsInletAt s.rate (inlet_on d one)
       inlets West = record { rate = refl; readings = length-replicate _ _ }
       inlets East = record { rate = refl; readings = length-replicate _ _ }
 
-      senders : (d : Side) → IsSenderAt s.rate (sending_on d one)
+      senders : (d : Side) → IsSenderAt s.rate (path_sending_on d one)
       senders West = record { rate = refl; generators = length-replicate _ _; parities = tt }
       senders East = record { rate = refl; generators = length-replicate _ _; parities = tt }
 
-      words : (d : Side) → (sending_on d one).word ≡ first_word ids p d
+      words : (d : Side) → (path_sending_on d one).word ≡ first_word ids p d
       words West = refl
       words East = refl
 
-  new_between : IsBetween 0 one
-  unfolding new_node tributaries_at
+  new_between : IsPathBetween 0 one
+  unfolding new_path_node tributaries_at
   new_between = record {
     run = record {
       ran = refl;
-      clocks = new_ports (λ (t : Tributary). IsUnslipped 0 t.feed)
+      clocks = new_ports (λ (t : Tributary). IsUnslippedFeed 0 t.feed)
           (λ i e d m c. record { ups = refl; downs = refl; sent = refl; value = refl }) (position_of p) 0 circuits.circuits;
     };
     fresh = fresh;
@@ -69,26 +69,26 @@ unfolding new_nodes
 length-new s ids cs k = length-cells _ k
 
 pub new_at : (s : Settings) (ids : List ℕ) (cs : List Provisioned) (n k : ℕ) (d : PathNode) → k < n
-    → get_or (new_nodes s ids cs n) k d ≡ new_node s ids cs (position_of k)
+    → get_or (new_nodes s ids cs n) k d ≡ new_path_node s ids cs (position_of k)
 unfolding new_nodes
 new_at s ids cs n k d h = get_or-cells _ n k d h
 
 -- what holds of each new node holds at each position
 each_new : (P : ℕ → PathNode → Type 0) (s : Settings) (ids : List ℕ) (cs : List Provisioned)
-    → ((p : ℕ) → p < length ids → P p (new_node s ids cs (position_of p))) → AtEach P (new_nodes s ids cs (length ids))
+    → ((p : ℕ) → p < length ids → P p (new_path_node s ids cs (position_of p))) → AtEach P (new_nodes s ids cs (length ids))
 each_new P s ids cs each p h =
     let low : p < length ids =
     omega (arith, length-new s ids cs (length ids)) in subst (P p) (sym (new_at s ids cs (length ids) p nowhere low)) (each p low)
 
-pub new_placed : (s : Settings) (ids : List ℕ) (circuits : Provisioning) → AreIds ids → IsPlacedRing (new_ring s ids circuits)
+pub new_placed : (s : Settings) (ids : List ℕ) (circuits : Provisioning) → AreIds ids → IsPlacedPathRing (new_ring s ids circuits)
 new_placed s ids circuits is = record {
   ids = is;
   size = length-new s ids circuits.circuits (length ids);
   places = each_new (HasPlace (new_ring s ids circuits)) s ids circuits.circuits (λ p low. new_place s ids circuits p);
-  between = each_new (λ p n. IsBetween 0 n) s ids circuits.circuits (λ p low. new_between s ids circuits p);
+  between = each_new (λ p n. IsPathBetween 0 n) s ids circuits.circuits (λ p low. new_between s ids circuits p);
 }
 
-pub new_worlds_are_whole : NewWorldsAreWhole
+pub new_worlds_are_whole : NewPathRingsAreWhole
 new_worlds_are_whole s ids circuits f is honest = record {
   placed = new_placed s ids circuits is;
   paired = record {
@@ -108,8 +108,8 @@ found_silent id ts all = by (port_of id ts) refl
     by (Some t) e = (found_has (λ (t : Tributary). t.outlet ≡ silent) id ts t all e).0
 
 node_silent : (s : Settings) (ids : List ℕ) (cs : List Provisioned) (p : ℕ) (id : PortId)
-    → outlet_of id (new_node s ids cs (position_of p)).ports ≡ silent
-unfolding new_node tributaries_at
+    → outlet_of id (new_path_node s ids cs (position_of p)).ports ≡ silent
+unfolding new_path_node tributaries_at
 node_silent s ids cs p id =
     found_silent id (tributaries_from (position_of p) 0 cs) (new_ports (λ (t : Tributary). t.outlet ≡ silent) (λ i e d m c. refl)
     (position_of p) 0 cs)
@@ -137,10 +137,10 @@ new_rings_are_silent s ids circuits port = by (slice_get circuits.circuits port.
 
 -- ---- what stays
 
-pub stay_placed : StayPlaced
+pub stay_placed : PathNodesStayPlaced
 stay_placed = record { new = new_placed; round = λ arrivals w placed. placed_round w arrivals placed }
 
-pub stay_whole : StayWhole
+pub stay_whole : PathRingsStayWhole
 stay_whole = record {
   round = whole_round;
   rounds = whole_run;

@@ -24,14 +24,14 @@ use Rattle.sdh_terminal.specs.Outlets.{delivered_from}
 use Rattle.sdh_terminal.specs.Tributaries.{Tributary, is_port, port_of, outlet_of, fed, all_fed, delivered_with}
 use Rattle.sdh_rounds.specs.Rounds as any_round
 use Rattle.sdh_rounds.specs.Runs as any_run
-use Rattle.sdh_spans.specs.Brought.{Brings}
+use Rattle.sdh_spans.specs.Brought.{BringsDelivery}
 use Rattle.sdh_spans.proofs.Ports.{ports_deliver}
-use Rattle.sdh_sncp.specs.Node.{PathNode, PathCross, crossing, drops, dropped_to, lines_of, ports_after, after_crossing, with_calm}
-use Rattle.sdh_sncp.specs.Node.{node_round, comes}
-use Rattle.sdh_sncp.specs.Ring.{HeldPath, nowhere, node_at, World, outlet_at, node_after, round, run, course, is_calm, EndsWindow}
+use Rattle.sdh_sncp.specs.Node.{PathNode, PathCross, path_crossing, path_drops, path_dropped_to, lines_of, path_ports_after, after_path_crossing, path_with_calm}
+use Rattle.sdh_sncp.specs.Node.{path_node_round, comes}
+use Rattle.sdh_sncp.specs.Ring.{HeldPath, nowhere, path_node_at, World, outlet_at, path_node_after, round, run, course, is_calm, EndsWindow}
 use Rattle.sdh_sncp.specs.Due.{way_clear, main_spans, spare_spans, sends_in, due_path}
 use Rattle.sdh_circuits.specs.Ends.{inward}
-use Rattle.sdh_sncp.specs.Laws.{IsWhole, HasCircuits, cut_in, QuietRingsDeliver}
+use Rattle.sdh_sncp.specs.Laws.{IsWholePathRing, HasPathCircuits, cut_in, QuietRingsDeliver}
 use Rattle.sdh_terminal.proofs.Found.{IsPortOf, port-found, found_one, twice}
 use Rattle.sdh_sncp.proofs.Nodes.{informed, nodes_after, length-after}
 use Rattle.sdh_sncp.proofs.Rounds.{whole_round, whole_run, left_run}
@@ -45,15 +45,15 @@ abbrev chosen : Bool → Bool → Outlet → Outlet → Outlet
 chosen main spare a b = if main then a else if spare then b else silent
 
 module _ (x : PathCross) (d : Side) (m : ℕ) (s : Customer) (t u : ℕ) (small : s.offset ≤ 782) where
-  comes_if : (b : Bool) (e : Side) (k : ℕ) → Brings (received (lines_of x) e m) (either b (sends_in s k))
+  comes_if : (b : Bool) (e : Side) (k : ℕ) → BringsDelivery (received (lines_of x) e m) (either b (sends_in s k))
       → comes (received (lines_of x) e m) ≡ b
   comes_if true e k is = ap (λ a. not (is_ais_action a)) is.0
   comes_if false e k is = ap (λ a. not (is_ais_action a)) is
 
-  pub drops_chosen : (a b : Bool) → Brings (received (lines_of x) d m) (either a (sends_in s t))
-      → Brings (received (lines_of x) (opposite d) m) (either b (sends_in s u))
-      → delivered_from (dropped_by (lines_of x) (drops x d m)) ≡ chosen a b (sends_in s t) (sends_in s u)
-  unfolding drops delivered_from
+  pub drops_chosen : (a b : Bool) → BringsDelivery (received (lines_of x) d m) (either a (sends_in s t))
+      → BringsDelivery (received (lines_of x) (opposite d) m) (either b (sends_in s u))
+      → delivered_from (dropped_by (lines_of x) (path_drops x d m)) ≡ chosen a b (sends_in s t) (sends_in s u)
+  unfolding path_drops delivered_from
   drops_chosen true b main spare =
       let first : comes (received (lines_of x) d m) ≡ true = comes_if true d t main in
       rw first (ports_deliver (received (lines_of x) d m) (sends_in s t) small main)
@@ -72,35 +72,35 @@ module _ (x : PathCross) (d : Side) (m : ℕ) (s : Customer) (t u : ℕ) (small 
 -- ---- what a port delivered
 
 abbrev HasDelivered : PathCross → Tributary → Type 0
-HasDelivered x t = t.outlet ≡ delivered_from (dropped_to x t)
+HasDelivered x t = t.outlet ≡ delivered_from (path_dropped_to x t)
 
-port-delivered : (x : PathCross) (ts : List Tributary) (id : PortId) (t : Tributary) → port_of id (ports_after x ts) ≡ Some t
+port-delivered : (x : PathCross) (ts : List Tributary) (id : PortId) (t : Tributary) → port_of id (path_ports_after x ts) ≡ Some t
     → HasDelivered x t
-unfolding port_of ports_after all_fed
+unfolding port_of path_ports_after all_fed
 port-delivered x ts id t is =
-    found_one (HasDelivered x) id (λ i t. fed (delivered_with (dropped_to x) t)) 0 ts t (λ k u. refl)
-    (ap (find (is_port id)) (sym (twice (λ i t. fed t) (λ i t. delivered_with (dropped_to x) t) 0 ts)) ∙ is)
+    found_one (HasDelivered x) id (λ i t. fed (delivered_with (path_dropped_to x) t)) 0 ts t (λ k u. refl)
+    (ap (find (is_port id)) (sym (twice (λ i t. fed t) (λ i t. delivered_with (path_dropped_to x) t) 0 ts)) ∙ is)
 
-next-delivered : (n : PathNode) (id : PortId) (t : Tributary) → port_of id (node_after n).ports ≡ Some t → HasDelivered (crossing n) t
-unfolding node_round with_calm after_crossing
-next-delivered n id t is = port-delivered (crossing n) n.ports id t is
+next-delivered : (n : PathNode) (id : PortId) (t : Tributary) → port_of id (path_node_after n).ports ≡ Some t → HasDelivered (path_crossing n) t
+unfolding path_node_round path_with_calm after_path_crossing
+next-delivered n id t is = port-delivered (path_crossing n) n.ports id t is
 
 outlet_there : (r : HeldPath) (index : ℕ) (c : Provisioned) (e : End) → slice_get r.circuits.circuits index ≡ Some c
-    → (end_of c e).0 < length r.nodes → outlet_at r (port_id index e) ≡ outlet_of (port_id index e) (node_at r.nodes ((end_of c e).0)).ports
+    → (end_of c e).0 < length r.nodes → outlet_at r (port_id index e) ≡ outlet_of (port_id index e) (path_node_at r.nodes ((end_of c e).0)).ports
 unfolding outlet_at
 outlet_there r index c e get lt =
     let id = port_id index e in
     let p = (end_of c e).0 in
-    let node : slice_get r.nodes p ≡ Some (node_at r.nodes p) = slice_get-get_or r.nodes p nowhere lt in
+    let node : slice_get r.nodes p ≡ Some (path_node_at r.nodes p) = slice_get-get_or r.nodes p nowhere lt in
     ap (λ found. option_map_or (λ (c : Provisioned). option_map_or (λ (n : PathNode). outlet_of id n.ports)
     (slice_get r.nodes (end_of c e).0) silent) found silent) get
     ∙ ap (λ found. option_map_or (λ (n : PathNode). outlet_of id n.ports) found silent) node
 
 -- what a port delivers in the round that begins with v
-outlet_after : (v : World) (whole : IsWhole v) (index : ℕ) (c : Provisioned) (e : End) → slice_get v.ring.circuits.circuits index ≡ Some c
+outlet_after : (v : World) (whole : IsWholePathRing v) (index : ℕ) (c : Provisioned) (e : End) → slice_get v.ring.circuits.circuits index ≡ Some c
     → (end_of c e).0 < length v.ring.nodes
     → outlet_at (round v).ring (port_id index e) ≡ delivered_from
-    (dropped_by (lines_of (crossing_at v ((end_of c e).0))) (drops (crossing_at v ((end_of c e).0)) (inward e) c.slot.0))
+    (dropped_by (lines_of (crossing_at v ((end_of c e).0))) (path_drops (crossing_at v ((end_of c e).0)) (inward e) c.slot.0))
 unfolding any_round.round any_run.run
 outlet_after v whole index c e get h =
     let p = (end_of c e).0 in
@@ -109,12 +109,12 @@ outlet_after v whole index c e get h =
     let hp : p < length (round v).ring.nodes = omega (arith, length-after v) in
     let there : slice_get (round v).ring.circuits.circuits index ≡ Some c =
     ap (λ ps. slice_get ps.circuits index) (left_run 1 v).circuits ∙ get in
-    let t : IsPortOf c e (port_of id (node_at (round v).ring.nodes p).ports) =
-    port-found (round v).ring.circuits.circuits (node_at (round v).ring.nodes p).ports index c e there (hu.placed.places p hp).ports in
+    let t : IsPortOf c e (port_of id (path_node_at (round v).ring.nodes p).ports) =
+    port-found (round v).ring.circuits.circuits (path_node_at (round v).ring.nodes p).ports index c e there (hu.placed.places p hp).ports in
     let did : HasDelivered (crossing_at v p) t.it =
     next-delivered (informed v p) id t.it (ap (λ (n : PathNode). port_of id n.ports) (sym (nodes_after v whole.placed p h)) ∙ t.is) in
     outlet_there (round v).ring index c e there hp ∙ ap (λ found. option_map_or (λ (t : Tributary). t.outlet) found silent) t.is ∙ did
-    ∙ (λ i. delivered_from (dropped_by (lines_of (crossing_at v p)) (drops (crossing_at v p) (t.side i) (t.slot i).0)))
+    ∙ (λ i. delivered_from (dropped_by (lines_of (crossing_at v p)) (path_drops (crossing_at v p) (t.side i) (t.slot i).0)))
 
 -- ---- circuits
 
@@ -129,7 +129,7 @@ offset_small cs all index c get e =
 
 -- ---- the law
 
-module _ (w : World) (whole : IsWhole w) (form : HasCircuits w.ring) (k : ℕ) (window : EndsWindow (course w) k) (index : ℕ)
+module _ (w : World) (whole : IsWholePathRing w) (form : HasPathCircuits w.ring) (k : ℕ) (window : EndsWindow (course w) k) (index : ℕ)
     (c : Provisioned) (get : slice_get w.ring.circuits.circuits index ≡ Some c) (e : End) where
   abbrev size : ℕ
   size = length w.ring.ids
@@ -181,7 +181,7 @@ module _ (w : World) (whole : IsWhole w) (form : HasCircuits w.ring) (k : ℕ) (
 
   -- what comes in along a way
   along : (d : Side) (s : ℕ) → 1 ≤ s → s < size → going size d ((end_of c e).0) s ≡ (end_of c (other_end e)).0
-      → Brings (came_at v ((end_of c e).0) d c.slot.0) (either (way_clear size (cut_in w) ((end_of c e).0) d s)
+      → BringsDelivery (came_at v ((end_of c e).0) d c.slot.0) (either (way_clear size (cut_in w) ((end_of c e).0) d s)
       (sends_in (customer_at c (other_end e)) (v.ring.rounds - s)))
   along d s more few leads =
       comes_along w whole form.alone index c get in_slots.from_1 high in_ring.two_ends inside e small d last s ((end_of c e).0) size more
@@ -191,14 +191,14 @@ module _ (w : World) (whole : IsWhole w) (form : HasCircuits w.ring) (k : ℕ) (
       ∙ going-none size (let z = some in omega arith) d ((end_of c e).0) (inside e)) few (omega arith)
       (λ j low late. calm_at s j few low late)
 
-  main_comes : Brings (came_at v ((end_of c e).0) (inward e) c.slot.0)
+  main_comes : BringsDelivery (came_at v ((end_of c e).0) (inward e) c.slot.0)
       (either (way_clear size (cut_in w) ((end_of c e).0) (inward e) (main_spans size c))
       (sends_in (customer_at c (other_end e)) (v.ring.rounds - main_spans size c)))
   main_comes =
       along (inward e) (main_spans size c) arcs.1 (let a = arcs.0 in let b = arcs.2 in omega arith)
       (main_leads size (let z = some in omega arith) c in_ring.from_inside in_ring.to_inside e)
 
-  spare_comes : Brings (came_at v ((end_of c e).0) (opposite (inward e)) c.slot.0)
+  spare_comes : BringsDelivery (came_at v ((end_of c e).0) (opposite (inward e)) c.slot.0)
       (either (way_clear size (cut_in w) ((end_of c e).0) (opposite (inward e)) (spare_spans size c))
       (sends_in (customer_at c (other_end e)) (v.ring.rounds - spare_spans size c)))
   spare_comes =

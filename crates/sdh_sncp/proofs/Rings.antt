@@ -20,12 +20,12 @@ use Rattle.sdh_rounds.specs.declared.faults.PlantFault.{PlantFault as Fault}
 use Rattle.sdh_rounds.specs.declared.faults.SettleError.{SettleError}
 use Rattle.sdh_rounds.specs.declared.faults.SettleError.TheVariants.{Unsettled, PlantFault}
 use Rattle.sdh_rounds.proofs.Keeping.{keeps_with, keeps_broken}
-use Rattle.sdh_sncp.specs.Node.{PathNode, new_node}
+use Rattle.sdh_sncp.specs.Node.{PathNode, new_path_node}
 use Rattle.sdh_sncp.specs.Stations.{path_node, MayRun}
 use Rattle.sdh_sncp.specs.Ring.{HeldPath, new_nodes, new_ring, World, IsRound, nodes_with, outlet_at}
-use Rattle.sdh_sncp.specs.Placed.{IsPlacedRing, IsPlaced}
-use Rattle.sdh_sncp.specs.Fixed.{fixed, AreAlone, HaveRun, IsRing}
-use Rattle.sdh_sncp.specs.Laws.{IsPaired, IsWhole, HasCircuits, KeepsPromises}
+use Rattle.sdh_sncp.specs.Placed.{IsPlacedPathRing, IsPlaced}
+use Rattle.sdh_sncp.specs.Fixed.{fixed_path, AreAlone, HaveRun, IsRing}
+use Rattle.sdh_sncp.specs.Laws.{IsPairedPathRing, IsWholePathRing, HasPathCircuits, KeepsPathPromises}
 use Rattle.sdh_circuits.proofs.Rings.{circuits_are, end_inside}
 use Rattle.sdh_terminal.proofs.Found.{has_own}
 use Rattle.sdh_sncp.proofs.Keeping.{fixed_told, fixed_next, all_rates, all_run_heard, all_run_next, node_is, has_fixed, new_has}
@@ -37,9 +37,9 @@ use Rattle.sdh_sncp.proofs.Wholes.{whole_settled, whole_unsettled}
 
 -- ---- a ring and its nodes
 
-ring_with : (r : HeldPath) (ns : List PathNode) (rounds : ℕ) (broken : Bool) → IsRing r → map fixed ns ≡ map fixed r.nodes
+ring_with : (r : HeldPath) (ns : List PathNode) (rounds : ℕ) (broken : Bool) → IsRing r → map fixed_path ns ≡ map fixed_path r.nodes
     → (broken ≡ false → HaveRun rounds ns)
-    → (broken ≡ false → IsPlacedRing (record r { nodes = ns; rounds = rounds; broken = broken }))
+    → (broken ≡ false → IsPlacedPathRing (record r { nodes = ns; rounds = rounds; broken = broken }))
     → IsRing (record r { nodes = ns; rounds = rounds; broken = broken })
 ring_with r ns rounds broken h same going placed = record {
   ids = h.ids;
@@ -89,14 +89,14 @@ ring_ran w after h whole is =
     let heard = nodes_with is.arrivals w in
     subst (λ (x : World). IsRing x.ring) (sym is.after_is)
     (ring_with w.ring (map (path_node.after w.ring.moment) heard) (w.ring.rounds + 1) w.ring.broken h
-    (keeps_with path_node fixed fixed_told (λ _. fixed_next) is.arrivals w)
+    (keeps_with path_node fixed_path fixed_told (λ _. fixed_next) is.arrivals w)
     (λ _. all_run_next w.ring.rounds heard (all_run_heard is.arrivals w.ring.rounds w.ring.nodes (h.going whole)))
     (λ _. placed_round w is.arrivals (h.placed whole)))
 
 ring_broke : (w left : World) → IsRing w.ring → BreaksRound path_node w left → IsRing left.ring
 ring_broke w left h b =
     subst IsRing (sym b.ring) (ring_with w.ring left.ring.nodes w.ring.rounds true h
-    (keeps_broken path_node fixed fixed_told (λ _. fixed_next) w left b) (λ e. true_is_not_false e) (λ e. true_is_not_false e))
+    (keeps_broken path_node fixed_path fixed_told (λ _. fixed_next) w left b) (λ e. true_is_not_false e) (λ e. true_is_not_false e))
 
 -- a ring stays one over a round, whatever the round answered
 pub ring_after : (exact : Bool) (w left : World) (before after : ℕ) (result : Result (Unit {0}) Fault) → IsRing w.ring
@@ -106,7 +106,7 @@ ring_after exact w left before after (Err e) h whole one = ring_broke w left h o
 
 -- ---- its circuits
 
-pub rings_circuits : (r : HeldPath) → IsRing r → HasCircuits r
+pub rings_circuits : (r : HeldPath) → IsRing r → HasPathCircuits r
 rings_circuits r is = record {
   are = subst (λ s. AreCircuits (length r.ids) s r.circuits.circuits) is.slots
       (circuits_are r.circuits r.ids is.circuits is.kept);
@@ -125,7 +125,7 @@ has_port r id n h node =
     let low : p < length r.ids = end_inside r.circuits r.ids id.circuit c id.end h.circuits h.kept below read in
     let there = get_or_from_slice_get r.nodes p n n (ap (slice_get r.nodes) (sym node.place.place) ∙ node.there) in
     subst (λ (m : PathNode). HasPort m.ports id) there
-    (has_fixed id _ (new_node r.settings r.ids cs (position_of p))
+    (has_fixed id _ (new_path_node r.settings r.ids cs (position_of p))
     (node_is r.settings r.ids cs (length r.ids) r.nodes p n h.nodes low) (new_has r.settings r.ids cs p id (has_own cs c id below read)))
 
 pub outlet_there : (r : HeldPath) (id : PortId) (n : PathNode) → IsNodeOf r id n → outlet_at r id ≡ outlet_of id n.ports
@@ -135,11 +135,11 @@ outlet_there r id n node =
 -- ---- a settle step
 
 -- nodes are where they belong, so it is enough that ring and fibres are paired
-abbrev whole_by : (w : World) → IsPlaced w → IsPaired w → IsWhole w
+abbrev whole_by : (w : World) → IsPlaced w → IsPairedPathRing w → IsWholePathRing w
 whole_by w placed paired = record { placed = placed; paired = paired }
 
-pub promises_kept : (w left : World) (limit : ℕ) (result : Result (Unit {0}) SettleError) → HasCircuits w.ring → IsPlaced w
-    → Outcome path_node w limit result left → KeepsPromises w limit result left
+pub promises_kept : (w left : World) (limit : ℕ) (result : Result (Unit {0}) SettleError) → HasPathCircuits w.ring → IsPlaced w
+    → Outcome path_node w limit result left → KeepsPathPromises w limit result left
 promises_kept w left limit (Ok u) fit placed s = record {
   owed = λ paired. steps_deliver w left limit fit s (whole_by w placed paired);
   paired = λ _ paired. (whole_settled w left limit s (whole_by w placed paired)).paired;

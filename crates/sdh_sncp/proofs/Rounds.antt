@@ -23,17 +23,17 @@ use Rattle.sdh_rounds.specs.Rounds.{arrival_at, sent_all}
 use Rattle.sdh_rounds.specs.Runs as any_run
 use Rattle.sdh_rounds.proofs.Runs.{length-heard, prepared_round, count_round, held_round, conditions_round}
 use Rattle.sdh_rounds.proofs.Honest.{honest_rounds}
-use Rattle.sdh_spans.specs.Frames.{Says, CarriesWord}
+use Rattle.sdh_spans.specs.Frames.{SaysWord, CarriesWord}
 use Rattle.sdh_spans.specs.Sides.{IsSenderAt, IsTold}
 use Rattle.sdh_spans.specs.Spans.{line_after}
-use Rattle.sdh_sncp.specs.Node.{PathNode, lines_of, crossing, inlet_on, sending_on}
+use Rattle.sdh_sncp.specs.Node.{PathNode, lines_of, path_crossing, inlet_on, path_sending_on}
 use Rattle.sdh_sncp.specs.Stations.{path_node}
-use Rattle.sdh_sncp.specs.Ring.{HeldPath, node_at, World, sent_on, frames_of, nodes_with, arrivals_of, round, run}
-use Rattle.sdh_sncp.specs.Laws.{IsPaired, IsWhole, condition_to}
+use Rattle.sdh_sncp.specs.Ring.{HeldPath, path_node_at, World, path_sent_on, frames_of, nodes_with, arrivals_of, round, run}
+use Rattle.sdh_sncp.specs.Laws.{IsPairedPathRing, IsWholePathRing, path_condition_to}
 use Rattle.sdh_sncp.proofs.Nodes.{placed_round, told_to, told_later, informed, informed_on, informed_out, listening_at, nodes_after}
 use Rattle.sdh_sncp.proofs.Nodes.{length-after, inlet_after, line_taken, frame_is, node_sends}
 
-module _ (w : World) (whole : IsWhole w) where
+module _ (w : World) (whole : IsWholePathRing w) where
   abbrev size : ℕ
   size = length w.ring.ids
 
@@ -44,10 +44,10 @@ module _ (w : World) (whole : IsWhole w) where
   t = w.ring.rounds
 
   abbrev old_on : ℕ → Side → Inlet
-  old_on p d = inlet_on d (node_at w.ring.nodes p)
+  old_on p d = inlet_on d (path_node_at w.ring.nodes p)
 
   abbrev new_on : ℕ → Side → Inlet
-  new_on p d = inlet_on d (node_at (round w).ring.nodes p)
+  new_on p d = inlet_on d (path_node_at (round w).ring.nodes p)
 
   -- the word that the neighbour on a side of position p sends towards p
   abbrev pub word_to : ℕ → Side → K
@@ -60,7 +60,7 @@ module _ (w : World) (whole : IsWhole w) where
 
   -- ---- what arrives
 
-  pub may_at : (p : ℕ) (d : Side) → IsConditionAt rate (condition_to w p d)
+  pub may_at : (p : ℕ) (d : Side) → IsConditionAt rate (path_condition_to w p d)
   may_at p d =
       let cs = w.fibres.conditions in
       let i = fibre_to size p d in
@@ -70,7 +70,7 @@ module _ (w : World) (whole : IsWhole w) where
       ]
 
   pub arrival_is : (p : ℕ) (d : Side) → arrival_at w.fibres p d
-      ≡ through (n_of rate) (condition_to w p d) (carried_on w.fibres (fibre_to size p d))
+      ≡ through (n_of rate) (path_condition_to w p d) (carried_on w.fibres (fibre_to size p d))
   arrival_is p d =
       let f = w.fibres in
       (honest_rounds path_node).arrives f p d whole.paired.honest
@@ -91,7 +91,7 @@ module _ (w : World) (whole : IsWhole w) where
   threshold_at p = (informed w p).threshold
 
   pub told_side : (p : ℕ) (d : Side) (some : 0 < t) → p < length w.ring.nodes
-      → IsTold rate (condition_to w p d) (word_to p d) (sent_to p d some).line (inlet_at p d)
+      → IsTold rate (path_condition_to w p d) (word_to p d) (sent_to p d some).line (inlet_at p d)
   told_side p d some h =
       let sent = sent_to p d some in
       record {
@@ -99,7 +99,7 @@ module _ (w : World) (whole : IsWhole w) where
         says = sent.says;
         no_ais = λ e. cc;
         inlet = (let r = (whole.placed.places p h).inlets d in record { rate = r.rate; readings = r.readings });
-        told = told_later w p d some ∙ ap Some (arrival_is p d ∙ ap (through (n_of rate) (condition_to w p d)) sent.there);
+        told = told_later w p d some ∙ ap Some (arrival_is p d ∙ ap (through (n_of rate) (path_condition_to w p d)) sent.there);
       }
 
   -- what the round leaves of the side
@@ -109,13 +109,13 @@ module _ (w : World) (whole : IsWhole w) where
       ∙ ap (after_taking (threshold_at p)) (informed_on w p d)
 
   -- what the side is in the cross-connect of the round
-  pub line_is : (p : ℕ) (d : Side) → line_on (lines_of (crossing (informed w p))) d ≡ line_after (threshold_at p) (inlet_at p d)
+  pub line_is : (p : ℕ) (d : Side) → line_on (lines_of (path_crossing (informed w p))) d ≡ line_after (threshold_at p) (inlet_at p d)
   line_is p d = line_taken (informed w p) d ∙ ap (line_after (threshold_at p)) (informed_on w p d)
 
   -- ---- what the fibres carry after the round
 
   frame_there : (ns : List PathNode) (p : ℕ) (d : Side) → p < length ns
-      → get_or (map Some (frames_of w.ring.moment ns)) (fibre p d) None ≡ Some (sent_on d (node_at ns p))
+      → get_or (map Some (frames_of w.ring.moment ns)) (fibre p d) None ≡ Some (path_sent_on d (path_node_at ns p))
   frame_there [] p d h = absurd (omega arith)
   frame_there (n ∷ ns) zero West h = refl
   frame_there (n ∷ ns) zero East h = refl
@@ -127,23 +127,23 @@ module _ (w : World) (whole : IsWhole w) where
       ap (λ k. get_or (map Some (frames_of w.ring.moment (n ∷ ns))) k None) i ∙ frame_there ns p East (omega arith)
 
   pub carried_after : (p : ℕ) (d : Side) → p < length w.ring.nodes
-      → carried_on (round w).fibres (fibre p d) ≡ Some (sent_on d (informed w p))
+      → carried_on (round w).fibres (fibre p d) ≡ Some (path_sent_on d (informed w p))
   unfolding any_round.round any_round.round_with sent_all
   carried_after p d h =
       frame_there (nodes_with (arrivals_of w) w) p d (let e = length-heard path_node (arrivals_of w) w.ring.nodes in omega arith)
-      ∙ ap (λ n. Some (sent_on d n)) (listening_at w whole.placed p h)
+      ∙ ap (λ n. Some (path_sent_on d n)) (listening_at w whole.placed p h)
 
-  pub sends_at : (p : ℕ) (d : Side) → p < length w.ring.nodes → IsSenderAt rate (sending_on d (informed w p))
+  pub sends_at : (p : ℕ) (d : Side) → p < length w.ring.nodes → IsSenderAt rate (path_sending_on d (informed w p))
   sends_at p d h = subst (IsSenderAt rate) (sym (informed_out w p d)) ((whole.placed.places p h).senders d)
 
   -- the word that a node says
-  pub word_is : (p : ℕ) (d : Side) → p < length w.ring.nodes → (sending_on d (informed w p)).word ≡ first_word w.ring.ids p d
+  pub word_is : (p : ℕ) (d : Side) → p < length w.ring.nodes → (path_sending_on d (informed w p)).word ≡ first_word w.ring.ids p d
   word_is p d h = ap (λ (x : Sending). x.word) (informed_out w p d) ∙ (whole.placed.places p h).words d
 
-  frame_says : (p : ℕ) (d : Side) → p < length w.ring.nodes → Says rate (first_word w.ring.ids p d) (sent_on d (informed w p))
+  frame_says : (p : ℕ) (d : Side) → p < length w.ring.nodes → SaysWord rate (first_word w.ring.ids p d) (path_sent_on d (informed w p))
   frame_says p d h =
-      subst (λ k. Says rate k (sent_on d (informed w p))) (word_is p d h)
-      (subst (Says rate (sending_on d (informed w p)).word) (sym (frame_is (informed w p) d))
+      subst (λ k. SaysWord rate k (path_sent_on d (informed w p))) (word_is p d h)
+      (subst (SaysWord rate (path_sending_on d (informed w p)).word) (sym (frame_is (informed w p) d))
       (node_sends (informed w p) rate d (sends_at p d h)).says)
 
   prepared_after : IsPrepared rate size (round w).fibres
@@ -157,22 +157,22 @@ module _ (w : World) (whole : IsWhole w) where
   unfolding any_round.round
   honest_after = (honest_rounds path_node).round w (arrivals_of w) whole.paired.honest
 
-  pub paired_after : IsPaired (round w)
+  pub paired_after : IsPairedPathRing (round w)
   unfolding any_round.round any_round.round_with
   paired_after = record {
     honest = honest_after;
     prepared = prepared_after;
     carried = λ p h. (let low : p < length w.ring.nodes = omega (arith, length-after w) in record {
       dark = λ d e. absurd (omega arith);
-      frames = λ d some. record { line = sent_on d (informed w p); there = carried_after p d low; says = frame_says p d low };
+      frames = λ d some. record { line = path_sent_on d (informed w p); there = carried_after p d low; says = frame_says p d low };
     });
   }
 
-pub whole_round : (w : World) → IsWhole w → IsWhole (round w)
+pub whole_round : (w : World) → IsWholePathRing w → IsWholePathRing (round w)
 unfolding any_round.round
 whole_round w whole = record { placed = placed_round w (arrivals_of w) whole.placed; paired = paired_after w whole }
 
-pub whole_run : (w : World) (k : ℕ) → IsWhole w → IsWhole (run k w)
+pub whole_run : (w : World) (k : ℕ) → IsWholePathRing w → IsWholePathRing (run k w)
 unfolding any_run.run
 whole_run w zero whole = whole
 whole_run w (suc k) whole = whole_round (run k w) (whole_run w k whole)

@@ -20,17 +20,17 @@ use Rattle.sdh_payload.specs.Stream.{stream_from}
 use Rattle.sdh_terminal.specs.Passing.{no_input}
 use Rattle.sdh_terminal.specs.Lines.{fed_by}
 use Rattle.sdh_terminal.specs.Tributaries.{Tributary, sent_in, input_by, added_by, port_of}
-use Rattle.sdh_spans.specs.Brought.{Brings}
+use Rattle.sdh_spans.specs.Brought.{BringsDelivery}
 use Rattle.sdh_spans.proofs.Ports.{ports_bring}
 use Rattle.sdh_sncp.specs.declared.slots.Use.{Use}
 use Rattle.sdh_sncp.specs.declared.slots.Use.TheVariants.{Unused, Passed, Ended}
 use Rattle.sdh_sncp.specs.Slots.{use_by, use_from, use_of, uses_at}
 use Rattle.sdh_sncp.specs.Due as due
-use Rattle.sdh_sncp.specs.Node.{fed_for, leads, lines_of, crossing}
+use Rattle.sdh_sncp.specs.Node.{fed_for, path_leads, lines_of, path_crossing}
 use Rattle.sdh_sncp.specs.Fixed.{AreAlone}
-use Rattle.sdh_sncp.specs.Ring.{node_at, World}
-use Rattle.sdh_sncp.specs.Placed.{IsUnslipped}
-use Rattle.sdh_sncp.specs.Laws.{IsWhole}
+use Rattle.sdh_sncp.specs.Ring.{path_node_at, World}
+use Rattle.sdh_sncp.specs.Placed.{IsUnslippedFeed}
+use Rattle.sdh_sncp.specs.Laws.{IsWholePathRing}
 use Rattle.sdh_terminal.proofs.Found.{found_has, IsPortOf, port-found}
 use Rattle.sdh_sncp.proofs.Nodes.{informed, unslipped_plain}
 use Rattle.sdh_sncp.proofs.Spans.{crossing_at, sent_at, came_at}
@@ -85,7 +85,7 @@ use_ended i c B apart =
 
 -- ---- what goes into an AU-4
 
-module _ (w : World) (whole : IsWhole w) (q m : ℕ) (h : q < length w.ring.nodes) (low : 1 ≤ m) (high : m ≤ n_of w.ring.settings.rate) where
+module _ (w : World) (whole : IsWholePathRing w) (q m : ℕ) (h : q < length w.ring.nodes) (low : 1 ≤ m) (high : m ≤ n_of w.ring.settings.rate) where
   use_there : get_or (informed w q).uses (m - 1) Unused ≡ use_of w.ring.circuits.circuits q m
   unfolding uses_at
   use_there =
@@ -93,20 +93,20 @@ module _ (w : World) (whole : IsWhole w) (q m : ℕ) (h : q < length w.ring.node
       ∙ get_or-cells (λ k. use_of w.ring.circuits.circuits q (k + 1)) (n_of w.ring.settings.rate) (m - 1) Unused (omega arith)
       ∙ ap (use_of w.ring.circuits.circuits q) (let e : m - 1 + 1 ≡ m = omega arith in e)
 
-  lead_is : (d : Side) → leads (crossing_at w q) d m ≡ fed_for (use_of w.ring.circuits.circuits q m) d m
-  unfolding leads crossing
+  lead_is : (d : Side) → path_leads (crossing_at w q) d m ≡ fed_for (use_of w.ring.circuits.circuits q m) d m
+  unfolding path_leads path_crossing
   lead_is d = ap (λ u. fed_for u d m) use_there
 
   pub sends_by : (u : Use) (d : Side) → use_of w.ring.circuits.circuits q m ≡ u
-      → sent_at w q d m ≡ fed_by (lines_of (crossing_at w q)) (added_by (node_at w.ring.nodes q).ports) (fed_for u d m)
+      → sent_at w q d m ≡ fed_by (lines_of (crossing_at w q)) (added_by (path_node_at w.ring.nodes q).ports) (fed_for u d m)
   sends_by u d is =
-      ap (fed_by (lines_of (crossing_at w q)) (added_by (node_at w.ring.nodes q).ports)) (lead_is d ∙ ap (λ u. fed_for u d m) is)
+      ap (fed_by (lines_of (crossing_at w q)) (added_by (path_node_at w.ring.nodes q).ports)) (lead_is d ∙ ap (λ u. fed_for u d m) is)
 
   pub sends_passed : (d : Side) → use_of w.ring.circuits.circuits q m ≡ Passed → sent_at w q (opposite d) m ≡ came_at w q d m
   sends_passed d is = sends_by Passed (opposite d) is ∙ ap (λ e. came_at w q e m) (opposite_twice d)
 
   pub sends_ended : (d : Side) (id : PortId) → use_of w.ring.circuits.circuits q m ≡ Ended id
-      → sent_at w q d m ≡ added_by (node_at w.ring.nodes q).ports id
+      → sent_at w q d m ≡ added_by (path_node_at w.ring.nodes q).ports id
   sends_ended d id is = sends_by (Ended id) d is
 
   pub sends_none : (d : Side) → use_of w.ring.circuits.circuits q m ≡ Unused → sent_at w q d m ≡ no_input
@@ -114,30 +114,30 @@ module _ (w : World) (whole : IsWhole w) (q m : ℕ) (h : q < length w.ring.node
 
 -- ---- what a port sends
 
-sends_it : (t : Tributary) (sender : Customer) (rounds : ℕ) → t.feed.port ≡ sender → IsUnslipped rounds t.feed
-    → Brings (input_by (sent_in t.feed)) (due.sends_in sender rounds)
+sends_it : (t : Tributary) (sender : Customer) (rounds : ℕ) → t.feed.port ≡ sender → IsUnslippedFeed rounds t.feed
+    → BringsDelivery (input_by (sent_in t.feed)) (due.sends_in sender rounds)
 sends_it t sender rounds from is =
     let value : t.feed.clock.value ≡ sender.offset = is.value ∙ ap (λ (s : Customer). s.offset) from in
     let bytes : stream_from t.feed.port t.feed.clock.sent 2349 ≡ stream_from sender (2349 * rounds) 2349 =
     ap (λ p. stream_from t.feed.port p 2349) is.sent ∙ ap (λ s. stream_from s (2349 * rounds) 2349) from in
-    subst (λ o. Brings (input_by (sent_in t.feed)) o) (λ i. delivering (value i) (bytes i))
+    subst (λ o. BringsDelivery (input_by (sent_in t.feed)) o) (λ i. delivering (value i) (bytes i))
     (ports_bring t.feed (unslipped_plain rounds t.feed is))
 
-module _ (w : World) (whole : IsWhole w) (index : ℕ) (c : Provisioned) (e : End) (get : slice_get w.ring.circuits.circuits index ≡ Some c)
+module _ (w : World) (whole : IsWholePathRing w) (index : ℕ) (c : Provisioned) (e : End) (get : slice_get w.ring.circuits.circuits index ≡ Some c)
     (h : (end_of c e).0 < length w.ring.nodes) where
-  pub found : IsPortOf c e (port_of (port_id index e) (node_at w.ring.nodes ((end_of c e).0)).ports)
+  pub found : IsPortOf c e (port_of (port_id index e) (path_node_at w.ring.nodes ((end_of c e).0)).ports)
   found =
-      port-found w.ring.circuits.circuits (node_at w.ring.nodes ((end_of c e).0)).ports index c e get
+      port-found w.ring.circuits.circuits (path_node_at w.ring.nodes ((end_of c e).0)).ports index c e get
       (whole.placed.places ((end_of c e).0) h).ports
 
   -- the port sends in the round what its customer sends in it
-  pub port_sends : Brings (added_by (node_at w.ring.nodes ((end_of c e).0)).ports (port_id index e))
+  pub port_sends : BringsDelivery (added_by (path_node_at w.ring.nodes ((end_of c e).0)).ports (port_id index e))
       (due.sends_in (customer_at c e) w.ring.rounds)
   port_sends =
       let t = found.it in
       let clocks =
-      (found_has (λ (t : Tributary). IsUnslipped w.ring.rounds t.feed) (port_id index e) (node_at w.ring.nodes ((end_of c e).0)).ports t
+      (found_has (λ (t : Tributary). IsUnslippedFeed w.ring.rounds t.feed) (port_id index e) (path_node_at w.ring.nodes ((end_of c e).0)).ports t
       (whole.placed.between ((end_of c e).0) h).run.clocks found.is).0 in
-      subst (λ i. Brings i (due.sends_in (customer_at c e) w.ring.rounds))
+      subst (λ i. BringsDelivery i (due.sends_in (customer_at c e) w.ring.rounds))
       (sym (ap (λ o. option_map_or (λ (t : Tributary). input_by (sent_in t.feed)) o no_input) found.is))
       (sends_it t (customer_at c e) w.ring.rounds found.sender clocks)

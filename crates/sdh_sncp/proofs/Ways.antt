@@ -21,12 +21,12 @@ use Rattle.sdh_ringmap.specs.Fibres.{fibre_to, is_cut}
 use Rattle.sdh_plant.specs.Arrivals.{condition_of}
 use Rattle.sdh_circuits.specs.Ends.{other_end, port_id}
 use Rattle.sdh_rounds.specs.Runs as any_run
-use Rattle.sdh_spans.specs.Brought.{Brings, HasValue}
+use Rattle.sdh_spans.specs.Brought.{BringsDelivery, HasValue}
 use Rattle.sdh_sncp.specs.Due.{way_clear, main_spans, spare_spans, sends_in}
 use Rattle.sdh_circuits.specs.Ends.{inward}
 use Rattle.sdh_sncp.specs.Fixed.{AreAlone}
 use Rattle.sdh_sncp.specs.Ring.{World, run, is_calm}
-use Rattle.sdh_sncp.specs.Laws.{IsWhole, cut_in}
+use Rattle.sdh_sncp.specs.Laws.{IsWholePathRing, cut_in}
 use Rattle.sdh_sncp.proofs.Rounds.{whole_run, IsLeft, left_run}
 use Rattle.sdh_sncp.proofs.Spans.{sent_at, came_at, span_brings, span_silent}
 use Rattle.sdh_sncp.proofs.Uses.{use_is, use_passed, use_ended, sends_passed, sends_ended, port_sends}
@@ -86,7 +86,7 @@ either_value : (b : Bool) (s : Customer) (t : ℕ) → IsSmallCustomer s → Has
 either_value true s t small = small
 either_value false s t small = refl
 
-module _ (w : World) (whole : IsWhole w) (alone : AreAlone w.ring.circuits.circuits) (index : ℕ) (c : Provisioned)
+module _ (w : World) (whole : IsWholePathRing w) (alone : AreAlone w.ring.circuits.circuits) (index : ℕ) (c : Provisioned)
     (get : slice_get w.ring.circuits.circuits index ≡ Some c)
     (low : 1 ≤ c.slot.0) (high : c.slot.0 ≤ n_of w.ring.settings.rate) (apart : c.from.0 ≢ c.to.0)
     (inside : (e : End) → (end_of c e).0 < length w.ring.ids) (e : End) (small : IsSmallCustomer (customer_at c (other_end e)))
@@ -114,7 +114,7 @@ module _ (w : World) (whole : IsWhole w) (alone : AreAlone w.ring.circuits.circu
     abbrev u : World
     u = run i w
 
-    there : IsWhole u
+    there : IsWholePathRing u
     there = whole_run w i whole
 
     left : IsLeft w u i
@@ -146,9 +146,9 @@ module _ (w : World) (whole : IsWhole w) (alone : AreAlone w.ring.circuits.circu
         sends_passed u there q m (let e = nodes_there in omega arith) low high_there d
         (use_is u.ring.circuits.circuits same_alone q index c same_circuits ∙ use_passed q index c a b)
 
-    far_sends : Brings (sent_at u far (opposite d) m) (sends_in sender u.ring.rounds)
+    far_sends : BringsDelivery (sent_at u far (opposite d) m) (sends_in sender u.ring.rounds)
     far_sends =
-        subst (λ x. Brings x (sends_in sender u.ring.rounds))
+        subst (λ x. BringsDelivery x (sends_in sender u.ring.rounds))
         (sym (sends_ended u there far m (ends_there (other_end e)) low high_there (opposite d) (port_id index (other_end e))
         (use_is u.ring.circuits.circuits same_alone far index c same_circuits ∙ use_ended index c (other_end e) apart)))
         (port_sends u there index c (other_end e) same_circuits (ends_there (other_end e)))
@@ -174,30 +174,30 @@ module _ (w : World) (whole : IsWhole w) (alone : AreAlone w.ring.circuits.circu
 
   -- after a cut fibre AIS comes
   behind_cut : (i p : ℕ) → 0 < i → p < size → is_calm (run (suc i) w).ring.nodes ≡ true → cut p d ≡ true
-      → Brings (came_at (run i w) p d m) silent
+      → BringsDelivery (came_at (run i w) p d m) silent
   unfolding any_run.run
   behind_cut i p ran h calm is =
-      subst (λ a. Brings (came_at (run i w) p d a) silent) at_m
+      subst (λ a. BringsDelivery (came_at (run i w) p d a) silent) at_m
       (span_silent (run i w) (there i) (let r = (left i).rounds in omega arith) p d (let e = nodes_there i in omega arith) back
       (let h = high_there i in omega arith) calm (cut_same i p d ∙ is))
 
   -- over any other what the neighbour sent comes
   over_span : (i p : ℕ) (b : Outlet) → p < size → is_calm (run (suc i) w).ring.nodes ≡ true
       → is_calm (run (suc (suc i)) w).ring.nodes ≡ true → cut p d ≡ false → HasValue b
-      → Brings (sent_at (run i w) (neighbour size p d) (opposite d) m) b → Brings (came_at (run (suc i) w) p d m) b
+      → BringsDelivery (sent_at (run i w) (neighbour size p d) (opposite d) m) b → BringsDelivery (came_at (run (suc i) w) p d m) b
   unfolding any_run.run
   over_span i p b h calm0 calm1 is value sent =
       let q = neighbour size p d in
-      subst (λ a. Brings (came_at (run (suc i) w) p d a) b) at_m
+      subst (λ a. BringsDelivery (came_at (run (suc i) w) p d a) b) at_m
       (span_brings (run i w) (there i) p d (let e = nodes_there i in omega arith) back (let h = high_there i in omega arith) calm0 calm1
       (cut_same (suc i) p d ∙ is) b value
-      (subst (λ ids. Brings (sent_at (run i w) (neighbour (length ids) p d) (opposite d) (back + 1)) b) (sym (left i).ids)
-      (subst (λ a. Brings (sent_at (run i w) q (opposite d) a) b) (sym at_m) sent)))
+      (subst (λ ids. BringsDelivery (sent_at (run i w) (neighbour (length ids) p d) (opposite d) (back + 1)) b) (sym (left i).ids)
+      (subst (λ a. BringsDelivery (sent_at (run i w) q (opposite d) a) b) (sym at_m) sent)))
 
   -- what comes after i rounds, s spans from the other end, where the port's own node is x spans ahead
   abbrev Comes : ℕ → Type 0
   Comes i = (s p x : ℕ) → 1 ≤ s → s ≤ i → p < size → going size d p s ≡ far → going size d p x ≡ near → s < x → x ≤ size → Calm s i
-      → Brings (came_at (run i w) p d m) (either (way_clear size cut p d s) (sends_in sender ((run i w).ring.rounds - s)))
+      → BringsDelivery (came_at (run i w) p d m) (either (way_clear size cut p d s) (sends_in sender ((run i w).ring.rounds - s)))
 
   -- what the node s spans from the other end sends on
   module _ (i p x s : ℕ) (earlier : Comes i) (h : p < size) (leads : going size d p (suc s) ≡ far) (ends : going size d p x ≡ near)
@@ -211,41 +211,41 @@ module _ (w : World) (whole : IsWhole w) (alone : AreAlone w.ring.circuits.circu
     ends_on : going size d q (x - 1) ≡ near
     ends_on = going-first size some d p (x - 1) ∙ ap (going size d p) (let e : suc (x - 1) ≡ x = omega arith in e) ∙ ends
 
-    last_sends : s ≡ 0 → Brings (sent_at (run i w) q (opposite d) m)
+    last_sends : s ≡ 0 → BringsDelivery (sent_at (run i w) q (opposite d) m)
         (either (way_clear size cut q d s) (sends_in sender ((run i w).ring.rounds - s)))
     last_sends none =
         let here : q ≡ far =
         sym (going-none size some d q q_inside) ∙ going-first size some d p 0 ∙ ap (λ k. going size d p (suc k)) (sym none) ∙ leads in
-        subst (λ k. Brings (sent_at (run i w) q (opposite d) m)
+        subst (λ k. BringsDelivery (sent_at (run i w) q (opposite d) m)
         (either (way_clear size cut q d k) (sends_in sender ((run i w).ring.rounds - k)))) (sym none)
-        (subst (λ k. Brings (sent_at (run i w) q (opposite d) m) (sends_in sender k))
+        (subst (λ k. BringsDelivery (sent_at (run i w) q (opposite d) m) (sends_in sender k))
         (let e : (run i w).ring.rounds ≡ (run i w).ring.rounds - 0 = omega arith in e)
-        (subst (λ y. Brings (sent_at (run i w) y (opposite d) m) (sends_in sender ((run i w).ring.rounds))) (sym here) (far_sends i)))
+        (subst (λ y. BringsDelivery (sent_at (run i w) y (opposite d) m) (sends_in sender ((run i w).ring.rounds))) (sym here) (far_sends i)))
 
-    passed_on : 1 ≤ s → Brings (sent_at (run i w) q (opposite d) m)
+    passed_on : 1 ≤ s → BringsDelivery (sent_at (run i w) q (opposite d) m)
         (either (way_clear size cut q d s) (sends_in sender ((run i w).ring.rounds - s)))
     passed_on more =
         let to : going size d q s ≡ far = going-first size some d p s ∙ leads in
         let not_far : q ≢ far = λ z. going-apart size some d q s q_inside (omega arith) (omega arith) (to ∙ sym z) in
         let not_near : q ≢ near = λ z. going-apart size some d q (x - 1) q_inside (omega arith) (omega arith) (ends_on ∙ sym z) in
         let is = neither q not_far not_near in
-        subst (λ y. Brings y (either (way_clear size cut q d s) (sends_in sender ((run i w).ring.rounds - s))))
+        subst (λ y. BringsDelivery y (either (way_clear size cut q d s) (sends_in sender ((run i w).ring.rounds - s))))
         (sym (passes i q q_inside is.0 is.1))
         (earlier s q (x - 1) more few q_inside to ends_on (omega arith) (omega arith) (λ j low late. calm j (omega arith) (omega arith)))
 
-    neighbour_sends : Brings (sent_at (run i w) q (opposite d) m)
+    neighbour_sends : BringsDelivery (sent_at (run i w) q (opposite d) m)
         (either (way_clear size cut q d s) (sends_in sender ((run i w).ring.rounds - s)))
     neighbour_sends = elim (cases_lt 0 s) [ inl more ↦ passed_on more | inr none ↦ last_sends (omega arith) ]
 
-    comes_one : Brings (came_at (run (suc i) w) p d m) (either (way_clear size cut p d (suc s))
+    comes_one : BringsDelivery (came_at (run (suc i) w) p d m) (either (way_clear size cut p d (suc s))
         (sends_in sender ((run (suc i) w).ring.rounds - suc s)))
     comes_one = elim (cases_Bool (cut p d)) [
-      | inl is ↦ subst (λ b. Brings (came_at (run (suc i) w) p d m)
+      | inl is ↦ subst (λ b. BringsDelivery (came_at (run (suc i) w) p d m)
           (either (if b then false else way_clear size cut q d s) (sends_in sender ((run (suc i) w).ring.rounds - suc s)))) (sym is)
           (behind_cut (suc i) p (omega arith) h (calm (suc (suc i)) (omega arith) (omega arith)) is)
-      | inr is ↦ subst (λ b. Brings (came_at (run (suc i) w) p d m)
+      | inr is ↦ subst (λ b. BringsDelivery (came_at (run (suc i) w) p d m)
           (either (if b then false else way_clear size cut q d s) (sends_in sender ((run (suc i) w).ring.rounds - suc s)))) (sym is)
-          (subst (λ k. Brings (came_at (run (suc i) w) p d m) (either (way_clear size cut q d s) (sends_in sender k))) time
+          (subst (λ k. BringsDelivery (came_at (run (suc i) w) p d m) (either (way_clear size cut q d s) (sends_in sender k))) time
           (over_span i p (either (way_clear size cut q d s) (sends_in sender ((run i w).ring.rounds - s))) h
           (calm (suc i) (omega arith) (omega arith)) (calm (suc (suc i)) (omega arith) (omega arith)) is
           (either_value (way_clear size cut q d s) sender ((run i w).ring.rounds - s) small) neighbour_sends))

@@ -9,18 +9,18 @@ use Rattle.sdh_circuits.specs.Kept.{KeepsRing}
 use Rattle.sdh_sncp.specs.declared.slots.Use.{Use}
 use Rattle.sdh_sncp.specs.Node.{PathNode}
 use Rattle.sdh_sncp.specs.Ring.{HeldPath, new_nodes}
-use Rattle.sdh_sncp.specs.Placed.{IsPlacedRing}
+use Rattle.sdh_sncp.specs.Placed.{IsPlacedPathRing}
 use Rattle.sdh_terminal.specs.Fixed.{FixedPort, fixed_port}
 
 -- the part of a node that stays, whatever it receives and sends
-pub record Fixed : Type 0 where
+pub record FixedPath : Type 0 where
   pub threshold : ℕ
   pub rate : Rate
   pub uses : List Use
   pub ports : List FixedPort
 
-unfoldable pub fixed : PathNode → Fixed
-fixed n = record { threshold = n.threshold; rate = n.west.section.rate; uses = n.uses; ports = map fixed_port n.ports }
+unfoldable pub fixed_path : PathNode → FixedPath
+fixed_path n = record { threshold = n.threshold; rate = n.west.section.rate; uses = n.uses; ports = map fixed_port n.ports }
 
 -- no two circuits share a slot
 abbrev pub AreAlone : List Provisioned → Type 0
@@ -38,6 +38,6 @@ pub record IsRing (r : HeldPath) : Type 0 where
   pub slots : r.circuits.slots ≡ n_of r.settings.rate / 2
   pub kept : KeepsRing r.circuits r.ids
   pub alone : AreAlone r.circuits.circuits
-  pub nodes : map fixed r.nodes ≡ map fixed (new_nodes r.settings r.ids r.circuits.circuits (length r.ids))
+  pub nodes : map fixed_path r.nodes ≡ map fixed_path (new_nodes r.settings r.ids r.circuits.circuits (length r.ids))
   pub going : r.broken ≡ false → HaveRun r.rounds r.nodes
-  pub placed : r.broken ≡ false → IsPlacedRing r
+  pub placed : r.broken ≡ false → IsPlacedPathRing r

@@ -27,7 +27,7 @@ use Rattle.sdh_rounds.specs.declared.faults.SettleError.TheVariants.{Unsettled, 
 use Rattle.sdh_spans.specs.Frames.{AreCarried}
 use Rattle.sdh_sncp.specs.Ring.{HeldPath, new_ring, outlet_at, World, world, round_with, round, run, course, is_calm, EndsWindow, Settles}
 use Rattle.sdh_sncp.specs.Ring.{Unsettles}
-use Rattle.sdh_sncp.specs.Placed.{IsPlacedRing, IsPlaced}
+use Rattle.sdh_sncp.specs.Placed.{IsPlacedPathRing, IsPlaced}
 use Rattle.sdh_sncp.specs.Fixed.{AreAlone}
 use Rattle.sdh_sncp.specs.Due.{due_path}
 
@@ -35,86 +35,86 @@ use Rattle.sdh_sncp.specs.Due.{due_path}
 
 -- A ring and its fibres that are paired: the fibres are honest, prepared for the ring, and carry what the nodes sent.
 -- That is nothing before round 0, and then frames whose K bytes have the word of a node that asks for nothing.
-pub record IsPaired (w : World) : Type 0 where
+pub record IsPairedPathRing (w : World) : Type 0 where
   pub honest : IsHonest w.fibres
   pub prepared : IsPrepared w.ring.settings.rate (length w.ring.ids) w.fibres
   pub carried : (p : ℕ) → p < length w.ring.nodes → AreCarried w.ring.settings.rate w.fibres w.ring.rounds p
       (λ d. first_word w.ring.ids p d)
 
 -- a whole ring: its nodes are in their places, and its fibres carry what they sent
-pub record IsWhole (w : World) : Type 0 where
+pub record IsWholePathRing (w : World) : Type 0 where
   pub placed : IsPlaced w
-  pub paired : IsPaired w
+  pub paired : IsPairedPathRing w
 
 -- ---- what stays
 
 -- each node stays in its place, whatever arrives
-pub record StayPlaced : Type 0 where
-  pub new : (s : Settings) (ids : List ℕ) (circuits : Provisioning) → AreIds ids → IsPlacedRing (new_ring s ids circuits)
+pub record PathNodesStayPlaced : Type 0 where
+  pub new : (s : Settings) (ids : List ℕ) (circuits : Provisioning) → AreIds ids → IsPlacedPathRing (new_ring s ids circuits)
   pub round : (arrivals : List Arrival) (w : World) → IsPlaced w → IsPlaced (round_with arrivals w)
 
-abbrev pub NewWorldsAreWhole : Type 0
-NewWorldsAreWhole =
+abbrev pub NewPathRingsAreWhole : Type 0
+NewPathRingsAreWhole =
     (s : Settings) (ids : List ℕ) (circuits : Provisioning) (f : Fibres) → AreIds ids → IsHonest f
-    → IsWhole (world (new_ring s ids circuits) (prepared s.rate (length ids) f))
+    → IsWholePathRing (world (new_ring s ids circuits) (prepared s.rate (length ids) f))
 
 -- before the first round every port delivers AIS
 abbrev pub NewRingsAreSilent : Type 0
 NewRingsAreSilent =
     (s : Settings) (ids : List ℕ) (circuits : Provisioning) (port : PortId) → outlet_at (new_ring s ids circuits) port ≡ silent
 
-pub record StayWhole : Type 0 where
-  pub round : (w : World) → IsWhole w → IsWhole (round w)
-  pub rounds : (w : World) (k : ℕ) → IsWhole w → IsWhole (run k w)
-  pub apply : (w : World) (p : ℕ) (d : Side) (c : Condition) → IsConditionAt w.ring.settings.rate c → IsWhole w
-      → IsWhole (record w { fibres = after_apply w.fibres p d c })
+pub record PathRingsStayWhole : Type 0 where
+  pub round : (w : World) → IsWholePathRing w → IsWholePathRing (round w)
+  pub rounds : (w : World) (k : ℕ) → IsWholePathRing w → IsWholePathRing (run k w)
+  pub apply : (w : World) (p : ℕ) (d : Side) (c : Condition) → IsConditionAt w.ring.settings.rate c → IsWholePathRing w
+      → IsWholePathRing (record w { fibres = after_apply w.fibres p d c })
 
 -- ---- what is owed
 
 -- the circuits are those of a ring of this size and rate, and no two share a slot
-pub record HasCircuits (r : HeldPath) : Type 0 where
+pub record HasPathCircuits (r : HeldPath) : Type 0 where
   pub are : AreCircuits (length r.ids) (n_of r.settings.rate / 2) r.circuits.circuits
   pub alone : AreAlone r.circuits.circuits
 
 -- the condition of the fibre that ends at position p on a side
-abbrev pub condition_to : World → ℕ → Side → Condition
-condition_to w p d = condition_of w.fibres (fibre_to (length w.ring.ids) p d)
+abbrev pub path_condition_to : World → ℕ → Side → Condition
+path_condition_to w p d = condition_of w.fibres (fibre_to (length w.ring.ids) p d)
 
 -- whether the fibre is cut that ends at position p on a side
 abbrev pub cut_in : World → ℕ → Side → Bool
-cut_in w p d = is_cut (condition_to w p d)
+cut_in w p d = is_cut (path_condition_to w p d)
 
 -- each port delivered in the last round what it is owed in that round
-abbrev pub DeliversWhatIsDue : World → Type 0
-DeliversWhatIsDue w = (index : ℕ) (c : Provisioned) → slice_get w.ring.circuits.circuits index ≡ Some c → (e : End)
+abbrev pub PathDeliversWhatIsDue : World → Type 0
+PathDeliversWhatIsDue w = (index : ℕ) (c : Provisioned) → slice_get w.ring.circuits.circuits index ≡ Some c → (e : End)
     → outlet_at w.ring (record { circuit = index; end = e }) ≡ due_path (length w.ring.ids) (cut_in w) c e (w.ring.rounds - 1)
 
 abbrev pub QuietRingsDeliver : Type 0
-QuietRingsDeliver = (w : World) (k : ℕ) → IsWhole w → HasCircuits w.ring → EndsWindow (course w) k → DeliversWhatIsDue (run k w)
+QuietRingsDeliver = (w : World) (k : ℕ) → IsWholePathRing w → HasPathCircuits w.ring → EndsWindow (course w) k → PathDeliversWhatIsDue (run k w)
 
 -- after a settle step that ended with a quiet window, each port has delivered what it is owed
 abbrev pub StepsDeliver : Type 0
-StepsDeliver = (w left : World) (limit : ℕ) → HasCircuits w.ring → Settles w limit left → IsWhole w → DeliversWhatIsDue left
+StepsDeliver = (w left : World) (limit : ℕ) → HasPathCircuits w.ring → Settles w limit left → IsWholePathRing w → PathDeliversWhatIsDue left
 
 -- ---- a quiet window always comes
 
 -- from the (9n + 20)-th round of a step on, all rounds are calm
-abbrev pub RoundsGetCalm : Type 0
-RoundsGetCalm =
-    (w : World) → IsWhole w → HasCircuits w.ring → (j : ℕ) → 9 * length w.ring.ids + 20 ≤ j → is_calm (run j w).ring.nodes ≡ true
+abbrev pub PathRoundsGetCalm : Type 0
+PathRoundsGetCalm =
+    (w : World) → IsWholePathRing w → HasPathCircuits w.ring → (j : ℕ) → 9 * length w.ring.ids + 20 ≤ j → is_calm (run j w).ring.nodes ≡ true
 
 -- no settle step is unsettled if its limit is large enough
-abbrev pub StepsAnswer : Type 0
-StepsAnswer =
-    (w left : World) (limit : ℕ) → HasCircuits w.ring → IsWhole w → enough_for (length w.ring.ids) ≤ limit → Unsettles w limit left → ⊥
+abbrev pub PathStepsAnswer : Type 0
+PathStepsAnswer =
+    (w left : World) (limit : ℕ) → HasPathCircuits w.ring → IsWholePathRing w → enough_for (length w.ring.ids) ≤ limit → Unsettles w limit left → ⊥
 
 -- What every settle step keeps where ring and fibres are paired. They stay paired, unless a fault ends the step. After
 -- a step that ended with a window all ports have delivered what they are owed, by the conditions of the fibres alone.
 -- No step with a large limit is unsettled.
-pub record KeepsPromises (w : World) (limit : ℕ) (result : Result (Unit {0}) SettleError) (left : World) : Type 0 where
-  pub owed : OnOk result (IsPaired w → DeliversWhatIsDue left)
-  pub paired : result ≢ Err PlantFault → IsPaired w → IsPaired left
-  pub answers : IsPaired w → enough_for (length w.ring.ids) ≤ limit → result ≢ Err Unsettled
+pub record KeepsPathPromises (w : World) (limit : ℕ) (result : Result (Unit {0}) SettleError) (left : World) : Type 0 where
+  pub owed : OnOk result (IsPairedPathRing w → PathDeliversWhatIsDue left)
+  pub paired : result ≢ Err PlantFault → IsPairedPathRing w → IsPairedPathRing left
+  pub answers : IsPairedPathRing w → enough_for (length w.ring.ids) ≤ limit → result ≢ Err Unsettled
 
 -- ---- what a port takes
 

@@ -52,8 +52,8 @@ pub record PathNode : Type 0 where
 
 -- ---- a new node
 
-abbrev pub new_cross : Rate → List Provisioned → Pos → PathCross
-new_cross rate circuits at = record {
+abbrev pub new_path_cross : Rate → List Provisioned → Pos → PathCross
+new_path_cross rate circuits at = record {
   uses = uses_at circuits at.0 (n_of rate);
   west = new_inlet rate;
   east = new_inlet rate;
@@ -62,8 +62,8 @@ new_cross rate circuits at = record {
 }
 
 -- a new node, which sends on both sides the word that asks its neighbour for nothing
-unfoldable pub new_node : Settings → List ℕ → List Provisioned → Pos → PathNode
-new_node s ids circuits at = record {
+unfoldable pub new_path_node : Settings → List ℕ → List Provisioned → Pos → PathNode
+new_path_node s ids circuits at = record {
   threshold = s.threshold;
   uses = uses_at circuits at.0 (n_of s.rate);
   rounds = 0;
@@ -110,8 +110,8 @@ fed_for Unused side au = feeder.Ais
 fed_for Passed side au = feeder.Received (opposite side) au
 fed_for (Ended port) side au = feeder.Port port
 
-unfoldable pub leads : PathCross → Side → ℕ → Feeder
-leads x side au = fed_for (slice_index_or x.uses (au - 1) Unused) side au
+unfoldable pub path_leads : PathCross → Side → ℕ → Feeder
+path_leads x side au = fed_for (slice_index_or x.uses (au - 1) Unused) side au
 
 -- an AU-4 comes with a pointer: its interpreter answered something else than AIS, so that its mode is Norm
 abbrev pub comes : Input → Bool
@@ -120,14 +120,14 @@ comes i = not (is_ais_action i.action)
 -- What is dropped to the port whose circuit leaves on a side in slot m. It is the AU-4 from that side, on which the
 -- circuit's arc comes in, where it comes with a pointer; else the one from the other side, where that one does; else
 -- AIS.
-unfoldable pub drops : PathCross → Side → ℕ → Feeder
-drops x side m =
+unfoldable pub path_drops : PathCross → Side → ℕ → Feeder
+path_drops x side m =
     if comes (received (lines_of x) side m) then feeder.Received side m else
     if comes (received (lines_of x) (opposite side) m) then feeder.Received (opposite side) m else feeder.Ais
 
 -- the cross-connect of the round
-unfoldable pub crossing : PathNode → PathCross
-crossing n = record {
+unfoldable pub path_crossing : PathNode → PathCross
+path_crossing n = record {
   uses = n.uses;
   west = after_taking n.threshold n.west;
   east = after_taking n.threshold n.east;
@@ -136,15 +136,15 @@ crossing n = record {
 }
 
 -- what is dropped to a port
-abbrev pub dropped_to : PathCross → Tributary → Input
-dropped_to x t = dropped_by (lines_of x) (drops x t.side t.slot.0)
+abbrev pub path_dropped_to : PathCross → Tributary → Input
+path_dropped_to x t = dropped_by (lines_of x) (path_drops x t.side t.slot.0)
 
 -- what goes into each AU-4 that leaves on a side
-abbrev pub input_at : PathCross → List Tributary → Side → ℕ → Input
-input_at x ports side = all_fed_by (lines_of x) (added_by ports) (leads x side)
+abbrev pub path_input_at : PathCross → List Tributary → Side → ℕ → Input
+path_input_at x ports side = all_fed_by (lines_of x) (added_by ports) (path_leads x side)
 
-unfoldable pub ports_after : PathCross → List Tributary → List Tributary
-ports_after x ports = all_fed (all_delivered_with (dropped_to x) ports)
+unfoldable pub path_ports_after : PathCross → List Tributary → List Tributary
+path_ports_after x ports = all_fed (all_delivered_with (path_dropped_to x) ports)
 
 -- all interpreters and generators are as they were before the round; nothing else is compared
 abbrev pub unchanged : PathNode → PathNode → Bool
@@ -152,31 +152,31 @@ unchanged new old =
     same_readings new.west.readings old.west.readings && same_readings new.east.readings old.east.readings
     && (same_generators new.west_out.generators old.west_out.generators && same_generators new.east_out.generators old.east_out.generators)
 
-unfoldable pub after_crossing : PathCross → PathNode → PathNode
-after_crossing x n = record n {
+unfoldable pub after_path_crossing : PathCross → PathNode → PathNode
+after_path_crossing x n = record n {
   rounds = n.rounds + 1;
   west = x.west;
   east = x.east;
-  ports = ports_after x n.ports;
-  west_out = after_sending (input_at x n.ports West) n.west_out;
-  east_out = after_sending (input_at x n.ports East) n.east_out;
+  ports = path_ports_after x n.ports;
+  west_out = after_sending (path_input_at x n.ports West) n.west_out;
+  east_out = after_sending (path_input_at x n.ports East) n.east_out;
 }
 
 -- the frames that a node sends on both sides
-pub record Frames : Type 0 where
+pub record PathFrames : Type 0 where
   pub west : Frame
   pub east : Frame
 
-unfoldable pub node_frames : PathCross → PathNode → Frames
-node_frames x n = record { west = frame_from (input_at x n.ports West) n.west_out; east = frame_from (input_at x n.ports East) n.east_out }
+unfoldable pub path_node_frames : PathCross → PathNode → PathFrames
+path_node_frames x n = record { west = frame_from (path_input_at x n.ports West) n.west_out; east = frame_from (path_input_at x n.ports East) n.east_out }
 
 -- the round was calm where one ran before it and nothing of what is compared changed
-unfoldable pub with_calm : PathNode → PathNode → PathNode
-with_calm old new = record new { calm = nat_le 1 old.rounds && unchanged new old }
+unfoldable pub path_with_calm : PathNode → PathNode → PathNode
+path_with_calm old new = record new { calm = nat_le 1 old.rounds && unchanged new old }
 
 -- the node after a round, and what it sends
-unfoldable pub node_round : PathNode → PathNode × Frames
-node_round n = (with_calm n (after_crossing (crossing n) n), node_frames (crossing n) n)
+unfoldable pub path_node_round : PathNode → PathNode × PathFrames
+path_node_round n = (path_with_calm n (after_path_crossing (path_crossing n) n), path_node_frames (path_crossing n) n)
 
 -- ---- what others read of a node
 
@@ -184,19 +184,19 @@ abbrev pub inlet_on : Side → PathNode → Inlet
 inlet_on West n = n.west
 inlet_on East n = n.east
 
-abbrev pub sending_on : Side → PathNode → Sending
-sending_on West n = n.west_out
-sending_on East n = n.east_out
+abbrev pub path_sending_on : Side → PathNode → Sending
+path_sending_on West n = n.west_out
+path_sending_on East n = n.east_out
 
 -- ---- what is true of every node
 
-pub record IsCross (x : PathCross) : Type 0 where
+pub record IsPathCross (x : PathCross) : Type 0 where
   pub rates : x.east.section.rate ≡ x.west.section.rate
   pub west_rate : x.west_in.frame.rate ≡ x.west.section.rate
   pub east_rate : x.east_in.frame.rate ≡ x.west.section.rate
   pub uses : length x.uses ≡ n_of x.west.section.rate
 
-pub record IsNode (n : PathNode) : Type 0 where
+pub record IsPathNode (n : PathNode) : Type 0 where
   pub west_out_rate : n.west_out.section.rate ≡ n.west.section.rate
   pub east_out_rate : n.east_out.section.rate ≡ n.west.section.rate
   pub ports : All (IsTributary (n_of n.west.section.rate / 2) n.rounds) n.ports

@@ -10,7 +10,7 @@ use Rattle.sdh_terminal.specs.Tributaries.{Tributary, tributaries_at}
 use Rattle.sdh_terminal.specs.Fixed.{fixed_port}
 use Rattle.sdh_spans.specs.Sides.{IsInletAt, IsSenderAt}
 use Rattle.sdh_sncp.specs.Slots.{uses_at}
-use Rattle.sdh_sncp.specs.Node.{PathNode, inlet_on, sending_on}
+use Rattle.sdh_sncp.specs.Node.{PathNode, inlet_on, path_sending_on}
 use Rattle.sdh_sncp.specs.Ring.{HeldPath, AtEach, World}
 
 -- what no round changes of the node at position p of a ring
@@ -18,11 +18,11 @@ pub record HasPlace (r : HeldPath) (p : ℕ) (n : PathNode) : Type 0 where
   pub uses : n.uses ≡ uses_at r.circuits.circuits p (n_of r.settings.rate)
   pub ports : map fixed_port n.ports ≡ map fixed_port (tributaries_at (position_of p) r.circuits.circuits)
   pub inlets : (d : Side) → IsInletAt r.settings.rate (inlet_on d n)
-  pub senders : (d : Side) → IsSenderAt r.settings.rate (sending_on d n)
-  pub words : (d : Side) → (sending_on d n).word ≡ first_word r.ids p d
+  pub senders : (d : Side) → IsSenderAt r.settings.rate (path_sending_on d n)
+  pub words : (d : Side) → (path_sending_on d n).word ≡ first_word r.ids p d
 
 -- a port's clock that never slipped, after this number of rounds
-pub record IsUnslipped (rounds : ℕ) (feed : Fed) : Type 0 where
+pub record IsUnslippedFeed (rounds : ℕ) (feed : Fed) : Type 0 where
   pub ups : feed.clock.ups ≡ 0
   pub downs : feed.clock.downs ≡ 0
   pub sent : feed.clock.sent ≡ 2349 * rounds
@@ -31,20 +31,20 @@ pub record IsUnslipped (rounds : ℕ) (feed : Fed) : Type 0 where
 -- a node and the clocks of its ports have run this number of rounds
 pub record HasRun (rounds : ℕ) (n : PathNode) : Type 0 where
   pub ran : n.rounds ≡ rounds
-  pub clocks : All (λ (t : Tributary). IsUnslipped rounds t.feed) n.ports
+  pub clocks : All (λ (t : Tributary). IsUnslippedFeed rounds t.feed) n.ports
 
 -- a node between two rounds: it and its ports' clocks have run this number of rounds, and nothing has arrived on a side
 -- since the last one
-pub record IsBetween (rounds : ℕ) (n : PathNode) : Type 0 where
+pub record IsPathBetween (rounds : ℕ) (n : PathNode) : Type 0 where
   pub run : HasRun rounds n
   pub fresh : (d : Side) → (inlet_on d n).arrived ≡ None
 
 -- each node of the ring is in its place, and between two rounds
-pub record IsPlacedRing (r : HeldPath) : Type 0 where
+pub record IsPlacedPathRing (r : HeldPath) : Type 0 where
   pub ids : AreIds r.ids
   pub size : length r.nodes ≡ length r.ids
   pub places : AtEach (HasPlace r) r.nodes
-  pub between : AtEach (λ p n. IsBetween r.rounds n) r.nodes
+  pub between : AtEach (λ p n. IsPathBetween r.rounds n) r.nodes
 
 abbrev pub IsPlaced : World → Type 0
-IsPlaced w = IsPlacedRing w.ring
+IsPlaced w = IsPlacedPathRing w.ring

@@ -12,7 +12,7 @@ use Rattle.sdh_rounds.specs.Rounds as rounds
 use Rattle.sdh_rounds.specs.Runs as runs
 use Rattle.sdh_rounds.specs.Quiet as quiet
 use Rattle.sdh_terminal.specs.Tributaries.{outlets_of}
-use Rattle.sdh_sncp.specs.Node.{PathNode, node_round}
+use Rattle.sdh_sncp.specs.Node.{PathNode, path_node_round}
 use Rattle.sdh_sncp.specs.Stations.{path_node}
 
 abbrev pub HeldPath : Type 0
@@ -33,13 +33,13 @@ outlet_at = held.outlet_at path_node
 abbrev pub delivered_in : HeldPath → List (List Outlet)
 delivered_in r = map (λ (n : PathNode). outlets_of n.ports) r.nodes
 
--- a node of no ring, which `node_at` gives at a position that the ring doesn't have
+-- a node of no ring, which `path_node_at` gives at a position that the ring doesn't have
 unfoldable pub nowhere : PathNode
 nowhere = held.nowhere path_node
 
 -- the node at a position
-abbrev pub node_at : List PathNode → ℕ → PathNode
-node_at ns p = slice_index_or ns p nowhere
+abbrev pub path_node_at : List PathNode → ℕ → PathNode
+path_node_at ns p = slice_index_or ns p nowhere
 
 -- what holds of the node at position p of a ring, at each position
 abbrev pub AtEach : (ℕ → PathNode → Type 0) → List PathNode → Type 0
@@ -72,12 +72,12 @@ abbrev pub nodes_with : List Arrival → World → List PathNode
 nodes_with = rounds.nodes_with path_node
 
 -- a node after its round
-abbrev pub node_after : PathNode → PathNode
-node_after n = (node_round n).0
+abbrev pub path_node_after : PathNode → PathNode
+path_node_after n = (path_node_round n).0
 
 -- the frame that a node sends on a side in its round
-abbrev pub sent_on : Side → PathNode → List ℕ
-sent_on d n = path_node.sends 0 d n
+abbrev pub path_sent_on : Side → PathNode → List ℕ
+path_sent_on d n = path_node.sends 0 d n
 
 -- the frames of all nodes by position, west before east
 abbrev pub frames_of : ℕ → List PathNode → List (List ℕ)

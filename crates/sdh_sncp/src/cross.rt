@@ -6,7 +6,7 @@ ghost use Rattle.sdh_ringmap.specs.Places.{opposite};
 ghost use Rattle.sdh_terminal.specs.Same.{same_readings};
 ghost use Rattle.sdh_terminal.specs.Receiving.{new_inlet, new_intake};
 ghost use Rattle.sdh_terminal.specs.Lines.{received};
-ghost use Rattle.sdh_sncp.specs.Node.{new_cross, cross_told, after_taken, lines_of, leads, comes, drops, fed_for};
+ghost use Rattle.sdh_sncp.specs.Node.{new_path_cross, cross_told, after_taken, lines_of, path_leads, comes, path_drops, fed_for};
 
 use crate::slots::{Use, uses_at};
 use sdh_circuits::{CircuitMap, Slot};
@@ -29,13 +29,13 @@ pub struct PathCross {
 }
 
 impl Model for PathCross {
-    ghost use Rattle.sdh_sncp.specs.Node.{PathCross, IsCross};
+    ghost use Rattle.sdh_sncp.specs.Node.{PathCross, IsPathCross};
 
     ghost Value = { PathCross };
 
     ghost view = { λ x. record { uses = x.uses.items; west = x.west; east = x.east; west_in = x.west_in; east_in = x.east_in } };
 
-    ghost invariant = { λ x. IsCross
+    ghost invariant = { λ x. IsPathCross
         (record { uses = x.uses.items; west = x.west; east = x.east; west_in = x.west_in; east_in = x.east_in }) };
 }
 
@@ -66,7 +66,7 @@ impl PathCross {
         circuits: &CircuitMap,
         at: Pos,
     ) -> Result<PathCross, AllocError>
-        ensures { IfOk result (λ x. x ≡ new_cross rate circuits.now.circuits at) }
+        ensures { IfOk result (λ x. x ≡ new_path_cross rate circuits.now.circuits at) }
     {
         let uses = uses_at(alloc, circuits, at, rate.n())?;
         let west_side = new_side(alloc, rate)?;
@@ -129,9 +129,9 @@ impl PathCross {
 impl Matrix for PathCross {
     ghost lines = { λ x. lines_of x };
 
-    ghost leads = { λ x. leads x };
+    ghost leads = { λ x. path_leads x };
 
-    ghost drops = { λ x. drops x };
+    ghost drops = { λ x. path_drops x };
 
     fn rate(&self) -> Rate {
         self.west_in.rate()
@@ -151,12 +151,12 @@ impl Matrix for PathCross {
         }
     }
 
-    #[tactic(auto, unfolding(crate::specs::Node::leads))]
+    #[tactic(auto, unfolding(crate::specs::Node::path_leads))]
     fn leaving(&self, side: Side, au: u16) -> Feeder {
         fed_for(self.uses[au as usize - 1], side, au)
     }
 
-    #[tactic(auto, unfolding(crate::specs::Node::drops))]
+    #[tactic(auto, unfolding(crate::specs::Node::path_drops))]
     fn dropped(&self, side: Side, slot: Slot) -> Feeder {
         let au = u16::from(slot.0);
         if self.comes(side, au) {

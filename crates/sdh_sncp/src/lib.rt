@@ -1,7 +1,7 @@
 //! Path protection over a ring of fibres: what a port sends goes both ways round, and each port takes the way on which
 //! its circuit comes with a pointer. (After SNC/I of ITU-T G.841; the rules are this project's own.)
 //!
-//! A node's round is `node_round` in `specs/Node.antt`. The ring's rounds are those of `sdh_rounds`. What a port is
+//! A node's round is `path_node_round` in `specs/Node.antt`. The ring's rounds are those of `sdh_rounds`. What a port is
 //! owed is `due_path` in `specs/Due.antt`.
 #![tactic(auto)]
 

@@ -3,7 +3,7 @@ ghost use Rattle.std.specs.Prelude.{◌≡◌, ◌≢◌, ◌&&◌, nat_le, ◌+
 ghost use Rattle.sdh_ringmap.specs.Rates.{n_of};
 ghost use Rattle.sdh_plant.specs.Arrivals.{arrived_in};
 ghost use Rattle.sdh_terminal.specs.Tributaries.{HasPort, outlet_of, outlets_of};
-ghost use Rattle.sdh_sncp.specs.Node.{new_node, path_node_told, node_round, GoesOn};
+ghost use Rattle.sdh_sncp.specs.Node.{new_path_node, path_node_told, path_node_round, GoesOn};
 
 use crate::cross::PathCross;
 use sdh_circuits::{CircuitMap, PortId};
@@ -33,18 +33,18 @@ pub struct PathNode {
 
 impl Model for PathNode {
     ghost use Rattle.sdh_terminal.specs.Tributaries.{all_delivered_with};
-    ghost use Rattle.sdh_sncp.specs.Node.{PathNode, IsNode, dropped_to};
+    ghost use Rattle.sdh_sncp.specs.Node.{PathNode, IsPathNode, path_dropped_to};
 
     ghost Value = { PathNode };
 
-    ghost view = { λ a. record { threshold = a.threshold; uses = a.cross.uses; rounds = a.rounds; west = a.cross.west; east = a.cross.east; ports = all_delivered_with (dropped_to a.cross) a.ports; west_out = a.west_out; east_out = a.east_out; calm = a.calm } };
+    ghost view = { λ a. record { threshold = a.threshold; uses = a.cross.uses; rounds = a.rounds; west = a.cross.west; east = a.cross.east; ports = all_delivered_with (path_dropped_to a.cross) a.ports; west_out = a.west_out; east_out = a.east_out; calm = a.calm } };
 
-    ghost invariant = { λ a. IsNode (record { threshold = a.threshold; uses = a.cross.uses; rounds = a.rounds; west = a.cross.west; east = a.cross.east; ports = a.ports; west_out = a.west_out; east_out = a.east_out; calm = a.calm }) };
+    ghost invariant = { λ a. IsPathNode (record { threshold = a.threshold; uses = a.cross.uses; rounds = a.rounds; west = a.cross.west; east = a.cross.east; ports = a.ports; west_out = a.west_out; east_out = a.east_out; calm = a.calm }) };
 }
 
 impl PathNode {
     /// Returns the node at a position of a ring with these circuits. All its memory is taken here.
-    #[tactic(auto, unfolding(crate::specs::Node::new_node))]
+    #[tactic(auto, unfolding(crate::specs::Node::new_path_node))]
     pub fn try_new(
         alloc: Global,
         settings: Settings,
@@ -54,7 +54,7 @@ impl PathNode {
     ) -> Result<PathNode, AllocError>
         requires at { at.0 < length map.now }
         requires slots { circuits.now.slots ≡ n_of settings.rate / 2 }
-        ensures { IfOk result (λ node. node ≡ new_node settings map.now circuits.now.circuits at) }
+        ensures { IfOk result (λ node. node ≡ new_path_node settings map.now circuits.now.circuits at) }
     {
         let west = first_word(map, at, Side::West);
         let east = first_word(map, at, Side::East);
@@ -117,14 +117,14 @@ impl PathNode {
 
     /// Runs one round: what arrived is read, and a frame goes out on each side. What the ports deliver waits until
     /// somebody asks. It takes no memory.
-    #[tactic(auto, unfolding(crate::specs::Node::node_round))]
+    #[tactic(auto, unfolding(crate::specs::Node::path_node_round))]
     pub fn send(&mut self, west: &mut FrameBuf, east: &mut FrameBuf)
         requires west { west.old.rate ≡ self.old.west.section.rate }
         requires east { east.old.rate ≡ self.old.west.section.rate }
         requires few { self.old.rounds < 2 ^ 32 }
-        ensures node { self.new ≡ (node_round self.old).0 }
-        ensures west { west.new ≡ (node_round self.old).1.west }
-        ensures east { east.new ≡ (node_round self.old).1.east }
+        ensures node { self.new ≡ (path_node_round self.old).0 }
+        ensures west { west.new ≡ (path_node_round self.old).1.west }
+        ensures east { east.new ≡ (path_node_round self.old).1.east }
         ensures rates { (west.new.rate ≡ west.old.rate) × (east.new.rate ≡ east.old.rate) }
         ensures goes_on { GoesOn self.old self.new }
     {

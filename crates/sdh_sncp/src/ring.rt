@@ -11,9 +11,9 @@ ghost use Rattle.sdh_circuits.specs.declared.PortId.{PortId};
 ghost use Rattle.sdh_rounds.specs.Faults.{BreaksRound};
 ghost use Rattle.sdh_rounds.specs.Outcome.{IsStep};
 ghost use Rattle.sdh_sncp.specs.Ring.{new_ring, outlet_at, world, IsRound, IsBrokenOff};
-ghost use Rattle.sdh_sncp.specs.Placed.{IsPlacedRing};
+ghost use Rattle.sdh_sncp.specs.Placed.{IsPlacedPathRing};
 ghost use Rattle.sdh_sncp.specs.Fixed.{AreAlone};
-ghost use Rattle.sdh_sncp.specs.Laws.{IsPaired, HasCircuits, KeepsPromises};
+ghost use Rattle.sdh_sncp.specs.Laws.{IsPairedPathRing, HasPathCircuits, KeepsPathPromises};
 ghost use Rattle.sdh_sncp.specs.Sharing.{AreFirstToShare};
 ghost use Rattle.sdh_sncp.specs.Stations.{path_node};
 
@@ -92,7 +92,7 @@ impl PathRing {
 
         // Over honest fibres that were just prepared for the ring, the fibres carry what the nodes sent, which is
         // nothing yet.
-        ensures paired { IfOk result (λ ring. (f : Fibres) → IsHonest f → IsPaired (world ring (prepared settings.rate (length map) f))) }
+        ensures paired { IfOk result (λ ring. (f : Fibres) → IsHonest f → IsPairedPathRing (world ring (prepared settings.rate (length map) f))) }
 
         // Before the first round every port delivers AIS.
         ensures silent { IfOk result (λ ring. (port : PortId) → outlet_at ring port ≡ silent) }
@@ -124,7 +124,7 @@ impl PathRing {
         ensures prepared { OnOk result (IsPrepared self.old.settings.rate (length self.old.ids) (P.fibres plant.new)) }
 
         // Where the fibres carry what was sent before the round, they do so after it, too.
-        ensures paired { OnOk result (IsPaired (world self.old (P.fibres plant.old)) → IsPaired (world self.new (P.fibres plant.new))) }
+        ensures paired { OnOk result (IsPairedPathRing (world self.old (P.fibres plant.old)) → IsPairedPathRing (world self.new (P.fibres plant.new))) }
         ensures err { OnErr result (IsBrokenOff (world self.old (P.fibres plant.old)) (P.fibres plant.new)) }
         ensures broken { OnErr result (self.new.broken ≡ true) }
         ensures breaks { OnErr result
@@ -144,7 +144,7 @@ impl PathRing {
     // The circuits fit the ring's size and rate, and no two share a slot: the function does nothing, and its contract
     // is the law.
     fn circuits_fit(&self)
-        ensures { HasCircuits self.now }
+        ensures { HasPathCircuits self.now }
     {
         // Looking at a field gives the prover the ring's invariant, from which the law follows.
         let _ = &self.ring;
@@ -153,7 +153,7 @@ impl PathRing {
     // Each node is in its place: the function does nothing, and its contract is the law.
     fn nodes_are_placed(&self)
         requires { self.now.broken ≡ false }
-        ensures { IsPlacedRing self.now }
+        ensures { IsPlacedPathRing self.now }
     {
         let _ = &self.ring;
     }
@@ -170,7 +170,7 @@ impl PathRing {
             (P.faults plant.old) (P.faults plant.new) }
 
         // All ports deliver what they are owed, and a step whose limit is large enough ends with a window.
-        ensures laws { KeepsPromises (world self.old (P.fibres plant.old)) limit result (world self.new (P.fibres plant.new)) }
+        ensures laws { KeepsPathPromises (world self.old (P.fibres plant.old)) limit result (world self.new (P.fibres plant.new)) }
     {
         self.circuits_fit();
         self.nodes_are_placed();

@@ -12,7 +12,7 @@ use sdh_terminal::{Delivers, Outlets, TakenPair};
 use std::alloc::{AllocError, Global};
 
 impl Station for PathNode {
-    ghost use Rattle.sdh_sncp.specs.Stations.{path_node, MayRun as MayRunAt, told_rate as rate_stays, told_may as may_still};
+    ghost use Rattle.sdh_sncp.specs.Stations.{path_node, MayRun as MayRunAt, path_told_rate as rate_stays, path_told_may as may_still};
 
     ghost kind = { path_node };
 

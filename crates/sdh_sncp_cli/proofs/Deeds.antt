@@ -6,7 +6,7 @@ use Rattle.std.specs.Io.KnownBytes.{Appends}
 use Rattle.sdh_circuits.specs.Provisioned.{Provisioned}
 use Rattle.sdh_plan.specs.Planned.{Planned}
 use Rattle.sdh_report.specs.Reports.{report_text}
-use Rattle.sdh_scripts.specs.NewRuns.{IsOf}
+use Rattle.sdh_scripts.specs.NewRuns.{IsRunOfPlan}
 use Rattle.sdh_scripts.proofs.Plans.{came_of}
 use Rattle.sdh_programs.specs.Programs.{Deed, Refuses, Writes, Runs}
 use Rattle.sdh_programs.specs.Deeds.{IsOnly}
@@ -21,7 +21,7 @@ use Rattle.sdh_sncp_cli.specs.Walking.{path_walk}
 use Rattle.sdh_sncp_cli.specs.Running.{running_ring}
 use Rattle.sdh_sncp_cli.specs.Laws.{ReportsAreDue, PathScriptsSettle}
 use Rattle.sdh_sncp_cli.specs.Plans.{path_account}
-use Rattle.sdh_sncp_cli.specs.Outcome.{Does, pathing}
+use Rattle.sdh_sncp_cli.specs.Outcome.{DoesPath, pathing}
 use Rattle.sdh_sncp_cli.specs.declared.ending.Ending.{Ending}
 use Rattle.sdh_sncp_cli.specs.declared.ending.Ending.TheVariants as ending
 use Rattle.sdh_sncp_cli.specs.declared.script.PathRun.{PathRun}
@@ -61,7 +61,7 @@ pub strange_only : (plan : Planned) (step : ℕ) → first_strange plan.steps �
     → IsOnly pathing tt plan (Refuses (ending.NoSuchStep step))
 strange_only plan step is = record { does = is; only = only }
   where
-    only : (other : Deed (Unit {0}) Ending) → Does plan other → other ≡ Refuses (ending.NoSuchStep step)
+    only : (other : Deed (Unit {0}) Ending) → DoesPath plan other → other ≡ Refuses (ending.NoSuchStep step)
     only (Refuses (ending.NoSuchStep found)) d = ap (λ k. Refuses (ending.NoSuchStep k)) (some_same found step (sym d ∙ is))
     only (Refuses (ending.SameSlot first second)) d = none_strange plan step _ d.0 is
     only (Refuses (ending.Shared how)) d = absurd d
@@ -89,7 +89,7 @@ pub share_only : (plan : Planned) (first second : ℕ) → AreKnown plan.steps �
     → IsOnly pathing tt plan (Refuses (ending.SameSlot first second))
 share_only plan first second known share = record { does = (known, share); only = only }
   where
-    only : (other : Deed (Unit {0}) Ending) → Does plan other → other ≡ Refuses (ending.SameSlot first second)
+    only : (other : Deed (Unit {0}) Ending) → DoesPath plan other → other ≡ Refuses (ending.SameSlot first second)
     only (Refuses (ending.NoSuchStep step)) d = none_strange plan step _ known d
     only (Refuses (ending.SameSlot i j)) d =
         let same = first_shared plan.circuits i j first second d.1 share in
@@ -107,7 +107,7 @@ slot_error why first second is = ap (λ (w : PathError). Err w) is
 -- what was written of the steps of a plan is what is listed of a run of the plan
 pub reported : ReportsAreDue → PathScriptsSettle
     → StepsAreReported pathing path_walk running_ring (λ (r : PathRun) told. report_text told) (λ r told. [])
-    (λ listing plan run. IsOf running_ring path_account plan run × AreKnown plan.steps × AreAlone plan.circuits) (λ told end ring. Unit {0})
+    (λ listing plan run. IsRunOfPlan running_ring path_account plan run × AreKnown plan.steps × AreAlone plan.circuits) (λ told end ring. Unit {0})
 reported owed settles listing plan run f old new end left begins fresh x =
     let y = came_of running_ring path_account plan run begins.0 report_text f left old new end x in
     let t = tells owed settles plan f left.fibres y.0 end begins.0.form begins.1 begins.2 fresh.honest y.1 in

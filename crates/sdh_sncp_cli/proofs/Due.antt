@@ -17,15 +17,15 @@ use Rattle.sdh_promise.specs.Scenes.{scenes}
 use Rattle.sdh_scripts.specs.Scripts.{Runs}
 use Rattle.sdh_scripts.specs.Ports.{end_outlet}
 use Rattle.sdh_scripts.proofs.Ports.{lines_same}
-use Rattle.sdh_scripts.specs.Outcomes.{IsSettled}
+use Rattle.sdh_scripts.specs.Outcomes.{AllSettled}
 use Rattle.sdh_scripts.proofs.Outcomes.{refused_ends, settled_by, ok_settles, fault_settles}
 use Rattle.sdh_scripts.proofs.Reporting.{settles_by, reports_by}
 use Rattle.sdh_sncp.specs.Stations.{path_node}
 use Rattle.sdh_sncp.specs.Ring.{World, outlet_at}
 use Rattle.sdh_sncp.specs.Due.{due_path}
-use Rattle.sdh_sncp.specs.Laws.{DeliversWhatIsDue, cut_in}
+use Rattle.sdh_sncp.specs.Laws.{PathDeliversWhatIsDue, cut_in}
 use Rattle.sdh_sncp.proofs.Converging.{steps_answer, steps_deliver}
-use Rattle.sdh_sncp_cli.specs.Reports.{ports_told, report_of}
+use Rattle.sdh_sncp_cli.specs.Reports.{ports_told, path_ring_report}
 use Rattle.sdh_sncp_cli.specs.Walking.{does, path_walk}
 use Rattle.sdh_sncp_cli.specs.Steps.{MayDo}
 use Rattle.sdh_sncp_cli.specs.Promise.{cut_after, due_ports, AreDue}
@@ -51,7 +51,7 @@ module _ (rate : Rate) (ids : List ℕ) (circuits : Provisioning) where
       λ i p d. (ap (λ (l : List ℕ). is_cut (condition_of w.fibres (fibre_to (length l) p d))) h.ids ∙ ap is_cut (h.told.each p d)) i
 
   -- the report of a settle step that ended shows what is owed
-  due_then : (changes : List Change) (ran : ℕ) (mid : World) → Now changes ran mid → DeliversWhatIsDue mid
+  due_then : (changes : List Change) (ran : ℕ) (mid : World) → Now changes ran mid → PathDeliversWhatIsDue mid
       → ports_told mid.ring ≡ due_ports n (cut_after n changes) (mid.ring.rounds - 1) circuits.circuits
   due_then changes ran mid h delivers =
       let t = mid.ring.rounds - 1 in
@@ -67,14 +67,14 @@ module _ (rate : Rate) (ids : List ℕ) (circuits : Provisioning) where
       (left : World)
       → Now (earlier ++ changes) ran w → MayDo rate n before steps → Runs path_walk limit before steps w reports end left
       → AreDue n circuits.circuits limit earlier ran before (scenes changes steps) reports end
-  unfolding report_of
+  unfolding path_ring_report
   owed limit before earlier changes [] ran w reports end left h may x = (x.1.0, inl x.1.1)
   owed limit before earlier changes (step.Settle ∷ later) ran w reports end left h may (inl (told, mid, rest, ended, is, x)) =
-      let settles = settles_by path_node does report_of w limit (before + 1) told mid ended in
+      let settles = settles_by path_node does path_ring_report w limit (before + 1) told mid ended in
       let there = settled_then rate ids circuits (earlier ++ changes) ran w h mid limit settles in
-      let delivers : DeliversWhatIsDue mid = steps_deliver w mid limit h.form settles h.whole in
-      let all : reports ≡ report_of (before + 1) mid.ring ∷ rest =
-      reports_by path_node does report_of w limit (before + 1) told mid reports rest ended is in
+      let delivers : PathDeliversWhatIsDue mid = steps_deliver w mid limit h.form settles h.whole in
+      let all : reports ≡ path_ring_report (before + 1) mid.ring ∷ rest =
+      reports_by path_node does path_ring_report w limit (before + 1) told mid reports rest ended is in
       subst (λ rs. AreDue n circuits.circuits limit earlier ran before (scenes changes (step.Settle ∷ later)) rs end) (sym all) (
         refl,
         refl,
@@ -107,12 +107,12 @@ module _ (rate : Rate) (ids : List ℕ) (circuits : Provisioning) where
   settles : (limit before : ℕ) (changes : List Change) (steps : List Step) (ran : ℕ) (w : World) (reports : List Report) (end : Status)
       (left : World)
       → Now changes ran w → MayDo rate n before steps → enough_for n ≤ limit → Runs path_walk limit before steps w reports end left
-      → IsSettled end
+      → AllSettled end
   settles limit before changes [] ran w reports end left h may large x = settled_by end status.Ok x.1.1 ok_settles
   settles limit before changes (step.Settle ∷ later) ran w reports end left h may large (inl (told, mid, rest, ended, is, x)) =
       settles limit (before + 1) changes later _ mid rest end left
       (settled_then rate ids circuits changes ran w h mid limit
-      (settles_by path_node does report_of w limit (before + 1) told mid ended)).stands may.1 large x
+      (settles_by path_node does path_ring_report w limit (before + 1) told mid ended)).stands may.1 large x
   settles limit before changes (step.Settle ∷ later) ran w reports end left h may large (inr (inl x)) =
       absurd (steps_answer w left limit h.form h.whole (omega (arith, large, ap (λ (l : List ℕ). length l) h.ids)) x.0)
   settles limit before changes (step.Settle ∷ later) ran w reports end left h may large (inr (inr x)) =

@@ -18,13 +18,13 @@ use Rattle.sdh_scripts.proofs.Reporting.{keeps_by}
 use Rattle.sdh_sncp.specs.Stations.{path_node}
 use Rattle.sdh_sncp.specs.Ring.{World, new_ring}
 use Rattle.sdh_sncp.specs.Fixed.{AreAlone}
-use Rattle.sdh_sncp.specs.Laws.{HasCircuits}
+use Rattle.sdh_sncp.specs.Laws.{HasPathCircuits}
 use Rattle.sdh_sncp.proofs.New.{length-new}
-use Rattle.sdh_sncp_cli.specs.Reports.{report_of}
+use Rattle.sdh_sncp_cli.specs.Reports.{path_ring_report}
 use Rattle.sdh_sncp_cli.specs.Walking.{does, path_walk}
 use Rattle.sdh_sncp_cli.specs.Steps.{AreKnown}
-use Rattle.sdh_sncp_cli.specs.Promise.{OwesAll}
-use Rattle.sdh_sncp_cli.specs.Plans.{new_ring_of, path_account, Owes, world_of, Tells}
+use Rattle.sdh_sncp_cli.specs.Promise.{PathOwesAll}
+use Rattle.sdh_sncp_cli.specs.Plans.{new_path_ring_of, path_account, Owes, world_of, Tells}
 use Rattle.sdh_sncp_cli.specs.Laws.{ReportsAreDue, PathScriptsSettle}
 use Rattle.sdh_sncp_cli.proofs.Fits.{fits}
 use Rattle.sdh_sncp_cli.proofs.Due.{due_none}
@@ -61,11 +61,11 @@ no_round = record {
     knows s w h = h
 
 pub keeps_rounds : KeepsRounds path_walk
-unfolding report_of
-keeps_rounds = keeps_by path_node does report_of no_round (λ number r. refl)
+unfolding path_ring_report
+keeps_rounds = keeps_by path_node does path_ring_report no_round (λ number r. refl)
 
 -- the path ring of a plan is new
-pub path_new : IsNew new_ring_of
+pub path_new : IsNew new_path_ring_of
 path_new = record {
   rate = λ plan. refl;
   ids = λ plan. refl;
@@ -77,15 +77,15 @@ path_new = record {
 
 module _ (plan : Planned) (f left : Fibres) (reports : List Report) (end : Status) (form : IsPlanned plan) (known : AreKnown plan.steps)
     (alone : AreAlone plan.circuits) where
-  circuits_fit : HasCircuits (new_ring plan.settings plan.nodes (provisioning_of plan))
+  circuits_fit : HasPathCircuits (new_ring plan.settings plan.nodes (provisioning_of plan))
   circuits_fit = record {
     are = circuits_are (provisioning_of plan) plan.nodes form.circuits_fit (circuits_keep_the_ring plan);
     alone = alone;
   }
 
-  owed_then : ReportsAreDue → IsHonest f → Comes path_account plan f reports end left → OwesAll plan reports end
+  owed_then : ReportsAreDue → IsHonest f → Comes path_account plan f reports end left → PathOwesAll plan reports end
   owed_then law honest (inl x) =
-      subst (λ rs. OwesAll plan rs end) (sym x.1) (due_none (length plan.nodes) plan.circuits plan.limit [] 0 0
+      subst (λ rs. PathOwesAll plan rs end) (sym x.1) (due_none (length plan.nodes) plan.circuits plan.limit [] 0 0
       (scenes [] plan.steps) end x.0)
   owed_then law honest (inr x) =
       law plan.settings plan.nodes (provisioning_of plan) f plan.limit plan.steps reports end x.0 form.nodes_fit honest circuits_fit

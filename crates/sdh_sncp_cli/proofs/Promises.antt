@@ -19,7 +19,7 @@ use Rattle.sdh_programs.specs.Outcome.{MayEnd}
 use Rattle.sdh_programs.specs.Outcome as outcome
 use Rattle.sdh_programs.proofs.Promises.{SettlesLarge, EndsKnown, shows}
 use Rattle.sdh_sncp_cli.specs.Plans.{world_of, ran_of}
-use Rattle.sdh_sncp_cli.specs.Promise.{OwesAll}
+use Rattle.sdh_sncp_cli.specs.Promise.{PathOwesAll}
 use Rattle.sdh_sncp_cli.specs.Endings.{number_of, line_of, path_endings}
 use Rattle.sdh_sncp_cli.specs.Outcome.{pathing, told}
 use Rattle.sdh_sncp_cli.specs.Headline.{IsRunPlan, RanTo, HasRun, Delivers, EndsAsItRuns, AlwaysSettles}
@@ -94,7 +94,7 @@ module _ (words : List (List ℕ)) (bytes : List ℕ) (f left : Fibres) (reads c
 
   pub delivers : f.honest ≡ true → Delivers words bytes number old new
   delivers honest plan is h =
-      let r = ran (λ plan reports end. OwesAll plan reports end) (λ plan reports end came. came.owed honest) plan is h in
+      let r = ran (λ plan reports end. PathOwesAll plan reports end) (λ plan reports end came. came.owed honest) plan is h in
       (r.end, r.reports, r.number_is, r.appends, r.so)
 
   pub ends_as_it_runs : EndsAsItRuns words bytes f number

@@ -17,7 +17,7 @@ use Rattle.sdh_promise.specs.Owed.{IsLast}
 use Rattle.sdh_sncp.specs.Stations.{path_node}
 use Rattle.sdh_sncp.specs.Ring.{HeldPath, World, world, new_ring, run, Settles}
 use Rattle.sdh_sncp.specs.Fixed.{AreAlone}
-use Rattle.sdh_sncp.specs.Laws.{IsWhole, HasCircuits}
+use Rattle.sdh_sncp.specs.Laws.{IsWholePathRing, HasPathCircuits}
 use Rattle.sdh_sncp.proofs.New.{new_worlds_are_whole, stay_whole}
 use Rattle.sdh_sncp.proofs.Rounds.{IsLeft, left_run}
 use Rattle.sdh_sncp.proofs.Wholes.{whole_settled}
@@ -25,17 +25,17 @@ use Rattle.sdh_sncp_cli.proofs.Conditions.{AreTold, told_more, told_new}
 
 -- a world of this ring, after `ran` rounds and these changes
 pub record Stands (at : Rate) (named : List ℕ) (provisioned : Provisioning) (changes : List Change) (ran : ℕ) (w : World) : Type 0 where
-  pub whole : IsWhole w
+  pub whole : IsWholePathRing w
   pub rate : w.ring.settings.rate ≡ at
   pub ids : w.ring.ids ≡ named
   pub circuits : w.ring.circuits ≡ provisioned
-  pub form : HasCircuits w.ring
+  pub form : HasPathCircuits w.ring
   pub told : AreTold (length named) changes w.fibres.conditions
   pub rounds : w.ring.rounds ≡ ran
 
 -- before anything has happened
 pub stands_new : (s : Settings) (ids : List ℕ) (circuits : Provisioning) (f : Fibres) → AreIds ids → IsHonest f
-    → HasCircuits (new_ring s ids circuits)
+    → HasPathCircuits (new_ring s ids circuits)
     → Stands s.rate ids circuits [] 0 (world (new_ring s ids circuits) (prepared s.rate (length ids) f))
 stands_new s ids circuits f are honest form = record {
   whole = new_worlds_are_whole s ids circuits f are honest;
@@ -73,7 +73,7 @@ module _ (rate : Rate) (ids : List ℕ) (circuits : Provisioning) (changes : Lis
     pub last : IsLast (length ids) limit ran (mid.ring.rounds - 1)
     pub stands : Stands rate ids circuits changes (mid.ring.rounds - 1 + 1) mid
 
-  form_at : (r s : HeldPath) → r.settings ≡ s.settings → r.ids ≡ s.ids → r.circuits ≡ s.circuits → HasCircuits s → HasCircuits r
+  form_at : (r s : HeldPath) → r.settings ≡ s.settings → r.ids ≡ s.ids → r.circuits ≡ s.circuits → HasPathCircuits s → HasPathCircuits r
   form_at r s a b c form = record {
     are = subst (λ (x : Settings). AreCircuits (length r.ids) (n_of x.rate / 2) r.circuits.circuits) (sym a)
         (subst (λ (x : List ℕ). AreCircuits (length x) (n_of s.settings.rate / 2) r.circuits.circuits) (sym b)

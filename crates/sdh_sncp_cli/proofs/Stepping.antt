@@ -14,17 +14,17 @@ use Rattle.sdh_sncp.specs.Stations.{path_node}
 use Rattle.sdh_sncp.specs.Ring.{HeldPath, World, Settles}
 use Rattle.sdh_sncp_cli.specs.Steps.{AreKnown, MayDo}
 use Rattle.sdh_sncp_cli.specs.Running.{MayRun}
-use Rattle.sdh_sncp_cli.specs.Plans.{new_ring_of}
+use Rattle.sdh_sncp_cli.specs.Plans.{new_path_ring_of}
 use Rattle.sdh_sncp_cli.proofs.Fits.{fits}
 
 -- ---- a new ring
 
 -- the steps of a plan may be run over the ring that is made of it, and fibres that were just prepared for it
 pub may_new : (plan : Planned) (r : HeldPath) (rate : Rate) (n : ℕ) (steps : List Step) (f : Fibres) → IsPlanned plan → AreKnown plan.steps
-    → r ≡ new_ring_of plan → rate ≡ plan.settings.rate → n ≡ length plan.nodes → steps ≡ plan.steps
+    → r ≡ new_path_ring_of plan → rate ≡ plan.settings.rate → n ≡ length plan.nodes → steps ≡ plan.steps
     → MayRun 0 steps r (prepared rate n f)
 may_new plan r rate n steps f form known ring rates size same =
-    as_planned (MayRun 0) plan (new_ring_of plan) r rate n steps f ring rates size same (record {
+    as_planned (MayRun 0) plan (new_path_ring_of plan) r rate n steps f ring rates size same (record {
       whole = refl;
       prepared = stay_prepared.prepared plan.settings.rate (length plan.nodes) f form.nodes_fit.enough form.nodes_fit.few;
       steps_fit = fits plan.settings.rate (length plan.nodes) (length plan.circuits) plan.steps known form.steps_fit;

@@ -13,7 +13,7 @@ use Rattle.sdh_report.specs.Statuses.{last_line}
 use Rattle.sdh_shell.specs.Reading.{TellsPlan}
 use Rattle.sdh_sncp.specs.Fixed.{AreAlone}
 use Rattle.sdh_sncp_cli.specs.Steps.{AreKnown}
-use Rattle.sdh_sncp_cli.specs.Promise.{OwesAll}
+use Rattle.sdh_sncp_cli.specs.Promise.{PathOwesAll}
 use Rattle.sdh_sncp_cli.specs.Plans.{world_of, ran_of}
 use Rattle.sdh_shell.specs.Calls.{AreRun}
 
@@ -42,7 +42,7 @@ HasRun number = (number ≡ 0) ⊎ ((number ≡ 7) ⊎ (number ≡ 8))
 abbrev pub Delivers : List (List ℕ) → List ℕ → ℕ → Option (List ℕ) → Option (List ℕ) → Type 0
 Delivers words bytes number old new = (plan : Planned) → IsRunPlan words bytes plan → HasRun number
     → (how : Status) × (reports : List Report) × RanTo number how × Appends old new (text_of listing.Reports reports ++ last_line how)
-    × OwesAll plan reports how
+    × PathOwesAll plan reports how
 
 -- Where the arrivals are known, the program ends as the script does: unsettled at exactly the step in which no quiet
 -- window comes within the limit. Or a call of the plant failed.

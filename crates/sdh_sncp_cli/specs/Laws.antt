@@ -11,9 +11,9 @@ use Rattle.sdh_report.specs.Reports.{Report}
 use Rattle.sdh_status.specs.declared.Status.{Status}
 use Rattle.sdh_promise.specs.Scenes.{scenes}
 use Rattle.sdh_scripts.specs.Scripts.{Runs}
-use Rattle.sdh_scripts.specs.Outcomes.{IsSettled}
+use Rattle.sdh_scripts.specs.Outcomes.{AllSettled}
 use Rattle.sdh_sncp.specs.Ring.{World, world, new_ring}
-use Rattle.sdh_sncp.specs.Laws.{HasCircuits}
+use Rattle.sdh_sncp.specs.Laws.{HasPathCircuits}
 use Rattle.sdh_sncp_cli.specs.Walking.{path_walk}
 use Rattle.sdh_sncp_cli.specs.Steps.{MayDo}
 use Rattle.sdh_sncp_cli.specs.Promise.{AreDue}
@@ -23,7 +23,7 @@ abbrev pub ReportsAreDue : Type 0
 ReportsAreDue =
     (s : Settings) (ids : List ℕ) (circuits : Provisioning) (f : Fibres) (limit : ℕ) (steps : List Step) (reports : List Report)
     (end : Status) (left : World)
-    → AreIds ids → IsHonest f → HasCircuits (new_ring s ids circuits) → MayDo s.rate (length ids) 0 steps
+    → AreIds ids → IsHonest f → HasPathCircuits (new_ring s ids circuits) → MayDo s.rate (length ids) 0 steps
     → Runs path_walk limit 0 steps (world (new_ring s ids circuits) (prepared s.rate (length ids) f)) reports end left
     → AreDue (length ids) circuits.circuits limit [] 0 0 (scenes [] steps) reports end
 
@@ -32,5 +32,5 @@ abbrev pub PathScriptsSettle : Type 0
 PathScriptsSettle =
     (s : Settings) (ids : List ℕ) (circuits : Provisioning) (f : Fibres) (limit : ℕ) (steps : List Step) (reports : List Report)
     (end : Status) (left : World)
-    → AreIds ids → IsHonest f → HasCircuits (new_ring s ids circuits) → MayDo s.rate (length ids) 0 steps → enough_for (length ids) ≤ limit
-    → Runs path_walk limit 0 steps (world (new_ring s ids circuits) (prepared s.rate (length ids) f)) reports end left → IsSettled end
+    → AreIds ids → IsHonest f → HasPathCircuits (new_ring s ids circuits) → MayDo s.rate (length ids) 0 steps → enough_for (length ids) ≤ limit
+    → Runs path_walk limit 0 steps (world (new_ring s ids circuits) (prepared s.rate (length ids) f)) reports end left → AllSettled end

@@ -18,12 +18,12 @@ use Rattle.sdh_sncp_cli.specs.declared.ending.Ending.TheVariants as ending
 
 -- What is done with a plan. If a path ring doesn't have one of its steps, the first such step is refused by its number.
 -- Else, if two circuits share a slot, the first two are refused. Else the plan is run.
-abbrev pub Does : Planned → Deed (Unit {0}) Ending → Type 0
-Does plan (Refuses (ending.NoSuchStep step)) = first_strange plan.steps ≡ Some step
-Does plan (Refuses (ending.SameSlot first second)) = AreKnown plan.steps × AreFirstToShare plan.circuits first second
-Does plan (Refuses (ending.Shared how)) = ⊥
-Does plan (Writes told) = ⊥
-Does plan (Runs listing) = AreKnown plan.steps × AreAlone plan.circuits
+abbrev pub DoesPath : Planned → Deed (Unit {0}) Ending → Type 0
+DoesPath plan (Refuses (ending.NoSuchStep step)) = first_strange plan.steps ≡ Some step
+DoesPath plan (Refuses (ending.SameSlot first second)) = AreKnown plan.steps × AreFirstToShare plan.circuits first second
+DoesPath plan (Refuses (ending.Shared how)) = ⊥
+DoesPath plan (Writes told) = ⊥
+DoesPath plan (Runs listing) = AreKnown plan.steps × AreAlone plan.circuits
 
 -- the program that runs a plan over a path ring, and reports each settle step
 abbrev pub pathing : Program (Unit {0}) (Unit {0}) Report Ending
@@ -33,7 +33,7 @@ pathing = record {
   endings = path_endings;
   closing = as_script (Unit {0}) Report path_endings;
   own_plan = λ ask. None;
-  Does = λ ask. Does;
+  Does = λ ask. DoesPath;
   text_of = λ listed. text_of listing.Reports;
   IsRunOf = IsRunOf;
   MaySettle = λ listed. MaySettle;

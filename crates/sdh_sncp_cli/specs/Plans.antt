@@ -10,18 +10,18 @@ use Rattle.sdh_scripts.specs.Plans as plans
 use Rattle.sdh_sncp.specs.Node.{PathNode}
 use Rattle.sdh_sncp.specs.Ring.{HeldPath, World, new_ring}
 use Rattle.sdh_sncp_cli.specs.Walking.{path_walk}
-use Rattle.sdh_sncp_cli.specs.Promise.{OwesAll}
+use Rattle.sdh_sncp_cli.specs.Promise.{PathOwesAll}
 
 -- the path ring of a plan, in which no round has run
-abbrev pub new_ring_of : Planned → HeldPath
-new_ring_of plan = new_ring plan.settings plan.nodes (provisioning_of plan)
+abbrev pub new_path_ring_of : Planned → HeldPath
+new_path_ring_of plan = new_ring plan.settings plan.nodes (provisioning_of plan)
 
 abbrev pub path_account : Account PathNode Report
-path_account = record { walk = path_walk; new_ring = new_ring_of }
+path_account = record { walk = path_walk; new_ring = new_path_ring_of }
 
 -- over honest fibres each report shows for every port what it is owed
 abbrev pub Owes : ReportsOwe Report
-Owes plan f reports end left = OwesAll plan reports end
+Owes plan f reports end left = PathOwesAll plan reports end
 
 -- the ring of a plan, over fibres that were just prepared for it
 abbrev pub world_of : Planned → Fibres → World

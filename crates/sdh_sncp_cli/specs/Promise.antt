@@ -38,5 +38,5 @@ AreDue n circuits limit earlier ran before (changes ∷ later) (r ∷ reports) e
     × AreDue n circuits limit (earlier ++ changes) (r.round + 1) (before + 1) later reports end
 
 -- each report of a plan shows for every port what it is owed
-abbrev pub OwesAll : Planned → List Report → Status → Type 0
-OwesAll plan reports end = AreDue (length plan.nodes) plan.circuits plan.limit [] 0 0 (scenes [] plan.steps) reports end
+abbrev pub PathOwesAll : Planned → List Report → Status → Type 0
+PathOwesAll plan reports end = AreDue (length plan.nodes) plan.circuits plan.limit [] 0 0 (scenes [] plan.steps) reports end

@@ -9,5 +9,5 @@ abbrev pub ports_told : HeldPath → List PortLine
 ports_told r = port_lines (outlet_at r) r.circuits.circuits
 
 -- the report of settle step `number` that left this ring
-unfoldable pub report_of : ℕ → HeldPath → Report
-report_of number r = record { number = number; round = r.rounds - 1; nodes = []; ports = ports_told r }
+unfoldable pub path_ring_report : ℕ → HeldPath → Report
+path_ring_report number r = record { number = number; round = r.rounds - 1; nodes = []; ports = ports_told r }

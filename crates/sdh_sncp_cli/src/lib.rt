@@ -2,7 +2,7 @@
 //! and a text. A plan's script is run step by step over a path ring and its fibres, and the report of each settle step
 //! is appended to a text.
 //!
-//! What a script comes to is `Runs` in `sdh_scripts`. What its reports owe to each port is `OwesAll` in
+//! What a script comes to is `Runs` in `sdh_scripts`. What its reports owe to each port is `PathOwesAll` in
 //! `specs/Promise.antt`.
 #![tactic(auto)]
 

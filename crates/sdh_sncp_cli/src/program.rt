@@ -1,7 +1,7 @@
 //! What the program does with a plan.
 ghost use Rattle.std.specs.Prelude.{◌≡◌, refl};
 ghost use Rattle.sdh_report.specs.Reports.{Report};
-ghost use Rattle.sdh_scripts.specs.NewRuns.{IsOf};
+ghost use Rattle.sdh_scripts.specs.NewRuns.{IsRunOfPlan};
 ghost use Rattle.sdh_programs.specs.Calls.{never_cut};
 ghost use Rattle.sdh_sncp.specs.Fixed.{AreAlone};
 ghost use Rattle.sdh_sncp_cli.specs.Steps.{AreKnown};
@@ -43,7 +43,7 @@ impl<'a, P: Plant> Program<'a, Text, P> for Pathing {
 
     ghost ask_of = { λ asked. tt };
 
-    ghost Begins = { λ listing plan run. IsOf running_ring path_account plan run × AreKnown plan.steps × AreAlone plan.circuits };
+    ghost Begins = { λ listing plan run. IsRunOfPlan running_ring path_account plan run × AreKnown plan.steps × AreAlone plan.circuits };
 
     ghost Leaves = { λ told end ring. Unit {0} };
 

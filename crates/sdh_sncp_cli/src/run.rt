@@ -1,6 +1,6 @@
 //! The run of a plan, before its fibres are there: its path ring is made, and room for the reports.
 ghost use Rattle.std.specs.Prelude.{◌≡◌, ◌≤◌, ℕ, Err, IfOk, length};
-ghost use Rattle.sdh_scripts.specs.NewRuns.{MayStart, IsOf};
+ghost use Rattle.sdh_scripts.specs.NewRuns.{MayStartRun, IsRunOfPlan};
 ghost use Rattle.sdh_scripts.specs.Ports.{lines_room};
 ghost use Rattle.sdh_scripts.specs.Texts.{room_for};
 ghost use Rattle.sdh_sncp.specs.Fixed.{AreAlone};
@@ -20,8 +20,8 @@ use std::alloc::Global;
 /// the text of all reports too.
 pub fn new_run(alloc: Global, plan: Plan, text: &mut Text) -> Result<NewRun<PathRun>, PathError>
     requires known { AreKnown plan.steps }
-    ensures is_of { IfOk result (IsOf running_ring path_account plan) }
-    ensures ready { IfOk result (λ new. MayStart running_ring MayRunPath new.runner new.script) }
+    ensures is_of { IfOk result (IsRunOfPlan running_ring path_account plan) }
+    ensures ready { IfOk result (λ new. MayStartRun running_ring MayRunPath new.runner new.script) }
     ensures alone { IfOk result (λ new. AreAlone plan.circuits) }
     ensures same_slot { (first second : ℕ) → result ≡ Err (PathError.SameSlot first second) → AreFirstToShare plan.circuits first second }
     ensures room { IfOk result

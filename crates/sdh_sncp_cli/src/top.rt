@@ -7,7 +7,7 @@ ghost use Rattle.sdh_sncp_cli.specs.Endings.{number_of};
 ghost use Rattle.sdh_sncp_cli.specs.declared.ending.Ending.{Ending};
 ghost use Rattle.sdh_sncp_cli.specs.Outcome.{Answers, told};
 ghost use Rattle.sdh_sncp_cli.specs.Headline.{Delivers, EndsAsItRuns, AlwaysSettles};
-ghost use Rattle.sdh_shell.specs.Kept.{around};
+ghost use Rattle.sdh_shell.specs.Kept.{seen_around};
 ghost use Rattle.sdh_programs.specs.Calls.{KeepsCall, never_cut};
 ghost use Rattle.sdh_shell.specs.Calls.{asked_to_run};
 ghost use Rattle.sdh_sncp_cli.specs.Outcome.{pathing};
@@ -52,8 +52,8 @@ pub fn sdhpath<R: Source, W: Sink, P: Plant>(
     // cause, what isn't asked for stays as it was, and where all that a run needs is given, and no call fails, all is
     // done.
     ensures kept { (how : Ending) × (result ≡ number_of how) × KeepsCall pathing never_cut (asked_to_run (words_of words.now))
-        (around R.faults R.exact R.left source.old source.new)
-        (around W.faults W.exact W.written sink.old sink.new) (around P.faults P.exact P.fibres plant.old plant.new) how }
+        (seen_around R.faults R.exact R.left source.old source.new)
+        (seen_around W.faults W.exact W.written sink.old sink.new) (seen_around P.faults P.exact P.fibres plant.old plant.new) how }
 {
     call::<P, Pathing, R, W>(alloc, words, source, sink, plant).number()
 }

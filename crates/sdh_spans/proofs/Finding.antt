@@ -21,7 +21,7 @@ use Rattle.sdh_ringmap.specs.Fibres.{is_cut, degraded_by}
 use Rattle.sdh_plant.specs.Arrivals.{through}
 use Rattle.sdh_terminal.specs.Receiving.{Inlet, Reception, failure, framed_reception, frame_reception, reception_of, after_frame}
 use Rattle.sdh_terminal.specs.Receiving.{readings_by, actions_by, found, taken_in, after_taking}
-use Rattle.sdh_spans.specs.Frames.{Says, CarriesWord, shown_by}
+use Rattle.sdh_spans.specs.Frames.{SaysWord, CarriesWord, violations_shown}
 use Rattle.sdh_spans.specs.Sides.{IsTold, FindsSo}
 use Rattle.sdh_spans.specs.Laws.{InletsStay, UntoldSidesFindNothing, SidesFindSo}
 use Rattle.sdh_spans.proofs.Frames.{cut_is_dark, comes_through, says_no_ais, received_says, opened_says, kept_says}
@@ -42,7 +42,7 @@ found_at rate threshold clear last k b2 other =
     let e : (second_byte k % 8 == 7) ≡ false = says_no_ais k other in
     rw e (record { bytes_are = refl; defect_is = refl; word_is = refl; last_is = refl })
 
-found_word : (rate : Rate) (threshold : ℕ) (k : K) (line : List ℕ) (last : Option Parities) → Says rate k line → k.mark ≢ mark.MsAis
+found_word : (rate : Rate) (threshold : ℕ) (k : K) (line : List ℕ) (last : Option Parities) → SaysWord rate k line → k.mark ≢ mark.MsAis
     → FindsWord (scrambled (9 * n_of rate) line) threshold (b2_violations (n_of rate) last (scrambled (9 * n_of rate) line)) k
     (Some (parities_of (n_of rate) (scrambled (9 * n_of rate) line) line)) (reception_of (Some (Some line)) rate threshold last)
 found_word rate threshold k line last says other =
@@ -132,7 +132,7 @@ module _ (at : Rate) (c : Condition) (k : K) (line : List ℕ) (threshold : ℕ)
   ]
 
   shows_next : (next : List ℕ) → b2_in n (scrambled (9 * n) next) ≡ section_parity n (scrambled (9 * n) line)
-      → b2_violations n (found threshold i).last (scrambled (9 * n) next) ≡ shown_by c
+      → b2_violations n (found threshold i).last (scrambled (9 * n) next) ≡ violations_shown c
   unfolding parities_of
   shows_next next same =
       by_cut (b2_violations n (found threshold i).last (scrambled (9 * n) next)) 0 (degraded_by c)

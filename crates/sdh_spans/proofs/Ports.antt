@@ -12,7 +12,7 @@ use Rattle.sdh_payload.specs.Outlet.{delivering}
 use Rattle.sdh_terminal.specs.Passing.{Input}
 use Rattle.sdh_terminal.specs.Outlets.{delivered_by, delivered_from}
 use Rattle.sdh_terminal.specs.Tributaries.{sent_by, input_by}
-use Rattle.sdh_spans.specs.Brought.{BringsWith, IsValueOf, Brings, plainly}
+use Rattle.sdh_spans.specs.Brought.{BringsWith, IsValueOf, BringsDelivery, plainly}
 use Rattle.sdh_spans.specs.Laws.{PortsDeliver, PortsBring}
 
 outlet_with : (i : Input) (v : ℕ) (b : Delivered) → IsValueOf v b → BringsWith i v b
@@ -27,7 +27,7 @@ pub ports_deliver : PortsDeliver
 ports_deliver i b has is = outlet_with i b.value b.delivered has is
 
 brings_plain : (sender : Customer) (c : Clock) (f : ChunkForm) → f ≡ Plain
-    → Brings (input_by (sent_by (record { port = sender; clock = after_form f c }))) (plainly sender c)
+    → BringsDelivery (input_by (sent_by (record { port = sender; clock = after_form f c }))) (plainly sender c)
 unfolding sent_by
 brings_plain sender c f is = let back : c.sent + 2349 - 2349 ≡ c.sent =
     omega arith in rw is (refl, refl, ap (λ p. stream_from sender p 2349) back)

@@ -10,9 +10,9 @@ use Rattle.sdh_overhead.specs.Overhead.{with_overhead}
 use Rattle.sdh_overhead.specs.Sections.{placed_after, added_after, clear_frame, parities_of, b2_in}
 use Rattle.sdh_overhead.specs.Laws.{AreParities}
 use Rattle.sdh_overhead.proofs.Trips.{b2-there, placed-length}
-use Rattle.sdh_terminal.specs.Passing.{Input, after_inputs}
+use Rattle.sdh_terminal.specs.Passing.{Input, generators_after}
 use Rattle.sdh_terminal.specs.Sending.{Sending, filled, clear_frame_from, line_frame_from, after_sending}
-use Rattle.sdh_spans.specs.Frames.{Says}
+use Rattle.sdh_spans.specs.Frames.{SaysWord}
 use Rattle.sdh_spans.specs.Sides.{IsSenderAt}
 use Rattle.sdh_spans.proofs.Frames.{length-filled, line_says, parities_are}
 
@@ -41,8 +41,8 @@ module _ (at : Rate) (input : ℕ → Input) (x : Sending) (is : IsSenderAt at x
   are : AreParities (n_of x.section.rate) x.section.last
   are = subst (λ r. AreParities (n_of r) x.section.last) (sym is.rate) is.parities
 
-  pub frame_says : Says at x.word (line_frame_from input x)
-  frame_says = subst (λ r. Says r x.word (line_frame_from input x)) is.rate (line_says input x are)
+  pub frame_says : SaysWord at x.word (line_frame_from input x)
+  frame_says = subst (λ r. SaysWord r x.word (line_frame_from input x)) is.rate (line_says input x are)
 
   pub frame_b2 : b2_in (n_of at) (scrambled (9 * n_of at) (line_frame_from input x)) ≡ (placed_after (n_of at) x.section.last).b2
   frame_b2 =
@@ -56,7 +56,7 @@ module _ (at : Rate) (input : ℕ → Input) (x : Sending) (is : IsSenderAt at x
       (parities_of (n_of r) (scrambled (9 * n_of r) (line_frame_from input x)) (line_frame_from input x))) is.rate (line_last input x)
 
   pub sender_stays : IsSenderAt at (after_sending input x)
-  unfolding after_sending after_inputs
+  unfolding after_sending generators_after
   sender_stays = record {
     rate = is.rate;
     generators = length-map_from _ 0 x.generators ∙ is.generators;

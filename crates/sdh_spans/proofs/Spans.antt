@@ -19,7 +19,7 @@ use Rattle.sdh_terminal.specs.Sending.{Sending, line_frame_from}
 use Rattle.sdh_kbytes.specs.declared.K.{K}
 use Rattle.sdh_parity.specs.Scrambling.{scrambled}
 use Rattle.sdh_spans.specs.Sides.{SendsSo, IsTold, FindsSo}
-use Rattle.sdh_spans.specs.Brought.{Brings, Carries, HasValue}
+use Rattle.sdh_spans.specs.Brought.{BringsDelivery, Carries, HasValue}
 use Rattle.sdh_spans.specs.Spans.{IsSpan, line_after, TakesWord, word_behind}
 use Rattle.sdh_spans.specs.Laws.{SpansTakeWords, SpansBring, CutSpansBringAis}
 use Rattle.sdh_spans.proofs.Finding.{sides_find_so}
@@ -80,10 +80,10 @@ module _ (at : Rate) (c : Condition) (w : K) (line : List ℕ) (i : Inlet) (thre
     stands : after_frame n taken i.readings ≡ i.readings
     stands = sym took_in.left ∙ ap (λ (y : Line). y.readings) there ∙ still
 
-    brings_taken : (b : Outlet) → HasValue b → Carries (au_of n (k + 1) taken) b → Brings (received l d (k + 1)) b
+    brings_taken : (b : Outlet) → HasValue b → Carries (au_of n (k + 1) taken) b → BringsDelivery (received l d (k + 1)) b
     brings_taken b small carries = side_brings at l d i.readings took_in k few b small stands carries
 
-    silenced : is_cut c ≡ true → Brings (received l d (k + 1)) silent
+    silenced : is_cut c ≡ true → BringsDelivery (received l d (k + 1)) silent
     silenced cut = side_silent at l d i.readings took_in k few stands (ones_taken cut)
 
 pub cut_spans_bring_ais : CutSpansBringAis
@@ -128,8 +128,8 @@ module _ (at : Rate) (c : Condition) (input : ℕ → Input) (x : Sending) (i : 
       (takes_read at c x.word line_sent i threshold l d k is_told there high)
 
   brings : is_cut c ≡ false → (after_taking threshold i).readings ≡ i.readings
-      → state ≡ next_sending state (input (k + 1)).action (input (k + 1)).value → (b : Outlet) → HasValue b → Brings (input (k + 1)) b
-      → Brings (received l d (k + 1)) b
+      → state ≡ next_sending state (input (k + 1)).action (input (k + 1)).value → (b : Outlet) → HasValue b → BringsDelivery (input (k + 1)) b
+      → BringsDelivery (received l d (k + 1)) b
   brings clear still kept b small is_sent =
       brings_taken at c x.word line_sent i threshold l d k is_told there high still b small
       (subst (λ a. Carries a b) (sym (au_comes clear)) (carried_by state (input (k + 1)) b kept is_sent))

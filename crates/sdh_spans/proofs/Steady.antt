@@ -9,7 +9,7 @@ use Rattle.sdh_pointer.specs.Repeated.{after_rounds}
 use Rattle.sdh_pointer.specs.Laws.{lasting_form, lasting_state, ComesToRest}
 use Rattle.sdh_pointer.proofs.Lasting.{inputs_last, repeated_words_rest}
 use Rattle.sdh_terminal.specs.Passing.{Input}
-use Rattle.sdh_spans.specs.Spans.{TakesWord, word_behind, IsConstant, GoesBy, TakesBehind}
+use Rattle.sdh_spans.specs.Spans.{TakesWord, word_behind, IsConstant, GeneratorGoesBy, TakesBehind}
 use Rattle.sdh_spans.specs.Laws.{GeneratorsRest, RestsBehind, SpansAreSteady}
 
 -- ---- constants
@@ -34,7 +34,7 @@ constant_later f k l late c = record {
 
 -- ---- a generator
 
-module _ (went : ℕ → Input) (sending : ℕ → Option ℕ) (k : ℕ) (goes : GoesBy went sending) (c : IsConstant went k) where
+module _ (went : ℕ → Input) (sending : ℕ → Option ℕ) (k : ℕ) (goes : GeneratorGoesBy went sending) (c : IsConstant went k) where
   sending_rests : (j : ℕ) → k + 1 ≤ j → sending j ≡ lasting_state c.does c.value
   sending_rests j h =
       let m = j - 1 in
@@ -54,7 +54,7 @@ generators_rest went sending k goes c j h = sending_rests went sending k goes c 
 
 -- ---- the interpreter after the fibre
 
-module _ (cut : Bool) (went came : ℕ → Input) (sending : ℕ → Option ℕ) (reading : ℕ → Reading) (k : ℕ) (goes : GoesBy went sending)
+module _ (cut : Bool) (went came : ℕ → Input) (sending : ℕ → Option ℕ) (reading : ℕ → Reading) (k : ℕ) (goes : GeneratorGoesBy went sending)
     (behind : TakesBehind cut went sending reading came) (c : IsConstant went k) where
   abbrev word : ℕ
   word = word_behind cut (word_of (lasting_form c.does) c.value)

@@ -14,7 +14,7 @@ use Rattle.sdh_ringmap.specs.Fibres.{fibre, is_cut, degraded_by}
 use Rattle.sdh_plant.specs.Arrivals.{carried_on}
 
 -- the bytes on the line are those of a framed frame that has the K bytes of this word, as a section reads them
-pub record Says (rate : Rate) (k : K) (line : List ℕ) : Type 0 where
+pub record SaysWord (rate : Rate) (k : K) (line : List ℕ) : Type 0 where
   pub size : length line ≡ size_of rate
   pub framed : is_framed (n_of rate) line ≡ true
   pub k1 : byte_in (n_of rate) (scrambled (9 * n_of rate) line) 5 (3 * n_of rate + 1) ≡ first_byte k
@@ -24,7 +24,7 @@ pub record Says (rate : Rate) (k : K) (line : List ℕ) : Type 0 where
 pub record CarriesWord (rate : Rate) (k : K) (a : Arrival) : Type 0 where
   pub line : List ℕ
   pub there : a ≡ Some line
-  pub says : Says rate k line
+  pub says : SaysWord rate k line
 
 -- the fibres that leave position p, after this number of rounds: each carries nothing before round 0, and then a frame
 -- with the word of its side
@@ -34,5 +34,5 @@ pub record AreCarried (rate : Rate) (f : Fibres) (rounds p : ℕ) (words : Side 
 
 -- the number of B2 violations that a fibre in this condition makes the next frame show: the number of bits that it
 -- inverts, and none where it is cut
-abbrev pub shown_by : Condition → ℕ
-shown_by c = if is_cut c then 0 else degraded_by c
+abbrev pub violations_shown : Condition → ℕ
+violations_shown c = if is_cut c then 0 else degraded_by c

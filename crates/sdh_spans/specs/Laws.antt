@@ -24,8 +24,8 @@ use Rattle.sdh_spans.specs.Frames.{CarriesWord}
 use Rattle.sdh_spans.specs.Sides.{IsInletAt, IsSenderAt, SendsSo, FindsNothing, IsTold, FindsSo}
 use Rattle.sdh_terminal.specs.Outlets.{delivered_from}
 use Rattle.sdh_terminal.specs.Tributaries.{input_by, sent_in}
-use Rattle.sdh_spans.specs.Brought.{Brings, HasValue, plainly}
-use Rattle.sdh_spans.specs.Spans.{IsSpan, line_after, TakesWord, word_behind, IsConstant, GoesBy, TakesBehind}
+use Rattle.sdh_spans.specs.Brought.{BringsDelivery, HasValue, plainly}
+use Rattle.sdh_spans.specs.Spans.{IsSpan, line_after, TakesWord, word_behind, IsConstant, GeneratorGoesBy, TakesBehind}
 
 -- ---- frames
 
@@ -58,11 +58,11 @@ SidesFindSo =
 
 -- what an AU-4 brings is what a port delivers of it
 abbrev pub PortsDeliver : Type 0
-PortsDeliver = (i : Input) (b : Outlet) → HasValue b → Brings i b → delivered_from i ≡ b
+PortsDeliver = (i : Input) (b : Outlet) → HasValue b → BringsDelivery i b → delivered_from i ≡ b
 
 -- a port that justifies nothing brings the next bytes of its stream
 abbrev pub PortsBring : Type 0
-PortsBring = (feed : Fed) → next_form feed.clock ≡ Plain → Brings (input_by (sent_in feed)) (plainly feed.port feed.clock)
+PortsBring = (feed : Fed) → next_form feed.clock ≡ Plain → BringsDelivery (input_by (sent_in feed)) (plainly feed.port feed.clock)
 
 -- ---- one span in one round
 
@@ -82,14 +82,14 @@ SpansBring =
     → IsSpan at c input x i → line_on l d ≡ line_after threshold i → k + 1 ≤ n_of at
     → is_cut c ≡ false → (after_taking threshold i).readings ≡ i.readings
     → slice_index_or x.generators k None ≡ next_sending (slice_index_or x.generators k None) (input (k + 1)).action (input (k + 1)).value
-    → (b : Outlet) → HasValue b → Brings (input (k + 1)) b → Brings (received l d (k + 1)) b
+    → (b : Outlet) → HasValue b → BringsDelivery (input (k + 1)) b → BringsDelivery (received l d (k + 1)) b
 
 -- where the fibre is cut and the interpreters don't change, AIS comes, whatever was sent
 abbrev pub CutSpansBringAis : Type 0
 CutSpansBringAis =
     (at : Rate) (c : Condition) (w : K) (line : List ℕ) (i : Inlet) (threshold : ℕ) (l : Lines) (d : Side) (k : ℕ) → IsTold at c w line i
     → line_on l d ≡ line_after threshold i → k + 1 ≤ n_of at
-    → is_cut c ≡ true → (after_taking threshold i).readings ≡ i.readings → Brings (received l d (k + 1)) silent
+    → is_cut c ≡ true → (after_taking threshold i).readings ≡ i.readings → BringsDelivery (received l d (k + 1)) silent
 
 -- ---- one span in many rounds
 
@@ -97,7 +97,7 @@ CutSpansBringAis =
 -- + 1 on
 abbrev pub GeneratorsRest : Type 0
 GeneratorsRest =
-    (went : ℕ → Input) (sending : ℕ → Option ℕ) (k : ℕ) → GoesBy went sending → (c : IsConstant went k) → (j : ℕ) → k + 1 ≤ j
+    (went : ℕ → Input) (sending : ℕ → Option ℕ) (k : ℕ) → GeneratorGoesBy went sending → (c : IsConstant went k) → (j : ℕ) → k + 1 ≤ j
     → sending j ≡ lasting_state c.does c.value
 
 -- from round k + 9 on the interpreter after the fibre changes no more, and what comes has one action and one value,
@@ -109,5 +109,5 @@ pub record RestsBehind (reading : ℕ → Reading) (came : ℕ → Input) (k : �
 -- after a constant input of its generator a span comes to rest
 abbrev pub SpansAreSteady : Type 0
 SpansAreSteady =
-    (cut : Bool) (went came : ℕ → Input) (sending : ℕ → Option ℕ) (reading : ℕ → Reading) (k : ℕ) → GoesBy went sending
+    (cut : Bool) (went came : ℕ → Input) (sending : ℕ → Option ℕ) (reading : ℕ → Reading) (k : ℕ) → GeneratorGoesBy went sending
     → TakesBehind cut went sending reading came → IsConstant went k → RestsBehind reading came k

@@ -21,7 +21,7 @@ use Rattle.sdh_plant.specs.Arrivals.{through}
 use Rattle.sdh_terminal.specs.Passing.{Input, au_sent}
 use Rattle.sdh_terminal.specs.Receiving.{Inlet, after_frame, actions_in, found, taken_in, after_taking}
 use Rattle.sdh_terminal.specs.Sending.{Sending, line_frame_from, after_sending}
-use Rattle.sdh_spans.specs.Frames.{Says, shown_by}
+use Rattle.sdh_spans.specs.Frames.{SaysWord, violations_shown}
 
 -- ---- sides at a rate
 
@@ -46,7 +46,7 @@ AreFull input = (au : ℕ) → length (input au).au.payload ≡ 2349
 -- What a side sends in a round for what goes into its AU-4s, and what it keeps. The frame has the side's word, B2 is
 -- the parity that the side kept, and each AU-4 is what its generator makes of what goes into it.
 pub record SendsSo (at : Rate) (input : ℕ → Input) (x : Sending) : Type 0 where
-  pub says : Says at x.word (line_frame_from input x)
+  pub says : SaysWord at x.word (line_frame_from input x)
   pub b2 : b2_in (n_of at) (scrambled (9 * n_of at) (line_frame_from input x)) ≡ (placed_after (n_of at) x.section.last).b2
   pub keeps : (after_sending input x).section.last ≡ Some (parities_of (n_of at) (scrambled (9 * n_of at) (line_frame_from input x))
       (line_frame_from input x))
@@ -71,7 +71,7 @@ pub record FindsNothing (threshold : ℕ) (i : Inlet) : Type 0 where
 -- Side i received what came through a fibre in condition c, on which the frame `line` with the word k was sent.
 pub record IsTold (at : Rate) (c : Condition) (k : K) (line : List ℕ) (i : Inlet) : Type 0 where
   pub may : IsConditionAt at c
-  pub says : Says at k line
+  pub says : SaysWord at k line
   -- the mark of the word isn't AIS of the multiplex section, with which a side fails
   pub no_ais : k.mark ≢ mark.MsAis
   pub inlet : IsInletAt at i
@@ -92,4 +92,4 @@ pub record FindsSo (at : Rate) (c : Condition) (k : K) (line : List ℕ) (thresh
   pub reads : (after_taking threshold i).readings ≡ after_frame (n_of at) (taken_in threshold i).frame.bytes i.readings
   -- a next frame whose B2 is the parity of this frame shows the bits that the fibre inverted in this frame
   pub shows : (next : List ℕ) → b2_in (n_of at) (scrambled (9 * n_of at) next) ≡ section_parity (n_of at) (scrambled (9 * n_of at) line)
-      → b2_violations (n_of at) (after_taking threshold i).section.last (scrambled (9 * n_of at) next) ≡ shown_by c
+      → b2_violations (n_of at) (after_taking threshold i).section.last (scrambled (9 * n_of at) next) ≡ violations_shown c

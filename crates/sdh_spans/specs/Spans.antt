@@ -56,8 +56,8 @@ pub record IsConstant (f : ℕ → Input) (k : ℕ) : Type 0 where
   pub value_is : (j : ℕ) → k ≤ j → (f j).value ≡ value
 
 -- a generator goes on by what goes into its AU-4 round by round
-abbrev pub GoesBy : (ℕ → Input) → (ℕ → Option ℕ) → Type 0
-GoesBy went sending = (j : ℕ) → sending (suc j) ≡ next_sending (sending j) (went j).action (went j).value
+abbrev pub GeneratorGoesBy : (ℕ → Input) → (ℕ → Option ℕ) → Type 0
+GeneratorGoesBy went sending = (j : ℕ) → sending (suc j) ≡ next_sending (sending j) (went j).action (went j).value
 
 -- the interpreter after the fibre goes by the word that was sent one round before
 abbrev pub TakesBehind : Bool → (ℕ → Input) → (ℕ → Option ℕ) → (ℕ → Reading) → (ℕ → Input) → Type 0

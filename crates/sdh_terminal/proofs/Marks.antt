@@ -10,7 +10,7 @@ use Rattle.sdh_pointer.specs.Sending.{Generator, next_sending, after_action, sam
 use Rattle.sdh_pointer.proofs.Unmoved.{reading_itself}
 use Rattle.sdh_terminal.specs.Same.{same_readings, same_generators}
 use Rattle.sdh_terminal.specs.Receiving.{readings_of}
-use Rattle.sdh_terminal.specs.Passing.{Input, states_of, after_inputs}
+use Rattle.sdh_terminal.specs.Passing.{Input, states_of, generators_after}
 
 -- ---- lists
 
@@ -65,8 +65,8 @@ module _ (input : ℕ → Input) where
       none-or (same_sending next x.sending) (list_any (λ (x : Generator). x.moved) (sent (i + 1) xs))
       ∙ ap (λ b. same_sending next x.sending && b) (unmoved-generators (i + 1) xs)
 
-  pub states-sent : (xs : List Generator) → states_of (sent 0 xs) ≡ after_inputs input (states_of xs)
-  unfolding after_action after_inputs
+  pub states-sent : (xs : List Generator) → states_of (sent 0 xs) ≡ generators_after input (states_of xs)
+  unfolding after_action generators_after
   states-sent xs =
       map-map_from (λ (g : Generator). g.sending) (λ k (g : Generator). after_action g (input (k + 1)).action (input (k + 1)).value) 0 xs
       ∙ sym (map_from-map (λ k s. next_sending s (input (k + 1)).action (input (k + 1)).value) (λ (g : Generator). g.sending) 0 xs)

@@ -65,5 +65,5 @@ unfoldable pub aus_sent : (ℕ → Input) → List (Option ℕ) → List Au
 aus_sent input states = map_from (λ k s. au_sent s (input (k + 1))) 0 states
 
 -- the states of a side's generators after they were given these inputs
-unfoldable pub after_inputs : (ℕ → Input) → List (Option ℕ) → List (Option ℕ)
-after_inputs input states = map_from (λ k s. next_sending s (input (k + 1)).action (input (k + 1)).value) 0 states
+unfoldable pub generators_after : (ℕ → Input) → List (Option ℕ) → List (Option ℕ)
+generators_after input states = map_from (λ k s. next_sending s (input (k + 1)).action (input (k + 1)).value) 0 states

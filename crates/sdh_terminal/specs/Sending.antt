@@ -10,7 +10,7 @@ use Rattle.sdh_overhead.specs.Sections.{holding, clear_frame, line_frame, pariti
 use Rattle.sdh_kbytes.specs.declared.K.{K}
 use Rattle.sdh_kbytes.specs.KBytes.{first_byte, second_byte}
 use Rattle.sdh_kbytes.specs.KBytes.{IsSpellable}
-use Rattle.sdh_terminal.specs.Passing.{Input, aus_sent, after_inputs}
+use Rattle.sdh_terminal.specs.Passing.{Input, aus_sent, generators_after}
 
 pub record Sending : Type 0 where
   -- the parities of the frame sent before
@@ -47,7 +47,7 @@ frame_from input s = record { rate = s.section.rate; bytes = line_frame_from inp
 unfoldable pub after_sending : (ℕ → Input) → Sending → Sending
 after_sending input s = record s {
   section = holding s.section.rate (Some (parities_of (n_of s.section.rate) (clear_frame_from input s) (line_frame_from input s)));
-  generators = after_inputs input s.generators;
+  generators = generators_after input s.generators;
 }
 
 -- what is true of the sending half of every side

@@ -8,7 +8,7 @@ ghost use Rattle.sdh_pointer.specs.Sending.{Generator, after_action};
 ghost use Rattle.sdh_interchange.specs.Choosing.{IsSource, AreSources, payload_in};
 ghost use Rattle.sdh_interchange.specs.Assembled.{payload_from, assembled};
 ghost use Rattle.sdh_terminal.specs.Same.{same_generators};
-ghost use Rattle.sdh_terminal.specs.Passing.{no_input, h3_of, h3_sent, pointers_with, au_for, au_sent, states_of, aus_sent, after_inputs};
+ghost use Rattle.sdh_terminal.specs.Passing.{no_input, h3_of, h3_sent, pointers_with, au_for, au_sent, states_of, aus_sent, generators_after};
 ghost use Rattle.sdh_terminal.specs.Sources.{payload_by, bytes_on};
 ghost use Rattle.sdh_terminal.specs.Tributaries.{own_input, added_last};
 ghost use Rattle.sdh_terminal.specs.Lines.{received, fed_by, all_fed_by, IsFeeder};
@@ -205,7 +205,7 @@ fn plan_all<'a, X: Matrix>(
     requires len { length generators.old.items ≡ n_of (X.lines cross.now).rate }
     requires sources { length sources.old ≡ n_of (X.lines cross.now).rate }
     requires pointers { length pointers.old ≡ n_of (X.lines cross.now).rate }
-    ensures generators { states_of generators.new.items ≡ after_inputs
+    ensures generators { states_of generators.new.items ≡ generators_after
         (all_fed_by (X.lines cross.now) (added_last ports.now) (X.leads cross.now side)) (states_of generators.old.items) }
     ensures aus { assembled (n_of (X.lines cross.now).rate)
         (X.lines cross.now).west.intake.frame.bytes (X.lines cross.now).east.intake.frame.bytes own.new sources.new pointers.new ≡ aus_sent
@@ -267,7 +267,7 @@ impl Assembly {
         requires len { length generators.old.items ≡ n_of (X.lines cross.now).rate }
         requires sources { length self.old.sources.items ≡ n_of (X.lines cross.now).rate }
         requires pointers { length self.old.pointers.items ≡ n_of (X.lines cross.now).rate }
-        ensures generators { states_of generators.new.items ≡ after_inputs
+        ensures generators { states_of generators.new.items ≡ generators_after
             (all_fed_by (X.lines cross.now) (added_last ports.now) (X.leads cross.now side)) (states_of generators.old.items) }
         ensures aus { assembled (n_of (X.lines cross.now).rate) (X.lines cross.now).west.intake.frame.bytes
             (X.lines cross.now).east.intake.frame.bytes own.new self.new.sources.items self.new.pointers.items ≡ aus_sent

@@ -13,58 +13,58 @@ use Rattle.sdh_ringmap.specs.Arcs.{Arc, opposite_arc, none_of, is_clear, is_join
 use Rattle.sdh_ringmap.proofs.Clear.{is_clear-opposite}
 use Rattle.sdh_verdicts.specs.declared.judging.Verdict.{Verdict}
 use Rattle.sdh_verdicts.specs.declared.judging.Verdict.TheVariants.{Kept, Over, Lost}
-use Rattle.sdh_verdicts.specs.Verdicts.{counted, verdict_under}
+use Rattle.sdh_verdicts.specs.Verdicts.{count_below, verdict_under}
 use Rattle.sdh_restoration.specs.Routes.{applied_at_place}
 
 abbrev one : Bool → ℕ
 one b = if b then 1 else 0
 
 -- counted from place a on
-pub counted_on : (p : ℕ → Bool) (a k : ℕ) → counted p (a + k) ≡ counted p a + counted (λ i. p (a + i)) k
+pub counted_on : (p : ℕ → Bool) (a k : ℕ) → count_below p (a + k) ≡ count_below p a + count_below (λ i. p (a + i)) k
 counted_on p a zero =
     let place : a + zero ≡ a = omega arith in
-    let sum : counted p a ≡ counted p a + 0 = omega arith in
-    ap (counted p) place ∙ sum
+    let sum : count_below p a ≡ count_below p a + 0 = omega arith in
+    ap (count_below p) place ∙ sum
 counted_on p a (suc k) =
     let place : a + suc k ≡ suc (a + k) = omega arith in
     let rest = counted_on p a k in
-    let sum : counted p (a + k) + one (p (a + k)) ≡ counted p a + (counted (λ i. p (a + i)) k + one (p (a + k))) = omega (arith, rest) in
-    ap (counted p) place ∙ sum
+    let sum : count_below p (a + k) + one (p (a + k)) ≡ count_below p a + (count_below (λ i. p (a + i)) k + one (p (a + k))) = omega (arith, rest) in
+    ap (count_below p) place ∙ sum
 
-pub counted_same : (p q : ℕ → Bool) (k : ℕ) → ((i : ℕ) → p i ≡ q i) → counted p k ≡ counted q k
+pub counted_same : (p q : ℕ → Bool) (k : ℕ) → ((i : ℕ) → p i ≡ q i) → count_below p k ≡ count_below q k
 counted_same p q zero same = refl
-counted_same p q (suc k) same = ap (λ x. x + one (p k)) (counted_same p q k same) ∙ ap (λ b. counted q k + one b) (same k)
+counted_same p q (suc k) same = ap (λ x. x + one (p k)) (counted_same p q k same) ∙ ap (λ b. count_below q k + one b) (same k)
 
-pub grows : (p : ℕ → Bool) (i k : ℕ) → counted p i ≤ counted p (i + k)
+pub grows : (p : ℕ → Bool) (i k : ℕ) → count_below p i ≤ count_below p (i + k)
 grows p i k = omega (arith, counted_on p i k)
 
-first_is : (p : ℕ → Bool) (i : ℕ) (b : Bool) → p i ≡ b → counted p (suc i) ≡ counted p i + one b
-first_is p i b e = ap (λ c. counted p i + one c) e
+first_is : (p : ℕ → Bool) (i : ℕ) (b : Bool) → p i ≡ b → count_below p (suc i) ≡ count_below p i + one b
+first_is p i b e = ap (λ c. count_below p i + one c) e
 
 pub not_equal : (a b : ℕ) → (a ≡ b → ⊥) → nat_eq a b ≡ false
 not_equal a b h = false_from_ne_true (nat_eq a b) (λ e. h (eqb-true a b e))
 
 -- a test holds at none of the k places from i on exactly where the two counts are equal
-pub none_by : (p : ℕ → Bool) (i k : ℕ) → none_of p i k ≡ nat_eq (counted p (i + k)) (counted p i)
-none_by p i zero = let place : i + 0 ≡ i = omega arith in sym (eq-eqb (counted p (i + 0)) (counted p i) (ap (counted p) place))
+pub none_by : (p : ℕ → Bool) (i k : ℕ) → none_of p i k ≡ nat_eq (count_below p (i + k)) (count_below p i)
+none_by p i zero = let place : i + 0 ≡ i = omega arith in sym (eq-eqb (count_below p (i + 0)) (count_below p i) (ap (count_below p) place))
 none_by p i (suc k) = by (p i) refl (none_by p (suc i) k)
   where
     place : suc i + k ≡ i + suc k
     place = omega arith
 
-    by : (b : Bool) → p i ≡ b → none_of p (suc i) k ≡ nat_eq (counted p (suc i + k)) (counted p (suc i))
-        → none_of p i (suc k) ≡ nat_eq (counted p (i + suc k)) (counted p i)
+    by : (b : Bool) → p i ≡ b → none_of p (suc i) k ≡ nat_eq (count_below p (suc i + k)) (count_below p (suc i))
+        → none_of p i (suc k) ≡ nat_eq (count_below p (i + suc k)) (count_below p i)
     by true e next =
-        let more : counted p (suc i) ≤ counted p (i + suc k) = subst (λ x. counted p (suc i) ≤ counted p x) place (grows p (suc i) k) in
-        let here : counted p (suc i) ≡ counted p i + 1 = first_is p i true e in
-        let apart : nat_eq (counted p (i + suc k)) (counted p i) ≡ false =
-        not_equal (counted p (i + suc k)) (counted p i) (λ same. omega (arith, more, here, same)) in
+        let more : count_below p (suc i) ≤ count_below p (i + suc k) = subst (λ x. count_below p (suc i) ≤ count_below p x) place (grows p (suc i) k) in
+        let here : count_below p (suc i) ≡ count_below p i + 1 = first_is p i true e in
+        let apart : nat_eq (count_below p (i + suc k)) (count_below p i) ≡ false =
+        not_equal (count_below p (i + suc k)) (count_below p i) (λ same. omega (arith, more, here, same)) in
         ap (λ c. not c && none_of p (suc i) k) e ∙ sym apart
     by false e next =
-        let sum : counted p i + 0 ≡ counted p i = omega arith in
-        let here : counted p (suc i) ≡ counted p i = first_is p i false e ∙ sum in
-        ap (λ c. not c && none_of p (suc i) k) e ∙ next ∙ ap (λ x. nat_eq (counted p x) (counted p (suc i))) place
-        ∙ ap (nat_eq (counted p (i + suc k))) here
+        let sum : count_below p i + 0 ≡ count_below p i = omega arith in
+        let here : count_below p (suc i) ≡ count_below p i = first_is p i false e ∙ sum in
+        ap (λ c. not c && none_of p (suc i) k) e ∙ next ∙ ap (λ x. nat_eq (count_below p x) (count_below p (suc i))) place
+        ∙ ap (nat_eq (count_below p (i + suc k))) here
 
 module _ (n : ℕ) (applied : ℕ → Bool) (arc : Arc) where
   abbrev round_it : ℕ → Bool
@@ -73,33 +73,33 @@ module _ (n : ℕ) (applied : ℕ → Bool) (arc : Arc) where
   abbrev along : ℕ → Bool
   along = applied_at_place n applied arc
 
-  inside_is : counted along arc.spans ≡ counted round_it (arc.start + arc.spans) - counted round_it arc.start
+  inside_is : count_below along arc.spans ≡ count_below round_it (arc.start + arc.spans) - count_below round_it arc.start
   inside_is = omega (arith, counted_on round_it arc.start arc.spans)
 
-  all_is : counted along n ≡ counted round_it n
+  all_is : count_below along n ≡ count_below round_it n
   all_is =
       let here = counted_on round_it arc.start n in
       let there = counted_on round_it n arc.start in
       let same = counted_same (λ i. round_it (n + i)) round_it arc.start (λ i. ap applied (add-mod_left n i)) in
       let turned : arc.start + n ≡ n + arc.start = omega arith in
-      let swap : counted round_it (arc.start + n) ≡ counted round_it (n + arc.start) = ap (counted round_it) turned in
+      let swap : count_below round_it (arc.start + n) ≡ count_below round_it (n + arc.start) = ap (count_below round_it) turned in
       omega (arith, here, there, same, swap)
 
-  pub clear_by : is_clear n applied arc ≡ nat_eq (counted round_it (arc.start + arc.spans) - counted round_it arc.start) 0
+  pub clear_by : is_clear n applied arc ≡ nat_eq (count_below round_it (arc.start + arc.spans) - count_below round_it arc.start) 0
   unfolding is_clear
   clear_by = let place : 0 + arc.spans ≡ arc.spans =
-      omega arith in none_by along 0 arc.spans ∙ ap (λ x. nat_eq (counted along x) 0) place ∙ ap (λ x. nat_eq x 0) inside_is
+      omega arith in none_by along 0 arc.spans ∙ ap (λ x. nat_eq (count_below along x) 0) place ∙ ap (λ x. nat_eq x 0) inside_is
 
   pub opposite_by : arc.spans ≤ n → is_clear n applied (opposite_arc n arc)
-      ≡ nat_eq (counted round_it n) (counted round_it (arc.start + arc.spans) - counted round_it arc.start)
+      ≡ nat_eq (count_below round_it n) (count_below round_it (arc.start + arc.spans) - count_below round_it arc.start)
   opposite_by within =
       let place : arc.spans + (n - arc.spans) ≡ n = omega arith in
       is_clear-opposite n applied arc ∙ none_by along arc.spans (n - arc.spans)
-      ∙ ap (λ x. nat_eq (counted along x) (counted along arc.spans)) place
-      ∙ ap (λ x. nat_eq x (counted along arc.spans)) all_is ∙ ap (nat_eq (counted round_it n)) inside_is
+      ∙ ap (λ x. nat_eq (count_below along x) (count_below along arc.spans)) place
+      ∙ ap (λ x. nat_eq x (count_below along arc.spans)) all_is ∙ ap (nat_eq (count_below round_it n)) inside_is
 
 -- no more are counted than there are places
-pub counted_low : (p : ℕ → Bool) (k : ℕ) → counted p k ≤ k
+pub counted_low : (p : ℕ → Bool) (k : ℕ) → count_below p k ≤ k
 counted_low p zero = omega arith
 counted_low p (suc k) = let h = counted_low p k in let o = small (p k) in omega arith
   where
@@ -116,25 +116,25 @@ byte_low true = omega arith
 byte_low false = omega arith
 
 -- the next count, kept in a list
-pub count_fits : (p : ℕ → Bool) (before : List ℕ) (i byte : ℕ) (b : Bool) → ((j : ℕ) → j ≤ i → get_or before j 0 ≡ counted p j) → i < 32
+pub count_fits : (p : ℕ → Bool) (before : List ℕ) (i byte : ℕ) (b : Bool) → ((j : ℕ) → j ≤ i → get_or before j 0 ≡ count_below p j) → i < 32
     → byte ≡ bool_byte b → get_or before i 0 + byte < 256
 count_fits p before i byte b are low is = omega (arith, are i (omega arith), counted_low p i, is, byte_low b, low)
 
-pub count_next : (p : ℕ → Bool) (before : List ℕ) (i byte : ℕ) (b : Bool) → ((j : ℕ) → j ≤ i → get_or before j 0 ≡ counted p j)
+pub count_next : (p : ℕ → Bool) (before : List ℕ) (i byte : ℕ) (b : Bool) → ((j : ℕ) → j ≤ i → get_or before j 0 ≡ count_below p j)
     → i + 1 < length before → byte ≡ bool_byte b → b ≡ p i
-    → (j : ℕ) → j ≤ i + 1 → get_or (set before (i + 1) (get_or before i 0 + byte)) j 0 ≡ counted p j
+    → (j : ℕ) → j ≤ i + 1 → get_or (set before (i + 1) (get_or before i 0 + byte)) j 0 ≡ count_below p j
 count_next p before i byte b are inside is holds j low = elim (cases_eq j (i + 1)) [
   | inl here ↦ (let next : suc i ≡ i + 1 = omega arith in
       ap (λ x. get_or (set before (i + 1) (get_or before i 0 + byte)) x 0) here
       ∙ get_or-set_same before (i + 1) (get_or before i 0 + byte) 0 inside
-      ∙ ap (λ x. x + byte) (are i (omega arith)) ∙ ap (λ x. counted p i + x) (is ∙ byte_is b ∙ ap one holds) ∙ ap (counted p) next
-      ∙ ap (counted p) (sym here))
+      ∙ ap (λ x. x + byte) (are i (omega arith)) ∙ ap (λ x. count_below p i + x) (is ∙ byte_is b ∙ ap one holds) ∙ ap (count_below p) next
+      ∙ ap (count_below p) (sym here))
   | inr other ↦ get_or-set_other before (i + 1) j (get_or before i 0 + byte) 0 other ∙ are j (omega arith)
 ]
 
 -- a list that has the counts, and the places where an arc starts and ends
 module _ (n : ℕ) (p : ℕ → Bool) (c : Provisioned) (before : List ℕ)
-    (counts : (i : ℕ) → i ≤ 2 * n → get_or before i 0 ≡ counted (λ j. p (j % n)) i)
+    (counts : (i : ℕ) → i ≤ 2 * n → get_or before i 0 ≡ count_below (λ j. p (j % n)) i)
     (first spans : ℕ) (first_at : first ≡ (arc_of n c).start) (spans_at : spans ≡ (arc_of n c).spans) (from : first < n)
     (within : spans < n) where
   abbrev inside : ℕ
@@ -146,21 +146,21 @@ module _ (n : ℕ) (p : ℕ → Bool) (c : Provisioned) (before : List ℕ)
   pub never_less : get_or before first 0 ≤ get_or before (first + spans) 0
   never_less = omega (arith, counts first (omega arith), counts (first + spans) (omega arith), grows round_p first spans)
 
-  inside_at : counted round_p ((arc_of n c).start + (arc_of n c).spans) - counted round_p (arc_of n c).start ≡ inside
+  inside_at : count_below round_p ((arc_of n c).start + (arc_of n c).spans) - count_below round_p (arc_of n c).start ≡ inside
   inside_at =
-      let high : counted round_p ((arc_of n c).start + (arc_of n c).spans) ≡ get_or before (first + spans) 0 =
-      ap (λ x. counted round_p (x + (arc_of n c).spans)) (sym first_at) ∙ ap (λ x. counted round_p (first + x)) (sym spans_at)
+      let high : count_below round_p ((arc_of n c).start + (arc_of n c).spans) ≡ get_or before (first + spans) 0 =
+      ap (λ x. count_below round_p (x + (arc_of n c).spans)) (sym first_at) ∙ ap (λ x. count_below round_p (first + x)) (sym spans_at)
       ∙ sym (counts (first + spans) (omega arith)) in
-      let low : counted round_p (arc_of n c).start ≡ get_or before first 0 =
-      ap (counted round_p) (sym first_at) ∙ sym (counts first (omega arith)) in
-      ap (λ x. x - counted round_p (arc_of n c).start) high ∙ ap (λ x. get_or before (first + spans) 0 - x) low
+      let low : count_below round_p (arc_of n c).start ≡ get_or before first 0 =
+      ap (count_below round_p) (sym first_at) ∙ sym (counts first (omega arith)) in
+      ap (λ x. x - count_below round_p (arc_of n c).start) high ∙ ap (λ x. get_or before (first + spans) 0 - x) low
 
   clear_is : is_clear n p (arc_of n c) ≡ nat_eq inside 0
   clear_is = clear_by n p (arc_of n c) ∙ ap (λ x. nat_eq x 0) inside_at
 
   opposite_is : is_clear n p (opposite_arc n (arc_of n c)) ≡ nat_eq (get_or before n 0) inside
   opposite_is =
-      opposite_by n p (arc_of n c) (omega (arith, spans_at)) ∙ ap (nat_eq (counted round_p n)) inside_at
+      opposite_by n p (arc_of n c) (omega (arith, spans_at)) ∙ ap (nat_eq (count_below round_p n)) inside_at
       ∙ ap (λ x. nat_eq x inside) (sym (counts n (omega arith)))
 
   abbrev by_tests : Bool → Bool → Verdict

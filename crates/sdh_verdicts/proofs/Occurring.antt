@@ -28,17 +28,17 @@ use Rattle.sdh_verdicts.specs.declared.judging.Verdict.TheVariants.{Over}
 use Rattle.sdh_verdicts.specs.Failures.{IsFailureIn}
 use Rattle.sdh_verdicts.specs.Verdicts.{verdict_of, hops_of}
 use Rattle.sdh_verdicts.specs.Laws.{longer_plan, HasRoom, LongerPlansArePlans, CasesAreShown}
-use Rattle.sdh_verdicts.specs.Occurring.{c1, three, cut, CaseOccurs}
+use Rattle.sdh_verdicts.specs.Occurring.{c1, three_nodes_plan, cut, CaseOccurs}
 
 -- ---- the plan
 
-id_at : (i : ℕ) → i < length three.nodes → slice_index three.nodes i ≡ i + 1
+id_at : (i : ℕ) → i < length three_nodes_plan.nodes → slice_index three_nodes_plan.nodes i ≡ i + 1
 id_at zero h = refl
 id_at (suc zero) h = refl
 id_at (suc (suc zero)) h = refl
 id_at (suc (suc (suc i))) h = absurd (omega arith)
 
-ids_are : AreIds three.nodes
+ids_are : AreIds three_nodes_plan.nodes
 ids_are = record {
   few = omega arith;
   enough = omega arith;
@@ -64,10 +64,10 @@ circuits_are = record {
   apart = λ i j s c d e f x y same. only i c e ∙ sym (only j d f);
 }
 
-provisioning_is : IsProvisioning (provisioning_of three)
+provisioning_is : IsProvisioning (provisioning_of three_nodes_plan)
 provisioning_is = record { rate = inl refl; ring_small = (let few : 3 ≤ 16 = omega arith in few); empty = tt; circuits = circuits_are }
 
-is_planned : IsPlanned three
+is_planned : IsPlanned three_nodes_plan
 is_planned = record {
   threshold_from_1 = omega arith;
   threshold_small = omega arith;
@@ -88,10 +88,10 @@ is_planned = record {
   last_settles = refl;
 }
 
-is_case : All (IsFailureIn (length three.nodes)) cut
+is_case : All (IsFailureIn (length three_nodes_plan.nodes)) cut
 is_case = All-cons (IsFailureIn 3) (Span (position_of 0)) [] (omega arith) (All-nil (IsFailureIn 3))
 
-has_room : HasRoom three cut 1000
+has_room : HasRoom three_nodes_plan cut 1000
 has_room = record {
   steps = (let few : 5 ≤ 999 = omega arith in few);
   settles = (let few : 1 ≤ 63 = omega arith in few);
@@ -113,13 +113,13 @@ abbrev report : ℕ → ℕ → List Stretch → PortReport
 report number t ss = record {
   number = number;
   round = t;
-  ports = owed_ports 3 (is_applied (requests_by (ring_of three) ss t)) (happened ss) t 0 (c1 ∷ []);
+  ports = owed_ports 3 (is_applied (requests_by (ring_of three_nodes_plan) ss t)) (happened ss) t 0 (c1 ∷ []);
 }
 
 abbrev reports : List PortReport
 reports = report 1 128 (scene ∷ []) ∷ report 2 256 (scene ∷ failing ∷ []) ∷ []
 
-are_owed : OwesAll (longer_plan three cut 1000) reports status.Ok
+are_owed : OwesAll (longer_plan three_nodes_plan cut 1000) reports status.Ok
 are_owed = (
   refl,
   record { window = omega arith; within = omega arith; multiple = refl },
@@ -129,11 +129,11 @@ are_owed = (
 
 -- ---- the verdict in the case
 
-goes_round : verdict_of three cut c1 ≡ Over
+goes_round : verdict_of three_nodes_plan cut c1 ≡ Over
 unfolding span_requests cells applies is_clear is_joined
 goes_round = refl
 
-three_spans : hops_of three cut c1 ≡ 3
+three_spans : hops_of three_nodes_plan cut c1 ≡ 3
 unfolding span_requests cells applies is_clear is_joined hops
 three_spans = refl
 
@@ -142,10 +142,10 @@ a_case_occurs plans shows = record {
   planned = is_planned;
   case = is_case;
   room = has_room;
-  longer = (plans three cut 1000 is_planned is_case).1 has_room;
+  longer = (plans three_nodes_plan cut 1000 is_planned is_case).1 has_room;
   reports = reports;
   owe = are_owed;
-  shown = shows three cut is_planned 1000 reports are_owed;
+  shown = shows three_nodes_plan cut is_planned 1000 reports are_owed;
   over = goes_round;
   hops = three_spans;
 }

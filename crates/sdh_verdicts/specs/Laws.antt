@@ -73,7 +73,7 @@ ports_told plan case before t index (c ∷ cs) =
 -- The last of these reports shows each port as its circuit's verdict in the case says. The verdicts follow from the
 -- requests in that report's round and the spans that are applied under them. What had happened at the ports follows
 -- from the changes of the longer script and the rounds of the reports.
-pub record IsShown (plan : Planned) (case : List Failure) (reports : List PortReport) : Type 0 where
+pub record IsShownInCase (plan : Planned) (case : List Failure) (reports : List PortReport) : Type 0 where
   pub foretold : IsLastForetold (ring_of plan) (scenes_with plan case) reports
   pub ports : foretold.last.ports
       ≡ ports_told plan case (happened (stretches_by [] (scenes_with plan case) reports)) foretold.last.round 0 plan.circuits
@@ -85,7 +85,7 @@ pub record IsShown (plan : Planned) (case : List Failure) (reports : List PortRe
 -- they owe, the last of them shows each port as its circuit's verdict in the case says.
 abbrev pub CaseIsShown : Planned → List Failure → Type 0
 CaseIsShown plan case = (limit : ℕ) (reports : List PortReport) → OwesAll (longer_plan plan case limit) reports status.Ok
-    → IsShown plan case reports
+    → IsShownInCase plan case reports
 
 -- the last report shows what the verdicts say, for every plan and every case
 abbrev pub CasesAreShown : Type 0

@@ -122,9 +122,9 @@ pub record AreSidesOf (plan : Planned) (s : Sides) : Type 0 where
   pub rests : map resting_of s.rests.items ≡ cells (numbered plan) (2 * length plan.nodes)
 
 -- the number of places below k at which a test holds
-abbrev pub counted : (ℕ → Bool) → ℕ → ℕ
-counted p zero = 0
-counted p (suc k) = counted p k + (if p k then 1 else 0)
+abbrev pub count_below : (ℕ → Bool) → ℕ → ℕ
+count_below p zero = 0
+count_below p (suc k) = count_below p k + (if p k then 1 else 0)
 
 -- the places below k at which a test holds, in their order
 abbrev pub places_below : (ℕ → Bool) → ℕ → List ℕ
@@ -137,7 +137,7 @@ numbers_of spans = map (λ s. s.0) spans
 -- a is the set of the spans of a ring of n at which p holds: it has their number before each place, round the ring
 -- twice, and the spans themselves in their order
 pub record AreSpans (n : ℕ) (p : ℕ → Bool) (a : SpanSet) : Type 0 where
-  pub before : (i : ℕ) → i ≤ 2 * n → slice_index a.before i ≡ counted (λ j. p (j % n)) i
+  pub before : (i : ℕ) → i ≤ 2 * n → slice_index a.before i ≡ count_below (λ j. p (j % n)) i
   pub among : (s : ℕ) → s < n → is_among (take a.many a.spans) s ≡ p s
   pub listed : numbers_of (take a.many a.spans) ≡ places_below p n
   pub fit : a.many ≤ 16

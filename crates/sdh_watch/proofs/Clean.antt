@@ -23,7 +23,7 @@ use Rattle.sdh_node.specs.Rings.Rounds.{World, round}
 use Rattle.sdh_node.specs.Rings.Runs.{IsRound}
 use Rattle.sdh_node.specs.Rings.Quiet.{is_calm}
 use Rattle.sdh_laws.proofs.hearing.Signalling.{calm_rounds_are_still}
-use Rattle.sdh_laws.specs.Carrying.Windows.{Layout, layout_of, size_of, slots_of, HasCircuits, requests_of}
+use Rattle.sdh_laws.specs.Carrying.Windows.{Layout, layout_of, positions_of, slots_of, HasCircuits, span_requests_of}
 use Rattle.sdh_laws.specs.Carrying.Laws.{due_by_clocks, DeliversWhatIsDue}
 use Rattle.sdh_laws.proofs.carrying.Ways.{layout_round}
 use Rattle.sdh_laws.specs.Resting.Rest.{IsAtRest}
@@ -43,7 +43,7 @@ record At (clocks : PortId → ℕ → Clock) (w : World) (k : ℕ) (left : Worl
   rests : IsAtRest clocks left
   rounds : left.ring.rounds ≡ w.ring.rounds + k
   layout : layout_of left ≡ layout_of w
-  requests : requests_of left ≡ requests_of w
+  requests : span_requests_of left ≡ span_requests_of w
 
 one_more : (clocks : PortId → ℕ → Clock) (w mid left : World) (k : ℕ) → At clocks w k mid → IsRound mid left → At clocks w (suc k) left
 one_more clocks w mid left k at is =
@@ -54,7 +54,7 @@ one_more clocks w mid left k at is =
       rounds = ap (λ (v : World). v.ring.rounds) there ∙ rounds_more mid ∙ (let r = at.rounds in omega arith);
       layout = ap layout_of there ∙ layout_round mid ∙ at.layout;
       requests =
-          ap requests_of there ∙ (calm_rounds_are_still mid at.rests.whole (calm_of mid left there stays.calm)).requests ∙ at.requests;
+          ap span_requests_of there ∙ (calm_rounds_are_still mid at.rests.whole (calm_of mid left there stays.calm)).requests ∙ at.requests;
     }
   where
     calm_of : (mid left : World) → left ≡ round mid → is_calm left.ring.nodes ≡ true → is_calm (round mid).ring.nodes ≡ true
@@ -82,7 +82,7 @@ module _ (clocks : PortId → ℕ → Clock) (w : World) (form : HasCircuits (la
   sender = customer_at c (other_end e)
 
   abbrev applied : ℕ → Bool
-  applied = is_applied (requests_of w)
+  applied = is_applied (span_requests_of w)
 
   abbrev h : ℕ
   h = hops n applied (arc_of n c)
@@ -100,7 +100,7 @@ module _ (clocks : PortId → ℕ → Clock) (w : World) (form : HasCircuits (la
       let there : slice_get left.ring.circuits.circuits index ≡ Some c = ap (λ (l : Layout). slice_get l.circuits index) now.layout ∙ get in
       let round : left.ring.rounds - 1 ≡ w.ring.rounds + k = omega (arith, now.rounds) in
       stays.due index c there e
-      ∙ ap (λ m. due_by_clocks m (is_applied (requests_of left)) c e clock (left.ring.rounds - 1)) (ap size_of now.layout)
+      ∙ ap (λ m. due_by_clocks m (is_applied (span_requests_of left)) c e clock (left.ring.rounds - 1)) (ap positions_of now.layout)
       ∙ ap (λ rs. due_by_clocks n (is_applied rs) c e clock (left.ring.rounds - 1)) now.requests
       ∙ ap (due_by_clocks n applied c e clock) round
 
@@ -178,17 +178,17 @@ pub rest_shows : (clocks : PortId → ℕ → Clock) (w left : World) (heard : P
     → GoesPlainly (clocks (record { circuit = index; end = other_end e })) (customer_at c (other_end e)).offset
     (w.ring.rounds - 2 * length w.ring.ids)
     → port_watched left.ring heard index c e ≡ clean_watch c.name e
-    (due_by_clocks (length w.ring.ids) (is_applied (requests_of left)) c e (clocks (record { circuit = index; end = other_end e }))
+    (due_by_clocks (length w.ring.ids) (is_applied (span_requests_of left)) c e (clocks (record { circuit = index; end = other_end e }))
     (left.ring.rounds - 1))
 rest_shows clocks w left heard form rests lead index c get e late plainly =
     let at = at_lead clocks w rests 128 left heard lead in
     let n = length w.ring.ids in
     let clock = clocks (record { circuit = index; end = other_end e }) in
     let last : left.ring.rounds - 1 ≡ w.ring.rounds + 127 = omega (arith, at.rounds) in
-    let same : due_by_clocks n (is_applied (requests_of left)) c e clock (left.ring.rounds - 1)
-    ≡ due_by_clocks n (is_applied (requests_of w)) c e clock (w.ring.rounds + 127) =
+    let same : due_by_clocks n (is_applied (span_requests_of left)) c e clock (left.ring.rounds - 1)
+    ≡ due_by_clocks n (is_applied (span_requests_of w)) c e clock (w.ring.rounds + 127) =
     ap₂ (λ rs t. due_by_clocks n (is_applied rs) c e clock t) at.requests last in
-    elim (cases_Bool (is_joined n (is_applied (requests_of w)) (arc_of n c))) [
+    elim (cases_Bool (is_joined n (is_applied (span_requests_of w)) (arc_of n c))) [
       | inl joined ↦ shows_joined clocks w form rests index c get e late plainly joined left heard lead
           ∙ sym (ap (clean_watch c.name e) same)
       | inr parted ↦ shows_parted clocks w form rests index c get e left heard lead parted ∙ sym (ap (clean_watch c.name e) same)
@@ -196,6 +196,6 @@ rest_shows clocks w left heard form rests lead index c get e late plainly =
 
 -- in the last of these rounds each port has delivered what it is owed
 pub last_due : (clocks : PortId → ℕ → Clock) (w left : World) (heard : PortId → List Given) (k : ℕ) → IsAtRest clocks w
-    → Lead (suc k) w left heard → DeliversWhatIsDue clocks left (requests_of left)
+    → Lead (suc k) w left heard → DeliversWhatIsDue clocks left (span_requests_of left)
 last_due clocks w left heard k rests (mid, before, lead, is, more) =
     (rest_goes_on mid left is clocks (at_lead clocks w rests k mid before lead).rests).due

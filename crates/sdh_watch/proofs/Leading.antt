@@ -15,7 +15,7 @@ use Rattle.sdh_rounds.proofs.Settling.{held_none}
 use Rattle.sdh_path.specs.History.{Given}
 use Rattle.sdh_scripts.proofs.Lists.{some_at}
 use Rattle.sdh_watch.specs.declared.ports.WatchPair.{WatchPair}
-use Rattle.sdh_watch.specs.Watching.{Lead, given_at}
+use Rattle.sdh_watch.specs.Watching.{Lead, given_of}
 use Rattle.sdh_watch.specs.Ports.{AreWatching, AreFew, Looked, Shown}
 use Rattle.sdh_node.proofs.RingLaws.Waiting.{none_round}
 
@@ -61,7 +61,7 @@ pub shown_more : (k : ℕ) (w mid left : World) (old new : List WatchPair) → S
     → ((i : ℕ) (before after : WatchPair) → slice_get old i ≡ Some before → slice_get new i ≡ Some after → Looked left.ring i before after)
     → Shown (k + 1) w left new
 shown_more k w mid left old new shown is many each =
-    let heard = λ (port : PortId). given_at left.ring port ∷ shown.heard port in
+    let heard = λ (port : PortId). given_of left.ring port ∷ shown.heard port in
     let lead : Lead (suc k) w left heard = (mid, shown.heard, shown.rounds, is, λ port. refl) in
     let on : suc k ≡ k + 1 = omega arith in
     record {

@@ -36,7 +36,7 @@ use Rattle.sdh_laws.proofs.hearing.Changes.{new_worlds_are_whole}
 use Rattle.sdh_laws.proofs.hearing.Requests.{after_last}
 use Rattle.sdh_laws.proofs.hearing.Staying.{left_run}
 use Rattle.sdh_laws.proofs.hearing.Steady.{none_wait}
-use Rattle.sdh_laws.specs.Carrying.Windows.{Layout, layout_in, layout_of, size_of, HasCircuits, requests_of}
+use Rattle.sdh_laws.specs.Carrying.Windows.{Layout, layout_in, layout_of, positions_of, HasCircuits, span_requests_of}
 use Rattle.sdh_laws.specs.Carrying.Laws.{due_by_clocks, IsRestored, SettledRingsRestore}
 use Rattle.sdh_laws.proofs.carrying.Owed.{port_is_there, offset_small}
 use Rattle.sdh_laws.proofs.carrying.Ways.{layout_run}
@@ -143,7 +143,7 @@ module _ (law : SettledRingsRestore) (rest : StepsLeaveAtRest) (s : Settings) (i
     long : w.ring.rounds + 128 ≤ mid.ring.rounds
     long =
         (long_step w.ring mid.ring limit h.begins (settled_numbers adm w mid limit
-        (omega (arith, ap size_of layout_w, may.ids_ok.enough)) settles)).1
+        (omega (arith, ap positions_of layout_w, may.ids_ok.enough)) settles)).1
 
     known : (k : ℕ) × (mid ≡ run k w) × (mid.ring.rounds ≡ w.ring.rounds + k)
     known =
@@ -201,7 +201,7 @@ module _ (law : SettledRingsRestore) (rest : StepsLeaveAtRest) (s : Settings) (i
     }
       where
         ids_few : length (run stretch.rounds v).ring.ids ≤ 16
-        ids_few = omega (arith, may.ids_ok.few, ap (λ (x : World). length x.ring.ids) (sym left_is) ∙ ap size_of layout_left)
+        ids_few = omega (arith, may.ids_ok.few, ap (λ (x : World). length x.ring.ids) (sym left_is) ∙ ap positions_of layout_left)
 
         calm_at : (j : ℕ) → last.rounds < j → j ≤ stretch.rounds → IsCalm (course v) j
         calm_at j low high =
@@ -248,7 +248,7 @@ module _ (law : SettledRingsRestore) (rest : StepsLeaveAtRest) (s : Settings) (i
       there_w : HasPortIn w.ring far
       there_w =
           port_is_there w whole_w index c e (at_layout w layout_w)
-          (subst (λ (y : Layout). port_at c e < size_of y) (sym layout_w)
+          (subst (λ (y : Layout). port_at c e < positions_of y) (sym layout_w)
           (end_inside (length ids) _ circuits.circuits form index c get e))
 
       small : (customer_at c e).offset ≤ 782
@@ -272,7 +272,7 @@ module _ (law : SettledRingsRestore) (rest : StepsLeaveAtRest) (s : Settings) (i
           subst (IsInStep (customer_at c e).offset) (sym told) (step_first (customer_at c e).offset far ss (rounds_in ss) small)
 
       n_few : length mid.ring.ids ≤ 16
-      n_few = omega (arith, may.ids_ok.few, ap size_of layout_mid)
+      n_few = omega (arith, may.ids_ok.few, ap positions_of layout_mid)
 
       goes_plainly : GoesPlainly (clocks_from w far) (customer_at c e).offset (mid.ring.rounds - 2 * length mid.ring.ids)
       goes_plainly =
@@ -297,7 +297,7 @@ module _ (law : SettledRingsRestore) (rest : StepsLeaveAtRest) (s : Settings) (i
         rest_shows (clocks_from w) mid left heard (subst HasCircuits (sym layout_mid) form) rests lead index c here e late
         (goes_plainly index c first (other_end e))
         ∙ ap (clean_watch c.name e) (
-        ap (λ m. due_by_clocks m (is_applied (requests_of left)) c e clocks t) (ap size_of (layout_mid ∙ sym layout_left))
+        ap (λ m. due_by_clocks m (is_applied (span_requests_of left)) c e clocks t) (ap positions_of (layout_mid ∙ sym layout_left))
         ∙ sym (last_due (clocks_from w) mid left heard 127 rests lead index c get e)
         ∙ restored.ports index c get e
         ∙ due_told n (is_applied requests) circuits.circuits now index c e t first (small index c first (other_end e))
@@ -311,7 +311,7 @@ module _ (law : SettledRingsRestore) (rest : StepsLeaveAtRest) (s : Settings) (i
         let same : k ≡ 0 + k = omega arith in
         subst (λ i. port_watched left.ring heard i c e ≡ owed_watch
         (owed_port (length left.ring.ids) (is_applied requests) (happened now) t i c e)) same (watch_is k c get e)))
-        ∙ ap (λ (y : Layout). map owed_watch (owed_ports (size_of y) (is_applied requests) (happened now) t 0 y.circuits)) layout_left
+        ∙ ap (λ (y : Layout). map owed_watch (owed_ports (positions_of y) (is_applied requests) (happened now) t 0 y.circuits)) layout_left
 
   walk : (limit before : ℕ) (past : Past) (earlier : List Stretch) (changes : List Change) (steps : List Step) (w : World)
       (reports : List Watched) (end : Status) (left : World)

@@ -12,7 +12,7 @@ use Rattle.sdh_scripts.proofs.Plans.{tells_all}
 use Rattle.sdh_owed.proofs.Plans.{adm_new, may_start, circuits_fit}
 use Rattle.sdh_owed.specs.Plans.{world_of}
 use Rattle.sdh_watch.specs.Shows.{Watched}
-use Rattle.sdh_watch.specs.Laws.{WatchesAreClean, ScriptsSettle}
+use Rattle.sdh_watch.specs.Laws.{WatchesAreClean, WatchedScriptsSettle}
 use Rattle.sdh_watch.specs.Scripts.{watch_walk}
 use Rattle.sdh_watch.proofs.Known.{keeps_rounds}
 use Rattle.sdh_watch.proofs.Owing.{clean_none}
@@ -31,7 +31,7 @@ module _ (plan : Planned) (f left : Fibres) (reports : List Watched) (end : Stat
 
 -- ---- all that is reported
 
-pub tells : WatchesAreClean → ScriptsSettle → (plan : Planned) (f left : Fibres) (text : List ℕ) (end : Status) → IsPlanned plan
+pub tells : WatchesAreClean → WatchedScriptsSettle → (plan : Planned) (f left : Fibres) (text : List ℕ) (end : Status) → IsPlanned plan
     → (f.honest ≡ true → IsHonest f)
     → Came watch_walk plan.limit watched_text plan.steps (world_of plan f) f text end left → Tells plan f text end left
 tells owed settles plan f left text end fits honest x =

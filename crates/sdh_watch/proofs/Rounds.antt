@@ -13,7 +13,7 @@ use Rattle.sdh_scripts.specs.Scripts.{Ended, BreaksBehind}
 use Rattle.sdh_scripts.proofs.Frames.{run_on, take_past}
 use Rattle.sdh_path.specs.History.{Given}
 use Rattle.sdh_watch.specs.Shows.{Watched}
-use Rattle.sdh_watch.specs.Watching.{given_at, Lead, BreaksAmong, heard_in, watched, watched_in}
+use Rattle.sdh_watch.specs.Watching.{given_of, Lead, BreaksAmong, heard_in, watched, watched_in}
 use Rattle.sdh_watch.specs.Scripts.{watch_walk}
 use Rattle.sdh_watch.proofs.Known.{heard_same}
 
@@ -61,7 +61,7 @@ led_by (suc k) w left heard (mid, before, lead, is, more) =
       count = size;
       left_is = here;
       heard_is = λ port. more port
-          ∙ ap₂ (λ (v : World) l. given_at v.ring port ∷ l) last
+          ∙ ap₂ (λ (v : World) l. given_of v.ring port ∷ l) last
           (led.heard_is port ∙ heard_same k (course_with old w) (course_with all w) port
           (λ j h. course_more adm old is.arrivals w j (omega (arith, h, c))));
     }

@@ -20,13 +20,13 @@ use Rattle.sdh_plan.specs.Steps.{Past, after}
 use Rattle.sdh_plan.specs.Scripts.{AreSteps}
 use Rattle.sdh_status.specs.declared.Status.{Status}
 use Rattle.sdh_status.specs.declared.Status.TheVariants as status
-use Rattle.sdh_scripts.specs.Outcomes.{IsSettled}
+use Rattle.sdh_scripts.specs.Outcomes.{AllSettled}
 use Rattle.sdh_scripts.proofs.Outcomes.{refused_ends, settled_by, ok_settles, fault_settles}
 use Rattle.sdh_owed.proofs.Standing.{Stands, changed_then, stands_new}
 use Rattle.sdh_owed.proofs.Settling.{never}
 use Rattle.sdh_watch.specs.Shows.{Watched}
 use Rattle.sdh_watch.specs.Scripts.{Watches}
-use Rattle.sdh_watch.specs.Laws.{ScriptsSettle}
+use Rattle.sdh_watch.specs.Laws.{WatchedScriptsSettle}
 use Rattle.sdh_watch.proofs.Rounds.{watched_by}
 use Rattle.sdh_watch.proofs.Owing.{stands}
 
@@ -38,7 +38,7 @@ module _ (converge : StretchesConverge) (law : SettledRingsRestore) (rest : Step
   walk : (limit before : ℕ) (past : Past) (earlier : List Stretch) (changes : List Change) (steps : List Step) (w : World)
       (reports : List Watched) (end : Status) (left : World)
       → Now past earlier changes w → AreSteps s.rate (length ids) (length circuits.circuits) past steps → enough_for (length ids) ≤ limit
-      → Watches limit before steps w reports end left → IsSettled end
+      → Watches limit before steps w reports end left → AllSettled end
   walk limit before past earlier changes [] w reports end left h each large x = settled_by end status.Ok x.1.1 ok_settles
   walk limit before past earlier changes (step.Settle ∷ later) w reports end left h each large
       (inl (told, next, others, ended, told_is, x)) =
@@ -56,7 +56,7 @@ module _ (converge : StretchesConverge) (law : SettledRingsRestore) (rest : Step
         | inr refused ↦ settled_by end status.PlantFault (refused_ends this w reports end left refused).1 fault_settles
       ]
 
-pub scripts_settle : StretchesConverge → SettledRingsRestore → StepsLeaveAtRest → ScriptsSettle
+pub scripts_settle : StretchesConverge → SettledRingsRestore → StepsLeaveAtRest → WatchedScriptsSettle
 scripts_settle converge law rest s ids circuits f may form limit past steps each large reports end left x =
     walk converge law rest s ids circuits f may form limit 0 past [] [] steps (new_world s ids circuits f) reports end left
     (stands_new s ids circuits f may past) each large x

@@ -14,7 +14,7 @@ use Rattle.sdh_plan.specs.Scripts.{AreSteps}
 use Rattle.sdh_status.specs.declared.Status.{Status}
 use Rattle.sdh_promise.specs.Scenes.{scenes}
 use Rattle.sdh_rounds.specs.Quiet.{enough_for}
-use Rattle.sdh_scripts.specs.Outcomes.{IsSettled}
+use Rattle.sdh_scripts.specs.Outcomes.{AllSettled}
 use Rattle.sdh_owed.specs.Laws.{ring_by}
 use Rattle.sdh_watch.specs.Shows.{Watched}
 use Rattle.sdh_watch.specs.Scripts.{Watches}
@@ -30,9 +30,9 @@ WatchesAreClean = (s : Settings) (ids : List ℕ) (circuits : Provisioning) (f :
     → AreClean (ring_by s (length ids) circuits.circuits) limit [] 0 (scenes [] steps) reports end)
 
 -- from a new ring over new honest fibres no settle step with a limit that is always enough is unsettled
-abbrev pub ScriptsSettle : Type 0
-ScriptsSettle = (s : Settings) (ids : List ℕ) (circuits : Provisioning) (f : Fibres) → (let l = layout_in (new_ring s ids circuits) in
+abbrev pub WatchedScriptsSettle : Type 0
+WatchedScriptsSettle = (s : Settings) (ids : List ℕ) (circuits : Provisioning) (f : Fibres) → (let l = layout_in (new_ring s ids circuits) in
     MayStart s ids f → HasCircuits l → (limit : ℕ) (past : Past) (steps : List Step)
     → AreSteps s.rate (length ids) (length circuits.circuits) past steps → enough_for (length ids) ≤ limit
     → (reports : List Watched) (end : Status) (left : World) → Watches limit 0 steps (new_world s ids circuits f) reports end left
-    → IsSettled end)
+    → AllSettled end)

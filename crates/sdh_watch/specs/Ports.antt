@@ -8,7 +8,7 @@ use Rattle.sdh_node.specs.Rings.Held.{HeldRing}
 use Rattle.sdh_node.specs.Rings.Rounds.{World}
 use Rattle.sdh_path.specs.History.{Given}
 use Rattle.sdh_path.specs.Kept.{CameBy}
-use Rattle.sdh_watch.specs.Watching.{given_at, Lead}
+use Rattle.sdh_watch.specs.Watching.{given_of, Lead}
 use Rattle.sdh_watch.specs.declared.ports.WatchPair.{WatchPair}
 
 -- The watches on both ports of a circuit keep what follows from what was given to them. Each expects the trace of the
@@ -31,8 +31,8 @@ AreFew k watches = (i : ℕ) (both : WatchPair) → slice_get watches i ≡ Some
 
 -- the watches on both ports of circuit number `index` were given what these ports delivered in the last round of a ring
 pub record Looked (r : HeldRing) (index : ℕ) (before after : WatchPair) : Type 0 where
-  pub a : (trace : List ℕ) (past : List Given) → CameBy trace past before.a → CameBy trace (given_at r (port_id index A) ∷ past) after.a
-  pub b : (trace : List ℕ) (past : List Given) → CameBy trace past before.b → CameBy trace (given_at r (port_id index B) ∷ past) after.b
+  pub a : (trace : List ℕ) (past : List Given) → CameBy trace past before.a → CameBy trace (given_of r (port_id index A) ∷ past) after.a
+  pub b : (trace : List ℕ) (past : List Given) → CameBy trace past before.b → CameBy trace (given_of r (port_id index B) ∷ past) after.b
   pub few_a : after.a.chunks ≤ before.a.chunks + 1
   pub few_b : after.b.chunks ≤ before.b.chunks + 1
 

@@ -8,14 +8,14 @@ use Rattle.sdh_plan.specs.declared.step.Step.{Step}
 use Rattle.sdh_status.specs.declared.Status.{Status}
 use Rattle.sdh_scripts.specs.Walks.{Walk}
 use Rattle.sdh_scripts.specs.Scripts as scripts
-use Rattle.sdh_owed.specs.Steps.{after_step}
+use Rattle.sdh_owed.specs.Steps.{world_after_step}
 use Rattle.sdh_watch.specs.Shows.{Watched}
 use Rattle.sdh_watch.specs.Watching.{watched_in}
 
 abbrev pub watch_walk : Walk Node Watched
 watch_walk = record {
   station = adm;
-  does = after_step;
+  does = world_after_step;
   behind = 128;
   tells = watched_in;
   last = λ (r : Watched). r.round;

@@ -23,8 +23,8 @@ abbrev pub given_as : ℕ → Delivered → Given
 given_as value delivered.Ais = Ais
 given_as value (delivered.Chunk bytes) = if length bytes == 2349 then Chunk bytes value else Ais
 
-abbrev pub given_at : HeldRing → PortId → Given
-given_at r port = given_as (outlet_at r port).value (outlet_at r port).delivered
+abbrev pub given_of : HeldRing → PortId → Given
+given_of r port = given_as (outlet_at r port).value (outlet_at r port).delivered
 
 -- a number of rounds lead from a world to another, whatever arrives in them, and this is what is given to the watch on
 -- each port, the latest first
@@ -32,12 +32,12 @@ abbrev pub Lead : ℕ → World → World → (PortId → List Given) → Type 0
 Lead zero w left heard = (left ≡ w) × ((port : PortId) → heard port ≡ [])
 Lead (suc k) w left heard =
     (mid : World) × (before : PortId → List Given) × Lead k w mid before × IsRound mid left
-    × ((port : PortId) → heard port ≡ given_at left.ring port ∷ before port)
+    × ((port : PortId) → heard port ≡ given_of left.ring port ∷ before port)
 
 -- what is given in the first rounds of a course, which gives the world after each number of rounds
 abbrev pub heard_in : ℕ → (ℕ → World) → PortId → List Given
 heard_in zero at port = []
-heard_in (suc k) at port = given_at (at (suc k)).ring port ∷ heard_in k at port
+heard_in (suc k) at port = given_of (at (suc k)).ring port ∷ heard_in k at port
 
 -- a fault broke one of k rounds off, and left these fibres
 pub record BreaksAmong (k : ℕ) (w : World) (left : Fibres) : Type 0 where

@@ -11,7 +11,7 @@ ghost use Rattle.sdh_circuits.specs.Ends.{other_end};
 ghost use Rattle.sdh_node.specs.Rings.Rounds.{world};
 ghost use Rattle.sdh_path.specs.History.{Given};
 ghost use Rattle.sdh_path.specs.Kept.{CameBy};
-ghost use Rattle.sdh_watch.specs.Watching.{given_at, port_watched, ports_watched, BreaksAmong};
+ghost use Rattle.sdh_watch.specs.Watching.{given_of, port_watched, ports_watched, BreaksAmong};
 ghost use Rattle.sdh_watch.specs.Lines.{told_line};
 ghost use Rattle.sdh_watch.specs.Ports.{IsWatching, AreWatching, AreFew, Looked, Shown};
 ghost use Rattle.sdh_watch.specs.declared.ports.WatchPair.{WatchPair};
@@ -85,7 +85,7 @@ fn look(watch: &mut Watch, ring: &Ring, port: PortId)
     requires port { port.circuit < length ring.now.circuits.circuits }
     requires few { watch.old.chunks < 1000000 }
     ensures history { (trace : List ℕ) (past : List Given) → CameBy trace past watch.old
-        → CameBy trace (given_at ring.now port ∷ past) watch.new }
+        → CameBy trace (given_of ring.now port ∷ past) watch.new }
     ensures few { watch.new.chunks ≤ watch.old.chunks + 1 }
 {
     match ring.port(port) {

@@ -1,6 +1,6 @@
 //! What the program does with a plan.
 ghost use Rattle.std.specs.Prelude.{refl};
-ghost use Rattle.sdh_scripts.specs.NewRuns.{IsOf};
+ghost use Rattle.sdh_scripts.specs.NewRuns.{IsRunOfPlan};
 ghost use Rattle.sdh_programs.specs.Calls.{never_cut};
 ghost use Rattle.sdh_watch.specs.Shows.{Watched};
 ghost use Rattle.sdh_watch.specs.Running.{running_ring};
@@ -38,7 +38,7 @@ impl<'a, P: Plant> Program<'a, Text, P> for Watching {
 
     ghost ask_of = { λ asked. tt };
 
-    ghost Begins = { λ listing plan run. IsOf running_ring watch_account plan run };
+    ghost Begins = { λ listing plan run. IsRunOfPlan running_ring watch_account plan run };
 
     ghost Leaves = { λ told end ring. Unit {0} };
 

@@ -1,6 +1,6 @@
 //! The run of a plan, before its fibres are there: its watches and its ring are made, and room for their lines.
 ghost use Rattle.std.specs.Prelude.{◌≡◌, ◌≤◌, length, IfOk};
-ghost use Rattle.sdh_scripts.specs.NewRuns.{MayStart, IsOf};
+ghost use Rattle.sdh_scripts.specs.NewRuns.{MayStartRun, IsRunOfPlan};
 ghost use Rattle.sdh_scripts.specs.Ports.{lines_room};
 ghost use Rattle.sdh_scripts.specs.Texts.{room_for};
 ghost use Rattle.sdh_watch.specs.Running.{running_ring, MayWatch};
@@ -16,8 +16,8 @@ use std::alloc::{AllocError, Global};
 
 /// Returns the run of a plan. All memory is taken here, that for the text of all watches too.
 pub fn new_run(alloc: Global, plan: Plan, text: &mut Text) -> Result<NewRun<WatchRun>, AllocError>
-    ensures is_of { IfOk result (IsOf running_ring watch_account plan) }
-    ensures ready { IfOk result (λ new. MayStart running_ring MayWatch new.runner new.script) }
+    ensures is_of { IfOk result (IsRunOfPlan running_ring watch_account plan) }
+    ensures ready { IfOk result (λ new. MayStartRun running_ring MayWatch new.runner new.script) }
     ensures room { IfOk result
         (λ new. room_for (lines_room (length new.runner.ring.circuits.circuits)) 0 ≤ text.new.room) }
     ensures bytes { text.new.bytes ≡ text.old.bytes }

@@ -8,7 +8,7 @@ ghost use Rattle.sdh_programs.specs.Outcome.{Answers};
 ghost use Rattle.sdh_programs.specs.Headline.{Shows, AlwaysSettles};
 ghost use Rattle.sdh_watch.specs.Plans.{ShowsClean};
 ghost use Rattle.sdh_watch.specs.Headline.{asked, watching, IsNumberOf, EndsAsItRuns};
-ghost use Rattle.sdh_shell.specs.Kept.{around};
+ghost use Rattle.sdh_shell.specs.Kept.{seen_around};
 ghost use Rattle.sdh_programs.specs.Calls.{KeepsCall, never_cut};
 
 use crate::program::Watching;
@@ -53,8 +53,8 @@ pub fn sdhwatch<R: Source, W: Sink, P: Plant>(
     // cause, what isn't asked for stays as it was, and where all that a run needs is given, and no call fails, all is
     // done.
     ensures kept { IsNumberOf result (λ how. KeepsCall watching never_cut (asked (words_of words.now))
-        (around R.faults R.exact R.left source.old source.new)
-        (around W.faults W.exact W.written sink.old sink.new) (around P.faults P.exact P.fibres plant.old plant.new) how) }
+        (seen_around R.faults R.exact R.left source.old source.new)
+        (seen_around W.faults W.exact W.written sink.old sink.new) (seen_around P.faults P.exact P.fibres plant.old plant.new) how) }
 {
     call::<P, Watching, R, W>(alloc, words, source, sink, plant).number()
 }

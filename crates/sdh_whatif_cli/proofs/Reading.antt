@@ -30,7 +30,7 @@ use Rattle.sdh_verdicts.specs.declared.failure.Failure.{Failure}
 use Rattle.sdh_verdicts.specs.declared.failure.Failure.TheVariants.{Degraded, Cut, Span, Node, Manual, Forced}
 use Rattle.sdh_verdicts.specs.Failures.{IsFailureIn, condition_step, neighbour_position, steps_of, case_steps}
 use Rattle.sdh_whatif_cli.specs.declared.ask.Form.{Form}
-use Rattle.sdh_whatif_cli.specs.Lines.{step_quote, place_text, step_text, step_part, script_text}
+use Rattle.sdh_whatif_cli.specs.Lines.{step_quote, place_in_plan_text, step_text, step_part, script_text}
 use Rattle.sdh_whatif_cli.specs.Reading.{field_read, texts_in, steps_read, PassChecks}
 use Rattle.sdh_whatif_cli.proofs.Quoting.{settle, written, AllLack, between_steps, read_back, part_first, front_first}
 use Rattle.sdh_whatif_cli.proofs.Splitting.{lacks, lacks_both, split_at, split_none, IsRead, read, numeral_is}
@@ -111,7 +111,7 @@ module _ (plan : Planned) (fits : IsPlanned plan) where
   abbrev spaced : List ℕ → Pos → Side → List ℕ
   spaced verb at side = verb ++ (word at ++ (codes " " ++ side_text side))
 
-  spaced_is : (verb : List ℕ) (at : Pos) (side : Side) → place_text plan.nodes verb at side ≡ spaced verb at side
+  spaced_is : (verb : List ℕ) (at : Pos) (side : Side) → place_in_plan_text plan.nodes verb at side ≡ spaced verb at side
   spaced_is verb at side =
       append_assoc (verb ++ word at) (codes " ") (side_text side) ∙ append_assoc verb (word at) (codes " " ++ side_text side)
 
@@ -172,7 +172,7 @@ module _ (plan : Planned) (fits : IsPlanned plan) where
 
   -- a step of a verb, a node and a side
   reads_placed : (verb : List ℕ) (s : Step) (at : Pos) (side : Side) → IsIn at → lacks 32 verb ≡ true → lacks 34 (verb ++ codes " ") ≡ true
-      → step_text plan.nodes s ≡ place_text plan.nodes (verb ++ codes " ") at side
+      → step_text plan.nodes s ≡ place_in_plan_text plan.nodes (verb ++ codes " ") at side
       → form_step rate_n plan.nodes plan.circuits (placed verb at side) ≡ s → Passes (placed verb at side) → Reads s
   reads_placed verb s at side low spaces quotes part read passes =
       let ws : words (spaced (verb ++ codes " ") at side) ≡ placed verb at side =
@@ -233,7 +233,7 @@ module _ (plan : Planned) (fits : IsPlanned plan) where
   degraded at side = codes "degrade " ++ (word at ++ (codes " " ++ (side_text side ++ (codes " " ++ decimal threshold))))
 
   degraded_is : (at : Pos) (side : Side)
-      → place_text plan.nodes (codes "degrade ") at side ++ codes " " ++ decimal threshold ≡ degraded at side
+      → place_in_plan_text plan.nodes (codes "degrade ") at side ++ codes " " ++ decimal threshold ≡ degraded at side
   degraded_is at side =
       ap (λ l. l ++ codes " " ++ decimal threshold) (spaced_is (codes "degrade ") at side)
       ∙ ap (λ l. codes "degrade " ++ l) (append_assoc (word at ++ (codes " " ++ side_text side)) (codes " ") (decimal threshold)

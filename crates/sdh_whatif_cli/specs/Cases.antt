@@ -24,10 +24,10 @@ abbrev pub base : ℕ → ℕ → ℕ
 base n own = 10 * n + 1 + own
 
 -- the count of numbers that may stand for a case, by the depth: the numbers of one, two or three digits to the base b
-abbrev pub numbers_of : ℕ → Depth → ℕ
-numbers_of b Single = b
-numbers_of b Double = b * b
-numbers_of b Triple = b * b * b
+abbrev pub case_numbers : ℕ → Depth → ℕ
+case_numbers b Single = b
+case_numbers b Double = b * b
+case_numbers b Triple = b * b * b
 
 -- the digits of a number to the base b
 abbrev pub first : ℕ → ℕ → ℕ
@@ -60,19 +60,19 @@ abbrev pub failures_of : ℕ → List (List Failure) → Digits → List Failure
 failures_of n own ds = failures_at n own ds.first ++ (failures_at n own ds.second ++ failures_at n own ds.third)
 
 -- the kind of a failure
-abbrev pub kind_of : Failure → Kind
-kind_of (Degraded at side) = kind.Degraded
-kind_of (Cut at side) = kind.Fibres
-kind_of (Span at) = kind.Spans
-kind_of (Node at) = kind.Nodes
-kind_of (Manual at side) = kind.Manual
-kind_of (Forced at side) = kind.Forced
+abbrev pub failure_kind : Failure → Kind
+failure_kind (Degraded at side) = kind.Degraded
+failure_kind (Cut at side) = kind.Fibres
+failure_kind (Span at) = kind.Spans
+failure_kind (Node at) = kind.Nodes
+failure_kind (Manual at side) = kind.Manual
+failure_kind (Forced at side) = kind.Forced
 
 -- A failure of the ring is of a kind that is taken, and doesn't mend. It would mend where it takes the place of
 -- something worse that the script has set: a degradation of a cut fibre, or a manual switch of a side with a forced one
 -- (`mends`).
 abbrev pub is_ring_taken : Planned → Ask → Failure → Bool
-is_ring_taken plan ask failure = takes ask.kinds (kind_of failure) && not (mends plan failure)
+is_ring_taken plan ask failure = takes ask.kinds (failure_kind failure) && not (mends plan failure)
 
 -- A digit is nothing, or its failure is taken. A failure of the ring is taken if its kind is and it doesn't mend. The
 -- user's own failures are taken by their kind alone, also where one of them mends.

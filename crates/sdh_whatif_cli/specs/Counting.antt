@@ -29,19 +29,19 @@ same_fate Lost Lost = true
 same_fate f g = false
 
 -- the number of the plan's circuits with this fate
-abbrev pub count_of : Planned → List Failure → Fate → ℕ
-count_of plan case fate = count_by (λ c. same_fate fate (fate_of plan case c)) plan.circuits
+abbrev pub fate_count : Planned → List Failure → Fate → ℕ
+fate_count plan case fate = count_by (λ c. same_fate fate (fate_of plan case c)) plan.circuits
 
 -- the number of spans of the longest way, of the circuits whose ends are joined; 0 where none are
 abbrev pub longest_of : Planned → List Failure → ℕ
 longest_of plan case = highest (map (hops_of plan case) plan.circuits)
 
-abbrev pub counts_of : Planned → List Failure → Counts
-counts_of plan case = record {
-  kept = count_of plan case Kept;
-  impaired = count_of plan case Impaired;
-  over = count_of plan case Over;
-  lost = count_of plan case Lost;
+abbrev pub fate_counts : Planned → List Failure → Counts
+fate_counts plan case = record {
+  kept = fate_count plan case Kept;
+  impaired = fate_count plan case Impaired;
+  over = fate_count plan case Over;
+  lost = fate_count plan case Lost;
   hops = longest_of plan case;
 }
 

@@ -30,9 +30,9 @@ use Rattle.sdh_whatif_cli.specs.declared.counting.Fate.{Fate}
 use Rattle.sdh_whatif_cli.specs.declared.counting.Fate.TheVariants as fate
 use Rattle.sdh_whatif_cli.specs.declared.forms.Digits.{Digits}
 use Rattle.sdh_whatif_cli.specs.declared.forms.Entry.{Entry}
-use Rattle.sdh_whatif_cli.specs.Counting.{fate_of, counts_of}
+use Rattle.sdh_whatif_cli.specs.Counting.{fate_of, fate_counts}
 use Rattle.sdh_whatif_cli.specs.Singles.{singles_text}
-use Rattle.sdh_whatif_cli.specs.Cases.{numbers_of, is_of_ring, base_of, digits_at, case_at, entry_at}
+use Rattle.sdh_whatif_cli.specs.Cases.{case_numbers, is_of_ring, base_of, digits_at, case_at, entry_at}
 
 -- the texts as one, with `between` between each two of them
 abbrev pub joined : List ℕ → List (List ℕ) → List ℕ
@@ -83,18 +83,18 @@ failure_text nodes (Forced at side) = codes "forced " ++ toward_text nodes at si
 
 -- ---- steps, in the plan's own words
 
-abbrev pub place_text : List ℕ → List ℕ → Pos → Side → List ℕ
-place_text nodes verb at side = verb ++ id_text nodes at.0 ++ codes " " ++ side_text side
+abbrev pub place_in_plan_text : List ℕ → List ℕ → Pos → Side → List ℕ
+place_in_plan_text nodes verb at side = verb ++ id_text nodes at.0 ++ codes " " ++ side_text side
 
 abbrev pub fibre_text : List ℕ → Pos → Side → Condition → List ℕ
-fibre_text nodes at side condition.Clear = place_text nodes (codes "mend ") at side
-fibre_text nodes at side condition.Cut = place_text nodes (codes "cut ") at side
-fibre_text nodes at side (condition.Degraded k) = place_text nodes (codes "degrade ") at side ++ codes " " ++ decimal k
+fibre_text nodes at side condition.Clear = place_in_plan_text nodes (codes "mend ") at side
+fibre_text nodes at side condition.Cut = place_in_plan_text nodes (codes "cut ") at side
+fibre_text nodes at side (condition.Degraded k) = place_in_plan_text nodes (codes "degrade ") at side ++ codes " " ++ decimal k
 
 abbrev pub order_text : List ℕ → Pos → Side → Command → List ℕ
-order_text nodes at side command.Clear = place_text nodes (codes "clear ") at side
-order_text nodes at side command.Manual = place_text nodes (codes "manual ") at side
-order_text nodes at side command.Forced = place_text nodes (codes "forced ") at side
+order_text nodes at side command.Clear = place_in_plan_text nodes (codes "clear ") at side
+order_text nodes at side command.Manual = place_in_plan_text nodes (codes "manual ") at side
+order_text nodes at side command.Forced = place_in_plan_text nodes (codes "forced ") at side
 
 -- a fibre or a side that the step is about is one of a ring of n
 abbrev pub IsAt : ℕ → Step → Type 0
@@ -157,8 +157,8 @@ case_text f plan number ds case =
 
 -- the numbers of circuits that are kept, impaired, looped over protection and lost, and the number of spans of the
 -- longest way
-abbrev pub counts_text : Form → Counts → List ℕ
-counts_text f k =
+abbrev pub fate_counts_text : Form → Counts → List ℕ
+fate_counts_text f k =
     either f (codes ",\"kept\":") (codes ",") ++ decimal k.kept ++ either f (codes ",\"impaired\":") (codes ",") ++ decimal k.impaired
     ++ either f (codes ",\"over\":") (codes ",") ++ decimal k.over ++ either f (codes ",\"lost\":") (codes ",") ++ decimal k.lost
     ++ either f (codes ",\"hops\":") (codes ",") ++ decimal k.hops
@@ -187,7 +187,7 @@ fates_text f plan case = joined (either f (codes ",") []) (map (fate_text f plan
 -- the line of a case that these digits name, in a form and with the number that it has among those that are listed
 abbrev pub line_text : Planned → Digits → List Failure → Entry → List ℕ
 line_text plan ds case e =
-    case_text e.form plan e.number ds case ++ counts_text e.form (counts_of plan case) ++ either e.form (codes ",\"circuits\":{") []
+    case_text e.form plan e.number ds case ++ fate_counts_text e.form (fate_counts plan case) ++ either e.form (codes ",\"circuits\":{") []
     ++ fates_text e.form plan case ++ either e.form (codes "}}\n") (codes "\r\n")
 
 -- the line of the case of number c, where the case is listed in the part that is asked for, and else nothing
@@ -200,7 +200,7 @@ lines_below plan own ask zero = []
 lines_below plan own ask (suc k) = lines_below plan own ask k ++ line_at plan own ask k
 
 abbrev pub cases_text : Planned → List (List Failure) → Ask → List ℕ
-cases_text plan own ask = lines_below plan own ask (numbers_of (base_of plan own) ask.depth)
+cases_text plan own ask = lines_below plan own ask (case_numbers (base_of plan own) ask.depth)
 
 -- ---- all of it
 
@@ -209,11 +209,11 @@ abbrev pub head_record : Planned → List ℕ
 head_record plan =
     codes "number,failures,steps,applied,kept,impaired,over,lost,hops" ++ flat_map (λ c. codes "," ++ c.name) plan.circuits ++ codes "\r\n"
 
-abbrev pub table_of : Form → Planned → List (List Failure) → Ask → List ℕ
-table_of form.Table plan own ask = cases_text plan own ask
-table_of form.Headed plan own ask = head_record plan ++ cases_text plan own ask
-table_of form.Json plan own ask = cases_text plan own ask
-table_of form.Summary plan own ask = singles_text plan own ask.kinds
+abbrev pub cases_table : Form → Planned → List (List Failure) → Ask → List ℕ
+cases_table form.Table plan own ask = cases_text plan own ask
+cases_table form.Headed plan own ask = head_record plan ++ cases_text plan own ask
+cases_table form.Json plan own ask = cases_text plan own ask
+cases_table form.Summary plan own ask = singles_text plan own ask.kinds
 
 abbrev pub table_text : Planned → List (List Failure) → Ask → List ℕ
-table_text plan own ask = table_of ask.form plan own ask
+table_text plan own ask = cases_table ask.form plan own ask

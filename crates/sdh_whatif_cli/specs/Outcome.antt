@@ -32,8 +32,8 @@ abbrev pub of_plan : Planned → List (List ℕ) → Ask → Status × List ℕ
 of_plan plan texts ask = of_unknown (first_unknown plan.nodes texts) plan texts ask
 
 -- there is no plan, or it comes to this status and this text
-abbrev pub OfBytes : Ask → List (List ℕ) → List ℕ → Status → List ℕ → Type 0
-OfBytes ask texts bytes how text =
+abbrev pub CasesOfBytes : Ask → List (List ℕ) → List ℕ → Status → List ℕ → Type 0
+CasesOfBytes ask texts bytes how text =
     (HasNoPlan bytes how × (text ≡ refusal how)) ⊎ ((plan : Planned) × TellsPlan bytes plan × (how ≡ (of_plan plan texts ask).0)
     × (text ≡ (of_plan plan texts ask).1))
 
@@ -42,7 +42,7 @@ OfBytes ask texts bytes how text =
 -- outcome.
 abbrev pub IsOutcome : Option Ask → List (List ℕ) → List ℕ → Status → List ℕ → Type 0
 IsOutcome None texts bytes how text = (how ≡ status.Usage) × (text ≡ refusal status.Usage)
-IsOutcome (Some ask) texts bytes how text = OfBytes ask texts bytes how text
+IsOutcome (Some ask) texts bytes how text = CasesOfBytes ask texts bytes how text
 
 -- the bytes of the source are known and are those of a plan; there are up to 16 texts, and each names failures of its
 -- ring
@@ -57,7 +57,7 @@ told (Some ask) left = left
 
 -- a source and a sink, before a call and after it: whether their counts of faults are exact, the counts, the bytes that
 -- are left, and what was written, where they are known
-pub record Seen : Type 0 where
+pub record SeenOfCall : Type 0 where
   pub reads_exact : Bool
   pub reads : ℕ
   pub reads_after : ℕ
@@ -72,7 +72,7 @@ pub record Seen : Type 0 where
 -- A call in which memory didn't run out ended with a status, which its write may have kept it from telling: what is
 -- asked for, with which texts of the user's own failures, what was seen of the source and the sink, the status, and how
 -- the write of the text ended.
-pub record Ended {T E : Type 0} (ask : Option Ask) (texts : List (List ℕ)) (seen : Seen) (how : Status) (put : Result T E)
+pub record CasesEnded {T E : Type 0} (ask : Option Ask) (texts : List (List ℕ)) (seen : SeenOfCall) (how : Status) (put : Result T E)
     : Type 0 where
   pub text : List ℕ
   pub outcome : IfSome (told ask seen.left) (λ bytes. IsOutcome ask texts bytes how text)

@@ -10,7 +10,7 @@ use Rattle.sdh_whatif_cli.specs.declared.ask.Kinds.{Kinds}
 use Rattle.sdh_whatif_cli.specs.declared.counting.Fate.TheVariants.{Lost}
 use Rattle.sdh_whatif_cli.specs.declared.singles.Tally.{Tally}
 use Rattle.sdh_whatif_cli.specs.Words.{has_kind, takes}
-use Rattle.sdh_whatif_cli.specs.Counting.{count_of}
+use Rattle.sdh_whatif_cli.specs.Counting.{fate_count}
 
 abbrev pub new_tally : Tally
 new_tally = record { cases = 0; losing = 0; most = 0 }
@@ -21,7 +21,7 @@ with_case lost t = record { cases = t.cases + 1; losing = t.losing + (if lost ==
 
 -- the number of circuits that are lost where the failure of this number is all that fails after the script
 abbrev pub lost_by : Planned → ℕ → ℕ
-lost_by plan number = count_of plan (failure_at (length plan.nodes) number ∷ []) Lost
+lost_by plan number = fate_count plan (failure_at (length plan.nodes) number ∷ []) Lost
 
 -- a tally with the failure of a number; a failure that would mend what the script has set isn't counted
 abbrev pub tallied : Planned → ℕ → Tally → Tally
@@ -35,7 +35,7 @@ tally_of plan from (suc k) = tallied plan (from + k) (tally_of plan from k)
 -- the tally of the first k failures of the user's own
 abbrev pub own_tally : Planned → List (List Failure) → ℕ → Tally
 own_tally plan own zero = new_tally
-own_tally plan own (suc k) = with_case (count_of plan (slice_index_or own k []) Lost) (own_tally plan own k)
+own_tally plan own (suc k) = with_case (fate_count plan (slice_index_or own k []) Lost) (own_tally plan own k)
 
 -- ---- the records
 

@@ -57,14 +57,14 @@ has_kind kinds kind.Forced = kinds.forced
 has_kind kinds kind.Own = kinds.own
 
 -- these kinds with this one named too
-abbrev pub with_kind : Kinds → Kind → Kinds
-with_kind kinds kind.Degraded = record kinds { degraded = true }
-with_kind kinds kind.Fibres = record kinds { fibres = true }
-with_kind kinds kind.Spans = record kinds { spans = true }
-with_kind kinds kind.Nodes = record kinds { nodes = true }
-with_kind kinds kind.Manual = record kinds { manual = true }
-with_kind kinds kind.Forced = record kinds { forced = true }
-with_kind kinds kind.Own = record kinds { own = true }
+abbrev pub with_kind_named : Kinds → Kind → Kinds
+with_kind_named kinds kind.Degraded = record kinds { degraded = true }
+with_kind_named kinds kind.Fibres = record kinds { fibres = true }
+with_kind_named kinds kind.Spans = record kinds { spans = true }
+with_kind_named kinds kind.Nodes = record kinds { nodes = true }
+with_kind_named kinds kind.Manual = record kinds { manual = true }
+with_kind_named kinds kind.Forced = record kinds { forced = true }
+with_kind_named kinds kind.Own = record kinds { own = true }
 
 -- some kind is named
 abbrev pub has_some : Kinds → Bool
@@ -99,18 +99,18 @@ begun depth = record { ask = all_of depth; awaited = awaited.Any; is_parted = fa
 
 -- what is asked for with one more kind; None where this kind is asked for already
 abbrev pub ask_kind : Ask → Kind → Option Ask
-ask_kind ask k = if has_kind ask.kinds k then None else Some (record ask { kinds = with_kind ask.kinds k })
+ask_kind ask k = if has_kind ask.kinds k then None else Some (record ask { kinds = with_kind_named ask.kinds k })
 
 -- the form is the one that holds where none is asked for
-abbrev pub is_plain : Form → Bool
-is_plain form.Table = true
-is_plain form.Headed = false
-is_plain form.Json = false
-is_plain form.Summary = false
+abbrev pub is_plain_form : Form → Bool
+is_plain_form form.Table = true
+is_plain_form form.Headed = false
+is_plain_form form.Json = false
+is_plain_form form.Summary = false
 
 -- what is asked for in this form; None where a form is asked for already
 abbrev pub ask_form : Ask → Form → Option Ask
-ask_form ask f = if is_plain ask.form then Some (record ask { form = f }) else None
+ask_form ask f = if is_plain_form ask.form then Some (record ask { form = f }) else None
 
 -- a kind or a form is asked for
 abbrev pub ask_named : Ask → Option Kind → Option Form → Option Ask
@@ -141,24 +141,24 @@ read_any r word =
 -- plan
 abbrev pub with_own : AskedSoFar → AskedSoFar
 with_own r = record {
-  ask = record r.ask { kinds = with_kind r.ask.kinds kind.Own };
+  ask = record r.ask { kinds = with_kind_named r.ask.kinds kind.Own };
   awaited = awaited.Any;
   is_parted = r.is_parted;
 }
 
-abbrev pub with_part : Ask → ℕ → ℕ → Ask
-with_part ask part parts = record ask { part = part; parts = parts }
+abbrev pub ask_with_part : Ask → ℕ → ℕ → Ask
+ask_with_part ask part parts = record ask { part = part; parts = parts }
 
 -- the number of a part is read
 abbrev pub read_part : AskedSoFar → List ℕ → Option AskedSoFar
 read_part r word =
-    option_map (λ k. record { ask = with_part r.ask k (2 ^ 32 - 1); awaited = awaited.Parts; is_parted = r.is_parted })
+    option_map (λ k. record { ask = ask_with_part r.ask k (2 ^ 32 - 1); awaited = awaited.Parts; is_parted = r.is_parted })
     (numeral_in 1 (2 ^ 32 - 1) word)
 
 -- the number of parts that the cases are parted into: no fewer than the number of the part
 abbrev pub read_parts : AskedSoFar → List ℕ → Option AskedSoFar
 read_parts r word =
-    option_map (λ k. record { ask = with_part r.ask r.ask.part k; awaited = awaited.Any; is_parted = r.is_parted })
+    option_map (λ k. record { ask = ask_with_part r.ask r.ask.part k; awaited = awaited.Any; is_parted = r.is_parted })
     (numeral_in r.ask.part (2 ^ 32 - 1) word)
 
 abbrev pub read_awaited : Awaited → AskedSoFar → List ℕ → Option AskedSoFar

@@ -1,8 +1,8 @@
 //! What the words of the command line ask for.
 ghost use Rattle.std.specs.Prelude.{◌≡◌, IfSome};
 ghost use Rattle.sdh_shell.specs.Calls.{words_of};
-ghost use Rattle.sdh_whatif_cli.specs.Words.{depth_named, kind_named, form_named, has_kind, with_kind, has_some, takes, begun};
-ghost use Rattle.sdh_whatif_cli.specs.Words.{ask_kind, is_plain, ask_form, ask_word, begin_part, read_any, read_part, read_parts};
+ghost use Rattle.sdh_whatif_cli.specs.Words.{depth_named, kind_named, form_named, has_kind, with_kind_named, has_some, takes, begun};
+ghost use Rattle.sdh_whatif_cli.specs.Words.{ask_kind, is_plain_form, ask_form, ask_word, begin_part, read_any, read_part, read_parts};
 ghost use Rattle.sdh_whatif_cli.specs.Words.{read_word, read_words, is_whole, may_be_parted, finished, asked, IsPart};
 ghost use Rattle.sdh_whatif_cli.specs.Words.{begin_own, with_own};
 
@@ -121,7 +121,7 @@ impl Kinds {
 
     // Returns the kinds with this one named too.
     fn with(self, kind: Kind) -> Kinds
-        ensures { result ≡ with_kind self kind }
+        ensures { result ≡ with_kind_named self kind }
     {
         let mut kinds = self;
         match kind {
@@ -223,7 +223,7 @@ fn ask_kind(ask: Ask, kind: Kind) -> Option<Ask>
 
 // Returns whether a form is the one that stands where none is asked for.
 fn is_plain(form: Form) -> bool
-    ensures { result ≡ is_plain form }
+    ensures { result ≡ is_plain_form form }
 {
     match form {
         Form::Table => true,

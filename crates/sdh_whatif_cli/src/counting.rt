@@ -2,7 +2,7 @@
 ghost use Rattle.std.specs.Prelude.{◌≡◌, ◌+◌, ◌<◌, ◌≤◌, List, Some, if◌then◌else◌, length, max, slice_get};
 ghost use Rattle.sdh_circuits.specs.Provisioned.{Provisioned};
 ghost use Rattle.sdh_verdicts.specs.declared.failure.Failure.{Failure};
-ghost use Rattle.sdh_whatif_cli.specs.Counting.{AreSpansOf, fate_by, fate_of, same_fate, counts_of};
+ghost use Rattle.sdh_whatif_cli.specs.Counting.{AreSpansOf, fate_by, fate_of, same_fate, fate_counts};
 
 use sdh_plan::Plan;
 use sdh_verdicts::{CaseSpans, Verdict, told, told_hops, told_impaired};
@@ -87,7 +87,7 @@ const NO_COUNTS: Counts = Counts {
 /// Returns the counts of the case with these spans.
 pub fn counts_of(plan: &Plan, spans: &CaseSpans) -> Counts
     requires case { (case : List Failure) × AreSpansOf plan.now case spans.now }
-    ensures { (case : List Failure) → AreSpansOf plan.now case spans.now → result ≡ counts_of plan.now case }
+    ensures { (case : List Failure) → AreSpansOf plan.now case spans.now → result ≡ fate_counts plan.now case }
 {
     let mut counts = NO_COUNTS;
     for i in 0..plan.circuits().len() {

@@ -6,7 +6,7 @@ ghost use Rattle.sdh_verdicts.specs.Failures.{IsFailureIn};
 ghost use Rattle.sdh_verdicts.specs.Verdicts.{AreSidesOf};
 ghost use Rattle.sdh_whatif_cli.specs.Counting.{AreSpansOf};
 ghost use Rattle.sdh_whatif_cli.specs.Cases.{AreSmall};
-ghost use Rattle.sdh_whatif_cli.specs.Lines.{spans_text, case_text, counts_text, fate_cell, before_fate, fate_text, fates_text, line_text, head_record};
+ghost use Rattle.sdh_whatif_cli.specs.Lines.{spans_text, case_text, fate_counts_text, fate_cell, before_fate, fate_text, fates_text, line_text, head_record};
 
 use crate::ask::Form;
 use crate::counting::{Counts, Fate, counts_of, fate_of};
@@ -72,7 +72,7 @@ fn put_case(line: &mut Line, plan: &Plan, spans: &CaseSpans, entry: Entry, case:
 // Appends the counts of circuits, and the number of spans of the longest way.
 fn put_counts(line: &mut Line, form: Form, counts: Counts)
     requires room { length line.old + 90 ≤ 20480 }
-    ensures text { line.new ≡ line.old ++ counts_text form counts }
+    ensures text { line.new ≡ line.old ++ fate_counts_text form counts }
     ensures short { length line.new ≤ length line.old + 90 }
 {
     put_either(line, form, b",\"kept\":", b",");

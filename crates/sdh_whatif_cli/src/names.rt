@@ -6,7 +6,7 @@ ghost use Rattle.sdh_report.specs.Lines.{side_text};
 ghost use Rattle.sdh_verdicts.specs.declared.failure.Failure.{Failure};
 ghost use Rattle.sdh_verdicts.specs.Failures.{IsFailureIn, steps_of, case_steps};
 ghost use Rattle.sdh_whatif_cli.specs.Cases.{IsSmall, AreSmall};
-ghost use Rattle.sdh_whatif_cli.specs.Lines.{id_text, toward_text, span_text, failure_text, place_text, fibre_text, order_text, IsAt};
+ghost use Rattle.sdh_whatif_cli.specs.Lines.{id_text, toward_text, span_text, failure_text, place_in_plan_text, fibre_text, order_text, IsAt};
 ghost use Rattle.sdh_whatif_cli.specs.Lines.{step_text, step_quote, either, joined, digit_text, name_text, digit_names, names_text, step_part};
 ghost use Rattle.sdh_whatif_cli.specs.Lines.{span_part};
 
@@ -173,7 +173,7 @@ fn put_place(line: &mut Line, map: &RingMap, verb: &[u8], at: Pos, side: Side)
     requires at { at.0 < length map.now }
     requires verb { length verb.now ≤ 8 }
     requires room { length line.old + 15 ≤ 20480 }
-    ensures text { line.new ≡ line.old ++ place_text map.now verb.now at side }
+    ensures text { line.new ≡ line.old ++ place_in_plan_text map.now verb.now at side }
     ensures short { length line.new ≤ length line.old + 15 }
 {
     line.put(verb);

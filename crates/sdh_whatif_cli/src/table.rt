@@ -5,7 +5,7 @@ ghost use Rattle.sdh_plan.specs.Planned.{Planned};
 ghost use Rattle.sdh_verdicts.specs.Failures.{IsFailureIn};
 ghost use Rattle.sdh_verdicts.specs.Verdicts.{AreSidesOf};
 ghost use Rattle.sdh_whatif_cli.specs.Words.{IsPart};
-ghost use Rattle.sdh_whatif_cli.specs.Cases.{base, numbers_of, digits_of, goes_before, failures_at, failures_of, kind_of, is_ring_taken};
+ghost use Rattle.sdh_whatif_cli.specs.Cases.{base, case_numbers, digits_of, goes_before, failures_at, failures_of, failure_kind, is_ring_taken};
 ghost use Rattle.sdh_whatif_cli.specs.Cases.{is_taken, are_told, entry_of, AreSmall, AreOwn};
 ghost use Rattle.sdh_whatif_cli.specs.Lines.{line_text, cases_text, head_record, table_text};
 ghost use Rattle.sdh_whatif_cli.specs.Singles.{singles_text};
@@ -38,7 +38,7 @@ fn base(nodes: usize, own: usize) -> usize
 // Returns the count of numbers that may stand for cases of at most this depth.
 fn numbers_of(base: usize, depth: Depth) -> usize
     requires small { base ≤ 177 }
-    ensures { result ≡ numbers_of base depth }
+    ensures { result ≡ case_numbers base depth }
 {
     match depth {
         Depth::Single => base,
@@ -56,7 +56,7 @@ fn goes_before(digit: usize, next: usize) -> bool
 
 // Returns the kind of a failure.
 fn kind_of(failure: Failure) -> Kind
-    ensures { result ≡ kind_of failure }
+    ensures { result ≡ failure_kind failure }
 {
     match failure {
         Failure::Degraded(_, _) => Kind::Degraded,

@@ -8,7 +8,7 @@ ghost use Rattle.sdh_outside.specs.Writing.{Wrote};
 ghost use Rattle.sdh_shell.specs.Calls.{words_of};
 ghost use Rattle.sdh_whatif_cli.specs.Words.{asked, own_texts, IsPart};
 ghost use Rattle.sdh_whatif_cli.specs.Laws.{LinesAreTrue};
-ghost use Rattle.sdh_whatif_cli.specs.Outcome.{refusal, of_plan, IsOutcome, HasPlanFor, told, Seen, Ended};
+ghost use Rattle.sdh_whatif_cli.specs.Outcome.{refusal, of_plan, IsOutcome, HasPlanFor, told, SeenOfCall, CasesEnded};
 
 use crate::ask::{Ask, asked};
 use crate::laws::lines_are_true;
@@ -129,7 +129,7 @@ fn answer_ask<R: Source, W: Sink>(
     sink: &mut W,
 ) -> Result<Told, AllocError>
     requires part { IsPart ask }
-    ensures ended { IfOk result (λ x. let seen : Seen = record {
+    ensures ended { IfOk result (λ x. let seen : SeenOfCall = record {
       reads_exact = R.exact;
       reads = R.faults source.old;
       reads_after = R.faults source.new;
@@ -140,7 +140,7 @@ fn answer_ask<R: Source, W: Sink>(
       writes_after = W.faults sink.new;
       written = W.written sink.old;
       written_after = W.written sink.new;
-    } in Ended (Some ask) (own_texts (words_of words.now)) seen x.status x.wrote) }
+    } in CasesEnded (Some ask) (own_texts (words_of words.now)) seen x.status x.wrote) }
     ensures later { R.faults source.old ≤ R.faults source.new }
     ensures memory { OnErr result ((R.exact ≡ true → R.faults source.new ≡ R.faults source.old) × (sink.new ≡ sink.old)) }
 {
@@ -159,7 +159,7 @@ fn answer<R: Source, W: Sink>(
     source: &mut R,
     sink: &mut W,
 ) -> Result<Told, AllocError>
-    ensures ended { IfOk result (λ x. let seen : Seen = record {
+    ensures ended { IfOk result (λ x. let seen : SeenOfCall = record {
       reads_exact = R.exact;
       reads = R.faults source.old;
       reads_after = R.faults source.new;
@@ -170,7 +170,7 @@ fn answer<R: Source, W: Sink>(
       writes_after = W.faults sink.new;
       written = W.written sink.old;
       written_after = W.written sink.new;
-    } in Ended (asked (words_of words.now)) (own_texts (words_of words.now)) seen x.status x.wrote) }
+    } in CasesEnded (asked (words_of words.now)) (own_texts (words_of words.now)) seen x.status x.wrote) }
     ensures unread { asked (words_of words.now) ≡ None → source.new ≡ source.old }
     ensures later { R.faults source.old ≤ R.faults source.new }
     ensures memory { OnErr result ((R.exact ≡ true → R.faults source.new ≡ R.faults source.old) × (sink.new ≡ sink.old)) }

@@ -23,7 +23,7 @@ use Rattle.sdh_laws.specs.Hearing.Signalling.{needs_in}
 use Rattle.sdh_laws.specs.Hearing.Laws.{IsWhole}
 use Rattle.sdh_laws.proofs.hearing.Nodes.{count, length-after}
 use Rattle.sdh_laws.proofs.hearing.Signalling.{needs_at, request_is}
-use Rattle.sdh_laws.specs.Carrying.Windows.{requests_of}
+use Rattle.sdh_laws.specs.Carrying.Windows.{span_requests_of}
 use Rattle.sdh_laws.specs.Carrying.Laws.{FailuresAreApplied}
 use Rattle.sdh_node.specs.Rings.Held.{node_at}
 
@@ -50,17 +50,17 @@ node_asks w whole p d lt e =
 
 -- the request of a node's side, among those of needs
 asked_here : (v : World) (n p : ℕ) (d : Side) → length v.ring.nodes ≡ n → p < n
-    → 11 ≤ code_number (receiving_on d (node_at v.ring.nodes p)).request → is_applied (requests_of v) (span_at n p d) ≡ true
+    → 11 ≤ code_number (receiving_on d (node_at v.ring.nodes p)).request → is_applied (span_requests_of v) (span_at n p d) ≡ true
 unfolding needs_in
 asked_here v n p d size lt asks =
     let many : length (map needed v.ring.nodes) ≡ n = length-map v.ring.nodes needed ∙ size in
     let low : p < length v.ring.nodes = omega arith in
     let local : ℕ → Side → Code = λ p d. request_on (get_or (map needed v.ring.nodes) p no_needs) d in
-    subst (λ m. is_applied (requests_of v) (span_at m p d) ≡ true) many
+    subst (λ m. is_applied (span_requests_of v) (span_at m p d) ≡ true) many
     (asked_is_applied (length (map needed v.ring.nodes)) local p d (omega arith)
     (subst (λ c. 11 ≤ code_number c) (sym (needs_at v.ring.nodes p d low)) asks))
 
-pub length-requests_of : (v : World) (n : ℕ) → length v.ring.nodes ≡ n → length (requests_of v) ≡ n
+pub length-requests_of : (v : World) (n : ℕ) → length v.ring.nodes ≡ n → length (span_requests_of v) ≡ n
 unfolding needs_in
 length-requests_of v n size = length-requests (length (map needed v.ring.nodes)) _ ∙ length-map v.ring.nodes needed ∙ size
 

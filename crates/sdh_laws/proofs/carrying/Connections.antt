@@ -25,7 +25,7 @@ use Rattle.sdh_node.proofs.RingLaws.Keeping.{node_is}
 use Rattle.sdh_laws.specs.Hearing.Signalling.{crossing_at, lines_at}
 use Rattle.sdh_laws.specs.Hearing.Laws.{IsWhole}
 use Rattle.sdh_laws.proofs.hearing.Nodes.{informed, count, listening_at, nodes_after}
-use Rattle.sdh_laws.specs.Carrying.Windows.{Layout, layout_of, size_of, slots_of, fed_at, value_at, sent_at}
+use Rattle.sdh_laws.specs.Carrying.Windows.{Layout, layout_of, positions_of, slots_of, fed_at, value_at, sent_at}
 use Rattle.sdh_ringmap.specs.Places.{position_of}
 
 -- ---- what a node is by its place
@@ -153,16 +153,16 @@ module _ (w : World) (whole : IsWhole w) (p : ℕ) (h : p < length w.ring.nodes)
 
 -- into a working slot, by the node's state after the round
 abbrev pub SendsWorking : Layout → World → Type 0
-SendsWorking l v = (q m : ℕ) (d : Side) (st : NodeState) → q < size_of l → m ≤ slots_of l → (node_at (round v).ring.nodes q).state ≡ st
-    → sent_at v q d m ≡ value_at v q m (working_in (size_of l) l.circuits q st d m)
+SendsWorking l v = (q m : ℕ) (d : Side) (st : NodeState) → q < positions_of l → m ≤ slots_of l → (node_at (round v).ring.nodes q).state ≡ st
+    → sent_at v q d m ≡ value_at v q m (working_in (positions_of l) l.circuits q st d m)
 
 abbrev pub SendsProtection : Layout → World → Type 0
-SendsProtection l v = (q m : ℕ) (d : Side) (st : NodeState) → q < size_of l → 1 ≤ m → (node_at (round v).ring.nodes q).state ≡ st
-    → sent_at v q d (slots_of l + m) ≡ value_at v q m (protection_in (size_of l) l.circuits q st d m)
+SendsProtection l v = (q m : ℕ) (d : Side) (st : NodeState) → q < positions_of l → 1 ≤ m → (node_at (round v).ring.nodes q).state ≡ st
+    → sent_at v q d (slots_of l + m) ≡ value_at v q m (protection_in (positions_of l) l.circuits q st d m)
 
 -- what comes in protection slot m
 abbrev pub BringsProtection : Layout → World → Type 0
-BringsProtection l v = (p m : ℕ) (d : Side) → p < size_of l → value_at v p m (Protection d) ≡ received (lines_at v p) d (slots_of l + m)
+BringsProtection l v = (p m : ℕ) (d : Side) → p < positions_of l → value_at v p m (Protection d) ≡ received (lines_at v p) d (slots_of l + m)
 
 module _ (v : World) (whole : IsWhole v) where
   inside : (p : ℕ) → p < length v.ring.ids → p < length v.ring.nodes

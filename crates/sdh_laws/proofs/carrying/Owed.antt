@@ -49,9 +49,9 @@ use Rattle.sdh_laws.proofs.hearing.Nodes.{informed, count, length-after, listeni
 use Rattle.sdh_laws.proofs.hearing.Rounds.{whole_round}
 use Rattle.sdh_laws.proofs.hearing.Changes.{whole_run}
 use Rattle.sdh_laws.proofs.hearing.Staying.{left_run}
-use Rattle.sdh_spans.specs.Brought.{Brings, HasValue, plainly}
+use Rattle.sdh_spans.specs.Brought.{BringsDelivery, HasValue, plainly}
 use Rattle.sdh_spans.proofs.Ports.{ports_deliver, ports_bring}
-use Rattle.sdh_laws.specs.Carrying.Windows.{Layout, layout_of, size_of, slots_of, HasCircuits, value_at, AreSettled, IsQuiet}
+use Rattle.sdh_laws.specs.Carrying.Windows.{Layout, layout_of, positions_of, slots_of, HasCircuits, value_at, AreSettled, IsQuiet}
 use Rattle.sdh_laws.specs.Carrying.Laws.{due_by_clocks, DeliversItsDue, QuietRingsDeliverWhatIsDue}
 use Rattle.sdh_laws.proofs.carrying.Connections.{node_of, state_in_turn, drops_is}
 use Rattle.sdh_terminal.proofs.Found.{IsPortOf, port-found}
@@ -63,27 +63,27 @@ use Rattle.sdh_rounds.specs.Runs as any_run
 -- ---- what the port at the other end sends
 
 sends_it : (t : Tributary) (sender : Customer) → t.feed.port ≡ sender → next_form t.feed.clock ≡ Plain
-    → Brings (input_by (sent_in t.feed)) (plainly sender t.feed.clock)
+    → BringsDelivery (input_by (sent_in t.feed)) (plainly sender t.feed.clock)
 sends_it t sender from plain =
-    subst (λ (s : Customer). Brings (input_by (sent_in t.feed)) (plainly s t.feed.clock)) from (ports_bring t.feed plain)
+    subst (λ (s : Customer). BringsDelivery (input_by (sent_in t.feed)) (plainly s t.feed.clock)) from (ports_bring t.feed plain)
 
 -- In a ring of this layout a port that justifies nothing in the round that begins with v sends the next bytes of its
 -- customer, by the clock that it has in that round.
 abbrev pub Sends : Layout → World → Type 0
-Sends l v = (m index : ℕ) (c : Provisioned) (e : End) → slice_get l.circuits index ≡ Some c → port_at c e < size_of l
-    → form_there v (port_at c e) (port_id index e) ≡ Plain → Brings (value_at v (port_at c e) m (port index e))
+Sends l v = (m index : ℕ) (c : Provisioned) (e : End) → slice_get l.circuits index ≡ Some c → port_at c e < positions_of l
+    → form_there v (port_at c e) (port_id index e) ≡ Plain → BringsDelivery (value_at v (port_at c e) m (port index e))
     (plainly (customer_at c e) (clock_at v.ring (port_id index e)))
 
 -- the clock of each port has a pointer value of at most 782
 abbrev pub HasSmall : Layout → World → Type 0
 HasSmall l v =
-    (index : ℕ) (c : Provisioned) (e : End) → slice_get l.circuits index ≡ Some c → port_at c e < size_of l → (customer_at c e).offset ≤ 782
+    (index : ℕ) (c : Provisioned) (e : End) → slice_get l.circuits index ≡ Some c → port_at c e < positions_of l → (customer_at c e).offset ≤ 782
     → (clock_at v.ring (port_id index e)).value ≤ 782
 
 -- the port of each circuit is in the ring
 abbrev pub IsThere : Layout → World → Type 0
 IsThere l v =
-    (index : ℕ) (c : Provisioned) (e : End) → slice_get l.circuits index ≡ Some c → port_at c e < size_of l
+    (index : ℕ) (c : Provisioned) (e : End) → slice_get l.circuits index ≡ Some c → port_at c e < positions_of l
     → HasPortIn v.ring (port_id index e)
 
 module _ (v : World) (whole : IsWhole v) (index : ℕ) (c : Provisioned) (e : End) (get : slice_get v.ring.circuits.circuits index ≡ Some c)
@@ -130,10 +130,10 @@ module _ (v : World) (whole : IsWhole v) (index : ℕ) (c : Provisioned) (e : En
       ap (λ o. next_form (clock_of o)) found.is ∙ goes_plain found.it.feed.clock
       (found_has (λ (t : Tributary). waiting t.feed.clock ≡ 0) id (node_at v.ring.nodes p).ports found.it none found.is).0
 
-  sends_here : (m : ℕ) → form_there v p id ≡ Plain → Brings (value_at v p m (port index e)) (plainly (customer_at c e) (clock_at v.ring id))
+  sends_here : (m : ℕ) → form_there v p id ≡ Plain → BringsDelivery (value_at v p m (port index e)) (plainly (customer_at c e) (clock_at v.ring id))
   sends_here m plain =
-      subst (λ k. Brings (value_at v p m (port index e)) (plainly (customer_at c e) k)) (sym clock_is)
-      (subst (λ i. Brings i (plainly (customer_at c e) found.it.feed.clock))
+      subst (λ k. BringsDelivery (value_at v p m (port index e)) (plainly (customer_at c e) k)) (sym clock_is)
+      (subst (λ i. BringsDelivery i (plainly (customer_at c e) found.it.feed.clock))
       (sym (ap (λ o. option_map_or (λ (t : Tributary). input_by (sent_in t.feed)) o no_input) found.is))
       (sends_it found.it (customer_at c e) found.sender (ap (λ o. next_form (clock_of o)) (sym found.is) ∙ plain)))
 
@@ -193,9 +193,9 @@ next-delivered now n id t is = port-delivered (crossing now n) n.ports id t is
 -- after a round, in settled states, a port whose delivery brings this has delivered it
 abbrev pub Arrives : Layout → World → List ℕ → Outlet → Type 0
 Arrives l v rs b =
-    (index : ℕ) (c : Provisioned) (e : End) → slice_get l.circuits index ≡ Some c → port_at c e < size_of l
-    → AreSettled (size_of l) rs (round v)
-    → (let x = delivery (size_of l) (settled rs) l.circuits c e in HasValue b → Brings (value_at v x.at c.slot.0 x.origin) b
+    (index : ℕ) (c : Provisioned) (e : End) → slice_get l.circuits index ≡ Some c → port_at c e < positions_of l
+    → AreSettled (positions_of l) rs (round v)
+    → (let x = delivery (positions_of l) (settled rs) l.circuits c e in HasValue b → BringsDelivery (value_at v x.at c.slot.0 x.origin) b
     → outlet_at (round v).ring (port_id index e) ≡ b)
 
 module _ (v : World) (whole : IsWhole v) where
@@ -296,7 +296,7 @@ module _ (w : World) (whole : IsWhole w) (form : HasCircuits (layout_of w)) (rs 
   slot_is = slot_inside (slots_of (layout_of w)) cs form.in_slots index c get
 
   abbrev In : Outlet → ℕ → ℕ → Origin → Type 0
-  In b t p o = Brings (value_at (run t w) p c.slot.0 o) b
+  In b t p o = BringsDelivery (value_at (run t w) p c.slot.0 o) b
 
   -- what comes from a port on
   abbrev Comes : (b : Outlet) → HasValue b → ℕ → ℕ → Origin → Type 0
@@ -394,7 +394,7 @@ module _ (w : World) (whole : IsWhole w) (form : HasCircuits (layout_of w)) (rs 
   delivers_after =
       let number : w.ring.rounds + last ≡ left.ring.rounds - 1 = (let r = (left_run (suc last) w).rounds in omega arith) in
       delivers_due ∙ ap (due_by_clocks size applied c e clocks) number
-      ∙ ap (λ (l : Layout). due_by_clocks (size_of l) applied c e clocks (left.ring.rounds - 1)) (sym (layout_run w (suc last)))
+      ∙ ap (λ (l : Layout). due_by_clocks (positions_of l) applied c e clocks (left.ring.rounds - 1)) (sym (layout_run w (suc last)))
 
 pub quiet_delivers : QuietRingsDeliverWhatIsDue
 quiet_delivers w whole form rs first last quiet started long index c get e =

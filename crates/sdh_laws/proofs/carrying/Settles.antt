@@ -41,7 +41,7 @@ use Rattle.sdh_laws.proofs.hearing.Staying.{left_all, left_run, left_stretches, 
 use Rattle.sdh_laws.proofs.hearing.Changes.{whole_run, new_worlds_are_whole}
 use Rattle.sdh_laws.proofs.hearing.Requests.{whole_last, requests_last, after_last}
 use Rattle.sdh_laws.proofs.hearing.Signalling.{requests_stay, windows_are_settled}
-use Rattle.sdh_laws.specs.Carrying.Windows.{Layout, layout_of, size_of, HasCircuits, requests_of, AreSettled, FailOnApplied, IsQuiet}
+use Rattle.sdh_laws.specs.Carrying.Windows.{Layout, layout_of, positions_of, HasCircuits, span_requests_of, AreSettled, FailOnApplied, IsQuiet}
 use Rattle.sdh_laws.specs.Carrying.Laws.{due_by_clocks, DeliversItsDue, IsRestored, SettledRingsAreRestored, SettledRingsRestore}
 use Rattle.sdh_laws.specs.Carrying.Laws.{RingsHaveCircuits}
 use Rattle.sdh_laws.proofs.carrying.Applied.{failures_applied, length-requests_of}
@@ -64,10 +64,10 @@ each_settled v n rs size spans same p lt =
     ∙ get_or-cells (settled rs) (length rs) p nowhere.state (omega arith)
 
 -- what fails in a run is applied
-pub failing_after : (w : World) → IsWhole w → (j : ℕ) → FailOnApplied (length w.ring.ids) (requests_of (run (suc j) w)) (run (suc j) w)
+pub failing_after : (w : World) → IsWhole w → (j : ℕ) → FailOnApplied (length w.ring.ids) (span_requests_of (run (suc j) w)) (run (suc j) w)
 unfolding any_run.run
 failing_after w whole j =
-    subst (λ (l : Layout). FailOnApplied (size_of l) (requests_of (round (run j w))) (round (run j w))) (layout_run w j)
+    subst (λ (l : Layout). FailOnApplied (positions_of l) (span_requests_of (round (run j w))) (round (run j w))) (layout_run w j)
     (failures_applied (run j w) (whole_run w j whole))
 
 -- ---- the window that ends with round k
@@ -77,18 +77,18 @@ module _ (law : StillRingsAreSettled) (w : World) (whole : IsWhole w) (k : ℕ) 
   n = length w.ring.ids
 
   abbrev rs : List ℕ
-  rs = requests_of (run k w)
+  rs = span_requests_of (run k w)
 
   long : 3 * n ≤ k
-  long = let e = ap size_of (layout_run w k) in let l = ends.long in omega arith
+  long = let e = ap positions_of (layout_run w k) in let l = ends.long in omega arith
 
   calm_at : (j : ℕ) → k < j + 3 * n → j ≤ k → IsCalm (course w) j
-  calm_at j low high = ends.calm j (let e = ap size_of (layout_run w k) in omega arith) high
+  calm_at j low high = ends.calm j (let e = ap positions_of (layout_run w k) in omega arith) high
 
-  requests_same : (j : ℕ) → k < j + 3 * n → j ≤ k → requests_of (run j w) ≡ rs
+  requests_same : (j : ℕ) → k < j + 3 * n → j ≤ k → span_requests_of (run j w) ≡ rs
   requests_same j low high =
       let rest : j + (k - j) ≡ k = omega arith in
-      sym (requests_stay w j (k - j) whole (λ i after until. calm_at i (omega arith) (omega arith))) ∙ ap (λ i. requests_of (run i w)) rest
+      sym (requests_stay w j (k - j) whole (λ i after until. calm_at i (omega arith) (omega arith))) ∙ ap (λ i. span_requests_of (run i w)) rest
 
   pub settled_at : (j : ℕ) → k < j + 3 * n → j ≤ k → AreSettled n rs (run j w)
   settled_at j low high =
@@ -99,7 +99,7 @@ module _ (law : StillRingsAreSettled) (w : World) (whole : IsWhole w) (k : ℕ) 
   failing_at j some low high =
       let one : suc (j - 1) ≡ j = omega arith in
       subst (λ qs. FailOnApplied n qs (run j w)) (requests_same j low high)
-      (subst (λ i. FailOnApplied n (requests_of (run i w)) (run i w)) one (failing_after w whole (j - 1)))
+      (subst (λ i. FailOnApplied n (span_requests_of (run i w)) (run i w)) one (failing_after w whole (j - 1)))
 
   quiet : IsQuiet n rs w (k + 1 - 3 * n) k
   quiet = record {
@@ -120,7 +120,7 @@ module _ (law : StillRingsAreSettled) (w : World) (whole : IsWhole w) (k : ℕ) 
 pub steps_restore : StillRingsAreSettled → SettledRingsAreRestored
 steps_restore law w left limit form settles whole =
     let known = known_settles adm w limit left (inl whole.paired.honest.honest) settles in
-    subst (λ v. IsRestored (clocks_from w) v (requests_of v)) (sym known.2) (window_restores law w whole known.0 known.1.window form)
+    subst (λ v. IsRestored (clocks_from w) v (span_requests_of v)) (sym known.2) (window_restores law w whole known.0 known.1.window form)
 
 -- ---- stretches
 
@@ -221,21 +221,21 @@ module _ (s : Settings) (ids : List ℕ) (circuits : Provisioning) (f : Fibres) 
         ap (λ (l : Layout). slice_get l.circuits index) (sym (layout_run v last.rounds)) ∙ get in
         let first : slice_get circuits.circuits index ≡ Some c = ap (λ (l : Layout). slice_get l.circuits index) (sym layout_v) ∙ here in
         let form_u : AreCircuits n (n_of s.rate / 2) circuits.circuits =
-        subst (λ (l : Layout). AreCircuits (size_of l) (n_of s.rate / 2) circuits.circuits)
+        subst (λ (l : Layout). AreCircuits (positions_of l) (n_of s.rate / 2) circuits.circuits)
         (sym (layout_run v last.rounds ∙ layout_v)) form in
         let few = few_hops n applied c (short n applied (n_of s.rate / 2) circuits.circuits form_u index c first) in
-        let size : n ≡ length ids = ap size_of (layout_run v last.rounds ∙ layout_v) in
+        let size : n ≡ length ids = ap positions_of (layout_run v last.rounds ∙ layout_v) in
         let inside = end_inside (length ids) (n_of s.rate / 2) circuits.circuits form index c first far in
         let whole_w = new_worlds_are_whole s ids circuits f may.ids_ok may.honest in
         let there = port_is_there begun whole_w index c far first inside in
-        let there_v = port_is_there v whole_v index c far here (subst (λ (l : Layout). port_at c far < size_of l) (sym layout_v) inside) in
+        let there_v = port_is_there v whole_v index c far here (subst (λ (l : Layout). port_at c far < positions_of l) (sym layout_v) inside) in
         delivered
         ∙ due_by n applied c e (clocks_from v id) (clocks_by circuits.circuits ss id) (u.ring.rounds - 1)
         (clock_same id there there_v k (omega (arith, rounds_u, few, long, may.ids_ok.enough))
         (omega (arith, rounds_u, few, long, may.ids_ok.enough)))
 
     pub port_by_history : (index : ℕ) (c : Provisioned) → slice_get circuits.circuits index ≡ Some c → (e : End)
-        → DeliversItsDue (clocks_from v) u (requests_of u) c index e
+        → DeliversItsDue (clocks_from v) u (span_requests_of u) c index e
         → DeliversItsDue (clocks_by circuits.circuits ss) (after_stretches ss begun) qs c index e
     port_by_history index c get e delivered =
         subst (λ y. DeliversItsDue (clocks_by circuits.circuits ss) y qs c index e) (sym (after_last earlier last begun))
@@ -243,7 +243,7 @@ module _ (s : Settings) (ids : List ℕ) (circuits : Provisioning) (f : Fibres) 
         (subst (λ rs. DeliversItsDue (clocks_from v) u rs c index e) (requests_last s ids circuits f earlier last may happen t many) delivered))
 
     -- where it left the ring restored under the requests of its last round
-    module _ (settled_u : IsRestored (clocks_from v) u (requests_of u)) where
+    module _ (settled_u : IsRestored (clocks_from v) u (span_requests_of u)) where
       restored : IsRestored (clocks_from v) u qs
       restored = subst (IsRestored (clocks_from v) u) (requests_last s ids circuits f earlier last may happen t many) settled_u
 

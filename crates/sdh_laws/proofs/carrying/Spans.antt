@@ -21,14 +21,14 @@ use Rattle.sdh_terminal.specs.Receiving.{Inlet, after_taking, after_frame, point
 use Rattle.sdh_terminal.specs.Lines.{Line, line_on, received}
 use Rattle.sdh_terminal.specs.Sending.{Sending, line_frame_from, after_sending}
 use Rattle.sdh_terminal.specs.Tributaries.{added_by}
-use Rattle.sdh_spans.specs.Brought.{Brings, HasValue}
+use Rattle.sdh_spans.specs.Brought.{BringsDelivery, HasValue}
 use Rattle.sdh_spans.specs.Spans.{IsSpan, TakesWord, word_behind}
 use Rattle.sdh_spans.proofs.Sends.{fed_full}
 use Rattle.sdh_spans.proofs.Reading.{TookIn, reading_there, side_reads}
 use Rattle.sdh_spans.proofs.Spans.{spans_take_words, spans_bring}
 use Rattle.sdh_node.specs.Same.{Compared}
 use Rattle.sdh_node.specs.Crossing.{lines_of, leads, input_at, is_failed}
-use Rattle.sdh_node.specs.Node.{Node, receiving_on, sending_on, crossing, word_of, compared}
+use Rattle.sdh_node.specs.Node.{Node, receiving_on, sending_on, crossing, last_word_on, compared}
 use Rattle.sdh_node.specs.Rings.Held.{node_at}
 use Rattle.sdh_node.specs.Rings.Rounds.{World, round}
 use Rattle.sdh_node.specs.Rings.Quiet.{is_calm}
@@ -185,7 +185,7 @@ module _ (w : World) (whole : IsWhole w) (p : ℕ) (d : Side) (lt : p < length w
 
   no_ais : (said w whole q e qn).word.mark ≢ mark.MsAis
   no_ais =
-      subst (λ k. k.mark ≢ mark.MsAis) (ap (word_of e) (nodes_after w whole.placed q qn) ∙ said_is w.ring.moment (sender w whole q e qn) e)
+      subst (λ k. k.mark ≢ mark.MsAis) (ap (last_word_on e) (nodes_after w whole.placed q qn) ∙ said_is w.ring.moment (sender w whole q e qn) e)
       (next.paired.never_ais q (let h = qn in omega (arith, length-after w)) e)
 
   is_span : IsSpan (rate w whole q e qn) c (fed w whole q e qn) (said w whole q e qn) old
@@ -258,18 +258,18 @@ module _ (w : World) (whole : IsWhole w) (p : ℕ) (d : Side) (lt : p < length w
           ∙ (node_sends (rate w whole q e qn) w.ring.moment (sender w whole q e qn) e (sends_at w whole q e qn)).goes k high
 
       span_carries : is_failed (receiving_on d (node_at (round v).ring.nodes p)).local.defect ≡ false → (b : Outlet) → HasValue b
-          → Brings (sent_at w q e (k + 1)) b → Brings (received (lines_at v p) d (k + 1)) b
+          → BringsDelivery (sent_at w q e (k + 1)) b → BringsDelivery (received (lines_at v p) d (k + 1)) b
       unfolding any_round.round any_round.round_with
       span_carries works b small is =
           spans_bring (rate w whole q e qn) c (fed w whole q e qn) (said w whole q e qn) old threshold (lines_at v p) d k is_span
           (line_is v next p d pn) high (clear_where_it_works v next p d ran pn works) still kept b small
-          (subst (λ i. Brings i b) (sym (fed_is w whole q e qn (k + 1))) is)
+          (subst (λ i. BringsDelivery i b) (sym (fed_is w whole q e qn (k + 1))) is)
 
 pub span : ASpanCarries
 span w whole calm0 calm1 p d au b lt low high small works is =
     let q = neighbour (length w.ring.ids) p d in
     let k = au - 1 in
     let back : k + 1 ≡ au = omega arith in
-    subst (λ a. Brings (received (lines_at (round w) p) d a) b) back
+    subst (λ a. BringsDelivery (received (lines_at (round w) p) d a) b) back
     (span_carries w whole p d (omega (arith, count w whole.placed)) k (omega arith) calm0 calm1 works b small
-    (subst (λ a. Brings (sent_at w q (opposite d) a) b) (sym back) is))
+    (subst (λ a. BringsDelivery (sent_at w q (opposite d) a) b) (sym back) is))

@@ -24,8 +24,8 @@ use Rattle.sdh_laws.proofs.hearing.Nodes.{count}
 use Rattle.sdh_laws.proofs.hearing.Rounds.{neighbour_inside, whole_round}
 use Rattle.sdh_laws.proofs.hearing.Changes.{whole_run}
 use Rattle.sdh_signal.proofs.Ways.{IsKeptOver}
-use Rattle.sdh_spans.specs.Brought.{Brings, HasValue}
-use Rattle.sdh_laws.specs.Carrying.Windows.{Layout, layout_of, size_of, slots_of, value_at, sent_at, AreSettled, FailOnApplied, IsQuiet}
+use Rattle.sdh_spans.specs.Brought.{BringsDelivery, HasValue}
+use Rattle.sdh_laws.specs.Carrying.Windows.{Layout, layout_of, positions_of, slots_of, value_at, sent_at, AreSettled, FailOnApplied, IsQuiet}
 use Rattle.sdh_laws.proofs.carrying.Connections.{BringsProtection, SendsWorking, SendsProtection, sends_working, sends_protection}
 use Rattle.sdh_laws.proofs.carrying.Connections.{brings_protection}
 use Rattle.sdh_laws.proofs.carrying.Spans.{span}
@@ -55,10 +55,10 @@ layout_run w (suc k) = layout_round (run k w) ∙ layout_run w k
 
 -- what is kept over one span from the round that begins with v to the next one, in a ring of this layout
 abbrev pub Over : Layout → World → List ℕ → ℕ → Outlet → Type 0
-Over l v rs m b = AreSettled (size_of l) rs (round v) → FailOnApplied (size_of l) rs (round (round v)) → m ≤ slots_of l
-    → (p : ℕ) (o : Origin) → p < size_of l → IsArrival o → IsFree (size_of l) (is_applied rs) p o
-    → (let z = back_from (size_of l) (settled rs) l.circuits m p o in Brings (value_at v z.at m z.origin) b
-    → Brings (value_at (round v) p m o) b)
+Over l v rs m b = AreSettled (positions_of l) rs (round v) → FailOnApplied (positions_of l) rs (round (round v)) → m ≤ slots_of l
+    → (p : ℕ) (o : Origin) → p < positions_of l → IsArrival o → IsFree (positions_of l) (is_applied rs) p o
+    → (let z = back_from (positions_of l) (settled rs) l.circuits m p o in BringsDelivery (value_at v z.at m z.origin) b
+    → BringsDelivery (value_at (round v) p m o) b)
 
 module _ (v : World) (whole : IsWhole v) (calm0 : is_calm (round v).ring.nodes ≡ true) (calm1 : is_calm (round (round v)).ring.nodes ≡ true)
     (rs : List ℕ) (m : ℕ) (low : 1 ≤ m) (b : Outlet) (small : HasValue b) where
@@ -67,7 +67,7 @@ module _ (v : World) (whole : IsWhole v) (calm0 : is_calm (round v).ring.nodes �
 
   over : (d : Side) (p au : ℕ) → FailOnApplied n rs (round (round v)) → p < n → 1 ≤ au → au ≤ n_of v.ring.settings.rate
       → is_applied rs (span_at n p d) ≡ false
-      → Brings (sent_at v (neighbour n p d) (opposite d) au) b → Brings (received (lines_at (round v) p) d au) b
+      → BringsDelivery (sent_at v (neighbour n p d) (opposite d) au) b → BringsDelivery (received (lines_at (round v) p) d au) b
   over d p au failing lt some few free =
       span v whole calm0 calm1 p d au b lt some few small (works_on_free n rs (round (round v)) failing p d lt free)
 
@@ -77,38 +77,38 @@ module _ (v : World) (whole : IsWhole v) (calm0 : is_calm (round v).ring.nodes �
   one_span states failing few p (Working d) lt a f is =
       let q = neighbour n p d in
       let below : q < n = omega (arith, count v whole.placed, neighbour_inside v whole p d) in
-      over d p m failing lt low (omega arith) f (subst (λ i. Brings i b)
+      over d p m failing lt low (omega arith) f (subst (λ i. BringsDelivery i b)
       (sym (sends_working v whole q m (opposite d) (settled rs q) below few (states q below))) is)
   one_span states failing few p (Protection d) lt a f is =
       let q = neighbour n p d in
       let below : q < n = omega (arith, count v whole.placed, neighbour_inside v whole p d) in
       let comes : value_at (round v) p m (Protection d) ≡ received (lines_at (round v) p) d (slots_of (layout_of v) + m) =
       subst (λ l. BringsProtection l (round v)) (layout_round v) (brings_protection (round v) (whole_round v whole)) p m d lt in
-      subst (λ i. Brings i b) (sym comes)
+      subst (λ i. BringsDelivery i b) (sym comes)
       (over d p (slots_of (layout_of v) + m) failing lt (omega arith) (omega arith) f
-      (subst (λ i. Brings i b) (sym (sends_protection v whole q m (opposite d) (settled rs q) below low (states q below))) is))
+      (subst (λ i. BringsDelivery i b) (sym (sends_protection v whole q m (opposite d) (settled rs q) below low (states q below))) is))
 
 -- a port from which what comes over a span was sent justifies nothing in a round between two in settled states, the
 -- second of them calm
 abbrev GoesPlain : Layout → World → List ℕ → ℕ → Type 0
 GoesPlain l v rs m =
-    AreSettled (size_of l) rs (round v) → AreSettled (size_of l) rs (round (round v)) → m ≤ slots_of l → (p : ℕ) (o : Origin)
-    → p < size_of l → IsArrival o
-    → (let z = back_from (size_of l) (settled rs) l.circuits m p o in (id : PortId) → z.origin ≡ Add id
+    AreSettled (positions_of l) rs (round v) → AreSettled (positions_of l) rs (round (round v)) → m ≤ slots_of l → (p : ℕ) (o : Origin)
+    → p < positions_of l → IsArrival o
+    → (let z = back_from (positions_of l) (settled rs) l.circuits m p o in (id : PortId) → z.origin ≡ Add id
     → form_there (round v) z.at id ≡ Plain)
 
 module _ (v : World) (whole : IsWhole v) (calm : is_calm (round (round v)).ring.nodes ≡ true) (rs : List ℕ) (m : ℕ) (low : 1 ≤ m) where
   abbrev l : Layout
   l = layout_of v
 
-  below : (p : ℕ) (d : Side) → neighbour (size_of l) p d < size_of l
+  below : (p : ℕ) (d : Side) → neighbour (positions_of l) p d < positions_of l
   below p d = omega (arith, count v whole.placed, neighbour_inside v whole p d)
 
   one_port : GoesPlain l v rs m
   one_port now next few p Ais lt a id e = absurd a
   one_port now next few p (Add q) lt a id e = absurd a
   one_port now next few p (Working d) lt a id e =
-      let q = neighbour (size_of l) p d in
+      let q = neighbour (positions_of l) p d in
       let o = opposite d in
       let inside = below p d in
       let later : SendsWorking l (round v) =
@@ -117,7 +117,7 @@ module _ (v : World) (whole : IsWhole v) (calm : is_calm (round (round v)).ring.
       (sends_working v whole q m o (settled rs q) inside few (now q inside) ∙ ap (value_at v q m) e)
       (later q m o (settled rs q) inside few (next q inside) ∙ ap (value_at (round v) q m) e) calm
   one_port now next few p (Protection d) lt a id e =
-      let q = neighbour (size_of l) p d in
+      let q = neighbour (positions_of l) p d in
       let o = opposite d in
       let inside = below p d in
       let later : SendsProtection l (round v) =
@@ -130,7 +130,7 @@ module _ (v : World) (whole : IsWhole v) (calm : is_calm (round (round v)).ring.
 module _ (w : World) (whole : IsWhole w) (rs : List ℕ) (first last : ℕ) (quiet : IsQuiet (length w.ring.ids) rs w (suc first) (suc last))
     (m : ℕ) (low : 1 ≤ m) (few : m ≤ slots_of (layout_of w)) (b : Outlet) (small : HasValue b) where
   abbrev pub brings_in : ℕ → ℕ → Origin → Type 0
-  brings_in t p o = Brings (value_at (run t w) p m o) b
+  brings_in t p o = BringsDelivery (value_at (run t w) p m o) b
 
   over_at : (t : ℕ) → suc first ≤ suc t → suc (suc t) ≤ suc last → Over (layout_of w) (run t w) rs m b
   unfolding any_run.run

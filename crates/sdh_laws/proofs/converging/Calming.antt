@@ -3,7 +3,7 @@ use Rattle.std.proofs.Common.{◌≡◌, ℕ, ◌<◌, true, false, length}
 use Rattle.sdh_ringmap.specs.declared.Side.{Side}
 use Rattle.sdh_ringmap.specs.declared.Side.TheVariants.{West, East}
 use Rattle.sdh_nodestate.specs.Filtering.{hears}
-use Rattle.sdh_node.specs.Node.{Node, receiving_on, sending_on, is_held, compared, word_of}
+use Rattle.sdh_node.specs.Node.{Node, receiving_on, sending_on, is_held, compared, last_word_on}
 use Rattle.sdh_node.specs.Rings.Rounds.{World, round}
 use Rattle.sdh_node.specs.Rings.Quiet.{is_calm}
 use Rattle.sdh_laws.specs.Hearing.Laws.{IsWhole}
@@ -16,7 +16,7 @@ pub record AreSame (a b : Node) : Type 0 where
   pub request : (d : Side) → (receiving_on d a).request ≡ (receiving_on d b).request
   pub heard : (d : Side) → hears (receiving_on d a).brought ≡ hears (receiving_on d b).brought
   pub readings : (d : Side) → (receiving_on d a).readings ≡ (receiving_on d b).readings
-  pub word : (d : Side) → word_of d a ≡ word_of d b
+  pub word : (d : Side) → last_word_on d a ≡ last_word_on d b
   pub generators : (d : Side) → (sending_on d a).generators ≡ (sending_on d b).generators
 
 compared_by : (a b : Node) → AreSame a b → compared a ≡ compared b

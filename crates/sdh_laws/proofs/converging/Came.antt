@@ -10,7 +10,7 @@ use Rattle.sdh_ringmap.specs.Fibres.{is_cut}
 use Rattle.sdh_kbytes.specs.declared.K.{K}
 use Rattle.sdh_nodestate.specs.declared.Sent.{Sent}
 use Rattle.sdh_nodestate.specs.Filtering.{Brought, with_brought}
-use Rattle.sdh_node.specs.Node.{Node, receiving_on, sent_of, word_of}
+use Rattle.sdh_node.specs.Node.{Node, receiving_on, sent_of, last_word_on}
 use Rattle.sdh_rounds.specs.Runs as any_run
 use Rattle.sdh_node.specs.Rings.Held.{node_at}
 use Rattle.sdh_node.specs.Rings.Rounds.{World, round}
@@ -36,15 +36,15 @@ came_after u whole p d inside started =
       | inr clear ↦ b.comes started clear ∙ sym (ap (λ (t : Bool). if t then None else Some (word_to u p d)) clear)
     ]
 
-pub word_by : (v : Node) (d : Side) (s : Node) → sent_of v ≡ sent_of s → word_of d v ≡ word_of d s
+pub word_by : (v : Node) (d : Side) (s : Node) → sent_of v ≡ sent_of s → last_word_on d v ≡ last_word_on d s
 word_by v West s e = ap (λ (z : Sent). z.west) e
 word_by v East s e = ap (λ (z : Sent). z.east) e
 
 -- ---- in a run
 
 pub word_to_in : (w : World) (k p : ℕ) (d : Side)
-    → word_to (run k w) p d ≡ word_of (opposite d) (node_at (run k w).ring.nodes (neighbour (length w.ring.ids) p d))
-word_to_in w k p d = ap (λ ids. word_of (opposite d) (node_at (run k w).ring.nodes (neighbour (length ids) p d))) (left_run k w).ids
+    → word_to (run k w) p d ≡ last_word_on (opposite d) (node_at (run k w).ring.nodes (neighbour (length w.ring.ids) p d))
+word_to_in w k p d = ap (λ ids. last_word_on (opposite d) (node_at (run k w).ring.nodes (neighbour (length ids) p d))) (left_run k w).ids
 
 -- what a side keeps after k rounds
 abbrev pub kept : World → ℕ → ℕ → Side → Brought

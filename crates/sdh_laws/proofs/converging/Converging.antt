@@ -8,7 +8,7 @@ use Rattle.sdh_signal.specs.Settled.{settled_states}
 use Rattle.sdh_signal.specs.Signals.{requests_in, request_on, no_needs}
 use Rattle.sdh_signal.specs.Laws.{RingsSettle}
 use Rattle.sdh_nodestate.specs.Filtering.{Brought, hears, heard_of}
-use Rattle.sdh_node.specs.Node.{receiving_on, sending_on, word_of, sent_of}
+use Rattle.sdh_node.specs.Node.{receiving_on, sending_on, last_word_on, sent_of}
 use Rattle.sdh_node.specs.Rings.Rounds.{World, round}
 use Rattle.sdh_node.specs.Rings.Runs.{run, course}
 use Rattle.sdh_node.specs.Rings.Quiet.{IsCalm}
@@ -21,7 +21,7 @@ use Rattle.sdh_laws.proofs.hearing.Rounds.{neighbour_inside}
 use Rattle.sdh_laws.proofs.hearing.Signalling.{needs_at, one_run}
 use Rattle.sdh_laws.proofs.hearing.Staying.{left_run}
 use Rattle.sdh_laws.proofs.hearing.Steady.{runs_get_still}
-use Rattle.sdh_laws.specs.Carrying.Windows.{layout_of, HasCircuits, AreSettled, requests_of}
+use Rattle.sdh_laws.specs.Carrying.Windows.{layout_of, HasCircuits, AreSettled, span_requests_of}
 use Rattle.sdh_laws.proofs.carrying.Applied.{length-requests_of}
 use Rattle.sdh_laws.proofs.carrying.Settles.{each_settled}
 use Rattle.sdh_laws.proofs.carrying.Ways.{layout_run}
@@ -48,16 +48,16 @@ module _ (w : World) (whole : IsWhole w) (form : HasCircuits (layout_of w)) (sti
   -- ---- requests and states
 
   abbrev rs : List ℕ
-  rs = requests_of (run 103 w)
+  rs = span_requests_of (run 103 w)
 
-  requests_at : (k : ℕ) → requests_of (run (103 + k) w) ≡ rs
-  requests_at zero = ap (λ j. requests_of (run j w)) {x = 103 + zero} {y = 103} (omega arith)
+  requests_at : (k : ℕ) → span_requests_of (run (103 + k) w) ≡ rs
+  requests_at zero = ap (λ j. span_requests_of (run j w)) {x = 103 + zero} {y = 103} (omega arith)
   requests_at (suc k) =
-      ap (λ j. requests_of (run j w)) {x = 103 + suc k} {y = suc (103 + k)} (omega arith)
+      ap (λ j. span_requests_of (run j w)) {x = 103 + suc k} {y = suc (103 + k)} (omega arith)
       ∙ ap requests_in (still.needs (103 + k) (omega arith)) ∙ requests_at k
 
-  requests_from : (k : ℕ) → 103 ≤ k → requests_of (run k w) ≡ rs
-  requests_from k late = ap (λ j. requests_of (run j w)) {x = k} {y = 103 + (k - 103)} (omega arith) ∙ requests_at (k - 103)
+  requests_from : (k : ℕ) → 103 ≤ k → span_requests_of (run k w) ≡ rs
+  requests_from k late = ap (λ j. span_requests_of (run j w)) {x = k} {y = 103 + (k - 103)} (omega arith) ∙ requests_at (k - 103)
 
   settled_from : (k : ℕ) → 4 * n + 110 ≤ k → AreSettled n rs (run k w)
   settled_from k late =
@@ -100,7 +100,7 @@ module _ (w : World) (whole : IsWhole w) (form : HasCircuits (layout_of w)) (sti
   -- ---- words
 
   word_stays : (k p : ℕ) (d : Side) → 5 * n + 110 ≤ k → p < length w.ring.nodes
-      → word_of d (node_at (run (suc k) w).ring.nodes p) ≡ word_of d (node_at (run k w).ring.nodes p)
+      → last_word_on d (node_at (run (suc k) w).ring.nodes p) ≡ last_word_on d (node_at (run k w).ring.nodes p)
   unfolding signals_of
   word_stays k p d late h =
       word_by (node_at (run (suc k) w).ring.nodes p) d (node_at (run k w).ring.nodes p)

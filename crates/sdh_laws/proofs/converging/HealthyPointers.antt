@@ -36,7 +36,7 @@ use Rattle.sdh_laws.specs.Hearing.Laws.{IsWhole, MayStart}
 use Rattle.sdh_laws.proofs.hearing.Rounds.{reads}
 use Rattle.sdh_laws.specs.Carrying.Windows.{layout_of, HasCircuits}
 use Rattle.sdh_spans.specs.Spans.{word_behind}
-use Rattle.sdh_laws.specs.Converging.Steady.{went, came, brought, HasStillPointers}
+use Rattle.sdh_laws.specs.Converging.Steady.{went, brought_to, brought_in_slot, HasStillPointers}
 use Rattle.sdh_laws.proofs.converging.Spans.{sending_in, reading_in, word_in, Takes, generator_goes, interpreter_goes}
 use Rattle.sdh_laws.proofs.converging.Ports.{IsSent, source_at, source_small, sources_send}
 use Rattle.sdh_laws.proofs.converging.Spreading.{two_halves, working_goes, protection_goes, protection_comes, inside_of, beside}
@@ -120,7 +120,7 @@ module _ (s : Settings) (ids : List ℕ) (circuits : Provisioning) (f : Fibres) 
   unfolding any_run.run
   reading_one p d i h = ap (λ l. get_or l i interpreter.start) ((reads w whole p d (inside p h)).idle refl) ∙ reading_zero p d i h
 
-  came_zero : (p : ℕ) (d : Side) (i : ℕ) → p < n → (came w p d (i + 1) 0).action ≡ action.Ais
+  came_zero : (p : ℕ) (d : Side) (i : ℕ) → p < n → (brought_to w p d (i + 1) 0).action ≡ action.Ais
   unfolding any_run.run
   came_zero p d i h =
       ap (λ l. get_or l (i + 1 - 1) action.Ais) ((reads w whole p d (inside p h)).none refl) ∙ same_all (n_of s.rate) (i + 1 - 1) action.Ais
@@ -168,24 +168,24 @@ module _ (s : Settings) (ids : List ℕ) (circuits : Provisioning) (f : Fibres) 
         reading_so (suc k) ∙ ap (reading_over o (h + 1)) {x = suc k} {y = k + 1} (omega arith) ∙ reading_stays o (h + 1) k (omega arith)
         ∙ sym (reading_so k)
 
-    came_does : (t : ℕ) → (came w p d (i + 1) t).action ≡ action_over o (h + 1) t
+    came_does : (t : ℕ) → (brought_to w p d (i + 1) t).action ≡ action_over o (h + 1) t
     came_does zero = came_zero p d i there ∙ sym (action_start o (h + 1) 0 (omega arith))
     came_does (suc k) =
         (takes k).action ∙ ap (λ r. action_on r (word_over o h k))
         (reading_so (suc k) ∙ ap (reading_over o (h + 1)) {x = suc k} {y = k + 1} (omega arith))
         ∙ (values_spread o h k small).action ∙ ap (action_over o (h + 1)) {x = k + 1} {y = suc k} (omega arith)
 
-    came_value : (v t : ℕ) → o ≡ Some v → h + 1 ≤ t → (came w p d (i + 1) t).value ≡ v
+    came_value : (v t : ℕ) → o ≡ Some v → h + 1 ≤ t → (brought_to w p d (i + 1) t).value ≡ v
     came_value v zero is late = absurd (omega arith)
     came_value v (suc k) is late =
         (takes k).value ∙ ap (λ (r : Reading). r.value) (reading_so (suc (suc k)))
         ∙ ap (λ o. (reading_over o (h + 1) (suc (suc k))).value) is ∙ reading_value v (h + 1) (suc (suc k)) (omega arith)
 
-    value_by_source : (x : Option ℕ) (t : ℕ) → o ≡ x → IsValueOver x (h + 1) t (came w p d (i + 1) t).value
+    value_by_source : (x : Option ℕ) (t : ℕ) → o ≡ x → IsValueOver x (h + 1) t (brought_to w p d (i + 1) t).value
     value_by_source None t is = tt
     value_by_source (Some v) t is = λ late. came_value v t is late
 
-    pub comes_from : IsFrom (came w p d (i + 1)) o (h + 1)
+    pub comes_from : IsFrom (brought_to w p d (i + 1)) o (h + 1)
     comes_from = record { does = came_does; value = λ t. value_by_source o t refl }
 
   -- ---- a walk
@@ -197,19 +197,19 @@ module _ (s : Settings) (ids : List ℕ) (circuits : Provisioning) (f : Fibres) 
     small_at : (y : Stand) → y.at < n → IsSmall (source y)
     small_at y h = source_small w whole form.offsets y.at y.origin (inside y.at h)
 
-    starts : (q m : ℕ) (o : Origin) → q < n → IsOver o → IsFrom (brought w q m o) (source_at w q o) 0
+    starts : (q m : ℕ) (o : Origin) → q < n → IsOver o → IsFrom (brought_in_slot w q m o) (source_at w q o) 0
     starts q m o h over =
-        from_source (brought w q m o) (source_at w q o) (λ t. sources_send w whole (new_unslipped s ids circuits f may) t q m o h over)
+        from_source (brought_in_slot w q m o) (source_at w q o) (λ t. sources_send w whole (new_unslipped s ids circuits f may) t q m o h over)
 
     module _ (m : ℕ) (low : 1 ≤ m) (high : m ≤ half) where
-      went_working : (q j : ℕ) (e : Side) → q < n → went w q e m j ≡ brought w q m (working_in n cs q Idle e m) j
+      went_working : (q j : ℕ) (e : Side) → q < n → went w q e m j ≡ brought_in_slot w q m (working_in n cs q Idle e m) j
       went_working q j e h = working_goes w whole q m j e Idle h high (idle_after (suc j) q h)
 
-      went_protection : (q j : ℕ) (e : Side) → q < n → went w q e (half + m) j ≡ brought w q m (protection_in n cs q Idle e m) j
+      went_protection : (q j : ℕ) (e : Side) → q < n → went w q e (half + m) j ≡ brought_in_slot w q m (protection_in n cs q Idle e m) j
       went_protection q j e h = protection_goes w whole q m j e Idle h low (idle_after (suc j) q h)
 
       over_span : (p : ℕ) (o : Origin) (src : Option ℕ) (h : ℕ) → IsSmall src → p < n → IsArrival o
-          → (let b = back_from n all_idle cs m p o in IsFrom (brought w b.at m b.origin) src h → IsFrom (brought w p m o) src (h + 1))
+          → (let b = back_from n all_idle cs m p o in IsFrom (brought_in_slot w b.at m b.origin) src h → IsFrom (brought_in_slot w p m o) src (h + 1))
       over_span p Ais src h small there arrives from = absurd arrives
       over_span p (Add id) src h small there arrives from = absurd arrives
       over_span p (Working d) src h small there arrives from =
@@ -218,7 +218,7 @@ module _ (s : Settings) (ids : List ℕ) (circuits : Provisioning) (f : Fibres) 
           let back : i + 1 ≡ m = omega arith in
           let went_so : IsFrom (went w q (opposite d) m) src h =
           from_as _ (went w q (opposite d) m) src h (λ j. went_working q j (opposite d) (near p d)) from in
-          subst (λ au. IsFrom (came w p d au) src (h + 1)) back
+          subst (λ au. IsFrom (brought_to w p d au) src (h + 1)) back
           (comes_from p d i src h small there (omega (arith, two_halves s.rate))
           (subst (λ au. IsFrom (went w q (opposite d) au) src h) (sym back) went_so))
       over_span p (Protection d) src h small there arrives from =
@@ -227,8 +227,8 @@ module _ (s : Settings) (ids : List ℕ) (circuits : Provisioning) (f : Fibres) 
           let back : i + 1 ≡ half + m = omega arith in
           let went_so : IsFrom (went w q (opposite d) (half + m)) src h =
           from_as _ (went w q (opposite d) (half + m)) src h (λ j. went_protection q j (opposite d) (near p d)) from in
-          from_as (came w p d (half + m)) (brought w p m (Protection d)) src (h + 1) (λ j. protection_comes w whole p m j d there)
-          (subst (λ au. IsFrom (came w p d au) src (h + 1)) back
+          from_as (brought_to w p d (half + m)) (brought_in_slot w p m (Protection d)) src (h + 1) (λ j. protection_comes w whole p m j d there)
+          (subst (λ au. IsFrom (brought_to w p d au) src (h + 1)) back
           (comes_from p d i src h small there (omega (arith, two_halves s.rate))
           (subst (λ au. IsFrom (went w q (opposite d) au) src h) (sym back) went_so)))
 
@@ -244,13 +244,13 @@ module _ (s : Settings) (ids : List ℕ) (circuits : Provisioning) (f : Fibres) 
           leads_inside h (back_from n all_idle cs m a.at a.origin) y (back_inside a.at a.origin there) leads.1
 
       along : (h : ℕ) (a y : Stand) → a.at < n → Leads n all_idle cs m h a y → IsOver y.origin
-          → IsFrom (brought w a.at m a.origin) (source y) h
+          → IsFrom (brought_in_slot w a.at m a.origin) (source y) h
       along zero a y there leads over =
-          subst (λ (z : Stand). IsFrom (brought w z.at m z.origin) (source y) 0) (sym leads)
+          subst (λ (z : Stand). IsFrom (brought_in_slot w z.at m z.origin) (source y) 0) (sym leads)
           (starts y.at m y.origin (subst (λ (z : Stand). z.at < n) leads there) over)
       along (suc h) a y there leads over =
           let b = back_from n all_idle cs m a.at a.origin in
-          subst (IsFrom (brought w a.at m a.origin) (source y)) (let e : h + 1 ≡ suc h = omega arith in e)
+          subst (IsFrom (brought_in_slot w a.at m a.origin) (source y)) (let e : h + 1 ≡ suc h = omega arith in e)
           (over_span a.at a.origin (source y) h (small_at y (leads_inside (suc h) a y there leads)) there leads.0
           (along h b y (back_inside a.at a.origin there) leads.1 over))
 
@@ -275,7 +275,7 @@ module _ (s : Settings) (ids : List ℕ) (circuits : Provisioning) (f : Fibres) 
           near = let z = t.within in omega arith;
           small = small_at t.last (leads_inside m (omega arith) high t.spans (stand q o) t.last there t.leads);
           from =
-              from_as (brought w q m o) (went w q e m) (source t.last) t.spans (λ j. went_working m (omega arith) high q j e there)
+              from_as (brought_in_slot w q m o) (went w q e m) (source t.last) t.spans (λ j. went_working m (omega arith) high q j e there)
               (along m (omega arith) high t.spans (stand q o) t.last there t.leads t.over);
         }
 
@@ -289,9 +289,9 @@ module _ (s : Settings) (ids : List ℕ) (circuits : Provisioning) (f : Fibres) 
           near = omega arith;
           small = tt;
           from = subst (λ au. IsFrom (went w q e au) None 0) at
-              (from_as (brought w q m Ais) (went w q e (half + m)) None 0
+              (from_as (brought_in_slot w q m Ais) (went w q e (half + m)) None 0
               (λ j. went_protection m (omega arith) (omega (arith, two_halves s.rate)) q j e there
-              ∙ ap (λ o. brought w q m o j) (idle-leaves n cs q e m)) (starts q m Ais there tt));
+              ∙ ap (λ o. brought_in_slot w q m o j) (idle-leaves n cs q e m)) (starts q m Ais there tt));
         }
 
     traced : (q : ℕ) (e : Side) (i : ℕ) → q < n → i < n_of s.rate → Traced q e i

@@ -21,7 +21,7 @@ use Rattle.sdh_node.specs.Rings.Runs.{run, course}
 use Rattle.sdh_node.specs.Rings.Quiet.{EndsWindow}
 use Rattle.sdh_node.specs.Rings.Changes.{new_world}
 use Rattle.sdh_laws.proofs.hearing.Staying.{left_run}
-use Rattle.sdh_laws.specs.Carrying.Windows.{requests_of}
+use Rattle.sdh_laws.specs.Carrying.Windows.{span_requests_of}
 use Rattle.sdh_laws.proofs.carrying.Settles.{window_restores, due_by}
 use Rattle.sdh_laws.proofs.carrying.Ways.{layout_run}
 use Rattle.sdh_laws.specs.Converging.Healthy.{HealthyStepsDeliver}
@@ -49,7 +49,7 @@ healthy_steps_deliver law s ids circuits f may form steps index c some get e =
       calm = λ j early late. calm_from s ids circuits f may form j (omega arith);
       place = omega arith;
     } in
-    let rs = requests_of (run k w) in
+    let rs = span_requests_of (run k w) in
     let nothing : is_applied rs ≡ (λ span. false) = λ i span. healthy_rings_apply_nothing s ids circuits f may k span (omega arith) i in
     let there : slice_get (run k w).ring.circuits.circuits index ≡ Some c = ap (λ l. slice_get l.circuits index) (layout_run w k) ∙ get in
     let restored = window_restores law w (begin_whole s ids circuits f may) k ends form in

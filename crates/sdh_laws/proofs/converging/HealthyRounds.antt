@@ -18,7 +18,7 @@ use Rattle.sdh_laws.specs.Hearing.Laws.{MayStart}
 use Rattle.sdh_laws.proofs.hearing.Changes.{whole_run}
 use Rattle.sdh_laws.proofs.hearing.Requests.{requests_by}
 use Rattle.sdh_laws.proofs.hearing.Staying.{left_run}
-use Rattle.sdh_laws.specs.Carrying.Windows.{layout_of, HasCircuits, requests_of}
+use Rattle.sdh_laws.specs.Carrying.Windows.{layout_of, HasCircuits, span_requests_of}
 use Rattle.sdh_laws.specs.Converging.Healthy.{HealthyRoundsAreCalm, healthy_steps, HealthyStepsSettle, HealthyRingsApplyNothing}
 use Rattle.sdh_laws.proofs.converging.Runs.{length_run, run_more}
 use Rattle.sdh_laws.proofs.converging.Calming.{AreSame, calm_round}
@@ -187,7 +187,7 @@ no_requests m span =
     (λ i h. get_or-cells (λ s. 0) m i 0 (omega (arith, length-cells {X = ℕ} (λ s. 0) m))))
 
 none_asks : (s : Settings) (ids : List ℕ) (circuits : Provisioning) (f : Fibres) (may : MayStart s ids f) (j : ℕ)
-    → requests_of (run (suc j) (new_world s ids circuits f)) ≡ span_requests (length ids) (λ p d. Nr)
+    → span_requests_of (run (suc j) (new_world s ids circuits f)) ≡ span_requests (length ids) (λ p d. Nr)
 none_asks s ids circuits f may j =
     let w = new_world s ids circuits f in
     requests_by (run (suc j) w) (length ids) (length_run w (suc j) ∙ size s ids circuits f may) (λ p d. Nr)
@@ -196,5 +196,5 @@ none_asks s ids circuits f may j =
 pub healthy_rings_apply_nothing : HealthyRingsApplyNothing
 healthy_rings_apply_nothing s ids circuits f may k span some =
     let now : suc (k - 1) ≡ k = omega arith in
-    subst (λ j. is_applied (requests_of (run j (new_world s ids circuits f))) span ≡ false) now
+    subst (λ j. is_applied (span_requests_of (run j (new_world s ids circuits f))) span ≡ false) now
     (ap (λ rs. is_applied rs span) (none_asks s ids circuits f may (k - 1)) ∙ no_requests (length ids) span)

@@ -25,7 +25,7 @@ use Rattle.sdh_nodestate.specs.Filtering.{Brought, with_brought, hears, heard_of
 use Rattle.sdh_nodestate.proofs.Filtering.{heard_last}
 use Rattle.sdh_kbytes.proofs.SameWords.{agrees_itself}
 use Rattle.sdh_node.specs.Crossing.{is_failed}
-use Rattle.sdh_node.specs.Node.{Node, receiving_on, new_node, is_held, word_of, needed}
+use Rattle.sdh_node.specs.Node.{Node, receiving_on, new_node, is_held, last_word_on, needed}
 use Rattle.sdh_node.specs.Rings.Held.{new_nodes, nowhere, node_at}
 use Rattle.sdh_node.specs.Rings.Rounds.{World, node_after}
 use Rattle.sdh_node.specs.Rings.Runs.{run}
@@ -121,17 +121,17 @@ module _ (s : Settings) (ids : List ℕ) (circuits : Provisioning) (f : Fibres) 
   pub record IsHealthy (p k : ℕ) : Type 0 where
     pub turns : (node_at (run k begin).ring.nodes p).held ≡ 0
     pub state_idle : (node_at (run k begin).ring.nodes p).state ≡ state.Idle tt
-    pub word_first : (d : Side) → word_of d (node_at (run k begin).ring.nodes p) ≡ first_word ids p d
+    pub word_first : (d : Side) → last_word_on d (node_at (run k begin).ring.nodes p) ≡ first_word ids p d
 
   healthy_new : (p : ℕ) → p < length ids → IsHealthy p 0
   unfolding new_node
   healthy_new p h = record {
     turns = ap (λ (n : Node). n.held) (new_is p h);
     state_idle = ap (λ (n : Node). n.state) (new_is p h);
-    word_first = λ d. ap (word_of d) (new_is p h) ∙ word_new d;
+    word_first = λ d. ap (last_word_on d) (new_is p h) ∙ word_new d;
   }
     where
-      word_new : (d : Side) → word_of d (new_node s ids circuits.circuits (position_of p)) ≡ first_word ids p d
+      word_new : (d : Side) → last_word_on d (new_node s ids circuits.circuits (position_of p)) ≡ first_word ids p d
       word_new West = refl
       word_new East = refl
 
@@ -173,7 +173,7 @@ module _ (s : Settings) (ids : List ℕ) (circuits : Provisioning) (f : Fibres) 
 
     word_comes : (d : Side) → word_to u p d ≡ first_word ids (neighbour count p d) (opposite d)
     word_comes d =
-        ap (λ i. word_of (opposite d) (node_at u.ring.nodes (neighbour (length i) p d))) (left_run k begin).ids
+        ap (λ i. last_word_on (opposite d) (node_at u.ring.nodes (neighbour (length i) p d))) (left_run k begin).ids
         ∙ (before (neighbour count p d) (beside d)).word_first (opposite d)
 
     not_cut : (d : Side) → is_cut (condition_to u p d) ≡ false
@@ -238,7 +238,7 @@ module _ (s : Settings) (ids : List ℕ) (circuits : Provisioning) (f : Fibres) 
         ∙ ap (λ (b : Bool). if b then (node_at u.ring.nodes p).state else state_after (scene_in new)) free
         ∙ idle (scene_in new) needs_scene quiet_scene
 
-    word_next : (d : Side) → word_of d new ≡ first_word ids p d
+    word_next : (d : Side) → last_word_on d new ≡ first_word ids p d
     word_next d =
         let is = is_at (run (suc k) begin) (whole_run begin (suc k) begin_whole).placed p (omega (arith, size, length_run begin (suc k))) in
         let ids_are : new.ids ≡ ids = is.ids_are ∙ (left_run (suc k) begin).ids in
@@ -247,9 +247,9 @@ module _ (s : Settings) (ids : List ℕ) (circuits : Provisioning) (f : Fibres) 
         ∙ ap (λ a. slice_index ids (neighbour count a d)) is.at in
         let from : own_id (scene_in new) ≡ slice_index ids p =
         own_is new ∙ ap (λ i. slice_index i new.at.0) ids_are ∙ ap (λ a. slice_index ids a) is.at in
-        subst (λ (n : Node). word_of d n ≡ (if is_held (node_at u.ring.nodes p) then word_of d (informed u p) else word (scene_in n) d))
+        subst (λ (n : Node). last_word_on d n ≡ (if is_held (node_at u.ring.nodes p) then last_word_on d (informed u p) else word (scene_in n) d))
         (sym new_next) (word_is u.ring.moment (informed u p) d)
-        ∙ ap (λ (b : Bool). if b then word_of d (informed u p) else word (scene_in new) d) free
+        ∙ ap (λ (b : Bool). if b then last_word_on d (informed u p) else word (scene_in new) d) free
         ∙ asks_nothing (scene_in new) needs_scene quiet_scene d
         ∙ (λ i. record { code = Nr; to = to i; from = from i; path = Short; mark = mark.Idle })
 

@@ -19,7 +19,7 @@ use Rattle.sdh_spans.specs.Spans.{TakesWord, word_behind, IsConstant}
 use Rattle.sdh_spans.specs.Laws.{RestsBehind}
 use Rattle.sdh_spans.proofs.Steady.{generators_rest, spans_are_steady}
 use Rattle.sdh_laws.proofs.carrying.Spans.{generator_step, interpreter_step}
-use Rattle.sdh_laws.specs.Converging.Steady.{went, came}
+use Rattle.sdh_laws.specs.Converging.Steady.{went, brought_to}
 use Rattle.sdh_laws.specs.Converging.Laws.{ASpanIsSteady}
 use Rattle.sdh_laws.proofs.converging.Runs.{length_run, rate_run, condition_run}
 use Rattle.sdh_ringmap.specs.Fibres.{is_cut}
@@ -40,7 +40,7 @@ word_in w p d i k = word_sent (sending_in w p d i k) (went w p d (i + 1) k).acti
 
 -- one interpreter in a round takes a word
 abbrev pub Takes : World → ℕ → Side → ℕ → ℕ → ℕ → Type 0
-Takes w p d i k word = TakesWord (reading_in w p d i k) (reading_in w p d i (suc k)) (came w p d (i + 1) k) word
+Takes w p d i k word = TakesWord (reading_in w p d i k) (reading_in w p d i (suc k)) (brought_to w p d (i + 1) k) word
 
 module _ (w : World) (whole : IsWhole w) where
   -- a generator goes on by what goes into its AU-4
@@ -74,9 +74,9 @@ module _ (w : World) (whole : IsWhole w) where
     abbrev q : ℕ
     q = neighbour (length w.ring.ids) p d
 
-    rests : RestsBehind (reading_in w p d i) (came w p d (i + 1)) k
+    rests : RestsBehind (reading_in w p d i) (brought_to w p d (i + 1)) k
     rests =
-        spans_are_steady (is_cut (condition_to w p d)) (went w q (opposite d) (i + 1)) (came w p d (i + 1)) (sending_in w q (opposite d) i)
+        spans_are_steady (is_cut (condition_to w p d)) (went w q (opposite d) (i + 1)) (brought_to w p d (i + 1)) (sending_in w q (opposite d) i)
         (reading_in w p d i) k
         (λ j. generator_goes q (opposite d) i j (neighbour_inside w whole p d) few) (λ j. interpreter_goes p d i j inside few) c
 
@@ -84,13 +84,13 @@ module _ (w : World) (whole : IsWhole w) where
     pub reading_rests : (j : ℕ) → k + 9 ≤ j → reading_in w p d i (suc j) ≡ reading_in w p d i j
     reading_rests j h = rests.stays j h
 
-    pub span_constant : IsConstant (came w p d (i + 1)) (k + 9)
+    pub span_constant : IsConstant (brought_to w p d (i + 1)) (k + 9)
     span_constant = rests.comes
 
 pub a_span_is_steady : ASpanIsSteady
 a_span_is_steady w whole p d au k inside low high c =
     let i = au - 1 in
     let back : i + 1 ≡ au = omega arith in
-    subst (λ a. IsConstant (came w p d a) (k + 9)) back
+    subst (λ a. IsConstant (brought_to w p d a) (k + 9)) back
     (span_constant w whole p d i k (omega (arith, count w whole.placed)) (omega arith)
     (subst (λ a. IsConstant (went w (neighbour (length w.ring.ids) p d) (opposite d) a) k) (sym back) c))

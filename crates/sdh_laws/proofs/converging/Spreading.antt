@@ -31,7 +31,7 @@ use Rattle.sdh_laws.proofs.carrying.Connections.{brings_protection}
 use Rattle.sdh_laws.proofs.carrying.Ways.{layout_run}
 use Rattle.sdh_spans.specs.Spans.{IsConstant}
 use Rattle.sdh_spans.proofs.Steady.{constant_as, constant_later}
-use Rattle.sdh_laws.specs.Converging.Steady.{went, came, brought, StaysSettled, HasStillPointers}
+use Rattle.sdh_laws.specs.Converging.Steady.{went, brought_to, brought_in_slot, StaysSettled, HasStillPointers}
 use Rattle.sdh_laws.specs.Converging.Laws.{PointersRest}
 use Rattle.sdh_laws.proofs.converging.Runs.{length_run, rate_run}
 use Rattle.sdh_laws.proofs.converging.Spans.{a_span_is_steady, sending_rests, reading_rests}
@@ -56,17 +56,17 @@ module _ (w : World) (whole : IsWhole w) where
   half = slots_of (layout_of w)
 
   pub working_goes : (q m j : ℕ) (e : Side) (st : NodeState) → q < n → m ≤ half → (node_at (run (suc j) w).ring.nodes q).state ≡ st
-      → went w q e m j ≡ brought w q m (working_in n cs q st e m) j
+      → went w q e m j ≡ brought_in_slot w q m (working_in n cs q st e m) j
   unfolding any_run.run
   working_goes q m j e st = subst (λ l. SendsWorking l (run j w)) (layout_run w j) (sends_working (run j w) (whole_run w j whole)) q m e st
 
   pub protection_goes : (q m j : ℕ) (e : Side) (st : NodeState) → q < n → 1 ≤ m → (node_at (run (suc j) w).ring.nodes q).state ≡ st
-      → went w q e (half + m) j ≡ brought w q m (protection_in n cs q st e m) j
+      → went w q e (half + m) j ≡ brought_in_slot w q m (protection_in n cs q st e m) j
   unfolding any_run.run
   protection_goes q m j e st =
       subst (λ l. SendsProtection l (run j w)) (layout_run w j) (sends_protection (run j w) (whole_run w j whole)) q m e st
 
-  pub protection_comes : (p m j : ℕ) (d : Side) → p < n → brought w p m (Protection d) j ≡ came w p d (half + m) j
+  pub protection_comes : (p m j : ℕ) (d : Side) → p < n → brought_in_slot w p m (Protection d) j ≡ brought_to w p d (half + m) j
   protection_comes p m j d =
       subst (λ l. BringsProtection l (run j w)) (layout_run w j) (brings_protection (run j w) (whole_run w j whole)) p m d
 
@@ -87,7 +87,7 @@ module _ (w : World) (whole : IsWhole w) where
 -- ---- in settled states
 
 module _ (w : World) (whole : IsWhole w) (form : HasCircuits (layout_of w)) (rs : List ℕ) (rest : StaysSettled w rs) where
-  starts : (p m : ℕ) (o : Origin) → p < n w whole → IsOver o → IsConstant (brought w p m o) 0
+  starts : (p m : ℕ) (o : Origin) → p < n w whole → IsOver o → IsConstant (brought_in_slot w p m o) 0
   starts p m o h over =
       let source = source_at w p o in
       record {
@@ -100,16 +100,16 @@ module _ (w : World) (whole : IsWhole w) (form : HasCircuits (layout_of w)) (rs 
 
   module _ (m : ℕ) (low : 1 ≤ m) (high : m ≤ half w whole) where
     went_working : (q j : ℕ) (e : Side) → q < n w whole → went w q e m j
-        ≡ brought w q m (working_in (n w whole) (cs w whole) q (settled rs q) e m) j
+        ≡ brought_in_slot w q m (working_in (n w whole) (cs w whole) q (settled rs q) e m) j
     went_working q j e h = working_goes w whole q m j e (settled rs q) h high (rest.settled_are (suc j) (omega arith) q h)
 
     went_protection : (q j : ℕ) (e : Side) → q < n w whole → went w q e (half w whole + m) j
-        ≡ brought w q m (protection_in (n w whole) (cs w whole) q (settled rs q) e m) j
+        ≡ brought_in_slot w q m (protection_in (n w whole) (cs w whole) q (settled rs q) e m) j
     went_protection q j e h = protection_goes w whole q m j e (settled rs q) h low (rest.settled_are (suc j) (omega arith) q h)
 
     over_span : (t p : ℕ) (o : Origin) → p < n w whole → IsArrival o
-        → (let b = back_from (n w whole) (settled rs) (cs w whole) m p o in IsConstant (brought w b.at m b.origin) t
-        → IsConstant (brought w p m o) (t + 9))
+        → (let b = back_from (n w whole) (settled rs) (cs w whole) m p o in IsConstant (brought_in_slot w b.at m b.origin) t
+        → IsConstant (brought_in_slot w p m o) (t + 9))
     over_span t p Ais h arrives c = absurd arrives
     over_span t p (Add id) h arrives c = absurd arrives
     over_span t p (Working d) h arrives c =
@@ -118,35 +118,35 @@ module _ (w : World) (whole : IsWhole w) (form : HasCircuits (layout_of w)) (rs 
         (constant_as _ (went w q (opposite d) m) t (λ j. went_working q j (opposite d) (beside w whole p d)) c)
     over_span t p (Protection d) h arrives c =
         let q = neighbour (n w whole) p d in
-        constant_as (came w p d (half w whole + m)) (brought w p m (Protection d)) (t + 9) (λ j. protection_comes w whole p m j d h)
+        constant_as (brought_to w p d (half w whole + m)) (brought_in_slot w p m (Protection d)) (t + 9) (λ j. protection_comes w whole p m j d h)
         (a_span_is_steady w whole p d (half w whole + m) t h (omega arith) (omega (arith, two_halves w.ring.settings.rate))
         (constant_as _ (went w q (opposite d) (half w whole + m)) t (λ j. went_protection q j (opposite d) (beside w whole p d)) c))
 
-    spreads : Spreads (n w whole) (settled rs) (cs w whole) m (λ t p o. IsConstant (brought w p m o) t) 0 9
+    spreads : Spreads (n w whole) (settled rs) (cs w whole) m (λ t p o. IsConstant (brought_in_slot w p m o) t) 0 9
     spreads = record {
       starts = λ p o h over. starts p m o h over;
-      later = λ t u p o late c. constant_later (brought w p m o) t u late c;
+      later = λ t u p o late c. constant_later (brought_in_slot w p m o) t u late c;
       over_span = λ t p o h arrives late c. over_span t p o h arrives c;
     }
 
-    all_constant : (p : ℕ) (o : Origin) → p < n w whole → IsConstant (brought w p m o) (27 * n w whole + 9)
+    all_constant : (p : ℕ) (o : Origin) → p < n w whole → IsConstant (brought_in_slot w p m o) (27 * n w whole + 9)
     all_constant p o h =
         let same = rest.spans in
-        constant_later (brought w p m o) (0 + 9 * (3 * length rs + 1)) (27 * n w whole + 9) (omega arith)
+        constant_later (brought_in_slot w p m o) (0 + 9 * (3 * length rs + 1)) (27 * n w whole + 9) (omega arith)
         (steadiness_spreads rs (half w whole) (cs w whole) (subst (λ k. AreCircuits k (half w whole) (cs w whole)) (sym same) form) m
-        (λ t p o. IsConstant (brought w p m o) t) 0 9
-        (subst (λ k. Spreads k (settled rs) (cs w whole) m (λ t p o. IsConstant (brought w p m o) t) 0 9) (sym same) spreads) p o
+        (λ t p o. IsConstant (brought_in_slot w p m o) t) 0 9
+        (subst (λ k. Spreads k (settled rs) (cs w whole) m (λ t p o. IsConstant (brought_in_slot w p m o) t) 0 9) (sym same) spreads) p o
         (omega arith))
 
     all_working : (q : ℕ) (e : Side) → q < n w whole → IsConstant (went w q e m) (27 * n w whole + 9)
     all_working q e h =
         let o = working_in (n w whole) (cs w whole) q (settled rs q) e m in
-        constant_as (brought w q m o) (went w q e m) (27 * n w whole + 9) (λ j. went_working q j e h) (all_constant q o h)
+        constant_as (brought_in_slot w q m o) (went w q e m) (27 * n w whole + 9) (λ j. went_working q j e h) (all_constant q o h)
 
     all_protection : (q : ℕ) (e : Side) → q < n w whole → IsConstant (went w q e (half w whole + m)) (27 * n w whole + 9)
     all_protection q e h =
         let o = protection_in (n w whole) (cs w whole) q (settled rs q) e m in
-        constant_as (brought w q m o) (went w q e (half w whole + m)) (27 * n w whole + 9) (λ j. went_protection q j e h)
+        constant_as (brought_in_slot w q m o) (went w q e (half w whole + m)) (27 * n w whole + 9) (λ j. went_protection q j e h)
         (all_constant q o h)
 
   -- each AU-4

@@ -28,7 +28,7 @@ use Rattle.sdh_node.specs.Receiving.{Receiving, commanded_by, inlet_of}
 use Rattle.sdh_ringmap.specs.declared.terms.Rate.{Rate}
 use Rattle.sdh_spans.specs.Frames.{CarriesWord, AreCarried}
 use Rattle.sdh_spans.specs.Sides.{IsInletAt, IsSenderAt}
-use Rattle.sdh_node.specs.Node.{Node, new_node, at_receiving, held_for, slips_at, receiving_on, sending_on, word_of}
+use Rattle.sdh_node.specs.Node.{Node, new_node, at_receiving, held_for, slips_at, receiving_on, sending_on, last_word_on}
 use Rattle.sdh_node.specs.Rings.Held.{new_nodes, at_place, place_of_port, new_ring, nowhere, AtEach}
 use Rattle.sdh_node.specs.Rings.Rounds.{World, world}
 use Rattle.sdh_node.specs.Rings.Runs.{run}
@@ -194,13 +194,13 @@ between_commanded : (rounds : ℕ) (d : Side) (c : Command) (n : Node) → IsBet
 between_commanded rounds d c n h = record { ran = h.ran; gone = h.gone; fresh = λ e. arrived_commanded d e c n ∙ h.fresh e }
 
 -- what holds of a word still holds
-word_commanded : (P : K → Type 0) (d e : Side) (c : Command) (n : Node) → P (word_of e n)
-    → P (word_of e (at_receiving d (commanded_by c) n))
+word_commanded : (P : K → Type 0) (d e : Side) (c : Command) (n : Node) → P (last_word_on e n)
+    → P (last_word_on e (at_receiving d (commanded_by c) n))
 word_commanded P d e c n h = subst (λ x. P x.word) (sym (sending_commanded d e c n)) h
 
 -- the fibres that leave a node carry its words
 abbrev CarriedFrom : World → ℕ → Node → Type 0
-CarriedFrom w p n = AreCarried w.ring.settings.rate w.fibres w.ring.rounds p (λ d. word_of d n)
+CarriedFrom w p n = AreCarried w.ring.settings.rate w.fibres w.ring.rounds p (λ d. last_word_on d n)
 
 carried_commanded : (w : World) (d : Side) (c : Command) (p : ℕ) (n : Node) → CarriedFrom w p n
     → CarriedFrom w p (at_receiving d (commanded_by c) n)
@@ -265,7 +265,7 @@ module _ (f : Node → Node) (leaves : LeavesSides f) where
   fresh_left rounds n h e = ap (λ (r : Receiving). r.arrived) (leaves.receiving e n) ∙ h.fresh e
 
   -- what holds of a word still holds
-  word_left : (P : K → Type 0) (e : Side) (n : Node) → P (word_of e n) → P (word_of e (f n))
+  word_left : (P : K → Type 0) (e : Side) (n : Node) → P (last_word_on e n) → P (last_word_on e (f n))
   word_left P e n h = subst (λ x. P x.word) (sym (leaves.sending e n)) h
 
   carried_left : (w : World) (p : ℕ) (n : Node) → CarriedFrom w p n → CarriedFrom w p (f n)

@@ -22,7 +22,7 @@ use Rattle.sdh_node.specs.Rings.Rounds.{World, round, round_with}
 use Rattle.sdh_restoration.specs.Sides.{Holding}
 use Rattle.sdh_node.specs.Rings.Sides.{command_on, holding_of, condition_to}
 use Rattle.sdh_rounds.proofs.Runs.{conditions_round}
-use Rattle.sdh_spans.specs.Frames.{shown_by}
+use Rattle.sdh_spans.specs.Frames.{violations_shown}
 use Rattle.sdh_laws.specs.Hearing.Laws.{IsWhole}
 use Rattle.sdh_laws.proofs.hearing.Nodes.{count, length-after}
 use Rattle.sdh_laws.proofs.hearing.Rounds.{neighbour_inside, made, nothing_found, defect_cut, took_is, whole_round}
@@ -167,7 +167,7 @@ module _ (given : Settings) (ids : List ℕ) (hist : ℕ → Side → SideHistor
     back : t + 1 - 1 ≡ t
     back = omega arith
 
-    shown_more : 0 < t → shown_by c ≡ shown hi (t + 1)
+    shown_more : 0 < t → violations_shown c ≡ shown hi (t + 1)
     shown_more some = elim (cases_Bool (is_cut c)) [
       | inl cut ↦ ap (λ (b : Bool). if b then 0 else degraded_by c) cut ∙ sym (
           ap (λ b. if b && not (hi.is_cut (t + 1 - 1)) then hi.degraded (t + 1 - 1) else 0) (two_or_more some)

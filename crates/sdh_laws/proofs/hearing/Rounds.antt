@@ -37,12 +37,12 @@ use Rattle.sdh_node.specs.Receiving.{Receiving, inlet_of}
 use Rattle.sdh_terminal.specs.Sending.{Sending}
 use Rattle.sdh_terminal.specs.Lines.{Line, line_on}
 use Rattle.sdh_node.specs.Crossing.{is_failed, lines_of}
-use Rattle.sdh_node.specs.Node.{Node, receiving_on, sending_on, is_held, crossing, word_of}
+use Rattle.sdh_node.specs.Node.{Node, receiving_on, sending_on, is_held, crossing, last_word_on}
 use Rattle.sdh_node.specs.Rings.Rounds.{World, round, round_with, arrivals_of, nodes_with, node_after, frames_of}
 use Rattle.sdh_rounds.specs.Rounds.{arrival_at, sent_all}
 use Rattle.sdh_rounds.proofs.Runs.{length-heard, prepared_round}
 use Rattle.sdh_rounds.proofs.Honest.{honest_rounds}
-use Rattle.sdh_spans.specs.Frames.{Says, CarriesWord}
+use Rattle.sdh_spans.specs.Frames.{SaysWord, CarriesWord}
 use Rattle.sdh_spans.specs.Sides.{IsSenderAt, FindsNothing, IsTold, FindsSo}
 use Rattle.sdh_spans.specs.Spans.{line_after}
 use Rattle.sdh_spans.proofs.Frames.{cut_is_dark, comes_through}
@@ -298,10 +298,10 @@ module _ (w : World) (whole : IsWhole w) where
   -- words
   pub words_have : (P : K → Type 0) (p : ℕ) → p < length w.ring.nodes
       → ((s : Scene) (d to : Side) (code : Code) (path : Path) → s.ids ≡ w.ring.ids → s.at ≡ p → P (own_word s d code to path))
-      → ((d : Side) → P (word_to w p d)) → ((d : Side) → P (word_of d (node_at w.ring.nodes p))) → (d : Side) → P (word_of d (next_node p))
+      → ((d : Side) → P (word_to w p d)) → ((d : Side) → P (last_word_on d (node_at w.ring.nodes p))) → (d : Side) → P (last_word_on d (next_node p))
   words_have P p h own heard old d =
       let is = word_is w.ring.moment (informed_at p) d in
-      let before = word_of d (informed_at p) in
+      let before = last_word_on d (informed_at p) in
       let ruled = word (scene_in (next_node p)) d in
       elim (cases_Bool (is_held (node_at w.ring.nodes p))) [
         | inl held ↦ subst P (sym (is ∙ ap (λ (b : Bool). if b then before else ruled) held
@@ -312,19 +312,19 @@ module _ (w : World) (whole : IsWhole w) where
   inside_of : (s : Scene) (p : ℕ) → p < length w.ring.nodes → s.ids ≡ w.ring.ids → s.at ≡ p → s.at < length s.ids
   inside_of s p h ids at = let e : length s.ids ≡ length w.ring.ids = ap length ids in omega (arith, count w whole.placed)
 
-  pub spells_after : (p : ℕ) → p < length w.ring.nodes → (d : Side) → IsSpellable (word_of d (next_node p))
+  pub spells_after : (p : ℕ) → p < length w.ring.nodes → (d : Side) → IsSpellable (last_word_on d (next_node p))
   spells_after p h =
       words_have IsSpellable p h (λ s d to code path ids at. own_spellable s d to code path (subst AreIds (sym ids) whole.placed.ids)
       (inside_of s p h ids at)) (word_spells p) (whole.paired.spelled p h)
 
-  pub sourced_after : (p : ℕ) → p < length w.ring.nodes → (d : Side) → IsMember w.ring.ids (word_of d (next_node p)).from
+  pub sourced_after : (p : ℕ) → p < length w.ring.nodes → (d : Side) → IsMember w.ring.ids (last_word_on d (next_node p)).from
   sourced_after p h = words_have (λ k. IsMember w.ring.ids k.from) p h
       (λ s d to code path ids at. subst (λ i. IsMember i (own_word s d code to path).from) ids
       (own_member s d to code path (inside_of s p h ids at)))
       (λ d. whole.paired.sourced (neighbour size p d) (neighbour_inside p d) (opposite d))
       (whole.paired.sourced p h)
 
-  never_ais_after : (p : ℕ) → p < length w.ring.nodes → (d : Side) → (word_of d (next_node p)).mark ≢ mark.MsAis
+  never_ais_after : (p : ℕ) → p < length w.ring.nodes → (d : Side) → (last_word_on d (next_node p)).mark ≢ mark.MsAis
   never_ais_after p h =
       words_have (λ k. k.mark ≢ mark.MsAis) p h (λ s d to code path ids at. own_no_ais s d to code path) (word_no_ais p)
       (whole.paired.never_ais p h)
@@ -395,9 +395,9 @@ module _ (w : World) (whole : IsWhole w) where
   sends_at p d h = subst (IsSenderAt rate) (sym (informed_out w p d)) ((whole.placed.sides p h).sends d)
 
   frame_after : (p : ℕ) (d : Side) → p < length w.ring.nodes
-      → Says rate (word_of d (node_at (round w).ring.nodes p)) (frame_on d w.ring.moment (informed_at p))
+      → SaysWord rate (last_word_on d (node_at (round w).ring.nodes p)) (frame_on d w.ring.moment (informed_at p))
   frame_after p d h =
-      subst (λ n. Says rate (word_of d n) (frame_on d w.ring.moment (informed_at p))) (sym (nodes_after w whole.placed p h))
+      subst (λ n. SaysWord rate (last_word_on d n) (frame_on d w.ring.moment (informed_at p))) (sym (nodes_after w whole.placed p h))
       (frame_says w.ring.moment (informed_at p) rate d (sends_at p d h))
 
   slips_after : AtEach (λ p n. FewWait n.ports) (round w).ring.nodes
@@ -414,13 +414,13 @@ module _ (w : World) (whole : IsWhole w) where
           λ d some. record { line = frame_on d w.ring.moment (informed_at p); there = carried_after p d low; says = frame_after p d low };
     });
     sourced =
-        λ p h d. (let low = low_of p h in subst (λ n. IsMember w.ring.ids (word_of d n).from) (sym (nodes_after w whole.placed p low))
+        λ p h d. (let low = low_of p h in subst (λ n. IsMember w.ring.ids (last_word_on d n).from) (sym (nodes_after w whole.placed p low))
         (sourced_after p low d));
     spelled =
-        λ p h d. (let low = low_of p h in subst (λ n. IsSpellable (word_of d n)) (sym (nodes_after w whole.placed p low))
+        λ p h d. (let low = low_of p h in subst (λ n. IsSpellable (last_word_on d n)) (sym (nodes_after w whole.placed p low))
         (spells_after p low d));
     never_ais =
-        λ p h d. (let low = low_of p h in subst (λ n. (word_of d n).mark ≢ mark.MsAis) (sym (nodes_after w whole.placed p low))
+        λ p h d. (let low = low_of p h in subst (λ n. (last_word_on d n).mark ≢ mark.MsAis) (sym (nodes_after w whole.placed p low))
         (never_ais_after p low d));
     kept = λ p h d. kept_after p d (low_of p h);
     held = λ p h. held_after p (low_of p h);

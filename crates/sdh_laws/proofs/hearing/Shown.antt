@@ -18,7 +18,7 @@ use Rattle.sdh_restoration.specs.Changes.{Change, Fibre, Order, Hold, Slip, Now}
 use Rattle.sdh_node.specs.Rings.Changes.{changed, all_changed}
 use Rattle.sdh_node.specs.Rings.Sides.{condition_to}
 use Rattle.sdh_laws.specs.Hearing.Signalling.{CountsViolations}
-use Rattle.sdh_spans.specs.Frames.{shown_by}
+use Rattle.sdh_spans.specs.Frames.{violations_shown}
 use Rattle.sdh_spans.proofs.Finding.{b2_by}
 use Rattle.sdh_spans.proofs.Parities.{b2_through}
 use Rattle.sdh_laws.specs.Hearing.Laws.{IsWhole, ViolationsAreOfTheRoundBefore}
@@ -119,7 +119,7 @@ violations_are_of_the_round_before w first second p d whole may may_then h =
     let whole_two = whole_round before whole_before in
     let now = all_changed second two in
     let whole_now : IsWhole now = whole_all second two may_then whole_two in
-    let shown : ℕ → Side → ℕ = λ q e. shown_by (condition_to before q e) in
+    let shown : ℕ → Side → ℕ = λ q e. violations_shown (condition_to before q e) in
     let ran : 0 < before.ring.rounds = (let e = (left_all first one).rounds in omega arith) in
     let shows_two : AllShow shown two = λ e q low.
     (let inside : q < length before.ring.nodes = (let len = length-after before in omega arith) in

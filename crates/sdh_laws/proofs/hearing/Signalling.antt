@@ -21,7 +21,7 @@ use Rattle.sdh_restoration.specs.Applied.{span_requests}
 use Rattle.sdh_signal.specs.Settled.{settled_states}
 use Rattle.sdh_signal.specs.Signals as signal
 use Rattle.sdh_signal.specs.Signals.{Filters, no_filters, Signals, fails_on, sent_on, on_their_way, incoming, filters_after}
-use Rattle.sdh_signal.specs.Signals.{heard_through, scene_at, state_in, words_in, free_round, MayGo, requests_in, request_on, no_needs}
+use Rattle.sdh_signal.specs.Signals.{heard_through, scene_at, state_in, words_in, free_round, MaySignal, requests_in, request_on, no_needs}
 use Rattle.sdh_signal.specs.Laws.{ChangesNoWord, StillRingsAreSettled}
 use Rattle.sdh_signal.proofs.Fixpoint.{free_rounds}
 use Rattle.std.proofs.Common.{◌≡◌, ◌≢◌, ℕ, zero, suc, ◌+◌, ◌-◌, ◌<◌, ◌≤◌, Bool, true, false, List, [], ◌∷◌, length, get_or, map, Some, None}
@@ -35,7 +35,7 @@ use Rattle.std.proofs.lemmas.List.Elements.{All-map}
 use Rattle.std.proofs.lemmas.Option.{slice_get-get_or, slice_get-map}
 use Rattle.sdh_node.specs.Same.{Compared}
 use Rattle.sdh_node.specs.Crossing.{is_failed}
-use Rattle.sdh_node.specs.Node.{Node, receiving_on, is_held, compared, sent_of, needed, heard_by, word_of}
+use Rattle.sdh_node.specs.Node.{Node, receiving_on, is_held, compared, sent_of, needed, heard_by, last_word_on}
 use Rattle.sdh_node.specs.Rings.Rounds.{World, round, node_after}
 use Rattle.sdh_node.specs.Rings.Runs.{run, course}
 use Rattle.sdh_node.specs.Rings.Quiet.{is_calm, IsCalm}
@@ -44,7 +44,7 @@ use Rattle.sdh_laws.specs.Hearing.Placed.{IsPlaced}
 use Rattle.sdh_ringmap.specs.Fibres.{is_cut}
 use Rattle.sdh_node.specs.Rings.Sides.{condition_to}
 use Rattle.sdh_laws.specs.Hearing.Signalling.{filters_of, signals_of, needs_in, held_in}
-use Rattle.sdh_laws.specs.Hearing.Laws.{IsWhole, RoundsAreSignalRounds, IsStill, CalmRoundsAreStill, ThreeCalmRoundsAreSettled}
+use Rattle.sdh_laws.specs.Hearing.Laws.{IsWhole, RoundsAreSignalRounds, RoundIsStill, CalmRoundsAreStill, ThreeCalmRoundsAreSettled}
 use Rattle.sdh_laws.specs.Hearing.Laws.{WindowsAreSettled, IsSettled, StepsSettle}
 use Rattle.sdh_node.proofs.Decided.{scene_in, state_is, word_is}
 use Rattle.sdh_node.proofs.Calm.{calm_leaves, unchanged_is_calm}
@@ -99,7 +99,7 @@ same_signals a b ids states words filters running =
 same_filters : (a b : Filters) → a.west ≡ b.west → a.east ≡ b.east → a ≡ b
 same_filters a b west east = λ i. record { west = west i; east = east i }
 
-sent_on_is : (n : Node) (d : Side) → sent_on (sent_of n) d ≡ word_of d n
+sent_on_is : (n : Node) (d : Side) → sent_on (sent_of n) d ≡ last_word_on d n
 sent_on_is n West = refl
 sent_on_is n East = refl
 
@@ -247,12 +247,12 @@ module _ (w : World) (whole : IsWhole w) where
       (state_is w.ring.moment (informed w p))
       ∙ λ i. if here i then old_state p low i else state_after (scene_same p h i)
 
-  word_same : (p : ℕ) (d : Side) → p < length after → word_of d (after_at p)
-      ≡ (if is_held (node_at w.ring.nodes p) then word_of d (node_at w.ring.nodes p) else word (scene_at before p (needed (after_at p))) d)
+  word_same : (p : ℕ) (d : Side) → p < length after → last_word_on d (after_at p)
+      ≡ (if is_held (node_at w.ring.nodes p) then last_word_on d (node_at w.ring.nodes p) else word (scene_at before p (needed (after_at p))) d)
   word_same p d h =
       let low = old_inside p h in
       let b = is_held (node_at w.ring.nodes p) in
-      subst (λ (n : Node). word_of d n ≡ (if b then word_of d (informed w p) else word (scene_in n) d))
+      subst (λ (n : Node). last_word_on d n ≡ (if b then last_word_on d (informed w p) else word (scene_in n) d))
       (sym (nodes_after w whole.placed p low)) (word_is w.ring.moment (informed w p) d)
       ∙ λ i. if b then (informed_out w p d i).word else word (scene_same p h i) d
 
@@ -313,7 +313,7 @@ module _ (w : World) (whole : IsWhole w) where
       (let is = whole.paired.sourced p h in subst (λ n. IsSourced w.ring.ids (sent_of n)) (sym (at_any w.ring.nodes p x h))
       (record { west = is West; east = is East })))
 
-  pub may_go : MayGo (needs_in (round w)) (signals_of w)
+  pub may_go : MaySignal (needs_in (round w)) (signals_of w)
   unfolding signals_of needs_in
   may_go = record {
     ids_ok = whole.placed.ids;
@@ -389,7 +389,7 @@ module _ (w : World) (whole : IsWhole w) where
         let high : p < length after = omega (arith, length-after w) in
         needs_at after p d high ∙ request_still p d low ∙ sym (needs_at ns p d low)))
 
-    pub is_still : IsStill w
+    pub is_still : RoundIsStill w
     is_still = record {
       later = ran_before;
       free = free_there;
@@ -441,11 +441,11 @@ calm_next : (w : World) (k : ℕ) → IsCalm (course w) (suc k) → is_calm (rou
 calm_next w k calm = ap (λ (v : World). is_calm v.ring.nodes) (sym (one_run w k)) ∙ calm
 
 -- the round k + 1 is still where it is calm
-run_still : (w : World) (k : ℕ) → IsWhole w → IsCalm (course w) (suc k) → IsStill (run k w)
+run_still : (w : World) (k : ℕ) → IsWhole w → IsCalm (course w) (suc k) → RoundIsStill (run k w)
 run_still w k whole calm = is_still (run k w) (whole_run w k whole) (calm_next w k calm)
 
 -- what calm rounds leave stays from a round to the m-th after it, where those are calm
-stays : {Y : Type 0} (f : World → Y) → ((v : World) → IsStill v → f (round v) ≡ f v) → (w : World) (j m : ℕ) → IsWhole w
+stays : {Y : Type 0} (f : World → Y) → ((v : World) → RoundIsStill v → f (round v) ≡ f v) → (w : World) (j m : ℕ) → IsWhole w
     → ((i : ℕ) → j < i → i ≤ j + m → IsCalm (course w) i) → f (run (j + m) w) ≡ f (run j w)
 stays f same w j zero whole calm = ap (λ k. f (run k w)) (let e : j + zero ≡ j = omega arith in e)
 stays f same w j (suc m) whole calm =

@@ -27,7 +27,7 @@ use Rattle.sdh_node.specs.Node.{Node, receiving_on, is_held, needed}
 use Rattle.sdh_node.specs.Rings.Rounds.{World, round, arrivals_of}
 use Rattle.sdh_node.specs.Rings.Runs.{run}
 use Rattle.sdh_laws.specs.Hearing.Signalling.{signals_of, needs_in}
-use Rattle.sdh_spans.specs.Frames.{shown_by}
+use Rattle.sdh_spans.specs.Frames.{violations_shown}
 use Rattle.sdh_laws.specs.Hearing.Laws.{IsWhole, NoneWait, StillFrom, FreeRunsGetStill, RunsGetStill}
 use Rattle.sdh_laws.proofs.hearing.Violations.{ShowsSo, defect_shown, shows_later}
 use Rattle.sdh_laws.proofs.hearing.Staying.{left_run}
@@ -39,7 +39,7 @@ use Rattle.sdh_laws.proofs.hearing.Clocks.{AllTicked, ticked_first, ticked_round
 use Rattle.sdh_laws.proofs.hearing.Changes.{whole_run}
 use Rattle.sdh_laws.proofs.hearing.Follows.{Keeps, keeps_one, condition_after}
 use Rattle.sdh_laws.proofs.hearing.Signalling.{mapped_same, goes_free, may_go, one_run}
-use Rattle.sdh_laws.specs.Restoring.Laws.{NoneHeld}
+use Rattle.sdh_laws.specs.Restoring.Laws.{NoControllerHeld}
 use Rattle.sdh_node.proofs.Decided.{turns_left}
 use Rattle.sdh_node.specs.Rings.Held.{node_at, AtEach}
 use Rattle.sdh_node.specs.Rings.Sides.{condition_to}
@@ -88,20 +88,20 @@ is_free n none = ap (nat_le 1) (let e : n.held ≡ 0 = omega arith in e)
 pub held_none : (h : ℕ) → nat_le 1 h ≡ false → h ≡ 0
 held_none h e = grind (arith, nat_tests)
 
-pub free_at : (w : World) → IsWhole w → (k : ℕ) → 100 ≤ k → NoneHeld (run k w)
+pub free_at : (w : World) → IsWhole w → (k : ℕ) → 100 ≤ k → NoControllerHeld (run k w)
 free_at w whole k late p h = let left =
     held_after w whole 100 whole.paired.held k p h in is_free (node_at (run k w).ring.nodes p) (omega arith)
 
 -- no node that isn't held now is held later
-pub held_for_none : (turns : ℕ) (w : World) → NoneHeld w → AllHeldFor turns w
+pub held_for_none : (turns : ℕ) (w : World) → NoControllerHeld w → AllHeldFor turns w
 held_for_none turns w free p h = (let none = held_none (node_at w.ring.nodes p).held (free p h) in omega (arith, none))
 
-pub free_stays : (w : World) → IsWhole w → NoneHeld w → (k : ℕ) → NoneHeld (run k w)
+pub free_stays : (w : World) → IsWhole w → NoControllerHeld w → (k : ℕ) → NoControllerHeld (run k w)
 free_stays w whole free k p h = let left =
     held_after w whole 0 (held_for_none 0 w free) k p h in is_free (node_at (run k w).ring.nodes p) (omega arith)
 
 -- where no node is held now, none is held in the next round
-pub free_next : (w : World) → IsWhole w → NoneHeld w → NoneHeld (round w)
+pub free_next : (w : World) → IsWhole w → NoControllerHeld w → NoControllerHeld (round w)
 free_next w whole free p h = is_free (node_at (round w).ring.nodes p) (one_less w whole 0 (held_for_none 0 w free) p h)
 
 -- ---- slips run out
@@ -130,7 +130,7 @@ pub record IsSteady (w : World) : Type 0 where
   pub whole : IsWhole w
   pub some : 0 < w.ring.rounds
   pub keeps : Keeps w
-  pub shows : (d : Side) → AtEach (λ p n. ShowsSo w.ring.settings.rate (shown_by (condition_to w p d)) w.ring.rounds
+  pub shows : (d : Side) → AtEach (λ p n. ShowsSo w.ring.settings.rate (violations_shown (condition_to w p d)) w.ring.rounds
       (carried_on w.fibres (fibre_to (length w.ring.ids) p d)) (receiving_on d n).section.last) w.ring.nodes
 
 -- after a round that isn't the first, a ring whose sections keep their parities is steady
@@ -141,7 +141,7 @@ steady_second w whole some keeps = record {
   some = omega arith;
   keeps = keeps_one w whole;
   shows = λ d p h. (let low : p < length w.ring.nodes = (let len = length-after w in omega arith) in
-      subst (λ c. ShowsSo w.ring.settings.rate (shown_by c) (w.ring.rounds + 1)
+      subst (λ c. ShowsSo w.ring.settings.rate (violations_shown c) (w.ring.rounds + 1)
       (carried_on (round w).fibres (fibre_to (length w.ring.ids) p d)) (receiving_on d (node_at (round w).ring.nodes p)).section.last)
       (sym (condition_kept w p d))
       (shows_later w whole p d low some (keeps (opposite d) (neighbour (length w.ring.ids) p d) (neighbour_inside w whole p d))));
@@ -161,7 +161,7 @@ steady_more w is = steady_second w is.whole is.some is.keeps
 
 -- the defect on a fibre in a condition
 abbrev defect_on : ℕ → Condition → Defect
-defect_on threshold c = if is_cut c then defect.Sf else if nat_le threshold (shown_by c) then defect.Sd else defect.None
+defect_on threshold c = if is_cut c then defect.Sf else if nat_le threshold (violations_shown c) then defect.Sd else defect.None
 
 no_end : (d : Defect) → ends d d ≡ false
 no_end defect.None = refl
@@ -185,9 +185,9 @@ module _ (w : World) (is : IsSteady w) (p : ℕ) (d : Side) (h : p < length w.ri
   defect_made : (made w is.whole p d).defect ≡ defect_on th c
   defect_made = elim (cases_Bool (is_cut c)) [
     | inl cut ↦ defect_cut w is.whole p d is.some h cut ∙ sym
-        (ap (λ (b : Bool). if b then defect.Sf else if nat_le th (shown_by c) then defect.Sd else defect.None) cut)
-    | inr clear ↦ defect_shown w is.whole p d h is.some clear (shown_by c) (is.shows d p h)
-        ∙ sym (ap (λ (b : Bool). if b then defect.Sf else if nat_le th (shown_by c) then defect.Sd else defect.None) clear)
+        (ap (λ (b : Bool). if b then defect.Sf else if nat_le th (violations_shown c) then defect.Sd else defect.None) cut)
+    | inr clear ↦ defect_shown w is.whole p d h is.some clear (violations_shown c) (is.shows d p h)
+        ∙ sym (ap (λ (b : Bool). if b then defect.Sf else if nat_le th (violations_shown c) then defect.Sd else defect.None) clear)
   ]
 
   local_made : (receiving_on d (node_at (round w).ring.nodes p)).local
@@ -242,7 +242,7 @@ needs_stay w is = mapped_same needed (round (round w)).ring.nodes (round w).ring
 -- ---- runs
 
 -- a run in which no controller misses a turn from round f on
-module _ (w : World) (whole : IsWhole w) (f : ℕ) (free : (k : ℕ) → f ≤ k → NoneHeld (run k w)) where
+module _ (w : World) (whole : IsWhole w) (f : ℕ) (free : (k : ℕ) → f ≤ k → NoControllerHeld (run k w)) where
   abbrev after : ℕ → World
   after k = run k w
 
@@ -275,7 +275,7 @@ module _ (w : World) (whole : IsWhole w) (f : ℕ) (free : (k : ℕ) → f ≤ k
   abbrev begin : Signals
   begin = signals_of (after (f + 2))
 
-  signals_at : (j : ℕ) → signals_of (after (f + 2 + j)) ≡ signal.rounds needs j begin
+  signals_at : (j : ℕ) → signals_of (after (f + 2 + j)) ≡ signal.unheld_rounds needs j begin
   signals_at zero = ap (λ k. signals_of (after k)) (let e : f + 2 + zero ≡ f + 2 = omega arith in e)
   signals_at (suc j) =
       let e : f + 2 + suc j ≡ suc (f + 2 + j) = omega arith in
@@ -292,7 +292,7 @@ module _ (w : World) (whole : IsWhole w) (f : ℕ) (free : (k : ℕ) → f ≤ k
 
   settles : RingsSettle → Settles needs begin
   settles law =
-      law needs begin (subst (λ v. signal.MayGo (needs_in v) begin) (sym (step_at (f + 3) (f + 2) (omega arith)))
+      law needs begin (subst (λ v. signal.MaySignal (needs_in v) begin) (sym (step_at (f + 3) (f + 2) (omega arith)))
       (may_go (after (f + 2)) (whole_run w (f + 2) whole)))
 
   pub still_from : RingsSettle → StillFrom w f

@@ -19,7 +19,7 @@ use Rattle.sdh_restoration.specs.Changes.{Change, Fibre, Order, Hold, Slip, Now,
 use Rattle.sdh_node.specs.Rings.Changes.{changed, all_changed, after_stretch, after_stretches, new_world}
 use Rattle.sdh_node.specs.Rings.Laws.{IsChangeOf, AreChangesOf, MayHappen}
 use Rattle.sdh_restoration.specs.Sides.{holding_in, new_holding, side_history}
-use Rattle.sdh_node.specs.Rings.Sides.{holding_of, world_in, Fits}
+use Rattle.sdh_node.specs.Rings.Sides.{holding_of, world_in, HasPositions}
 use Rattle.sdh_node.proofs.RingLaws.Keeping.{length-new}
 use Rattle.sdh_node.proofs.RingLaws.Histories.{holding_is, new_holds}
 use Rattle.sdh_restoration.specs.Sides.{asked_in}
@@ -175,7 +175,7 @@ module _ (s : Settings) (ids : List ℕ) (hist : ℕ → Side → SideHistory) w
 
 -- ---- the law
 
-pub fits_new : (s : Settings) (ids : List ℕ) (circuits : Provisioning) (f : Fibres) → Fits (length ids) (new_world s ids circuits f)
+pub fits_new : (s : Settings) (ids : List ℕ) (circuits : Provisioning) (f : Fibres) → HasPositions (length ids) (new_world s ids circuits f)
 fits_new s ids circuits f = record {
   conditions = length-replicate (2 * length ids) Clear;
   nodes = length-new s ids circuits.circuits (length ids);

@@ -18,7 +18,7 @@ use Rattle.sdh_terminal.specs.Sending.{Sending}
 use Rattle.sdh_node.specs.Receiving.{Receiving}
 use Rattle.sdh_node.specs.Node.{Node, receiving_on, sending_on}
 use Rattle.sdh_node.specs.Rings.Rounds.{World, round}
-use Rattle.sdh_spans.specs.Frames.{shown_by}
+use Rattle.sdh_spans.specs.Frames.{violations_shown}
 use Rattle.sdh_laws.specs.Hearing.Laws.{IsWhole}
 use Rattle.sdh_laws.proofs.hearing.OneNode.{frame_on, frame_is, sending_after, node_sends}
 use Rattle.sdh_laws.proofs.hearing.Nodes.{informed, informed_out, nodes_after}
@@ -100,7 +100,7 @@ module _ (w : World) (whole : IsWhole w) (p : ℕ) (d : Side) (h : p < length w.
   -- where the side that sends kept the parities of the frame before
   violated_later : (some : 0 < t) → KeepsParities rate t (carried_on w.fibres (fibre q (opposite d)))
       (sending_on (opposite d) (node_at w.ring.nodes q)).section.last
-      → b2_violations n after.section.last (scrambled (9 * n) sent) ≡ shown_by c
+      → b2_violations n after.section.last (scrambled (9 * n) sent) ≡ violations_shown c
   unfolding parities_of
   violated_later some kept =
       let before = sent_to w whole p d some in
@@ -114,7 +114,7 @@ module _ (w : World) (whole : IsWhole w) (p : ℕ) (d : Side) (h : p < length w.
 
   pub shows_later : 0 < t → KeepsParities rate t (carried_on w.fibres (fibre q (opposite d)))
       (sending_on (opposite d) (node_at w.ring.nodes q)).section.last
-      → ShowsSo rate (shown_by c) (t + 1) (carried_on (round w).fibres (fibre q (opposite d))) after.section.last
+      → ShowsSo rate (violations_shown c) (t + 1) (carried_on (round w).fibres (fibre q (opposite d))) after.section.last
   shows_later some kept l more there =
       ap (λ y. b2_violations n after.section.last (scrambled (9 * n) y)) (sym (same_line sent l _ sent_is there)) ∙ violated_later some kept
 

@@ -38,12 +38,12 @@ use Rattle.sdh_node.specs.Rings.Sides.{condition_to}
 use Rattle.sdh_laws.specs.Hearing.Laws.{IsWhole}
 use Rattle.sdh_laws.proofs.hearing.Changes.{whole_run}
 use Rattle.sdh_laws.proofs.hearing.Nodes.{count}
-use Rattle.sdh_laws.specs.Carrying.Windows.{Layout, layout_of, slots_of, HasCircuits, AreSettled, requests_of}
+use Rattle.sdh_laws.specs.Carrying.Windows.{Layout, layout_of, slots_of, HasCircuits, AreSettled, span_requests_of}
 use Rattle.sdh_laws.proofs.carrying.Clocks.{form_there, goes_plain as port_goes_plain}
 use Rattle.sdh_laws.proofs.carrying.Spans.{generators_on, readings_on}
 use Rattle.sdh_spans.specs.Spans.{word_behind}
 use Rattle.sdh_laws.proofs.carrying.Ways.{layout_run}
-use Rattle.sdh_laws.specs.Converging.Steady.{went, came, brought}
+use Rattle.sdh_laws.specs.Converging.Steady.{went, brought_to, brought_in_slot}
 use Rattle.sdh_laws.proofs.converging.Calming.{AreSame, calm_round}
 use Rattle.sdh_laws.proofs.converging.Runs.{length_run, rate_run, run_more, inside_run}
 use Rattle.sdh_laws.proofs.converging.Spans.{sending_in, reading_in, word_in, Takes, generator_goes, interpreter_goes}
@@ -79,7 +79,7 @@ module _ (law : StillRingsAreSettled) (w : World) (whole : IsWhole w) (form : Ha
   cs = w.ring.circuits.circuits
 
   abbrev rs : List ℕ
-  rs = requests_of (run 3 w)
+  rs = span_requests_of (run 3 w)
 
   abbrev state : ℕ → NodeState
   state = settled rs
@@ -122,7 +122,7 @@ module _ (law : StillRingsAreSettled) (w : World) (whole : IsWhole w) (form : Ha
     pub au : ℕ
     pub low : 1 ≤ au
     pub high : au ≤ many
-    pub goes : (j : ℕ) → j ≤ 6 → went w q side au j ≡ brought w q m (Add id) j
+    pub goes : (j : ℕ) → j ≤ 6 → went w q side au j ≡ brought_in_slot w q m (Add id) j
 
   plain_at : (q m : ℕ) (id : PortId) → q < n → Fills q m id → (j : ℕ) → j ≤ 4 → form_there (run (suc j) w) q id ≡ Plain
   unfolding any_run.run
@@ -160,7 +160,7 @@ module _ (law : StillRingsAreSettled) (w : World) (whole : IsWhole w) (form : Ha
         (inside_run w (suc j) q (inside_of w whole q h)) (clock_at_round q id c h e j)
 
     even_by : (o : Option Clock) → first ≡ o → (j : ℕ) → j ≤ 4
-        → IsEven (brought w q m (Add id) (suc j)).action (brought w q m (Add id) (suc j)).value
+        → IsEven (brought_in_slot w q m (Add id) (suc j)).action (brought_in_slot w q m (Add id) (suc j)).value
     unfolding ticks
     even_by None e j low = inl (ap (λ (i : Input). i.action) (none_added (run (suc j) w) q m id (no_clock q id h e j)))
     even_by (Some c) e j low =
@@ -168,10 +168,10 @@ module _ (law : StillRingsAreSettled) (w : World) (whole : IsWhole w) (form : Ha
         let b = (bounds c e (suc j)).0 in
         inr (a.0 ∙ ap action_of (forms c e j low), omega (arith, a.1, b))
 
-    even_add : (j : ℕ) → j ≤ 4 → IsEven (brought w q m (Add id) (suc j)).action (brought w q m (Add id) (suc j)).value
+    even_add : (j : ℕ) → j ≤ 4 → IsEven (brought_in_slot w q m (Add id) (suc j)).action (brought_in_slot w q m (Add id) (suc j)).value
     even_add j low = even_by (clock_there (run 1 w) q id) refl j low
 
-    same_by : (o : Option Clock) → first ≡ o → SameInput (brought w q m (Add id) 6) (brought w q m (Add id) 5)
+    same_by : (o : Option Clock) → first ≡ o → SameInput (brought_in_slot w q m (Add id) 6) (brought_in_slot w q m (Add id) 5)
     unfolding ticks
     same_by None e =
         let last = none_added (run 6 w) q m id (no_clock q id h e 5) in
@@ -188,7 +188,7 @@ module _ (law : StillRingsAreSettled) (w : World) (whole : IsWhole w) (form : Ha
               ∙ t5.1 ∙ sym before.1,
         )
 
-    same_add : SameInput (brought w q m (Add id) 6) (brought w q m (Add id) 5)
+    same_add : SameInput (brought_in_slot w q m (Add id) 6) (brought_in_slot w q m (Add id) 5)
     same_add = same_by (clock_there (run 1 w) q id) refl
 
   -- ---- what is brought
@@ -201,13 +201,13 @@ module _ (law : StillRingsAreSettled) (w : World) (whole : IsWhole w) (form : Ha
   Good m p (Protection d) = IsGood (reading_in w p d (half + m - 1) 0)
 
   even_came : (p : ℕ) (d : Side) (i j : ℕ) → p < n → i < many → j ≤ 4 → IsGood (reading_in w p d i 0)
-      → IsEven (came w p d (i + 1) (suc j)).action (came w p d (i + 1) (suc j)).value
+      → IsEven (brought_to w p d (i + 1) (suc j)).action (brought_to w p d (i + 1) (suc j)).value
   even_came p d i j h few low good =
       let t = takes p d i j h few (omega arith) in
       let here = inside_of w whole p h in
       let kept = reading_kept p d i (suc j) here (omega arith) in
-      even_as (came w p d (i + 1) (suc j)).action (action_on (reading_in w p d i (suc j)) (behind p d i j))
-      (came w p d (i + 1) (suc j)).value (reading_in w p d i (suc j)).value
+      even_as (brought_to w p d (i + 1) (suc j)).action (action_on (reading_in w p d i (suc j)) (behind p d i j))
+      (brought_to w p d (i + 1) (suc j)).value (reading_in w p d i (suc j)).value
       t.action (t.value ∙ ap (λ (r : Reading). r.value) kept)
       (good_answers (reading_in w p d i (suc j)) (behind p d i j) (subst IsGood (sym (reading_first p d i (suc j) here (omega arith))) good)
       (sym t.reading ∙ kept))
@@ -222,10 +222,10 @@ module _ (law : StillRingsAreSettled) (w : World) (whole : IsWhole w) (form : Ha
     behind_half : half + m - 1 + 1 ≡ half + m
     behind_half = omega arith
 
-    goes_working : (q j : ℕ) (e : Side) → q < n → j ≤ 6 → went w q e m j ≡ brought w q m (working_in n cs q (state q) e m) j
+    goes_working : (q j : ℕ) (e : Side) → q < n → j ≤ 6 → went w q e m j ≡ brought_in_slot w q m (working_in n cs q (state q) e m) j
     goes_working q j e h late = working_goes w whole q m j e (state q) h high (settled_now (suc j) (omega arith) q h)
 
-    goes_protection : (q j : ℕ) (e : Side) → q < n → j ≤ 6 → went w q e (half + m) j ≡ brought w q m (protection_in n cs q (state q) e m) j
+    goes_protection : (q j : ℕ) (e : Side) → q < n → j ≤ 6 → went w q e (half + m) j ≡ brought_in_slot w q m (protection_in n cs q (state q) e m) j
     goes_protection q j e h late = protection_goes w whole q m j e (state q) h low (settled_now (suc j) (omega arith) q h)
 
     fills_working : (q : ℕ) (e : Side) (id : PortId) → q < n → working_in n cs q (state q) e m ≡ Add id → Fills q m id
@@ -234,7 +234,7 @@ module _ (law : StillRingsAreSettled) (w : World) (whole : IsWhole w) (form : Ha
       au = m;
       low = low;
       high = omega (arith, halves);
-      goes = λ j late. goes_working q j e h late ∙ ap (λ o. brought w q m o j) is;
+      goes = λ j late. goes_working q j e h late ∙ ap (λ o. brought_in_slot w q m o j) is;
     }
 
     fills_protection : (q : ℕ) (e : Side) (id : PortId) → q < n → protection_in n cs q (state q) e m ≡ Add id → Fills q m id
@@ -243,19 +243,19 @@ module _ (law : StillRingsAreSettled) (w : World) (whole : IsWhole w) (form : Ha
       au = half + m;
       low = omega arith;
       high = omega (arith, halves);
-      goes = λ j late. goes_protection q j e h late ∙ ap (λ o. brought w q m o j) is;
+      goes = λ j late. goes_protection q j e h late ∙ ap (λ o. brought_in_slot w q m o j) is;
     }
 
     even_brought : (p : ℕ) (o : Origin) (j : ℕ) → p < n → j ≤ 4 → ((id : PortId) → o ≡ Add id → Fills p m id) → Good m p o
-        → IsEven (brought w p m o (suc j)).action (brought w p m o (suc j)).value
+        → IsEven (brought_in_slot w p m o (suc j)).action (brought_in_slot w p m o (suc j)).value
     even_brought p Ais j h late fills good = inl refl
     even_brought p (Add id) j h late fills good = even_add p m id h (fills id refl) j late
     even_brought p (Working d) j h late fills good =
-        subst (λ a. IsEven (came w p d a (suc j)).action (came w p d a (suc j)).value) there
+        subst (λ a. IsEven (brought_to w p d a (suc j)).action (brought_to w p d a (suc j)).value) there
         (even_came p d (m - 1) j h (omega (arith, halves)) late good)
     even_brought p (Protection d) j h late fills good =
         subst (λ (i : Input). IsEven i.action i.value) (sym (protection_comes w whole p m (suc j) d h))
-        (subst (λ a. IsEven (came w p d a (suc j)).action (came w p d a (suc j)).value) behind_half
+        (subst (λ a. IsEven (brought_to w p d a (suc j)).action (brought_to w p d a (suc j)).value) behind_half
         (even_came p d (half + m - 1) j h (omega (arith, halves)) late good))
 
     even_working : (q j : ℕ) (e : Side) → q < n → j ≤ 4 → Good m q (working_in n cs q (state q) e m)
@@ -370,7 +370,7 @@ module _ (law : StillRingsAreSettled) (w : World) (whole : IsWhole w) (form : Ha
       last.reading ∙ ap₂ after_word (reading_kept p d i 5 (inside_of w whole p h) (omega arith)) (behind_kept p d i h few)
       ∙ sym before.reading
 
-  came_same : (p : ℕ) (d : Side) (i : ℕ) → p < n → i < many → SameInput (came w p d (i + 1) 6) (came w p d (i + 1) 5)
+  came_same : (p : ℕ) (d : Side) (i : ℕ) → p < n → i < many → SameInput (brought_to w p d (i + 1) 6) (brought_to w p d (i + 1) 5)
   came_same p d i h few =
       let last = takes p d i 5 h few (omega arith) in
       let before = takes p d i 4 h few (omega arith) in (
@@ -381,29 +381,29 @@ module _ (law : StillRingsAreSettled) (w : World) (whole : IsWhole w) (form : Ha
 
   module _ (m : ℕ) (low : 1 ≤ m) (high : m ≤ half) where
     brought_same : (p : ℕ) (o : Origin) → p < n → ((id : PortId) → o ≡ Add id → Fills p m id)
-        → SameInput (brought w p m o 6) (brought w p m o 5)
+        → SameInput (brought_in_slot w p m o 6) (brought_in_slot w p m o 5)
     brought_same p Ais h fills = (refl, refl)
     brought_same p (Add id) h fills = same_add p m id h (fills id refl)
     brought_same p (Working d) h fills =
-        subst (λ a. SameInput (came w p d a 6) (came w p d a 5)) (there m low high) (came_same p d (m - 1) h (omega (arith, halves)))
+        subst (λ a. SameInput (brought_to w p d a 6) (brought_to w p d a 5)) (there m low high) (came_same p d (m - 1) h (omega (arith, halves)))
     brought_same p (Protection d) h fills =
-        subst (λ (i : Input). SameInput i (brought w p m (Protection d) 5)) (sym (protection_comes w whole p m 6 d h))
-        (subst (λ (i : Input). SameInput (came w p d (half + m) 6) i) (sym (protection_comes w whole p m 5 d h))
-        (subst (λ a. SameInput (came w p d a 6) (came w p d a 5)) (behind_half m low high)
+        subst (λ (i : Input). SameInput i (brought_in_slot w p m (Protection d) 5)) (sym (protection_comes w whole p m 6 d h))
+        (subst (λ (i : Input). SameInput (brought_to w p d (half + m) 6) i) (sym (protection_comes w whole p m 5 d h))
+        (subst (λ a. SameInput (brought_to w p d a 6) (brought_to w p d a 5)) (behind_half m low high)
         (came_same p d (half + m - 1) h (omega (arith, halves)))))
 
     same_working : (q : ℕ) (e : Side) → q < n → SameInput (went w q e m 6) (went w q e m 5)
     same_working q e h =
         let o = working_in n cs q (state q) e m in
         subst (λ (i : Input). SameInput i (went w q e m 5)) (sym (goes_working m low high q 6 e h (omega arith)))
-        (subst (λ (i : Input). SameInput (brought w q m o 6) i) (sym (goes_working m low high q 5 e h (omega arith)))
+        (subst (λ (i : Input). SameInput (brought_in_slot w q m o 6) i) (sym (goes_working m low high q 5 e h (omega arith)))
         (brought_same q o h (λ id is. fills_working m low high q e id h is)))
 
     same_protection : (q : ℕ) (e : Side) → q < n → SameInput (went w q e (half + m) 6) (went w q e (half + m) 5)
     same_protection q e h =
         let o = protection_in n cs q (state q) e m in
         subst (λ (i : Input). SameInput i (went w q e (half + m) 5)) (sym (goes_protection m low high q 6 e h (omega arith)))
-        (subst (λ (i : Input). SameInput (brought w q m o 6) i) (sym (goes_protection m low high q 5 e h (omega arith)))
+        (subst (λ (i : Input). SameInput (brought_in_slot w q m o 6) i) (sym (goes_protection m low high q 5 e h (omega arith)))
         (brought_same q o h (λ id is. fills_protection m low high q e id h is)))
 
   went_same : (q : ℕ) (e : Side) (i : ℕ) → q < n → i < many → SameInput (went w q e (i + 1) 6) (went w q e (i + 1) 5)

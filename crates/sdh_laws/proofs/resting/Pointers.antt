@@ -10,7 +10,7 @@ use Rattle.sdh_pointer.specs.declared.reading.Action.TheVariants as action
 use Rattle.sdh_pointer.specs.declared.word.Form.TheVariants as form
 use Rattle.sdh_pointer.specs.Words.{is_normal, value_in, word_of}
 use Rattle.sdh_pointer.specs.Reading.{Interpreter, is_norm, event_of, after_in, action_in, after_word, action_on, reading_row_of}
-use Rattle.sdh_pointer.specs.Reading.{reading_table, settled, with_bad, later}
+use Rattle.sdh_pointer.specs.Reading.{reading_table, nothing_counted, with_bad, later}
 use Rattle.sdh_pointer.specs.Laws.{is_ais_action}
 use Rattle.sdh_pointer.specs.Sending.{word_sent, next_sending}
 use Rattle.sdh_pointer.proofs.Bounds.{answer_tells_mode}
@@ -59,7 +59,7 @@ sends_even s a v (inr e) still =
 
 -- an interpreter is in the state to which one normal word leads if it is read again and again, or isn't in Norm
 abbrev pub IsGood : Reading → Type 0
-IsGood r = ((v : ℕ) × (v ≤ 782) × (r ≡ settled mode.Norm v 3)) ⊎ (is_norm r.mode ≡ false)
+IsGood r = ((v : ℕ) × (v ≤ 782) × (r ≡ nothing_counted mode.Norm v 3)) ⊎ (is_norm r.mode ≡ false)
 
 pub ais_from : (a : Action) → is_ais_action a ≡ true → a ≡ action.Ais
 ais_from action.Ais e = refl
@@ -73,23 +73,23 @@ not_norm true e = cc
 not_norm false e = refl
 
 norm_bad : (r : Reading) → after_in mode.Norm event.Bad r ≡
-    (if nat_le 8 (r.bad + 1) then settled mode.Lop r.value 0 else with_bad r (later r.since))
+    (if nat_le 8 (r.bad + 1) then nothing_counted mode.Lop r.value 0 else with_bad r (later r.since))
 unfolding after_in reading_row_of reading_table
 norm_bad r = refl
 
 -- an event that leaves a settled interpreter in Norm as it is gives the action Normal
-kept_event : (v : ℕ) (e : Event) → after_in mode.Norm e (settled mode.Norm v 3) ≡ settled mode.Norm v 3
-    → action_in mode.Norm e (settled mode.Norm v 3) ≡ action.Normal
-kept_event v event.Same h = norm_same_action (settled mode.Norm v 3)
+kept_event : (v : ℕ) (e : Event) → after_in mode.Norm e (nothing_counted mode.Norm v 3) ≡ nothing_counted mode.Norm v 3
+    → action_in mode.Norm e (nothing_counted mode.Norm v 3) ≡ action.Normal
+kept_event v event.Same h = norm_same_action (nothing_counted mode.Norm v 3)
 kept_event v (event.Ndf x) h =
-    absurd (let s : 0 ≡ 3 = ap (λ (r : Reading). r.since) (sym (norm_ndf (settled mode.Norm v 3) x) ∙ h) in omega arith)
-kept_event v event.Up h = absurd (let s : 0 ≡ 3 = ap (λ (r : Reading). r.since) (sym (norm_up (settled mode.Norm v 3)) ∙ h) in omega arith)
+    absurd (let s : 0 ≡ 3 = ap (λ (r : Reading). r.since) (sym (norm_ndf (nothing_counted mode.Norm v 3) x) ∙ h) in omega arith)
+kept_event v event.Up h = absurd (let s : 0 ≡ 3 = ap (λ (r : Reading). r.since) (sym (norm_up (nothing_counted mode.Norm v 3)) ∙ h) in omega arith)
 kept_event v event.Down h =
-    absurd (let s : 0 ≡ 3 = ap (λ (r : Reading). r.since) (sym (norm_down (settled mode.Norm v 3)) ∙ h) in omega arith)
+    absurd (let s : 0 ≡ 3 = ap (λ (r : Reading). r.since) (sym (norm_down (nothing_counted mode.Norm v 3)) ∙ h) in omega arith)
 kept_event v (event.New x) h =
-    absurd (let s : 1 ≡ 0 = ap (λ (r : Reading). r.news) (sym (norm_new (settled mode.Norm v 3) x) ∙ h) in omega arith)
-kept_event v event.Ais h = absurd (let s : 1 ≡ 0 = ap (λ (r : Reading). r.ais) (sym (norm_ais (settled mode.Norm v 3)) ∙ h) in omega arith)
-kept_event v event.Bad h = absurd (let s : 1 ≡ 0 = ap (λ (r : Reading). r.bad) (sym (norm_bad (settled mode.Norm v 3)) ∙ h) in omega arith)
+    absurd (let s : 1 ≡ 0 = ap (λ (r : Reading). r.news) (sym (norm_new (nothing_counted mode.Norm v 3) x) ∙ h) in omega arith)
+kept_event v event.Ais h = absurd (let s : 1 ≡ 0 = ap (λ (r : Reading). r.ais) (sym (norm_ais (nothing_counted mode.Norm v 3)) ∙ h) in omega arith)
+kept_event v event.Bad h = absurd (let s : 1 ≡ 0 = ap (λ (r : Reading). r.bad) (sym (norm_bad (nothing_counted mode.Norm v 3)) ∙ h) in omega arith)
 
 -- a good interpreter that a word doesn't move answers as it does after one word for ever
 pub good_answers : (r : Reading) (w : ℕ) → IsGood r → after_word r w ≡ r → IsEven (action_on r w) r.value

@@ -14,11 +14,11 @@ use Rattle.sdh_node.specs.Rings.Quiet.{is_calm, IsCalm, EndsWindow}
 use Rattle.sdh_node.specs.Rings.Clocks.{clocks_from}
 use Rattle.sdh_rounds.proofs.Runs.{known_settles}
 use Rattle.sdh_laws.specs.Hearing.Signalling.{signals_of}
-use Rattle.sdh_laws.specs.Hearing.Laws.{IsWhole, IsStill}
+use Rattle.sdh_laws.specs.Hearing.Laws.{IsWhole, RoundIsStill}
 use Rattle.sdh_laws.proofs.hearing.Changes.{whole_run}
 use Rattle.sdh_laws.proofs.hearing.Rounds.{whole_round}
 use Rattle.sdh_laws.proofs.hearing.Signalling.{calm_rounds_are_still, three_calm_rounds_are_settled, requests_stay}
-use Rattle.sdh_laws.specs.Carrying.Windows.{layout_of, size_of, HasCircuits, requests_of, FailOnApplied, IsQuiet}
+use Rattle.sdh_laws.specs.Carrying.Windows.{layout_of, positions_of, HasCircuits, span_requests_of, FailOnApplied, IsQuiet}
 use Rattle.sdh_laws.specs.Carrying.Laws.{DeliversWhatIsDue}
 use Rattle.sdh_laws.proofs.carrying.Applied.{length-requests_of}
 use Rattle.sdh_laws.proofs.carrying.Owed.{quiet_delivers}
@@ -46,13 +46,13 @@ module _ (law : StillRingsAreSettled) (w : World) (whole : IsWhole w) (form : Ha
   unfolding any_run.run
   calm_round_at j late = calm (suc j) (omega arith)
 
-  still_at : (j : ℕ) → a ≤ j → IsStill (run j w)
+  still_at : (j : ℕ) → a ≤ j → RoundIsStill (run j w)
   still_at j late = calm_rounds_are_still (run j w) (whole_run w j whole) (calm_round_at j late)
 
   -- the states are the settled ones, under the requests of the round and of all others
-  states_third : (i : ℕ) → (signals_of (run (3 + (i + a)) w)).states ≡ settled_states (requests_of (run (3 + (i + a)) w))
+  states_third : (i : ℕ) → (signals_of (run (3 + (i + a)) w)).states ≡ settled_states (span_requests_of (run (3 + (i + a)) w))
   states_third i =
-      subst (λ v. (signals_of v).states ≡ settled_states (requests_of v)) (run_more w (i + a) 3)
+      subst (λ v. (signals_of v).states ≡ settled_states (span_requests_of v)) (run_more w (i + a) 3)
       (three_calm_rounds_are_settled law (run (i + a) w) (whole_run w (i + a) whole) (there 1 (omega arith)) (there 2 (omega arith))
       (there 3 (omega arith)))
     where
@@ -66,17 +66,17 @@ module _ (law : StillRingsAreSettled) (w : World) (whole : IsWhole w) (form : Ha
       ap (λ j. (signals_of (run j w)).states) (let e : suc k + a ≡ suc (k + a) = omega arith in e) ∙ (still_at (k + a) (omega arith)).states
       ∙ states_back k
 
-  requests_one : (j k : ℕ) → a ≤ j → requests_of (run (j + k) w) ≡ requests_of (run j w)
+  requests_one : (j k : ℕ) → a ≤ j → span_requests_of (run (j + k) w) ≡ span_requests_of (run j w)
   requests_one j k late = requests_stay w j k whole (λ i low high. calm i (omega arith))
 
-  requests_at : (j k : ℕ) → a ≤ j → a ≤ k → requests_of (run j w) ≡ requests_of (run k w)
+  requests_at : (j k : ℕ) → a ≤ j → a ≤ k → span_requests_of (run j w) ≡ span_requests_of (run k w)
   requests_at j k hj hk =
       let x : a + (j - a) ≡ j = omega arith in
       let y : a + (k - a) ≡ k = omega arith in
-      ap (λ i. requests_of (run i w)) (sym x) ∙ requests_one a (j - a) (omega arith) ∙ sym (requests_one a (k - a) (omega arith))
-      ∙ ap (λ i. requests_of (run i w)) y
+      ap (λ i. span_requests_of (run i w)) (sym x) ∙ requests_one a (j - a) (omega arith) ∙ sym (requests_one a (k - a) (omega arith))
+      ∙ ap (λ i. span_requests_of (run i w)) y
 
-  states_at : (j k : ℕ) → a ≤ j → a ≤ k → (signals_of (run j w)).states ≡ settled_states (requests_of (run k w))
+  states_at : (j k : ℕ) → a ≤ j → a ≤ k → (signals_of (run j w)).states ≡ settled_states (span_requests_of (run k w))
   states_at j k hj hk =
       let x : j - a + a ≡ j = omega arith in
       let y : 3 + (0 + a) ≡ 3 + a = omega arith in
@@ -84,26 +84,26 @@ module _ (law : StillRingsAreSettled) (w : World) (whole : IsWhole w) (form : Ha
       ∙ ap (λ i. (signals_of (run i w)).states) (sym y) ∙ states_third 0
       ∙ ap settled_states (requests_at (3 + (0 + a)) k (omega arith) hk)
 
-  failing_at : (j k : ℕ) → 1 ≤ j → a ≤ j → a ≤ k → FailOnApplied n (requests_of (run k w)) (run j w)
+  failing_at : (j k : ℕ) → 1 ≤ j → a ≤ j → a ≤ k → FailOnApplied n (span_requests_of (run k w)) (run j w)
   failing_at j k some hj hk =
       let one : suc (j - 1) ≡ j = omega arith in
       subst (λ qs. FailOnApplied n qs (run j w)) (requests_at j k hj hk)
-      (subst (λ i. FailOnApplied n (requests_of (run i w)) (run i w)) one (failing_after w whole (j - 1)))
+      (subst (λ i. FailOnApplied n (span_requests_of (run i w)) (run i w)) one (failing_after w whole (j - 1)))
 
-  quiet : (first last : ℕ) → 1 ≤ first → a < first → first ≤ last → IsQuiet n (requests_of (run last w)) w first last
+  quiet : (first last : ℕ) → 1 ≤ first → a < first → first ≤ last → IsQuiet n (span_requests_of (run last w)) w first last
   quiet first last some early long = record {
     spans = length-requests_of (run last w) n (nodes_run w whole last);
     calm = λ j low high. calm j (omega arith);
     settled_are =
-        λ j low high. each_settled (run j w) n (requests_of (run last w)) (nodes_run w whole j) (length-requests_of (run last w) n (nodes_run w whole last))
+        λ j low high. each_settled (run j w) n (span_requests_of (run last w)) (nodes_run w whole j) (length-requests_of (run last w) n (nodes_run w whole last))
         (states_at j last (omega arith) (omega arith));
     failing = λ j low high. failing_at j last (omega arith) (omega arith) (omega arith);
   }
 
   -- each port delivers what it is owed 2n rounds later
-  delivers : (last : ℕ) → a + 1 + 2 * n ≤ last → DeliversWhatIsDue (clocks_from w) (run last w) (requests_of (run last w))
+  delivers : (last : ℕ) → a + 1 + 2 * n ≤ last → DeliversWhatIsDue (clocks_from w) (run last w) (span_requests_of (run last w))
   delivers last long =
-      quiet_delivers w whole form (requests_of (run last w)) (a + 1) last (quiet (a + 1) last (omega arith) (omega arith) (omega arith))
+      quiet_delivers w whole form (span_requests_of (run last w)) (a + 1) last (quiet (a + 1) last (omega arith) (omega arith) (omega arith))
       (omega arith) long
 
   free_there : (j : ℕ) → a ≤ j → AtEach (λ p m. m.held ≡ 0) (run j w).ring.nodes
@@ -115,7 +115,7 @@ module _ (law : StillRingsAreSettled) (w : World) (whole : IsWhole w) (form : Ha
     free = free_there k (omega arith);
     calm = λ i some. ap (λ (v : World). is_calm v.ring.nodes) (run_more w k i) ∙ calm (i + k) (omega arith);
     due =
-        λ i some. subst (λ v. DeliversWhatIsDue (clocks_from w) v (requests_of v)) (sym (run_more w k i)) (delivers (i + k) (omega arith));
+        λ i some. subst (λ v. DeliversWhatIsDue (clocks_from w) v (span_requests_of v)) (sym (run_more w k i)) (delivers (i + k) (omega arith));
   }
 
 -- ---- a quiet window
@@ -123,7 +123,7 @@ module _ (law : StillRingsAreSettled) (w : World) (whole : IsWhole w) (form : Ha
 pub window_rests : StillRingsAreSettled → (w : World) → IsWhole w → HasCircuits (layout_of w) → (k : ℕ) → EndsWindow (course w) k
     → IsAtRest (clocks_from w) (run k w)
 window_rests law w whole form k ends =
-    let size = ap size_of (layout_run w k) in
+    let size = ap positions_of (layout_run w k) in
     let enough = whole.placed.ids.enough in
     let long = ends.long in
     let a = k - 3 * length w.ring.ids in
@@ -156,7 +156,7 @@ stays clocks w rests = record {
         λ p h. held_none (node_at (round w).ring.nodes p).held
         (free_next w rests.whole (λ q i. free_by (node_at w.ring.nodes q) (rests.free q i)) p h);
     calm = λ k some. ap (λ (v : World). is_calm v.ring.nodes) (next_run w k) ∙ rests.calm (suc k) (omega arith);
-    due = λ k some. subst (λ v. DeliversWhatIsDue clocks v (requests_of v)) (sym (next_run w k)) (rests.due (suc k) (omega arith));
+    due = λ k some. subst (λ v. DeliversWhatIsDue clocks v (span_requests_of v)) (sym (next_run w k)) (rests.due (suc k) (omega arith));
   };
 }
   where

@@ -12,30 +12,30 @@ use Rattle.sdh_signal.specs.Settled.{settled_states}
 use Rattle.sdh_signal.specs.Signals.{Signals, free_round, request_on, no_needs}
 use Rattle.sdh_signal.specs.Laws.{StillRingsAreSettled}
 use Rattle.sdh_node.specs.Same.{Compared}
-use Rattle.sdh_node.specs.Node.{Node, receiving_on, compared, sent_of, word_of}
+use Rattle.sdh_node.specs.Node.{Node, receiving_on, compared, sent_of, last_word_on}
 use Rattle.sdh_node.specs.Rings.Held.{nowhere, node_at}
 use Rattle.sdh_node.specs.Rings.Rounds.{World, round}
 use Rattle.sdh_node.specs.Rings.Runs.{run, course}
 use Rattle.sdh_node.specs.Rings.Quiet.{is_calm, IsCalm}
 use Rattle.sdh_node.specs.Rings.Sides.{condition_to}
 use Rattle.sdh_laws.specs.Hearing.Signalling.{word_to, filters_of, signals_of, needs_in}
-use Rattle.sdh_laws.specs.Hearing.Laws.{IsWhole, IsStill}
+use Rattle.sdh_laws.specs.Hearing.Laws.{IsWhole, RoundIsStill}
 use Rattle.sdh_laws.proofs.hearing.Changes.{whole_run}
 use Rattle.sdh_laws.proofs.hearing.Rounds.{neighbour_inside}
 use Rattle.sdh_laws.proofs.hearing.Signalling.{mapped_same, needs_at, goes_free, calm_rounds_are_still, three_calm_rounds_are_settled, same_signals}
 use Rattle.sdh_laws.proofs.hearing.Staying.{left_run}
-use Rattle.sdh_laws.specs.Carrying.Windows.{AreSettled, requests_of}
+use Rattle.sdh_laws.specs.Carrying.Windows.{AreSettled, span_requests_of}
 use Rattle.sdh_laws.proofs.carrying.Applied.{length-requests_of}
 use Rattle.sdh_laws.proofs.carrying.Settles.{each_settled}
 use Rattle.sdh_laws.proofs.converging.Runs.{length_run, condition_run, nodes_run, inside_run}
 use Rattle.sdh_laws.proofs.hearing.Steady.{free_next, IsSteady, steady_two, steady_more, needs_stay}
 use Rattle.sdh_laws.proofs.converging.Came.{come_behind, came_after, word_by, word_to_in, kept, earlier_in}
-use Rattle.sdh_laws.specs.Restoring.Laws.{NoneHeld}
+use Rattle.sdh_laws.specs.Restoring.Laws.{NoControllerHeld}
 use Rattle.sdh_rounds.specs.Runs as any_run
 
 -- ---- single nodes
 
-words_on : (d : Side) (a b : Node) → compared a ≡ compared b → word_of d a ≡ word_of d b
+words_on : (d : Side) (a b : Node) → compared a ≡ compared b → last_word_on d a ≡ last_word_on d b
 words_on West a b e = ap (λ (c : Compared). c.west_out.word) e
 words_on East a b e = ap (λ (c : Compared). c.east_out.word) e
 
@@ -57,20 +57,20 @@ module _ (law : StillRingsAreSettled) (w : World) (whole : IsWhole w) (calm : (j
   unfolding any_run.run
   calm_at j h = calm (suc j) (omega arith) (omega arith)
 
-  pub still_at : (j : ℕ) → j < 6 → IsStill (run j w)
+  pub still_at : (j : ℕ) → j < 6 → RoundIsStill (run j w)
   still_at j h = calm_rounds_are_still (run j w) (whole_run w j whole) (calm_at j h)
 
   pub started : (j : ℕ) → 0 < (run j w).ring.rounds
   started j = let r = (left_run j w).rounds in let s = (still_at 0 (omega arith)).later in let z = (left_run 0 w).rounds in omega arith
 
-  free_last : NoneHeld (run 6 w)
+  free_last : NoControllerHeld (run 6 w)
   unfolding any_run.run
   free_last = free_next (run 5 w) (whole_run w 5 whole) (still_at 5 (omega arith)).free
 
-  pub free_at : (j : ℕ) → j ≤ 6 → NoneHeld (run j w)
+  pub free_at : (j : ℕ) → j ≤ 6 → NoControllerHeld (run j w)
   free_at j h = elim (cases_lt j 6) [
     | inl low ↦ (still_at j low).free
-    | inr high ↦ subst (λ i. NoneHeld (run i w)) (let e : 6 ≡ j = omega arith in e) free_last
+    | inr high ↦ subst (λ i. NoControllerHeld (run i w)) (let e : 6 ≡ j = omega arith in e) free_last
   ]
 
   -- ---- needs
@@ -99,7 +99,7 @@ module _ (law : StillRingsAreSettled) (w : World) (whole : IsWhole w) (calm : (j
   -- ---- words, and what comes of them
 
   word_stays : (k p : ℕ) (d : Side) → k < 6 → p < length w.ring.nodes
-      → word_of d (node_at (run (suc k) w).ring.nodes p) ≡ word_of d (node_at (run k w).ring.nodes p)
+      → last_word_on d (node_at (run (suc k) w).ring.nodes p) ≡ last_word_on d (node_at (run k w).ring.nodes p)
   unfolding any_run.run
   word_stays k p d low h =
       words_on d (node_at (round (run k w)).ring.nodes p) (node_at (run k w).ring.nodes p) ((still_at k low).same p (inside_run w k p h))
@@ -181,7 +181,7 @@ module _ (law : StillRingsAreSettled) (w : World) (whole : IsWhole w) (calm : (j
   signals_last = next_signals 6 (omega arith) ∙ ap₂ free_round needs_last signals_same ∙ sym (next_signals 5 (omega arith))
 
   pub word_last : (p : ℕ) (d : Side) → p < length w.ring.nodes
-      → word_of d (node_at (run 7 w).ring.nodes p) ≡ word_of d (node_at (run 6 w).ring.nodes p)
+      → last_word_on d (node_at (run 7 w).ring.nodes p) ≡ last_word_on d (node_at (run 6 w).ring.nodes p)
   unfolding signals_of
   word_last p d h =
       word_by (node_at (run 7 w).ring.nodes p) d (node_at (run 6 w).ring.nodes p)
@@ -195,21 +195,21 @@ module _ (law : StillRingsAreSettled) (w : World) (whole : IsWhole w) (calm : (j
   states_first zero h = refl
   states_first (suc j) h = (still_at j (omega arith)).states ∙ states_first j (omega arith)
 
-  states_third : (signals_of (run 3 w)).states ≡ settled_states (requests_of (run 3 w))
+  states_third : (signals_of (run 3 w)).states ≡ settled_states (span_requests_of (run 3 w))
   states_third =
       three_calm_rounds_are_settled law w whole (calm 1 (omega arith) (omega arith)) (calm 2 (omega arith) (omega arith))
       (calm 3 (omega arith) (omega arith))
 
-  states_at : (j : ℕ) → j ≤ 7 → (signals_of (run j w)).states ≡ settled_states (requests_of (run 3 w))
+  states_at : (j : ℕ) → j ≤ 7 → (signals_of (run j w)).states ≡ settled_states (span_requests_of (run 3 w))
   states_at j h = elim (cases_lt j 7) [
     | inl low ↦ states_first j (omega arith) ∙ sym (states_first 3 (omega arith)) ∙ states_third
     | inr high ↦ ap (λ i. (signals_of (run i w)).states) (let e : j ≡ 7 = omega arith in e) ∙ ap (λ (s : Signals). s.states) signals_last
         ∙ states_first 6 (omega arith) ∙ sym (states_first 3 (omega arith)) ∙ states_third
   ]
 
-  pub settled_at : (j : ℕ) → j ≤ 7 → AreSettled n (requests_of (run 3 w)) (run j w)
+  pub settled_at : (j : ℕ) → j ≤ 7 → AreSettled n (span_requests_of (run 3 w)) (run j w)
   settled_at j h =
-      each_settled (run j w) n (requests_of (run 3 w)) (nodes_run w whole j) (length-requests_of (run 3 w) n (nodes_run w whole 3)) (states_at j h)
+      each_settled (run j w) n (span_requests_of (run 3 w)) (nodes_run w whole j) (length-requests_of (run 3 w) n (nodes_run w whole 3)) (states_at j h)
 
-  pub spans_are : length (requests_of (run 3 w)) ≡ n
+  pub spans_are : length (span_requests_of (run 3 w)) ≡ n
   spans_are = length-requests_of (run 3 w) n (nodes_run w whole 3)

@@ -27,13 +27,13 @@ use Rattle.sdh_laws.proofs.hearing.Changes.{new_worlds_are_whole}
 use Rattle.sdh_laws.proofs.hearing.Requests.{last_of, earlier_of}
 use Rattle.sdh_laws.proofs.hearing.Rounds.{neighbour_inside}
 use Rattle.sdh_laws.proofs.hearing.Steady.{free_stays, none_waits_later}
-use Rattle.sdh_laws.specs.Carrying.Windows.{layout_of, size_of, HasCircuits}
+use Rattle.sdh_laws.specs.Carrying.Windows.{layout_of, positions_of, HasCircuits}
 use Rattle.sdh_laws.proofs.carrying.Settles.{v, u, layout_v, restored_by_history, layout_changed}
 use Rattle.sdh_laws.proofs.carrying.Ways.{layout_run}
 use Rattle.sdh_laws.specs.Converging.Steady.{IsUnslipped}
 use Rattle.sdh_laws.proofs.converging.HealthySignals.{new_unslipped}
-use Rattle.sdh_laws.specs.Restoring.Laws.{NoneHeld}
-use Rattle.sdh_laws.specs.Restoring.Followed.{Follows, word_on, IsFollowed, NewRingsAreFollowed, ChangesKeepFollowed, IsPlain, IsPlainStretch}
+use Rattle.sdh_laws.specs.Restoring.Laws.{NoControllerHeld}
+use Rattle.sdh_laws.specs.Restoring.Followed.{Follows, pointer_word_on, IsFollowed, NewRingsAreFollowed, ChangesKeepFollowed, IsPlainChange, IsPlainStretch}
 use Rattle.sdh_laws.specs.Restoring.Followed.{PlainStretchesAreRestoredSoon}
 use Rattle.sdh_laws.proofs.restoring.Followed.{reading_at, state_on, ones_first, moved, rounds_stay_followed}
 use Rattle.sdh_laws.proofs.restoring.SoonAtOnce.{followed_rings_are_restored_soon}
@@ -73,7 +73,7 @@ new_rings_are_followed s ids circuits f may p d i h few =
     let whole = new_worlds_are_whole s ids circuits f may.ids_ok may.honest in
     let q = neighbour (length ids) p d in
     let e = opposite d in
-    moved Follows (reading_at begun p d i) start (state_on begun q e i) None (word_on begun q e (i + 1)) 65535
+    moved Follows (reading_at begun p d i) start (state_on begun q e i) None (pointer_word_on begun q e (i + 1)) 65535
     (ap (λ rs. get_or rs i start)
     (each_new (λ p m. (d : Side) → (receiving_on d m).readings ≡ replicate (n_of s.rate) start) s ids cs
     (λ p low. new_readings s ids cs p) p h d) ∙ get_or-replicate (n_of s.rate) i start start few)
@@ -104,8 +104,8 @@ module _ (w : World) (followed : IsFollowed w) (at : ℕ) (f : Node → Node)
   node_changed p d i h few =
       let q = neighbour (length w.ring.ids) p d in
       let e = opposite d in
-      moved Follows (reading_at after p d i) (reading_at w p d i) (state_on after q e i) (state_on w q e i) (word_on after q e (i + 1))
-      (word_on w q e (i + 1))
+      moved Follows (reading_at after p d i) (reading_at w p d i) (state_on after q e i) (state_on w q e i) (pointer_word_on after q e (i + 1))
+      (pointer_word_on w q e (i + 1))
       (ap (λ rs. get_or rs i start) (kept_at_place (λ n. (receiving_on d n).readings) f (reads d) at w.ring.nodes p))
       (ap (λ gs. get_or gs i None) (kept_at_place (λ n. (sending_on e n).generators) f (sends e) at w.ring.nodes q))
       refl (followed p d i (omega (arith, length-placed f at w.ring.nodes)) few)
@@ -138,11 +138,11 @@ changes_keep_followed w (Now t) f = λ q e i h few. f q e i h few
 pub record IsFine (w : World) : Type 0 where
   pub whole : IsWhole w
   pub circuits : HasCircuits (layout_of w)
-  pub free : NoneHeld w
+  pub free : NoControllerHeld w
   pub unslipped : IsUnslipped w
   pub followed : IsFollowed w
 
-free_changed : (w : World) (c : Change) → IsPlain c → NoneHeld w → NoneHeld (changed c w)
+free_changed : (w : World) (c : Change) → IsPlainChange c → NoControllerHeld w → NoControllerHeld (changed c w)
 unfolding changed
 free_changed w (Fibre p d condition) plain free = free
 free_changed w (Order p d c) plain free =
@@ -151,7 +151,7 @@ free_changed w (Hold p turns) plain free = absurd plain
 free_changed w (Slip id turn count) plain free = absurd plain
 free_changed w (Now t) plain free = free
 
-unslipped_changed : (w : World) (c : Change) → IsPlain c → IsUnslipped w → IsUnslipped (changed c w)
+unslipped_changed : (w : World) (c : Change) → IsPlainChange c → IsUnslipped w → IsUnslipped (changed c w)
 unfolding changed
 unslipped_changed w (Fibre p d condition) plain none = none
 unslipped_changed w (Order p d c) plain none =
@@ -160,7 +160,7 @@ unslipped_changed w (Hold p turns) plain none = absurd plain
 unslipped_changed w (Slip id turn count) plain none = absurd plain
 unslipped_changed w (Now t) plain none = none
 
-fine_changed : (w : World) (c : Change) → IsPlain c → IsChangeOf w c → IsFine w → IsFine (changed c w)
+fine_changed : (w : World) (c : Change) → IsPlainChange c → IsChangeOf w c → IsFine w → IsFine (changed c w)
 fine_changed w c plain may is = record {
   whole = whole_changed c w may is.whole;
   circuits = subst HasCircuits (sym (layout_changed c w)) is.circuits;
@@ -169,7 +169,7 @@ fine_changed w c plain may is = record {
   followed = changes_keep_followed w c is.followed;
 }
 
-fine_all : (cs : List Change) (w : World) → All IsPlain cs → AreChangesOf w cs → IsFine w → IsFine (all_changed cs w)
+fine_all : (cs : List Change) (w : World) → All IsPlainChange cs → AreChangesOf w cs → IsFine w → IsFine (all_changed cs w)
 fine_all [] w plain may is = is
 fine_all (c ∷ cs) w plain may is =
     fine_all cs (changed c w) (λ k d h. plain (suc k) d (omega arith)) may.1 (fine_changed w c (plain 0 c (omega arith)) may.0 is)
@@ -217,9 +217,9 @@ plain_stretches_are_restored_soon law s ids circuits f earlier last t may happen
     let begun = new_world s ids circuits f in
     let from = v s ids circuits f earlier last t may happen form many in
     let layout = layout_v s ids circuits f earlier last t may happen form many in
-    let same : length from.ring.ids ≡ length ids = ap size_of layout in
+    let same : length from.ring.ids ≡ length ids = ap positions_of layout in
     let left : length (u s ids circuits f earlier last t may happen form many).ring.ids ≡ length ids =
-    ap size_of (layout_run from last.rounds) ∙ same in
+    ap positions_of (layout_run from last.rounds) ∙ same in
     let first : IsFine begun = record {
       whole = new_worlds_are_whole s ids circuits f may.ids_ok may.honest;
       circuits = form;

@@ -36,13 +36,13 @@ use Rattle.sdh_laws.specs.Hearing.Laws.{IsWhole}
 use Rattle.sdh_laws.proofs.hearing.Rounds.{neighbour_inside}
 use Rattle.sdh_laws.specs.Carrying.Windows.{layout_of, slots_of, HasCircuits}
 use Rattle.sdh_laws.specs.Carrying.Laws.{due_by_clocks}
-use Rattle.sdh_laws.specs.Converging.Steady.{went, came, brought, StaysSettled}
+use Rattle.sdh_laws.specs.Converging.Steady.{went, brought_to, brought_in_slot, StaysSettled}
 use Rattle.sdh_laws.proofs.converging.Spans.{sending_in, reading_in, word_in, Takes, generator_goes}
 use Rattle.sdh_laws.proofs.converging.Runs.{length_run, rate_run, condition_run}
 use Rattle.sdh_laws.proofs.converging.Spreading.{two_halves, protection_comes, inside_of, beside}
 use Rattle.sdh_laws.proofs.hearing.Staying.{left_run}
 use Rattle.sdh_laws.proofs.hearing.Changes.{whole_run}
-use Rattle.sdh_laws.specs.Restoring.Followed.{Follows, word_on}
+use Rattle.sdh_laws.specs.Restoring.Followed.{Follows, pointer_word_on}
 use Rattle.sdh_laws.specs.Restoring.Flowing.{Flows}
 use Rattle.sdh_laws.proofs.restoring.Flowing.{from_round, taking, state_of}
 use Rattle.sdh_laws.proofs.restoring.Followed.{IsFollowing, AreNear, word_sent_on}
@@ -68,7 +68,7 @@ module _ (w : World) (whole : IsWhole w) (is : FollowAtOnce w) (p : ℕ) (d : Si
   e = opposite d
 
   -- the word that comes in round j + 1 is the one that was sent in round j
-  word_sent_in : (j : ℕ) → word_on (run (suc j) w) q e (i + 1) ≡ word_in w q e i j
+  word_sent_in : (j : ℕ) → pointer_word_on (run (suc j) w) q e (i + 1) ≡ word_in w q e i j
   unfolding any_run.run
   word_sent_in j =
       word_sent_on (run j w) (whole_run w j whole) q e i (let h = neighbour_inside w whole p d in omega (arith, length_run w j))
@@ -89,13 +89,13 @@ module _ (w : World) (whole : IsWhole w) (is : FollowAtOnce w) (p : ℕ) (d : Si
   follows_at : (j : ℕ) → Followed (length w.ring.ids) (suc j) (word_in w q e i j)
   follows_at j =
       subst (Followed (length w.ring.ids) (suc j)) (word_sent_in j)
-      (subst (λ size. Followed size (suc j) (word_on (run (suc j) w) (neighbour size p d) e (i + 1))) (same_ids (suc j))
+      (subst (λ size. Followed size (suc j) (pointer_word_on (run (suc j) w) (neighbour size p d) e (i + 1))) (same_ids (suc j))
       ((is.follow (suc j) p d i (omega (arith, length_run w (suc j))) (omega (arith, rate_run w (suc j)))).follows (clear_in (suc j))))
 
   near_at : (j : ℕ) → IsNear (length w.ring.ids) (suc j) (word_in w q e i j)
   near_at j =
       subst (IsNear (length w.ring.ids) (suc j)) (word_sent_in j)
-      (subst (λ size. IsNear size (suc j) (word_on (run (suc j) w) (neighbour size p d) e (i + 1))) (same_ids (suc j))
+      (subst (λ size. IsNear size (suc j) (pointer_word_on (run (suc j) w) (neighbour size p d) e (i + 1))) (same_ids (suc j))
       (is.near (suc j) p d i (omega (arith, length_run w (suc j))) (omega (arith, rate_run w (suc j))) (clear_in (suc j))))
 
   module _ (t v : ℕ) (bytes : ℕ → List ℕ) (fits : v ≤ 782) (f : Flows (went w q e (i + 1)) t v bytes) where
@@ -116,11 +116,11 @@ module _ (w : World) (whole : IsWhole w) (is : FollowAtOnce w) (p : ℕ) (d : Si
         (taking w whole p d i inside few (suc t) (omega arith))
 
     -- bytes that flow into a span from round t on flow out of it from round t + 1 on
-    pub flows_at_once : Flows (came w p d (i + 1)) (t + 1) v (λ j. bytes (j - 1))
+    pub flows_at_once : Flows (brought_to w p d (i + 1)) (t + 1) v (λ j. bytes (j - 1))
     flows_at_once =
         let taken = taken_at_once (reading_in w p d i (suc t)) (sending_in w q e i (suc t)) word v (follows_at t) (near_at t) state_is fits in
         let now : suc t ≡ t + 1 = omega arith in
-        subst (λ u. Flows (came w p d (i + 1)) u v (λ j. bytes (j - 1))) now
+        subst (λ u. Flows (brought_to w p d (i + 1)) u v (λ j. bytes (j - 1))) now
         (from_round w whole p d i inside few t v bytes fits kept f (suc t) (omega arith)
         (ap is_ais_action takes.action ∙ taken.1)
         (takes.value ∙ ap (λ (r : Reading). r.value) takes.reading ∙ taken.0.1)
@@ -152,18 +152,18 @@ module _ (w : World) (whole : IsWhole w) (form : HasCircuits (layout_of w)) (rs 
 
   span_flows : (p : ℕ) (d : Side) (au t v : ℕ) (bytes : ℕ → List ℕ) → p < n → 1 ≤ au → au ≤ n_of w.ring.settings.rate → v ≤ 782
       → applied (span_at n p d) ≡ false
-      → Flows (went w (neighbour n p d) (opposite d) au) t v bytes → Flows (came w p d au) (t + 1) v (λ j. bytes (j - 1))
+      → Flows (went w (neighbour n p d) (opposite d) au) t v bytes → Flows (brought_to w p d au) (t + 1) v (λ j. bytes (j - 1))
   span_flows p d au t v bytes h low high small free f =
       let i = au - 1 in
       let back : i + 1 ≡ au = omega arith in
-      subst (λ a. Flows (came w p d a) (t + 1) v (λ j. bytes (j - 1))) back
+      subst (λ a. Flows (brought_to w p d a) (t + 1) v (λ j. bytes (j - 1))) back
       (flows_at_once w whole is p d i (inside_of w whole p h) (omega arith) (uncut p d h free) t v bytes small
       (subst (λ a. Flows (went w (neighbour n p d) (opposite d) a) t v bytes) (sym back) f))
 
   module _ (m : ℕ) (low : 1 ≤ m) (high : m ≤ half) where
     over_free : (s v : ℕ) (bytes : ℕ → List ℕ) → v ≤ 782 → (p : ℕ) (o : Origin) → p < n → IsArrival o → routes.IsFree n applied p o
-        → (let b = back_from n (settled rs) cs m p o in Flows (brought w b.at m b.origin) s v bytes
-        → Flows (brought w p m o) (s + 1) v (λ j. bytes (j - 1)))
+        → (let b = back_from n (settled rs) cs m p o in Flows (brought_in_slot w b.at m b.origin) s v bytes
+        → Flows (brought_in_slot w p m o) (s + 1) v (λ j. bytes (j - 1)))
     over_free s v bytes small p Ais h arrives f c = absurd arrives
     over_free s v bytes small p (Add id) h arrives f c = absurd arrives
     over_free s v bytes small p (Working d) h arrives f c =
@@ -173,18 +173,18 @@ module _ (w : World) (whole : IsWhole w) (form : HasCircuits (layout_of w)) (rs 
         (λ j. went_working w whole form rs rest uncut m low high q j (opposite d) (beside w whole p d)) (λ j. refl) c)
     over_free s v bytes small p (Protection d) h arrives f c =
         let q = neighbour n p d in
-        flows_as (came w p d (half + m)) (brought w p m (Protection d)) (s + 1) v (λ j. bytes (j - 1)) (λ j. bytes (j - 1))
+        flows_as (brought_to w p d (half + m)) (brought_in_slot w p m (Protection d)) (s + 1) v (λ j. bytes (j - 1)) (λ j. bytes (j - 1))
         (λ j. protection_comes w whole p m j d h) (λ j. refl)
         (span_flows p d (half + m) s v bytes h (omega arith) (omega (arith, two_halves w.ring.settings.rate)) small f
         (flows_as _ (went w q (opposite d) (half + m)) s v bytes bytes
         (λ j. went_protection w whole form rs rest uncut m low high q j (opposite d) (beside w whole p d)) (λ j. refl) c))
 
     abbrev Bytes : (ℕ → List ℕ) → ℕ → ℕ → ℕ → Origin → Type 0
-    Bytes b v s p o = Flows (brought w p m o) s v (λ j. b (j - s))
+    Bytes b v s p o = Flows (brought_in_slot w p m o) s v (λ j. b (j - s))
 
     bytes_kept : (b : ℕ → List ℕ) (v last : ℕ) → v ≤ 782 → IsKeptOver n applied (settled rs) cs m (Bytes b v) 0 last
     bytes_kept b v last small t p o lt a f early late is =
-        flows_as (brought w p m o) (brought w p m o) (t + 1) v (λ j. b (j - 1 - t)) (λ j. b (j - (t + 1))) (λ j. refl)
+        flows_as (brought_in_slot w p m o) (brought_in_slot w p m o) (t + 1) v (λ j. b (j - 1 - t)) (λ j. b (j - (t + 1))) (λ j. refl)
         (λ j. let same : j - 1 - t ≡ j - (t + 1) = omega arith in ap b same)
         (over_free t v (λ j. b (j - t)) small p o lt a f is)
 

@@ -39,10 +39,10 @@ use Rattle.sdh_laws.proofs.hearing.Staying.{left_run}
 use Rattle.sdh_laws.specs.Carrying.Windows.{sent_at}
 use Rattle.sdh_spans.specs.Spans.{word_behind}
 use Rattle.sdh_laws.proofs.carrying.Spans.{au_step}
-use Rattle.sdh_laws.specs.Converging.Steady.{went, came}
+use Rattle.sdh_laws.specs.Converging.Steady.{went, brought_to}
 use Rattle.sdh_laws.proofs.converging.Runs.{length_run, rate_run, condition_run}
 use Rattle.sdh_laws.proofs.converging.Spans.{sending_in, reading_in, word_in, Takes, generator_goes, interpreter_goes}
-use Rattle.sdh_laws.specs.Restoring.Flowing.{Flows, FlowsBehind, IsSilent}
+use Rattle.sdh_laws.specs.Restoring.Flowing.{Flows, FlowsBehind, IsAisFrom}
 use Rattle.sdh_laws.proofs.restoring.Landing.{IsAt, ByNew, keeps, answers_there, answered, lands, outside, enabled_taken, enabled_left}
 use Rattle.sdh_laws.proofs.resting.Pointers.{ais_from}
 use Rattle.sdh_rounds.specs.Runs as any_run
@@ -87,7 +87,7 @@ module _ (w : World) (whole : IsWhole w) (p : ℕ) (d : Side) (i : ℕ) (inside 
   sent = went w q e (i + 1)
 
   abbrev comes : ℕ → Input
-  comes = came w p d (i + 1)
+  comes = brought_to w p d (i + 1)
 
   abbrev reading : ℕ → Reading
   reading j = reading_in w p d i j
@@ -290,7 +290,7 @@ module _ (w : World) (whole : IsWhole w) (p : ℕ) (d : Side) (i : ℕ) (inside 
 
   -- ---- AIS
 
-  module _ (t : ℕ) (s : IsSilent sent t) where
+  module _ (t : ℕ) (s : IsAisFrom sent t) where
     silent_takes : (m : ℕ) → t + 1 ≤ m → Takes w p d i m 65535
     silent_takes m h =
         subst (Takes w p d i m)
@@ -304,7 +304,7 @@ module _ (w : World) (whole : IsWhole w) (p : ℕ) (d : Side) (i : ℕ) (inside 
         ∙ ap (λ (r : Reading). is_norm r.mode) (sym (reads_on 65535 (t + 1) silent_takes (j - (t + 1)) (t + 1) (omega arith))
         ∙ ais_settles (reading (t + 1)) (j - (t + 1)) (omega arith))
 
-    pub silent_on : IsSilent comes (t + 3)
+    pub silent_on : IsAisFrom comes (t + 3)
     silent_on j h =
         (silent_takes j (omega arith)).action
         ∙ ais_from (action_on (reading j) 65535)

@@ -51,7 +51,7 @@ use Rattle.sdh_laws.specs.Converging.Steady.{IsUnslipped}
 use Rattle.sdh_laws.proofs.converging.Ports.{IsSent, source_at, source_small, sources_send}
 use Rattle.sdh_laws.proofs.converging.Runs.{length_run, rate_run, condition_run}
 use Rattle.sdh_laws.proofs.converging.Spans.{reading_in, word_in, interpreter_goes, Takes}
-use Rattle.sdh_laws.specs.Restoring.Followed.{word_on, IsWordOf, IsSound, Follows, IsFollowed, RoundsStayFollowed}
+use Rattle.sdh_laws.specs.Restoring.Followed.{pointer_word_on, IsWordOf, IsSoundReading, Follows, IsFollowed, RoundsStayFollowed}
 use Rattle.sdh_laws.proofs.restoring.Following.{IsPlainAction, GoesOn, over_ones, made, plain_comes, sound_cut}
 use Rattle.sdh_laws.proofs.restoring.Following.{follows_next, word_next, was_sent, Near, near_first, near_next}
 use Rattle.sdh_rounds.specs.Rounds as any_round
@@ -67,14 +67,14 @@ abbrev pub state_on : World → ℕ → Side → ℕ → Option ℕ
 state_on w q e i = get_or (sending_on e (node_at w.ring.nodes q)).generators i None
 
 word_there : (w : World) (q : ℕ) (e : Side) (au : ℕ) (line : List ℕ) → carried_on w.fibres (fibre q e) ≡ Some line
-    → word_on w q e au ≡ pointer_word_at (n_of w.ring.settings.rate) (scrambled (9 * n_of w.ring.settings.rate) line) au
+    → pointer_word_on w q e au ≡ pointer_word_at (n_of w.ring.settings.rate) (scrambled (9 * n_of w.ring.settings.rate) line) au
 word_there w q e au line there =
     ap (λ o. option_map_or (λ l. pointer_word_at (n_of w.ring.settings.rate) (scrambled (9 * n_of w.ring.settings.rate) l) au) o 65535) there
 
 module _ (w : World) (whole : IsWhole w) where
   -- the word that a fibre carries after a round is the one that its generator sent
   pub word_sent_on : (q : ℕ) (e : Side) (i : ℕ) → q < length w.ring.nodes → i < n_of w.ring.settings.rate
-      → word_on (round w) q e (i + 1) ≡ word_sent (state_on w q e i) (sent_at w q e (i + 1)).action (sent_at w q e (i + 1)).value
+      → pointer_word_on (round w) q e (i + 1) ≡ word_sent (state_on w q e i) (sent_at w q e (i + 1)).action (sent_at w q e (i + 1)).value
   unfolding any_round.round any_round.round_with
   word_sent_on q e i h few =
       let there = carried_after w whole q e h in
@@ -92,19 +92,19 @@ module _ (w : World) (whole : IsWhole w) where
     -- not in round 0 an interpreter takes the word that its fibre carries
     pub takes_carried : 0 < w.ring.rounds → (i : ℕ) → i < n_of w.ring.settings.rate
         → TakesWord (reading_at w p d i) (reading_at (round w) p d i) (received (lines_at w p) d (i + 1))
-        (word_behind (is_cut (condition_to w p d)) (word_on w q e (i + 1)))
+        (word_behind (is_cut (condition_to w p d)) (pointer_word_on w q e (i + 1)))
     takes_carried ran i few =
         let n = n_of w.ring.settings.rate in
         let r = reads w whole p d h in
         let bytes = (line_on (lines_at w p) d).intake.frame.bytes in
         let sent = sent_to w whole p d ran in
-        let word : pointer_word_at n bytes (i + 1) ≡ word_behind (is_cut (condition_to w p d)) (word_on w q e (i + 1)) =
+        let word : pointer_word_at n bytes (i + 1) ≡ word_behind (is_cut (condition_to w p d)) (pointer_word_on w q e (i + 1)) =
         elim (cases_Bool (is_cut (condition_to w p d))) [
           | inl cut ↦ ap (λ b. pointer_word_at n b (i + 1)) (r.ones ran cut) ∙ word_of_ones w.ring.settings.rate (i + 1) (omega arith) (omega arith)
-              ∙ sym (ap (λ b. word_behind b (word_on w q e (i + 1))) cut)
+              ∙ sym (ap (λ b. word_behind b (pointer_word_on w q e (i + 1))) cut)
           | inr clear ↦ ap (λ (a : Au). pointer_word a.pointers) (r.aus ran clear sent.line sent.there (i + 1) (omega arith) (omega arith))
               ∙ sym (word_there w q e (i + 1) sent.line sent.there)
-              ∙ sym (ap (λ b. word_behind b (word_on w q e (i + 1))) clear)
+              ∙ sym (ap (λ b. word_behind b (pointer_word_on w q e (i + 1))) clear)
         ] in
         subst (TakesWord (reading_at w p d i) (reading_at (round w) p d i) (received (lines_at w p) d (i + 1))) word
         (takes_read w whole ran p d h i (omega arith))
@@ -113,7 +113,7 @@ module _ (w : World) (whole : IsWhole w) where
     pub keeps_first : w.ring.rounds ≡ 0 → (i : ℕ) → reading_at (round w) p d i ≡ reading_at w p d i
     keeps_first none i = ap (λ rs. get_or rs i start) ((reads w whole p d h).idle none)
 
-    pub ones_first : w.ring.rounds ≡ 0 → (au : ℕ) → word_on w q e au ≡ 65535
+    pub ones_first : w.ring.rounds ≡ 0 → (au : ℕ) → pointer_word_on w q e au ≡ 65535
     ones_first none au =
         ap (λ o. option_map_or (λ l. pointer_word_at (n_of w.ring.settings.rate) (scrambled (9 * n_of w.ring.settings.rate) l) au) o 65535)
         ((whole.paired.carried q (neighbour_inside w whole p d)).dark e none)
@@ -156,14 +156,14 @@ actions_past n bytes rs k past = none_past (λ k r. action_on r (pointer_word_at
 
 -- an interpreter hasn't lost its pointer, and follows where its fibre isn't cut
 pub record FollowsOver (cut : Bool) (r : Reading) (s : Option ℕ) (word : ℕ) : Type 0 where
-  pub sound : IsSound r s word
+  pub sound : IsSoundReading r s word
   pub follows : cut ≡ false → Follows r s word
 
 abbrev pub HoldsOfAll : World → (Bool → Reading → Option ℕ → ℕ → Type 0) → Type 0
 HoldsOfAll w P =
     (p : ℕ) (d : Side) (i : ℕ) → p < length w.ring.nodes → i < n_of w.ring.settings.rate
     → P (is_cut (condition_to w p d)) (reading_at w p d i) (state_on w (neighbour (length w.ring.ids) p d) (opposite d) i)
-    (word_on w (neighbour (length w.ring.ids) p d) (opposite d) (i + 1))
+    (pointer_word_on w (neighbour (length w.ring.ids) p d) (opposite d) (i + 1))
 
 abbrev pub IsFollowing : World → Type 0
 IsFollowing w = HoldsOfAll w FollowsOver
@@ -196,10 +196,10 @@ module _ (w : World) (whole : IsWhole w) (form : HasCircuits (layout_of w)) (uns
   -- an interpreter reads a word, or nothing in round 0
   goes_over : (p : ℕ) (d : Side) (i : ℕ) → p < length w.ring.nodes → i < n_of w.ring.settings.rate
       → GoesOn (reading_at w p d i)
-      (word_behind (is_cut (condition_to w p d)) (word_on w (neighbour (length w.ring.ids) p d) (opposite d) (i + 1)))
+      (word_behind (is_cut (condition_to w p d)) (pointer_word_on w (neighbour (length w.ring.ids) p d) (opposite d) (i + 1)))
   goes_over p d i h few =
       let is = f p d i h few in
-      let word = word_on w (neighbour (length w.ring.ids) p d) (opposite d) (i + 1) in
+      let word = pointer_word_on w (neighbour (length w.ring.ids) p d) (opposite d) (i + 1) in
       elim (cases_Bool (is_cut (condition_to w p d))) [
         | inl cut ↦ subst (λ b. GoesOn (reading_at w p d i) (word_behind b word)) (sym cut) (over_ones (reading_at w p d i) is.sound.kept is.sound.small)
         | inr clear ↦ subst (λ b. GoesOn (reading_at w p d i) (word_behind b word)) (sym clear)
@@ -209,7 +209,7 @@ module _ (w : World) (whole : IsWhole w) (form : HasCircuits (layout_of w)) (uns
   comes_plain : (p : ℕ) (d : Side) (i : ℕ) → 0 < w.ring.rounds → p < length w.ring.nodes → i < n_of w.ring.settings.rate
       → IsPlainInput (received (lines_at w p) d (i + 1))
   comes_plain p d i ran h few =
-      let word = word_behind (is_cut (condition_to w p d)) (word_on w (neighbour (length w.ring.ids) p d) (opposite d) (i + 1)) in
+      let word = word_behind (is_cut (condition_to w p d)) (pointer_word_on w (neighbour (length w.ring.ids) p d) (opposite d) (i + 1)) in
       let r = reading_at w p d i in
       let t = takes_carried w whole p d h ran i few in
       plain_as _ (action_on r word) _ (after_word r word).value t.action (t.value ∙ ap (λ (x : Reading). x.value) t.reading)
@@ -253,7 +253,7 @@ module _ (w : World) (whole : IsWhole w) (form : HasCircuits (layout_of w)) (uns
     s = state_on w far (opposite d) i
 
     abbrev word : ℕ
-    word = word_on w far (opposite d) (i + 1)
+    word = pointer_word_on w far (opposite d) (i + 1)
 
     abbrev input : Input
     input = sent_at w far (opposite d) (i + 1)
@@ -268,7 +268,7 @@ module _ (w : World) (whole : IsWhole w) (form : HasCircuits (layout_of w)) (uns
     u = state_on (round w) far (opposite d) i
 
     abbrev later : ℕ
-    later = word_on (round w) far (opposite d) (i + 1)
+    later = pointer_word_on (round w) far (opposite d) (i + 1)
 
     far_inside : far < length w.ring.nodes
     far_inside = neighbour_inside w whole p d
@@ -292,7 +292,7 @@ module _ (w : World) (whole : IsWhole w) (form : HasCircuits (layout_of w)) (uns
       no_value : (v : ℕ) → s ≡ Some v → ⊥
       no_value = not_ones s (subst (IsWordOf s) (ones_first w whole p d h none (i + 1)) is_now.sound.sent)
 
-      first_sound : Next IsSound r
+      first_sound : Next IsSoundReading r
       first_sound = record {
         small = is_now.sound.small;
         few = is_now.sound.few;
@@ -312,13 +312,13 @@ module _ (w : World) (whole : IsWhole w) (form : HasCircuits (layout_of w)) (uns
     read_as : 0 < w.ring.rounds → (b : Bool) → cut_now ≡ b → t ≡ after_word r (word_behind b word)
     read_as ran b e = (takes_carried w whole p d h ran i few).reading ∙ ap (λ c. after_word r (word_behind c word)) e
 
-    next_sound : IsSound t u later
+    next_sound : IsSoundReading t u later
     next_sound = elim (cases_lt 0 w.ring.rounds) [
-      | inr none ↦ to_next IsSound r (keeps_first w whole p d h (omega arith) i) (first_sound (omega arith))
+      | inr none ↦ to_next IsSoundReading r (keeps_first w whole p d h (omega arith) i) (first_sound (omega arith))
       | inl ran ↦ elim (cases_Bool cut_now) [
-        | inl cut ↦ to_next IsSound (after_word r 65535) (read_as ran true cut)
+        | inl cut ↦ to_next IsSoundReading (after_word r 65535) (read_as ran true cut)
             (sound_cut r s word input.action input.value plain is_now.sound)
-        | inr clear ↦ to_next IsSound (after_word r word) (read_as ran false clear)
+        | inr clear ↦ to_next IsSoundReading (after_word r word) (read_as ran false clear)
             (follows_next r s word input.action input.value plain (is_now.follows clear)).sound
       ]
     ]

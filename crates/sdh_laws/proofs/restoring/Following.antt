@@ -11,7 +11,7 @@ use Rattle.sdh_pointer.specs.declared.reading.Action.{Action}
 use Rattle.sdh_pointer.specs.declared.reading.Action.TheVariants as action
 use Rattle.sdh_pointer.specs.declared.word.Form.TheVariants as form
 use Rattle.sdh_pointer.specs.Words.{word_of, value_in, is_normal}
-use Rattle.sdh_pointer.specs.Reading.{action_in, after_word, action_on, settled, with_ais, with_new, news_with, later, is_norm}
+use Rattle.sdh_pointer.specs.Reading.{action_in, after_word, action_on, nothing_counted, with_ais, with_new, news_with, later, is_norm}
 use Rattle.sdh_pointer.specs.Reading.{normal_event, reading_row_of, reading_table}
 use Rattle.sdh_pointer.specs.Sending.{word_sent, next_sending}
 use Rattle.sdh_pointer.specs.Laws.{is_ais_action, IsSound as IsSmallInput}
@@ -20,7 +20,7 @@ use Rattle.sdh_pointer.proofs.Forms.{of_ones, normal_word, normal_value, enabled
 use Rattle.sdh_pointer.proofs.Rows.{norm_ais, ais_ais, ais_new, ais_ais_action}
 use Rattle.sdh_pointer.proofs.Sent.{ais_sent, new_sent, first_sent, normal_sent, other_sent}
 use Rattle.sdh_pointer.proofs.Settling.{by_event, action_by_event, reads, same, same_action, news_more, some_news}
-use Rattle.sdh_laws.specs.Restoring.Followed.{IsWordOf, IsSound, Follows}
+use Rattle.sdh_laws.specs.Restoring.Followed.{IsWordOf, IsSoundReading, Follows}
 use Rattle.sdh_spans.proofs.Sends.{ais_word}
 use Rattle.sdh_laws.proofs.restoring.Landing.{keeps, enabled_taken, acts, ais_new_action}
 
@@ -69,13 +69,13 @@ over_ones r other small = by r.mode refl
     by : (m : Mode) → r.mode ≡ m → GoesOn r 65535
     by mode.Lop is = absurd (other is)
     by mode.Ais is =
-        goes_as r (settled mode.Ais r.value 0) action.Ais 65535 (by_event r 65535 mode.Ais event.Ais is (of_ones r) ∙ ais_ais r)
+        goes_as r (nothing_counted mode.Ais r.value 0) action.Ais 65535 (by_event r 65535 mode.Ais event.Ais is (of_ones r) ∙ ais_ais r)
         (action_by_event r 65535 mode.Ais event.Ais is (of_ones r) ∙ ais_ais_action r) (λ e. cc) (omega arith) (λ e. cc) tt
     by mode.Norm is =
         let next = by_event r 65535 mode.Norm event.Ais is (of_ones r) ∙ norm_ais r in
         let act = action_by_event r 65535 mode.Norm event.Ais is (of_ones r) ∙ norm_ais_action r in
         elim (cases_Bool (nat_le 3 (r.ais + 1))) [
-          | inl t ↦ goes_as r (settled mode.Ais r.value 0) action.Ais 65535 (next ∙ (rw t refl)) (act ∙ (rw t refl)) (λ e. cc) (omega arith)
+          | inl t ↦ goes_as r (nothing_counted mode.Ais r.value 0) action.Ais 65535 (next ∙ (rw t refl)) (act ∙ (rw t refl)) (λ e. cc) (omega arith)
               (λ e. cc) tt
           | inr f ↦ goes_as r (with_ais r (later r.since)) action.Normal 65535 (next ∙ (rw f refl)) (act ∙ (rw f refl)) small (omega arith)
               other tt
@@ -95,11 +95,11 @@ two_at_most k f = elim (cases_lt k 3) [
 
 -- an enabled word is taken at once
 pub over_enabled : (r : Reading) (v : ℕ) → v ≤ 782 → r.mode ≢ mode.Lop
-    → (after_word r (word_of form.Enabled v) ≡ settled mode.Norm v 0) × (action_on r (word_of form.Enabled v) ≡ action.New)
+    → (after_word r (word_of form.Enabled v) ≡ nothing_counted mode.Norm v 0) × (action_on r (word_of form.Enabled v) ≡ action.New)
 over_enabled r v small other =
     let value = enabled_value v small in
     let t = enabled_taken r (word_of form.Enabled v) (enabled_word v small) (omega (arith, value)) other in
-    (t.0 ∙ ap (λ x. settled mode.Norm x 0) value, t.1)
+    (t.0 ∙ ap (λ x. nothing_counted mode.Norm x 0) value, t.1)
 
 module _ (v : ℕ) (small : v ≤ 782) where
   abbrev sent : ℕ
@@ -113,7 +113,7 @@ module _ (v : ℕ) (small : v ≤ 782) where
 
   -- at its value an interpreter stays there
   pub there : (r : Reading) → IsAtValue v r
-      → (after_word r sent ≡ settled mode.Norm v (later r.since)) × (action_on r sent ≡ action.Normal)
+      → (after_word r sent ≡ nothing_counted mode.Norm v (later r.since)) × (action_on r sent ≡ action.Normal)
   there r at = (same sent v normal carries r at.0 at.1, same_action sent v normal carries r at.0 at.1)
 
   -- in Ais it counts the word, and takes the third
@@ -121,7 +121,7 @@ module _ (v : ℕ) (small : v ≤ 782) where
     new : normal_event r v ≡ event.New v
     new = new_outside r v (ap is_norm is) small
 
-    next : after_word r sent ≡ (if nat_le 3 (news_with r v) then settled mode.Norm v 0 else with_new r v 0)
+    next : after_word r sent ≡ (if nat_le 3 (news_with r v) then nothing_counted mode.Norm v 0 else with_new r v 0)
     next = reads sent v normal carries mode.Ais r (event.New v) is new ∙ ais_new r v
 
     act : action_on r sent ≡ (if nat_le 3 (news_with r v) then action.New else action.Ais)
@@ -130,7 +130,7 @@ module _ (v : ℕ) (small : v ≤ 782) where
     counted : nat_le 3 (news_with r v) ≡ false → (after_word r sent ≡ with_new r v 0) × (action_on r sent ≡ action.Ais)
     counted f = (next ∙ (rw f refl), act ∙ (rw f refl))
 
-    third : nat_le 3 (news_with r v) ≡ true → (after_word r sent ≡ settled mode.Norm v 0) × (action_on r sent ≡ action.New)
+    third : nat_le 3 (news_with r v) ≡ true → (after_word r sent ≡ nothing_counted mode.Norm v 0) × (action_on r sent ≡ action.New)
     third t = (next ∙ (rw t refl), act ∙ (rw t refl))
 
   -- an interpreter that is at the value, or in Ais
@@ -139,9 +139,9 @@ module _ (v : ℕ) (small : v ≤ 782) where
 
   pub over_normal : (r : Reading) → MayRead r → GoesOn r sent
   over_normal r (inl at) =
-      goes_as r (settled mode.Norm v (later r.since)) action.Normal sent (there r at).0 (there r at).1 (λ e. small) (omega arith) (λ e. cc) tt
+      goes_as r (nothing_counted mode.Norm v (later r.since)) action.Normal sent (there r at).0 (there r at).1 (λ e. small) (omega arith) (λ e. cc) tt
   over_normal r (inr is) = elim (cases_Bool (nat_le 3 (news_with r v))) [
-    | inl t ↦ goes_as r (settled mode.Norm v 0) action.New sent (third r is t).0 (third r is t).1 (λ e. small) (omega arith) (λ e. cc) tt
+    | inl t ↦ goes_as r (nothing_counted mode.Norm v 0) action.New sent (third r is t).0 (third r is t).1 (λ e. small) (omega arith) (λ e. cc) tt
     | inr f ↦ goes_as r (with_new r v 0) action.Ais sent (counted r is f).0 (counted r is f).1
         (λ norm. absurd (let e : mode.Ais ≡ mode.Norm = sym is ∙ norm in cc)) (two_at_most (news_with r v) f)
         (λ lost. (let e : mode.Ais ≡ mode.Lop = sym is ∙ lost in cc)) tt
@@ -253,7 +253,7 @@ made r (Some g) word f = by f.sound.sent.1
     by (inl is) =
         let t = over_enabled r g small f.sound.kept in
         record {
-          goes = subst (GoesOn r) (sym is) (goes_as r (settled mode.Norm g 0) action.New (word_of form.Enabled g) t.0 t.1 (λ e. small) (omega arith) (λ e. cc) tt);
+          goes = subst (GoesOn r) (sym is) (goes_as r (nothing_counted mode.Norm g 0) action.New (word_of form.Enabled g) t.0 t.1 (λ e. small) (omega arith) (λ e. cc) tt);
           value = λ v e norm. ap (λ x. (after_word r x).value) is ∙ ap (λ (x : Reading). x.value) t.0 ∙ same_some g v e;
         }
     by (inr is) =
@@ -279,7 +279,7 @@ plain_comes r word goes = record {
 
 module _ (r : Reading) (s : Option ℕ) (word : ℕ) (a : Action) (v : ℕ) (plain : IsPlainAction a v) where
   -- behind a fibre that is cut ones are read
-  pub sound_cut : IsSound r s word → IsSound (after_word r 65535) (next_sending s a v) (word_sent s a v)
+  pub sound_cut : IsSoundReading r s word → IsSoundReading (after_word r 65535) (next_sending s a v) (word_sent s a v)
   sound_cut is = record {
     small = (over_ones r is.kept is.small).small;
     few = (over_ones r is.kept is.small).few;

@@ -10,7 +10,7 @@ use Rattle.sdh_pointer.specs.declared.reading.Event.{Event}
 use Rattle.sdh_pointer.specs.declared.reading.Event.TheVariants as event
 use Rattle.sdh_pointer.specs.declared.reading.Action.TheVariants as action
 use Rattle.sdh_pointer.specs.Words.{is_normal, is_enabled, value_in, one_up, one_down}
-use Rattle.sdh_pointer.specs.Reading.{normal_event, is_norm, goes_up, goes_down, action_in, after_word, action_on, settled}
+use Rattle.sdh_pointer.specs.Reading.{normal_event, is_norm, goes_up, goes_down, action_in, after_word, action_on, nothing_counted}
 use Rattle.sdh_pointer.specs.Reading.{with_new, news_with, later, reading_row_of, reading_table}
 use Rattle.sdh_pointer.specs.Repeated.{after_rounds}
 use Rattle.sdh_pointer.specs.Laws.{is_ais_action}
@@ -39,10 +39,10 @@ lop_new_action r v = refl
 
 -- out of Lop an enabled word is taken at once
 pub enabled_taken : (r : Reading) (w : ℕ) → is_enabled w ≡ true → value_in w ≤ 782 → r.mode ≢ mode.Lop
-    → (after_word r w ≡ settled mode.Norm (value_in w) 0) × (action_on r w ≡ action.New)
+    → (after_word r w ≡ nothing_counted mode.Norm (value_in w) 0) × (action_on r w ≡ action.New)
 enabled_taken r w enabled small other = by r.mode refl
   where
-    by : (m : Mode) → r.mode ≡ m → (after_word r w ≡ settled mode.Norm (value_in w) 0) × (action_on r w ≡ action.New)
+    by : (m : Mode) → r.mode ≡ m → (after_word r w ≡ nothing_counted mode.Norm (value_in w) 0) × (action_on r w ≡ action.New)
     by mode.Norm is = (
       by_event r w mode.Norm (event.Ndf (value_in w)) is (of_enabled_word r w enabled small)
           ∙ norm_ndf r (value_in w),
@@ -59,7 +59,7 @@ enabled_taken r w enabled small other = by r.mode refl
 
 -- in Lop an enabled word isn't taken: the mode stays
 pub enabled_left : (r : Reading) (w : ℕ) → is_enabled w ≡ true → value_in w ≤ 782 → r.mode ≡ mode.Lop
-    → after_word r w ≡ settled mode.Lop r.value 0
+    → after_word r w ≡ nothing_counted mode.Lop r.value 0
 enabled_left r w enabled small is =
     by_event r w mode.Lop (event.Ndf (value_in w)) is (of_enabled_word r w enabled small) ∙ lop_ndf r (value_in w)
 
@@ -120,7 +120,7 @@ module _ (w v : ℕ) (normal : is_normal w ≡ true) (carries : value_in w ≡ v
   longer a b x y r h g (inl at) = inl (stays_at a x r h at)
   longer a b x y r h g (inr n) = inr (wider b y r g n)
 
-  now_new : (r : Reading) (since : ℕ) → after_word r w ≡ settled mode.Norm v since → action_on r w ≡ action.New → ByNew 1 r
+  now_new : (r : Reading) (since : ℕ) → after_word r w ≡ nothing_counted mode.Norm v since → action_on r w ≡ action.New → ByNew 1 r
   now_new r since e new = record {
     before = 0;
     few = omega arith;
@@ -202,8 +202,8 @@ module _ (w v : ℕ) (normal : is_normal w ≡ true) (carries : value_in w ≡ v
         none_then t f g (omega (arith, h, c)) i (omega (arith, j, e))))
 
     -- three rounds are enough for an interpreter that has just taken any value
-    taken : (u : ℕ) → Lands 0 3 (settled mode.Norm u 0)
-    taken u = elim (cases_eq u v) [ inl e ↦ inl (refl, e) | inr other ↦ inr (since_none (settled mode.Norm u 0) refl other refl) ]
+    taken : (u : ℕ) → Lands 0 3 (nothing_counted mode.Norm u 0)
+    taken u = elim (cases_eq u v) [ inl e ↦ inl (refl, e) | inr other ↦ inr (since_none (nothing_counted mode.Norm u 0) refl other refl) ]
 
     late_two : (r : Reading) → r.mode ≡ mode.Norm → r.value ≢ v → goes_up v r.value ≡ false → goes_down v r.value ≡ false → r.candidate ≡ v
         → 2 ≤ r.news → ByNew 1 r
@@ -233,11 +233,11 @@ module _ (w v : ℕ) (normal : is_normal w ≡ true) (carries : value_in w ≡ v
 
     after_up : (r : Reading) → r.mode ≡ mode.Norm → normal_event r v ≡ event.Up → Lands 1 4 r
     after_up r norm is =
-        step 0 3 r (settled mode.Norm (one_up r.value) 0) (reads w v normal carries mode.Norm r event.Up norm is ∙ norm_up r) (taken (one_up r.value))
+        step 0 3 r (nothing_counted mode.Norm (one_up r.value) 0) (reads w v normal carries mode.Norm r event.Up norm is ∙ norm_up r) (taken (one_up r.value))
 
     after_down : (r : Reading) → r.mode ≡ mode.Norm → normal_event r v ≡ event.Down → Lands 1 4 r
     after_down r norm is =
-        step 0 3 r (settled mode.Norm (one_down r.value) 0) (reads w v normal carries mode.Norm r event.Down norm is ∙ norm_down r) (taken (one_down r.value))
+        step 0 3 r (nothing_counted mode.Norm (one_down r.value) 0) (reads w v normal carries mode.Norm r event.Down norm is ∙ norm_down r) (taken (one_down r.value))
 
     since_three : (r : Reading) → r.mode ≡ mode.Norm → r.value ≢ v → 3 ≤ r.since → Lands 1 4 r
     since_three r norm other full =

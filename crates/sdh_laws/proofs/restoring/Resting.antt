@@ -40,17 +40,17 @@ use Rattle.sdh_laws.specs.Hearing.Laws.{IsWhole}
 use Rattle.sdh_laws.proofs.hearing.Changes.{whole_run}
 use Rattle.sdh_laws.proofs.hearing.Nodes.{count}
 use Rattle.sdh_laws.proofs.hearing.Steady.{none_waits_later}
-use Rattle.sdh_spans.specs.Brought.{Brings, HasValue}
-use Rattle.sdh_laws.specs.Carrying.Windows.{Layout, layout_of, size_of, slots_of, HasCircuits, value_at}
+use Rattle.sdh_spans.specs.Brought.{BringsDelivery, HasValue}
+use Rattle.sdh_laws.specs.Carrying.Windows.{Layout, layout_of, positions_of, slots_of, HasCircuits, value_at}
 use Rattle.sdh_spans.specs.Brought.{plainly}
 use Rattle.sdh_laws.proofs.carrying.Owed.{Arrives, port_sends, port_small, port_is_there, none_here, plain_here, arrives, offset_small}
 use Rattle.sdh_laws.proofs.carrying.Owed.{slot_inside}
 use Rattle.sdh_laws.proofs.carrying.Ways.{layout_run}
-use Rattle.sdh_laws.specs.Converging.Steady.{went, came, brought}
+use Rattle.sdh_laws.specs.Converging.Steady.{went, brought_to, brought_in_slot}
 use Rattle.sdh_laws.specs.Converging.Steady.{StaysSettled}
 use Rattle.sdh_laws.proofs.converging.Runs.{length_run}
 use Rattle.sdh_laws.proofs.converging.Spreading.{two_halves, working_goes, protection_goes, protection_comes, inside_of, beside}
-use Rattle.sdh_laws.specs.Restoring.Flowing.{FlowsBehind, IsSilent}
+use Rattle.sdh_laws.specs.Restoring.Flowing.{FlowsBehind, IsAisFrom}
 use Rattle.sdh_laws.proofs.restoring.Flowing.{flows_behind, silent_on}
 use Rattle.sdh_laws.proofs.restoring.Walking.{joined_walk, parted_walk}
 use Rattle.sdh_rounds.specs.Runs as any_run
@@ -70,7 +70,7 @@ flows_as f g spans v x y same also is = record {
   soon = elim is.soon [ inl early ↦ inl early | inr late ↦ inr (late.0, ap (λ (i : Input). i.action) (same is.first) ∙ late.1) ];
 }
 
-silent_as : (f g : ℕ → Input) (t : ℕ) → ((j : ℕ) → g j ≡ f j) → IsSilent f t → IsSilent g t
+silent_as : (f g : ℕ → Input) (t : ℕ) → ((j : ℕ) → g j ≡ f j) → IsAisFrom f t → IsAisFrom g t
 silent_as f g t same is j h = ap (λ (i : Input). i.action) (same j) ∙ is j h
 
 -- no fibre is cut on a span that isn't applied
@@ -97,33 +97,33 @@ module _ (w : World) (whole : IsWhole w) (form : HasCircuits (layout_of w)) (rs 
 
   span_flows : (p : ℕ) (d : Side) (au s v : ℕ) (bytes : ℕ → List ℕ) → p < n → 1 ≤ au → au ≤ n_of w.ring.settings.rate → v ≤ 782
       → applied (span_at n p d) ≡ false
-      → FlowsBehind (went w (neighbour n p d) (opposite d) au) s v bytes → FlowsBehind (came w p d au) (s + 1) v (λ j. bytes (j - 1))
+      → FlowsBehind (went w (neighbour n p d) (opposite d) au) s v bytes → FlowsBehind (brought_to w p d au) (s + 1) v (λ j. bytes (j - 1))
   span_flows p d au s v bytes h low high small free f =
       let i = au - 1 in
       let back : i + 1 ≡ au = omega arith in
-      subst (λ a. FlowsBehind (came w p d a) (s + 1) v (λ j. bytes (j - 1))) back
+      subst (λ a. FlowsBehind (brought_to w p d a) (s + 1) v (λ j. bytes (j - 1))) back
       (flows_behind w whole p d i (inside_of w whole p h) (omega arith) s v bytes small (uncut p d h free)
       (subst (λ a. FlowsBehind (went w (neighbour n p d) (opposite d) a) s v bytes) (sym back) f))
 
   span_silent : (p : ℕ) (d : Side) (au t : ℕ) → p < n → 1 ≤ au → au ≤ n_of w.ring.settings.rate
-      → IsSilent (went w (neighbour n p d) (opposite d) au) t → IsSilent (came w p d au) (t + 3)
+      → IsAisFrom (went w (neighbour n p d) (opposite d) au) t → IsAisFrom (brought_to w p d au) (t + 3)
   span_silent p d au t h low high s =
       let i = au - 1 in
       let back : i + 1 ≡ au = omega arith in
-      subst (λ a. IsSilent (came w p d a) (t + 3)) back
+      subst (λ a. IsAisFrom (brought_to w p d a) (t + 3)) back
       (silent_on w whole p d i (inside_of w whole p h) (omega arith) t
-      (subst (λ a. IsSilent (went w (neighbour n p d) (opposite d) a) t) (sym back) s))
+      (subst (λ a. IsAisFrom (went w (neighbour n p d) (opposite d) a) t) (sym back) s))
 
   module _ (m : ℕ) (low : 1 ≤ m) (high : m ≤ half) where
-    pub went_working : (q j : ℕ) (e : Side) → q < n → went w q e m j ≡ brought w q m (working_in n cs q (settled rs q) e m) j
+    pub went_working : (q j : ℕ) (e : Side) → q < n → went w q e m j ≡ brought_in_slot w q m (working_in n cs q (settled rs q) e m) j
     went_working q j e h = working_goes w whole q m j e (settled rs q) h high (rest.settled_are (suc j) (omega arith) q h)
 
-    pub went_protection : (q j : ℕ) (e : Side) → q < n → went w q e (half + m) j ≡ brought w q m (protection_in n cs q (settled rs q) e m) j
+    pub went_protection : (q j : ℕ) (e : Side) → q < n → went w q e (half + m) j ≡ brought_in_slot w q m (protection_in n cs q (settled rs q) e m) j
     went_protection q j e h = protection_goes w whole q m j e (settled rs q) h low (rest.settled_are (suc j) (omega arith) q h)
 
     over_free : (s v : ℕ) (bytes : ℕ → List ℕ) → v ≤ 782 → (p : ℕ) (o : Origin) → p < n → IsArrival o → routes.IsFree n applied p o
-        → (let b = back_from n (settled rs) cs m p o in FlowsBehind (brought w b.at m b.origin) s v bytes
-        → FlowsBehind (brought w p m o) (s + 1) v (λ j. bytes (j - 1)))
+        → (let b = back_from n (settled rs) cs m p o in FlowsBehind (brought_in_slot w b.at m b.origin) s v bytes
+        → FlowsBehind (brought_in_slot w p m o) (s + 1) v (λ j. bytes (j - 1)))
     over_free s v bytes small p Ais h arrives f c = absurd arrives
     over_free s v bytes small p (Add id) h arrives f c = absurd arrives
     over_free s v bytes small p (Working d) h arrives f c =
@@ -132,13 +132,13 @@ module _ (w : World) (whole : IsWhole w) (form : HasCircuits (layout_of w)) (rs 
         (flows_as _ (went w q (opposite d) m) s v bytes bytes (λ j. went_working q j (opposite d) (beside w whole p d)) (λ j. refl) c)
     over_free s v bytes small p (Protection d) h arrives f c =
         let q = neighbour n p d in
-        flows_as (came w p d (half + m)) (brought w p m (Protection d)) (s + 1) v (λ j. bytes (j - 1)) (λ j. bytes (j - 1))
+        flows_as (brought_to w p d (half + m)) (brought_in_slot w p m (Protection d)) (s + 1) v (λ j. bytes (j - 1)) (λ j. bytes (j - 1))
         (λ j. protection_comes w whole p m j d h) (λ j. refl)
         (span_flows p d (half + m) s v bytes h (omega arith) (omega (arith, two_halves w.ring.settings.rate)) small f
         (flows_as _ (went w q (opposite d) (half + m)) s v bytes bytes (λ j. went_protection q j (opposite d) (beside w whole p d)) (λ j. refl) c))
 
     over_silent : (t p : ℕ) (o : Origin) → p < n → IsArrival o
-        → (let b = back_from n (settled rs) cs m p o in IsSilent (brought w b.at m b.origin) t → IsSilent (brought w p m o) (t + 3))
+        → (let b = back_from n (settled rs) cs m p o in IsAisFrom (brought_in_slot w b.at m b.origin) t → IsAisFrom (brought_in_slot w p m o) (t + 3))
     over_silent t p Ais h arrives c = absurd arrives
     over_silent t p (Add id) h arrives c = absurd arrives
     over_silent t p (Working d) h arrives c =
@@ -147,28 +147,28 @@ module _ (w : World) (whole : IsWhole w) (form : HasCircuits (layout_of w)) (rs 
         (silent_as _ (went w q (opposite d) m) t (λ j. went_working q j (opposite d) (beside w whole p d)) c)
     over_silent t p (Protection d) h arrives c =
         let q = neighbour n p d in
-        silent_as (came w p d (half + m)) (brought w p m (Protection d)) (t + 3) (λ j. protection_comes w whole p m j d h)
+        silent_as (brought_to w p d (half + m)) (brought_in_slot w p m (Protection d)) (t + 3) (λ j. protection_comes w whole p m j d h)
         (span_silent p d (half + m) t h (omega arith) (omega (arith, two_halves w.ring.settings.rate))
         (silent_as _ (went w q (opposite d) (half + m)) t (λ j. went_protection q j (opposite d) (beside w whole p d)) c))
 
     -- ---- walks, counted by spans
 
     abbrev Bytes : (ℕ → List ℕ) → ℕ → ℕ → ℕ → Origin → Type 0
-    Bytes b v s p o = FlowsBehind (brought w p m o) s v (λ j. b (j - s))
+    Bytes b v s p o = FlowsBehind (brought_in_slot w p m o) s v (λ j. b (j - s))
 
     abbrev Silence : ℕ → ℕ → Origin → Type 0
-    Silence s p o = IsSilent (brought w p m o) (3 * s)
+    Silence s p o = IsAisFrom (brought_in_slot w p m o) (3 * s)
 
     bytes_kept : (b : ℕ → List ℕ) (v last : ℕ) → v ≤ 782 → IsKeptOver n applied (settled rs) cs m (Bytes b v) 0 last
     bytes_kept b v last small t p o lt a f early late is =
-        flows_as (brought w p m o) (brought w p m o) (t + 1) v (λ j. b (j - 1 - t)) (λ j. b (j - (t + 1))) (λ j. refl)
+        flows_as (brought_in_slot w p m o) (brought_in_slot w p m o) (t + 1) v (λ j. b (j - 1 - t)) (λ j. b (j - (t + 1))) (λ j. refl)
         (λ j. let same : j - 1 - t ≡ j - (t + 1) = omega arith in ap b same)
         (over_free t v (λ j. b (j - t)) small p o lt a f is)
 
     silence_kept : (last : ℕ) → IsKeptOver n applied (settled rs) cs m Silence 0 last
     silence_kept last t p o lt a f early late is =
         let now : 3 * t + 3 ≡ 3 * (t + 1) = omega arith in
-        subst (IsSilent (brought w p m o)) now (over_silent (3 * t) p o lt a is)
+        subst (IsAisFrom (brought_in_slot w p m o)) now (over_silent (3 * t) p o lt a is)
 
   -- ---- a port
 
@@ -210,13 +210,13 @@ module _ (w : World) (whole : IsWhole w) (form : HasCircuits (layout_of w)) (rs 
         there i = ap (λ (l : Layout). slice_get l.circuits index) (layout_run w i) ∙ get
 
         here : (i : ℕ) → port_at c far < length (run i w).ring.ids
-        here i = let same : length (run i w).ring.ids ≡ n = ap size_of (layout_run w i) in omega (arith, inside far)
+        here i = let same : length (run i w).ring.ids ≡ n = ap positions_of (layout_run w i) in omega (arith, inside far)
 
-    pub plain : (i : ℕ) → Brings (value_at (run i w) (port_at c far) c.slot.0 (port index far)) (plainly (customer_at c far) (clock i))
+    pub plain : (i : ℕ) → BringsDelivery (value_at (run i w) (port_at c far) c.slot.0 (port index far)) (plainly (customer_at c far) (clock i))
     plain i =
         let there : slice_get (run i w).ring.circuits.circuits index ≡ Some c =
         ap (λ (l : Layout). slice_get l.circuits index) (layout_run w i) ∙ get in
-        let same : length (run i w).ring.ids ≡ n = ap size_of (layout_run w i) in
+        let same : length (run i w).ring.ids ≡ n = ap positions_of (layout_run w i) in
         let here : port_at c far < length (run i w).ring.ids = omega (arith, inside far) in
         port_sends (run i w) (whole_run w i whole) c.slot.0 index c far there here
         (plain_here (run i w) (whole_run w i whole) index c far there here
@@ -245,7 +245,7 @@ module _ (w : World) (whole : IsWhole w) (form : HasCircuits (layout_of w)) (rs 
     }
 
     -- what the port delivers in round j
-    pub delivered_so : (j : ℕ) (b : Outlet) → HasValue b → (let x = delivery n (settled rs) cs c e in Brings
+    pub delivered_so : (j : ℕ) (b : Outlet) → HasValue b → (let x = delivery n (settled rs) cs c e in BringsDelivery
         (value_at (run j w) x.at c.slot.0 x.origin) b) → outlet_at (run (suc j) w).ring (port_id index e) ≡ b
     unfolding any_run.run
     delivered_so j b has is =

@@ -32,7 +32,7 @@ use Rattle.sdh_laws.proofs.hearing.Changes.{whole_run}
 use Rattle.sdh_laws.proofs.hearing.Nodes.{count}
 use Rattle.sdh_laws.proofs.hearing.Staying.{left_run}
 use Rattle.sdh_laws.proofs.hearing.Steady.{still_from, free_at, free_stays, none_wait, none_waits_later}
-use Rattle.sdh_laws.specs.Carrying.Windows.{Layout, layout_of, size_of, slots_of, HasCircuits, requests_of, AreSettled, FailOnApplied}
+use Rattle.sdh_laws.specs.Carrying.Windows.{Layout, layout_of, positions_of, slots_of, HasCircuits, span_requests_of, AreSettled, FailOnApplied}
 use Rattle.sdh_laws.specs.Carrying.Laws.{DeliversItsDue, IsRestored}
 use Rattle.sdh_laws.proofs.carrying.Applied.{failures_applied, length-requests_of}
 use Rattle.sdh_laws.proofs.carrying.Owed.{port_is_there}
@@ -54,7 +54,7 @@ module _ (law : RingsSettle) (w : World) (whole : IsWhole w) (form : HasCircuits
   n = length w.ring.ids
 
   abbrev pub rs : List ℕ
-  rs = requests_of (run (f + 3) w)
+  rs = span_requests_of (run (f + 3) w)
 
   still : StillFrom w f
   still = still_from w whole f free law
@@ -62,13 +62,13 @@ module _ (law : RingsSettle) (w : World) (whole : IsWhole w) (form : HasCircuits
   spans_are : length rs ≡ n
   spans_are = length-requests_of (run (f + 3) w) n (nodes_run w whole (f + 3))
 
-  requests_at : (k : ℕ) → requests_of (run (f + 3 + k) w) ≡ rs
-  requests_at zero = let e : f + 3 + zero ≡ f + 3 = omega arith in ap (λ j. requests_of (run j w)) e
+  requests_at : (k : ℕ) → span_requests_of (run (f + 3 + k) w) ≡ rs
+  requests_at zero = let e : f + 3 + zero ≡ f + 3 = omega arith in ap (λ j. span_requests_of (run j w)) e
   requests_at (suc k) = let e : f + 3 + suc k ≡ suc (f + 3 + k) =
-      omega arith in ap (λ j. requests_of (run j w)) e ∙ ap requests_in (still.needs (f + 3 + k) (omega arith)) ∙ requests_at k
+      omega arith in ap (λ j. span_requests_of (run j w)) e ∙ ap requests_in (still.needs (f + 3 + k) (omega arith)) ∙ requests_at k
 
-  pub requests_from : (k : ℕ) → f + 3 ≤ k → requests_of (run k w) ≡ rs
-  requests_from k h = let e : k ≡ f + 3 + (k - (f + 3)) = omega arith in ap (λ j. requests_of (run j w)) e ∙ requests_at (k - (f + 3))
+  pub requests_from : (k : ℕ) → f + 3 ≤ k → span_requests_of (run k w) ≡ rs
+  requests_from k h = let e : k ≡ f + 3 + (k - (f + 3)) = omega arith in ap (λ j. span_requests_of (run j w)) e ∙ requests_at (k - (f + 3))
 
   pub states_from : (k : ℕ) → 4 * n + f + 10 ≤ k → (signals_of (run k w)).states ≡ settled_states rs
   states_from k h = still.states k h ∙ ap settled_states (requests_from k (omega arith))
@@ -82,7 +82,7 @@ module _ (law : RingsSettle) (w : World) (whole : IsWhole w) (form : HasCircuits
   whole_u = whole_run w base whole
 
   pub ids_u : length u.ring.ids ≡ n
-  ids_u = ap size_of (layout_run w base)
+  ids_u = ap positions_of (layout_run w base)
 
   pub settled_u : (k : ℕ) → 1 ≤ k → AreSettled n rs (run k u)
   settled_u k some =
@@ -139,7 +139,7 @@ module _ (law : RingsSettle) (w : World) (whole : IsWhole w) (form : HasCircuits
         let number : u.ring.rounds + j ≡ (run (suc j) u).ring.rounds - 1 = (let r = (left_run (suc j) u).rounds in omega arith) in
         so
         ∙ ap (due_by_clocks (length u.ring.ids) (is_applied rs) c e (clocks_from w (port_id index (other_end e)))) number
-        ∙ ap (λ (l : Layout). due_by_clocks (size_of l) (is_applied rs) c e (clocks_from w (port_id index (other_end e)))
+        ∙ ap (λ (l : Layout). due_by_clocks (positions_of l) (is_applied rs) c e (clocks_from w (port_id index (other_end e)))
         ((run (suc j) u).ring.rounds - 1)) (sym (layout_run u (suc j)))
 
     abbrev pub form_u : HasCircuits (layout_of u)
@@ -185,7 +185,7 @@ module _ (law : RingsSettle) (w : World) (whole : IsWhole w) (form : HasCircuits
         let there : run (suc j) u ≡ run k w = run_more w base (suc j) ∙ ap (λ i. run i w) now in
         subst (λ v. DeliversItsDue (clocks_from w) v rs c index e) there (joined_at j joined (omega (arith, enough)))
 
-    pub joined_owed : (k : ℕ) → JoinedBy k (requests_of (run k w))
+    pub joined_owed : (k : ℕ) → JoinedBy k (span_requests_of (run k w))
     joined_owed k joined enough = subst (JoinedBy k) (sym (requests_from k (omega (arith, late, enough)))) (joined_so k) joined enough
 
     abbrev PartedBy : ℕ → List ℕ → Type 0
@@ -200,7 +200,7 @@ module _ (law : RingsSettle) (w : World) (whole : IsWhole w) (form : HasCircuits
         let there : run (suc j) u ≡ run k w = run_more w base (suc j) ∙ ap (λ i. run i w) now in
         subst (λ v. DeliversItsDue (clocks_from w) v rs c index e) there (parted_at j parted (omega (arith, enough, two)))
 
-    pub parted_owed : (k : ℕ) → PartedBy k (requests_of (run k w))
+    pub parted_owed : (k : ℕ) → PartedBy k (span_requests_of (run k w))
     parted_owed k parted enough = let two =
         whole.placed.ids.enough in subst (PartedBy k) (sym (requests_from k (omega (arith, late, enough, two)))) (parted_so k) parted enough
 
@@ -215,7 +215,7 @@ module _ (law : RingsSettle) (w : World) (whole : IsWhole w) (form : HasCircuits
         (sym (layout_run w base) ∙ sym (layout_run u (suc j))) ∙ get) e j enough;
   }
 
-  pub restored : (k : ℕ) → 8 * n + base ≤ k + 7 → base + 1 ≤ k → IsRestored (clocks_from w) (run k w) (requests_of (run k w))
+  pub restored : (k : ℕ) → 8 * n + base ≤ k + 7 → base + 1 ≤ k → IsRestored (clocks_from w) (run k w) (span_requests_of (run k w))
   restored k enough some =
       let j = k - base - 1 in
       let now : suc j + base ≡ k = omega (arith, some) in
@@ -261,6 +261,6 @@ unslipped_ports_are_owed_soon law w whole form free none =
 
 pub unsettled_rings_are_restored : RingsSettle → UnsettledRingsAreRestored
 unsettled_rings_are_restored law w left limit form unsettles whole enough =
-    subst (λ v. IsRestored (clocks_from w) v (requests_of v))
+    subst (λ v. IsRestored (clocks_from w) v (span_requests_of v))
     (sym (known_unsettles adm w limit left (inl whole.paired.honest.honest) unsettles).1)
     (rings_are_restored_soon law w whole form limit enough)

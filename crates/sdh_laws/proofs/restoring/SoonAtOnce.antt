@@ -20,8 +20,8 @@ use Rattle.sdh_node.specs.Rings.Rounds.{World}
 use Rattle.sdh_node.specs.Rings.Runs.{run}
 use Rattle.sdh_laws.specs.Hearing.Laws.{IsWhole}
 use Rattle.sdh_laws.proofs.hearing.Steady.{AllHeldFor, held_after, free_stays, none_waits_later}
-use Rattle.sdh_laws.specs.Restoring.Laws.{NoneHeld}
-use Rattle.sdh_laws.specs.Carrying.Windows.{Layout, layout_of, slots_of, HasCircuits, requests_of}
+use Rattle.sdh_laws.specs.Restoring.Laws.{NoControllerHeld}
+use Rattle.sdh_laws.specs.Carrying.Windows.{Layout, layout_of, slots_of, HasCircuits, span_requests_of}
 use Rattle.sdh_laws.specs.Carrying.Laws.{DeliversItsDue, IsRestored}
 use Rattle.sdh_laws.proofs.carrying.Ways.{layout_run}
 use Rattle.sdh_laws.specs.Converging.Steady.{IsUnslipped}
@@ -86,15 +86,15 @@ module _ (law : RingsSettle) (w : World) (whole : IsWhole w) (form : HasCircuits
         let there : run (suc j) start ≡ run k w = run_more w base (suc j) ∙ ap (λ i. run i w) now in
         subst (λ v. DeliversItsDue (clocks_from w) v qs c index e) there (joined_at j joined (omega (arith, enough)))
 
-    pub joined_owed : (k : ℕ) → JoinedBy k (requests_of (run k w))
+    pub joined_owed : (k : ℕ) → JoinedBy k (span_requests_of (run k w))
     joined_owed k joined enough =
         subst (JoinedBy k) (sym (requests_from law w whole form f base free late slips k (omega (arith, late, enough)))) (joined_so k) joined
         enough
 
     -- every port, once AIS has come to those that are parted
-    pub port_owed : (k : ℕ) → base + 3 * n ≤ k + 2 → DeliversItsDue (clocks_from w) (run k w) (requests_of (run k w)) c index e
+    pub port_owed : (k : ℕ) → base + 3 * n ≤ k + 2 → DeliversItsDue (clocks_from w) (run k w) (span_requests_of (run k w)) c index e
     port_owed k enough =
-        let applied = is_applied (requests_of (run k w)) in
+        let applied = is_applied (span_requests_of (run k w)) in
         let s = short n applied (slots_of (layout_of w)) w.ring.circuits.circuits form index c get in
         let two = whole.placed.ids.enough in
         elim (cases_Bool (is_joined n applied (arc_of n c))) [
@@ -111,7 +111,7 @@ module _ (law : RingsSettle) (w : World) (whole : IsWhole w) (form : HasCircuits
     parted = λ k index c get e. parted_owed law w whole form f base free late slips index c get e k;
   }
 
-  pub restored_at_once : (k : ℕ) → base + 3 * n ≤ k + 2 → IsRestored (clocks_from w) (run k w) (requests_of (run k w))
+  pub restored_at_once : (k : ℕ) → base + 3 * n ≤ k + 2 → IsRestored (clocks_from w) (run k w) (span_requests_of (run k w))
   restored_at_once k enough =
       let two = whole.placed.ids.enough in
       record {
@@ -122,7 +122,7 @@ module _ (law : RingsSettle) (w : World) (whole : IsWhole w) (form : HasCircuits
       }
 
 -- once all held turns are over no controller is held
-free_later : (w : World) → IsWhole w → (turns : ℕ) → AllHeldFor turns w → (k : ℕ) → turns ≤ k → NoneHeld (run k w)
+free_later : (w : World) → IsWhole w → (turns : ℕ) → AllHeldFor turns w → (k : ℕ) → turns ≤ k → NoControllerHeld (run k w)
 free_later w whole turns held k late p h =
     let few = held_after w whole turns held k p h in
     ap (nat_le 1) (let none : (node_at (run k w).ring.nodes p).held ≡ 0 = omega arith in none)
@@ -143,6 +143,6 @@ held_followed_rings_are_restored_soon law w whole form turns held unslipped foll
 
 pub unsettled_followed_rings_are_restored : RingsSettle → UnsettledFollowedRingsAreRestored
 unsettled_followed_rings_are_restored law w left limit form unsettles whole free unslipped followed enough =
-    subst (λ v. IsRestored (clocks_from w) v (requests_of v))
+    subst (λ v. IsRestored (clocks_from w) v (span_requests_of v))
     (sym (known_unsettles adm w limit left (inl whole.paired.honest.honest) unsettles).1)
     (followed_rings_are_restored_soon law w whole form free unslipped followed limit enough)

@@ -11,7 +11,7 @@ use Rattle.sdh_pointer.specs.declared.reading.Action.TheVariants as action
 use Rattle.sdh_pointer.specs.declared.reading.Mode.TheVariants as mode
 use Rattle.sdh_pointer.specs.declared.reading.Reading.{Reading}
 use Rattle.sdh_pointer.specs.declared.word.Form.TheVariants as form
-use Rattle.sdh_pointer.specs.Reading.{after_word, settled}
+use Rattle.sdh_pointer.specs.Reading.{after_word, nothing_counted}
 use Rattle.sdh_pointer.specs.Words.{word_of}
 use Rattle.sdh_pointer.proofs.Forms.{normal_word, normal_value}
 use Rattle.sdh_pointer.proofs.Settling.{ais_settles, normal_word_settles, stays_for}
@@ -27,13 +27,13 @@ use Rattle.sdh_laws.specs.Hearing.Laws.{IsWhole}
 use Rattle.sdh_laws.proofs.hearing.Changes.{whole_run}
 use Rattle.sdh_laws.proofs.hearing.Nodes.{count}
 use Rattle.sdh_laws.proofs.hearing.Staying.{left_run}
-use Rattle.sdh_laws.specs.Carrying.Windows.{layout_of, size_of, HasCircuits}
+use Rattle.sdh_laws.specs.Carrying.Windows.{layout_of, positions_of, HasCircuits}
 use Rattle.sdh_laws.proofs.carrying.Ways.{layout_run}
 use Rattle.sdh_laws.specs.Converging.Steady.{went}
 use Rattle.sdh_laws.proofs.converging.Runs.{length_run, rate_run, run_more}
 use Rattle.sdh_laws.proofs.converging.Spans.{sending_in, reading_in, word_in, generator_goes}
 use Rattle.sdh_laws.proofs.converging.Spreading.{inside_of, beside}
-use Rattle.sdh_laws.specs.Restoring.Followed.{IsWordOf, Follows, IsFollowed, word_on, WindowsLeaveFollowed, StepsLeaveFollowed}
+use Rattle.sdh_laws.specs.Restoring.Followed.{IsWordOf, Follows, IsFollowed, pointer_word_on, WindowsLeaveFollowed, StepsLeaveFollowed}
 use Rattle.sdh_laws.proofs.resting.Calm.{takes, behind, reading_kept, sending_kept, word_state, even_went, from_there}
 use Rattle.sdh_laws.proofs.resting.Pointers.{IsEven, state_word}
 use Rattle.sdh_laws.proofs.restoring.Followed.{plain_as, plain_ais, word_sent_on}
@@ -42,16 +42,16 @@ use Rattle.sdh_rounds.specs.Runs as any_run
 
 -- ---- an interpreter that a word doesn't move
 
-unmoved_by_ones : (r : Reading) → after_word r 65535 ≡ r → r ≡ settled mode.Ais r.value 0
+unmoved_by_ones : (r : Reading) → after_word r 65535 ≡ r → r ≡ nothing_counted mode.Ais r.value 0
 unmoved_by_ones r still = sym (stays_for 3 65535 r still) ∙ ais_settles r 3 (omega arith)
 
-unmoved_by_normal : (r : Reading) (v : ℕ) → v ≤ 782 → after_word r (word_of form.Normal v) ≡ r → r ≡ settled mode.Norm v 3
+unmoved_by_normal : (r : Reading) (v : ℕ) → v ≤ 782 → after_word r (word_of form.Normal v) ≡ r → r ≡ nothing_counted mode.Norm v 3
 unmoved_by_normal r v small still =
     sym (stays_for 7 (word_of form.Normal v) r still)
     ∙ normal_word_settles r (word_of form.Normal v) 7 (normal_word v small) (let e = normal_value v small in omega arith) (omega arith)
-    ∙ ap (λ x. settled mode.Norm x 3) (normal_value v small)
+    ∙ ap (λ x. nothing_counted mode.Norm x 3) (normal_value v small)
 
-ais_follows : (r : Reading) (s : Option ℕ) (word : ℕ) → IsWordOf s word → r ≡ settled mode.Ais r.value 0 → Follows r s word
+ais_follows : (r : Reading) (s : Option ℕ) (word : ℕ) → IsWordOf s word → r ≡ nothing_counted mode.Ais r.value 0 → Follows r s word
 ais_follows r s word sent is =
     let ais : r.mode ≡ mode.Ais = ap (λ (x : Reading). x.mode) is in
     let news : r.news ≡ 0 = ap (λ (x : Reading). x.news) is in
@@ -65,7 +65,7 @@ ais_follows r s word sent is =
       value = λ v e n norm. absurd (let x : mode.Ais ≡ mode.Norm = sym ais ∙ norm in cc);
     }
 
-norm_follows : (r : Reading) (v word : ℕ) → v ≤ 782 → IsWordOf (Some v) word → r ≡ settled mode.Norm v 3 → Follows r (Some v) word
+norm_follows : (r : Reading) (v word : ℕ) → v ≤ 782 → IsWordOf (Some v) word → r ≡ nothing_counted mode.Norm v 3 → Follows r (Some v) word
 norm_follows r v word fits sent is =
     let norm_is : r.mode ≡ mode.Norm = ap (λ (x : Reading). x.mode) is in
     let value_is : r.value ≡ v = ap (λ (x : Reading). x.value) is in
@@ -142,13 +142,13 @@ module _ (law : StillRingsAreSettled) (w : World) (whole : IsWhole w) (form : Ha
     ]
 
     -- the word that the fibre carries after the last round
-    carried_last : word_on (run 6 w) q e (i + 1) ≡ word_in w q e i 5
+    carried_last : pointer_word_on (run 6 w) q e (i + 1) ≡ word_in w q e i 5
     unfolding any_run.run
     carried_last =
         word_sent_on (run 5 w) (whole_run w 5 whole) q e i (omega (arith, there, length_run w 5)) (omega (arith, few, rate_run w 5))
 
     abbrev At : ℕ → Type 0
-    At size = Follows r (sending_in w (neighbour size p d) e i 6) (word_on (run 6 w) (neighbour size p d) e (i + 1))
+    At size = Follows r (sending_in w (neighbour size p d) e i 6) (pointer_word_on (run 6 w) (neighbour size p d) e (i + 1))
 
     at_last : At (length (run 6 w).ring.ids)
     at_last = subst At (sym (ap length (left_run 6 w).ids)) (subst (Follows r s) (sym carried_last) follows_last)
@@ -160,7 +160,7 @@ module _ (law : StillRingsAreSettled) (w : World) (whole : IsWhole w) (form : Ha
 
 pub windows_leave_followed : StillRingsAreSettled → WindowsLeaveFollowed
 windows_leave_followed law w whole form k ends =
-    let size = ap size_of (layout_run w k) in
+    let size = ap positions_of (layout_run w k) in
     let enough = whole.placed.ids.enough in
     let long = ends.long in
     let a = k - 6 in

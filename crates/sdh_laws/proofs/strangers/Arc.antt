@@ -41,7 +41,7 @@ use Rattle.sdh_circuits.specs.Ends.{other_end}
 use Rattle.sdh_terminal.specs.Passing.{Input, h3_of, au_for, au_sent}
 use Rattle.sdh_terminal.specs.Receiving.{pointer_word, pointer_word_at}
 use Rattle.sdh_terminal.specs.Lines.{line_on, received}
-use Rattle.sdh_node.specs.Node.{Node, receiving_on, sending_on, is_held, word_of}
+use Rattle.sdh_node.specs.Node.{Node, receiving_on, sending_on, is_held, last_word_on}
 use Rattle.sdh_node.proofs.Decided.{scene_in, state_is, word_is}
 use Rattle.sdh_node.specs.Rings.Held.{node_at, AtEach}
 use Rattle.sdh_node.specs.Rings.Rounds.{World, round}
@@ -130,7 +130,7 @@ module _ (i : ℕ) (c : Provisioned) (d : Side) (clock : ℕ → Clock) (source 
         → get_or (sending_on d y).generators (m - 1) None ≡ state clock source k t
     pub reads : (k : ℕ) → k < arc_length n c → p ≡ going n d (near_at n c d) (suc k)
         → Follows clock source (k + 1) t (get_or (receiving_on (opposite d) y).readings (m - 1) start)
-    pub words : (e : Side) → holds n c (span_at n p e) ≡ true → Harmless (word_of e y)
+    pub words : (e : Side) → holds n c (span_at n p e) ≡ true → Harmless (last_word_on e y)
     pub open_sides : (e : Side) → holds n c (span_at n p e) ≡ true → is_open y.state e ≡ true
 
   -- the frame that was sent in round r over the span of step k
@@ -234,7 +234,7 @@ module _ (i : ℕ) (c : Provisioned) (d : Side) (clock : ℕ → Clock) (source 
       open_by_turn true = (u.tuned p h).open_sides e held
       open_by_turn false = stays_open s e none heard
 
-      word_by_turn : (b : Bool) → Harmless (if b then word_of e (informed w p) else word s e)
+      word_by_turn : (b : Bool) → Harmless (if b then last_word_on e (informed w p) else word s e)
       word_by_turn true = subst (λ x. Harmless x.word) (sym (informed_out w p e)) ((u.tuned p h).words e held)
       word_by_turn false = word_harmless s e none heard
 
@@ -244,9 +244,9 @@ module _ (i : ℕ) (c : Provisioned) (d : Side) (clock : ℕ → Clock) (source 
           ∙ ap (λ y. is_open y e) (state_is w.ring.moment (informed w p))
           ∙ open_by_turn (is_held (node_at w.ring.nodes p))
 
-      pub word_here : Harmless (word_of e (node_at (round w).ring.nodes p))
+      pub word_here : Harmless (last_word_on e (node_at (round w).ring.nodes p))
       word_here =
-          subst Harmless (sym (ap (word_of e) (nodes_after w whole.placed p h) ∙ word_is w.ring.moment (informed w p) e))
+          subst Harmless (sym (ap (last_word_on e) (nodes_after w whole.placed p h) ∙ word_is w.ring.moment (informed w p) e))
           (word_by_turn (is_held (node_at w.ring.nodes p)))
 
       kept_here : 0 < t → lost w whole p h e ≡ false

@@ -22,7 +22,7 @@ use Rattle.sdh_payload.specs.Clock.{Clock}
 use Rattle.sdh_payload.specs.Outlet.{Outlet}
 use Rattle.sdh_pointer.specs.declared.word.Form.{Form}
 use Rattle.sdh_terminal.specs.Passing.{au_with}
-use Rattle.sdh_node.specs.Node.{is_held, word_of}
+use Rattle.sdh_node.specs.Node.{is_held, last_word_on}
 use Rattle.sdh_node.specs.Rings.Held.{node_at, AtEach, outlet_at}
 use Rattle.sdh_node.specs.Rings.Rounds.{World, round}
 use Rattle.sdh_rounds.specs.Rounds as any_round
@@ -44,7 +44,7 @@ use Rattle.sdh_laws.specs.Strangers.Owners.{put_by, HasBytesOf, AreClocksOf}
 use Rattle.sdh_laws.specs.Strangers.Owners as owner
 use Rattle.sdh_laws.specs.Strangers.Transit.{IsTransit, straight, once_round, HoldsAfterTransit, ComesAfterTransit, AllComeAfterTransit}
 use Rattle.sdh_laws.specs.Strangers.Transit as transit_of
-use Rattle.sdh_laws.specs.Strangers.Vouched.{streams_to, told_of, HoldsAtMost, IsVouched}
+use Rattle.sdh_laws.specs.Strangers.Vouched.{streams_to, circuit_on_side, HoldsAtMost, IsVouched}
 use Rattle.sdh_laws.specs.Strangers.Laws.{HoldsNone, NoneHolds}
 use Rattle.sdh_laws.proofs.strangers.Content.{IsCarried, Fine}
 use Rattle.sdh_laws.proofs.strangers.Lags.{steps_few, Lag, or_round, IsLag, place_on, working_lag, stand_lag, protection_rounds, source_in}
@@ -93,7 +93,7 @@ module _ (n : ℕ) (cs : List Provisioned) (ring : AreOnRing n cs) (two : 2 ≤ 
 
 module _ (ids : List ℕ) (cs : List Provisioned) (ring : AreOnRing (length ids) cs) (two : 2 ≤ length ids) (m : ℕ) where
   pub protection_over : (d : Side) (g : Option Pos) (p : ℕ) → ((f : Pos) → g ≡ Some f → f.0 < length ids)
-      → protection_rounds (length ids) d (told_of ids cs m d g) g p < 2 * length ids - 2
+      → protection_rounds (length ids) d (circuit_on_side ids cs m d g) g p < 2 * length ids - 2
   protection_over d None p low = omega arith
   protection_over d (Some g) p low =
       let h = low g refl in
@@ -187,10 +187,10 @@ module _ (clocks : PortId → ℕ → Clock) where
   clears_none w = record {
     working = λ p h m d line there low high.
         (let i = working_lag (length w.ring.ids) d (circuits_at (length w.ring.ids) w.ring.circuits.circuits p m d)
-        (source_in w.ring.ids (word_of d (node_at w.ring.nodes p))) p in
+        (source_in w.ring.ids (last_word_on d (node_at w.ring.nodes p))) p in
         record { rounds = spans_of i; lag = is_some i; put = λ few. absurd (omega (arith, few)) });
     protection = λ p h m d line there low high.
-        (let i = spoken_lag w.ring.ids w.ring.circuits.circuits m (opposite d) (word_of d (node_at w.ring.nodes p)) p in
+        (let i = spoken_lag w.ring.ids w.ring.circuits.circuits m (opposite d) (last_word_on d (node_at w.ring.nodes p)) p in
         record { rounds = spans_of i; lag = is_some i; put = λ few. absurd (omega (arith, few)) });
   }
 
@@ -298,13 +298,13 @@ module _ (clocks : PortId → ℕ → Clock) where
         vouched_by clocks w k.whole (λ p h. (let few = k.held p h in omega arith)) (record {
           working = λ p h m d line there low high.
               (let x = k.clears.working p h m d line there low high in
-              let less = working_over n cs ring two m d (source_in w.ring.ids (word_of d (node_at w.ring.nodes p))) p x.rounds (omega arith) x.lag in
+              let less = working_over n cs ring two m d (source_in w.ring.ids (last_word_on d (node_at w.ring.nodes p))) p x.rounds (omega arith) x.lag in
               put_at_most clocks cs t x.rounds _ _ (x.put (omega arith)));
           protection = λ p h m d line there low high.
               (let x = k.clears.protection p h m d line there low high in
               let at = x.lag in
-              let less = protection_over w.ring.ids cs ring two m (opposite d) (source_in w.ring.ids (word_of d (node_at w.ring.nodes p))) p
-              (λ f is. source_inside w.ring.ids (word_of d (node_at w.ring.nodes p)) f is) in
+              let less = protection_over w.ring.ids cs ring two m (opposite d) (source_in w.ring.ids (last_word_on d (node_at w.ring.nodes p))) p
+              (λ f is. source_inside w.ring.ids (last_word_on d (node_at w.ring.nodes p)) f is) in
               put_at_most clocks cs t x.rounds _ _ (x.put (omega arith)));
         })
 

@@ -19,7 +19,7 @@ use Rattle.sdh_bridge.specs.declared.Origin.TheVariants.{Add, Working, Protectio
 use Rattle.sdh_payload.specs.Clock.{Clock}
 use Rattle.sdh_terminal.specs.Passing.{Input}
 use Rattle.sdh_terminal.specs.Tributaries.{added_by}
-use Rattle.sdh_node.specs.Node.{is_held, word_of}
+use Rattle.sdh_node.specs.Node.{is_held, last_word_on}
 use Rattle.sdh_node.proofs.Decided.{scene_in}
 use Rattle.sdh_node.specs.Rings.Held.{node_at}
 use Rattle.sdh_node.specs.Rings.Rounds.{World, round}
@@ -128,7 +128,7 @@ module _ (clocks : PortId → ℕ → Clock) (w : World) (form : HasCircuits (la
 
   abbrev pub ProtectionSent : ℕ → ℕ → Side → Type 0
   ProtectionSent p m d =
-      Fine (Own (t + 1)) (spoken_of ids cs m (opposite d) (word_of d (node_at (round w).ring.nodes p))) (opposite d) (sent_at w p d (slots + m))
+      Fine (Own (t + 1)) (spoken_of ids cs m (opposite d) (last_word_on d (node_at (round w).ring.nodes p))) (opposite d) (sent_at w p d (slots + m))
 
   -- what comes in holds at most the bytes of the circuit on the span, or of the circuit that the word heard speaks of
   abbrev pub WorkingCame : ℕ → ℕ → Side → Type 0
@@ -237,7 +237,7 @@ module _ (clocks : PortId → ℕ → Clock) (w : World) (form : HasCircuits (la
       let Now = HoldsAtMost cs clocks r in
       let word = heard_came (round w) (whole_round w whole) p there d k
       (long_from (scene_in (next_node (round w) (whole_round w whole) p)) d k e).heard in
-      let said = word_of (opposite d) (node_at (round w).ring.nodes q) in
+      let said = last_word_on (opposite d) (node_at (round w).ring.nodes q) in
       let slots = slots_of (layout_of w) in
       subst (Fine Now (spoken_of w.ring.ids cs m d k) d)
       (sym (brings_protection (round w) (whole_round w whole) p m d (omega (arith, count w whole.placed))))

@@ -41,7 +41,7 @@ use Rattle.sdh_signal.proofs.OnArcs.{near_at, near_end, on-arc, seen-on}
 use Rattle.sdh_signal.proofs.Meets.{meets-own, meets-farther}
 use Rattle.sdh_signal.proofs.Passing.{is_open, open-stands, leaves-on, leaves-own_or_none, leaves-unused, isolated-stands, isolated-leaves}
 use Rattle.sdh_signal.proofs.Passing.{idle-leaves, switched-stands, bridged-leaves, blocked-leaves, away-leaves, passed-leaves}
-use Rattle.sdh_laws.specs.Strangers.Vouched.{sender, told_of, spoken_of, IsAside}
+use Rattle.sdh_laws.specs.Strangers.Vouched.{sender, circuit_on_side, spoken_of, IsAside}
 use Rattle.sdh_laws.specs.Strangers.Vouched.{streams_to}
 use Rattle.sdh_laws.proofs.strangers.Content.{Fine}
 use Rattle.sdh_laws.proofs.strangers.Lags.{steps, steps_none, steps_going, steps_next, Lag, exactly, or_round, next_lag, Fits}
@@ -229,7 +229,7 @@ module _ (Was Own : Lag → Option PortId → Au → Type 0) (lags : AreLags Was
   -- the circuit that is spoken of by the word heard away from a switched side
   heard_speaks : (d : Side) (k : K) (f : Pos) → long s d ≡ Some k → found_at s.ids k.from ≡ Some f
       → spoken_of ids cs m d k ≡ circuits_at n cs f.0 m d
-  heard_speaks d k f h at = ap (told_of ids cs m d) (heard_source d k f h at)
+  heard_speaks d k f h at = ap (circuit_on_side ids cs m d) (heard_source d k f h at)
 
   -- where the far end of side d is, with which the circuit there may be carried
   pub record IsAhead (d : Side) (f : Pos) : Type 0 where
@@ -512,7 +512,7 @@ module _ (Was Own : Lag → Option PortId → Au → Type 0) (lags : AreLags Was
     own_source e f h = switched_source s p ids same at are inside (opposite e) f (h ∙ ap (λ d. Switch d f) (sym (opposite_twice e)))
 
     own_speaks : (e : Side) (f : Option Pos) → state_after s ≡ Switch e f → spoken_of ids cs m e (word s (opposite e)) ≡ on e
-    own_speaks e f h = ap (told_of ids cs m e) (own_source e f h)
+    own_speaks e f h = ap (circuit_on_side ids cs m e) (own_source e f h)
 
     other_open : (e : Side) (f : Option Pos) → is_open (Switch e f) (opposite e) ≡ true
     other_open West f = refl

@@ -11,7 +11,7 @@ use Rattle.sdh_nodestate.specs.declared.NodeState.TheVariants as state
 use Rattle.sdh_signal.specs.Laws.{StillRingsAreSettled}
 use Rattle.sdh_payload.specs.Clock.{Clock}
 use Rattle.sdh_node.specs.Receiving.{commanded_by}
-use Rattle.sdh_node.specs.Node.{Node, new_node, at_receiving, held_for, slips_at, word_of}
+use Rattle.sdh_node.specs.Node.{Node, new_node, at_receiving, held_for, slips_at, last_word_on}
 use Rattle.sdh_node.specs.Rings.Held.{nowhere, node_at, AtEach, at_place, place_of_port}
 use Rattle.sdh_node.specs.Rings.Rounds.{World}
 use Rattle.sdh_node.specs.Rings.Runs.{run, course}
@@ -48,7 +48,7 @@ node_beyond (x ∷ xs) (suc p) high = node_beyond xs p (omega arith)
 
 module _ (clocks : PortId → ℕ → Clock) where
   -- a change of one node that leaves its state and its words
-  module _ (f : Node → Node) (state_left : (n : Node) → (f n).state ≡ n.state) (word_left : (d : Side) (n : Node) → word_of d (f n) ≡ word_of d n)
+  module _ (f : Node → Node) (state_left : (n : Node) → (f n).state ≡ n.state) (word_left : (d : Side) (n : Node) → last_word_on d (f n) ≡ last_word_on d n)
       (p : ℕ) (w : World) where
     abbrev ns : List Node
     ns = w.ring.nodes
@@ -56,8 +56,8 @@ module _ (clocks : PortId → ℕ → Clock) where
     states_left : (q : ℕ) → q < length (at_place p f ns) → (node_at (at_place p f ns) q).state ≡ (node_at ns q).state
     states_left q h = each_at_place (λ q n. n.state ≡ (node_at ns q).state) f (λ q n h. state_left n ∙ h) p ns (λ q h. refl) q h
 
-    words_left : (d : Side) (q : ℕ) → q < length (at_place p f ns) → word_of d (node_at (at_place p f ns) q) ≡ word_of d (node_at ns q)
-    words_left d q h = each_at_place (λ q n. word_of d n ≡ word_of d (node_at ns q)) f (λ q n h. word_left d n ∙ h) p ns (λ q h. refl) q h
+    words_left : (d : Side) (q : ℕ) → q < length (at_place p f ns) → last_word_on d (node_at (at_place p f ns) q) ≡ last_word_on d (node_at ns q)
+    words_left d q h = each_at_place (λ q n. last_word_on d n ≡ last_word_on d (node_at ns q)) f (λ q n h. word_left d n ∙ h) p ns (λ q h. refl) q h
 
     shield_node : (a b x : ℕ) (e : Side) → x < length ns → Shields clocks a b w x e → Shields clocks a b (with_node p f w) x e
     shield_node a b x e hx s =

@@ -17,7 +17,7 @@ use Rattle.sdh_bridge.specs.declared.Origin.TheVariants.{Protection, Ais}
 use Rattle.sdh_payload.specs.Clock.{Clock}
 use Rattle.sdh_terminal.specs.Passing.{Input}
 use Rattle.sdh_terminal.specs.Tributaries.{added_by}
-use Rattle.sdh_node.specs.Node.{Node, is_held, word_of}
+use Rattle.sdh_node.specs.Node.{Node, is_held, last_word_on}
 use Rattle.sdh_node.proofs.Decided.{turns_left}
 use Rattle.sdh_node.specs.Rings.Held.{node_at, AtEach}
 use Rattle.sdh_node.specs.Rings.Rounds.{World, round}
@@ -31,7 +31,7 @@ use Rattle.sdh_laws.proofs.hearing.Rounds.{neighbour_inside, whole_round}
 use Rattle.sdh_laws.specs.Carrying.Windows.{layout_of, slots_of, HasCircuits, value_at}
 use Rattle.sdh_laws.proofs.carrying.Connections.{brings_protection}
 use Rattle.sdh_laws.specs.Strangers.Owners.{AreClocksOf}
-use Rattle.sdh_laws.specs.Strangers.Vouched.{told_of, spoken_of, HoldsAtMost, IsAside, MissesAside, IsVouched}
+use Rattle.sdh_laws.specs.Strangers.Vouched.{circuit_on_side, spoken_of, HoldsAtMost, IsAside, MissesAside, IsVouched}
 use Rattle.sdh_laws.proofs.strangers.Content.{Fine}
 use Rattle.sdh_laws.proofs.strangers.Lags.{steps, steps_few, exactly}
 use Rattle.sdh_laws.proofs.strangers.Worlds.{Vouches, StandsAt, SaysAt, received_fine, working_comes, works_from, aside_delivers, aside_says}
@@ -145,11 +145,11 @@ module _ (clocks : PortId → ℕ → Clock) where
             (λ i c e get at. subst (λ y. Own (t + 1) (Some (port_id i e)) (added_by (node_at w.ring.nodes y).ports (port_id i e)).au) at
             (adds_own clocks w k.whole form tells i c e get)) this (opposite e) (goes_on (opposite (opposite e))))
 
-        spoken_is : spoken_of w.ring.ids cs m (opposite e) (word_of e (node_at w.ring.nodes p)) ≡ circuits_at n cs p m (opposite e)
-        spoken_is = ap (told_of w.ring.ids cs m (opposite e)) (sh.says (let g = k.whole.placed.ids.enough in omega arith))
+        spoken_is : spoken_of w.ring.ids cs m (opposite e) (last_word_on e (node_at w.ring.nodes p)) ≡ circuits_at n cs p m (opposite e)
+        spoken_is = ap (circuit_on_side w.ring.ids cs m (opposite e)) (sh.says (let g = k.whole.placed.ids.enough in omega arith))
 
         abbrev Speaks : Side → NodeState → Type 0
-        Speaks d x = SaysAt (λ i. Own (t + 1)) w p m d (word_of d (node_at w.ring.nodes p)) x
+        Speaks d x = SaysAt (λ i. Own (t + 1)) w p m d (last_word_on d (node_at w.ring.nodes p)) x
 
         switched_says : (d : Side) → (d ≡ e) ⊎ (d ≡ opposite e) → Speaks d this
         switched_says d (inl same) = subst (λ d. Speaks d this) (sym same)
@@ -168,12 +168,12 @@ module _ (clocks : PortId → ℕ → Clock) where
           subst (StandsAt (λ i. Own t) w p m d) (sym is) (switched_stands e f sh d (by_side e d))
 
       may_say : (x : NodeState) → MayMiss w p x → (d : Side)
-          → SaysAt (λ i. Own (t + 1)) w p m d (word_of d (node_at w.ring.nodes p)) x
+          → SaysAt (λ i. Own (t + 1)) w p m d (last_word_on d (node_at w.ring.nodes p)) x
       may_say x (stands a) d =
           aside_says (λ i. Own t) (λ i. Own (t + 1)) (lags_more clocks w form) w k.whole p h k.vouches m low high ring_is x a d
-          (word_of d (node_at w.ring.nodes p))
+          (last_word_on d (node_at w.ring.nodes p))
       may_say x (switched e f is sh) d =
-          subst (SaysAt (λ i. Own (t + 1)) w p m d (word_of d (node_at w.ring.nodes p))) (sym is) (switched_says e f sh d (by_side e d))
+          subst (SaysAt (λ i. Own (t + 1)) w p m d (last_word_on d (node_at w.ring.nodes p))) (sym is) (switched_says e f sh d (by_side e d))
 
     pub safe_ready : IsReady clocks w
     safe_ready = record {

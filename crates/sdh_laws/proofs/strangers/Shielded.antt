@@ -24,7 +24,7 @@ use Rattle.sdh_ringmap.specs.Fibres.{fibre}
 use Rattle.sdh_plant.specs.Arrivals.{carried_on}
 use Rattle.sdh_terminal.specs.Passing.{Input}
 use Rattle.sdh_terminal.specs.Tributaries.{added_by}
-use Rattle.sdh_node.specs.Node.{Node, is_held, word_of}
+use Rattle.sdh_node.specs.Node.{Node, is_held, last_word_on}
 use Rattle.sdh_node.proofs.Decided.{scene_in, state_is, word_is}
 use Rattle.sdh_node.specs.Rings.Held.{node_at}
 use Rattle.sdh_node.specs.Rings.Rounds.{World, round}
@@ -62,15 +62,15 @@ module _ (w : World) (whole : IsWhole w) (q : ℕ) (h : q < length w.ring.nodes)
       ap (λ (y : Node). y.state) (nodes_after w whole.placed q h) ∙ state_is w.ring.moment (informed w q)
       ∙ ap (λ (b : Bool). if b then before.state else state_after scene_at) free
 
-  pub word_free : is_held before ≡ false → (d : Side) → word_of d (node_at (round w).ring.nodes q) ≡ word scene_at d
+  pub word_free : is_held before ≡ false → (d : Side) → last_word_on d (node_at (round w).ring.nodes q) ≡ word scene_at d
   word_free free d =
-      ap (word_of d) (nodes_after w whole.placed q h) ∙ word_is w.ring.moment (informed w q) d
-      ∙ ap (λ (b : Bool). if b then word_of d (informed w q) else word scene_at d) free
+      ap (last_word_on d) (nodes_after w whole.placed q h) ∙ word_is w.ring.moment (informed w q) d
+      ∙ ap (λ (b : Bool). if b then last_word_on d (informed w q) else word scene_at d) free
 
-  pub word_kept : is_held before ≡ true → (d : Side) → word_of d (node_at (round w).ring.nodes q) ≡ word_of d before
+  pub word_kept : is_held before ≡ true → (d : Side) → last_word_on d (node_at (round w).ring.nodes q) ≡ last_word_on d before
   word_kept held d =
-      ap (word_of d) (nodes_after w whole.placed q h) ∙ word_is w.ring.moment (informed w q) d
-      ∙ ap (λ (b : Bool). if b then word_of d (informed w q) else word scene_at d) held
+      ap (last_word_on d) (nodes_after w whole.placed q h) ∙ word_is w.ring.moment (informed w q) d
+      ∙ ap (λ (b : Bool). if b then last_word_on d (informed w q) else word scene_at d) held
       ∙ ap (λ x. x.word) (informed_out w q d)
 
 module _ (clocks : PortId → ℕ → Clock) (w : World) where
@@ -104,7 +104,7 @@ module _ (clocks : PortId → ℕ → Clock) (w : World) where
       abbrev After : ℕ → Node
       After q = node_at (round w).ring.nodes q
 
-      says_after : source_in w.ring.ids (word_of e (After x)) ≡ Some (position_of x)
+      says_after : source_in w.ring.ids (last_word_on e (After x)) ≡ Some (position_of x)
       says_after = elim (cases_Bool (is_held (node_at w.ring.nodes x))) [
         | inl held ↦ (
             let all = full x hx held in
@@ -121,8 +121,8 @@ module _ (clocks : PortId → ℕ → Clock) (w : World) where
           let back = neighbour n q (opposite e) in
           let next : steps n e x q ≡ steps n e x back + 1 = steps_next n some e x q (below x hx) (below q h) other in
           let came = heard_came w whole q h (opposite e) y (long_from (scene_in (next_node w whole q)) (opposite e) y heard).heard in
-          let is : word_of e (node_at w.ring.nodes back) ≡ y =
-          ap (λ z. word_of z (node_at w.ring.nodes back)) (sym (opposite_twice e)) ∙ came.is in
+          let is : last_word_on e (node_at w.ring.nodes back) ≡ y =
+          ap (λ z. last_word_on z (node_at w.ring.nodes back)) (sym (opposite_twice e)) ∙ came.is in
           let low = sh.words back g (neighbour_inside w whole q (opposite e)) (omega arith) (ap (source_in w.ring.ids) is ∙ from) in
           omega arith
 
@@ -133,12 +133,12 @@ module _ (clocks : PortId → ℕ → Clock) (w : World) where
       in_words q g h other less (here at) = (let same = ap (steps n e x) at in omega arith)
       in_words q g h other less (passed y heard from) = (let low = heard_within q g y h other less heard from in omega arith)
 
-      words_after : (q : ℕ) (g : Pos) → q < length w.ring.nodes → steps n e x q < a + 1 → source_in w.ring.ids (word_of e (After q)) ≡ Some g
+      words_after : (q : ℕ) (g : Pos) → q < length w.ring.nodes → steps n e x q < a + 1 → source_in w.ring.ids (last_word_on e (After q)) ≡ Some g
           → steps n e x g.0 ≤ steps n e x q
       words_after q g h less from = elim (cases_eq x q) [
         | inl same ↦ (
             let both : Some g ≡ Some (position_of x) =
-            sym from ∙ ap (λ y. source_in w.ring.ids (word_of e (After y))) (sym same) ∙ says_after in
+            sym from ∙ ap (λ y. source_in w.ring.ids (last_word_on e (After y))) (sym same) ∙ says_after in
             let at : g.0 ≡ x = place both in
             let none : steps n e x g.0 ≡ 0 = ap (steps n e x) at ∙ steps_none n some e x (below x hx) in
             omega arith)

@@ -17,7 +17,7 @@ use Rattle.sdh_nodestate.specs.declared.NodeState.TheVariants as state
 use Rattle.sdh_payload.specs.Clock.{Clock}
 use Rattle.sdh_ringmap.specs.Fibres.{fibre}
 use Rattle.sdh_plant.specs.Arrivals.{carried_on}
-use Rattle.sdh_node.specs.Node.{word_of}
+use Rattle.sdh_node.specs.Node.{last_word_on}
 use Rattle.sdh_node.specs.Rings.Held.{node_at}
 use Rattle.sdh_node.specs.Rings.Rounds.{World}
 use Rattle.sdh_signal.specs.Walks.{carries_in}
@@ -122,9 +122,9 @@ by_side East East = inl refl
 -- switched on side e. It reaches b - 1 steps from x on the opposite side: a protection AU-4 that is sent on that side
 -- there is of the circuit on the switched span of x.
 pub record Shields (clocks : PortId → ℕ → Clock) (a b : ℕ) (w : World) (x : ℕ) (e : Side) : Type 0 where
-  pub says : 1 ≤ a → source_in w.ring.ids (word_of e (node_at w.ring.nodes x)) ≡ Some (position_of x)
+  pub says : 1 ≤ a → source_in w.ring.ids (last_word_on e (node_at w.ring.nodes x)) ≡ Some (position_of x)
   pub words : (q : ℕ) (g : Pos) → q < length w.ring.nodes → steps (length w.ring.ids) e x q < a
-      → source_in w.ring.ids (word_of e (node_at w.ring.nodes q)) ≡ Some g
+      → source_in w.ring.ids (last_word_on e (node_at w.ring.nodes q)) ≡ Some g
       → steps (length w.ring.ids) e x g.0 ≤ steps (length w.ring.ids) e x q
   pub ends : (q : ℕ) (g : Pos) → q < length w.ring.nodes → steps (length w.ring.ids) e x q < a
       → (node_at w.ring.nodes q).state ≡ Switch e (Some g)

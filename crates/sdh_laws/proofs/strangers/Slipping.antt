@@ -12,7 +12,7 @@ use Rattle.sdh_pointer.specs.declared.reading.Mode.TheVariants as mode
 use Rattle.sdh_pointer.specs.declared.reading.Reading.{Reading}
 use Rattle.sdh_pointer.specs.declared.word.Form.TheVariants as form
 use Rattle.sdh_pointer.specs.Words.{word_of, one_down}
-use Rattle.sdh_pointer.specs.Reading.{Interpreter, start, after_word, action_on, after_step, settled}
+use Rattle.sdh_pointer.specs.Reading.{Interpreter, start, after_word, action_on, after_step, nothing_counted}
 use Rattle.sdh_pointer.specs.Sending.{form_sent, word_sent, next_sending}
 use Rattle.sdh_pointer.specs.Spreading.{action_over, word_over, sending_over, reading_over}
 use Rattle.sdh_pointer.specs.Laws.{IsInStep, GoesOn}
@@ -165,7 +165,7 @@ module _ (clock : ℕ → Clock) (source : IsSource clock) where
       ap₂ (λ s a. word_sent s a (V (k - k))) none acts ∙ spread.word (V (k - k)) (λ z. zero_back) in
       let start_is : (r : Reading) → Follows (k + 1) (k + 1) r → r ≡ reading_over (Some v) (k + 1) (k + 1) =
       λ r is. is.before (omega arith) ∙ sym (reading_start (Some v) (k + 1) (k + 1) (omega arith)) in
-      let next : (r : Reading) → Follows (k + 1) (k + 1) r → after_word r (said k k) ≡ settled mode.Norm v (min 3 (k + 2 - (k + 1 + 1))) =
+      let next : (r : Reading) → Follows (k + 1) (k + 1) r → after_word r (said k k) ≡ nothing_counted mode.Norm v (min 3 (k + 2 - (k + 1 + 1))) =
       λ r is. ap₂ after_word (start_is r is) said_is ∙ spread.reading ∙ reading_after v (k + 1) (k + 2) (omega arith) in
       let rest_is : (clock 1).rest ≡ 3 =
       source.rest 0 ∙ ap (λ f. (after_form f (clock 0)).rest) first_plain ∙ (let f = source.first in omega arith) in

@@ -43,7 +43,7 @@ use Rattle.sdh_terminal.specs.Passing.{Input, no_input, h3_of}
 use Rattle.sdh_terminal.specs.Outlets.{chunk_form, chunk_from, delivered_by, delivered_from}
 use Rattle.sdh_node.specs.Receiving.{Receiving, commanded_by}
 use Rattle.sdh_terminal.specs.Tributaries.{Tributary, action_of, sent_by, sent_in, input_by}
-use Rattle.sdh_node.specs.Node.{Node, new_node, at_receiving, held_for, slips_at, receiving_on, sending_on, word_of}
+use Rattle.sdh_node.specs.Node.{Node, new_node, at_receiving, held_for, slips_at, receiving_on, sending_on, last_word_on}
 use Rattle.sdh_node.specs.Rings.Held.{node_at, outlet_at, place_of_port}
 use Rattle.sdh_node.specs.Rings.Rounds.{World, round}
 use Rattle.sdh_rounds.specs.Rounds as any_round
@@ -546,8 +546,8 @@ module _ (s : Settings) (ids : List ℕ) (circuits : Provisioning) (f : Fibres) 
       reads_new West k = start_follows k _ (same_all (n_of s.rate) (c.slot.0 - 1) start)
       reads_new East k = start_follows k _ (same_all (n_of s.rate) (c.slot.0 - 1) start)
 
-      words_new : (e : Side) → (word_of e (new_node s ids cs (position_of p))).path ≡ Short
-          → code_number (word_of e (new_node s ids cs (position_of p))).code < 5
+      words_new : (e : Side) → (last_word_on e (new_node s ids cs (position_of p))).path ≡ Short
+          → code_number (last_word_on e (new_node s ids cs (position_of p))).code < 5
       words_new West = λ z. omega arith
       words_new East = λ z. omega arith
 

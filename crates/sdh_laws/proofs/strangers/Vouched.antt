@@ -31,7 +31,7 @@ use Rattle.sdh_terminal.specs.Passing.{Input, no_input, h3_of, au_with}
 use Rattle.sdh_terminal.specs.Outlets.{chunk_form, delivered_by, delivered_from}
 use Rattle.sdh_terminal.specs.Tributaries.{Tributary, sent_in, input_by, added_by}
 use Rattle.sdh_node.specs.Receiving.{commanded_by}
-use Rattle.sdh_node.specs.Node.{Node, new_node, at_receiving, held_for, slips_at, is_held, word_of}
+use Rattle.sdh_node.specs.Node.{Node, new_node, at_receiving, held_for, slips_at, is_held, last_word_on}
 use Rattle.sdh_node.specs.Node.{node_round}
 use Rattle.sdh_node.proofs.Decided.{turns_left, scene_in, state_is}
 use Rattle.sdh_nodestate.specs.Rules.{state_after}
@@ -99,15 +99,15 @@ module _ (cs : List Provisioned) (clocks : PortId → ℕ → Clock) where
 
 -- ---- changes
 
-pub word_commanded : (d e : Side) (c : Command) (n : Node) → word_of e (at_receiving d (commanded_by c) n) ≡ word_of e n
+pub word_commanded : (d e : Side) (c : Command) (n : Node) → last_word_on e (at_receiving d (commanded_by c) n) ≡ last_word_on e n
 word_commanded d e c n = ap (λ x. x.word) (sending_commanded d e c n)
 
-pub word_left : (f : Node → Node) → LeavesSides f → (e : Side) (n : Node) → word_of e (f n) ≡ word_of e n
+pub word_left : (f : Node → Node) → LeavesSides f → (e : Side) (n : Node) → last_word_on e (f n) ≡ last_word_on e n
 word_left f leaves e n = ap (λ x. x.word) (leaves.sending e n)
 
 module _ (Own : Lag → Option PortId → Au → Type 0) where
   -- a change of one node that leaves its words
-  vouches_node : (f : Node → Node) → ((d : Side) (n : Node) → word_of d (f n) ≡ word_of d n) → (p : ℕ) (w : World) → Vouches Own w
+  vouches_node : (f : Node → Node) → ((d : Side) (n : Node) → last_word_on d (f n) ≡ last_word_on d n) → (p : ℕ) (w : World) → Vouches Own w
       → Vouches Own (with_node p f w)
   vouches_node f leaves p w k = record {
     working = each_at_place (WorksOn Own w) f (λ q n x m d line there low high.
@@ -359,7 +359,7 @@ module _ (clocks : PortId → ℕ → Clock) (w : World) (form_is : HasCircuits 
         stand = λ p m d h low high held. aside_delivers (λ i. Own t) (λ i. Own t) lags_now w k.whole p h now m low high ring_is
             (node_at w.ring.nodes p).state (held_aside (node_at w.ring.nodes p) (k.aside p h) held) d;
         say = λ p m d h low high held. aside_says (λ i. Own t) (λ i. Own (t + 1)) lags_more w k.whole p h now m low high ring_is
-            (node_at w.ring.nodes p).state (held_aside (node_at w.ring.nodes p) (k.aside p h) held) d (word_of d (node_at w.ring.nodes p));
+            (node_at w.ring.nodes p).state (held_aside (node_at w.ring.nodes p) (k.aside p h) held) d (last_word_on d (node_at w.ring.nodes p));
       }
 
   pub vouched_after : IsVouched clocks w → AreClocksOf clocks w.ring → IsVouched clocks (round w)

@@ -13,7 +13,7 @@ use Rattle.sdh_signal.specs.Settled.{settled}
 use Rattle.sdh_payload.specs.Clock.{Clock}
 use Rattle.sdh_ringmap.specs.Fibres.{fibre}
 use Rattle.sdh_plant.specs.Arrivals.{carried_on}
-use Rattle.sdh_node.specs.Node.{Node, is_held, word_of}
+use Rattle.sdh_node.specs.Node.{Node, is_held, last_word_on}
 use Rattle.sdh_node.specs.Rings.Held.{node_at, AtEach}
 use Rattle.sdh_node.specs.Rings.Rounds.{World, round}
 use Rattle.sdh_node.specs.Rings.Runs.{run, course}
@@ -27,7 +27,7 @@ use Rattle.sdh_laws.proofs.hearing.Rounds.{whole_round}
 use Rattle.sdh_laws.proofs.hearing.Staying.{left_run}
 use Rattle.sdh_laws.proofs.hearing.Changes.{whole_run}
 use Rattle.sdh_laws.proofs.hearing.Signalling.{one_run, calm_rounds_are_still}
-use Rattle.sdh_laws.specs.Carrying.Windows.{layout_of, slots_of, HasCircuits, requests_of, AreSettled}
+use Rattle.sdh_laws.specs.Carrying.Windows.{layout_of, slots_of, HasCircuits, span_requests_of, AreSettled}
 use Rattle.sdh_laws.proofs.carrying.Applied.{length-requests_of}
 use Rattle.sdh_laws.proofs.carrying.Ways.{layout_run}
 use Rattle.sdh_laws.proofs.carrying.Settles.{settled_at}
@@ -49,7 +49,7 @@ module _ (clocks : PortId → ℕ → Clock) (law : StillRingsAreSettled) (v : W
   n = length v.ring.ids
 
   abbrev rs : List ℕ
-  rs = requests_of (run last v)
+  rs = span_requests_of (run last v)
 
   ids_are : (j : ℕ) → (run j v).ring.ids ≡ v.ring.ids
   ids_are j = (left_run j v).ids
@@ -154,7 +154,7 @@ module _ (clocks : PortId → ℕ → Clock) (law : StillRingsAreSettled) (v : W
         protection = λ p m d line h there low high. (let hp : p < length u.ring.nodes = omega (arith, length-after u) in
             let w = protection_walk rs (length u.ring.ids) spans inhabited cs ring_u p m d (below_u p hp) in
             sent_bears (HoldsAtMost cs clocks t) (carried_holds cs clocks t) u s.whole
-            (spoken_of u.ring.ids cs m (opposite d) (word_of d (node_at (round u).ring.nodes p))) (opposite d) p
+            (spoken_of u.ring.ids cs m (opposite d) (last_word_on d (node_at (round u).ring.nodes p))) (opposite d) p
             (slots_of (layout_of u) + m) d line hp (omega arith) (omega arith) there
             (protection_sent clocks rs u s w.spans (came_last w.spans w.within) p m d w.last hp low high w.over w.leads));
       }

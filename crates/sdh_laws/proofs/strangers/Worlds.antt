@@ -26,7 +26,7 @@ use Rattle.sdh_plant.specs.Arrivals.{carried_on}
 use Rattle.sdh_terminal.specs.Lines.{Lines, received}
 use Rattle.sdh_terminal.specs.Passing.{Input}
 use Rattle.sdh_terminal.specs.Tributaries.{added_by}
-use Rattle.sdh_node.specs.Node.{Node, is_held, word_of}
+use Rattle.sdh_node.specs.Node.{Node, is_held, last_word_on}
 use Rattle.sdh_node.proofs.Decided.{scene_in, state_is, word_is}
 use Rattle.sdh_node.specs.Rings.Held.{node_at, AtEach}
 use Rattle.sdh_node.specs.Rings.Rounds.{World, round}
@@ -76,12 +76,12 @@ HeldStand Own w = (p m : ℕ) (d : Side) → p < length w.ring.nodes → 1 ≤ m
 abbrev pub HeldWork : (Lag → Option PortId → Au → Type 0) → World → Type 0
 HeldWork Own w = (p m : ℕ) (d : Side) → p < length w.ring.nodes → 1 ≤ m → m ≤ slots_of (layout_of w)
     → is_held (node_at w.ring.nodes p) ≡ true
-    → WorksAt Own w p m d (word_of d (node_at w.ring.nodes p)) (node_at w.ring.nodes p).state
+    → WorksAt Own w p m d (last_word_on d (node_at w.ring.nodes p)) (node_at w.ring.nodes p).state
 
 abbrev pub HeldSay : (Lag → Option PortId → Au → Type 0) → World → Type 0
 HeldSay Own w = (p m : ℕ) (d : Side) → p < length w.ring.nodes → 1 ≤ m → m ≤ slots_of (layout_of w)
     → is_held (node_at w.ring.nodes p) ≡ true
-    → SaysAt Own w p m d (word_of d (node_at w.ring.nodes p)) (node_at w.ring.nodes p).state
+    → SaysAt Own w p m d (last_word_on d (node_at w.ring.nodes p)) (node_at w.ring.nodes p).state
 
 -- ---- the invariant
 
@@ -90,12 +90,12 @@ module _ (Own : Lag → Option PortId → Au → Type 0) where
   abbrev pub WorksOn : World → ℕ → Node → Type 0
   WorksOn w p node = (m : ℕ) (d : Side) (line : List ℕ) → carried_on w.fibres (fibre p d) ≡ Some line → 1 ≤ m → m ≤ slots_of (layout_of w)
       → (let o = circuits_at (length w.ring.ids) w.ring.circuits.circuits p m d in
-      Bears (Own (working_lag (length w.ring.ids) d o (source_in w.ring.ids (word_of d node)) p)) o d (au_in w m line))
+      Bears (Own (working_lag (length w.ring.ids) d o (source_in w.ring.ids (last_word_on d node)) p)) o d (au_in w m line))
 
   abbrev pub SpeaksOf : World → ℕ → Node → Type 0
   SpeaksOf w p node = (m : ℕ) (d : Side) (line : List ℕ) → carried_on w.fibres (fibre p d) ≡ Some line → 1 ≤ m → m ≤ slots_of (layout_of w)
-      → Bears (Own (spoken_lag w.ring.ids w.ring.circuits.circuits m (opposite d) (word_of d node) p))
-      (spoken_of w.ring.ids w.ring.circuits.circuits m (opposite d) (word_of d node)) (opposite d)
+      → Bears (Own (spoken_lag w.ring.ids w.ring.circuits.circuits m (opposite d) (last_word_on d node) p))
+      (spoken_of w.ring.ids w.ring.circuits.circuits m (opposite d) (last_word_on d node)) (opposite d)
       (au_in w (slots_of (layout_of w) + m) line)
 
   pub record Vouches (w : World) : Type 0 where
@@ -217,11 +217,11 @@ module _ (Was Own : Lag → Option PortId → Au → Type 0) (lags : AreLags Was
           ∙ ap (λ (b : Bool). if b then before.state else state_after s) turn
 
       pub word_by_turn : (b : Bool) → is_held before ≡ b → (d : Side)
-          → word_of d (node_at (round w).ring.nodes p) ≡ (if b then word_of d before else word s d)
+          → last_word_on d (node_at (round w).ring.nodes p) ≡ (if b then last_word_on d before else word s d)
       word_by_turn b turn d =
-          ap (word_of d) (nodes_after w whole.placed p h) ∙ word_is w.ring.moment (informed w p) d
+          ap (last_word_on d) (nodes_after w whole.placed p h) ∙ word_is w.ring.moment (informed w p) d
           ∙ ap (λ k. if is_held before then k else word s d) (ap (λ x. x.word) (informed_out w p d))
-          ∙ ap (λ (b : Bool). if b then word_of d before else word s d) turn
+          ∙ ap (λ (b : Bool). if b then last_word_on d before else word s d) turn
 
       module _ (ring : AreOnRing n cs) where
         -- a node that stands aside
@@ -260,11 +260,11 @@ module _ (Was Own : Lag → Option PortId → Au → Type 0) (lags : AreLags Was
           abbrev Works : Side → K → Input → Type 0
           Works d k i = Fine (Own (working_lag n d (circuits_at n cs p m d) (source_in ids k) p)) (circuits_at n cs p m d) d i
 
-          pub working_goes : (is_held before ≡ true → (d : Side) → WorksAt Own w p m d (word_of d before) before.state) → (d : Side)
-              → Works d (word_of d (node_at (round w).ring.nodes p)) (sent_at w p d m)
+          pub working_goes : (is_held before ≡ true → (d : Side) → WorksAt Own w p m d (last_word_on d before) before.state) → (d : Side)
+              → Works d (last_word_on d (node_at (round w).ring.nodes p)) (sent_at w p d m)
           working_goes held_works d = elim (cases_Bool (is_held before)) [
             | inl held ↦ subst (λ k. Works d k (sent_at w p d m)) (sym (word_by_turn true held d))
-                (subst (Works d (word_of d before)) (sym (sends_working w whole p m d before.state inside high (state_by_turn true held)))
+                (subst (Works d (last_word_on d before)) (sym (sends_working w whole p m d before.state inside high (state_by_turn true held)))
                 (held_works held d))
             | inr turn ↦ subst (λ k. Works d k (sent_at w p d m)) (sym (word_by_turn false turn d))
                 (subst (Works d (word s d)) (sym (sends_working w whole p m d (state_after s) inside high (state_by_turn false turn)))
@@ -275,11 +275,11 @@ module _ (Was Own : Lag → Option PortId → Au → Type 0) (lags : AreLags Was
           abbrev Said : Side → K → Input → Type 0
           Said d k i = Fine (Own (spoken_lag ids cs m (opposite d) k p)) (spoken_of ids cs m (opposite d) k) (opposite d) i
 
-          pub protection_goes : (is_held before ≡ true → (d : Side) → SaysAt Own w p m d (word_of d before) before.state) → (d : Side)
-              → Said d (word_of d (node_at (round w).ring.nodes p)) (sent_at w p d (slots + m))
+          pub protection_goes : (is_held before ≡ true → (d : Side) → SaysAt Own w p m d (last_word_on d before) before.state) → (d : Side)
+              → Said d (last_word_on d (node_at (round w).ring.nodes p)) (sent_at w p d (slots + m))
           protection_goes held_says d = elim (cases_Bool (is_held before)) [
             | inl held ↦ subst (λ k. Said d k (sent_at w p d (slots + m))) (sym (word_by_turn true held d))
-                (subst (Said d (word_of d before)) (sym (sends_protection w whole p m d before.state inside low (state_by_turn true held)))
+                (subst (Said d (last_word_on d before)) (sym (sends_protection w whole p m d before.state inside low (state_by_turn true held)))
                 (held_says held d))
             | inr turn ↦ subst (λ k. Said d k (sent_at w p d (slots + m))) (sym (word_by_turn false turn d))
                 (subst (Said d (word s d)) (sym (sends_protection w whole p m d (state_after s) inside low (state_by_turn false turn)))

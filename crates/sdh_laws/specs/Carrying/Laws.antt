@@ -30,8 +30,8 @@ use Rattle.sdh_payload.specs.Clock.{Clock}
 use Rattle.sdh_circuits.specs.declared.PortId.{PortId}
 use Rattle.sdh_restoration.specs.Sides.{asked_in}
 use Rattle.sdh_laws.specs.Hearing.Laws.{IsWhole, MayStart}
-use Rattle.sdh_spans.specs.Brought.{Brings, HasValue, plainly}
-use Rattle.sdh_laws.specs.Carrying.Windows.{layout_in, layout_of, HasCircuits, sent_at, requests_of, FailOnApplied, IsQuiet}
+use Rattle.sdh_spans.specs.Brought.{BringsDelivery, HasValue, plainly}
+use Rattle.sdh_laws.specs.Carrying.Windows.{layout_in, layout_of, HasCircuits, sent_at, span_requests_of, FailOnApplied, IsQuiet}
 
 -- Let two rounds in a row be calm. In the second, an AU-4 brings, over a span that didn't fail, what the neighbour sent
 -- in this AU-4 in the first.
@@ -39,11 +39,11 @@ abbrev pub ASpanCarries : Type 0
 ASpanCarries = (w : World) → IsWhole w → is_calm (round w).ring.nodes ≡ true → is_calm (round (round w)).ring.nodes ≡ true
     → (p : ℕ) (d : Side) (au : ℕ) (b : Outlet) → p < length w.ring.ids → 1 ≤ au → au ≤ n_of w.ring.settings.rate → HasValue b
     → is_failed (receiving_on d (node_at (round (round w)).ring.nodes p)).local.defect ≡ false
-    → Brings (sent_at w (neighbour (length w.ring.ids) p d) (opposite d) au) b → Brings (received (lines_at (round w) p) d au) b
+    → BringsDelivery (sent_at w (neighbour (length w.ring.ids) p d) (opposite d) au) b → BringsDelivery (received (lines_at (round w) p) d au) b
 
 -- after a round a side that failed is on an applied span
 abbrev pub FailuresAreApplied : Type 0
-FailuresAreApplied = (w : World) → IsWhole w → FailOnApplied (length w.ring.ids) (requests_of (round w)) (round w)
+FailuresAreApplied = (w : World) → IsWhole w → FailOnApplied (length w.ring.ids) (span_requests_of (round w)) (round w)
 
 -- what a port is owed where these are the other port's clocks before each round
 abbrev pub due_by_clocks : ℕ → (ℕ → Bool) → Provisioned → End → (ℕ → Clock) → ℕ → Outlet
@@ -75,7 +75,7 @@ pub record IsRestored (clocks : PortId → ℕ → Clock) (w : World) (rs : List
 
 -- where rounds alone turned the whole world w into `left`, the ring is restored under the requests of the last round
 abbrev pub Restores : World → World → Type 0
-Restores w left = IsWhole w → IsRestored (clocks_from w) left (requests_of left)
+Restores w left = IsWhole w → IsRestored (clocks_from w) left (span_requests_of left)
 
 -- after a settle step that ended with a quiet window the ring is restored
 abbrev pub SettledRingsAreRestored : Type 0

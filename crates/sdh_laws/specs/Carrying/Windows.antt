@@ -35,8 +35,8 @@ abbrev pub layout_of : World → Layout
 layout_of w = layout_in w.ring
 
 -- the number of positions of a ring
-abbrev pub size_of : Layout → ℕ
-size_of l = length l.ids
+abbrev pub positions_of : Layout → ℕ
+positions_of l = length l.ids
 
 -- the number of working slots of a ring
 abbrev pub slots_of : Layout → ℕ
@@ -44,7 +44,7 @@ slots_of l = n_of l.settings.rate / 2
 
 -- the circuits are those of a ring of this size and rate
 abbrev pub HasCircuits : Layout → Type 0
-HasCircuits l = AreCircuits (size_of l) (slots_of l) l.circuits
+HasCircuits l = AreCircuits (positions_of l) (slots_of l) l.circuits
 
 -- ---- in the round that begins with this world
 
@@ -63,8 +63,8 @@ sent_at w p d au = fed_at w p (leads (crossing_at w p) d au)
 -- ---- after a round
 
 -- the requests of all spans in the round that left this world
-abbrev pub requests_of : World → List ℕ
-requests_of w = requests_in (needs_in w)
+abbrev pub span_requests_of : World → List ℕ
+span_requests_of w = requests_in (needs_in w)
 
 -- each of n nodes is in the settled state of these requests of spans
 abbrev pub AreSettled : ℕ → List ℕ → World → Type 0

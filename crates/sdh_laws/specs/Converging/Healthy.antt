@@ -16,7 +16,7 @@ use Rattle.sdh_node.specs.Rings.Quiet.{IsCalm, settles_in}
 use Rattle.sdh_restoration.specs.Changes.{Stretch}
 use Rattle.sdh_node.specs.Rings.Changes.{after_stretches, new_world}
 use Rattle.sdh_laws.specs.Hearing.Laws.{MayStart}
-use Rattle.sdh_laws.specs.Carrying.Windows.{layout_of, HasCircuits, requests_of}
+use Rattle.sdh_laws.specs.Carrying.Windows.{layout_of, HasCircuits, span_requests_of}
 
 -- Each round from number n + 4 on is calm. (`IsCalm` counts rounds from 1, but they are numbered from 0.) An
 -- interpreter h spans from a port enters Norm in round number h, counts three rounds more, and doesn't change from
@@ -49,7 +49,7 @@ HealthyStepsSettle =
 -- after each round of a healthy ring no span is applied
 abbrev pub HealthyRingsApplyNothing : Type 0
 HealthyRingsApplyNothing = (s : Settings) (ids : List ℕ) (circuits : Provisioning) (f : Fibres) → MayStart s ids f
-    → (k span : ℕ) → 1 ≤ k → is_applied (requests_of (run k (new_world s ids circuits f))) span ≡ false
+    → (k span : ℕ) → 1 ≤ k → is_applied (span_requests_of (run k (new_world s ids circuits f))) span ≡ false
 
 -- After each settle step of a healthy ring each port has delivered what it is owed in the step's last round, where no
 -- span is applied.

@@ -16,14 +16,14 @@ use Rattle.sdh_node.specs.Rings.Laws.{MayHappen}
 use Rattle.sdh_laws.specs.Hearing.Laws.{IsWhole, MayStart}
 use Rattle.sdh_laws.specs.Carrying.Windows.{layout_of, HasCircuits}
 use Rattle.sdh_spans.specs.Spans.{IsConstant}
-use Rattle.sdh_laws.specs.Converging.Steady.{went, came, StaysSettled, HasStillPointers}
+use Rattle.sdh_laws.specs.Converging.Steady.{went, brought_to, StaysSettled, HasStillPointers}
 
 -- An AU-4 that leaves a node with one action and one value from round k on comes in at the other end of the span with
 -- one action and one value from round k + 9 on. Where the fibre is cut, AIS comes in. That is so whatever the AU-4's
 -- generator and interpreter kept.
 abbrev pub ASpanIsSteady : Type 0
 ASpanIsSteady = (w : World) → IsWhole w → (p : ℕ) (d : Side) (au k : ℕ) → p < length w.ring.ids → 1 ≤ au → au ≤ n_of w.ring.settings.rate
-    → IsConstant (went w (neighbour (length w.ring.ids) p d) (opposite d) au) k → IsConstant (came w p d au) (k + 9)
+    → IsConstant (went w (neighbour (length w.ring.ids) p d) (opposite d) au) k → IsConstant (brought_to w p d au) (k + 9)
 
 -- Where the nodes stay in settled states, no pointer changes after 27n + 18 rounds: nine rounds for each span of the
 -- longest walk, and nine for one span more.

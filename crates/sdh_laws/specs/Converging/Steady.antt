@@ -19,12 +19,12 @@ abbrev pub went : World → ℕ → Side → ℕ → ℕ → Input
 went w p d au k = sent_at (run k w) p d au
 
 -- AU-4 number au that comes in at position p on side d in round k, with what its interpreter makes of it
-abbrev pub came : World → ℕ → Side → ℕ → ℕ → Input
-came w p d au k = received (lines_at (run k w) p) d au
+abbrev pub brought_to : World → ℕ → Side → ℕ → ℕ → Input
+brought_to w p d au k = received (lines_at (run k w) p) d au
 
 -- what an origin in slot m brings at position p in round k
-abbrev pub brought : World → ℕ → ℕ → Origin → ℕ → Input
-brought w p m o k = value_at (run k w) p m o
+abbrev pub brought_in_slot : World → ℕ → ℕ → Origin → ℕ → Input
+brought_in_slot w p m o k = value_at (run k w) p m o
 
 -- no slip waits at any port
 abbrev pub IsUnslipped : World → Type 0

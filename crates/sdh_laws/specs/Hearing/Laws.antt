@@ -7,10 +7,10 @@ use Rattle.sdh_circuits.specs.Provisioning.{Provisioning}
 use Rattle.sdh_restoration.specs.Applied.{span_requests}
 use Rattle.sdh_signal.specs.Settled.{settled_states}
 use Rattle.sdh_signal.specs.Signals as signal
-use Rattle.sdh_signal.specs.Signals.{MayGo, requests_in}
+use Rattle.sdh_signal.specs.Signals.{MaySignal, requests_in}
 use Rattle.sdh_plant.specs.Fibres.{Arrival, Fibres, IsHonest}
 use Rattle.sdh_request.specs.declared.settings.Settings.{Settings}
-use Rattle.sdh_node.specs.Node.{receiving_on, is_held, compared, word_of}
+use Rattle.sdh_node.specs.Node.{receiving_on, is_held, compared, last_word_on}
 use Rattle.sdh_node.specs.Rings.Held.{new_ring, node_at, AtEach}
 use Rattle.sdh_node.specs.Rings.Rounds.{World, world, round_with, round}
 use Rattle.sdh_node.specs.Rings.Runs.{IsRound, run, course}
@@ -22,7 +22,7 @@ use Rattle.sdh_payload.specs.Clock.{waiting}
 use Rattle.sdh_terminal.specs.Lines.{line_on}
 use Rattle.sdh_terminal.specs.Tributaries.{Tributary}
 use Rattle.sdh_node.specs.Rings.Sides.{condition_to, world_in}
-use Rattle.sdh_spans.specs.Frames.{shown_by}
+use Rattle.sdh_spans.specs.Frames.{violations_shown}
 use Rattle.sdh_restoration.specs.Sides.{asked_in}
 use Rattle.sdh_laws.specs.Hearing.Placed.{IsPlaced}
 use Rattle.sdh_laws.specs.Hearing.Paired.{IsPaired}
@@ -73,16 +73,16 @@ ViolationsAreOfTheRoundBefore =
     (w : World) (first second : List Change) (p : ℕ) (d : Side) → IsWhole w → AreChangesOf (round w) first
     → AreChangesOf (round (all_changed first (round w))) second → p < length w.ring.nodes
     → CountsViolations (all_changed second (round (all_changed first (round w)))) p d
-    (shown_by (condition_to (all_changed first (round w)) p d))
+    (violations_shown (condition_to (all_changed first (round w)) p d))
 
 -- no node sends a word that is AIS of the multiplex section
 abbrev pub NoneSaysAis : Type 0
 NoneSaysAis =
-    (w : World) (p : ℕ) (d : Side) → IsWhole w → p < length w.ring.nodes → (word_of d (node_at (round w).ring.nodes p)).mark ≢ mark.MsAis
+    (w : World) (p : ℕ) (d : Side) → IsWhole w → p < length w.ring.nodes → (last_word_on d (node_at (round w).ring.nodes p)).mark ≢ mark.MsAis
 
 -- a round of a ring with frames is a round of its ring of signals, with the same needs and the same held nodes
 pub record IsSignalRound (w : World) : Type 0 where
-  pub may_go : MayGo (needs_in (round w)) (signals_of w)
+  pub may_go : MaySignal (needs_in (round w)) (signals_of w)
   pub goes : signals_of (round w) ≡ signal.round (needs_in (round w)) (held_in w) (signals_of w)
 
 abbrev pub RoundsAreSignalRounds : Type 0
@@ -93,7 +93,7 @@ RoundsAreSignalRounds = (w : World) → IsWhole w → IsSignalRound w
 -- side that fails.
 pub record GoesAsSignals (w after : World) : Type 0 where
   pub whole : IsWhole after
-  pub may_go : MayGo (needs_in after) (signals_of w)
+  pub may_go : MaySignal (needs_in after) (signals_of w)
   pub goes : signals_of after ≡ signal.round (needs_in after) (held_in w) (signals_of w)
 
 abbrev pub WholeRoundsGoAsSignals : Type 0
@@ -107,7 +107,7 @@ pub record StepsStayWhole : Type 0 where
 -- ---- quiet windows
 
 -- a calm round isn't the ring's first one, holds no node, and leaves all that is compared as it was
-pub record IsStill (w : World) : Type 0 where
+pub record RoundIsStill (w : World) : Type 0 where
   pub later : 0 < w.ring.rounds
   pub free : AtEach (λ p n. is_held n ≡ false) w.ring.nodes
   pub same : (p : ℕ) → p < length w.ring.nodes → compared (node_at (round w).ring.nodes p) ≡ compared (node_at w.ring.nodes p)
@@ -117,7 +117,7 @@ pub record IsStill (w : World) : Type 0 where
   pub requests : requests_in (needs_in (round w)) ≡ requests_in (needs_in w)
 
 abbrev pub CalmRoundsAreStill : Type 0
-CalmRoundsAreStill = (w : World) → IsWhole w → is_calm (round w).ring.nodes ≡ true → IsStill w
+CalmRoundsAreStill = (w : World) → IsWhole w → is_calm (round w).ring.nodes ≡ true → RoundIsStill w
 
 -- after three calm rounds in a row, each node is in the settled state of its position, under the requests of the last
 -- of these rounds

@@ -7,7 +7,7 @@ use Rattle.sdh_node.specs.Rings.Rounds.{World}
 use Rattle.sdh_node.specs.Rings.Runs.{run, course}
 use Rattle.sdh_node.specs.Rings.Quiet.{is_calm, IsCalm}
 use Rattle.sdh_laws.specs.Hearing.Laws.{IsWhole}
-use Rattle.sdh_laws.specs.Carrying.Windows.{requests_of}
+use Rattle.sdh_laws.specs.Carrying.Windows.{span_requests_of}
 use Rattle.sdh_laws.specs.Carrying.Laws.{DeliversWhatIsDue}
 
 -- The ring and its fibres are paired, and no controller is held. Every later round is calm as long as nothing but
@@ -17,10 +17,10 @@ pub record IsAtRest (clocks : PortId → ℕ → Clock) (w : World) : Type 0 whe
   pub whole : IsWhole w
   pub free : AtEach (λ p n. n.held ≡ 0) w.ring.nodes
   pub calm : (k : ℕ) → 1 ≤ k → IsCalm (course w) k
-  pub due : (k : ℕ) → 1 ≤ k → DeliversWhatIsDue clocks (run k w) (requests_of (run k w))
+  pub due : (k : ℕ) → 1 ≤ k → DeliversWhatIsDue clocks (run k w) (span_requests_of (run k w))
 
 -- what a round of a ring at rest leaves
 pub record StaysAtRest (clocks : PortId → ℕ → Clock) (after : World) : Type 0 where
   pub calm : is_calm after.ring.nodes ≡ true
-  pub due : DeliversWhatIsDue clocks after (requests_of after)
+  pub due : DeliversWhatIsDue clocks after (span_requests_of after)
   pub rests : IsAtRest clocks after

@@ -20,5 +20,5 @@ pub record FlowsBehind (f : ℕ → Input) (spans v : ℕ) (bytes : ℕ → List
   pub soon : (first ≤ 4 * spans) ⊎ ((first ≤ 4 * spans + 3) × ((f first).action ≡ action.New))
 
 -- from round t on an AU-4 brings AIS
-abbrev pub IsSilent : (ℕ → Input) → ℕ → Type 0
-IsSilent f t = (j : ℕ) → t ≤ j → (f j).action ≡ action.Ais
+abbrev pub IsAisFrom : (ℕ → Input) → ℕ → Type 0
+IsAisFrom f t = (j : ℕ) → t ≤ j → (f j).action ≡ action.Ais

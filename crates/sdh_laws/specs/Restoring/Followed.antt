@@ -35,17 +35,17 @@ use Rattle.sdh_node.specs.Rings.Rounds.{World}
 use Rattle.sdh_node.specs.Rings.Quiet.{EndsWindow, Settles, Unsettles}
 use Rattle.sdh_node.specs.Rings.Runs.{run, course}
 use Rattle.sdh_laws.specs.Hearing.Laws.{IsWhole, MayStart}
-use Rattle.sdh_laws.specs.Carrying.Windows.{layout_of, HasCircuits, requests_of}
+use Rattle.sdh_laws.specs.Carrying.Windows.{layout_of, HasCircuits, span_requests_of}
 use Rattle.sdh_laws.specs.Carrying.Laws.{DeliversItsDue, IsRestored}
 use Rattle.sdh_laws.specs.Converging.Steady.{IsUnslipped}
-use Rattle.sdh_laws.specs.Restoring.Laws.{NoneHeld}
+use Rattle.sdh_laws.specs.Restoring.Laws.{NoControllerHeld}
 
 -- ---- what an interpreter keeps, and what comes to it
 
 -- the pointer word of AU-4 number au in the frame on the fibre that leaves position p on side d; ones where it carries
 -- no frame
-abbrev pub word_on : World → ℕ → Side → ℕ → ℕ
-word_on w p d au =
+abbrev pub pointer_word_on : World → ℕ → Side → ℕ → ℕ
+pointer_word_on w p d au =
     let n = n_of w.ring.settings.rate in
     option_map_or (λ line. pointer_word_at n (scrambled (9 * n) line) au) (carried_on w.fibres (fibre p d)) 65535
 
@@ -57,7 +57,7 @@ IsWordOf (Some v) word = (v ≤ 782) × ((word ≡ word_of form.Enabled v) ⊎ (
 
 -- An interpreter that hasn't lost its pointer, where this word of a generator in this state comes next. It counts at
 -- most two new values, and one that has a pointer has one of at most 782.
-pub record IsSound (r : Reading) (s : Option ℕ) (word : ℕ) : Type 0 where
+pub record IsSoundReading (r : Reading) (s : Option ℕ) (word : ℕ) : Type 0 where
   pub small : r.mode ≡ mode.Norm → r.value ≤ 782
   pub few : r.news ≤ 2
   pub kept : r.mode ≢ mode.Lop
@@ -70,7 +70,7 @@ HasItsValue r s word = (v : ℕ) → s ≡ Some v → word ≡ word_of form.Norm
 -- An interpreter follows a generator: it hasn't lost its pointer, and has the value of the word that comes next, unless
 -- that is a new one or the interpreter is in Ais.
 pub record Follows (r : Reading) (s : Option ℕ) (word : ℕ) : Type 0 where
-  pub sound : IsSound r s word
+  pub sound : IsSoundReading r s word
   pub value : HasItsValue r s word
 
 -- each interpreter of a ring follows the generator across its span, whether the fibre between them is cut or not
@@ -79,7 +79,7 @@ IsFollowed w =
     (p : ℕ) (d : Side) (i : ℕ) → p < length w.ring.nodes → i < n_of w.ring.settings.rate
     → (let q = neighbour (length w.ring.ids) p d in let e = opposite d in
     Follows (slice_index_or (receiving_on d (node_at w.ring.nodes p)).readings i start)
-    (slice_index_or (sending_on e (node_at w.ring.nodes q)).generators i None) (word_on w q e (i + 1)))
+    (slice_index_or (sending_on e (node_at w.ring.nodes q)).generators i None) (pointer_word_on w q e (i + 1)))
 
 -- ---- rounds and changes
 
@@ -116,11 +116,11 @@ StepsLeaveFollowed = (w left : World) (limit : ℕ) → HasCircuits (layout_of w
 -- Every other port does so from number `base` + 3n - 2 on.
 pub record ArePortsOwedAtOnce (w : World) (base : ℕ) : Type 0 where
   pub joined : (k index : ℕ) (c : Provisioned) → slice_get w.ring.circuits.circuits index ≡ Some c → (e : End)
-      → (let n = length w.ring.ids in let rs = requests_of (run k w) in
+      → (let n = length w.ring.ids in let rs = span_requests_of (run k w) in
       is_joined n (is_applied rs) (arc_of n c) ≡ true → base + hops n (is_applied rs) (arc_of n c) + 2 ≤ k
       → DeliversItsDue (clocks_from w) (run k w) rs c index e)
   pub parted : (k index : ℕ) (c : Provisioned) → slice_get w.ring.circuits.circuits index ≡ Some c → (e : End)
-      → (let n = length w.ring.ids in let rs = requests_of (run k w) in
+      → (let n = length w.ring.ids in let rs = span_requests_of (run k w) in
       is_joined n (is_applied rs) (arc_of n c) ≡ false → base + 3 * n ≤ k + 2 → DeliversItsDue (clocks_from w) (run k w) rs c index e)
 
 -- In a followed ring in which no slip waits and no controller is held for more than this number of turns, ports have
@@ -135,22 +135,22 @@ FollowedPortsAreOwedSoon =
 -- ring of 16
 abbrev pub FollowedRingsAreRestoredSoon : Type 0
 FollowedRingsAreRestoredSoon =
-    (w : World) → IsWhole w → HasCircuits (layout_of w) → NoneHeld w → IsUnslipped w → IsFollowed w → (k : ℕ)
-    → 7 * length w.ring.ids + 7 ≤ k → IsRestored (clocks_from w) (run k w) (requests_of (run k w))
+    (w : World) → IsWhole w → HasCircuits (layout_of w) → NoControllerHeld w → IsUnslipped w → IsFollowed w → (k : ℕ)
+    → 7 * length w.ring.ids + 7 ≤ k → IsRestored (clocks_from w) (run k w) (span_requests_of (run k w))
 
 -- where no controller is held for more than this number of turns, they do so from number 7n + 7 + turns on
 abbrev pub HeldFollowedRingsAreRestoredSoon : Type 0
 HeldFollowedRingsAreRestoredSoon =
     (w : World) → IsWhole w → HasCircuits (layout_of w) → (turns : ℕ) → AtEach (λ p n. n.held ≤ turns) w.ring.nodes → IsUnslipped w
-    → IsFollowed w → (k : ℕ) → 7 * length w.ring.ids + 7 + turns ≤ k → IsRestored (clocks_from w) (run k w) (requests_of (run k w))
+    → IsFollowed w → (k : ℕ) → 7 * length w.ring.ids + 7 + turns ≤ k → IsRestored (clocks_from w) (run k w) (span_requests_of (run k w))
 
 -- ---- a settle step
 
 -- A settle step of at least 7n + 7 rounds leaves a followed ring restored, even where it is unsettled.
 abbrev pub RestoresFollowedBy : World → ℕ → World → Type 0
 RestoresFollowedBy w limit left =
-    IsWhole w → NoneHeld w → IsUnslipped w → IsFollowed w → 7 * length w.ring.ids + 7 ≤ limit
-    → IsRestored (clocks_from w) left (requests_of left)
+    IsWhole w → NoControllerHeld w → IsUnslipped w → IsFollowed w → 7 * length w.ring.ids + 7 ≤ limit
+    → IsRestored (clocks_from w) left (span_requests_of left)
 
 abbrev pub UnsettledFollowedRingsAreRestored : Type 0
 UnsettledFollowedRingsAreRestored =
@@ -159,16 +159,16 @@ UnsettledFollowedRingsAreRestored =
 -- ---- from a new ring on
 
 -- a change that slips no port and holds no controller
-abbrev pub IsPlain : Change → Type 0
-IsPlain (Fibre p d condition) = Unit {0}
-IsPlain (Order p d command) = Unit {0}
-IsPlain (Hold p turns) = ⊥
-IsPlain (Slip port turn count) = ⊥
-IsPlain (Now t) = Unit {0}
+abbrev pub IsPlainChange : Change → Type 0
+IsPlainChange (Fibre p d condition) = Unit {0}
+IsPlainChange (Order p d command) = Unit {0}
+IsPlainChange (Hold p turns) = ⊥
+IsPlainChange (Slip port turn count) = ⊥
+IsPlainChange (Now t) = Unit {0}
 
 -- a stretch of such changes, with no round after them, or with four or more
 pub record IsPlainStretch (s : Stretch) : Type 0 where
-  pub changes : All IsPlain s.changes
+  pub changes : All IsPlainChange s.changes
   pub rounds : (s.rounds ≡ 0) ⊎ (4 ≤ s.rounds)
 
 -- Where no port slips and no controller is held, and no fibre changes within four rounds of another change, every

@@ -22,13 +22,13 @@ use Rattle.sdh_node.specs.Rings.Runs.{run}
 use Rattle.sdh_node.specs.Rings.Clocks.{clocks_from, clocks_by}
 use Rattle.sdh_node.specs.Rings.Quiet.{Unsettles}
 use Rattle.sdh_laws.specs.Hearing.Laws.{IsWhole}
-use Rattle.sdh_laws.specs.Carrying.Windows.{layout_of, HasCircuits, requests_of}
+use Rattle.sdh_laws.specs.Carrying.Windows.{layout_of, HasCircuits, span_requests_of}
 use Rattle.sdh_laws.specs.Carrying.Laws.{DeliversItsDue, IsRestored}
 use Rattle.sdh_laws.specs.Converging.Steady.{IsUnslipped}
 
 -- no controller misses the next round
-abbrev pub NoneHeld : World → Type 0
-NoneHeld w = AtEach (λ p n. is_held n ≡ false) w.ring.nodes
+abbrev pub NoControllerHeld : World → Type 0
+NoControllerHeld w = AtEach (λ p n. is_held n ≡ false) w.ring.nodes
 
 -- From every whole ring on, all nodes are in the settled states and every port delivers what it is owed, in each round
 -- from number 12n + 102 on. Interpreters, generators, parities, words and filters may be whatever they were before. Any
@@ -37,20 +37,20 @@ NoneHeld w = AtEach (λ p n. is_held n ≡ false) w.ring.nodes
 abbrev pub RingsAreRestoredSoon : Type 0
 RingsAreRestoredSoon =
     (w : World) → IsWhole w → HasCircuits (layout_of w) → (k : ℕ) → 12 * length w.ring.ids + 102 ≤ k
-    → IsRestored (clocks_from w) (run k w) (requests_of (run k w))
+    → IsRestored (clocks_from w) (run k w) (span_requests_of (run k w))
 
 -- Where no controller is held, traffic is restored from number 12n + 2 on, which is 194 in a ring of 16. Where slips
 -- wait, it is restored from the larger of 12n + 2 and 8n + 61 on.
 abbrev pub FreeRingsAreRestoredSoon : Type 0
 FreeRingsAreRestoredSoon =
-    (w : World) → IsWhole w → HasCircuits (layout_of w) → NoneHeld w → (k : ℕ) → 12 * length w.ring.ids + 2 ≤ k
-    → 8 * length w.ring.ids + 61 ≤ k → IsRestored (clocks_from w) (run k w) (requests_of (run k w))
+    (w : World) → IsWhole w → HasCircuits (layout_of w) → NoControllerHeld w → (k : ℕ) → 12 * length w.ring.ids + 2 ≤ k
+    → 8 * length w.ring.ids + 61 ≤ k → IsRestored (clocks_from w) (run k w) (span_requests_of (run k w))
 
 -- where no controller is held and no slip waits, traffic is restored from number 12n + 2 on
 abbrev pub UnslippedRingsAreRestoredSoon : Type 0
 UnslippedRingsAreRestoredSoon =
-    (w : World) → IsWhole w → HasCircuits (layout_of w) → NoneHeld w → IsUnslipped w → (k : ℕ) → 12 * length w.ring.ids + 2 ≤ k
-    → IsRestored (clocks_from w) (run k w) (requests_of (run k w))
+    (w : World) → IsWhole w → HasCircuits (layout_of w) → NoControllerHeld w → IsUnslipped w → (k : ℕ) → 12 * length w.ring.ids + 2 ≤ k
+    → IsRestored (clocks_from w) (run k w) (span_requests_of (run k w))
 
 -- ---- each port by its own number
 
@@ -59,11 +59,11 @@ UnslippedRingsAreRestoredSoon =
 -- on, and no slip waits then.
 pub record ArePortsOwedFrom (w : World) (base : ℕ) : Type 0 where
   pub joined : (k index : ℕ) (c : Provisioned) → slice_get w.ring.circuits.circuits index ≡ Some c → (e : End)
-      → (let n = length w.ring.ids in let rs = requests_of (run k w) in
+      → (let n = length w.ring.ids in let rs = span_requests_of (run k w) in
       is_joined n (is_applied rs) (arc_of n c) ≡ true → base + 4 * hops n (is_applied rs) (arc_of n c) + 5 ≤ k
       → DeliversItsDue (clocks_from w) (run k w) rs c index e)
   pub parted : (k index : ℕ) (c : Provisioned) → slice_get w.ring.circuits.circuits index ≡ Some c → (e : End)
-      → (let n = length w.ring.ids in let rs = requests_of (run k w) in
+      → (let n = length w.ring.ids in let rs = span_requests_of (run k w) in
       is_joined n (is_applied rs) (arc_of n c) ≡ false → base + 3 * n ≤ k + 2 → DeliversItsDue (clocks_from w) (run k w) rs c index e)
 
 -- in every whole ring ports have what comes over h hops from number 4n + 4h + 114 on, and AIS from number 7n + 107 on
@@ -74,13 +74,13 @@ PortsAreOwedSoon = (w : World) → IsWhole w → HasCircuits (layout_of w) → A
 -- from number 7n + 7 on
 abbrev pub UnslippedPortsAreOwedSoon : Type 0
 UnslippedPortsAreOwedSoon =
-    (w : World) → IsWhole w → HasCircuits (layout_of w) → NoneHeld w → IsUnslipped w → ArePortsOwedFrom w (4 * length w.ring.ids + 9)
+    (w : World) → IsWhole w → HasCircuits (layout_of w) → NoControllerHeld w → IsUnslipped w → ArePortsOwedFrom w (4 * length w.ring.ids + 9)
 
 -- ---- a settle step
 
 -- A settle step of at least 12n + 102 rounds leaves the ring restored, even where it is unsettled.
 abbrev pub RestoresBy : World → ℕ → World → Type 0
-RestoresBy w limit left = IsWhole w → 12 * length w.ring.ids + 102 ≤ limit → IsRestored (clocks_from w) left (requests_of left)
+RestoresBy w limit left = IsWhole w → 12 * length w.ring.ids + 102 ≤ limit → IsRestored (clocks_from w) left (span_requests_of left)
 
 abbrev pub UnsettledRingsAreRestored : Type 0
 UnsettledRingsAreRestored = (w left : World) (limit : ℕ) → HasCircuits (layout_of w) → Unsettles w limit left → RestoresBy w limit left

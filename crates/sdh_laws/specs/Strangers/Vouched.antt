@@ -22,7 +22,7 @@ use Rattle.sdh_nodestate.specs.declared.NodeState.TheVariants as state
 use Rattle.sdh_payload.specs.Clock.{Clock}
 use Rattle.sdh_ringmap.specs.Fibres.{fibre}
 use Rattle.sdh_plant.specs.Arrivals.{carried_on}
-use Rattle.sdh_node.specs.Node.{Node, word_of}
+use Rattle.sdh_node.specs.Node.{Node, last_word_on}
 use Rattle.sdh_node.specs.Rings.Held.{node_at, AtEach}
 use Rattle.sdh_node.specs.Rings.Rounds.{World}
 use Rattle.sdh_laws.specs.Hearing.Laws.{IsWhole}
@@ -42,14 +42,14 @@ abbrev pub streams_to : Side → Option OnSpan → Option PortId
 streams_to d on = option_map (λ r. port_id r.circuit (sender d)) on
 
 -- the circuit in slot m on the span that this position has on a side, or none where there is no position
-abbrev pub told_of : List ℕ → List Provisioned → ℕ → Side → Option Pos → Option OnSpan
-told_of ids circuits m d None = None
-told_of ids circuits m d (Some source) = circuits_at (length ids) circuits source.0 m d
+abbrev pub circuit_on_side : List ℕ → List Provisioned → ℕ → Side → Option Pos → Option OnSpan
+circuit_on_side ids circuits m d None = None
+circuit_on_side ids circuits m d (Some source) = circuits_at (length ids) circuits source.0 m d
 
 -- The circuit that a K word speaks of in slot m: the one in that slot on the span that the source of a long word has on
 -- a side. It is none where the word isn't a long one with a request, or its source isn't in the ring.
 abbrev pub spoken_of : List ℕ → List Provisioned → ℕ → Side → K → Option OnSpan
-spoken_of ids circuits m d k = told_of ids circuits m d (option_and_then (λ k. found_at ids k.from) (long_word k))
+spoken_of ids circuits m d k = circuit_on_side ids circuits m d (option_and_then (λ k. found_at ids k.from) (long_word k))
 
 -- ---- who may miss a round
 
@@ -90,5 +90,5 @@ pub record IsVouched (clocks : PortId → ℕ → Clock) (w : World) : Type 0 wh
   pub protection : (p m : ℕ) (d : Side) (line : List ℕ) → p < length w.ring.nodes → carried_on w.fibres (fibre p d) ≡ Some line → 1 ≤ m
       → m ≤ slots_of (layout_of w)
       → HoldsAtMost w.ring.circuits.circuits clocks w.ring.rounds
-      (streams_to (opposite d) (spoken_of w.ring.ids w.ring.circuits.circuits m (opposite d) (word_of d (node_at w.ring.nodes p))))
+      (streams_to (opposite d) (spoken_of w.ring.ids w.ring.circuits.circuits m (opposite d) (last_word_on d (node_at w.ring.nodes p))))
       (au_in w (slots_of (layout_of w) + m) line)

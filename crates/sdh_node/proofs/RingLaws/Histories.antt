@@ -31,7 +31,7 @@ use Rattle.sdh_node.specs.Rings.Runs.{run}
 use Rattle.sdh_restoration.specs.Changes.{Change, Fibre, Order, Hold, Slip, Now, Stretch}
 use Rattle.sdh_node.specs.Rings.Changes.{changed, all_changed, after_stretch}
 use Rattle.sdh_restoration.specs.Sides.{Holding, holding_after, all_holding, holding_in}
-use Rattle.sdh_node.specs.Rings.Sides.{command_on, holding_of, world_in, Fits}
+use Rattle.sdh_node.specs.Rings.Sides.{command_on, holding_of, world_in, HasPositions}
 use Rattle.sdh_rounds.proofs.Runs.{count_round, conditions_round}
 use Rattle.sdh_node.specs.Stations.{adm}
 use Rattle.sdh_rounds.specs.Rounds as any_round
@@ -214,7 +214,7 @@ slipped_command : (d : Side) (id : PortId) (turn : Turn) (count : ℕ) (n : Node
 slipped_command West id turn count n = refl
 slipped_command East id turn count n = refl
 
-holding_changed : (n p : ℕ) (d : Side) (c : Change) (w : World) → Fits n w → p < n
+holding_changed : (n p : ℕ) (d : Side) (c : Change) (w : World) → HasPositions n w → p < n
     → holding_of n p d (changed c w) ≡ holding_after n p d c (holding_of n p d w)
 unfolding holding_of changed
 holding_changed n p d (Fibre q e condition) w fits low =
@@ -238,7 +238,7 @@ length-placed change i [] = refl
 length-placed change zero (n ∷ ns) = refl
 length-placed change (suc i) (n ∷ ns) = ap suc (length-placed change i ns)
 
-fits_changed : (n : ℕ) (c : Change) (w : World) → Fits n w → Fits n (changed c w)
+fits_changed : (n : ℕ) (c : Change) (w : World) → HasPositions n w → HasPositions n (changed c w)
 unfolding changed
 fits_changed n (Fibre q e condition) w h = record {
   conditions = length-set w.fibres.conditions (fibre q e) condition
@@ -256,11 +256,11 @@ fits_changed n (Slip id turn count) w h = record {
 }
 fits_changed n (Now t) w h = record { conditions = h.conditions; nodes = h.nodes }
 
-fits_all : (n : ℕ) (cs : List Change) (w : World) → Fits n w → Fits n (all_changed cs w)
+fits_all : (n : ℕ) (cs : List Change) (w : World) → HasPositions n w → HasPositions n (all_changed cs w)
 fits_all n [] w h = h
 fits_all n (c ∷ cs) w h = fits_all n cs (changed c w) (fits_changed n c w h)
 
-fits_run : (n k : ℕ) (w : World) → Fits n w → Fits n (run k w)
+fits_run : (n k : ℕ) (w : World) → HasPositions n w → HasPositions n (run k w)
 unfolding any_run.run any_round.round
 fits_run n zero w h = h
 fits_run n (suc k) w h = let was = fits_run n k w h in
@@ -270,14 +270,14 @@ fits_run n (suc k) w h = let was = fits_run n k w h in
       nodes = count_round adm (arrivals_of (run k w)) (run k w) ∙ was.nodes;
     }
 
-holding_all : (n p : ℕ) (d : Side) (cs : List Change) (w : World) → Fits n w → p < n
+holding_all : (n p : ℕ) (d : Side) (cs : List Change) (w : World) → HasPositions n w → p < n
     → holding_of n p d (all_changed cs w) ≡ all_holding n p d cs (holding_of n p d w)
 holding_all n p d [] w fits low = refl
 holding_all n p d (c ∷ cs) w fits low =
     holding_all n p d cs (changed c w) (fits_changed n c w fits) low ∙ ap (all_holding n p d cs) (holding_changed n p d c w fits low)
 
 -- what holds in round t of the stretches follows from the history
-pub holding_is : (n p : ℕ) (d : Side) (ss : List Stretch) (w : World) (t : ℕ) → Fits n w → p < n
+pub holding_is : (n p : ℕ) (d : Side) (ss : List Stretch) (w : World) (t : ℕ) → HasPositions n w → p < n
     → holding_of n p d (world_in ss w t) ≡ holding_in n p d ss (holding_of n p d w) t
 holding_is n p d [] w t fits low = refl
 holding_is n p d (s ∷ ss) w t fits low =

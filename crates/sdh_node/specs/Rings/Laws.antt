@@ -22,7 +22,7 @@ use Rattle.sdh_payload.specs.Laws.{clock_by}
 use Rattle.sdh_node.specs.Rings.Clocks.{clock_after, clock_in, offset_of, first_clock, clocks_by, HasPortIn, clock_at, waiting_at}
 use Rattle.sdh_restoration.specs.Happened.{happened}
 use Rattle.sdh_restoration.specs.Sides.{new_holding, holding_in}
-use Rattle.sdh_node.specs.Rings.Sides.{holding_of, world_in, Fits}
+use Rattle.sdh_node.specs.Rings.Sides.{holding_of, world_in, HasPositions}
 use Rattle.sdh_node.specs.Rings.Rounds.{World, world, round_with}
 use Rattle.sdh_node.specs.Rings.Runs.{run_with}
 
@@ -79,7 +79,7 @@ NewHolds =
 -- what holds on a side when round t of some stretches begins follows from their history
 abbrev pub HistoriesHold : Type 0
 HistoriesHold =
-    (n p : ℕ) (d : Side) (ss : List Stretch) (w : World) (t : ℕ) → Fits n w → p < n
+    (n p : ℕ) (d : Side) (ss : List Stretch) (w : World) (t : ℕ) → HasPositions n w → p < n
     → holding_of n p d (world_in ss w t) ≡ holding_in n p d ss (holding_of n p d w) t
 
 -- ---- clocks

@@ -30,7 +30,7 @@ world_in [] w t = w
 world_in (s ∷ ss) w t = if nat_lt t s.rounds then run t (all_changed s.changes w) else world_in ss (after_stretch s w) (t - s.rounds)
 
 -- a world whose ring and fibres have n positions
-pub record Fits (n : ℕ) (w : World) : Type 0 where
+pub record HasPositions (n : ℕ) (w : World) : Type 0 where
   pub conditions : length w.fibres.conditions ≡ 2 * n
   pub nodes : length w.ring.nodes ≡ n
 

@@ -2,7 +2,7 @@ use Rattle.std.proofs.Common.{◌≡◌, ℕ, ◌<◌, List, [], ◌++◌, lengt
 use Rattle.std.specs.Prelude.{slice_get, if◌then◌else◌}
 use Rattle.std.proofs.lemmas.Option.{slice_get_read}
 use Rattle.sdh_aps.specs.declared.shown.Shown.{Shown}
-use Rattle.sdh_aps_cli.specs.Signalled.{is_told, change_of, changes_to}
+use Rattle.sdh_aps_cli.specs.Signalled.{is_changed, change_of, changes_to}
 use Rattle.sdh_aps_cli.specs.Listing.{change_text, changes_text}
 use Rattle.sdh_aps_cli.proofs.Lines.{lines_none, lines_more}
 use Rattle.sdh_aps_cli.proofs.recorder.put_round.Goals as goal
@@ -30,7 +30,7 @@ loop-i-preserved c =
     record {
       bytes = λ was are. (
           let is : shown ≡ was i = are i shown at in
-          let line = λ (s : Shown). if is_told s r i then change_text c.args.listing (change_of r i) else [] in
+          let line = λ (s : Shown). if is_changed s r i then change_text c.args.listing (change_of r i) else [] in
           c.put_new.ensures.bytes ∙ ap (λ s. c.loop-i.text.bytes ++ line s) is ∙ ap (λ l. l ++ line (was i)) (inv.bytes was are)
           ∙ append_assoc start (changes_text c.args.listing (changes_to was r i)) (line (was i))
           ∙ ap (λ l. start ++ l) (sym (lines_more c.args.listing was r i)));

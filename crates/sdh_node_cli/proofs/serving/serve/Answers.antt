@@ -2,7 +2,7 @@ use Rattle.std.proofs.Common.{ap, sym, subst, ◌∙◌, arith, refl}
 use native.Mathlib.Nat.{le_refl}
 use Rattle.sdh_node_cli.specs.declared.stop.Stop.{Stop}
 use Rattle.sdh_node_cli.specs.Bench.{Bench}
-use Rattle.sdh_node_cli.specs.Turns.{StopsBy}
+use Rattle.sdh_node_cli.specs.Turns.{TurnStopsBy}
 use Rattle.sdh_node_cli.proofs.Faults.{quiet, behind, stopped}
 use Rattle.sdh_node_cli.proofs.Runs.{went_none, went_on, served_by, cut_by, served_all}
 use Rattle.sdh_node_cli.proofs.Turning.{after_rounds, rate_after}
@@ -43,7 +43,7 @@ returns-in-Err-clause-cut g c = λ is.
     let left = g.R.Source.left in
     let text = g.W.Sink.written in
     cut_by _ c.loop-done.bench _ _ _ _ _ _ c.loop-done.done c.loop-done.invariant.went
-    (subst (λ (x : Stop). StopsBy c.loop-done.bench x (left c.loop-done.source) (left c.turn.new.source) (text c.loop-done.sink)
+    (subst (λ (x : Stop). TurnStopsBy c.loop-done.bench x (left c.loop-done.source) (left c.turn.new.source) (text c.loop-done.sink)
     (text c.turn.new.sink)) is c.in-Err.ensures.stops)
 
 pub returns-clause-served : goal.returns-clause-served

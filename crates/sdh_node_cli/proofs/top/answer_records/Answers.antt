@@ -3,7 +3,7 @@ use native.Mathlib.Nat.{le_refl}
 use Rattle.sdh_status.specs.declared.Status.TheVariants as status
 use Rattle.sdh_shell.specs.Writing.{IsShown}
 use Rattle.sdh_node_cli.specs.Endings.{line_of, bench_endings}
-use Rattle.sdh_node_cli.specs.Outcome.{OfPlan, IsCutPlan, ending_of}
+use Rattle.sdh_node_cli.specs.Outcome.{OfBenchPlan, IsCutPlan, ending_of}
 use Rattle.sdh_node_cli.specs.declared.ending.Ending.{Ending}
 use Rattle.sdh_node_cli.specs.declared.ending.Ending.TheVariants as ending
 use Rattle.sdh_node_cli.proofs.Faults.{renamed, behind, write_or_usage, write_or_memory, ended_so, ended_not, stop_fault, fault_stop, stop_own}
@@ -54,7 +54,7 @@ returns-in_default-clause-outcome g c = λ ask plan at found is.
     let not = c.in_default.not-WriteFault in
     let served = c.serve-stopped.ensures.served not in
     let how = ending_of stopped.stop stopped.number in
-    tells_end (λ h text. OfPlan ask plan [] left now h text) (IsCutPlan ask plan [] left now old new)
+    tells_end (λ h text. OfBenchPlan ask plan [] left now h text) (IsCutPlan ask plan [] left now old new)
     how c.write_ended.result served.0 (line_of how) old mid new (stop_shown stopped.stop stopped.number not)
     (of_served ask plan at c.args.bench.now left now stopped.number stopped.stop served.0 found is served.1) served.2
     (wrote_line _ _ _ _ _ mid new (c.ended.ensures.ending ∙ c.ending_of.ensures) (c.ended.ensures.text

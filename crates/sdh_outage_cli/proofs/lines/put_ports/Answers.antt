@@ -8,7 +8,7 @@ use Rattle.sdh_outage.specs.Lines.{summary_line}
 use Rattle.sdh_outage.specs.Outages.{with_outage, summary_of}
 use Rattle.sdh_outage_cli.specs.Outages.{PortOutage}
 use Rattle.sdh_outage_cli.specs.Lines.{told_line, ports_text}
-use Rattle.sdh_outage_cli.specs.Ports.{both_shown, shown}
+use Rattle.sdh_outage_cli.specs.Ports.{both_shown, outages_shown}
 use Rattle.sdh_outage_cli.proofs.Told.{shown_more, said_more}
 use Rattle.sdh_outage_cli.proofs.lines.put_ports.Goals as goal
 
@@ -22,7 +22,7 @@ loop-i-preserved c =
     let inv = c.loop-i.invariant in
     let lt : i < length cs = omega (arith, c.loop-i-test.true, c.len-i-end.ensures.len) in
     let at : slice_get items i ≡ Some both = slice_get_read items _ i both refl (omega (arith, lt, c.requires.many)) c.index-both.ensures in
-    let before = shown (take i cs) (take i items) in
+    let before = outages_shown (take i cs) (take i items) in
     let more = shown_more cs items i named both c.get.ensures at in
     let tells = told_line cs in
     let lines = flat_map tells (both_shown named both) in
@@ -46,10 +46,10 @@ returns-clause-bytes c =
     let i = c.loop-i.i in
     let inv = c.loop-i.invariant in
     let start = c.args.text.now.bytes in
-    let all : shown (take i cs) (take i items) ≡ shown cs items =
-    ap₂ shown (take_all i cs (omega (arith, c.loop-i-test.false, c.len-i-end.ensures.len)))
+    let all : outages_shown (take i cs) (take i items) ≡ outages_shown cs items =
+    ap₂ outages_shown (take_all i cs (omega (arith, c.loop-i-test.false, c.len-i-end.ensures.len)))
     (take_all i items (omega (arith, c.loop-i-test.false, c.len-i-end.ensures.len, c.requires.many))) in
-    let ports = shown (take i cs) (take i items) in
+    let ports = outages_shown (take i cs) (take i items) in
     c.put_summary.ensures.bytes ∙ ap₂ (λ l s. l ++ summary_line s) inv.bytes inv.said
     ∙ append_assoc start (flat_map (told_line cs) ports) (summary_line (summary_of (map (λ (p : PortOutage). p.outage) ports)))
     ∙ ap (λ l. start ++ ports_text cs l) all

@@ -8,11 +8,11 @@ use Rattle.sdh_owed.proofs.Steps.{may_new}
 use Rattle.sdh_owed.proofs.Plans.{adm_new}
 use Rattle.sdh_basics.specs.Cells.{cells}
 use Rattle.sdh_plan.specs.Planned.{provisioning_of}
-use Rattle.sdh_outage_cli.specs.Ports.{AreAt, AreReady, ports_in}
+use Rattle.sdh_outage_cli.specs.Ports.{AreAt, AreReady, ports_by_node}
 use Rattle.sdh_outage_cli.specs.Rooms.{ports_at}
 use Rattle.sdh_outage_cli.proofs.Counting.{ports_new}
 use Rattle.sdh_outage_cli.specs.Streams.{AreNear}
-use Rattle.sdh_outage_cli.specs.Running.{MayList, lines_room, running_ring, MayListen}
+use Rattle.sdh_outage_cli.specs.Running.{MayListOutages, outage_lines_room, running_ring, MayListen}
 use Rattle.sdh_outage_cli.specs.Plans.{outage_account}
 use Rattle.sdh_outage_cli.proofs.run.new_run.Goals as goal
 
@@ -36,7 +36,7 @@ returns-clause-ready c =
     let of = is.script_is in
     let circuits = ap (λ (r : HeldRing). r.circuits) is.ring_is in
     let rounds = ap (λ (r : HeldRing). r.rounds) is.ring_is in
-    let listing = subst (λ (p : Provisioning). MayList (length p.circuits) c.args.listing) (sym circuits) c.requires.listing in
+    let listing = subst (λ (p : Provisioning). MayListOutages (length p.circuits) c.args.listing) (sym circuits) c.requires.listing in
     let each_there = ap (λ (p : Provisioning). length p.circuits) (c.circuits-2.ensures ∙ sym circuits) in
     let near = subst (λ n. AreNear c.in_ok-ring.ring.circuits.circuits n c.in_ok-streams.streams.pairs.items) (sym rounds)
     (subst (λ (p : Provisioning). AreNear p.circuits 0 c.in_ok-streams.streams.pairs.items)
@@ -48,9 +48,9 @@ returns-clause-ready c =
       near = near;
     } in
     let cs = (provisioning_of c.args.plan).circuits in
-    let ports : cells (ports_at c.circuits-4.result.now.circuits) c.len-nodes.result ≡ ports_in c.in_ok-ring.ring =
+    let ports : cells (ports_at c.circuits-4.result.now.circuits) c.len-nodes.result ≡ ports_by_node c.in_ok-ring.ring =
     ap (λ (p : Provisioning). cells (ports_at p.circuits) c.len-nodes.result) c.circuits-4.ensures ∙ ap (cells (ports_at cs)) of.nodes
-    ∙ sym (ports_new c.args.plan.settings c.args.plan.nodes cs (length c.args.plan.nodes)) ∙ ap ports_in (sym is.ring_is) in
+    ∙ sym (ports_new c.args.plan.settings c.args.plan.nodes cs (length c.args.plan.nodes)) ∙ ap ports_by_node (sym is.ring_is) in
     may_start_of running_ring outage_account c.args.plan _ is MayListen adm_new
     (λ f. (
       listing,
@@ -62,6 +62,6 @@ pub returns-clause-room : goal.returns-clause-room
 returns-clause-room c =
     let is = returns-clause-is_of c in
     let each =
-    c.lines_room.ensures.room ∙ ap (λ (p : Provisioning). lines_room c.args.listing (length p.circuits))
+    c.lines_room.ensures.room ∙ ap (λ (p : Provisioning). outage_lines_room c.args.listing (length p.circuits))
     (c.circuits.ensures ∙ sym (ap (λ (r : HeldRing). r.circuits) is.ring_is)) in
     subst (λ (k : ℕ). k ≤ c.make_room.new.self.room) (c.script_room.ensures ∙ ap (λ (k : ℕ). room_for k 0) each) c.in_ok-make_room.ensures.room

@@ -2,7 +2,7 @@ use Rattle.std.proofs.Common.{ap, refl, arith, le_refl}
 use Rattle.sdh_report.specs.Written.{Written}
 use Rattle.sdh_shell.specs.Calls.{words_of}
 use Rattle.sdh_shell.specs.Failing.{Counts}
-use Rattle.sdh_shell.specs.Kept.{around}
+use Rattle.sdh_shell.specs.Kept.{seen_around}
 use Rattle.sdh_programs.specs.Calls.{seen_of, never_cut}
 use Rattle.sdh_programs.proofs.AtEnd.{text_shown_by, text_answer_by}
 use Rattle.sdh_programs.proofs.Calls.{answer_tells, memory_writes, wrote_at_end, fault_as, counted_own}
@@ -13,8 +13,8 @@ use Rattle.sdh_programs.proofs.calling.call.Goals as goal
 pub write_ended-requires-clause-shown : goal.write_ended-requires-clause-shown
 write_ended-requires-clause-shown g c =
     let m = g.M.Program in
-    let seen = seen_of (around g.R.Source.faults g.R.Source.exact g.R.Source.left c.args.source.now c.answer.new.source)
-    (around g.P.Plant.faults g.P.Plant.exact g.P.Plant.fibres c.args.plant.now c.answer.new.plant) in
+    let seen = seen_of (seen_around g.R.Source.faults g.R.Source.exact g.R.Source.left c.args.source.now c.answer.new.source)
+    (seen_around g.P.Plant.faults g.P.Plant.exact g.P.Plant.fibres c.args.plant.now c.answer.new.plant) in
     text_shown_by m.program m.cut (m.program.asked (words_of c.args.words.now)) seen c.in-Ok-answer.ending c.in-Ok.text.bytes c.answer.new.output.bytes
     (ap (λ (t : Written). t.bytes) c.in-Ok.ensures) (λ e. let rose = c.in-Ok-answer.ensures.fault e in absurd (omega (arith, rose)))
     c.in-Ok-answer.ensures.answer _ c.endings_agree.ensures
@@ -22,8 +22,8 @@ write_ended-requires-clause-shown g c =
 pub returns-in-Ok-answer-clause-outcome : goal.returns-in-Ok-answer-clause-outcome
 returns-in-Ok-answer-clause-outcome g c =
     let m = g.M.Program in
-    let seen = seen_of (around g.R.Source.faults g.R.Source.exact g.R.Source.left c.args.source.now c.answer.new.source)
-    (around g.P.Plant.faults g.P.Plant.exact g.P.Plant.fibres c.args.plant.now c.answer.new.plant) in
+    let seen = seen_of (seen_around g.R.Source.faults g.R.Source.exact g.R.Source.left c.args.source.now c.answer.new.source)
+    (seen_around g.P.Plant.faults g.P.Plant.exact g.P.Plant.fibres c.args.plant.now c.answer.new.plant) in
     let old = g.W.Sink.written c.args.sink.now in
     let new = g.W.Sink.written c.write_ended.new.output in
     let asked = m.program.asked (words_of c.args.words.now) in
@@ -37,15 +37,15 @@ returns-in-Ok-answer-clause-outcome g c =
 pub returns-in-Ok-answer-clause-kept : goal.returns-in-Ok-answer-clause-kept
 returns-in-Ok-answer-clause-kept g c =
     let m = g.M.Program in
-    let seen = seen_of (around g.R.Source.faults g.R.Source.exact g.R.Source.left c.args.source.now c.answer.new.source)
-    (around g.P.Plant.faults g.P.Plant.exact g.P.Plant.fibres c.args.plant.now c.answer.new.plant) in
+    let seen = seen_of (seen_around g.R.Source.faults g.R.Source.exact g.R.Source.left c.args.source.now c.answer.new.source)
+    (seen_around g.P.Plant.faults g.P.Plant.exact g.P.Plant.fibres c.args.plant.now c.answer.new.plant) in
     let old = g.W.Sink.written c.args.sink.now in
     let new = g.W.Sink.written c.write_ended.new.output in
     let asked = m.program.asked (words_of c.args.words.now) in
     let e = c.in-Ok-answer.ensures in
-    kept_answer m.program never_cut asked (around g.R.Source.faults g.R.Source.exact g.R.Source.left c.args.source.now c.answer.new.source)
-    (around g.W.Sink.faults g.W.Sink.exact g.W.Sink.written c.args.sink.now c.write_ended.new.output)
-    (around g.P.Plant.faults g.P.Plant.exact g.P.Plant.fibres c.args.plant.now c.answer.new.plant) c.write_ended.result
+    kept_answer m.program never_cut asked (seen_around g.R.Source.faults g.R.Source.exact g.R.Source.left c.args.source.now c.answer.new.source)
+    (seen_around g.W.Sink.faults g.W.Sink.exact g.W.Sink.written c.args.sink.now c.write_ended.new.output)
+    (seen_around g.P.Plant.faults g.P.Plant.exact g.P.Plant.fibres c.args.plant.now c.answer.new.plant) c.write_ended.result
     (text_answer_by m.program m.cut asked seen c.in-Ok-answer.ending c.in-Ok.text.bytes c.answer.new.output.bytes
     (ap (λ (t : Written). t.bytes) c.in-Ok.ensures) (λ h. let rose = e.fault h in absurd (omega (arith, rose)))
     e.answer _ c.endings_agree.ensures never_cut c.write_ended.result old new c.write_ended.ensures.wrote)
@@ -71,9 +71,9 @@ returns-in_default-clause-kept g c =
     let sink = c.args.sink.now in
     let plant = c.args.plant.now in
     kept_memory m.program never_cut (m.program.asked (words_of c.args.words.now))
-    (around g.R.Source.faults g.R.Source.exact g.R.Source.left source source)
-    (around g.W.Sink.faults g.W.Sink.exact g.W.Sink.written sink sink)
-    (around g.P.Plant.faults g.P.Plant.exact g.P.Plant.fibres plant plant) c.ending_of.result c.ending_of.ensures refl (λ e. refl) (λ e. refl) refl (λ e. refl) (λ e. refl) (le_refl _) (le_refl _)
+    (seen_around g.R.Source.faults g.R.Source.exact g.R.Source.left source source)
+    (seen_around g.W.Sink.faults g.W.Sink.exact g.W.Sink.written sink sink)
+    (seen_around g.P.Plant.faults g.P.Plant.exact g.P.Plant.fibres plant plant) c.ending_of.result c.ending_of.ensures refl (λ e. refl) (λ e. refl) refl (λ e. refl) (λ e. refl) (le_refl _) (le_refl _)
     (le_refl _)
 
 pub returns-in-Err-clause-outcome : goal.returns-in-Err-clause-outcome
@@ -92,8 +92,8 @@ returns-in-Err-clause-kept g c =
     let m = g.M.Program in
     let sink = c.args.sink.now in
     kept_memory m.program never_cut (m.program.asked (words_of c.args.words.now))
-    (around g.R.Source.faults g.R.Source.exact g.R.Source.left c.args.source.now c.answer.new.source)
-    (around g.W.Sink.faults g.W.Sink.exact g.W.Sink.written sink sink)
-    (around g.P.Plant.faults g.P.Plant.exact g.P.Plant.fibres c.args.plant.now c.answer.new.plant) c.ending_of-in-Err.result
+    (seen_around g.R.Source.faults g.R.Source.exact g.R.Source.left c.args.source.now c.answer.new.source)
+    (seen_around g.W.Sink.faults g.W.Sink.exact g.W.Sink.written sink sink)
+    (seen_around g.P.Plant.faults g.P.Plant.exact g.P.Plant.fibres c.args.plant.now c.answer.new.plant) c.ending_of-in-Err.result
     c.ending_of-in-Err.ensures refl e.without.0 e.without.1 e.unsent e.unread e.alone e.later.0 (le_refl _)
     e.later.2

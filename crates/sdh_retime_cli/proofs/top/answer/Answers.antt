@@ -5,7 +5,7 @@ use Rattle.sdh_retime_cli.specs.declared.status.Status.TheVariants as status
 use Rattle.sdh_shell.specs.Calls.{words_of}
 use Rattle.sdh_shell.specs.Failing.{Counts}
 use Rattle.sdh_retime_cli.specs.Front.{TellsFront, WritesFront}
-use Rattle.sdh_retime_cli.specs.Outcome.{IsOutcome, HasRun, Writes}
+use Rattle.sdh_retime_cli.specs.Outcome.{IsOutcome, HasRun, RetimingWrites}
 use Rattle.sdh_shell.proofs.Told.{told_all}
 use Rattle.sdh_retime_cli.proofs.Endings.{whole, cause_of, usage_is, came_without}
 use Rattle.sdh_retime_cli.proofs.top.answer.Goals as goal
@@ -19,7 +19,7 @@ returns-in-Ok-write_text-clause-outcome g c =
     let new = g.W.Sink.written c.write_text.new.sink in
     let written = subst (λ (text : List ℕ). Appends old new text) c.bytes.ensures c.in-Ok-write_text.ensures.ok in
     told_all (g.R.Source.left c.args.source.now) (λ (bytes : List ℕ). IsOutcome words bytes r.status r.text.bytes)
-    (λ (bytes : List ℕ). Writes words bytes reads r.status old new)
+    (λ (bytes : List ℕ). RetimingWrites words bytes reads r.status old new)
     (λ bytes h. whole words bytes reads r.status r.text.bytes old new (h, cause_of reads r.status c.in-Ok.ensures.fault) written)
     c.in-Ok.ensures.outcome
 
@@ -60,7 +60,7 @@ returns-clause-outcome g c =
     let new = g.W.Sink.written c.write_text.new.sink in
     let written = subst (λ (text : List ℕ). AppendsFewer old new text) c.bytes.ensures c.in-Err.ensures.front in
     told_all (g.R.Source.left c.args.source.now) (λ (bytes : List ℕ). IsOutcome words bytes r.status r.text.bytes)
-    (λ (bytes : List ℕ). Writes words bytes reads status.WriteFault old new)
+    (λ (bytes : List ℕ). RetimingWrites words bytes reads status.WriteFault old new)
     (λ bytes h. (r.status, r.text.bytes, (h, cause_of reads r.status c.in-Ok.ensures.fault), written)) c.in-Ok.ensures.outcome
 
 pub returns-clause-usage_text : goal.returns-clause-usage_text

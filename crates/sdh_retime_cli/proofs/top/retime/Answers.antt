@@ -1,7 +1,7 @@
 use Rattle.std.proofs.Common.{List, ℕ, sym, inl, inr, ◌∙◌}
 use Rattle.sdh_shell.specs.Calls.{words_of}
 use Rattle.sdh_shell.specs.Failing.{Counts}
-use Rattle.sdh_retime_cli.specs.Outcome.{Answers, Writes}
+use Rattle.sdh_retime_cli.specs.Outcome.{Answers, RetimingWrites}
 use Rattle.sdh_shell.proofs.Told.{told_all}
 use Rattle.sdh_retime_cli.proofs.Numbers.{is_drift, has_run}
 use Rattle.sdh_retime_cli.proofs.top.retime.Goals as goal
@@ -12,7 +12,7 @@ returns-clause-outcome g c =
     let reads : Counts = record { before = g.R.Source.faults c.args.source.now; after = g.R.Source.faults c.answer.new.source } in
     let old = g.W.Sink.written c.args.sink.now in
     let new = g.W.Sink.written c.answer.new.sink in
-    told_all (g.R.Source.left c.args.source.now) (λ (bytes : List ℕ). Writes words bytes reads c.answer.result old new)
+    told_all (g.R.Source.left c.args.source.now) (λ (bytes : List ℕ). RetimingWrites words bytes reads c.answer.result old new)
     (λ (bytes : List ℕ). Answers words bytes reads c.number.result old new)
     (λ bytes h. record { status = c.answer.result; numbered = c.number.ensures; writes = h }) c.answer.ensures.outcome
 

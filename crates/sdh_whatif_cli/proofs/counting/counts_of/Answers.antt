@@ -9,7 +9,7 @@ use Rattle.sdh_restoration.proofs.Highest.{highest_step}
 use Rattle.sdh_verdicts.specs.Verdicts.{hops_of}
 use Rattle.sdh_whatif_cli.specs.declared.counting.Counts.{Counts}
 use Rattle.sdh_whatif_cli.specs.declared.counting.Fate.TheVariants.{Kept, Impaired, Over, Lost}
-use Rattle.sdh_whatif_cli.specs.Counting.{same_fate, fate_of, count_of, longest_of}
+use Rattle.sdh_whatif_cli.specs.Counting.{same_fate, fate_of, fate_count, longest_of}
 use Rattle.sdh_whatif_cli.proofs.Parts.{there, count_next}
 use Rattle.sdh_whatif_cli.proofs.counting.counts_of.Goals as goal
 
@@ -65,18 +65,18 @@ returns c = λ case are. (
     let of : ℕ → ℕ → ℕ → ℕ → ℕ → Counts =
     λ k i o l h. record { kept = k; impaired = i; over = o; lost = l; hops = h } in
     let was = c.loop-i.counts in
-    let kept : was.kept ≡ count_of plan case Kept =
+    let kept : was.kept ≡ fate_count plan case Kept =
     c.loop-i.invariant.kept case are ∙ ap (count_by (λ k. same_fate Kept (fate_of plan case k))) all in
-    let impaired : was.impaired ≡ count_of plan case Impaired =
+    let impaired : was.impaired ≡ fate_count plan case Impaired =
     c.loop-i.invariant.impaired case are ∙ ap (count_by (λ k. same_fate Impaired (fate_of plan case k))) all in
-    let over : was.over ≡ count_of plan case Over =
+    let over : was.over ≡ fate_count plan case Over =
     c.loop-i.invariant.over case are ∙ ap (count_by (λ k. same_fate Over (fate_of plan case k))) all in
-    let lost : was.lost ≡ count_of plan case Lost =
+    let lost : was.lost ≡ fate_count plan case Lost =
     c.loop-i.invariant.lost case are ∙ ap (count_by (λ k. same_fate Lost (fate_of plan case k))) all in
     let hops : was.hops ≡ longest_of plan case =
     c.loop-i.invariant.hops case are ∙ ap (λ (cs : List Provisioned). highest (map (hops_of plan case) cs)) all in
     ap (λ x. of x was.impaired was.over was.lost was.hops) kept
-    ∙ ap (λ x. of (count_of plan case Kept) x was.over was.lost was.hops) impaired
-    ∙ ap (λ x. of (count_of plan case Kept) (count_of plan case Impaired) x was.lost was.hops) over
-    ∙ ap (λ x. of (count_of plan case Kept) (count_of plan case Impaired) (count_of plan case Over) x was.hops) lost
-    ∙ ap (of (count_of plan case Kept) (count_of plan case Impaired) (count_of plan case Over) (count_of plan case Lost)) hops)
+    ∙ ap (λ x. of (fate_count plan case Kept) x was.over was.lost was.hops) impaired
+    ∙ ap (λ x. of (fate_count plan case Kept) (fate_count plan case Impaired) x was.lost was.hops) over
+    ∙ ap (λ x. of (fate_count plan case Kept) (fate_count plan case Impaired) (fate_count plan case Over) x was.hops) lost
+    ∙ ap (of (fate_count plan case Kept) (fate_count plan case Impaired) (fate_count plan case Over) (fate_count plan case Lost)) hops)

@@ -4,7 +4,7 @@ use Rattle.sdh_verdicts.specs.declared.failure.Failure.{Failure}
 use Rattle.sdh_verdicts.specs.Failures.{IsFailureIn}
 use Rattle.sdh_whatif_cli.specs.declared.counting.Counts.{Counts}
 use Rattle.sdh_whatif_cli.specs.declared.counting.Fate.TheVariants.{Lost}
-use Rattle.sdh_whatif_cli.specs.Counting.{AreSpansOf, count_of}
+use Rattle.sdh_whatif_cli.specs.Counting.{AreSpansOf, fate_count}
 use Rattle.sdh_whatif_cli.specs.Singles.{with_case, own_tally}
 use Rattle.sdh_whatif_cli.proofs.Named.{own_within}
 use Rattle.sdh_whatif_cli.proofs.Parts.{sides_long}
@@ -55,12 +55,12 @@ loop-k-preserved c =
       applied = c.spans-spans.ensures.applied plan c.requires.scene.sides;
       troubled = c.spans-spans.ensures.troubled plan c.requires.scene.sides;
     } in
-    let lost : c.counts_of.result.lost ≡ count_of plan (get_or own k []) Lost =
+    let lost : c.counts_of.result.lost ≡ fate_count plan (get_or own k []) Lost =
     ap (λ (x : Counts). x.lost) (c.counts_of.ensures c.list.result.now are)
-    ∙ ap (λ (fs : List Failure). count_of plan fs Lost) c.list.ensures in
+    ∙ ap (λ (fs : List Failure). fate_count plan fs Lost) c.list.ensures in
     record {
       is = c.with_case-tally.ensures ∙ ap (λ x. with_case x c.loop-k.tally) lost
-          ∙ ap (with_case (count_of plan (get_or own k []) Lost)) c.loop-k.invariant.is ∙ ap (own_tally plan own) next;
+          ∙ ap (with_case (fate_count plan (get_or own k []) Lost)) c.loop-k.invariant.is ∙ ap (own_tally plan own) next;
       cases = omega (arith, ap (λ t. t.cases) c.with_case-tally.ensures, c.loop-k.invariant.cases);
       losing = omega (arith, ap (λ t. t.losing) c.with_case-tally.ensures, c.loop-k.invariant.losing, one_more (c.counts_of.result.lost == 0));
     }

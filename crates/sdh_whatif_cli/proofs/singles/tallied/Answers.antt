@@ -5,7 +5,7 @@ use Rattle.sdh_whatif_cli.specs.declared.counting.Counts.{Counts}
 use Rattle.sdh_whatif_cli.specs.declared.counting.Fate.TheVariants.{Lost}
 use Rattle.sdh_verdicts.specs.Failures.{failure_at}
 use Rattle.sdh_verdicts.specs.Verdicts.{mends}
-use Rattle.sdh_whatif_cli.specs.Counting.{AreSpansOf, count_of}
+use Rattle.sdh_whatif_cli.specs.Counting.{AreSpansOf, fate_count}
 use Rattle.sdh_whatif_cli.specs.Singles.{with_case, lost_by}
 use Rattle.sdh_whatif_cli.proofs.Parts.{sides_long}
 use Rattle.sdh_whatif_cli.proofs.singles.tallied.Goals as goal
@@ -41,7 +41,7 @@ returns-clause-is c =
     } in
     let lost : c.counts_of.result.lost ≡ lost_by plan number =
     ap (λ (k : Counts). k.lost) (c.counts_of.ensures (c.failure_at-failure.result ∷ []) are)
-    ∙ ap (λ (f : Failure). count_of plan (f ∷ []) Lost) failure in
+    ∙ ap (λ (f : Failure). fate_count plan (f ∷ []) Lost) failure in
     let told : mends plan (failure_at (length plan.nodes) number) ≡ false =
     ap (mends plan) (sym failure) ∙ sym (c.mends.ensures plan c.requires.sides) ∙ c.if-mends.false in
     c.with_case.ensures ∙ ap (λ k. with_case k t) lost ∙ ap (λ b. if b then t else with_case (lost_by plan number) t) (sym told)

@@ -3,7 +3,7 @@ use Rattle.std.specs.Prelude.{Option}
 use Rattle.std.specs.Option.{option_map_or}
 use Rattle.sdh_whatif_cli.specs.declared.forms.Digits.{Digits}
 use Rattle.sdh_whatif_cli.specs.declared.forms.Entry.{Entry}
-use Rattle.sdh_whatif_cli.specs.Cases.{base, base_of, digits_of, digits_at, numbers_of, failures_of, are_told, is_told, entry_of, entry_at}
+use Rattle.sdh_whatif_cli.specs.Cases.{base, base_of, digits_of, digits_at, case_numbers, failures_of, are_told, is_told, entry_of, entry_at}
 use Rattle.sdh_whatif_cli.specs.Lines.{line_text, line_at, lines_below}
 use Rattle.sdh_whatif_cli.proofs.Parts.{sides_long}
 use Rattle.sdh_whatif_cli.proofs.Below.{below_next, rest_of, told_next, few_next, byte_low}
@@ -34,11 +34,11 @@ returns-in-Err g c =
     let own = c.args.scene.now.own.now in
     let ask = c.args.ask in
     let k = c.loop-number.number in
-    let m = numbers_of (base_of plan own) ask.depth in
+    let m = case_numbers (base_of plan own) ask.depth in
     let nodes : c.len-nodes.result ≡ length plan.nodes = c.len-nodes.ensures.len ∙ ap (λ (l : List ℕ). length l) c.map.ensures in
     let counts : c.base-base.result ≡ base_of plan own =
     c.base-base.ensures.is ∙ ap (λ n. base n c.len.result) nodes ∙ ap (base (length plan.nodes)) c.len.ensures in
-    let size : c.numbers_of-number-end.result ≡ m = c.numbers_of-number-end.ensures ∙ ap (λ b. numbers_of b ask.depth) counts in
+    let size : c.numbers_of-number-end.result ≡ m = c.numbers_of-number-end.ensures ∙ ap (λ b. case_numbers b ask.depth) counts in
     let digits : c.digits_of-digits.result ≡ digits_at plan own k = c.digits_of-digits.ensures.is ∙ ap (λ b. digits_of b k) counts in
     let told : c.are_told-told.result ≡ is_told plan own ask k =
     c.are_told-told.ensures plan c.requires.scene.sides ∙ ap (are_told plan ask) digits in

@@ -3,7 +3,7 @@ use Rattle.sdh_shell.specs.Calls.{words_of}
 use Rattle.sdh_shell.proofs.Failing.{not_err}
 use Rattle.sdh_shell.proofs.Told.{told_all}
 use Rattle.sdh_whatif_cli.specs.Words.{own_texts}
-use Rattle.sdh_whatif_cli.specs.Outcome.{of_unknown, of_plan, OfBytes}
+use Rattle.sdh_whatif_cli.specs.Outcome.{of_unknown, of_plan, CasesOfBytes}
 use Rattle.sdh_whatif_cli.proofs.Told.{ok_three, no_fault}
 use Rattle.sdh_whatif_cli.proofs.Unknown.{known_of}
 use Rattle.sdh_whatif_cli.proofs.top.answer_ask.Goals as goal
@@ -19,7 +19,7 @@ returns-in-Ok-clause-ended g c =
     let no = no_fault x.status own in
     record {
       text = (of_plan plan texts ask).1;
-      outcome = told_all left _ (λ (bytes : List ℕ). OfBytes ask texts bytes x.status (of_plan plan texts ask).1)
+      outcome = told_all left _ (λ (bytes : List ℕ). CasesOfBytes ask texts bytes x.status (of_plan plan texts ask).1)
           (λ bytes tells. inr (plan, tells, is, refl)) c.in-Ok.ensures.plan;
       wrote = wrote;
       fault = λ e. absurd (no.read e);

@@ -9,7 +9,7 @@ use Rattle.sdh_owed.proofs.Standing.{long_step}
 use Rattle.sdh_owed.proofs.Steps.{settled_held, settled_whole, next_by}
 use Rattle.sdh_aps_cli.specs.Recording.{IsCut}
 use Rattle.sdh_aps_cli.proofs.Rounds.{recorded_none}
-use Rattle.sdh_aps_cli.specs.Signalled.{changes_in}
+use Rattle.sdh_aps_cli.specs.Signalled.{changes_shown_in}
 use Rattle.sdh_aps_cli.specs.Listing.{changes_text, begun_text, ended_text}
 use Rattle.sdh_aps_cli.proofs.Steps.{on_ok_is, ids_at, not_ended, cut_some, wrote_step, cut_line, ready_as}
 use Rattle.sdh_aps_cli.proofs.script.SignalRunTeller.settle.Goals as goal
@@ -50,7 +50,7 @@ returns-in_err-ended-clause-begun g c =
     let p = err_from_is_err_and c.from_residual.result c.from_residual.ensures.1 in
     rw (p.1, p.2) (not_ended w left c.args.limit (c.args.number + 1) (ended_text listing) (begun_text listing) old new _
     c.in_err-ended.field-0.0 c.in-Ok.ended c.in_err-ended.was c.in-Ok.ensures.unsettled c.in-Ok.ensures.begun
-    (λ at k x. subst (λ l. Appends old new (changes_text l (changes_in k at))) c.begin.ensures.listing x.1.written))
+    (λ at k x. subst (λ l. Appends old new (changes_text l (changes_shown_in k at))) c.begin.ensures.listing x.1.written))
 
 pub end-requires-clause-room : goal.end-requires-clause-room
 end-requires-clause-room g c =

@@ -4,7 +4,7 @@ use Rattle.sdh_node.specs.Stations.{adm}
 use Rattle.sdh_node.specs.Rings.Held.{HeldRing}
 use Rattle.sdh_node.specs.Rings.Rounds.{world}
 use Rattle.sdh_scripts.proofs.Reporting.{ended_by}
-use Rattle.sdh_owed.specs.Steps.{after_step}
+use Rattle.sdh_owed.specs.Steps.{world_after_step}
 use Rattle.sdh_owed.specs.Reports.{report_of}
 use Rattle.sdh_owed.proofs.Standing.{long_step}
 use Rattle.sdh_cli.specs.Room.{report_room, MayList}
@@ -34,7 +34,7 @@ put_report-requires-clause-room g c =
 pub returns-clause-ok : goal.returns-clause-ok
 returns-clause-ok g c = record {
   told = report_of (c.args.number + 1) c.settle.new.self;
-  ended = ended_by adm after_step report_of _ c.args.limit (c.args.number + 1) _ c.in_ok-settle.ensures.step.outcome;
+  ended = ended_by adm world_after_step report_of _ c.args.limit (c.args.number + 1) _ c.in_ok-settle.ensures.step.outcome;
   text = c.put_report.ensures.bytes;
 }
 

@@ -5,7 +5,7 @@ use Rattle.sdh_pointer.specs.Reading.{action_on, after_word}
 use Rattle.sdh_elastic.specs.contracts.store.Elastic.{the_view}
 use Rattle.sdh_elastic.specs.Turns.{given, is_held, value_after, word_for}
 use Rattle.sdh_elastic.specs.Lengths.{keeps_steady}
-use Rattle.sdh_elastic.specs.Store.{Store, action_at, action_in, stage_after, fill_after, reading_in}
+use Rattle.sdh_elastic.specs.Store.{Store, action_at, stage_action, stage_after, fill_after, reading_in}
 use Rattle.sdh_elastic.proofs.Near.{not_held_below, not_held_above, bounded_after, no_drift, is_held_by}
 use Rattle.sdh_elastic.proofs.Course.{goes_on, steady_now, drift_of_history}
 use Rattle.sdh_elastic.proofs.Heard.{turn_is_heard}
@@ -20,7 +20,7 @@ take_and_give-requires c =
 
 -- what the turn does
 acts : (c : goal.After-self-1) → c.action-action.result ≡ action_at (the_view c.self.inside)
-acts c = c.action-action.ensures ∙ ap (action_in c.self.inside.course.stage) c.len.ensures
+acts c = c.action-action.ensures ∙ ap (stage_action c.self.inside.course.stage) c.len.ensures
 
 turned : (c : goal.After-self-1)
     → IsTurn (the_view c.self.inside) c.args.input.now c.action-action.result c.take_and_give.new.out
@@ -71,7 +71,7 @@ returns-clause-heard c =
 
 -- what it would have done, and the fill after that
 would_act : (c : goal.Joined-then-fill-lt-LEAST) → c.action-action.result ≡ action_at (the_view c.self.inside)
-would_act c = c.action-action.ensures ∙ ap (action_in c.self.inside.course.stage) c.len.ensures
+would_act c = c.action-action.ensures ∙ ap (stage_action c.self.inside.course.stage) c.len.ensures
 
 would_be : (c : goal.Joined-then-fill-lt-LEAST) → c.saturating_sub-fill.result
     ≡ fill_after (the_view c.self.inside) (length c.args.input.now)

@@ -2,7 +2,7 @@ use Rattle.std.proofs.Common.{length, ap, sym, subst, ◌∙◌}
 use Rattle.std.specs.Prelude.{slice_get}
 use Rattle.sdh_outage_cli.specs.Streams.{AreEarly}
 use Rattle.sdh_node.specs.Rings.Held.{HeldRing}
-use Rattle.sdh_outage_cli.specs.Ports.{ports_in}
+use Rattle.sdh_outage_cli.specs.Ports.{ports_by_node}
 use Rattle.sdh_outage_cli.proofs.Counting.{ports_ran}
 use Rattle.sdh_outage_cli.proofs.Listening.{many_more, near_many, few_heard, few_near, listening_more}
 use Rattle.sdh_outage_cli.proofs.listeners.ListenersObserverRunning.look.Goals as goal
@@ -35,7 +35,7 @@ returns c = λ at k ran heard. (
       listening_more at k c.args.ring.now c.args.self.now.items.items c.look_all.new.items.items c.args.self.now.streams.pairs.items
       c.step_all.new.streams.pairs.items heard.0 ran c.look_all.ensures.many c.look_all.ensures.each (c.step_all.ensures.many ∙ ap length same)
       (λ i before after was here. c.step_all.ensures.each i before after (ap (λ l. slice_get l i) same ∙ was) here),
-  c.look_all.ensures.rooms ∙ heard.1 ∙ ports_ran at k c.args.ring.now ran ∙ ap (λ (v : HeldRing). ports_in v) ran.ring_is,
+  c.look_all.ensures.rooms ∙ heard.1 ∙ ports_ran at k c.args.ring.now ran ∙ ap (λ (v : HeldRing). ports_by_node v) ran.ring_is,
 )
 
 pub look_all-requires-clause-rooms : goal.look_all-requires-clause-rooms

@@ -8,11 +8,11 @@ use Rattle.sdh_owed.proofs.Standing.{long_step}
 use Rattle.sdh_owed.proofs.Steps.{settled_held, settled_whole}
 use Rattle.sdh_outage_cli.specs.Outages.{outaged_in}
 use Rattle.sdh_outage_cli.specs.Scripts.{outage_walk}
-use Rattle.sdh_outage_cli.specs.Running.{MayList, lines_room}
+use Rattle.sdh_outage_cli.specs.Running.{MayListOutages, outage_lines_room}
 use Rattle.sdh_outage_cli.proofs.Listening.{listening_none}
-use Rattle.sdh_outage_cli.specs.Ports.{ports_in}
+use Rattle.sdh_outage_cli.specs.Ports.{ports_by_node}
 use Rattle.sdh_outage_cli.proofs.Steps.{listens_only, rooms_left, few_before, many_then, listed_is, heard_next}
-use Rattle.sdh_outage_cli.specs.Lines.{listed}
+use Rattle.sdh_outage_cli.specs.Lines.{outages_listed}
 use Rattle.std.proofs.lemmas.Result.{err_from_is_err_and}
 use Rattle.sdh_shell.proofs.Failing.{counted_as}
 use Rattle.sdh_scripts.proofs.Tellers.{stops_by, silent_begun, ends_by, none_written, fault_on, fault_back}
@@ -26,7 +26,7 @@ settle_with-requires-clause-ready g c = λ at is. (
   listening_none c.args.self.now.ring c.args.self.now.listeners.items.items c.begin_all.new.items.items
       c.args.self.now.listeners.streams.pairs.items
       (few_before c.args.number _ _ _ c.requires.may.1.1.ring_may) c.requires.may.1.1.ready c.begin_all.ensures.many c.begin_all.ensures.each at (ap (λ (v : World). v.ring) (sym is)),
-  c.requires.may.1.2 ∙ ap (λ (v : World). ports_in v.ring) (sym is),
+  c.requires.may.1.2 ∙ ap (λ (v : World). ports_by_node v.ring) (sym is),
 )
 
 pub put_step-requires-clause-many : goal.put_step-requires-clause-many
@@ -34,13 +34,13 @@ put_step-requires-clause-many g c = many_then _ _ c.args.limit c.settle_with.new
 
 pub put_step-requires-clause-listing : goal.put_step-requires-clause-listing
 put_step-requires-clause-listing g c =
-    subst (λ (r : HeldRing). MayList (length r.circuits.circuits) c.args.self.now.listing)
+    subst (λ (r : HeldRing). MayListOutages (length r.circuits.circuits) c.args.self.now.listing)
     (sym (settled_held _ _ c.args.limit c.in_ok-settle_with.ensures.step.outcome)) c.requires.may.1.0
 
 pub put_step-requires-clause-room : goal.put_step-requires-clause-room
 put_step-requires-clause-room g c =
     let same =
-    ap (λ (x : HeldRing). lines_room c.args.self.now.listing (length x.circuits.circuits))
+    ap (λ (x : HeldRing). outage_lines_room c.args.self.now.listing (length x.circuits.circuits))
     (settled_held _ _ c.args.limit c.in_ok-settle_with.ensures.step.outcome) in
     omega (arith, same, c.requires.room)
 
@@ -67,7 +67,7 @@ returns-clause-next g c later may =
     let s = c.in_ok-settle_with.ensures.step.outcome in
     let long = long_step w.ring left.ring c.args.limit may.1.ring_may.begins c.in_ok-settle_with.ensures.step.numbers in
     let none = λ (port : PortId). c.in_ok-settle_with.ensures.laws.slips port (omega (arith, long.1)) in (
-      subst (λ (r : HeldRing). MayList (length r.circuits.circuits) c.args.self.now.listing)
+      subst (λ (r : HeldRing). MayListOutages (length r.circuits.circuits) c.args.self.now.listing)
           (sym (settled_held w left c.args.limit s)) may.0,
       heard_next w left c.args.limit c.settle_with.new.listeners.items.items c.settle_with.new.listeners.streams.pairs.items (listens_only c.in_ok-settle_with.ensures.heard) c.args.number c.args.self.now.listeners.items.items c.args.self.now.listeners.streams.pairs.items c.requires.few long.0 none
           (c.in_ok-settle_with.ensures.step.prepared (settled_whole w left c.args.limit s may.1.ring_may.whole)) later may.1,
@@ -77,13 +77,13 @@ returns-clause-next g c later may =
 pub returns-clause-room : goal.returns-clause-room
 returns-clause-room g c more takes =
     let same =
-    ap (λ (x : HeldRing). lines_room c.args.self.now.listing (length x.circuits.circuits))
+    ap (λ (x : HeldRing). outage_lines_room c.args.self.now.listing (length x.circuits.circuits))
     (settled_held _ _ c.args.limit c.in_ok-settle_with.ensures.step.outcome) in
     omega (arith, same, takes, c.put_step.ensures.room)
 
 pub returns-clause-same_room : goal.returns-clause-same_room
 returns-clause-same_room g c =
-    ap (λ (x : HeldRing). lines_room c.args.self.now.listing (length x.circuits.circuits))
+    ap (λ (x : HeldRing). outage_lines_room c.args.self.now.listing (length x.circuits.circuits))
     (settled_held _ _ c.args.limit c.in_ok-settle_with.ensures.step.outcome)
 
 -- ---- the settle step didn't end: the text is as it was
@@ -106,7 +106,7 @@ returns-in_err-settle_with-clause-begun g c =
     let why = c.in_err-settle_with.field-0.0 in
     let ends = ends_by outage_walk c.args.limit (c.args.number + 1) w left why c.in_err-settle_with.ensures.step.outcome in
     let p = err_from_is_err_and c.from_residual.result c.from_residual.ensures.1 in
-    rw (p.1, p.2) (silent_begun outage_walk c.args.limit (c.args.number + 1) w left (listed c.args.self.now.listing) c.args.output.now.bytes why ends)
+    rw (p.1, p.2) (silent_begun outage_walk c.args.limit (c.args.number + 1) w left (outages_listed c.args.self.now.listing) c.args.output.now.bytes why ends)
 
 pub returns-in_err-settle_with-clause-cut : goal.returns-in_err-settle_with-clause-cut
 returns-in_err-settle_with-clause-cut g c =

@@ -1,6 +1,6 @@
 use Rattle.std.proofs.Common.{◌+◌, ◌-◌, ◌/◌, ◌≤◌, length, ap, sym, ◌∙◌, subst, arith}
 use Rattle.sdh_report.specs.Written.{Written}
-use Rattle.sdh_elastic.specs.Store.{CameBy}
+use Rattle.sdh_elastic.specs.Store.{StoreCameBy}
 use Rattle.sdh_retime_cli.specs.Lines.{lines_of}
 use Rattle.sdh_retime_cli.proofs.Short.{left_line_short, drift_line_short}
 use Rattle.sdh_retime_cli.proofs.Cut.{no_chunks, no_offset}
@@ -14,7 +14,7 @@ loop-at-init c =
       at = sym (no_offset c.args.digits.now);
       within = omega arith;
       whole = omega arith;
-      came = subst (λ past. CameBy 0 past c.args.self.now.store) none c.requires.came;
+      came = subst (λ past. StoreCameBy 0 past c.args.self.now.store) none c.requires.came;
       reads = c.requires.reads;
       lines = c.requires.empty ∙ ap lines_of none;
       room = omega (arith, c.requires.room);

@@ -1,5 +1,5 @@
 use Rattle.std.proofs.Common.{◌≡◌, ◌+◌, ◌-◌, ◌*◌, ◌/◌, ◌≤◌, length}
-use Rattle.sdh_elastic.specs.Store.{reading_of, CameBy}
+use Rattle.sdh_elastic.specs.Store.{reading_of, StoreCameBy}
 use Rattle.sdh_retime_cli.specs.Digits.{offset_at, chunks}
 use Rattle.sdh_retime_cli.specs.Lines.{lines_of}
 use Rattle.sdh_retime_cli.proofs.retiming.Retiming.take_all.Given as goal
@@ -9,7 +9,7 @@ invariant-loop-at l = record {
   at : l.at ≡ offset_at l.digits l.taken;
   within : l.at ≤ length l.bytes;
   whole : 2346 * l.taken ≤ l.at;
-  came : CameBy 0 (chunks l.digits l.bytes l.taken) l.self.store;
+  came : StoreCameBy 0 (chunks l.digits l.bytes l.taken) l.self.store;
   reads : l.self.interp.reading ≡ reading_of l.self.store;
   lines : l.text.bytes ≡ lines_of (chunks l.digits l.bytes l.taken);
   room : 4801 * (length l.bytes / 2346) + 96 ≤ l.text.room + 4801 * l.taken;

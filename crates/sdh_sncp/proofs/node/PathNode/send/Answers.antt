@@ -3,7 +3,7 @@ use Rattle.std.specs.Prelude.{All, ◌^◌}
 use Rattle.sdh_ringmap.specs.Rates.{n_of}
 use Rattle.sdh_terminal.specs.Tributaries.{IsTributary}
 use Rattle.sdh_terminal.proofs.Ports.{few_rounds, fed_are}
-use Rattle.sdh_sncp.specs.Node.{PathNode, node_round, GoesOn}
+use Rattle.sdh_sncp.specs.Node.{PathNode, path_node_round, GoesOn}
 use Rattle.sdh_sncp.proofs.Turning.{west_frame_is, east_frame_is, calm_is, node_is, round_goes_on}
 use Rattle.sdh_sncp.proofs.node.PathNode.send.Goals as goal
 
@@ -33,14 +33,14 @@ returns-clause-west c =
     let i = c.self.inside in
     west_frame_is i.threshold i.rounds i.cross i.ports i.west_out i.east_out i.calm c.take-taken.new.self c.feed.new.self c.take-taken.ensures.cross c.feed.ensures
     c.send_both-west_made.new.west_out c.send_both-west_made.ensures.west_frame
-    ∙ ap (λ (n : PathNode). (node_round n).1.west) c.self.view_is
+    ∙ ap (λ (n : PathNode). (path_node_round n).1.west) c.self.view_is
 
 pub returns-clause-east : goal.returns-clause-east
 returns-clause-east c =
     let i = c.self.inside in
     east_frame_is i.threshold i.rounds i.cross i.ports i.west_out i.east_out i.calm c.take-taken.new.self c.feed.new.self c.take-taken.ensures.cross c.feed.ensures
     c.send_both-west_made.new.east_out c.send_both-west_made.ensures.east_frame
-    ∙ ap (λ (n : PathNode). (node_round n).1.east) c.self.view_is
+    ∙ ap (λ (n : PathNode). (path_node_round n).1.east) c.self.view_is
 
 pub returns-clause-node : goal.returns-clause-node
 returns-clause-node c =
@@ -53,7 +53,7 @@ returns-clause-node c =
     node_is i.threshold i.rounds i.cross i.ports i.west_out i.east_out i.calm c.take-taken.new.self c.feed.new.self c.take-taken.ensures.cross c.feed.ensures
     c.send_both-west_made.new.west c.send_both-west_made.new.east c.send_both-west_made.ensures.west c.send_both-west_made.ensures.east
     c.is_calm-calm.result told
-    ∙ ap (λ (n : PathNode). (node_round n).0) c.self.view_is
+    ∙ ap (λ (n : PathNode). (path_node_round n).0) c.self.view_is
 
 pub returns-clause-goes_on : goal.returns-clause-goes_on
 returns-clause-goes_on c = subst (GoesOn c.args.self.now) (sym (returns-clause-node c)) (round_goes_on c.args.self.now)

@@ -5,7 +5,7 @@ use Rattle.sdh_ringmap.specs.declared.Side.TheVariants.{West, East}
 use Rattle.sdh_nodestate.specs.Words.{first_word}
 use Rattle.sdh_terminal.specs.Sending.{Sending, new_sending}
 use Rattle.sdh_terminal.specs.Tributaries.{IsTributary}
-use Rattle.sdh_sncp.specs.Node.{PathCross, new_cross, new_node}
+use Rattle.sdh_sncp.specs.Node.{PathCross, new_path_cross, new_path_node}
 use Rattle.sdh_sncp.proofs.Turning.{node_of}
 use Rattle.sdh_sncp.proofs.Waiting.{delivers, new_waits}
 use Rattle.sdh_sncp.proofs.node.PathNode.try_new.Goals as goal
@@ -23,7 +23,7 @@ invariant_of-result c =
     }
 
 pub returns : goal.returns
-unfolding new_node
+unfolding new_path_node
 returns c =
     let s = c.args.settings in
     let ids = c.args.map.now in
@@ -33,5 +33,5 @@ returns c =
     let west = c.in_ok-try_new-2.ensures ∙ ap (new_sending s.rate) c.first_word-west.ensures.word in
     let east = c.in_ok-try_new-3.ensures ∙ ap (new_sending s.rate) c.first_word-east.ensures.word in
     (λ j. node_of s.threshold 0 (cross j) (delivers (cross j) (ports j)) (west j) (east j) false)
-    ∙ (λ j. node_of s.threshold 0 (new_cross s.rate circuits c.args.at) (new_waits s.rate circuits c.args.at j)
+    ∙ (λ j. node_of s.threshold 0 (new_path_cross s.rate circuits c.args.at) (new_waits s.rate circuits c.args.at j)
     (new_sending s.rate (first_word ids c.args.at.0 West)) (new_sending s.rate (first_word ids c.args.at.0 East)) false)

@@ -6,8 +6,8 @@ use Rattle.sdh_terminal.specs.Tributaries.{outlets_of}
 use Rattle.sdh_sncp.specs.Node.{PathNode}
 use Rattle.sdh_sncp.specs.Stations.{path_node}
 use Rattle.sdh_sncp.specs.Ring.{HeldPath, world}
-use Rattle.sdh_sncp.specs.Placed.{IsPlacedRing}
-use Rattle.sdh_sncp.specs.Fixed.{Fixed, fixed}
+use Rattle.sdh_sncp.specs.Placed.{IsPlacedPathRing}
+use Rattle.sdh_sncp.specs.Fixed.{FixedPath, fixed_path}
 use Rattle.sdh_sncp.proofs.Rings.{may_receive, may_send, ring_after}
 use Rattle.sdh_sncp.proofs.Keeping.{fixed_told, fixed_next, ports_fixed}
 use Rattle.sdh_sncp.proofs.Wholes.{whole_after}
@@ -25,10 +25,10 @@ pub take-requires : goal.take-requires
 take-requires g c =
     let w = world c.self.inside.ring (g.P.Plant.fibres c.args.plant.now) in
     let left = world c.round-result.new.self (g.P.Plant.fibres c.round-result.new.plant) in
-    may_take (λ (n : PathNode). outlets_of n.ports) fixed (λ (f : Fixed). length f.ports) ports_fixed
+    may_take (λ (n : PathNode). outlets_of n.ports) fixed_path (λ (f : FixedPath). length f.ports) ports_fixed
     c.self.inside.deliveries c.self.inside.ring.nodes c.nodes_of.result.now c.self.invariant.delivered
-    (ap (map fixed) c.nodes_of.ensures
-    ∙ keeps_one path_node fixed fixed_told (λ _. fixed_next) g.P.Plant.exact w left c.round-result.result _ _
+    (ap (map fixed_path) c.nodes_of.ensures
+    ∙ keeps_one path_node fixed_path fixed_told (λ _. fixed_next) g.P.Plant.exact w left c.round-result.result _ _
     c.round-result.ensures)
 
 pub invariant_of-self : goal.invariant_of-self
@@ -45,7 +45,7 @@ returns g c =
     subst (λ (r : HeldPath). IsOneRound path_node g.P.Plant.exact (world r f) c.round-result.result
     (world c.round-result.new.self (g.P.Plant.fibres c.round-result.new.plant)) (g.P.Plant.faults c.args.plant.now)
     (g.P.Plant.faults c.round-result.new.plant)) c.self.view_is c.round-result.ensures in
-    let placed = subst IsPlacedRing c.self.view_is
+    let placed = subst IsPlacedPathRing c.self.view_is
     (c.self.invariant.ring.placed (ap (λ (r : HeldPath). r.broken) c.self.view_is ∙ c.requires.whole)) in
     record {
       ok = one.ok;

@@ -5,7 +5,7 @@ use Rattle.sdh_terminal.specs.Tributaries.{outlets_of}
 use Rattle.sdh_sncp.specs.Node.{PathNode}
 use Rattle.sdh_sncp.specs.Ring.{HeldPath, world, outlet_at}
 use Rattle.sdh_sncp.specs.Fixed.{AreAlone, IsRing}
-use Rattle.sdh_sncp.specs.Laws.{IsPaired}
+use Rattle.sdh_sncp.specs.Laws.{IsPairedPathRing}
 use Rattle.sdh_sncp.proofs.Rings.{fresh_is, new_is_ring}
 use Rattle.sdh_sncp.proofs.ring.PathRing.try_new.Goals as goal
 
@@ -21,7 +21,7 @@ invariant_of-result c =
 
 pub returns-clause-paired : goal.returns-clause-paired
 returns-clause-paired c = λ f honest.
-    subst (λ (r : HeldPath). IsPaired (world r (prepared c.args.settings.rate (length c.args.map) f)))
+    subst (λ (r : HeldPath). IsPairedPathRing (world r (prepared c.args.settings.rate (length c.args.map) f)))
     (sym (c.in_ok-ring.ensures ∙ fresh_is c.args.settings c.args.map c.args.circuits))
     (c.new_worlds_are_whole.ensures c.args.settings c.args.map c.args.circuits f c.len.ensures.ids honest).paired
 

@@ -2,7 +2,7 @@ use Rattle.std.proofs.Common.{◌+◌, arith}
 use Rattle.sdh_sncp.specs.Ring.{world}
 use Rattle.sdh_sncp.specs.Stations.{path_node}
 use Rattle.sdh_scripts.proofs.Reporting.{ended_by}
-use Rattle.sdh_sncp_cli.specs.Reports.{report_of}
+use Rattle.sdh_sncp_cli.specs.Reports.{path_ring_report}
 use Rattle.sdh_sncp_cli.specs.Walking.{does}
 use Rattle.sdh_sncp_cli.proofs.Stepping.{settled_whole, settled_room, settled_next}
 use Rattle.sdh_sncp_cli.specs.Walking.{path_walk}
@@ -17,8 +17,8 @@ put_report-requires-clause-room g c = omega (arith, settled_room _ _ c.args.limi
 
 pub returns-clause-ok : goal.returns-clause-ok
 returns-clause-ok g c = record {
-  told = report_of (c.args.number + 1) c.settle.new.self;
-  ended = ended_by path_node does report_of _ c.args.limit (c.args.number + 1) _ c.in_ok-settle.ensures.step.outcome;
+  told = path_ring_report (c.args.number + 1) c.settle.new.self;
+  ended = ended_by path_node does path_ring_report _ c.args.limit (c.args.number + 1) _ c.in_ok-settle.ensures.step.outcome;
   text = c.put_report.ensures.bytes;
 }
 
