@@ -11,6 +11,7 @@ use Rattle.sdh_parity.specs.Pieces.{Running}
 use Rattle.sdh_parity.specs.Violations.{differing_bits, violations_of}
 use Rattle.sdh_overhead.specs.Overhead.{Added, with_overhead}
 use Rattle.sdh_overhead.specs.declared.Received.{Received}
+use Rattle.sdh_overhead.specs.declared.rows.Rows.{Rows}
 use Rattle.sdh_overhead.specs.declared.Received.TheVariants.{Framed, Unframed}
 
 -- the parities of a frame
@@ -37,6 +38,20 @@ pub record UnderWay : Type 0 where
   pub k2 : ℕ
   pub b1 : ℕ
   pub b2 : ℕ
+
+-- what these rows keep
+abbrev pub under_way_in : Rows → UnderWay
+under_way_in r = record {
+  rows = r.passed;
+  line = r.line;
+  clear = r.clear;
+  written = r.written;
+  framed = r.framed;
+  k1 = r.k1;
+  k2 = r.k2;
+  b1 = r.b1;
+  b2 = r.b2;
+}
 
 -- what a section keeps: the parities of the last frame, or none, and a frame that is under way, if there is one
 pub record SectionKept : Type 0 where

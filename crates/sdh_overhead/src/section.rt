@@ -32,7 +32,7 @@ pub struct Section {
 impl Model for Section {
     ghost use Rattle.std.specs.Prelude.{◌≡◌, length};
     ghost use Rattle.sdh_ringmap.specs.Rates.{n_of};
-    ghost use Rattle.sdh_overhead.specs.Sections.{SectionKept, last_of, under_way_of, IsBlank};
+    ghost use Rattle.sdh_overhead.specs.Sections.{SectionKept, last_of, under_way_in, under_way_of, IsBlank};
     ghost use Rattle.sdh_overhead.specs.Rows.{IsPlaced};
 
     ghost Value = { SectionKept };
@@ -40,7 +40,7 @@ impl Model for Section {
     ghost view = { λ a. record {
       rate = a.rate;
       last = last_of (n_of a.rate) a.known a.b1 a.b2;
-      under_way = under_way_of (record { rows = a.rows.passed; line = a.rows.line; clear = a.rows.clear; written = a.rows.written; framed = a.rows.framed; k1 = a.rows.k1; k2 = a.rows.k2; b1 = a.rows.b1; b2 = a.rows.b2 });
+      under_way = under_way_of (under_way_in a.rows);
     } };
 
     ghost invariant = { λ a. record {

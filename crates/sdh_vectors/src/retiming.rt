@@ -52,6 +52,23 @@ fn run(
     Ok((number, sink))
 }
 
+const LITTLE: &[(&str, usize)] = &[
+    ("1 ais 2346", 0),
+    ("2 new 2346", 2349),
+    ("3 plain 2346", 2349),
+    ("4 plain 2346", 2349),
+    ("5 plain 2343", 2349),
+    ("6 up 2346", 2346),
+];
+
+#[test]
+fn little_is_held_so_a_turn_gives_less(rt: HostRuntime) -> Result<(), Fail> {
+    let (number, sink) = run(rt.alloc(), "0333", 14_090, &[], &[])?;
+    let wanted = text(rt.alloc(), LITTLE, "left 2")?;
+    assert!(rt; number == 0 && sink.bytes() == wanted.as_slice());
+    Ok(())
+}
+
 const MUCH: &[(&str, usize)] = &[
     ("1 ais 2352", 0),
     ("2 new 2352", 2349),

@@ -3,6 +3,7 @@ ghost use Rattle.sdh_plant.specs.Fibres.{HasNoFibres};
 
 use sdh_aps_cli::sdhaps;
 use sdh_cli::sdhring;
+use sdh_outage_cli::sdhoutage;
 use sdh_outside::{MemSink, MemSource};
 use sdh_plant::{
     FailingPlant, FibrePlant, KeepingPlant, LendingPlant, Plant, PlantCall, RecordingPlant,
@@ -28,6 +29,8 @@ pub(crate) enum Program {
     Watch,
     /// Shared rings, whose signalling is written while they run.
     Signals,
+    /// Shared rings, whose outages are listed.
+    Outages,
     /// What is lost when.
     Losses,
     /// A stream whose line is too slow or too fast.
@@ -152,6 +155,18 @@ fn signals<P: LendingPlant>(
     sdhaps(alloc, words, source, sink, plant).number()
 }
 
+fn outages<P: Plant>(
+    alloc: Global,
+    words: &[String],
+    source: &mut MemSource,
+    sink: &mut MemSink,
+    plant: &mut P,
+) -> u8
+    requires { HasNoFibres (P.fibres plant.old) }
+{
+    sdhoutage(alloc, words, source, sink, plant).number()
+}
+
 fn losses(alloc: Global, words: &[String], source: &mut MemSource, sink: &mut MemSink) -> u8 {
     whatif(alloc, words, source, sink).number()
 }
@@ -177,6 +192,7 @@ fn call_over<P: LendingPlant>(
         Program::Path => path(alloc, &words, &mut source, &mut sink, plant),
         Program::Watch => watch(alloc, &words, &mut source, &mut sink, plant),
         Program::Signals => signals(alloc, &words, &mut source, &mut sink, plant),
+        Program::Outages => outages(alloc, &words, &mut source, &mut sink, plant),
         Program::Losses => losses(alloc, &words, &mut source, &mut sink),
         Program::Retiming => retiming(alloc, &words, &mut source, &mut sink),
     };

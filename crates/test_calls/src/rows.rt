@@ -25,8 +25,8 @@ text_a = "ALPHA"
 text_b = "BETA!"
 "#;
 
-// Four nodes, and a circuit over two spans.
-const FOUR_NODES: &str = r#"rate = 4
+/// Four nodes, and a circuit over two spans.
+pub(crate) const FOUR_NODES: &str = r#"rate = 4
 nodes = [1, 2, 3, 4]
 threshold = 3
 wait = 10
@@ -41,8 +41,8 @@ text_a = "ABCDEFG"
 text_b = "abcdefg"
 "#;
 
-// The same, with a circuit over three spans.
-const ARC_OF_THREE: &str = r#"rate = 4
+/// The same, with a circuit over three spans.
+pub(crate) const ARC_OF_THREE: &str = r#"rate = 4
 nodes = [1, 2, 3, 4]
 threshold = 3
 wait = 10
@@ -57,8 +57,8 @@ text_a = "ABCDEFG"
 text_b = "abcdefg"
 "#;
 
-// Four nodes, and two circuits that meet at the second node.
-const TWO_CIRCUITS: &str = r#"rate = 4
+/// Four nodes, and two circuits that meet at the second node.
+pub(crate) const TWO_CIRCUITS: &str = r#"rate = 4
 nodes = [1, 2, 3, 4]
 threshold = 3
 wait = 10

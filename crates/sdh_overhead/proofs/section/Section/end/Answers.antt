@@ -1,6 +1,6 @@
 use Rattle.std.proofs.Common.{◌≡◌, ℕ, List, ◌*◌, take, ap, sym, subst, ◌∙◌, Some, None}
 use Rattle.sdh_ringmap.specs.Rates.{n_of}
-use Rattle.sdh_overhead.specs.Sections.{SectionKept, UnderWay, under_way_of, parities_of}
+use Rattle.sdh_overhead.specs.Sections.{SectionKept, UnderWay, under_way_of, parities_of, under_way_in}
 use Rattle.sdh_overhead.specs.Rows.{ArePassed}
 use Rattle.sdh_overhead.proofs.Passing.{as-passed, none-under-way, rows-kept}
 use Rattle.sdh_overhead.proofs.section.Section.end.Goals as goal
@@ -10,28 +10,8 @@ returns-clause-last c = λ clear line are.
     let s = c.self.inside in
     let r = s.rows in
     let t = c.new-self-inside.result in
-    let u : UnderWay = record {
-      rows = r.passed;
-      line = r.line;
-      clear = r.clear;
-      written = r.written;
-      framed = r.framed;
-      k1 = r.k1;
-      k2 = r.k2;
-      b1 = r.b1;
-      b2 = r.b2;
-    } in
-    let v : UnderWay = record {
-      rows = t.passed;
-      line = t.line;
-      clear = t.clear;
-      written = t.written;
-      framed = t.framed;
-      k1 = t.k1;
-      k2 = t.k2;
-      b1 = t.b1;
-      b2 = t.b2;
-    } in
+    let u : UnderWay = under_way_in r in
+    let v : UnderWay = under_way_in t in
     let n = n_of s.rate in
     let rate : n_of s.rate ≡ n_of c.args.self.now.rate = ap (λ (k : SectionKept). n_of k.rate) c.self.view_is in
     let was : ArePassed n clear line (under_way_of u) =

@@ -1,7 +1,7 @@
 use Rattle.std.proofs.Common.{◌≡◌, ◌+◌, ◌*◌, true, false, None, ap, sym, subst, ◌∙◌, arith}
 use Rattle.sdh_ringmap.specs.Rates.{n_of}
 use Rattle.sdh_parity.specs.Scrambling.{scrambled}
-use Rattle.sdh_overhead.specs.Sections.{SectionKept, UnderWay, next_of, is_framed, last_of}
+use Rattle.sdh_overhead.specs.Sections.{SectionKept, UnderWay, next_of, is_framed, last_of, under_way_in}
 use Rattle.sdh_overhead.specs.Rows.{ArePassed, AreRead}
 use Rattle.sdh_overhead.proofs.Passing.{rows-next}
 use Rattle.sdh_overhead.proofs.Reading.{some-read, passed-framed, kept-framed, is-unframed, kept-unframed}
@@ -11,17 +11,7 @@ pub returns-then-not-self-clause-read : goal.returns-then-not-self-clause-read
 returns-then-not-self-clause-read c = λ line are.
     let s = c.self.inside in
     let r = s.rows in
-    let u : UnderWay = record {
-      rows = r.passed;
-      line = r.line;
-      clear = r.clear;
-      written = r.written;
-      framed = r.framed;
-      k1 = r.k1;
-      k2 = r.k2;
-      b1 = r.b1;
-      b2 = r.b2;
-    } in
+    let u : UnderWay = under_way_in r in
     let was = subst (λ (k : SectionKept). AreRead (n_of k.rate) k.last line k.under_way) (sym c.self.view_is) are in
     let nine : u.rows + 1 ≡ 10 = sym (rows-next u) ∙ ap (λ (k : SectionKept). next_of k.under_way) c.self.view_is ∙ c.requires in
     let read = some-read (n_of s.rate) (last_of (n_of s.rate) s.known s.b1 s.b2) line u (omega arith) was in
@@ -38,17 +28,7 @@ returns-clause-read c = λ line are.
     let s = c.self.inside in
     let r = s.rows in
     let n = n_of c.args.self.now.rate in
-    let u : UnderWay = record {
-      rows = r.passed;
-      line = r.line;
-      clear = r.clear;
-      written = r.written;
-      framed = r.framed;
-      k1 = r.k1;
-      k2 = r.k2;
-      b1 = r.b1;
-      b2 = r.b2;
-    } in
+    let u : UnderWay = under_way_in r in
     let was = subst (λ (k : SectionKept). AreRead (n_of k.rate) k.last line k.under_way) (sym c.self.view_is) are in
     let nine : u.rows + 1 ≡ 10 = sym (rows-next u) ∙ ap (λ (k : SectionKept). next_of k.under_way) c.self.view_is ∙ c.requires in
     let read = some-read (n_of s.rate) (last_of (n_of s.rate) s.known s.b1 s.b2) line u (omega arith) was in

@@ -3,7 +3,7 @@ use Rattle.std.specs.Prelude.{◌==◌, if◌then◌else◌}
 use Rattle.sdh_ringmap.specs.Rates.{n_of}
 use Rattle.sdh_parity.specs.Pieces.{after_bytes, scrambled_from}
 use Rattle.sdh_parity.specs.Violations.{differing_bits, violations_of}
-use Rattle.sdh_overhead.specs.Sections.{SectionKept, UnderWay, next_of, under_way_of, is_framed}
+use Rattle.sdh_overhead.specs.Sections.{SectionKept, UnderWay, next_of, under_way_of, is_framed, under_way_in}
 use Rattle.sdh_overhead.specs.Rows.{AreRead, skipped}
 use Rattle.sdh_overhead.proofs.Passing.{rate_some, rows-next, may-read}
 use Rattle.sdh_overhead.proofs.Reading.{read-more}
@@ -15,28 +15,13 @@ returns-clause-read c = λ line are framed.
     let r = s.rows in
     let t = c.receive.new.self in
     let row = c.args.row in
-    let u : UnderWay = record {
-      rows = r.passed;
-      line = r.line;
-      clear = r.clear;
-      written = r.written;
-      framed = r.framed;
-      k1 = r.k1;
-      k2 = r.k2;
-      b1 = r.b1;
-      b2 = r.b2;
-    } in
-    let v : UnderWay = record {
-      rows = t.passed;
-      line = t.line;
-      clear = t.clear;
-      written = t.written;
+    let u : UnderWay = under_way_in r in
+    let v : UnderWay = record (under_way_in t) {
       framed = true;
       k1 = c.k_after-self-inside.result;
       k2 = c.k_after-self-inside-2.result;
       b1 = c.b1_after-self-inside.result;
-      b2 =
-          c.b2_after-self-inside.result;
+      b2 = c.b2_after-self-inside.result;
     } in
     let n = n_of s.rate in
     let m = c.n-n.result in
@@ -67,11 +52,7 @@ returns-clause-read c = λ line are framed.
 pub returns-clause-way : goal.returns-clause-way
 returns-clause-way c =
     let t = c.receive.new.self in
-    may-read (record {
-      rows = t.passed;
-      line = t.line;
-      clear = t.clear;
-      written = t.written;
+    may-read (record (under_way_in t) {
       framed = true;
       k1 = c.k_after-self-inside.result;
       k2 = c.k_after-self-inside-2.result;

@@ -1,7 +1,7 @@
 use Rattle.std.proofs.Common.{◌≡◌, ◌+◌, ◌*◌, ◌++◌, length, drop, ap, sym, subst, ◌∙◌}
 use Rattle.sdh_ringmap.specs.Rates.{n_of}
 use Rattle.sdh_parity.specs.Pieces.{after_bytes}
-use Rattle.sdh_overhead.specs.Sections.{SectionKept, UnderWay, under_way_of, next_of}
+use Rattle.sdh_overhead.specs.Sections.{SectionKept, UnderWay, under_way_of, next_of, under_way_in}
 use Rattle.sdh_overhead.specs.Rows.{ArePassed, skipped}
 use Rattle.sdh_overhead.proofs.Passing.{as-passed, one-more, rows-next, may-write}
 use Rattle.sdh_overhead.proofs.section.Section.send.Goals as goal
@@ -11,28 +11,8 @@ returns-clause-passed c = λ clear line are.
     let s = c.self.inside in
     let r = s.rows in
     let t = c.send.new.self in
-    let u : UnderWay = record {
-      rows = r.passed;
-      line = r.line;
-      clear = r.clear;
-      written = r.written;
-      framed = r.framed;
-      k1 = r.k1;
-      k2 = r.k2;
-      b1 = r.b1;
-      b2 = r.b2;
-    } in
-    let v : UnderWay = record {
-      rows = t.passed;
-      line = t.line;
-      clear = t.clear;
-      written = t.written;
-      framed = t.framed;
-      k1 = t.k1;
-      k2 = t.k2;
-      b1 = t.b1;
-      b2 = t.b2;
-    } in
+    let u : UnderWay = under_way_in r in
+    let v : UnderWay = under_way_in t in
     let n = n_of s.rate in
     let rate : n_of s.rate ≡ n_of c.args.self.now.rate = ap (λ (k : SectionKept). n_of k.rate) c.self.view_is in
     let was : ArePassed n clear line (under_way_of u) =
@@ -50,14 +30,4 @@ returns-clause-passed c = λ clear line are.
 pub returns-clause-way : goal.returns-clause-way
 returns-clause-way c =
     let t = c.send.new.self in
-    may-write (record {
-      rows = t.passed;
-      line = t.line;
-      clear = t.clear;
-      written = t.written;
-      framed = t.framed;
-      k1 = t.k1;
-      k2 = t.k2;
-      b1 = t.b1;
-      b2 = t.b2;
-    }) c.send.ensures.written
+    may-write (under_way_in t) c.send.ensures.written
