@@ -8,15 +8,17 @@ import types
 from dataclasses import dataclass, field
 from pathlib import Path
 
+from remade import SECOND, SOURCE_OF
 from ringtools.conform import node as plain
 
 SOURCE = Path(plain.__file__).read_text(encoding="utf-8")
+TREE = ast.parse(SOURCE)
 TAG = re.compile(r"  # ((?:[0-9]\.|path\.)[a-z0-9.|-]+)$")
 TEXT = re.compile(r"['\"](?:[0-9]\.|path\.|origin/)[a-z0-9.-]+/?")
 # What only says which rule decides, and what only shows.
-SILENT = {"note", "append"}
+SILENT = {"note", "append", "note_hold"}
 SHOWN = {"rule", "rules", "row", "reading", "why", "found", "filtered"}
-WITHOUT = {"word_rules", "origin_rule", "why_not", "defect_rules", "offset_rule", "rules_of", "compared", "hexadecimal", "lines", "note"}
+WITHOUT = {"carried", "count", "counted", "note_hold", "word_rules", "origin_rule", "why_not", "defect_rules", "offset_rule", "rules_of", "compared", "hexadecimal", "lines", "note"}
 TURNED = {ast.Eq: [ast.NotEq], ast.NotEq: [ast.Eq], ast.Lt: [ast.LtE, ast.Gt], ast.LtE: [ast.Lt, ast.Gt], ast.Gt: [ast.GtE, ast.Lt], ast.GtE: [ast.Gt, ast.Lt],
           ast.In: [ast.NotIn], ast.NotIn: [ast.In], ast.Is: [ast.IsNot], ast.IsNot: [ast.Is]}
 SWAPPED = {"WEST": "EAST", "EAST": "WEST", "BRIDGED": "SWITCHED", "SWITCHED": "BRIDGED", "RDI": "IDLE", "IDLE": "RDI", "SF": "FS", "SD": "MS", "MS": "SD", "FS": "SF", "WTR": "MS",
@@ -33,6 +35,42 @@ class Site:
     what: str
     path: tuple  # of the node in the tree
     change: object
+
+    @property
+    def tops(self):
+        return {self.place.partition(".")[0]}
+
+    def tree(self):
+        """The changed definition at the top."""
+        changed = ast.Module([copy.deepcopy(TREE.body[self.path[0][1]])], [])
+        put(changed, (("body", 0), *self.path[1:]), copy.deepcopy(self.change))
+        return changed
+
+
+@dataclass
+class Remade:
+    """A wrong body of the proved crates, as a change of the source's text."""
+
+    rules: tuple
+    line: int
+    place: str
+    what: str
+    tops: set
+    text: str
+
+    def tree(self):
+        return ast.Module([top for top in ast.parse(self.text).body if getattr(top, "name", None) in self.tops], [])
+
+
+def wrong_bodies():
+    """All of these, in the order in which they are listed."""
+    before = {top.name: ast.dump(top) for top in TREE.body if hasattr(top, "name")}
+    for name, (rules, old, new) in SOURCE_OF.items():
+        text = SOURCE.replace(old, new)
+        if name in SECOND:
+            text = text.replace(*SECOND[name])
+        tops = {top.name for top in ast.parse(text).body if hasattr(top, "name") and ast.dump(top) != before[top.name]}
+        yield Remade(tuple(rules.split("|")), SOURCE[: SOURCE.index(old)].count("\n") + 1, name, old.strip().splitlines()[0][:70], tops, text)
 
 
 def tags():
@@ -76,7 +114,7 @@ def is_silent(node):
         return True  # both sides, one after the other: no rule
     if isinstance(node, ast.If):
         return all(map(is_silent, [*node.body, *node.orelse]))
-    if isinstance(node, ast.IfExp) and all(isinstance(one, (ast.JoinedStr, ast.IfExp)) or isinstance(getattr(one, "value", None), str) for one in (node.body, node.orelse)):
+    if isinstance(node, ast.IfExp) and all(isinstance(one, (ast.JoinedStr, ast.IfExp, ast.List)) or isinstance(getattr(one, "value", None), str) for one in (node.body, node.orelse)):
         return TEXT.search(ast.unparse(node)) is not None
     return isinstance(node, ast.JoinedStr)
 
@@ -201,10 +239,9 @@ OF_HEARING = {"Inlet", "Side"}
 
 def entries_of(site):
     """The functions of values that a change is in, where it is in nothing else; or nothing."""
-    top = site.place.partition(".")[0]
-    if not any(top in USED[name] for name in ENTRIES) or top in ("Node", "Inlet", "Side", "Clock", "Stream"):
+    if site.tops & {"Node", "Inlet", "Side", "Clock", "Stream"} or not any(site.tops & USED[name] for name in ENTRIES):
         return ()
-    return tuple(name for name in ENTRIES if top in USED[name])
+    return tuple(name for name in ENTRIES if site.tops & USED[name])
 
 
 class Quiet(ast.NodeTransformer):
@@ -222,20 +259,11 @@ QUIET = compile(ast.fix_missing_locations(Quiet().visit(ast.parse(SOURCE))), "mu
 
 def made(site):
     """The module of a mutant. What doesn't use the changed definition is shared with the plain node, with all that was computed by it."""
-    tree = ast.parse(SOURCE) if not TREES else TREES[0]
-    TREES[:] = [tree]
-    number = site.path[0][1]
-    changed = ast.Module([copy.deepcopy(tree.body[number])], [])
-    put(changed, (("body", 0), *site.path[1:]), copy.deepcopy(site.change))
     module = types.ModuleType("mutant")
     module.__package__ = plain.__package__
     exec(QUIET, module.__dict__)
-    exec(compile(ast.fix_missing_locations(Quiet().visit(changed)), "mutant", "exec"), module.__dict__)
-    top = site.place.partition(".")[0]
+    exec(compile(ast.fix_missing_locations(Quiet().visit(site.tree())), "mutant", "exec"), module.__dict__)
     for name, used in USED.items():
-        if top not in used:
+        if not site.tops & used:
             module.__dict__[name] = getattr(plain, name)
     return module
-
-
-TREES = []  # the tree of the source, read once

@@ -64,8 +64,8 @@ class Neighbour:
         words = {au: self.pointers.get(au, base | value) for au, value in enumerate(self.values)}
         return [(au, word, self.payloads[au], bytes([au, 0x55, 0xAA])) for au, word in words.items()]
 
-    def frame(self, wrong: int = 0, flips: tuple = (), after: tuple = ()) -> bytes:
-        """Returns the next frame. `wrong` bits of its B2 are inverted, `flips` are bytes and bits of it before its parities are taken, `after` those on the line."""
+    def frame(self, wrong: int = 0, flips: tuple = (), after: tuple = (), is_close: bool = False) -> bytes:
+        """Returns the next frame. `wrong` bits of its B2 are inverted, where they are close eight in a byte, `flips` are bytes and bits of it before its parities are taken, `after` those on the line."""
         n = self.plan.rate
         clear = bytearray(clear_frame(n, self.parities, self.word, self.leaves()))
         for at, bits in flips:
@@ -74,7 +74,8 @@ class Neighbour:
         self.parities = b1_of(line), b2_of(n, bytes(clear))
         sent, fifth = bytearray(line), 4 * COLUMNS * n
         for bit in range(wrong):
-            sent[fifth + bit % (3 * n)] ^= 1 << bit // (3 * n)
+            at, place = divmod(bit, 8) if is_close else (bit % (3 * n), bit // (3 * n))
+            sent[fifth + at] ^= 1 << place
         for at, bits in after:
             sent[at] ^= bits
         self.is_new, self.pointers = False, {}

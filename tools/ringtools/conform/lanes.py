@@ -100,11 +100,13 @@ def pointer_streams() -> Iterator[Callable[[], Stream]]:
     """Words in each state of an interpreter: those of scripts first, then words by chance."""
     for number in range(0, len(SCRIPTS), 4):
         for again in range(2):
-            yield lambda number=number, again=again: lane_stream(f"pointer-rows-{number}-{again}", 4, SCRIPTS[number : number + 4])
-    yield lambda: lane_stream("pointer-bits-0", 4, JUSTIFICATIONS[:4])
-    yield lambda: lane_stream("pointer-bits-1", 4, JUSTIFICATIONS[2:])
+            yield lambda number=number, again=again: lane_stream(f"pointer-rows-{number}-{again}", 4, SCRIPTS[number : number + 4], to_ports=again == 1)
+    for again in range(2):
+        yield lambda again=again: lane_stream(f"pointer-bits-0-{again}", 4, JUSTIFICATIONS[:4], to_ports=again == 1)
+        yield lambda again=again: lane_stream(f"pointer-bits-1-{again}", 4, JUSTIFICATIONS[2:], to_ports=again == 1)
     for number in range(0, len(EFFECTS), 4):
-        yield lambda number=number: lane_stream(f"pointer-effects-{number}", 4, EFFECTS[number : number + 4], 86)
+        for again in range(2):
+            yield lambda number=number, again=again: lane_stream(f"pointer-effects-{number}-{again}", 4, EFFECTS[number : number + 4], 86, to_ports=again == 1)
     for number in range(6):
         yield lambda number=number: lane_stream(f"pointer-words-{number}", 4, ())
     yield origin_stream
@@ -130,10 +132,11 @@ def origin_stream() -> Stream:
     return making.stream
 
 
-def lane_stream(name: str, rate: int, scripts: tuple[str, ...], rounds: int = ROUNDS) -> Stream:
+def lane_stream(name: str, rate: int, scripts: tuple[str, ...], rounds: int = ROUNDS, to_ports: bool = False) -> Stream:
+    """Words for interpreters: what they take leaves again on the other side, or, for some slots or all, is delivered at ports."""
     plan = Plan(rate, (3, 1, 4, 2))
     for slot in range(1, rate // 2 + 1):
-        if slot % 4 == 3:
+        if to_ports or slot % 4 == 3:
             circuit(plan, 0, 1, slot)
             circuit(plan, 1, 2, slot)
         else:

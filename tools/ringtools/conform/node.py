@@ -12,7 +12,7 @@ from operator import xor
 
 from .terms import (
     AIS, BRIDGED, CHUNK, CODES, COLUMNS, EAST, FRONT, FS, HEAD, IDLE, LETTERS, LONG, LOST, MARKS, MS, MS_AIS, NEW, NORM, NR, ONES, PAYLOAD, RDI, ROWS, RR, SD, SF,
-    SHORT, SIDES, SWITCH, SWITCHED, WEST, WTR, origin_rule, to_port, word_rules,
+    SHORT, SIDES, SWITCH, SWITCHED, WEST, WTR, carried, compared, counted, origin_rule, to_port, word_rules,
 )  # fmt: skip
 
 
@@ -102,7 +102,7 @@ class Inlet:
         if before is None:  # 1.forgotten
             return 0, word, clear, "1.forgotten/first", rule
         wrong = violations(clear[fifth : fifth + 3 * self.n], before)  # 1.violations
-        reading = "1.violations/none" if wrong == 0 else "2.degraded/below" if wrong < self.threshold else "2.degraded/at" if wrong == self.threshold else "2.degraded/above"
+        reading = "2.degraded/none" if wrong == 0 else "2.degraded/below" if wrong < self.threshold else "2.degraded/at" if wrong == self.threshold else "2.degraded/above"
         return SD if wrong >= self.threshold else 0, word, clear, reading, rule  # 2.degraded
 
 
@@ -166,13 +166,6 @@ class Side:
 
 
 # -- 4, the state and the words that are sent
-
-
-def compared(own, heard):
-    """How a side's own request stands to that of its neighbour, as reports name it."""
-    if not own or not heard:
-        return "own-alone" if own else "heard-alone"
-    return "own-above" if own > heard else "equal" if own == heard else "heard-above"
 
 
 class Look:
@@ -240,6 +233,7 @@ class Look:
             self.note("its-own", "4.relays", (SIDES[d], "state"))
         elif word:
             words["relayed"] = word[0], word
+            self.note("relayed", "4.relays", (SIDES[d], "state"))
         return words
 
     def chosen(self, d):
@@ -571,10 +565,6 @@ def aus_of(n, clear):
 # -- the whole node
 
 
-class Refused(Exception):
-    """A record can't be done."""
-
-
 class Node:
     """One node of a plan's ring."""
 
@@ -599,7 +589,7 @@ class Node:
         self.state, self.words = ("idle", None), tuple((NR, to, identifier, SHORT, IDLE) for to in self.neighbours)  # 4.held
         aus = [(d, kind, slot) for d in (WEST, EAST) for kind in "wp" for slot in range(1, self.n // 2 + 1)]
         self.interpreters, self.generators = dict.fromkeys(aus, NEW), dict.fromkeys(aus)
-        self.held, self.moment, self.t, self.trace, self.named = 0, 0, -1, {}, ["", ""]
+        self.held, self.moment, self.t, self.trace, self.named, self.was_held = 0, 0, -1, {}, ["", ""], False
 
     @staticmethod
     def stream(circuit, end):
@@ -622,9 +612,13 @@ class Node:
         """A round over what came on both sides: `none`, `dark`, or a frame. Returns the lines and the two frames."""
         return self.answer(*self.hear(west, east))
 
+    def count(self):
+        """Begins a round."""
+        self.t, self.trace = self.t + 1, defaultdict(list)
+
     def hear(self, west, east):
         """The first half of a round, after which the node has its state and its words. Returns requests, words heard, and what came in."""
-        self.t, self.trace = self.t + 1, defaultdict(list)
+        self.count()
         came = west, east
         taken = [inlet.take(one) for inlet, one in zip(self.inlets, came)]
         local, heard = zip(*(self.look(d, taken[d]) for d in (WEST, EAST)))
@@ -644,7 +638,7 @@ class Node:
         heard, filtered = hears(tuple(one for one, _ in self.brought[d]))
         self.trace[f"heard {SIDES[d]}"] += [filtered, *(why for _, before in self.brought[d] for why in before)]
         local, rules = self.sides[d].asks(defect, self.moment, self.plan["wait"])
-        self.trace[f"asks {SIDES[d]}"] += [*rules, why, *([] if taken[2] is None else ["1.framing/right"]), *self.defect_rules(d, defect, why)]
+        self.trace[f"asks {SIDES[d]}"] += [*rules, why, *counted(why), *([] if taken[2] is None else ["1.framing/right"]), *self.defect_rules(d, defect, why)]
         if heard:
             self.trace[f"heard {SIDES[d]}"] += word_rules("heard", heard)
         return local, heard
@@ -658,16 +652,22 @@ class Node:
 
     def act(self, local, fails, heard):
         """The state and the words, unless the controller is held."""
+        self.note_hold()
         if self.held:
             self.held -= 1  # 4.held
-            for field in ("state", "far", "west", "east"):
-                self.trace[field].append("4.held/first-round" if self.t == 0 else "4.held/keeps")
             return
         self.state, self.words, rules = step(self.ids, self.me, self.neighbours, local, fails, heard)
         for field, found in rules.items():
             self.trace[field] += found
         for d in (WEST, EAST):
             self.trace[SIDES[d]] += word_rules("sent", self.words[d])
+
+    def note_hold(self):
+        """Notes where a hold or its end decides the state and the words."""
+        case = ("first-round" if self.t == 0 else "keeps") if self.held else "over" if self.was_held else ""
+        self.was_held = self.held > 0
+        for field in ("state", "far", "west", "east") if case else ():
+            self.trace[field].append(f"4.held/{case}")
 
     def read(self, frames, unknown):
         """What each AU-4 that came is: an action, a value, a payload, the H3 bytes, and the rules."""
@@ -681,7 +681,7 @@ class Node:
             au = slot - 1 + (self.n // 2 if kind == "p" else 0)  # 6.place
             word, payload, h3 = (ONES, b"\xff" * CHUNK, b"\xff" * 3) if aus[d] is None else aus[d][au]  # 2.fails
             self.interpreters[key], action, rules = interpret(self.interpreters[key], word)  # 7.ais
-            came[key] = action, self.interpreters[key][1], payload, h3, (*rules, "5.place/bytes", f"6.place/{'working' if kind == 'w' else 'protection'}", *([] if aus[d] else ["2.fails/ones"]))
+            came[key] = action, self.interpreters[key][1], payload, h3, (*rules, "5.place/bytes", f"6.place/{'working' if kind == 'w' else 'protection'}", *(["2.fails/not", "5.unknown/known"] if aus[d] else ["2.fails/ones"]))
         return came
 
     # 6, connections: each with the rule that decides it.
@@ -745,7 +745,7 @@ class Node:
         slot, name = self.circuits[c]["slot"], f"port {self.circuits[c]['name']} {end}"
         origin, rule = self.stands_for(EAST if end == "a" else WEST, slot)  # 7.deliver
         rule = rule if origin is None or came[origin][0] != "ais" else f"{rule.partition('/')[0]}/silent"
-        self.trace[name, "place"] += [to_port(rule), "7.deliver/side", f"origin/port-{self.state[0]}-{origin_rule(origin)}"]
+        self.trace[name, "place"] += [to_port(rule), *carried(rule), "7.deliver/side", f"origin/port-{self.state[0]}-{origin_rule(origin)}"]
         if origin is None:
             return f"{name} ais"
         action, value, payload, _, rules = came[origin]
@@ -763,7 +763,7 @@ class Node:
             origin, rule = self.working(d, slot) if kind == "w" else self.protection(d, slot)
             action, value, payload, h3 = self.source(origin, came, sent, ("au", d, au))
             rule = rule if origin is None or action != "ais" else f"{rule.partition('/')[0]}/silent"
-            self.trace["au", d, au, "place"] += [rule, f"6.place/{'working' if kind == 'w' else 'protection'}", f"origin/{'working' if kind == 'w' else 'protection'}-{self.state[0]}-{origin_rule(origin)}"]
+            self.trace["au", d, au, "place"] += [rule, *carried(rule), f"6.place/{'working' if kind == 'w' else 'protection'}", f"origin/{'working' if kind == 'w' else 'protection'}-{self.state[0]}-{origin_rule(origin)}"]
             word, self.generators[key], row = generate(self.generators[key], action, value)
             self.trace["au", d, au, "pointer"].append(row)
             is_down = action == "down" and word >> 12 != 9  # 8.justification
@@ -781,6 +781,7 @@ class Node:
             self.trace[*place, "pointer"].append(rule)
             self.trace[*place, "payload"] += ["path.text/own", "path.overhead/own", "path.b3/own", f"path.offset/{self.offset_rule(origin)}"]
             self.trace[*place, "payload"] += [f"8.justification/{form}"] if form != "normal" else []
+            self.trace[*place, "pointer"] += ["8.value/moved"] if form != "normal" else []
             return form, self.clocks[origin].value, payload, h3  # 8.value
         action, value, payload, h3, rules = came[origin]
         self.trace[*place, "pointer"] += rules

@@ -3,14 +3,15 @@
 from __future__ import annotations
 
 from collections.abc import Callable, Iterable, Iterator
+from dataclasses import dataclass, replace
 from typing import Protocol
 
 from ..origin import Program
 from ..programs import ask
 from .arriving import Stream
 from .device import DeviceProblem
-from .differing import Difference, difference
-from .judging import Failure, Judge
+from .differing import NO_ANSWER, Difference, Field, difference, told_apart
+from .judging import Failure, Judge, passes_of
 from .node import Node
 
 
@@ -61,8 +62,8 @@ def traces(stream: Stream) -> Iterator[tuple[object, dict, bytes]]:
 
 
 def try_stream(stream: Stream, due: list[bytes], device: Device, judge: Judge) -> Failure | None:
-    """Runs a stream on a device, beside what is due, and counts it. Returns where it failed."""
-    parts, failed, number = stream.parts(), None, -1
+    """Runs a stream on a device, beside what is due, and counts it. Returns where it failed first. It is asked on then, since what agrees tells too."""
+    parts, failed, number, goes_on, lanes = stream.parts(), None, -1, True, {}
     judge.streams += 1
     try:
         device.begin(stream)
@@ -70,13 +71,17 @@ def try_stream(stream: Stream, due: list[bytes], device: Device, judge: Judge) -
             if recorded != right:
                 raise SuiteProblem(f"stream {stream.name}, round {number}: the recorder of rules differs from sdhnode")
             part = next(parts)
-            if failed is None:
-                failed = try_round(device, part, (record, right), trace, Failure(stream.name, stream.why, number, NOTHING))
+            if goes_on:
+                wrong = try_round(device, part, (record, right), trace, Failure(stream.name, stream.why, number, NOTHING))
+                goes_on = count(judge, wrong, trace, lanes)
+                failed = failed or (wrong and wrong.failure)
             judge.saw(trace, failed is None)
         if failed is None:
             failed = at_end(device, b"".join(parts), Failure(stream.name, stream.why, number, NOTHING))
+            judge.hung += failed is not None and failed.kind == "hung"
     finally:
         device.stop()
+    judge.end_stream(stream.name, lanes)
     if failed:
         judge.failures.append(failed)
     return failed
@@ -85,16 +90,36 @@ def try_stream(stream: Stream, due: list[bytes], device: Device, judge: Judge) -
 NOTHING = Difference("", "", "", frozenset())
 
 
-def try_round(device: Device, part: bytes, asked: tuple[object, bytes], trace: dict, place: Failure) -> Failure | None:
+@dataclass(frozen=True)
+class Wrong:
+    """A wrong answer: what it fails in, and all fields of it."""
+
+    failure: Failure
+    fields: tuple[list[Field], list[Field]] | None = None  # those that differ, and those that agree
+
+
+def try_round(device: Device, part: bytes, asked: tuple[object, bytes], trace: dict, place: Failure) -> Wrong | None:
     """Asks a device for a round, and returns where it is wrong."""
     record, due = asked
     try:
         came = device.answer(part, record, due)
     except DeviceProblem as problem:
         found = Difference("the answer", due[:60].decode("latin-1").partition("\n")[0], str(problem), frozenset())
-        return Failure(place.stream, place.why, place.round, found, problem.kind)
+        return Wrong(replace(place, difference=found, kind=problem.kind))
     found = difference(due, came, trace)
-    return Failure(place.stream, place.why, place.round, found) if found else None
+    return Wrong(replace(place, difference=found), told_apart(due, came, trace)) if found else None
+
+
+def count(judge: Judge, wrong: Wrong | None, trace: dict, lanes: dict) -> bool:
+    """Counts the fields of an answer; returns whether the device can be asked on."""
+    if wrong is None:
+        judge.saw_right(passes_of(trace), lanes)
+        return True
+    if wrong.fields is None:
+        judge.hung += wrong.failure.kind == "hung"
+        return False
+    judge.saw_wrong(*wrong.fields, lanes)
+    return wrong.failure.difference.field != NO_ANSWER
 
 
 def at_end(device: Device, part: bytes, place: Failure) -> Failure | None:
@@ -102,18 +127,16 @@ def at_end(device: Device, part: bytes, place: Failure) -> Failure | None:
     try:
         device.end(part)
     except DeviceProblem as problem:
-        return Failure(place.stream, place.why, place.round, Difference("the end of the stream", "done, status 0", str(problem), frozenset()), problem.kind)
+        return replace(place, difference=Difference("the end of the stream", "done, status 0", str(problem), frozenset()), kind=problem.kind)
     return None
 
 
 def run_suite(program: Program, device: Device, streams: Iterable[Stream], judge: Judge, tell: Callable[[Stream, Failure | None], None]) -> bool:
     """Runs streams one after the other; returns whether all were run. A device that hangs is asked three times."""
-    hung = 0
     for stream in streams:
         failed = try_stream(stream, answers_of(program, stream), device, judge)
         tell(stream, failed)
-        hung += failed is not None and failed.kind == "hung"
-        if hung == MOST_HUNG:
+        if judge.hung >= MOST_HUNG:
             return False
     return True
 

@@ -7,7 +7,7 @@ from collections.abc import Callable, Iterator
 
 from .arriving import Making, Plan, Stream, circuit
 from .lanes import pointer_streams
-from .node import COLUMNS, EAST, FS, HEAD, LONG, MS, NR, RR, SD, SF, SHORT, SIDES, WEST, WTR
+from .terms import COLUMNS, EAST, FS, HEAD, LONG, MS, NR, ONES, RR, SD, SF, SHORT, SIDES, WEST, WTR
 
 RINGS = (  # identifiers in ring order; none is its own position
     (7, 2),
@@ -205,19 +205,21 @@ def defects() -> Iterator[Callable[[], Stream]]:
     for threshold in (1, 2, 3, 12):
         yield lambda threshold=threshold: degraded_stream(threshold, 4)
     yield lambda: degraded_stream(48, 16)
+    yield lambda: degraded_stream(7, 4, is_close=True)
     for rate in RATES:
         yield lambda rate=rate: framing_stream(rate)
         yield lambda rate=rate: parity_stream(rate)
     yield forgotten_stream
 
 
-def degraded_stream(threshold: int, rate: int) -> Stream:
+def degraded_stream(threshold: int, rate: int, is_close: bool = False) -> Stream:
     nodes, p = (4, 9, 1), 1
-    making = Making(f"threshold-{threshold}-{rate}", f"violations of B2 around the threshold {threshold}, in all its bytes and bits", plan_of(rate, nodes, p, "degraded", threshold=threshold), p)
+    name, where = (f"threshold-{threshold}-close", "several in a byte") if is_close else (f"threshold-{threshold}-{rate}", "in all its bytes and bits")
+    making = Making(name, f"violations of B2 around the threshold {threshold}, {where}", plan_of(rate, nodes, p, "degraded", threshold=threshold), p)
     making.begin(3)
     for wrong in (threshold - 1, threshold, threshold + 1, threshold, threshold - 1, 24 * rate, 0):
         for d in (WEST, EAST):
-            broken = making.sides[d].frame(wrong=wrong)
+            broken = making.sides[d].frame(wrong=wrong, is_close=is_close)
             making.round(*(broken if side == d else "frame" for side in (WEST, EAST)))
             making.pass_time(4)
     making.round(count=3)
@@ -360,6 +362,8 @@ def connections() -> Iterator[Callable[[], Stream]]:
         for p in range(size) if size <= 5 else (0, size // 2, size - 1):
             for again in range(2):
                 yield lambda nodes=nodes, p=p, again=again: connection_stream(nodes, p, again)
+    for p in range(2):
+        yield lambda p=p: silent_stream(p)
 
 
 def connection_stream(nodes: tuple[int, ...], p: int, again: int) -> Stream:
@@ -382,6 +386,33 @@ def connection_stream(nodes: tuple[int, ...], p: int, again: int) -> Stream:
         making.idle()
         making.round(count=4)
     return making.stream
+
+
+def silent_stream(p: int) -> Stream:
+    """Connections that lead to AU-4s which are AIS."""
+    nodes = (3, 1, 4, 2)
+    plan = Plan(4, nodes)
+    circuit(plan, 0, 2, 1)
+    circuit(plan, 3, 2, 2)
+    making = Making(f"silent-{p}", "AU-4s that come are AIS while the node passes through, and while it switches and bridges: AIS goes where they go", plan, p)
+    making.begin(4)
+    for d in (WEST, EAST):
+        kinds = ["dark" if side == d else "frame" for side in (WEST, EAST)]
+        for far in (*nodes[p + 1 :], *nodes[:p]):
+            set_word(making, 1 - d, making.long(1 - d, SF, far, 1))
+            silently(making, kinds, HEARD + 1)
+        making.pass_time(20)
+        making.words((SD, nodes[p - 2], nodes[p - 1], LONG, 0), (SD, nodes[p - 1], nodes[p - 2], LONG, 0))
+        silently(making, ["frame", "frame"], HEARD + 2)
+    return making.stream
+
+
+def silently(making: Making, kinds: list[str], rounds: int) -> None:
+    """Runs rounds in which each pointer word that comes is all ones."""
+    for _ in range(rounds):
+        for side in making.sides:
+            side.pointers = dict.fromkeys(range(making.plan.rate), ONES)
+        making.round(*kinds)
 
 
 def customers() -> Iterator[Callable[[], Stream]]:

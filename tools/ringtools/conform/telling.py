@@ -46,8 +46,8 @@ class Told:
         return Counter(verdict.verdict for verdict in self.verdicts if verdict.kind == "rule")
 
     def first(self) -> str:
-        """Returns the rules that are broken, the likeliest one first."""
-        return ", ".join([rule for rule, _ in self.judge.blamed()][:4])
+        """Returns the rules that are broken, the likeliest first; those that the answers hardly tell apart together."""
+        return ", ".join([" or ".join(rules) for rules, _ in self.judge.blamed()][:4])
 
     def summary(self) -> str:
         """Returns the verdict in one line."""

@@ -33,3 +33,21 @@ def to_port(rule):
     """The case of a connection that leads to a port."""
     name, _, case = rule.partition("/")
     return f"{name}/to-port-{case}" if name == "6.squelch" else rule if case == "silent" else f"{name}/to-port"
+
+
+def carried(rule):
+    """The case of a circuit that may be carried, where a connection is one over protection."""
+    return ["6.squelch/carried"] if rule.startswith(("6.switch/", "6.bridge/")) else []
+
+
+def counted(reading):
+    """The case of the violations that a reading is of, if it is of some."""
+    name, _, case = reading.partition("/")
+    return [f"1.violations/{'none' if case == 'none' else 'some'}"] if name == "2.degraded" else []
+
+
+def compared(own, heard):
+    """How a side's own request stands to that of its neighbour, as reports name it."""
+    if not own or not heard:
+        return "own-alone" if own else "heard-alone"
+    return "own-above" if own > heard else "equal" if own == heard else "heard-above"
