@@ -5,6 +5,7 @@ import ast
 import copy
 import re
 import types
+from collections import Counter
 from dataclasses import dataclass, field
 from pathlib import Path
 
@@ -35,6 +36,7 @@ class Site:
     what: str
     path: tuple  # of the node in the tree
     change: object
+    key: str  # by which it is known, wherever its line is
 
     @property
     def tops(self):
@@ -57,6 +59,10 @@ class Remade:
     what: str
     tops: set
     text: str
+
+    @property
+    def key(self):
+        return self.place
 
     def tree(self):
         return ast.Module([top for top in ast.parse(self.text).body if getattr(top, "name", None) in self.tops], [])
@@ -201,7 +207,7 @@ def statement_of(tree, path):
 
 def sites():
     """All places that can be changed, and how, in the order of the source."""
-    tree = ast.parse(SOURCE)
+    tree, seen = ast.parse(SOURCE), Counter()
     for function, path, top in functions(tree):
         if function.name in WITHOUT or (top, function.name) == ("Node", "__init__"):
             continue
@@ -211,8 +217,10 @@ def sites():
             for what, new in changes(node):
                 statement = statement_of(tree, (*path, *below))
                 rules = rules_at(statement, function)
+                place = f"{top}.{function.name}" if top != function.name else top
+                seen[place, what] += 1
                 if rules:
-                    yield Site(rules, statement.lineno, f"{top}.{function.name}" if top != function.name else top, what, (*path, *below), new)
+                    yield Site(rules, statement.lineno, place, what, (*path, *below), new, f"{place}: {what} ({seen[place, what]})")
 
 
 def used_by():

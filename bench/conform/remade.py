@@ -100,10 +100,18 @@ SECOND = {
 }  # fmt: skip
 
 OF_READING = "only how a stream is read, and where"
-OF_ENDING = "only how a run ends"
+OF_ENDING = "only how a run ends or counts"
 OF_PLANS = "only which plans are refused, and why"
 INSIDE = "only what a node keeps or is told beside its answers"
+AS_ANOTHER = "the same in the plain node as another one"
+OF_PIECES = "how the proved body goes over pieces and rows, which the plain node has not"
 LEFT_OUT = {
+    OF_ENDING: (
+        "sdh_node_cli/a_bad_record_is_told_as_done", "sdh_node_cli/a_cut_line_is_done", "sdh_node_cli/no_node_is_found", "sdh_node_cli/records_are_counted_from_0",
+        "sdh_node_cli/too_long_is_told_as_a_read_fault", "sdh_node_cli/the_rounds_number_is_one_late",
+    ),
+    AS_ANOTHER: ("sdh_node_cli/the_east_frame_leaves_first", "sdh_node_cli/the_frames_leave_on_the_wrong_sides", "sdh_node/the_far_end_of_the_word_before"),
+    OF_PIECES: ("sdh_parity/each_piece_begins_with_the_first_lane", "sdh_payload/b3_without_what_stood_before_the_start", "sdh_node/a_passing_node_keeps_a_frame"),
     OF_READING: (
         "sdh_node_cli/a_byte_behind_a_record_is_asked_for", "sdh_node_cli/the_byte_behind_a_line_is_lost", "sdh_node_cli/dark_is_taken_as_a_frame", "sdh_node_cli/a_byte_after_the_plan_is_read",
         "sdh_node_cli/each_line_is_taken_for_a_rounds", "sdh_node_cli/the_end_of_the_plan_is_looked_for_anywhere", "sdh_node_cli/the_newline_byte_stays_in_the_line",

@@ -22,7 +22,9 @@ TOP = TOOLS.parent
 sys.path[:0] = [str(TOP / "bench" / "conform"), str(TOP / "bench" / "aps")]
 
 import frames as plain_frames
+import equal
 import mutating
+import remade
 from ringtools.conform.arriving import Making, Plan, circuit
 from ringtools.conform.judging import Judge
 from ringtools.conform.rules import RULES, views
@@ -142,6 +144,18 @@ class Mutants(unittest.TestCase):
                 self.assertIn(rule, mutant.site.rules)
                 self.assertIn(rule, MUTANTS.named(mutant, self.reached)[0])
 
+    def test_what_is_listed_as_the_same_is_a_place_that_can_be_changed(self):
+        keys = {site.key for site in mutating.sites()}
+        self.assertEqual(set(equal.EQUAL) - keys - set(remade.SOURCE_OF), set())
+
+    def test_each_wrong_body_of_a_crate_of_nodes_is_made_again_or_left_out(self):
+        listed = {*remade.SOURCE_OF, *(name for names in remade.LEFT_OUT.values() for name in names)}
+        crates = {name.partition("/")[0] for name in listed}
+        there = {f"{crate}/{path.stem}" for crate in crates for folder in (f"crates/{crate}/must-fail", f"bench/wrong-bodies/{crate}") for path in (TOP / folder).glob("*.edit")}
+        endings = {name for name in there if "/always_" in name}
+        self.assertEqual(there - endings - listed, set())
+        self.assertEqual(listed - there, set())
+
     def test_a_mutant_over_pipes_says_what_it_says_in_this_process(self):
         number = next(at for at, site in enumerate(mutating.sites()) if (site.place, site.what) == TEN[0][:2])
         ended = conform("--only", "filtering", "--short", "--", sys.executable, str(TOP / "bench" / "conform" / "mutant"), str(number), cwd=tempfile.gettempdir())
@@ -212,6 +226,7 @@ class Devices(unittest.TestCase):
             ("in time", self.python("import time; time.sleep(60)"), "nothing more came within 2 seconds"),
             ("in time", self.python("import sys\nfor part in iter(lambda: sys.stdin.buffer.read(4096), b''): pass"), "nothing more came within 2 seconds"),
             ("when asked", self.python("import sys\nprint('round 0')\nwhile True: print('port c0 a ais')"), "it wrote"),
+            ("when asked", self.python("while True: print('round 0 node 1 idle')"), "it wrote"),
             ("answers", self.python("import sys\nfor line in sys.stdin.buffer: sys.stdout.write('what?\\n'); sys.stdout.flush()"), "what?"),
         ):
             ended, found, _ = self.device(*command)

@@ -16,6 +16,7 @@ from .arriving import Stream
 MORE = 65_536  # bytes beyond what is due that are looked at
 LONGEST_LINE = 4096
 PART = 65_536
+PAUSE = 0.5  # seconds in which a device that goes on writes something
 BYTES = re.compile(rb"bytes ([0-9]{1,9})\n")
 
 
@@ -114,8 +115,18 @@ class Piped:
             if not self.read(self.left(), len(due) + MORE - len(self.buffer)):
                 raise self.died()
         found = bytes(self.buffer[:size])
+        if b"\nbytes " not in found:
+            self.check_flood(len(due))
         del self.buffer[:size]
         return found
+
+    def check_flood(self, due: int) -> None:
+        """Reads what follows bytes that are no answer, as long as more comes: a device that goes on and on is told as that."""
+        before = -1
+        while len(self.buffer) > before and self.left() > PAUSE:
+            before = len(self.buffer)
+            self.read(PAUSE, PART)
+            self.check_room(due)
 
     def whole(self, due: bytes) -> int | None:
         """Returns the length of the answer in the buffer once it is whole. What is no answer is as long as it is."""

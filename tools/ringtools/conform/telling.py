@@ -132,7 +132,7 @@ def repeating(told: Told) -> Markup:
         return html("")
     command = shlex.join(told.command)
     commands = [f"./sdhnode {node_of(file)} frames < {shlex.quote(file)} > ours.text; {command} {node_of(file)} frames < {shlex.quote(file)} > theirs.text" for file in files]
-    return folded("The streams that repeat it alone", html("<pre>{}</pre>", lines(*commands, "./sdhring-compare-node ours.text theirs.text")), open=True)
+    return folded("The streams that repeat it alone", html('<pre class="commands">{}</pre>', lines(*commands, "./sdhring-compare-node ours.text theirs.text")), open=True)
 
 
 def node_of(file: str) -> str:
