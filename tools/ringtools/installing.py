@@ -19,7 +19,7 @@ TOOLS = (
 )
 DOCUMENTS = (
     *("AVAILABILITY.md", "BENCH.md", "DESK.md", "FORMATS.md", "LOOKING.md", "NETWORKS.md", "NOW.md", "NODE.md", "OUTAGES.md", "PATHS.md", "RETIMING.md", "RING.md", "SECURITY.md", "TABLES.md", "WATCHING.md"),
-    *("ROUTES.md", "SIGNALLED.md", "SIGNALLING.md", "WHATIF.md"),
+    *("LIBRARY.md", "ROUTES.md", "SIGNALLED.md", "SIGNALLING.md", "WHATIF.md"),
 )
 LIB, DOC, MAN = "lib/sdhring", "share/doc/sdhring", "share/man/man1"
 COMPLETIONS = "share/bash-completion/completions"
@@ -27,7 +27,7 @@ FILES = f"{LIB}/FILES"
 LONGEST_LIST = 1 << 20  # bytes of it
 CACHE = "__pycache__"
 # What an install puts below a prefix, and so all that may be taken away from there.
-OURS = re.compile(rf"bin/sdh[a-z-]+|{LIB}/.+|{DOC}/.+|{MAN}/sdh[a-z-]+\.1|{COMPLETIONS}/sdh[a-z-]+")
+OURS = re.compile(rf"bin/sdh[a-z-]+|include/sdhnode\.h|lib/libsdhnode\.a|{LIB}/.+|{DOC}/.+|{MAN}/sdh[a-z-]+\.1|{COMPLETIONS}/sdh[a-z-]+")
 # What is about the repository alone, from the one comment to the other, of a document, a man page or a script.
 OF_REPOSITORY = re.compile(r"^<!-- repository -->.*?<!-- end -->\n?\n?|<!-- repository -->.*?<!-- end -->|^(?:\.\\\"|#) repository\n.*?^(?:\.\\\"|#) end\n\n?", re.M | re.S)
 # What is of use only before it is installed.
@@ -111,7 +111,7 @@ def modules():
     for name in (*TOOLS, "install"):
         yield Path(name)
     for path in sorted((HOME / "tools" / "ringtools").rglob("*")):
-        if path.is_file() and path.suffix in (".py", ".css", ".js", ".lua") and path.name not in ("benching.py", "opened.py", "rows.py", "releasing.py", "symbols.py"):
+        if path.is_file() and path.suffix in (".py", ".css", ".js", ".lua") and path.name not in ("benching.py", "nodelibrary.py", "opened.py", "rows.py", "releasing.py", "symbols.py"):
             yield path.relative_to(HOME / "tools")
 
 
@@ -127,6 +127,12 @@ def is_run(path):
     return os.access(path, os.X_OK)
 
 
+def of_library():
+    """The node as a library, and its header, by path; nothing where dist/ has none."""
+    places = {"include/sdhnode.h": HOME / "library" / "sdhnode.h", "lib/libsdhnode.a": HOME / "dist" / "libsdhnode.a"}
+    return {name: Piece(path.read_bytes()) for name, path in places.items()} if all(path.is_file() for path in places.values()) else {}
+
+
 def pieces(places, prefix):
     """All that is installed below a prefix, by path."""
     files, build = programs(places)
@@ -135,6 +141,7 @@ def pieces(places, prefix):
     found[f"{LIB}/VERSION"] = Piece((HOME / "VERSION").read_bytes())
     for name in modules():
         found[f"{LIB}/tools/{name}"] = Piece((HOME / "tools" / name).read_bytes(), is_run=is_run(HOME / "tools" / name))
+    found |= of_library()
     found["bin/sdhring"] = Piece((HOME / "sdhring").read_bytes(), is_run=True)
     found |= {f"bin/{name}": Piece(link="sdhring") for name in PROGRAMS[1:]}
     found |= {f"bin/{name}": Piece(link=f"../{LIB}/tools/{name}") for name in TOOLS}

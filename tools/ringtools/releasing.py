@@ -16,6 +16,7 @@ from pathlib import Path
 from .build import HOME, PROGRAMS, Record, read_build, sum_of, version, write_build
 from .files import read_path
 from .installing import DOC, LIB, MAN, TOOLS, Piece, is_run, modules, pieces, put, released, texts, words_of_the_field
+from .nodelibrary import LIBRARY, OURS, PROGRAM, LibraryProblem, LibraryRecord, compiler, library_sources, of_kit, put_together, read_record
 from .symbols import LoadedSymbols, without_symbols
 from .writing import Folder, named_folder
 
@@ -31,7 +32,8 @@ INTERPRETERS = (
     (b"/usr/bin/env -S python3 -I\n", b"/usr/bin/python3 -I\n"),
 )
 PLATFORM = "x86_64-linux"
-OF_SOURCES = ("crates", "crates.txt", "HANDLES", "VERSION")
+OF_SOURCES = ("crates", "crates.txt", "HANDLES", "VERSION", "library")
+OF_LIBRARY = "LIBRARY"  # the record of the library, beside BUILD
 MAINTAINER = "The sdhring project <sdhring@example.org>"
 SUMMARY = "SDH ring in software, proved: run plans, read what customers get"
 ABOUT = """\
@@ -114,7 +116,35 @@ def refresh(folder=None):
     for name, data in files.items():
         put(named_folder(DIST), name, Piece(data, is_run=True))
     put(named_folder(DIST), "BUILD", Piece(write_build(records).encode("ascii")))
+    if OURS.is_dir():
+        refresh_library(commit, kit, folder)
     return records
+
+
+def refresh_library(commit: str, kit: str, folder: Path | None = None) -> None:
+    """Puts the library together out of what rt ci has compiled of the program, with its record."""
+    proved = folder / PROGRAM.name if folder else PROGRAM
+    if not proved.is_file() or not folder and proved.stat().st_mtime < newest_source():
+        raise ReleaseProblem(f"{proved} isn't there, or older than a source: rt ci builds it")
+    with tempfile.TemporaryDirectory() as place:
+        made = Path(place) / LIBRARY
+        try:
+            put_together(proved, of_kit(), made)
+            record = LibraryRecord(version(), commit, kit, compiler(), sum_of(made.read_bytes()), library_sources(sources_of("sdhnode")))
+        except LibraryProblem as problem:
+            raise ReleaseProblem(str(problem)) from None
+        put(named_folder(DIST), LIBRARY, Piece(made.read_bytes()))
+        put(named_folder(DIST), OF_LIBRARY, Piece(record.text().encode("utf-8")))
+
+
+def said_of_library() -> tuple[list[str], bool]:
+    """Returns what is said of the library in dist/, and whether it isn't the one that its record names."""
+    file, record = DIST / LIBRARY, read_record((DIST / OF_LIBRARY).read_text(encoding="utf-8")) if (DIST / OF_LIBRARY).is_file() else None
+    if record is None or not file.is_file() or sum_of(file.read_bytes()) != record.sum:
+        return [f"dist/{LIBRARY}: isn't the library that dist/{OF_LIBRARY} names"], True
+    if record.sources != library_sources(sources_of("sdhnode")):
+        return [f"dist/{LIBRARY}: of release {record.version}, commit {record.commit[:12]}; the sources have changed since"], False
+    return [f"dist/{LIBRARY}: of these sources"], False
 
 
 def compare():
@@ -135,7 +165,8 @@ def compare():
             differs = True
         else:
             said.append(f"dist/{name}: the same bytes as these sources build")
-    return said, differs
+    words, is_other = said_of_library() if OURS.is_dir() else ([], False)
+    return [*said, *words], differs or is_other
 
 
 # -- archives
@@ -155,6 +186,8 @@ def tree():
     found["VERSION"] = Piece((HOME / "VERSION").read_bytes())
     found |= {f"dist/{name}": Piece((DIST / name).read_bytes(), is_run=True) for name in PROGRAMS}
     found["dist/BUILD"] = Piece((DIST / "BUILD").read_bytes())
+    found |= {f"dist/{name}": Piece((DIST / name).read_bytes()) for name in (LIBRARY, OF_LIBRARY) if (DIST / name).is_file()}
+    found |= {f"library/{path.name}": Piece(path.read_bytes()) for path in sorted(OURS.glob("sdhnode.*"))}
     found["tools/completion.bash"] = Piece(released((HOME / "tools" / "completion.bash").read_text(encoding="utf-8")).encode("utf-8"))
     for name in map(str, modules()):
         found[f"tools/{name}"] = Piece((HOME / "tools" / name).read_bytes(), is_run=is_run(HOME / "tools" / name))
