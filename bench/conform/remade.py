@@ -19,6 +19,7 @@ SOURCE_OF = {
     "sdh_request/waits_one_moment_too_long": ("3.waiting", "moment < self.ended + wait", "moment <= self.ended + wait"),
     # states and words
     "sdh_nodestate/relays_a_word_of_its_own": ("4.relays", "elif word and word[2] == self.me:", "elif False:"),
+    "sdh_nodestate/an_own_word_with_the_others_source": ("4.long-word", "self.neighbours[e], self.me, LONG)  # 4.long-word", "self.neighbours[e], self.neighbours[e], LONG)  # 4.long-word"),
     "sdh_nodestate/two_equal_manual_requests_both_switch": ("4.switches-lower", "if self.weight[1 - d] >= mine:", "if self.weight[1 - d] > mine:"),
     "sdh_nodestate/a_low_long_word_hides_a_failure": ("4.first-11", "if self.weight[1 - d] >= SF:", "if self.weight[1 - d] >= FS:"),
     "sdh_nodestate/hears_after_two_frames": ("2.heard", "    first, second, last = brought\n", "    brought = brought[1], *brought[1:]\n    first, second, last = brought\n"),
