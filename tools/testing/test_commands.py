@@ -107,6 +107,8 @@ def lacks(command):
     """The program that a command needs and that isn't here, or what isn't to be asked for in a test; or nothing."""
     needed = {"parallel": "parallel", "tshark": "tshark", "jq": "jq", "man": "man"}
     found = [program for word, program in needed.items() if re.search(rf"(?:^|\| ){word} ", command) and not shutil.which(program, path="/usr/bin:/bin")]
+    if command.endswith(" ./node-in-c"):
+        return "what a compiler makes of examples/library/node.c, which test_library tries"
     return found[0] if found else "another machine" if "--sshlogin" in command else ""
 
 
