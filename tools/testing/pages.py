@@ -37,6 +37,16 @@ def browsed(markup, deeds):
     return html.unescape(re.search("<pre>(.*?)</pre>", ended.stdout, re.S)[1]).split("\n")
 
 
+def failures(markup):
+    """What scripts of a page end with in a browser, of which the page shows nothing."""
+    with tempfile.TemporaryDirectory() as folder:
+        page = Path(folder) / "page.html"
+        page.write_text(markup)
+        words = [BROWSER, *WORDS, "--virtual-time-budget=2000", "--enable-logging=stderr", f"--user-data-dir={folder}/own", "--dump-dom", page.as_uri()]
+        ended = subprocess.run(words, capture_output=True, text=True, timeout=PATIENCE)
+    return re.findall(r'"(Uncaught [^"]*)"', ended.stderr)
+
+
 def printed(markup):
     """The words of a page's sheets as they are laid out, each ended by a form feed."""
     with tempfile.TemporaryDirectory() as folder:

@@ -11,7 +11,7 @@ from functools import cache
 from pathlib import Path
 
 from common import TOOLS, call, command
-from pages import BROWSER, Seen, browsed
+from pages import BROWSER, Seen, browsed, failures
 
 from ringtools.flights import Flight, flights
 from ringtools.kbytes import Word
@@ -340,6 +340,11 @@ class Pages(unittest.TestCase):
         self.assertIn("only one of PLAN, the signalling and the outages can be standard input", said("--signalling", "-", "-"))
         self.assertIn("nowhere/sdhaps: No such file", said("--signalling", "--program", "nowhere/sdhaps", plan))
         self.assertIn("examples/refused.toml: ", said("--signalling", ROOT / "examples" / "refused.toml"))
+
+    @unittest.skipUnless(BROWSER, "there is no chromium")
+    def test_no_script_of_the_page_fails(self):
+        self.assertEqual(failures(page_of("cut")), [])
+        self.assertEqual(len(failures("<script>none.such</script>")), 1)
 
     @unittest.skipUnless(BROWSER, "there is no chromium")
     def test_rounds_in_a_browser(self):

@@ -87,7 +87,8 @@
     button.textContent = open ? "fold all" : "unfold all";
   };
 
-  all("figure.figure").forEach(prepare);
+  // A diagram of signalling has no things to point at, and no place that names them.
+  all("figure.figure").filter((figure) => figure.querySelector(".told")).forEach(prepare);
   all("tr[data-circuit] > .name").forEach(makeButton);
   for (const tools of all(".tools")) tools.hidden = false;
   for (const button of all("button.unfold")) button.addEventListener("click", () => unfold(button));
