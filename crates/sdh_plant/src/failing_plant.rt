@@ -1,17 +1,17 @@
 //! Honest fibres in memory, with some calls that fail.
-ghost use Rattle.std.specs.Prelude.{◌≡◌, ◌≢◌, true, ◌<◌, ◌≤◌, ◌↔◌, None, Ok, Err, IfOk, IsErr, OnOk, OnErr, IsErrOf, IsTrue, Contains};
+ghost use Rattle.std.specs.Prelude.{◌≡◌, true, ◌<◌, ◌≤◌, ◌↔◌, Ok, Err, IfOk, IsErr, OnOk, OnErr, IsErrOf, IsTrue, Contains};
 ghost use Rattle.std.specs.Prelude.{refl};
 ghost use Rattle.sdh_basics.specs.Causes.{Rose, IsCounted, HasCause, one_more};
 ghost use Rattle.sdh_plant.specs.declared.failing_plant.PlantCall.TheVariants.{Prepare, Apply, Send, Receive};
 ghost use Rattle.sdh_plant.specs.Fibres.{HasNoFibres};
-ghost use Rattle.sdh_ringmap.specs.Fibres.{IsConditionAt, fibre};
-ghost use Rattle.sdh_plant.specs.Arrivals.{Knows, arrival, as_arrival, arrived_in, carried_on};
-ghost use Rattle.sdh_plant.specs.Calls.{prepared, after_apply, after_send, after_receive, IsExchanged};
+ghost use Rattle.sdh_ringmap.specs.Fibres.{IsConditionAt};
+ghost use Rattle.sdh_plant.specs.Arrivals.{Knows, arrival, as_arrival};
+ghost use Rattle.sdh_plant.specs.Calls.{prepared, after_apply, after_send, after_receive};
 ghost use Rattle.sdh_plant.specs.InMemory.{fibres_of, clear_fibres, made, IsFailing, called, refused};
 
 use crate::fibre_plant::FibrePlant;
 use crate::plant::{Arrived, Failed, LendingPlant, Plant, PrepareError};
-use sdh_frame::{FrameBuf, Landing};
+use sdh_frame::{FrameBuf};
 use sdh_ringmap::{FibreEvent, Pos, Rate, Side};
 use std::alloc::{AllocError, Global};
 use std::marker::Model;
@@ -194,24 +194,6 @@ impl Plant for FailingPlant {
         Ok(())
     }
 
-    fn exchange(&mut self, at: Pos, side: Side, frame: &mut FrameBuf) -> Result<(), Failed>
-        requires at { at.0 < (fibres_of self.old.fibres).nodes }
-        requires rate { frame.old.rate ≡ (fibres_of self.old.fibres).rate }
-        ensures ok { OnOk result (fibres_of self.new.fibres ≡ after_send (fibres_of self.old.fibres) at.0 side frame.old.bytes) }
-        ensures rate { frame.new.rate ≡ frame.old.rate }
-        ensures err { OnErr result (fibres_of self.new.fibres ≡ fibres_of self.old.fibres) }
-        ensures untouched { OnErr result (frame.new ≡ frame.old) }
-        ensures exchanged { IsExchanged (carried_on (fibres_of self.old.fibres) (fibre at.0 side)) frame.old frame.new }
-        ensures cause { HasCause true self.old.faults self.new.faults result }
-
-        ensures fails { IsErr result ↔ IsFailing Send self.old }
-        ensures kept { OnOk result (self.new ≡ record (called Send self.old) { fibres = self.new.fibres }) }
-        ensures refused { OnErr result (self.new ≡ refused Send self.old) }
-        ensures same { frame.new ≡ frame.old }
-    {
-        self.send(at, side, frame)
-    }
-
     fn receive(&mut self, at: Pos, side: Side, frame: &mut FrameBuf) -> Result<Arrived, Failed>
         requires at { at.0 < (fibres_of self.old.fibres).nodes }
         requires rate { frame.old.rate ≡ (fibres_of self.old.fibres).rate }
@@ -230,35 +212,6 @@ impl Plant for FailingPlant {
     {
         self.call(PlantCall::Receive)?;
         Ok(self.plant.give(at, side, frame))
-    }
-
-    fn receive_into<L: Landing>(
-        &mut self,
-        at: Pos,
-        side: Side,
-        into: &mut L,
-        spare: &mut FrameBuf,
-    ) -> Result<Arrived, Failed>
-        requires at { at.0 < (fibres_of self.old.fibres).nodes }
-        requires rate { L.rate into.old ≡ (fibres_of self.old.fibres).rate }
-        requires spare { spare.old.rate ≡ (fibres_of self.old.fibres).rate }
-        ensures ok { OnOk result (fibres_of self.new.fibres ≡ after_receive (fibres_of self.old.fibres)) }
-        ensures arrival { IfOk result
-            (λ a. Knows (fibres_of self.old.fibres) → arrived_in a (L.landed into.new) ≡ arrival (fibres_of self.old.fibres) at.0 side) }
-        ensures landed { result ≡ Ok Arrived.Frame → L.landed into.new ≢ None }
-        ensures dark { result ≡ Ok Arrived.Dark → into.new ≡ into.old }
-        ensures rate { L.rate into.new ≡ L.rate into.old }
-        ensures spare { spare.new.rate ≡ spare.old.rate }
-        ensures err { OnErr result (fibres_of self.new.fibres ≡ fibres_of self.old.fibres) }
-        ensures cause { HasCause true self.old.faults self.new.faults result }
-
-        ensures fails { IsErr result ↔ IsFailing Receive self.old }
-        ensures kept { OnOk result (self.new ≡ called Receive self.old) }
-        ensures refused { OnErr result (self.new ≡ refused Receive self.old) }
-        ensures untouched { OnErr result (into.new ≡ into.old) }
-    {
-        self.call(PlantCall::Receive)?;
-        Ok(self.plant.give(at, side, into))
     }
 
     ghost honest_tells_none = { λ p honest. refl };

@@ -1,13 +1,12 @@
 //! Honest fibres in memory.
-ghost use Rattle.std.specs.Prelude.{◌≡◌, ◌≢◌, true, ◌+◌, ◌*◌, ◌<◌, ◌≤◌, Some, None, Ok, IfOk, IfSome, IfNone, IsOk, OnOk, OnErr, IsOkUnless};
-ghost use Rattle.std.specs.Prelude.{IsErrOf, All, length, replicate, slice_index_or, slice_set, refl};
-ghost use Rattle.sdh_basics.specs.Causes.{Rose, IsCounted, HasCause};
+ghost use Rattle.std.specs.Prelude.{◌≡◌, ◌≢◌, true, ◌+◌, ◌*◌, ◌<◌, ◌≤◌, Some, None, Ok, IfOk, IfSome, IfNone, IsOk, OnOk, OnErr};
+ghost use Rattle.std.specs.Prelude.{All, length, replicate, slice_index_or, slice_set, refl};
+ghost use Rattle.sdh_basics.specs.Causes.{HasCause};
 ghost use Rattle.sdh_ringmap.specs.Rates.{n_of};
 ghost use Rattle.sdh_ringmap.specs.declared.terms.Condition.TheVariants.{Clear};
-ghost use Rattle.sdh_plant.specs.Fibres.{HasNoFibres};
 ghost use Rattle.sdh_ringmap.specs.Fibres.{IsConditionAt, fibre, fibre_to};
-ghost use Rattle.sdh_plant.specs.Arrivals.{Knows, arrival, as_arrival, arrived_in, through, carried_on, honest_arrival};
-ghost use Rattle.sdh_plant.specs.Calls.{prepared, after_apply, after_send, after_receive, carried_or_zeros, IsExchanged};
+ghost use Rattle.sdh_plant.specs.Arrivals.{arrival, arrived_in, through, carried_on, honest_arrival};
+ghost use Rattle.sdh_plant.specs.Calls.{after_send, carried_or_zeros, IsExchanged};
 ghost use Rattle.sdh_plant.specs.InMemory.{fibres_of, clear_fibres};
 ghost use Rattle.sdh_plant.specs.Kept.{IsFibre, carried_by, conditions, carried};
 
@@ -273,44 +272,17 @@ impl Plant for FibrePlant {
 
     ghost exact = { true };
 
-    fn prepare(&mut self, alloc: Global, rate: Rate, nodes: usize) -> Result<(), PrepareError>
-        requires fresh { HasNoFibres (fibres_of self.old) }
-        requires enough { 2 ≤ nodes }
-        requires few { nodes ≤ 16 }
-        ensures ok { OnOk result (fibres_of self.new ≡ prepared rate nodes (fibres_of self.old)) }
-        ensures err { OnErr result (fibres_of self.new ≡ fibres_of self.old) }
-        ensures failed { IsErrOf result PrepareError.Failed → Rose 0 0 }
-        ensures counted { IsCounted true (IsErrOf result PrepareError.Failed) 0 0 }
-        ensures later { 0 ≤ 0 }
-
-        ensures never_fails { IsOkUnless result PrepareError.Memory }
-    {
+    fn prepare(&mut self, alloc: Global, rate: Rate, nodes: usize) -> Result<(), PrepareError> {
         self.lay(alloc, rate, nodes)?;
         Ok(())
     }
 
-    fn apply(&mut self, event: FibreEvent) -> Result<(), Failed>
-        requires at { event.at.0 < (fibres_of self.old).nodes }
-        requires condition { IsConditionAt (fibres_of self.old).rate event.condition }
-        ensures ok { OnOk result (fibres_of self.new ≡ after_apply (fibres_of self.old) event.at.0 event.side event.condition) }
-        ensures err { OnErr result (fibres_of self.new ≡ fibres_of self.old) }
-        ensures cause { HasCause true 0 0 result }
-
-        ensures never_fails { IsOk result }
-    {
+    fn apply(&mut self, event: FibreEvent) -> Result<(), Failed> {
         self.change(event);
         Ok(())
     }
 
-    fn send(&mut self, at: Pos, side: Side, frame: &FrameBuf) -> Result<(), Failed>
-        requires at { at.0 < (fibres_of self.old).nodes }
-        requires rate { frame.now.rate ≡ (fibres_of self.old).rate }
-        ensures ok { OnOk result (fibres_of self.new ≡ after_send (fibres_of self.old) at.0 side frame.now.bytes) }
-        ensures err { OnErr result (fibres_of self.new ≡ fibres_of self.old) }
-        ensures cause { HasCause true 0 0 result }
-
-        ensures never_fails { IsOk result }
-    {
+    fn send(&mut self, at: Pos, side: Side, frame: &FrameBuf) -> Result<(), Failed> {
         self.carry(at, side, frame);
         Ok(())
     }
@@ -332,19 +304,7 @@ impl Plant for FibrePlant {
         Ok(())
     }
 
-    fn receive(&mut self, at: Pos, side: Side, frame: &mut FrameBuf) -> Result<Arrived, Failed>
-        requires at { at.0 < (fibres_of self.old).nodes }
-        requires rate { frame.old.rate ≡ (fibres_of self.old).rate }
-        ensures ok { OnOk result (fibres_of self.new ≡ after_receive (fibres_of self.old)) }
-        ensures arrival { IfOk result
-            (λ a. Knows (fibres_of self.old) → as_arrival a frame.new.bytes ≡ arrival (fibres_of self.old) at.0 side) }
-        ensures dark { result ≡ Ok Arrived.Dark → frame.new ≡ frame.old }
-        ensures rate { frame.new.rate ≡ frame.old.rate }
-        ensures err { OnErr result (fibres_of self.new ≡ fibres_of self.old) }
-        ensures cause { HasCause true 0 0 result }
-
-        ensures never_fails { IsOk result }
-    {
+    fn receive(&mut self, at: Pos, side: Side, frame: &mut FrameBuf) -> Result<Arrived, Failed> {
         Ok(self.give(at, side, frame))
     }
 
@@ -354,22 +314,7 @@ impl Plant for FibrePlant {
         side: Side,
         into: &mut L,
         spare: &mut FrameBuf,
-    ) -> Result<Arrived, Failed>
-        requires at { at.0 < (fibres_of self.old).nodes }
-        requires rate { L.rate into.old ≡ (fibres_of self.old).rate }
-        requires spare { spare.old.rate ≡ (fibres_of self.old).rate }
-        ensures ok { OnOk result (fibres_of self.new ≡ after_receive (fibres_of self.old)) }
-        ensures arrival { IfOk result
-            (λ a. Knows (fibres_of self.old) → arrived_in a (L.landed into.new) ≡ arrival (fibres_of self.old) at.0 side) }
-        ensures landed { result ≡ Ok Arrived.Frame → L.landed into.new ≢ None }
-        ensures dark { result ≡ Ok Arrived.Dark → into.new ≡ into.old }
-        ensures rate { L.rate into.new ≡ L.rate into.old }
-        ensures spare { spare.new.rate ≡ spare.old.rate }
-        ensures err { OnErr result (fibres_of self.new ≡ fibres_of self.old) }
-        ensures cause { HasCause true 0 0 result }
-
-        ensures never_fails { IsOk result }
-    {
+    ) -> Result<Arrived, Failed> {
         Ok(self.give(at, side, into))
     }
 

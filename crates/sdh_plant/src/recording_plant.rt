@@ -1,16 +1,16 @@
 //! Honest fibres in memory that record what was sent.
-ghost use Rattle.std.specs.Prelude.{◌≡◌, ◌≢◌, true, ◌+◌, ◌-◌, ◌<◌, ◌≤◌, ◌↔◌, [], ◌∷◌, ◌++◌, None, Ok, IfOk, IsOk, IsErr, OnOk};
+ghost use Rattle.std.specs.Prelude.{◌≡◌, true, ◌+◌, ◌-◌, ◌<◌, ◌≤◌, ◌↔◌, [], ◌∷◌, ◌++◌, None, Ok, IfOk, IsOk, IsErr, OnOk};
 ghost use Rattle.std.specs.Prelude.{OnErr, IsOkUnless, IsErrOf, All, length, slice_set, refl};
 ghost use Rattle.sdh_basics.specs.Causes.{Rose, IsCounted, HasCause, one_more};
 ghost use Rattle.sdh_plant.specs.Fibres.{HasNoFibres};
-ghost use Rattle.sdh_ringmap.specs.Fibres.{IsConditionAt, fibre};
-ghost use Rattle.sdh_plant.specs.Arrivals.{Knows, arrival, as_arrival, arrived_in, carried_on};
-ghost use Rattle.sdh_plant.specs.Calls.{prepared, after_apply, after_send, after_receive, IsExchanged};
+ghost use Rattle.sdh_ringmap.specs.Fibres.{IsConditionAt};
+ghost use Rattle.sdh_plant.specs.Arrivals.{Knows, arrival, as_arrival};
+ghost use Rattle.sdh_plant.specs.Calls.{prepared, after_apply, after_send, after_receive};
 ghost use Rattle.sdh_plant.specs.InMemory.{clear_fibres, recorded_of};
 
 use crate::fibre_plant::FibrePlant;
 use crate::plant::{Arrived, Failed, LendingPlant, Plant, PrepareError};
-use sdh_frame::{FrameBuf, Landing};
+use sdh_frame::{FrameBuf};
 use sdh_ringmap::{FibreEvent, Pos, Rate, Side};
 use std::alloc::{AllocError, Global};
 use std::marker::Model;
@@ -160,24 +160,6 @@ impl Plant for RecordingPlant {
         Ok(())
     }
 
-    fn exchange(&mut self, at: Pos, side: Side, frame: &mut FrameBuf) -> Result<(), Failed>
-        requires at { at.0 < (recorded_of self.old).nodes }
-        requires rate { frame.old.rate ≡ (recorded_of self.old).rate }
-        ensures ok { OnOk result (recorded_of self.new ≡ after_send (recorded_of self.old) at.0 side frame.old.bytes) }
-        ensures rate { frame.new.rate ≡ frame.old.rate }
-        ensures err { OnErr result (recorded_of self.new ≡ recorded_of self.old) }
-        ensures untouched { OnErr result (frame.new ≡ frame.old) }
-        ensures exchanged { IsExchanged (carried_on (recorded_of self.old) (fibre at.0 side)) frame.old frame.new }
-        ensures cause { HasCause true self.old.faults self.new.faults result }
-
-        ensures fails { IsErr result ↔ (length self.old.sent ≡ self.old.room) }
-        ensures sent { OnOk result (self.new ≡ record self.old { fibres = self.new.fibres; sent = self.old.sent ++ frame.old ∷ [] }) }
-        ensures counted { OnErr result (self.new ≡ record self.old { faults = one_more self.old.faults }) }
-        ensures same { frame.new ≡ frame.old }
-    {
-        self.send(at, side, frame)
-    }
-
     fn receive(&mut self, at: Pos, side: Side, frame: &mut FrameBuf) -> Result<Arrived, Failed>
         requires at { at.0 < (recorded_of self.old).nodes }
         requires rate { frame.old.rate ≡ (recorded_of self.old).rate }
@@ -193,32 +175,6 @@ impl Plant for RecordingPlant {
         ensures kept { self.new ≡ self.old }
     {
         Ok(self.plant.give(at, side, frame))
-    }
-
-    fn receive_into<L: Landing>(
-        &mut self,
-        at: Pos,
-        side: Side,
-        into: &mut L,
-        spare: &mut FrameBuf,
-    ) -> Result<Arrived, Failed>
-        requires at { at.0 < (recorded_of self.old).nodes }
-        requires rate { L.rate into.old ≡ (recorded_of self.old).rate }
-        requires spare { spare.old.rate ≡ (recorded_of self.old).rate }
-        ensures ok { OnOk result (recorded_of self.new ≡ after_receive (recorded_of self.old)) }
-        ensures arrival { IfOk result
-            (λ a. Knows (recorded_of self.old) → arrived_in a (L.landed into.new) ≡ arrival (recorded_of self.old) at.0 side) }
-        ensures landed { result ≡ Ok Arrived.Frame → L.landed into.new ≢ None }
-        ensures dark { result ≡ Ok Arrived.Dark → into.new ≡ into.old }
-        ensures rate { L.rate into.new ≡ L.rate into.old }
-        ensures spare { spare.new.rate ≡ spare.old.rate }
-        ensures err { OnErr result (recorded_of self.new ≡ recorded_of self.old) }
-        ensures cause { HasCause true self.old.faults self.new.faults result }
-
-        ensures never_fails { IsOk result }
-        ensures kept { self.new ≡ self.old }
-    {
-        Ok(self.plant.give(at, side, into))
     }
 
     ghost honest_tells_none = { λ p honest. refl };

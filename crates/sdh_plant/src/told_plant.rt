@@ -1,13 +1,10 @@
 //! Fibres in memory that give arrivals from a list.
-ghost use Rattle.std.specs.Prelude.{◌≡◌, ◌≢◌, ◌<◌, ◌≤◌, true, None, Ok, IfOk, IsOk, OnOk, OnErr, IsOkUnless, IsErrOf, All, map};
+ghost use Rattle.std.specs.Prelude.{◌≡◌, ◌≢◌, ◌<◌, true, None, Ok, All, map};
 ghost use Rattle.std.specs.Prelude.{drop};
 ghost use Rattle.std.specs.List.{list_all};
 ghost use Rattle.std.proofs.lemmas.Bool.{false≢true};
-ghost use Rattle.sdh_basics.specs.Causes.{Rose, IsCounted, HasCause};
-ghost use Rattle.sdh_plant.specs.Fibres.{HasNoFibres};
-ghost use Rattle.sdh_ringmap.specs.Fibres.{IsConditionAt, fibre};
-ghost use Rattle.sdh_plant.specs.Arrivals.{Knows, arrival, as_arrival, arrived_in, carried_on, next_told};
-ghost use Rattle.sdh_plant.specs.Calls.{is_at, prepared, after_apply, after_send, after_receive, IsExchanged};
+ghost use Rattle.sdh_plant.specs.Arrivals.{arrival, arrived_in, next_told};
+ghost use Rattle.sdh_plant.specs.Calls.{is_at, prepared};
 ghost use Rattle.sdh_plant.specs.InMemory.{clear_fibres, told_of};
 ghost use Rattle.sdh_plant.specs.Kept.{arrival_of, IsToldAt};
 
@@ -124,18 +121,7 @@ impl Plant for ToldPlant {
 
     ghost exact = { true };
 
-    fn prepare(&mut self, alloc: Global, rate: Rate, nodes: usize) -> Result<(), PrepareError>
-        requires fresh { HasNoFibres (told_of self.old) }
-        requires enough { 2 ≤ nodes }
-        requires few { nodes ≤ 16 }
-        ensures ok { OnOk result (told_of self.new ≡ prepared rate nodes (told_of self.old)) }
-        ensures err { OnErr result (told_of self.new ≡ told_of self.old) }
-        ensures failed { IsErrOf result PrepareError.Failed → Rose 0 0 }
-        ensures counted { IsCounted true (IsErrOf result PrepareError.Failed) 0 0 }
-        ensures later { 0 ≤ 0 }
-
-        ensures never_fails { IsOkUnless result PrepareError.Memory }
-    {
+    fn prepare(&mut self, alloc: Global, rate: Rate, nodes: usize) -> Result<(), PrepareError> {
         self.plant.lay(alloc, rate, nodes)?;
         if !are_told_at(&self.arrivals[self.next..], rate) {
             self.next = self.arrivals.len();
@@ -143,87 +129,18 @@ impl Plant for ToldPlant {
         Ok(())
     }
 
-    fn apply(&mut self, event: FibreEvent) -> Result<(), Failed>
-        requires at { event.at.0 < (told_of self.old).nodes }
-        requires condition { IsConditionAt (told_of self.old).rate event.condition }
-        ensures ok { OnOk result (told_of self.new ≡ after_apply (told_of self.old) event.at.0 event.side event.condition) }
-        ensures err { OnErr result (told_of self.new ≡ told_of self.old) }
-        ensures cause { HasCause true 0 0 result }
-
-        ensures never_fails { IsOk result }
-    {
+    fn apply(&mut self, event: FibreEvent) -> Result<(), Failed> {
         self.plant.change(event);
         Ok(())
     }
 
-    fn send(&mut self, at: Pos, side: Side, frame: &FrameBuf) -> Result<(), Failed>
-        requires at { at.0 < (told_of self.old).nodes }
-        requires rate { frame.now.rate ≡ (told_of self.old).rate }
-        ensures ok { OnOk result (told_of self.new ≡ after_send (told_of self.old) at.0 side frame.now.bytes) }
-        ensures err { OnErr result (told_of self.new ≡ told_of self.old) }
-        ensures cause { HasCause true 0 0 result }
-
-        ensures never_fails { IsOk result }
-    {
+    fn send(&mut self, at: Pos, side: Side, frame: &FrameBuf) -> Result<(), Failed> {
         self.plant.carry(at, side, frame);
         Ok(())
     }
 
-    fn exchange(&mut self, at: Pos, side: Side, frame: &mut FrameBuf) -> Result<(), Failed>
-        requires at { at.0 < (told_of self.old).nodes }
-        requires rate { frame.old.rate ≡ (told_of self.old).rate }
-        ensures ok { OnOk result (told_of self.new ≡ after_send (told_of self.old) at.0 side frame.old.bytes) }
-        ensures rate { frame.new.rate ≡ frame.old.rate }
-        ensures err { OnErr result (told_of self.new ≡ told_of self.old) }
-        ensures untouched { OnErr result (frame.new ≡ frame.old) }
-        ensures exchanged { IsExchanged (carried_on (told_of self.old) (fibre at.0 side)) frame.old frame.new }
-        ensures cause { HasCause true 0 0 result }
-
-        ensures never_fails { IsOk result }
-        ensures same { frame.new ≡ frame.old }
-    {
-        self.send(at, side, frame)
-    }
-
-    fn receive(&mut self, at: Pos, side: Side, frame: &mut FrameBuf) -> Result<Arrived, Failed>
-        requires at { at.0 < (told_of self.old).nodes }
-        requires rate { frame.old.rate ≡ (told_of self.old).rate }
-        ensures ok { OnOk result (told_of self.new ≡ after_receive (told_of self.old)) }
-        ensures arrival { IfOk result
-            (λ a. Knows (told_of self.old) → as_arrival a frame.new.bytes ≡ arrival (told_of self.old) at.0 side) }
-        ensures dark { result ≡ Ok Arrived.Dark → frame.new ≡ frame.old }
-        ensures rate { frame.new.rate ≡ frame.old.rate }
-        ensures err { OnErr result (told_of self.new ≡ told_of self.old) }
-        ensures cause { HasCause true 0 0 result }
-
-        ensures never_fails { IsOk result }
-    {
+    fn receive(&mut self, at: Pos, side: Side, frame: &mut FrameBuf) -> Result<Arrived, Failed> {
         Ok(self.give_next(frame))
-    }
-
-    fn receive_into<L: Landing>(
-        &mut self,
-        at: Pos,
-        side: Side,
-        into: &mut L,
-        spare: &mut FrameBuf,
-    ) -> Result<Arrived, Failed>
-        requires at { at.0 < (told_of self.old).nodes }
-        requires rate { L.rate into.old ≡ (told_of self.old).rate }
-        requires spare { spare.old.rate ≡ (told_of self.old).rate }
-        ensures ok { OnOk result (told_of self.new ≡ after_receive (told_of self.old)) }
-        ensures arrival { IfOk result
-            (λ a. Knows (told_of self.old) → arrived_in a (L.landed into.new) ≡ arrival (told_of self.old) at.0 side) }
-        ensures landed { result ≡ Ok Arrived.Frame → L.landed into.new ≢ None }
-        ensures dark { result ≡ Ok Arrived.Dark → into.new ≡ into.old }
-        ensures rate { L.rate into.new ≡ L.rate into.old }
-        ensures spare { spare.new.rate ≡ spare.old.rate }
-        ensures err { OnErr result (told_of self.new ≡ told_of self.old) }
-        ensures cause { HasCause true 0 0 result }
-
-        ensures never_fails { IsOk result }
-    {
-        Ok(self.give_next(into))
     }
 
     ghost honest_tells_none = { λ p honest. absurd (false≢true honest) };

@@ -1,26 +1,25 @@
 -- The two ends of a span at the level agree on it: the end with the larger local request says so on the span in each
 -- round, and the other end hears it, three rounds later at the latest. So from round n + 4 on both know the span's
 -- request, answer on it with a constant short word and announce it the other way round with a constant long word.
-use Rattle.std.proofs.Common.{◌≡◌, ℕ, ◌+◌, ◌-◌, ◌<◌, ◌≤◌, suc, Bool, true, false, Some, None, length, refl, ap, sym, subst, ◌∙◌, arith, inl}
+use Rattle.std.proofs.Common.{◌≡◌, ℕ, ◌+◌, ◌-◌, ◌<◌, ◌≤◌, suc, Bool, true, false, Some, None, refl, ap, sym, subst, ◌∙◌, arith, inl}
 use Rattle.std.proofs.Common.{inr}
-use Rattle.std.specs.Prelude.{nat_le, nat_lt, not, ◌&&◌, if◌then◌else◌, slice_index}
+use Rattle.std.specs.Prelude.{nat_le, nat_lt, not, ◌&&◌, if◌then◌else◌}
 use Rattle.std.proofs.lemmas.Bool.{and_right, cases_lt, cond-true, cond-false, le-leb, lt-leb, lt-ltb, le-ltb}
 use Rattle.sdh_kbytes.specs.declared.K.{K}
 use Rattle.sdh_ringmap.specs.declared.terms.Code.{Code}
 use Rattle.sdh_ringmap.specs.declared.terms.Code.TheVariants.{Nr, Rr}
-use Rattle.sdh_kbytes.specs.declared.Path.{Path}
 use Rattle.sdh_kbytes.specs.declared.Path.TheVariants.{Short, Long}
 use Rattle.sdh_ringmap.specs.Requests.{code_number}
 use Rattle.sdh_ringmap.specs.Places.{opposite}
 use Rattle.sdh_ringmap.specs.declared.Side.{Side}
 use Rattle.sdh_nodestate.specs.Rules.{Scene, local, larger, word_on, short, stronger, word}
-use Rattle.sdh_signal.specs.Signals.{request_on, fails_on}
-use Rattle.sdh_signal.specs.Runs.{Run, at_round, IsRun, bare}
+use Rattle.sdh_signal.specs.Signals.{fails_on}
+use Rattle.sdh_signal.proofs.Terms.{terms}
+use Rattle.sdh_signal.specs.Runs.{Run, IsRun, bare}
 use Rattle.sdh_signal.proofs.OneNode.{short_of, short_code, word_short}
 use Rattle.sdh_signal.proofs.Bare.{unbare}
 use Rattle.sdh_ringmap.proofs.Sides.{neighbour_back}
-use Rattle.sdh_signal.proofs.Runs.{next, next_below, request, local_is, asks_back, short_le, weight_le, failing}
-use Rattle.sdh_signal.proofs.Levels as levels
+use Rattle.sdh_signal.proofs.Runs.{next_below, local_is, asks_back, short_le, weight_le, failing}
 use Rattle.sdh_signal.proofs.Levels.{IsLevel, sends_short, sends_far}
 
 larger_left : (a b : Code) → code_number b ≤ code_number a → larger a b ≡ a
@@ -38,44 +37,7 @@ unfolding short
 short_none s d e = rw e
 
 module _ (run : Run) (R : IsRun run) where
-  abbrev n : ℕ
-  n = length run.ids
-
-  abbrev at : ℕ → ℕ → Scene
-  at t p = at_round run t p
-
-  abbrev id : ℕ → ℕ
-  id p = slice_index run.ids p
-
-  abbrev nx : ℕ → Side → ℕ
-  nx p d = next run R p d
-
-  abbrev code : ℕ → Side → Code
-  code p d = request_on (run.need p) d
-
-  abbrev asks : ℕ → Side → ℕ
-  asks p d = code_number (request_on (run.need p) d)
-
-  abbrev asked : ℕ → Side → ℕ
-  asked p d = request run R p d
-
-  abbrev word_at : ℕ → ℕ → Side → K
-  word_at t p d = word (at_round run t p) d
-
-  abbrev away : ℕ → ℕ → Side → K
-  away t p e = word (at_round run t p) (opposite e)
-
-  abbrev plain : ℕ → Side → Code → Path → K
-  plain p d c path = levels.plain run R p d c path
-
-  abbrev outdone : ℕ → Side → Bool
-  outdone p d = levels.outdone run R p d
-
-  abbrev top_code : ℕ → Side → Code
-  top_code p d = levels.top_code run R p d
-
-  abbrev answer_code : ℕ → Side → Code
-  answer_code p d = levels.answer_code run R p d
+  open terms run use {n, at, id, next as nx, code, asks, request as asked, word_at, away, plain, outdone, top_code, answer_code}
 
   module _ (c : ℕ) (level : IsLevel run R c) where
     -- what p knows of its span, and says of it on the span itself

@@ -1,23 +1,23 @@
 -- Long words traced backward: one that is heard k nodes from its source was sent by that source k rounds before. So
 -- once the words from before the run have gone, which n rounds are enough for, no long word weighs more than the
 -- highest request of all spans.
-use Rattle.std.proofs.Common.{◌≡◌, ℕ, ◌+◌, ◌-◌, ◌<◌, ◌≤◌, suc, zero, Option, Some, None, length, refl, ap, sym, subst, ◌∙◌, arith, inl, inr}
+use Rattle.std.proofs.Common.{◌≡◌, ℕ, ◌+◌, ◌-◌, ◌<◌, ◌≤◌, suc, zero, Option, Some, None, refl, ap, sym, subst, ◌∙◌, arith, inl, inr}
 use Rattle.std.proofs.Common.{◌⊎◌}
-use Rattle.std.specs.Prelude.{slice_index}
 use Rattle.sdh_kbytes.specs.declared.K.{K}
 use Rattle.sdh_ringmap.specs.Requests.{code_number}
 use Rattle.sdh_ringmap.specs.Places.{opposite}
 use Rattle.sdh_ringmap.specs.declared.Side.{Side}
 use Rattle.sdh_kbytes.specs.declared.Path.TheVariants.{Long}
-use Rattle.sdh_nodestate.specs.Rules.{Scene, word, word_on, relayed, weight_of, stronger}
+use Rattle.sdh_nodestate.specs.Rules.{word, word_on, relayed, weight_of, stronger}
 use Rattle.sdh_nodestate.specs.Words.{IsMember}
-use Rattle.sdh_signal.specs.Runs.{Run, at_round, IsRun}
+use Rattle.sdh_signal.proofs.Terms.{terms}
+use Rattle.sdh_signal.specs.Runs.{Run, IsRun}
 use Rattle.sdh_ringmap.specs.Steps.{going}
 use Rattle.sdh_ringmap.proofs.Going.{going-inside, going-none, going-first, going-apart, reached, IsReached}
 use Rattle.sdh_ringmap.proofs.Sides.{opposite_twice}
 use Rattle.sdh_signal.proofs.Sources.{word_source, relayed_heard, IsOwnOrRelayed}
 use Rattle.sdh_signal.proofs.OneNode.{long_from, relayed_from, Kind, a_short, a_long, a_relay, kind}
-use Rattle.sdh_signal.proofs.Runs.{some_nodes, next, next_below, id_apart, request, weight_le}
+use Rattle.sdh_signal.proofs.Runs.{some_nodes, next_below, id_apart, weight_le}
 
 -- k rounds after t
 abbrev later : ℕ → ℕ → ℕ
@@ -29,21 +29,7 @@ later_is zero t = omega arith
 later_is (suc k) t = let e = later_is k t in omega arith
 
 module _ (run : Run) (R : IsRun run) where
-  abbrev n : ℕ
-  n = length run.ids
-
-  abbrev at : ℕ → ℕ → Scene
-  at t p = at_round run t p
-
-  abbrev id : ℕ → ℕ
-  id p = slice_index run.ids p
-
-  abbrev nx : ℕ → Side → ℕ
-  nx p d = next run R p d
-
-  -- the word that p sends away from its side e
-  abbrev away : ℕ → ℕ → Side → K
-  away t p e = word (at t p) (opposite e)
+  open terms run use {n, at, id, next as nx, request, away}
 
   abbrev IsStep : ℕ → ℕ → Side → Type 0
   IsStep t p e = ((away (suc t) p e).from ≡ id p) ⊎ (away (suc t) p e ≡ away t (nx p e) e)
@@ -60,7 +46,7 @@ module _ (run : Run) (R : IsRun run) where
   own_long_code t q d w p f (a_long s c) = c
   own_long_code t q d w p f (a_relay c) = absurd ((relayed_heard (at t q) d w c).foreign f)
 
-  module _ (c : ℕ) (requests : (p : ℕ) (d : Side) → p < n → request run R p d ≤ c) where
+  module _ (c : ℕ) (requests : (p : ℕ) (d : Side) → p < n → request p d ≤ c) where
     traced : (k t p : ℕ) (e : Side) → p < n → k < n → (away (later k (suc t)) p e).from ≡ id (going n e p k)
         → (away (later k (suc t)) p e).path ≡ Long → code_number (away (later k (suc t)) p e).code ≤ c
     traced zero t p e h few f l =

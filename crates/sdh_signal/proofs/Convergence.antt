@@ -15,19 +15,20 @@ use Rattle.sdh_nodestate.specs.Words.{IsMember}
 use Rattle.sdh_signal.specs.Signals.{fails_on}
 use Rattle.sdh_signal.proofs.Sources.{relayed_across}
 use Rattle.sdh_restoration.specs.Applied.{highest}
-use Rattle.sdh_signal.specs.Runs.{Run, IsRun, bare, run_requests}
+use Rattle.sdh_signal.proofs.Terms.{terms}
+use Rattle.sdh_signal.specs.Runs.{Run, at_round, IsRun, bare, run_requests}
 use Rattle.sdh_ringmap.specs.Steps.{going}
 use Rattle.sdh_ringmap.proofs.Going.{going-none, going-first, reached, IsReached}
 use Rattle.sdh_ringmap.proofs.Sides.{span_below}
 use Rattle.sdh_signal.proofs.OneNode.{choose_rest}
 use Rattle.sdh_signal.proofs.Bare.{bare_scene, IsSameOrRelayed, same_words}
 use Rattle.sdh_signal.proofs.Firsts.{first_any}
-use Rattle.sdh_signal.proofs.Runs.{at, some_nodes, next, next_below, request, request_back, weight_le, at_least_waiting}
+use Rattle.sdh_signal.proofs.Runs.{some_nodes, next_below, request_back, weight_le, at_least_waiting}
 use Rattle.sdh_signal.proofs.Spans.{size, spans}
 use Rattle.sdh_restoration.proofs.Highest.{top_of}
 use Rattle.sdh_restoration.proofs.Asked.{highest_from}
 use Rattle.sdh_signal.proofs.Backward.{relays_le}
-use Rattle.sdh_signal.proofs.Levels.{IsLevel, plain, answer_code}
+use Rattle.sdh_signal.proofs.Levels.{IsLevel}
 use Rattle.sdh_signal.proofs.Agreement.{short_said}
 use Rattle.sdh_signal.proofs.Reach.{reach}
 
@@ -36,17 +37,10 @@ unfolding word
 word_rest s d e = ap (word_by s d) e
 
 module _ (run : Run) (R : IsRun run) where
-  abbrev n : ℕ
-  n = length run.ids
+  open terms run use {n, next as nx, request as asked, plain, answer_code}
 
   abbrev node : ℕ → ℕ → Scene
-  node t p = at run R t p
-
-  abbrev nx : ℕ → Side → ℕ
-  nx p d = next run R p d
-
-  abbrev asked : ℕ → Side → ℕ
-  asked p d = request run R p d
+  node t p = at_round run t p
 
   -- what is heard doesn't change any more, but for marks
   abbrev pub IsHeardSame : ℕ → Type 0
@@ -72,7 +66,7 @@ module _ (run : Run) (R : IsRun run) where
 
   -- with a level
 
-  module _ (c : ℕ) (level : IsLevel run R c) (x : ℕ) (y : Side) (inside : x < length run.ids) (there : c ≤ request run R x y) where
+  module _ (c : ℕ) (level : IsLevel run R c) (x : ℕ) (y : Side) (inside : x < length run.ids) (there : c ≤ asked x y) where
     heard_same : IsHeardSame (4 * n + 7)
     heard_same t u p e a b h = elim (cases_lt (asked p e) c) [
       | inl less ↦ (
@@ -84,13 +78,13 @@ module _ (run : Run) (R : IsRun run) where
           let o = opposite e in
           let across = request_back run R p e h in
           let many = R.ids_ok.enough in
-          fixed_word (n + 4) p e (plain run R z o (answer_code run R z o) Short) h (omega arith)
+          fixed_word (n + 4) p e (plain z o (answer_code z o) Short) h (omega arith)
           (λ v w. short_said run R c level v z o w (next_below run R p e) (omega arith)) (fails_on (run.need p) e) refl t u a b)
     ]
 
   -- without requests
 
-  module _ (none : (p : ℕ) (d : Side) → p < length run.ids → request run R p d ≤ 0) where
+  module _ (none : (p : ℕ) (d : Side) → p < length run.ids → asked p d ≤ 0) where
     chosen_rest : (t p : ℕ) (d : Side) → n < t → p < n → chosen (node t p) d ≡ rest
     unfolding chosen
     chosen_rest t p d g h =
@@ -107,7 +101,7 @@ module _ (run : Run) (R : IsRun run) where
         let z = nx p e in
         let o = opposite e in
         let many = R.ids_ok.enough in
-        fixed_word (n + 1) p e (plain run R z o Nr Short) h (omega arith)
+        fixed_word (n + 1) p e (plain z o Nr Short) h (omega arith)
         (λ v w. ap bare (word_rest (node v z) o (chosen_rest v z o (omega arith) (next_below run R p e))))
         (fails_on (run.need p) e) refl t u a b
 

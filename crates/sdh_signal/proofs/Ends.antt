@@ -15,13 +15,14 @@ use Rattle.sdh_ringmap.specs.declared.Side.TheVariants.{West, East}
 use Rattle.sdh_ringmap.specs.declared.Pos.{Pos}
 use Rattle.sdh_nodestate.specs.declared.NodeState.TheVariants as state
 use Rattle.sdh_nodestate.specs.Rules.{Scene, word_on, long, weight, chosen, relay, switches, far, is_relay, state_after, state_by}
-use Rattle.sdh_signal.specs.Runs.{Run, IsRun, bare}
+use Rattle.sdh_signal.proofs.Terms.{terms}
+use Rattle.sdh_signal.specs.Runs.{Run, at_round, IsRun, bare}
 use Rattle.sdh_ringmap.specs.Steps.{going}
 use Rattle.sdh_ringmap.proofs.Going.{going-inside, going-next, going-apart, going-last}
 use Rattle.sdh_signal.proofs.OneNode.{long_of, far_of, switch_lighter, switch_blocked, not_about_to}
 use Rattle.sdh_signal.proofs.Bare.{unbare}
-use Rattle.sdh_signal.proofs.Runs.{at, some_nodes, next, next_below, id_apart, request, request_back, weight_le}
-use Rattle.sdh_signal.proofs.Levels.{IsLevel, plain, top_code, relays}
+use Rattle.sdh_signal.proofs.Runs.{some_nodes, next_below, id_apart, request_back, weight_le}
+use Rattle.sdh_signal.proofs.Levels.{IsLevel, relays}
 use Rattle.sdh_signal.proofs.Agreement.{knows}
 use Rattle.sdh_signal.proofs.Reach.{IsFirst, reach}
 
@@ -71,17 +72,10 @@ found ids x ok h =
     ∙ ap (λ b. option_map (λ p. record { 0 = p }) (cond b (Some x) None)) (lt-ltb x (length ids) h)
 
 module _ (run : Run) (R : IsRun run) (c : ℕ) (level : IsLevel run R c) (t : ℕ) (late : 4 * length run.ids + 7 ≤ t) where
-  abbrev n : ℕ
-  n = length run.ids
+  open terms run use {n, next as nx, request as asked, plain, top_code}
 
   abbrev node : ℕ → Scene
-  node p = at run R t p
-
-  abbrev nx : ℕ → Side → ℕ
-  nx p d = next run R p d
-
-  abbrev asked : ℕ → Side → ℕ
-  asked p d = request run R p d
+  node p = at_round run t p
 
   abbrev w : ℕ → Side → ℕ
   w p d = weight (node p) d
@@ -110,7 +104,7 @@ module _ (run : Run) (R : IsRun run) (c : ℕ) (level : IsLevel run R c) (t : �
     pub far_is : found_at run.ids heard_word.from ≡ Some (record { 0 = going n e p (suc k) })
 
   abbrev says : ℕ → Side → ℕ → K
-  says p e k = plain run R (going n e p (suc k)) e (top_code run R (going n e p (suc k)) e) Long
+  says p e k = plain (going n e p (suc k)) e (top_code (going n e p (suc k)) e) Long
 
   hears_by : (k p : ℕ) (e : Side) (word : K) → p < n → suc k < n → First p e (suc k) → long (node p) e ≡ Some word → bare word ≡ says p e k
       → HearsFirst p e k

@@ -1,25 +1,19 @@
 -- Searching the way round: the first position, going from p on side e, whose next span is at the level. Where any span
 -- of the ring is at the level there is one, fewer than n steps away.
-use Rattle.std.proofs.Common.{◌≡◌, ℕ, ◌<◌, ◌≤◌, suc, zero, length, sym, subst, arith, inl, inr, ◌⊎◌}
+use Rattle.std.proofs.Common.{◌≡◌, ℕ, ◌<◌, ◌≤◌, suc, zero, sym, subst, arith, inl, inr, ◌⊎◌}
 use Rattle.std.proofs.lemmas.Bool.{cases_lt}
 use Rattle.sdh_ringmap.specs.declared.Side.{Side}
 use Rattle.sdh_ringmap.specs.declared.Side.TheVariants.{West, East}
+use Rattle.sdh_signal.proofs.Terms.{terms}
 use Rattle.sdh_signal.specs.Runs.{Run, IsRun}
 use Rattle.sdh_ringmap.specs.Steps.{going}
 use Rattle.sdh_ringmap.proofs.Going.{going-none, reached}
-use Rattle.sdh_signal.proofs.Runs.{some_nodes, next, next_below, request, request_back}
+use Rattle.sdh_signal.proofs.Runs.{some_nodes, next_below, request_back}
 use Rattle.sdh_signal.proofs.Levels.{IsLevel}
 use Rattle.sdh_signal.proofs.Reach.{IsFirst}
 
 module _ (run : Run) (R : IsRun run) (c : ℕ) (level : IsLevel run R c) where
-  abbrev n : ℕ
-  n = length run.ids
-
-  abbrev nx : ℕ → Side → ℕ
-  nx p d = next run R p d
-
-  abbrev asked : ℕ → Side → ℕ
-  asked p d = request run R p d
+  open terms run use {n, next as nx, request as asked}
 
   abbrev pub First : ℕ → Side → ℕ → Type 0
   First p e k = IsFirst run R c level p e k

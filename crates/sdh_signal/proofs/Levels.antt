@@ -2,70 +2,25 @@
 -- spans where that is lower. From round n + 1 on no word that counts weighs more than the level, so a node sends a
 -- short word on a side whose weight is at the level, announces it with a long word the other way, and relays words at
 -- the level if neither of its sides is.
-use Rattle.std.proofs.Common.{◌≡◌, ◌≢◌, ℕ, ◌<◌, ◌≤◌, Bool, Some, length, ap, arith, inl, inr, ◌⊎◌}
-use Rattle.std.specs.Prelude.{nat_lt, not, ◌&&◌, if◌then◌else◌, slice_index}
+use Rattle.std.proofs.Common.{◌≡◌, ◌≢◌, ℕ, ◌<◌, ◌≤◌, Some, ap, arith, inl, inr, ◌⊎◌}
 use Rattle.std.proofs.lemmas.Bool.{cases_lt}
 use Rattle.sdh_kbytes.specs.declared.K.{K}
-use Rattle.sdh_ringmap.specs.declared.terms.Code.{Code}
-use Rattle.sdh_ringmap.specs.declared.terms.Code.TheVariants.{Rr}
-use Rattle.sdh_kbytes.specs.declared.Path.{Path}
 use Rattle.sdh_kbytes.specs.declared.Path.TheVariants.{Long}
 use Rattle.sdh_kbytes.specs.declared.Mark.TheVariants as mark
 use Rattle.sdh_ringmap.specs.Requests.{code_number}
 use Rattle.sdh_ringmap.specs.Places.{opposite}
 use Rattle.sdh_ringmap.specs.declared.Side.{Side}
 use Rattle.sdh_ringmap.specs.declared.Side.TheVariants.{West, East}
-use Rattle.sdh_nodestate.specs.Rules.{Scene, long, relayed, weight, weight_of, stronger, chosen, word, own_short, own_long, relay}
-use Rattle.sdh_signal.specs.Signals.{request_on, fails_on}
-use Rattle.sdh_signal.specs.Runs.{Run, at_round, IsRun, bare}
+use Rattle.sdh_nodestate.specs.Rules.{long, relayed, weight, weight_of, stronger, chosen, word, own_short, own_long, relay}
+use Rattle.sdh_signal.proofs.Terms.{terms}
+use Rattle.sdh_signal.specs.Runs.{Run, IsRun, bare}
 use Rattle.sdh_signal.proofs.OneNode.{relayed_of, word_long, word_relay, choose_short_top, choose_short, choose_long_top, choose_long}
 use Rattle.sdh_signal.proofs.OneNode.{choose_relay}
-use Rattle.sdh_signal.proofs.Runs.{next, request, weight_le}
+use Rattle.sdh_signal.proofs.Runs.{weight_le}
 use Rattle.sdh_signal.proofs.Backward.{relays_le}
 
 module _ (run : Run) (R : IsRun run) where
-  abbrev n : ℕ
-  n = length run.ids
-
-  abbrev at : ℕ → ℕ → Scene
-  at t p = at_round run t p
-
-  abbrev id : ℕ → ℕ
-  id p = slice_index run.ids p
-
-  abbrev nx : ℕ → Side → ℕ
-  nx p d = next run R p d
-
-  abbrev code : ℕ → Side → Code
-  code p d = request_on (run.need p) d
-
-  abbrev asks : ℕ → Side → ℕ
-  asks p d = code_number (request_on (run.need p) d)
-
-  abbrev asked : ℕ → Side → ℕ
-  asked p d = request run R p d
-
-  abbrev weight_at : ℕ → ℕ → Side → ℕ
-  weight_at t p d = weight (at_round run t p) d
-
-  -- the word that p sends away from its side e
-  abbrev pub away : ℕ → ℕ → Side → K
-  away t p e = word (at_round run t p) (opposite e)
-
-  -- the word of code c from p to its neighbour on d, without its mark
-  abbrev pub plain : ℕ → Side → Code → Path → K
-  plain p d c path = record { code = c; to = id (nx p d); from = id p; path = path; mark = mark.Idle }
-
-  -- the stronger request of the other end is heard
-  abbrev pub outdone : ℕ → Side → Bool
-  outdone p d = not (fails_on (run.need p) d) && nat_lt (asks p d) (asks (nx p d) (opposite d))
-
-  -- the code of a span's request as p knows it in the end, and that of its short word
-  abbrev pub top_code : ℕ → Side → Code
-  top_code p d = if outdone p d then code (nx p d) (opposite d) else code p d
-
-  abbrev pub answer_code : ℕ → Side → Code
-  answer_code p d = if outdone p d then Rr else code p d
+  open terms run use {n, at, id, next as nx, code, asks, request as asked, weight_at, away, plain, outdone, top_code, answer_code}
 
   -- c is a level: 11, or the highest request where that is from 5 to 11
   pub record IsLevel (c : ℕ) : Type 0 where

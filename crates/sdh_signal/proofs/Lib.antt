@@ -31,6 +31,7 @@ mod Requests
 pub mod OneNode
 mod Sources
 mod Bare
+mod Terms
 mod Runs
 mod Spans
 mod Backward

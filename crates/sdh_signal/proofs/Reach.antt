@@ -1,54 +1,27 @@
 -- Forward: the first end of a span at the level that is met on the way round is heard. Its constant long word is
 -- heard by the next node from some round on, and with each further node that relays it three rounds later.
-use Rattle.std.proofs.Common.{◌≡◌, ◌≢◌, ℕ, ◌+◌, ◌-◌, ◌*◌, ◌<◌, ◌≤◌, suc, zero, Bool, true, false, Some, length, refl, ap, sym, subst, ◌∙◌}
+use Rattle.std.proofs.Common.{◌≡◌, ◌≢◌, ℕ, ◌+◌, ◌-◌, ◌*◌, ◌<◌, ◌≤◌, suc, zero, Bool, true, false, Some, refl, ap, sym, subst, ◌∙◌}
 use Rattle.std.proofs.Common.{arith}
-use Rattle.std.specs.Prelude.{option_map, slice_index}
+use Rattle.std.specs.Prelude.{option_map}
 use Rattle.sdh_kbytes.specs.declared.K.{K}
-use Rattle.sdh_ringmap.specs.declared.terms.Code.{Code}
-use Rattle.sdh_kbytes.specs.declared.Path.{Path}
 use Rattle.sdh_kbytes.specs.declared.Path.TheVariants.{Long}
 use Rattle.sdh_ringmap.specs.Requests.{code_number}
 use Rattle.sdh_ringmap.specs.Places.{opposite}
 use Rattle.sdh_ringmap.specs.declared.Side.{Side}
-use Rattle.sdh_nodestate.specs.Rules.{Scene, word_on, word}
-use Rattle.sdh_signal.specs.Signals.{request_on, fails_on}
-use Rattle.sdh_signal.specs.Runs.{Run, at_round, IsRun, bare}
+use Rattle.sdh_nodestate.specs.Rules.{word_on, word}
+use Rattle.sdh_signal.specs.Signals.{fails_on}
+use Rattle.sdh_signal.proofs.Terms.{terms}
+use Rattle.sdh_signal.specs.Runs.{Run, IsRun, bare}
 use Rattle.sdh_ringmap.specs.Steps.{going}
 use Rattle.sdh_ringmap.proofs.Going.{going-inside, going-none, going-first, going-next, going-apart}
 use Rattle.sdh_signal.proofs.OneNode.{long_of}
 use Rattle.sdh_signal.proofs.Bare.{unbare}
-use Rattle.sdh_signal.proofs.Runs.{some_nodes, next, next_below, id_apart, request, request_back, weight_le, failing}
-use Rattle.sdh_signal.proofs.Levels as levels
+use Rattle.sdh_signal.proofs.Runs.{some_nodes, next_below, id_apart, request_back, weight_le, failing}
 use Rattle.sdh_signal.proofs.Levels.{IsLevel, passes}
 use Rattle.sdh_signal.proofs.Agreement.{knows, long_said}
 
 module _ (run : Run) (R : IsRun run) where
-  abbrev n : ℕ
-  n = length run.ids
-
-  abbrev at : ℕ → ℕ → Scene
-  at t p = at_round run t p
-
-  abbrev id : ℕ → ℕ
-  id p = slice_index run.ids p
-
-  abbrev nx : ℕ → Side → ℕ
-  nx p d = next run R p d
-
-  abbrev code : ℕ → Side → Code
-  code p d = request_on (run.need p) d
-
-  abbrev asked : ℕ → Side → ℕ
-  asked p d = request run R p d
-
-  abbrev away : ℕ → ℕ → Side → K
-  away t p e = word (at_round run t p) (opposite e)
-
-  abbrev plain : ℕ → Side → Code → Path → K
-  plain p d c path = levels.plain run R p d c path
-
-  abbrev top_code : ℕ → Side → Code
-  top_code p d = levels.top_code run R p d
+  open terms run use {n, at, id, next as nx, code, request as asked, away, plain, top_code}
 
   module _ (c : ℕ) (level : IsLevel run R c) where
     -- k steps away is the first position, going from p on side e, whose span on e is at the level

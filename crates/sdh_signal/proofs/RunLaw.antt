@@ -22,14 +22,15 @@ use Rattle.sdh_signal.specs.Settled.{settled}
 use Rattle.sdh_signal.proofs.FarEnds.{first_position}
 use Rattle.sdh_restoration.proofs.Highest.{top_of}
 use Rattle.sdh_restoration.proofs.Asked.{highest_from}
-use Rattle.sdh_signal.specs.Runs.{Run, IsRun}
+use Rattle.sdh_signal.proofs.Terms.{terms}
+use Rattle.sdh_signal.specs.Runs.{Run, at_round, IsRun}
 use Rattle.sdh_ringmap.specs.Steps.{going}
 use Rattle.sdh_ringmap.proofs.Going.{going-inside, going-last, met, IsMet}
 use Rattle.sdh_ringmap.proofs.Sides.{neighbour_back, span_below, sides_apart, across_span, span_back}
 use Rattle.sdh_signal.proofs.Standing.{far_n, outranked_n, settled_n, settled_is, is_isolated, is_west, is_east, is_pass, is_idle}
 use Rattle.sdh_signal.proofs.OneNode.{switch_top, switch_none, switch_lighter, switch_alone, choose_rest, below_eleven, long_none}
 use Rattle.sdh_signal.proofs.OneNode.{below_none, below_about, about_of}
-use Rattle.sdh_signal.proofs.Runs.{at, some_nodes, next, next_below, request, request_back, weight_le, at_least_waiting}
+use Rattle.sdh_signal.proofs.Runs.{some_nodes, next_below, request_back, weight_le, at_least_waiting}
 use Rattle.sdh_signal.proofs.Backward.{relays_le}
 use Rattle.sdh_signal.proofs.Levels.{IsLevel, sends_short}
 use Rattle.sdh_signal.proofs.Agreement.{short_said}
@@ -44,19 +45,12 @@ both_below s West a b = (a, b)
 both_below s East a b = (b, a)
 
 module _ (run : Run) (R : IsRun run) (rs : List ℕ) (size : length rs ≡ length run.ids)
-    (spans : (p : ℕ) (d : Side) → p < length run.ids → slice_index rs (span_at (length run.ids) p d) ≡ request run R p d) (t : ℕ)
+    (spans : (p : ℕ) (d : Side) → p < length run.ids → slice_index rs (span_at (length run.ids) p d) ≡ (terms run).request p d) (t : ℕ)
     (late : 4 * length run.ids + 7 ≤ t) where
-  abbrev n : ℕ
-  n = length run.ids
+  open terms run use {n, request as asked, next as nx}
 
   abbrev node : ℕ → Scene
-  node p = at run R t p
-
-  abbrev asked : ℕ → Side → ℕ
-  asked p d = request run R p d
-
-  abbrev nx : ℕ → Side → ℕ
-  nx p d = next run R p d
+  node p = at_round run t p
 
   abbrev w : ℕ → Side → ℕ
   w p d = weight (node p) d
@@ -74,7 +68,7 @@ module _ (run : Run) (R : IsRun run) (rs : List ℕ) (size : length rs ≡ lengt
     pub switched : (p : ℕ) (d : Side) → p < n → c ≤ asked p d → switches (node p) d ≡ true
 
   module _ (c : ℕ) (level : IsLevel run R c) (A : IsApplied c) (x : ℕ) (y : Side) (inside : x < length run.ids)
-      (there : c ≤ request run R x y) where
+      (there : c ≤ asked x y) where
     abbrev Hears : ℕ → Side → ℕ → Type 0
     Hears p e k = HearsFirst run R c level t late p e k
 
@@ -248,7 +242,7 @@ module _ (run : Run) (R : IsRun run) (rs : List ℕ) (size : length rs ≡ lengt
             short_by p d k g a at_p l =
                 let b = request_back run R p d g in
                 let when : suc (t - 1) ≡ t = omega arith in
-                let was = R.past (t - 1) p d k g (subst (λ u. word_on (at run R u p) d ≡ Some k) (sym when) at_p) in
+                let was = R.past (t - 1) p d k g (subst (λ u. word_on (at_round run u p) d ≡ Some k) (sym when) at_p) in
                 let said =
                 short_said run R (highest rs) level (t - 1) (nx p d) (opposite d) (omega arith) (next_below run R p d) (omega arith) in
                 let path = ap (λ (k : K). k.path) said in

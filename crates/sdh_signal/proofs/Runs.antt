@@ -1,10 +1,8 @@
 -- The vocabulary of the proofs on runs, and the first bound: a side weighs no more than its span's request, since a
 -- short word from the neighbour says no more than the neighbour's own local request.
-use Rattle.std.proofs.Common.{◌≡◌, ◌≢◌, ℕ, true, ◌<◌, ◌≤◌, max, suc, zero, length, refl, ap, sym, subst, ◌∙◌, arith, inl, inr, ◌⊎◌}
-use Rattle.std.specs.Prelude.{slice_index}
+use Rattle.std.proofs.Common.{◌≡◌, ◌≢◌, ℕ, true, ◌<◌, ◌≤◌, max, suc, zero, refl, ap, sym, subst, ◌∙◌, arith, inl, inr, ◌⊎◌}
 use Rattle.std.proofs.lemmas.Bool.{cases_lt}
 use Rattle.sdh_kbytes.specs.declared.K.{K}
-use Rattle.sdh_ringmap.specs.declared.terms.Code.{Code}
 use Rattle.sdh_ringmap.specs.Requests.{code_number}
 use Rattle.sdh_ringmap.specs.Places.{neighbour, opposite}
 use Rattle.sdh_ringmap.specs.declared.Side.{Side}
@@ -12,10 +10,11 @@ use Rattle.sdh_ringmap.specs.declared.Side.TheVariants.{West, East}
 use Rattle.sdh_kbytes.specs.declared.Path.TheVariants.{Short}
 use Rattle.sdh_ringmap.specs.declared.terms.Code.TheVariants.{Rr}
 use Rattle.sdh_nodestate.specs.declared.Needs.{Needs}
-use Rattle.sdh_nodestate.specs.Rules.{Scene, local, word_on, short, weight, word}
+use Rattle.sdh_nodestate.specs.Rules.{local, word_on, short, word}
 use Rattle.sdh_nodestate.specs.Conditions.{MayNeed}
 use Rattle.sdh_signal.specs.Signals.{request_on, fails_on}
-use Rattle.sdh_signal.specs.Runs.{Run, at_round, IsRun}
+use Rattle.sdh_signal.proofs.Terms.{terms}
+use Rattle.sdh_signal.specs.Runs.{Run, IsRun}
 use Rattle.sdh_ringmap.proofs.Sides.{neighbour_back, neighbour_below, opposite_twice}
 use Rattle.sdh_signal.proofs.OneNode.{at_least_five, weight_is, IsShortHeard, short_from, long_from, relayed_from, Kind, a_short, a_long}
 use Rattle.sdh_signal.proofs.OneNode.{a_relay, kind}
@@ -31,37 +30,7 @@ not_reverse need p West may = may.west
 not_reverse need p East may = may.east
 
 module _ (run : Run) (R : IsRun run) where
-  abbrev n : ℕ
-  n = length run.ids
-
-  -- position p in round t, and its identifier
-  abbrev pub at : ℕ → ℕ → Scene
-  at t p = at_round run t p
-
-  abbrev pub id : ℕ → ℕ
-  id p = slice_index run.ids p
-
-  -- its neighbour on side d
-  abbrev pub next : ℕ → Side → ℕ
-  next p d = neighbour (length run.ids) p d
-
-  -- the local request on side d of p, and its number
-  abbrev pub code : ℕ → Side → Code
-  code p d = request_on (run.need p) d
-
-  abbrev pub asks : ℕ → Side → ℕ
-  asks p d = code_number (request_on (run.need p) d)
-
-  -- the request of the span on side d of p
-  abbrev pub request : ℕ → Side → ℕ
-  request p d = max (asks p d) (asks (next p d) (opposite d))
-
-  -- the weight of side d, and the word sent there
-  abbrev pub weight_at : ℕ → ℕ → Side → ℕ
-  weight_at t p d = weight (at t p) d
-
-  abbrev pub word_at : ℕ → ℕ → Side → K
-  word_at t p d = word (at t p) d
+  open terms run use {n, at, id, next, code, asks, request, weight_at, word_at}
 
   pub some_nodes : 0 < n
   some_nodes = let e = R.ids_ok.enough in omega arith

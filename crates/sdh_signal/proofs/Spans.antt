@@ -8,31 +8,30 @@ use Rattle.sdh_ringmap.specs.declared.Side.{Side}
 use Rattle.sdh_ringmap.specs.declared.Side.TheVariants.{West, East}
 use Rattle.sdh_restoration.specs.Applied.{span_requests}
 use Rattle.sdh_signal.specs.Signals.{request_on}
+use Rattle.sdh_signal.proofs.Terms.{terms}
 use Rattle.sdh_signal.specs.Runs.{Run, IsRun, run_requests}
 use Rattle.sdh_ringmap.proofs.Sides.{neighbour_back, neighbour_below}
-use Rattle.sdh_signal.proofs.Runs.{request}
 
 module _ (run : Run) (R : IsRun run) where
-  abbrev size_of : ℕ
-  size_of = length run.ids
+  open terms run use {n, request}
 
   pub size : length (run_requests run) ≡ length run.ids
   unfolding span_requests
   size =
       length-cells (λ s. max (code_number (request_on (run.need s) East))
-      (code_number (request_on (run.need (neighbour size_of s East)) West))) size_of
+      (code_number (request_on (run.need (neighbour n s East)) West))) n
 
   -- the span on side d of p has the larger of the requests of its two ends
-  pub spans : (p : ℕ) (d : Side) → p < length run.ids → slice_index (run_requests run) (span_at (length run.ids) p d) ≡ request run R p d
+  pub spans : (p : ℕ) (d : Side) → p < length run.ids → slice_index (run_requests run) (span_at (length run.ids) p d) ≡ request p d
   unfolding span_requests
   spans p East h =
       get_or-cells (λ s. max (code_number (request_on (run.need s) East))
-      (code_number (request_on (run.need (neighbour size_of s East)) West))) size_of p 0 h
+      (code_number (request_on (run.need (neighbour n s East)) West))) n p 0 h
   spans p West h =
-      let q = neighbour size_of p West in
-      let e = ap (λ i. code_number (request_on (run.need i) West)) (neighbour_back size_of p West h) in
+      let q = neighbour n p West in
+      let e = ap (λ i. code_number (request_on (run.need i) West)) (neighbour_back n p West h) in
       let is =
       get_or-cells (λ s. max (code_number (request_on (run.need s) East))
-      (code_number (request_on (run.need (neighbour size_of s East)) West))) size_of q 0
-      (neighbour_below size_of p West (omega arith)) in
+      (code_number (request_on (run.need (neighbour n s East)) West))) n q 0
+      (neighbour_below n p West (omega arith)) in
       omega arith
