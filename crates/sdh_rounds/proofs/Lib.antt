@@ -1,3 +1,4 @@
+pub mod Terms
 pub mod Arrived
 pub mod Nodes
 pub mod Windows

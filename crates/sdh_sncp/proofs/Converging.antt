@@ -27,6 +27,7 @@ use Rattle.sdh_ringmap.specs.declared.terms.Condition.TheVariants.{Clear}
 use Rattle.sdh_terminal.specs.Passing.{Input, no_input}
 use Rattle.sdh_rounds.specs.Runs as any_run
 use Rattle.sdh_rounds.proofs.Runs.{known_unsettles, known_settles}
+use Rattle.sdh_rounds.proofs.Terms.{terms}
 use Rattle.sdh_spans.specs.Brought.{BringsDelivery}
 use Rattle.sdh_spans.specs.Spans.{TakesWord, word_behind, IsConstant, GeneratorGoesBy, TakesBehind}
 use Rattle.sdh_spans.specs.Laws.{RestsBehind}
@@ -135,8 +136,7 @@ slot_cases (x ∷ cs) m = elim (cases_eq x.slot.0 m) [
     missing other none (suc j) d is = none j d is
 
 module _ (w : World) (whole : IsWholePathRing w) (form : HasPathCircuits w.ring) where
-  abbrev cs : List Provisioned
-  cs = w.ring.circuits.circuits
+  open terms w use {cs}
 
   some : 0 < size w whole
   some = let e = whole.placed.ids.enough in omega arith

@@ -3,7 +3,6 @@ use Rattle.std.proofs.Common.{◌≡◌, ℕ, zero, suc, ◌+◌, ◌*◌, ◌<�
 use Rattle.std.proofs.Common.{arith, inl, inr}
 use Rattle.std.proofs.lemmas.Bool.{cases_lt}
 use Rattle.std.proofs.lemmas.List.{get_or_past}
-use Rattle.sdh_ringmap.specs.declared.terms.Rate.{Rate}
 use Rattle.sdh_ringmap.specs.Rates.{n_of}
 use Rattle.sdh_ringmap.specs.declared.Side.{Side}
 use Rattle.sdh_ringmap.specs.declared.Side.TheVariants.{West, East}
@@ -23,6 +22,7 @@ use Rattle.sdh_rounds.specs.Rounds.{arrival_at, sent_all}
 use Rattle.sdh_rounds.specs.Runs as any_run
 use Rattle.sdh_rounds.proofs.Runs.{length-heard, prepared_round, count_round, held_round, conditions_round}
 use Rattle.sdh_rounds.proofs.Honest.{honest_rounds}
+use Rattle.sdh_rounds.proofs.Terms.{terms}
 use Rattle.sdh_spans.specs.Frames.{SaysWord, CarriesWord}
 use Rattle.sdh_spans.specs.Sides.{IsSenderAt, IsTold}
 use Rattle.sdh_spans.specs.Spans.{line_after}
@@ -37,11 +37,7 @@ module _ (w : World) (whole : IsWholePathRing w) where
   abbrev size : ℕ
   size = length w.ring.ids
 
-  abbrev rate : Rate
-  rate = w.ring.settings.rate
-
-  abbrev t : ℕ
-  t = w.ring.rounds
+  open terms w use {rate, t}
 
   abbrev old_on : ℕ → Side → Inlet
   old_on p d = inlet_on d (path_node_at w.ring.nodes p)

@@ -1,6 +1,5 @@
 -- The spans of a path ring: what was sent into an AU-4 comes out of it one round later, or AIS where its fibre is cut.
 use Rattle.std.proofs.Common.{◌≡◌, ◌≢◌, ℕ, ◌+◌, ◌<◌, ◌≤◌, true, false, length, get_or, Option, Some, None, ap, sym, ◌∙◌, subst, arith}
-use Rattle.sdh_ringmap.specs.declared.terms.Rate.{Rate}
 use Rattle.sdh_ringmap.specs.Rates.{n_of}
 use Rattle.sdh_ringmap.specs.Places.{opposite, neighbour}
 use Rattle.sdh_ringmap.specs.declared.Side.{Side}
@@ -16,6 +15,7 @@ use Rattle.sdh_terminal.specs.Receiving.{Inlet, after_taking}
 use Rattle.sdh_terminal.specs.Lines.{received}
 use Rattle.sdh_terminal.specs.Sending.{Sending}
 use Rattle.sdh_rounds.specs.Rounds as any_round
+use Rattle.sdh_rounds.proofs.Terms.{terms}
 use Rattle.sdh_spans.specs.Brought.{BringsDelivery, HasValue}
 use Rattle.sdh_spans.specs.Spans.{IsSpan, TakesWord, word_behind}
 use Rattle.sdh_spans.proofs.Sends.{fed_full}
@@ -86,8 +86,7 @@ module _ (w : World) (whole : IsWholePathRing w) (p : ℕ) (d : Side) (lt : p < 
   ran : 0 < v.ring.rounds
   ran = omega (arith, one_more w)
 
-  abbrev rate : Rate
-  rate = w.ring.settings.rate
+  open terms w use {rate}
 
   abbrev c : Condition
   c = path_condition_to v p d

@@ -37,6 +37,7 @@ use Rattle.sdh_watch.specs.Shows.{shown, WatchLine}
 use Rattle.sdh_watch.specs.Watching.{given_as, Lead, port_watched}
 use Rattle.sdh_watch.specs.Owed.{clean_watch}
 use Rattle.sdh_watch.proofs.Plainly.{GoesPlainly}
+use Rattle.sdh_rounds.proofs.Terms.{terms}
 
 -- the world to which k rounds of a ring at rest lead
 record At (clocks : PortId → ℕ → Clock) (w : World) (k : ℕ) (left : World) : Type 0 where
@@ -69,8 +70,7 @@ at_lead clocks w rests (suc k) left heard (mid, before, lead, is, more) =
 
 module _ (clocks : PortId → ℕ → Clock) (w : World) (form : HasCircuits (layout_of w)) (rests : IsAtRest clocks w) (index : ℕ)
     (c : Provisioned) (get : slice_get w.ring.circuits.circuits index ≡ Some c) (e : End) where
-  abbrev n : ℕ
-  n = length w.ring.ids
+  open terms w use {n}
 
   abbrev id : PortId
   id = record { circuit = index; end = e }

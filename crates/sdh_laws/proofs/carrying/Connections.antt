@@ -27,6 +27,7 @@ use Rattle.sdh_laws.specs.Hearing.Laws.{IsWhole}
 use Rattle.sdh_laws.proofs.hearing.Nodes.{informed, count, listening_at, nodes_after}
 use Rattle.sdh_laws.specs.Carrying.Windows.{Layout, layout_of, positions_of, slots_of, fed_at, value_at, sent_at}
 use Rattle.sdh_ringmap.specs.Places.{position_of}
+use Rattle.sdh_rounds.proofs.Terms.{terms}
 
 -- ---- what a node is by its place
 
@@ -75,11 +76,7 @@ module _ (w : World) (whole : IsWhole w) (p : ℕ) (h : p < length w.ring.nodes)
   abbrev x : Cross
   x = crossing_at w p
 
-  abbrev n : ℕ
-  n = length w.ring.ids
-
-  abbrev cs : List Provisioned
-  cs = w.ring.circuits.circuits
+  open terms w use {n, cs}
 
   turned_is : x ≡ crossing w.ring.moment (informed w p)
   turned_is = ap (crossing w.ring.moment) (listening_at w whole.placed p h)

@@ -59,6 +59,7 @@ use Rattle.sdh_laws.proofs.carrying.Ports.{HasDelivered, port-delivered}
 use Rattle.sdh_laws.proofs.carrying.Clocks.{port_there, form_there}
 use Rattle.sdh_laws.proofs.carrying.Ways.{layout_round, layout_run, kept_over, comes_in, from_comes, comes_over}
 use Rattle.sdh_rounds.specs.Runs as any_run
+use Rattle.sdh_rounds.proofs.Terms.{terms}
 
 -- ---- what the port at the other end sends
 
@@ -280,8 +281,7 @@ module _ (w : World) (whole : IsWhole w) (form : HasCircuits (layout_of w)) (rs 
   abbrev applied : ℕ → Bool
   applied = is_applied rs
 
-  abbrev cs : List Provisioned
-  cs = w.ring.circuits.circuits
+  open terms w use {cs}
 
   abbrev far : End
   far = other_end e

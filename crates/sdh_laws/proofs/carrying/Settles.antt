@@ -51,6 +51,7 @@ use Rattle.sdh_laws.proofs.converging.Runs.{nodes_run}
 use Rattle.sdh_node.specs.Rings.Held.{nowhere}
 use Rattle.sdh_node.specs.Stations.{adm}
 use Rattle.sdh_rounds.specs.Runs as any_run
+use Rattle.sdh_rounds.proofs.Terms.{terms}
 use Rattle.sdh_circuits.proofs.Rings.{circuits_are}
 
 -- ---- one position
@@ -73,8 +74,7 @@ failing_after w whole j =
 -- ---- the window that ends with round k
 
 module _ (law : StillRingsAreSettled) (w : World) (whole : IsWhole w) (k : ℕ) (ends : EndsWindow (course w) k) where
-  abbrev n : ℕ
-  n = length w.ring.ids
+  open terms w use {n}
 
   abbrev rs : List ℕ
   rs = span_requests_of (run k w)

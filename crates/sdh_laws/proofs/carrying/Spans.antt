@@ -1,7 +1,6 @@
 -- The spans of a ring: what its nodes send and take, and what was sent into an AU-4 comes out of it one round later.
 use Rattle.std.proofs.Common.{◌≡◌, ◌≢◌, ℕ, ◌+◌, ◌-◌, ◌*◌, ◌<◌, ◌≤◌, true, false, List, length, get_or, Option, Some, None, ap, sym, ◌∙◌}
 use Rattle.std.proofs.Common.{subst, arith}
-use Rattle.sdh_ringmap.specs.declared.terms.Rate.{Rate}
 use Rattle.sdh_ringmap.specs.Rates.{n_of}
 use Rattle.sdh_ringmap.specs.Places.{opposite, neighbour}
 use Rattle.sdh_ringmap.specs.declared.Side.{Side}
@@ -43,6 +42,7 @@ use Rattle.sdh_laws.proofs.hearing.Signalling.{same_there}
 use Rattle.sdh_laws.specs.Carrying.Windows.{sent_at}
 use Rattle.sdh_laws.specs.Carrying.Laws.{ASpanCarries}
 use Rattle.sdh_rounds.specs.Rounds as any_round
+use Rattle.sdh_rounds.proofs.Terms.{terms}
 
 -- ---- what is compared
 
@@ -57,8 +57,7 @@ readings_on East a b e = ap (λ (c : Compared). c.east.readings) e
 -- ---- a node that sends
 
 module _ (w : World) (whole : IsWhole w) (q : ℕ) (d : Side) (h : q < length w.ring.nodes) where
-  abbrev rate : Rate
-  rate = w.ring.settings.rate
+  open terms w use {rate}
 
   abbrev sender : Node
   sender = informed w q
@@ -188,11 +187,11 @@ module _ (w : World) (whole : IsWhole w) (p : ℕ) (d : Side) (lt : p < length w
       subst (λ k. k.mark ≢ mark.MsAis) (ap (last_word_on e) (nodes_after w whole.placed q qn) ∙ said_is w.ring.moment (sender w whole q e qn) e)
       (next.paired.never_ais q (let h = qn in omega (arith, length-after w)) e)
 
-  is_span : IsSpan (rate w whole q e qn) c (fed w whole q e qn) (said w whole q e qn) old
+  is_span : IsSpan w.ring.settings.rate c (fed w whole q e qn) (said w whole q e qn) old
   unfolding any_round.round any_round.round_with
   is_span = record {
     may = may_at v next p d;
-    sender = said_sender (rate w whole q e qn) w.ring.moment (sender w whole q e qn) e (sends_at w whole q e qn);
+    sender = said_sender w.ring.settings.rate w.ring.moment (sender w whole q e qn) e (sends_at w whole q e qn);
     no_ais = no_ais;
     full =
         fed_full (lines_of (crossing w.ring.moment (sender w whole q e qn))) (node_at w.ring.nodes q).ports
@@ -200,7 +199,7 @@ module _ (w : World) (whole : IsWhole w) (p : ℕ) (d : Side) (lt : p < length w
     inlet = (told_side v next p d ran pn).inlet;
     told =
         told_later v p d ran ∙ ap Some (arrival_is v next p d
-        ∙ ap (through (n_of (rate w whole q e qn)) c) (carried_after w whole q e qn
+        ∙ ap (through (n_of w.ring.settings.rate) c) (carried_after w whole q e qn
         ∙ ap Some (frame_is w.ring.moment (sender w whole q e qn) e)));
   }
 
@@ -216,7 +215,7 @@ module _ (w : World) (whole : IsWhole w) (p : ℕ) (d : Side) (lt : p < length w
     unfolding any_round.round any_round.round_with
     interpreter_step =
         let took =
-        spans_take_words (rate w whole q e qn) c (fed w whole q e qn) (said w whole q e qn) old threshold (lines_at v p) d k is_span
+        spans_take_words w.ring.settings.rate c (fed w whole q e qn) (said w whole q e qn) old threshold (lines_at v p) d k is_span
         (line_is v next p d pn) high in
         let new = sym (ap (λ rs. get_or rs k start) left) in
         let s = state_is w whole q e qn k in
@@ -255,13 +254,13 @@ module _ (w : World) (whole : IsWhole w) (p : ℕ) (d : Side) (lt : p < length w
           ∙ sym (ap (λ l. get_or l k None) (generators_on e (node_at v.ring.nodes q) (node_at w.ring.nodes q)
           (same_there w whole calm0 q qn)))
           ∙ state_after w whole q e qn k
-          ∙ (node_sends (rate w whole q e qn) w.ring.moment (sender w whole q e qn) e (sends_at w whole q e qn)).goes k high
+          ∙ (node_sends w.ring.settings.rate w.ring.moment (sender w whole q e qn) e (sends_at w whole q e qn)).goes k high
 
       span_carries : is_failed (receiving_on d (node_at (round v).ring.nodes p)).local.defect ≡ false → (b : Outlet) → HasValue b
           → BringsDelivery (sent_at w q e (k + 1)) b → BringsDelivery (received (lines_at v p) d (k + 1)) b
       unfolding any_round.round any_round.round_with
       span_carries works b small is =
-          spans_bring (rate w whole q e qn) c (fed w whole q e qn) (said w whole q e qn) old threshold (lines_at v p) d k is_span
+          spans_bring w.ring.settings.rate c (fed w whole q e qn) (said w whole q e qn) old threshold (lines_at v p) d k is_span
           (line_is v next p d pn) high (clear_where_it_works v next p d ran pn works) still kept b small
           (subst (λ i. BringsDelivery i b) (sym (fed_is w whole q e qn (k + 1))) is)
 

@@ -35,6 +35,7 @@ use Rattle.sdh_payload.specs.declared.chunk.ChunkForm.TheVariants.{Plain}
 use Rattle.sdh_node.specs.Rings.Held.{node_at}
 use Rattle.sdh_rounds.specs.Rounds as any_round
 use Rattle.sdh_rounds.specs.Runs as any_run
+use Rattle.sdh_rounds.proofs.Terms.{terms}
 
 -- on a span that isn't applied no side failed
 works_on_free : (n : ℕ) (rs : List ℕ) (w : World) → FailOnApplied n rs w → (p : ℕ) (d : Side) → p < n
@@ -62,8 +63,7 @@ Over l v rs m b = AreSettled (positions_of l) rs (round v) → FailOnApplied (po
 
 module _ (v : World) (whole : IsWhole v) (calm0 : is_calm (round v).ring.nodes ≡ true) (calm1 : is_calm (round (round v)).ring.nodes ≡ true)
     (rs : List ℕ) (m : ℕ) (low : 1 ≤ m) (b : Outlet) (small : HasValue b) where
-  abbrev n : ℕ
-  n = length v.ring.ids
+  open terms v use {n}
 
   over : (d : Side) (p au : ℕ) → FailOnApplied n rs (round (round v)) → p < n → 1 ≤ au → au ≤ n_of v.ring.settings.rate
       → is_applied rs (span_at n p d) ≡ false

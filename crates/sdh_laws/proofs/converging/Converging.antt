@@ -36,14 +36,14 @@ use Rattle.sdh_node.specs.Rings.Held.{node_at}
 use Rattle.sdh_node.specs.Rings.Sides.{condition_to}
 use Rattle.sdh_node.specs.Stations.{adm}
 use Rattle.sdh_rounds.specs.Runs as any_run
+use Rattle.sdh_rounds.proofs.Terms.{terms}
 use Rattle.sdh_laws.proofs.resting.Signals.{same_at}
 use Rattle.sdh_laws.proofs.converging.Came.{come_behind, came_after, word_by, word_to_in, kept, earlier_in}
 
 -- ---- what comes
 
 module _ (w : World) (whole : IsWhole w) (form : HasCircuits (layout_of w)) (still : GetsStill w) where
-  abbrev n : ℕ
-  n = length w.ring.ids
+  open terms w use {n}
 
   -- ---- requests and states
 

@@ -9,7 +9,6 @@ use Rattle.sdh_ringmap.specs.Rates.{n_of}
 use Rattle.sdh_ringmap.specs.declared.Side.{Side}
 use Rattle.sdh_ringmap.specs.Places.{neighbour, opposite}
 use Rattle.sdh_ringmap.proofs.Sides.{neighbour_below}
-use Rattle.sdh_circuits.specs.Provisioned.{Provisioned}
 use Rattle.sdh_circuits.specs.Provisioning.{AreCircuits}
 use Rattle.sdh_bridge.specs.declared.Origin.{Origin}
 use Rattle.sdh_bridge.specs.declared.Origin.TheVariants.{Add, Working, Protection, Ais}
@@ -38,6 +37,7 @@ use Rattle.sdh_laws.proofs.converging.Spans.{a_span_is_steady, sending_rests, re
 use Rattle.sdh_laws.proofs.converging.Ports.{does_by, value_by, sound_by, source_at, source_small, sources_send}
 use Rattle.sdh_node.specs.Rings.Held.{node_at}
 use Rattle.sdh_rounds.specs.Runs as any_run
+use Rattle.sdh_rounds.proofs.Terms.{terms}
 
 pub two_halves : (rate : Rate) → n_of rate / 2 + n_of rate / 2 ≡ n_of rate
 two_halves Four = refl
@@ -46,11 +46,7 @@ two_halves Sixteen = refl
 -- ---- a run by its layout: what goes into the AU-4s in round j, where the nodes are in these states after it
 
 module _ (w : World) (whole : IsWhole w) where
-  abbrev n : ℕ
-  n = length w.ring.ids
-
-  abbrev cs : List Provisioned
-  cs = w.ring.circuits.circuits
+  open terms w use {n, cs}
 
   abbrev half : ℕ
   half = slots_of (layout_of w)
@@ -87,7 +83,9 @@ module _ (w : World) (whole : IsWhole w) where
 -- ---- in settled states
 
 module _ (w : World) (whole : IsWhole w) (form : HasCircuits (layout_of w)) (rs : List ℕ) (rest : StaysSettled w rs) where
-  starts : (p m : ℕ) (o : Origin) → p < n w whole → IsOver o → IsConstant (brought_in_slot w p m o) 0
+  open terms w use {n, cs}
+
+  starts : (p m : ℕ) (o : Origin) → p < n → IsOver o → IsConstant (brought_in_slot w p m o) 0
   starts p m o h over =
       let source = source_at w p o in
       record {
@@ -99,78 +97,78 @@ module _ (w : World) (whole : IsWhole w) (form : HasCircuits (layout_of w)) (rs 
       }
 
   module _ (m : ℕ) (low : 1 ≤ m) (high : m ≤ half w whole) where
-    went_working : (q j : ℕ) (e : Side) → q < n w whole → went w q e m j
-        ≡ brought_in_slot w q m (working_in (n w whole) (cs w whole) q (settled rs q) e m) j
+    went_working : (q j : ℕ) (e : Side) → q < n → went w q e m j
+        ≡ brought_in_slot w q m (working_in n cs q (settled rs q) e m) j
     went_working q j e h = working_goes w whole q m j e (settled rs q) h high (rest.settled_are (suc j) (omega arith) q h)
 
-    went_protection : (q j : ℕ) (e : Side) → q < n w whole → went w q e (half w whole + m) j
-        ≡ brought_in_slot w q m (protection_in (n w whole) (cs w whole) q (settled rs q) e m) j
+    went_protection : (q j : ℕ) (e : Side) → q < n → went w q e (half w whole + m) j
+        ≡ brought_in_slot w q m (protection_in n cs q (settled rs q) e m) j
     went_protection q j e h = protection_goes w whole q m j e (settled rs q) h low (rest.settled_are (suc j) (omega arith) q h)
 
-    over_span : (t p : ℕ) (o : Origin) → p < n w whole → IsArrival o
-        → (let b = back_from (n w whole) (settled rs) (cs w whole) m p o in IsConstant (brought_in_slot w b.at m b.origin) t
+    over_span : (t p : ℕ) (o : Origin) → p < n → IsArrival o
+        → (let b = back_from n (settled rs) cs m p o in IsConstant (brought_in_slot w b.at m b.origin) t
         → IsConstant (brought_in_slot w p m o) (t + 9))
     over_span t p Ais h arrives c = absurd arrives
     over_span t p (Add id) h arrives c = absurd arrives
     over_span t p (Working d) h arrives c =
-        let q = neighbour (n w whole) p d in
+        let q = neighbour n p d in
         a_span_is_steady w whole p d m t h low (omega (arith, two_halves w.ring.settings.rate))
         (constant_as _ (went w q (opposite d) m) t (λ j. went_working q j (opposite d) (beside w whole p d)) c)
     over_span t p (Protection d) h arrives c =
-        let q = neighbour (n w whole) p d in
+        let q = neighbour n p d in
         constant_as (brought_to w p d (half w whole + m)) (brought_in_slot w p m (Protection d)) (t + 9) (λ j. protection_comes w whole p m j d h)
         (a_span_is_steady w whole p d (half w whole + m) t h (omega arith) (omega (arith, two_halves w.ring.settings.rate))
         (constant_as _ (went w q (opposite d) (half w whole + m)) t (λ j. went_protection q j (opposite d) (beside w whole p d)) c))
 
-    spreads : Spreads (n w whole) (settled rs) (cs w whole) m (λ t p o. IsConstant (brought_in_slot w p m o) t) 0 9
+    spreads : Spreads n (settled rs) cs m (λ t p o. IsConstant (brought_in_slot w p m o) t) 0 9
     spreads = record {
       starts = λ p o h over. starts p m o h over;
       later = λ t u p o late c. constant_later (brought_in_slot w p m o) t u late c;
       over_span = λ t p o h arrives late c. over_span t p o h arrives c;
     }
 
-    all_constant : (p : ℕ) (o : Origin) → p < n w whole → IsConstant (brought_in_slot w p m o) (27 * n w whole + 9)
+    all_constant : (p : ℕ) (o : Origin) → p < n → IsConstant (brought_in_slot w p m o) (27 * n + 9)
     all_constant p o h =
         let same = rest.spans in
-        constant_later (brought_in_slot w p m o) (0 + 9 * (3 * length rs + 1)) (27 * n w whole + 9) (omega arith)
-        (steadiness_spreads rs (half w whole) (cs w whole) (subst (λ k. AreCircuits k (half w whole) (cs w whole)) (sym same) form) m
+        constant_later (brought_in_slot w p m o) (0 + 9 * (3 * length rs + 1)) (27 * n + 9) (omega arith)
+        (steadiness_spreads rs (half w whole) cs (subst (λ k. AreCircuits k (half w whole) cs) (sym same) form) m
         (λ t p o. IsConstant (brought_in_slot w p m o) t) 0 9
-        (subst (λ k. Spreads k (settled rs) (cs w whole) m (λ t p o. IsConstant (brought_in_slot w p m o) t) 0 9) (sym same) spreads) p o
+        (subst (λ k. Spreads k (settled rs) cs m (λ t p o. IsConstant (brought_in_slot w p m o) t) 0 9) (sym same) spreads) p o
         (omega arith))
 
-    all_working : (q : ℕ) (e : Side) → q < n w whole → IsConstant (went w q e m) (27 * n w whole + 9)
+    all_working : (q : ℕ) (e : Side) → q < n → IsConstant (went w q e m) (27 * n + 9)
     all_working q e h =
-        let o = working_in (n w whole) (cs w whole) q (settled rs q) e m in
-        constant_as (brought_in_slot w q m o) (went w q e m) (27 * n w whole + 9) (λ j. went_working q j e h) (all_constant q o h)
+        let o = working_in n cs q (settled rs q) e m in
+        constant_as (brought_in_slot w q m o) (went w q e m) (27 * n + 9) (λ j. went_working q j e h) (all_constant q o h)
 
-    all_protection : (q : ℕ) (e : Side) → q < n w whole → IsConstant (went w q e (half w whole + m)) (27 * n w whole + 9)
+    all_protection : (q : ℕ) (e : Side) → q < n → IsConstant (went w q e (half w whole + m)) (27 * n + 9)
     all_protection q e h =
-        let o = protection_in (n w whole) (cs w whole) q (settled rs q) e m in
-        constant_as (brought_in_slot w q m o) (went w q e (half w whole + m)) (27 * n w whole + 9) (λ j. went_protection q j e h)
+        let o = protection_in n cs q (settled rs q) e m in
+        constant_as (brought_in_slot w q m o) (went w q e (half w whole + m)) (27 * n + 9) (λ j. went_protection q j e h)
         (all_constant q o h)
 
   -- each AU-4
-  all_went : (q i : ℕ) (e : Side) → q < n w whole → i < n_of w.ring.settings.rate → IsConstant (went w q e (i + 1)) (27 * n w whole + 9)
+  all_went : (q i : ℕ) (e : Side) → q < n → i < n_of w.ring.settings.rate → IsConstant (went w q e (i + 1)) (27 * n + 9)
   all_went q i e h small = elim (cases_lt (half w whole) (i + 1)) [
     | inr low ↦ all_working (i + 1) (omega arith) low q e h
     | inl high ↦ (
         let m = i + 1 - half w whole in
         let at : half w whole + m ≡ i + 1 = omega arith in
-        subst (λ au. IsConstant (went w q e au) (27 * n w whole + 9)) at
+        subst (λ au. IsConstant (went w q e au) (27 * n + 9)) at
         (all_protection m (omega arith) (omega (arith, two_halves w.ring.settings.rate)) q e h))
   ]
 
-  pub still_pointers : (j : ℕ) → 27 * n w whole + 18 ≤ j → HasStillPointers w j
+  pub still_pointers : (j : ℕ) → 27 * n + 18 ≤ j → HasStillPointers w j
   still_pointers j late = record {
     generators = λ p d h. ext_get_or None _ _ (generators_many w whole (suc j) p d h ∙ sym (generators_many w whole j p d h)) (λ i small.
         (let c = all_went p i d (omega (arith, count w whole.placed)) (omega (arith, generators_many w whole (suc j) p d h)) in
         let few : i < n_of w.ring.settings.rate = omega (arith, generators_many w whole (suc j) p d h) in
-        sending_rests w whole p d i (27 * n w whole + 9) h few c (suc j) (omega arith)
-        ∙ sym (sending_rests w whole p d i (27 * n w whole + 9) h few c j (omega arith))));
+        sending_rests w whole p d i (27 * n + 9) h few c (suc j) (omega arith)
+        ∙ sym (sending_rests w whole p d i (27 * n + 9) h few c j (omega arith))));
     readings = λ p d h. ext_get_or start _ _ (readings_many w whole (suc j) p d h ∙ sym (readings_many w whole j p d h)) (λ i small.
         (let few : i < n_of w.ring.settings.rate = omega (arith, readings_many w whole (suc j) p d h) in
-        reading_rests w whole p d i (27 * n w whole + 9) h few
-        (all_went (neighbour (n w whole) p d) i (opposite d) (beside w whole p d) few) j (omega arith)));
+        reading_rests w whole p d i (27 * n + 9) h few
+        (all_went (neighbour n p d) i (opposite d) (beside w whole p d) few) j (omega arith)));
   }
 
 pub pointers_rest : PointersRest

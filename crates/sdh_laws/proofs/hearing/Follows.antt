@@ -31,6 +31,7 @@ use Rattle.sdh_laws.proofs.hearing.Histories.{KeepsHistory, keeps_more, request_
 use Rattle.sdh_node.specs.Rings.Held.{nowhere, node_at, AtEach}
 use Rattle.sdh_node.specs.Stations.{adm}
 use Rattle.sdh_rounds.specs.Rounds as any_round
+use Rattle.sdh_rounds.proofs.Terms.{terms}
 
 -- ---- what a round leaves of all nodes
 
@@ -89,8 +90,7 @@ module _ (given : Settings) (ids : List ℕ) (hist : ℕ → Side → SideHistor
   abbrev rate : Rate
   rate = s.rate
 
-  abbrev t : ℕ
-  t = w.ring.rounds
+  open terms w use {t}
 
   abbrev whole : IsWhole w
   whole = follows.whole

@@ -60,6 +60,7 @@ use Rattle.sdh_laws.proofs.hearing.Nodes.{nodes_after, length-after, placed_roun
 use Rattle.sdh_node.specs.Rings.Sides.{condition_to}
 use Rattle.sdh_node.specs.Stations.{adm}
 use Rattle.sdh_rounds.specs.Rounds as any_round
+use Rattle.sdh_rounds.proofs.Terms.{terms}
 
 pub same_line : (a b : List ℕ) (o : Arrival) → o ≡ Some a → o ≡ Some b → a ≡ b
 same_line a b o e f = let g : Some a ≡ Some b = sym e ∙ f in cc
@@ -79,8 +80,7 @@ module _ (w : World) (whole : IsWhole w) where
   abbrev rate : Rate
   rate = s.rate
 
-  abbrev t : ℕ
-  t = w.ring.rounds
+  open terms w use {t}
 
   abbrev old_on : ℕ → Side → Receiving
   old_on p d = receiving_on d (node_at w.ring.nodes p)

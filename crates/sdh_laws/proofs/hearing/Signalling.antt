@@ -57,6 +57,7 @@ use Rattle.sdh_node.specs.Rings.Held.{nowhere, node_at, AtEach}
 use Rattle.sdh_node.specs.Stations.{adm}
 use Rattle.sdh_rounds.specs.Rounds as any_round
 use Rattle.sdh_rounds.specs.Runs as any_run
+use Rattle.sdh_rounds.proofs.Terms.{terms}
 
 -- ---- lists
 
@@ -121,8 +122,7 @@ module _ (w : World) (whole : IsWhole w) where
   abbrev size : ℕ
   size = length w.ring.ids
 
-  abbrev t : ℕ
-  t = w.ring.rounds
+  open terms w use {t}
 
   abbrev after : List Node
   after = (round w).ring.nodes

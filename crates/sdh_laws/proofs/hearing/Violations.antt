@@ -26,6 +26,7 @@ use Rattle.sdh_laws.proofs.hearing.Rounds.{same_line, neighbour_inside, sent_to,
 use Rattle.sdh_laws.proofs.hearing.Rounds.{took_is, sends_at, carried_after}
 use Rattle.sdh_node.specs.Rings.Held.{node_at}
 use Rattle.sdh_node.specs.Rings.Sides.{condition_to}
+use Rattle.sdh_rounds.proofs.Terms.{terms}
 
 -- the sending section keeps the parities of the frame on its fibre
 abbrev pub KeepsParities : Rate → ℕ → Arrival → Option Parities → Type 0
@@ -47,8 +48,7 @@ module _ (w : World) (whole : IsWhole w) (p : ℕ) (d : Side) (h : p < length w.
   abbrev n : ℕ
   n = n_of rate
 
-  abbrev t : ℕ
-  t = w.ring.rounds
+  open terms w use {t}
 
   -- the neighbour, and the fibre that it sends on
   abbrev q : ℕ

@@ -9,7 +9,6 @@ use Rattle.sdh_ringmap.specs.Rates.{n_of}
 use Rattle.sdh_ringmap.specs.declared.Side.{Side}
 use Rattle.sdh_ringmap.specs.Places.{neighbour, opposite}
 use Rattle.sdh_circuits.specs.declared.PortId.{PortId}
-use Rattle.sdh_circuits.specs.Provisioned.{Provisioned}
 use Rattle.sdh_circuits.specs.Provisioning.{AreCircuits, HasOffsets}
 use Rattle.sdh_payload.specs.declared.chunk.ChunkForm.TheVariants.{Plain}
 use Rattle.sdh_payload.specs.Clock.{Clock, next_form, ticked, ticks}
@@ -55,6 +54,7 @@ use Rattle.sdh_laws.proofs.resting.Clocks.{goes_five, form_by, added_so, none_ad
 use Rattle.sdh_laws.proofs.resting.Signals.{calm_at, still_at, started, free_at, request_stays, heard_stays, word_last}
 use Rattle.sdh_laws.proofs.resting.Signals.{settled_at, spans_are}
 use Rattle.sdh_rounds.specs.Runs as any_run
+use Rattle.sdh_rounds.proofs.Terms.{terms}
 
 even_as : (a b : Action) (v u : ℕ) → a ≡ b → v ≡ u → IsEven b u → IsEven a v
 even_as a b v u ea ev (inl e) = inl (ea ∙ e)
@@ -66,8 +66,7 @@ SameInput i j = (i.action ≡ j.action) × (i.value ≡ j.value)
 
 module _ (law : StillRingsAreSettled) (w : World) (whole : IsWhole w) (form : HasCircuits (layout_of w))
     (calm : (j : ℕ) → 1 ≤ j → j ≤ 6 → IsCalm (course w) j) where
-  abbrev n : ℕ
-  n = length w.ring.ids
+  open terms w use {n}
 
   abbrev many : ℕ
   many = n_of w.ring.settings.rate
@@ -75,8 +74,7 @@ module _ (law : StillRingsAreSettled) (w : World) (whole : IsWhole w) (form : Ha
   abbrev half : ℕ
   half = slots_of (layout_of w)
 
-  abbrev cs : List Provisioned
-  cs = w.ring.circuits.circuits
+  open terms w use {cs}
 
   abbrev rs : List ℕ
   rs = span_requests_of (run 3 w)

@@ -31,6 +31,7 @@ use Rattle.sdh_laws.proofs.hearing.Steady.{held_none, free_next}
 use Rattle.sdh_laws.proofs.resting.Calm.{calm_later}
 use Rattle.sdh_rounds.specs.Runs as any_run
 use Rattle.sdh_rounds.specs.Rounds as any_round
+use Rattle.sdh_rounds.proofs.Terms.{terms}
 
 pub calm_goes_on : StillRingsAreSettled → CalmGoesOn
 calm_goes_on law w whole form six j late = calm_later law w whole form 0 (λ i low high. six i (omega arith) (omega arith)) j (omega arith)
@@ -39,8 +40,7 @@ calm_goes_on law w whole form six j late = calm_later law w whole form 0 (λ i l
 
 module _ (law : StillRingsAreSettled) (w : World) (whole : IsWhole w) (form : HasCircuits (layout_of w)) (a : ℕ)
     (calm : (j : ℕ) → a < j → IsCalm (course w) j) where
-  abbrev n : ℕ
-  n = length w.ring.ids
+  open terms w use {n}
 
   calm_round_at : (j : ℕ) → a ≤ j → is_calm (round (run j w)).ring.nodes ≡ true
   unfolding any_run.run

@@ -32,6 +32,7 @@ use Rattle.sdh_laws.proofs.hearing.Steady.{free_next, IsSteady, steady_two, stea
 use Rattle.sdh_laws.proofs.converging.Came.{come_behind, came_after, word_by, word_to_in, kept, earlier_in}
 use Rattle.sdh_laws.specs.Restoring.Laws.{NoControllerHeld}
 use Rattle.sdh_rounds.specs.Runs as any_run
+use Rattle.sdh_rounds.proofs.Terms.{terms}
 
 -- ---- single nodes
 
@@ -50,8 +51,7 @@ same_brought a b last second third = λ i. record { last = last i; second = seco
 -- ---- six calm rounds, and the next one
 
 module _ (law : StillRingsAreSettled) (w : World) (whole : IsWhole w) (calm : (j : ℕ) → 1 ≤ j → j ≤ 6 → IsCalm (course w) j) where
-  abbrev n : ℕ
-  n = length w.ring.ids
+  open terms w use {n}
 
   pub calm_at : (j : ℕ) → j < 6 → is_calm (round (run j w)).ring.nodes ≡ true
   unfolding any_run.run

@@ -51,6 +51,7 @@ use Rattle.sdh_laws.proofs.restoring.Resting.{AreUncut, went_working, went_prote
 use Rattle.sdh_laws.proofs.restoring.Resting.{clock, form_rs, slot_is}
 use Rattle.sdh_laws.proofs.restoring.Walking.{joined_walk}
 use Rattle.sdh_rounds.specs.Runs as any_run
+use Rattle.sdh_rounds.proofs.Terms.{terms}
 
 -- in each round interpreters follow, and are at the value of a normal word that comes, where their fibres aren't cut
 pub record FollowAtOnce (w : World) : Type 0 where
@@ -138,11 +139,7 @@ flows_as f g t v x y same also is = record {
 
 module _ (w : World) (whole : IsWhole w) (form : HasCircuits (layout_of w)) (rs : List ℕ) (rest : StaysSettled w rs)
     (uncut : AreUncut w rs) (is : FollowAtOnce w) where
-  abbrev n : ℕ
-  n = length w.ring.ids
-
-  abbrev cs : List Provisioned
-  cs = w.ring.circuits.circuits
+  open terms w use {n, cs}
 
   abbrev half : ℕ
   half = slots_of (layout_of w)

@@ -54,6 +54,7 @@ use Rattle.sdh_laws.specs.Restoring.Flowing.{FlowsBehind, IsAisFrom}
 use Rattle.sdh_laws.proofs.restoring.Flowing.{flows_behind, silent_on}
 use Rattle.sdh_laws.proofs.restoring.Walking.{joined_walk, parted_walk}
 use Rattle.sdh_rounds.specs.Runs as any_run
+use Rattle.sdh_rounds.proofs.Terms.{terms}
 
 -- ---- what flows, for equal inputs and equal bytes
 
@@ -81,11 +82,7 @@ AreUncut w rs =
 
 module _ (w : World) (whole : IsWhole w) (form : HasCircuits (layout_of w)) (rs : List ℕ) (rest : StaysSettled w rs)
     (uncut : AreUncut w rs) where
-  abbrev n : ℕ
-  n = length w.ring.ids
-
-  abbrev cs : List Provisioned
-  cs = w.ring.circuits.circuits
+  open terms w use {n, cs}
 
   abbrev half : ℕ
   half = slots_of (layout_of w)

@@ -45,13 +45,13 @@ use Rattle.sdh_laws.specs.Restoring.Laws.{ArePortsOwedFrom, PortsAreOwedSoon, Un
 use Rattle.sdh_laws.specs.Restoring.Laws.{FreeRingsAreRestoredSoon, UnslippedRingsAreRestoredSoon, UnsettledRingsAreRestored}
 use Rattle.sdh_laws.proofs.restoring.Resting.{AreUncut, port_delivers, joined_delivers, parted_delivers}
 use Rattle.sdh_rounds.specs.Runs as any_run
+use Rattle.sdh_rounds.proofs.Terms.{terms}
 
 -- where no controller misses a turn from round f on, and no slip waits from round `base` on
 module _ (law : RingsSettle) (w : World) (whole : IsWhole w) (form : HasCircuits (layout_of w)) (f base : ℕ)
     (free : (k : ℕ) → f ≤ k → AtEach (λ p n. is_held n ≡ false) (run k w).ring.nodes) (late : 4 * length w.ring.ids + f + 9 ≤ base)
     (slips : AtEach (λ p n. NoneWait n.ports) (run base w).ring.nodes) where
-  abbrev n : ℕ
-  n = length w.ring.ids
+  open terms w use {n}
 
   abbrev pub rs : List ℕ
   rs = span_requests_of (run (f + 3) w)

@@ -14,6 +14,7 @@ use Rattle.sdh_signal.proofs.Ways.{short}
 use Rattle.sdh_node.specs.Node.{is_held}
 use Rattle.sdh_node.specs.Stations.{adm}
 use Rattle.sdh_rounds.proofs.Runs.{known_unsettles}
+use Rattle.sdh_rounds.proofs.Terms.{terms}
 use Rattle.sdh_node.specs.Rings.Held.{node_at, AtEach}
 use Rattle.sdh_node.specs.Rings.Clocks.{clocks_from}
 use Rattle.sdh_node.specs.Rings.Rounds.{World}
@@ -37,8 +38,7 @@ use Rattle.sdh_laws.proofs.restoring.Soon.{ids_u, parted_owed, clocks}
 module _ (law : RingsSettle) (w : World) (whole : IsWhole w) (form : HasCircuits (layout_of w)) (f base : ℕ)
     (free : (k : ℕ) → f ≤ k → AtEach (λ p n. is_held n ≡ false) (run k w).ring.nodes) (late : 4 * length w.ring.ids + f + 9 ≤ base)
     (unslipped : IsUnslipped w) (followed : IsFollowed w) where
-  abbrev n : ℕ
-  n = length w.ring.ids
+  open terms w use {n}
 
   slips : IsUnslipped (run base w)
   slips = none_waits_later w whole unslipped base

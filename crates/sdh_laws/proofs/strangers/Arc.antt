@@ -4,7 +4,6 @@ use Rattle.std.proofs.Common.{◌≡◌, ◌≢◌, ℕ, zero, suc, ◌+◌, ◌
 use Rattle.std.proofs.Common.{refl, ap, ap₂, sym, ◌∙◌, subst, arith, inl, inr}
 use Rattle.std.specs.Prelude.{◌==◌, if◌then◌else◌, slice_get}
 use Rattle.std.proofs.lemmas.Bool.{cases_lt, and_parts}
-use Rattle.sdh_ringmap.specs.declared.terms.Rate.{Rate}
 use Rattle.sdh_ringmap.specs.Rates.{n_of}
 use Rattle.sdh_frame.specs.Aus.{Au, au_of}
 use Rattle.sdh_parity.specs.Scrambling.{scrambled}
@@ -46,6 +45,7 @@ use Rattle.sdh_node.proofs.Decided.{scene_in, state_is, word_is}
 use Rattle.sdh_node.specs.Rings.Held.{node_at, AtEach}
 use Rattle.sdh_node.specs.Rings.Rounds.{World, round}
 use Rattle.sdh_rounds.specs.Rounds as any_round
+use Rattle.sdh_rounds.proofs.Terms.{terms}
 use Rattle.sdh_laws.specs.Hearing.Signalling.{lines_at}
 use Rattle.sdh_laws.specs.Hearing.Laws.{IsWhole}
 use Rattle.sdh_laws.proofs.hearing.Nodes.{informed, informed_out, count, nodes_after, length-after}
@@ -158,17 +158,7 @@ module _ (i : ℕ) (c : Provisioned) (d : Side) (clock : ℕ → Clock) (source 
   module _ (w : World) (u : IsUndisturbed w) (asks : AsksNothing w)
       (own : HasCome 0 w.ring.rounds (value_at w (going (length w.ring.ids) d (near_at (length w.ring.ids) c d) 0) m
       (port i (near_end d)))) where
-    abbrev n : ℕ
-    n = length w.ring.ids
-
-    abbrev t : ℕ
-    t = w.ring.rounds
-
-    abbrev cs : List Provisioned
-    cs = w.ring.circuits.circuits
-
-    abbrev rate : Rate
-    rate = w.ring.settings.rate
+    open terms w use {n, t, cs, rate}
 
     abbrev many : ℕ
     many = arc_length n c

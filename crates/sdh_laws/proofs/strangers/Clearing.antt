@@ -26,6 +26,7 @@ use Rattle.sdh_node.specs.Node.{is_held, last_word_on}
 use Rattle.sdh_node.specs.Rings.Held.{node_at, AtEach, outlet_at}
 use Rattle.sdh_node.specs.Rings.Rounds.{World, round}
 use Rattle.sdh_rounds.specs.Rounds as any_round
+use Rattle.sdh_rounds.proofs.Terms.{terms}
 use Rattle.sdh_node.specs.Rings.Sides.{world_in}
 use Rattle.sdh_node.specs.Rings.Laws.{IsChangeOf, MayHappen}
 use Rattle.sdh_restoration.specs.Changes.{Change, Stretch, rounds_in}
@@ -312,14 +313,7 @@ module _ (clocks : PortId → ℕ → Clock) where
 
     module _ (w : World) (j : ℕ) (form : HasCircuits (layout_of w)) (k : IsClearing j w) (over : most ≤ j)
         (long : most + 2 * length w.ring.ids ≤ ahead + j + 3) where
-      abbrev n : ℕ
-      n = length w.ring.ids
-
-      abbrev cs : List Provisioned
-      cs = w.ring.circuits.circuits
-
-      abbrev t : ℕ
-      t = w.ring.rounds
+      open terms w use {n, cs, t}
 
       -- for no port ones
       abbrev After : Option PortId → Au → Type 0

@@ -1,5 +1,5 @@
 -- What a node that isn't held sends holds what it may, where the one AU-4 that feeds it does.
-use Rattle.std.proofs.Common.{◌≡◌, ℕ, ◌+◌, ◌<◌, ◌≤◌, false, List, length, Option, Some, refl, ap, sym, ◌∙◌, subst, arith, inl}
+use Rattle.std.proofs.Common.{◌≡◌, ℕ, ◌+◌, ◌<◌, ◌≤◌, false, length, Option, Some, refl, ap, sym, ◌∙◌, subst, arith, inl}
 use Rattle.std.specs.Prelude.{slice_get}
 use Rattle.sdh_frame.specs.Aus.{Au}
 use Rattle.sdh_kbytes.specs.declared.K.{K}
@@ -24,6 +24,7 @@ use Rattle.sdh_node.proofs.Decided.{scene_in}
 use Rattle.sdh_node.specs.Rings.Held.{node_at}
 use Rattle.sdh_node.specs.Rings.Rounds.{World, round}
 use Rattle.sdh_rounds.specs.Rounds as any_round
+use Rattle.sdh_rounds.proofs.Terms.{terms}
 use Rattle.sdh_signal.specs.Walks.{port, port_at, working_in, protection_in}
 use Rattle.sdh_signal.proofs.Views.{AreOnRing, on-ring}
 use Rattle.sdh_signal.proofs.OneNode.{long_from}
@@ -97,20 +98,7 @@ module _ (P : Side → Origin → Type 0) (blank : (d : Side) → P d Ais) where
   protection_alone (Protection East) is East = is East refl
 
 module _ (clocks : PortId → ℕ → Clock) (w : World) (form : HasCircuits (layout_of w)) (whole : IsWhole w) where
-  abbrev ids : List ℕ
-  ids = w.ring.ids
-
-  abbrev n : ℕ
-  n = length w.ring.ids
-
-  abbrev cs : List Provisioned
-  cs = w.ring.circuits.circuits
-
-  abbrev t : ℕ
-  t = w.ring.rounds
-
-  abbrev slots : ℕ
-  slots = slots_of (layout_of w)
+  open terms w use {ids, n, cs, t, slots}
 
   abbrev Own : ℕ → Option PortId → Au → Type 0
   Own r = HoldsAtMost cs clocks r

@@ -1,5 +1,5 @@
 -- Which controllers may be held: of nodes that stand aside, and of switched nodes with a shield.
-use Rattle.std.proofs.Common.{◌≡◌, ℕ, ◌+◌, ◌-◌, ◌<◌, ◌≤◌, true, false, List, length, Option, Some, refl, ap}
+use Rattle.std.proofs.Common.{◌≡◌, ℕ, ◌+◌, ◌-◌, ◌<◌, ◌≤◌, true, false, length, Option, Some, refl, ap}
 use Rattle.std.proofs.Common.{sym, ◌∙◌, subst, arith, inl, inr, ◌⊎◌}
 use Rattle.std.specs.Prelude.{nat_le}
 use Rattle.std.proofs.lemmas.Bool.{cases_Bool, cases_lt, le-leb}
@@ -8,7 +8,6 @@ use Rattle.sdh_ringmap.specs.Places.{opposite, neighbour}
 use Rattle.sdh_ringmap.specs.declared.Pos.{Pos}
 use Rattle.sdh_ringmap.specs.declared.Side.{Side}
 use Rattle.sdh_ringmap.proofs.Sides.{opposite_twice}
-use Rattle.sdh_circuits.specs.Provisioned.{Provisioned}
 use Rattle.sdh_circuits.specs.declared.PortId.{PortId}
 use Rattle.sdh_circuits.specs.Ends.{port_id}
 use Rattle.sdh_squelch.specs.Table.{circuits_at}
@@ -22,13 +21,14 @@ use Rattle.sdh_node.proofs.Decided.{turns_left}
 use Rattle.sdh_node.specs.Rings.Held.{node_at, AtEach}
 use Rattle.sdh_node.specs.Rings.Rounds.{World, round}
 use Rattle.sdh_rounds.specs.Rounds as any_round
+use Rattle.sdh_rounds.proofs.Terms.{terms}
 use Rattle.sdh_signal.specs.Walks.{carries_in, stands_in, working_in, protection_in}
 use Rattle.sdh_signal.proofs.Views.{AreOnRing, Switch, on-ring}
 use Rattle.sdh_signal.proofs.Passing.{open-stands, switched-stands, bridged-leaves, blocked-leaves, away-leaves}
 use Rattle.sdh_laws.specs.Hearing.Laws.{IsWhole}
 use Rattle.sdh_laws.proofs.hearing.Nodes.{informed, count, nodes_after, length-after}
 use Rattle.sdh_laws.proofs.hearing.Rounds.{neighbour_inside, whole_round}
-use Rattle.sdh_laws.specs.Carrying.Windows.{layout_of, slots_of, HasCircuits, value_at}
+use Rattle.sdh_laws.specs.Carrying.Windows.{layout_of, HasCircuits, value_at}
 use Rattle.sdh_laws.proofs.carrying.Connections.{brings_protection}
 use Rattle.sdh_laws.specs.Strangers.Owners.{AreClocksOf}
 use Rattle.sdh_laws.specs.Strangers.Vouched.{circuit_on_side, spoken_of, HoldsAtMost, IsAside, MissesAside, IsVouched}
@@ -74,17 +74,7 @@ module _ (clocks : PortId → ℕ → Clock) where
   -- ---- what such nodes take and send
 
   module _ (w : World) (form : HasCircuits (layout_of w)) (k : IsSafe w) (tells : AreClocksOf clocks w.ring) where
-    abbrev n : ℕ
-    n = length w.ring.ids
-
-    abbrev cs : List Provisioned
-    cs = w.ring.circuits.circuits
-
-    abbrev t : ℕ
-    t = w.ring.rounds
-
-    abbrev slots : ℕ
-    slots = slots_of (layout_of w)
+    open terms w use {n, cs, t, slots}
 
     abbrev Own : ℕ → Option PortId → Au → Type 0
     Own r = HoldsAtMost cs clocks r

@@ -10,7 +10,6 @@ use Rattle.sdh_ringmap.specs.Places.{opposite, neighbour, found_at, position_of}
 use Rattle.sdh_ringmap.specs.declared.Pos.{Pos}
 use Rattle.sdh_ringmap.specs.declared.Side.{Side}
 use Rattle.sdh_ringmap.proofs.Sides.{opposite_twice}
-use Rattle.sdh_circuits.specs.Provisioned.{Provisioned}
 use Rattle.sdh_circuits.specs.declared.PortId.{PortId}
 use Rattle.sdh_circuits.specs.Ends.{port_id}
 use Rattle.sdh_squelch.specs.Table.{circuits_at}
@@ -29,6 +28,7 @@ use Rattle.sdh_node.proofs.Decided.{scene_in, state_is, word_is}
 use Rattle.sdh_node.specs.Rings.Held.{node_at}
 use Rattle.sdh_node.specs.Rings.Rounds.{World, round}
 use Rattle.sdh_rounds.specs.Rounds as any_round
+use Rattle.sdh_rounds.proofs.Terms.{terms}
 use Rattle.sdh_signal.specs.Walks.{carries_in, working_in, protection_in}
 use Rattle.sdh_signal.proofs.Views.{AreOnRing, Switch, on-ring}
 use Rattle.sdh_signal.proofs.Passing.{isolated-leaves, idle-leaves, bridged-leaves, blocked-leaves, away-leaves, passed-leaves}
@@ -36,7 +36,7 @@ use Rattle.sdh_signal.proofs.OneNode.{long_from}
 use Rattle.sdh_laws.specs.Hearing.Laws.{IsWhole}
 use Rattle.sdh_laws.proofs.hearing.Nodes.{informed, informed_out, count, nodes_after, length-after}
 use Rattle.sdh_laws.proofs.hearing.Rounds.{neighbour_inside, scene_ids, scene_place, next_node}
-use Rattle.sdh_laws.specs.Carrying.Windows.{layout_of, slots_of, HasCircuits, value_at, sent_at}
+use Rattle.sdh_laws.specs.Carrying.Windows.{layout_of, HasCircuits, value_at, sent_at}
 use Rattle.sdh_laws.proofs.carrying.Connections.{sends_working, sends_protection, brings_protection}
 use Rattle.sdh_laws.specs.Strangers.Owners.{AreClocksOf}
 use Rattle.sdh_laws.specs.Strangers.Vouched.{HoldsAtMost, IsAside, au_in}
@@ -74,17 +74,7 @@ module _ (w : World) (whole : IsWhole w) (q : ℕ) (h : q < length w.ring.nodes)
       ∙ ap (λ x. x.word) (informed_out w q d)
 
 module _ (clocks : PortId → ℕ → Clock) (w : World) where
-  abbrev n : ℕ
-  n = length w.ring.ids
-
-  abbrev cs : List Provisioned
-  cs = w.ring.circuits.circuits
-
-  abbrev t : ℕ
-  t = w.ring.rounds
-
-  abbrev slots : ℕ
-  slots = slots_of (layout_of w)
+  open terms w use {n, cs, t, slots}
 
   abbrev Own : ℕ → Option PortId → Au → Type 0
   Own r = HoldsAtMost cs clocks r

@@ -19,6 +19,7 @@ use Rattle.sdh_node.specs.Node.{is_held}
 use Rattle.sdh_node.specs.Rings.Held.{AtEach}
 use Rattle.sdh_node.specs.Rings.Rounds.{World, round}
 use Rattle.sdh_rounds.specs.Rounds as any_round
+use Rattle.sdh_rounds.proofs.Terms.{terms}
 use Rattle.sdh_signal.specs.Walks.{Stand, stand, IsOver, Leads, back_from, working_in, protection_in}
 use Rattle.sdh_signal.specs.Law.{Ends}
 use Rattle.sdh_signal.proofs.Views.{AreOnRing, Switch}
@@ -95,17 +96,7 @@ module _ (clocks : PortId → ℕ → Clock) (rs : List ℕ) where
       )
 
   module _ (w : World) (s : IsSteady clocks rs w) where
-    abbrev n : ℕ
-    n = length w.ring.ids
-
-    abbrev cs : List Provisioned
-    cs = w.ring.circuits.circuits
-
-    abbrev t : ℕ
-    t = w.ring.rounds
-
-    abbrev slots : ℕ
-    slots = slots_of (layout_of w)
+    open terms w use {n, cs, t, slots}
 
     below : (p : ℕ) → p < length w.ring.nodes → p < n
     below p h = omega (arith, count w s.whole.placed)

@@ -48,6 +48,7 @@ use Rattle.sdh_node.specs.Rings.Held.{node_at, outlet_at, place_of_port}
 use Rattle.sdh_node.specs.Rings.Rounds.{World, round}
 use Rattle.sdh_rounds.specs.Rounds as any_round
 use Rattle.sdh_rounds.specs.Runs as any_run
+use Rattle.sdh_rounds.proofs.Terms.{terms}
 use Rattle.sdh_node.specs.Rings.Runs.{run}
 use Rattle.sdh_restoration.specs.Changes.{Change, Stretch, rounds_in}
 use Rattle.sdh_restoration.specs.Changes.{Fibre, Order, Hold, Slip, Now}
@@ -335,8 +336,7 @@ module _ (i : ℕ) (c : Provisioned) (d : Side) (clock : ℕ → Clock) (source 
     times : clock_at w.ring (port_id i (near_end d)) ≡ clock w.ring.rounds
 
   module _ (w : World) (u : U w) (tells : Tells w) where
-    abbrev n : ℕ
-    n = length w.ring.ids
+    open terms w use {n}
 
     plenty : 0 < n
     plenty = let h = (u.ring.inside i c u.get).0 in omega arith

@@ -42,6 +42,7 @@ use Rattle.sdh_restoration.specs.Changes.{Fibre, Order, Hold, Slip, Now}
 use Rattle.sdh_node.specs.Rings.Changes.{changed, new_world}
 use Rattle.sdh_node.specs.Rings.Laws.{IsChangeOf}
 use Rattle.sdh_rounds.specs.Rounds as any_round
+use Rattle.sdh_rounds.proofs.Terms.{terms}
 use Rattle.sdh_laws.specs.Hearing.Laws.{IsWhole}
 use Rattle.sdh_laws.proofs.hearing.Nodes.{informed, count, nodes_after, length-after}
 use Rattle.sdh_laws.proofs.hearing.Rounds.{whole_round}
@@ -297,11 +298,7 @@ pub record IsReady (clocks : PortId → ℕ → Clock) (w : World) : Type 0 wher
   pub say : HeldSay (λ i. HoldsAtMost w.ring.circuits.circuits clocks (w.ring.rounds + 1)) w
 
 module _ (clocks : PortId → ℕ → Clock) (w : World) (form_is : HasCircuits (layout_of w)) where
-  abbrev cs : List Provisioned
-  cs = w.ring.circuits.circuits
-
-  abbrev t : ℕ
-  t = w.ring.rounds
+  open terms w use {cs, t}
 
   abbrev size : ℕ
   size = length w.ring.ids

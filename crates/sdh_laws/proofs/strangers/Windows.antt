@@ -20,6 +20,7 @@ use Rattle.sdh_node.specs.Rings.Runs.{run, course}
 use Rattle.sdh_node.specs.Rings.Quiet.{is_calm, EndsWindow}
 use Rattle.sdh_rounds.specs.Rounds as any_round
 use Rattle.sdh_rounds.specs.Runs as any_run
+use Rattle.sdh_rounds.proofs.Terms.{terms}
 use Rattle.sdh_signal.proofs.Views.{AreOnRing, Switch, on-ring}
 use Rattle.sdh_laws.specs.Hearing.Laws.{IsWhole}
 use Rattle.sdh_laws.proofs.hearing.Nodes.{count, length-after}
@@ -45,8 +46,7 @@ use Rattle.sdh_laws.proofs.hearing.Steady.{one_less}
 
 module _ (clocks : PortId → ℕ → Clock) (law : StillRingsAreSettled) (v : World) (form : HasCircuits (layout_of v)) (whole : IsWhole v) (last : ℕ)
     (ends : EndsWindow (course v) last) (tells : (i : ℕ) → i < last → AreClocksOf clocks (run i v).ring) where
-  abbrev n : ℕ
-  n = length v.ring.ids
+  open terms v use {n}
 
   abbrev rs : List ℕ
   rs = span_requests_of (run last v)

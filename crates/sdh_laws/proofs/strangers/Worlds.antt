@@ -3,7 +3,6 @@ use Rattle.std.proofs.Common.{◌≡◌, ℕ, ◌+◌, ◌-◌, ◌<◌, ◌≤�
 use Rattle.std.proofs.Common.{inl, inr}
 use Rattle.std.specs.Prelude.{if◌then◌else◌, slice_get}
 use Rattle.std.proofs.lemmas.Bool.{cases_Bool, cases_lt}
-use Rattle.sdh_ringmap.specs.declared.terms.Rate.{Rate}
 use Rattle.sdh_ringmap.specs.Rates.{n_of}
 use Rattle.sdh_frame.specs.Aus.{Au}
 use Rattle.sdh_kbytes.specs.declared.K.{K}
@@ -44,6 +43,7 @@ use Rattle.sdh_laws.proofs.strangers.Content.{IsCarried, Bears, Fine, bears_sent
 use Rattle.sdh_laws.proofs.strangers.Lags.{Lag, exactly, working_lag, stand_lag, source_in, spoken_lag, AreLags}
 use Rattle.sdh_signal.proofs.OneNode.{long_from}
 use Rattle.sdh_rounds.specs.Rounds as any_round
+use Rattle.sdh_rounds.proofs.Terms.{terms}
 use Rattle.sdh_laws.proofs.strangers.Arrivals.{span_across, lost, silent_first, au_received, ones_received, heard_came}
 use Rattle.sdh_laws.proofs.strangers.Nodes.{stands_fine, working_fine, protection_fine, aside_stands, aside_protection, working_anyhow}
 
@@ -119,20 +119,7 @@ module _ (Was Own : Lag → Option PortId → Au → Type 0) (lags : AreLags Was
   -- ---- what comes in
 
   module _ (w : World) (whole : IsWhole w) (p : ℕ) (h : p < length w.ring.nodes) where
-    abbrev ids : List ℕ
-    ids = w.ring.ids
-
-    abbrev n : ℕ
-    n = length w.ring.ids
-
-    abbrev cs : List Provisioned
-    cs = w.ring.circuits.circuits
-
-    abbrev rate : Rate
-    rate = w.ring.settings.rate
-
-    abbrev slots : ℕ
-    slots = slots_of (layout_of w)
+    open terms w use {ids, n, cs, rate, slots}
 
     abbrev l : Lines
     l = lines_at w p
