@@ -11,7 +11,7 @@ ghost use Rattle.sdh_plant.specs.InMemory.{fibres_of, clear_fibres, made, IsFail
 
 use crate::fibre_plant::FibrePlant;
 use crate::plant::{Arrived, Failed, LendingPlant, Plant, PrepareError};
-use sdh_frame::{FrameBuf};
+use sdh_frame::FrameBuf;
 use sdh_ringmap::{FibreEvent, Pos, Rate, Side};
 use std::alloc::{AllocError, Global};
 use std::marker::Model;

@@ -10,7 +10,7 @@ ghost use Rattle.sdh_plant.specs.InMemory.{clear_fibres, recorded_of};
 
 use crate::fibre_plant::FibrePlant;
 use crate::plant::{Arrived, Failed, LendingPlant, Plant, PrepareError};
-use sdh_frame::{FrameBuf};
+use sdh_frame::FrameBuf;
 use sdh_ringmap::{FibreEvent, Pos, Rate, Side};
 use std::alloc::{AllocError, Global};
 use std::marker::Model;

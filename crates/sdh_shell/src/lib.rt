@@ -16,5 +16,5 @@ mod words;
 pub use ended_text::{EndedText, ended, write_ended};
 pub use ending::Ends;
 pub use reading::{NoPlan, plan_in};
-pub use standard::called_with;
+pub use standard::run_program;
 pub use words::{end_lettered, is_run};

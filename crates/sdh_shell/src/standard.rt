@@ -2,12 +2,22 @@
 
 use sdh_outside::{StdSink, StdSource, words};
 use std::io::{Stdin, Stdout};
+use std::process::ExitCode;
 
-/// Returns what this program is called with: the words of the command line, standard input and standard output. Without
-/// words it returns the number with which the program ends (`words` of `sdh_outside`).
-pub fn called_with(
+/// Calls a program with the words of the command line, standard input and standard output, and returns the number with
+/// which it ends. Without words the program isn't called, and the number is that of `words` of `sdh_outside`.
+pub fn run_program<F: FnOnce(&[String], &mut StdSource<Stdin>, &mut StdSink<Stdout>) -> u8>(
     rt: &HostRuntime,
-) -> Result<(Vec<String>, StdSource<Stdin>, StdSink<Stdout>), u8> {
-    let words = words(rt)?;
-    Ok((words, StdSource::new(rt.stdin()), StdSink::new(rt.stdout())))
+    program: F,
+) -> ExitCode
+    requires { F.IsAlwaysCallable program }
+{
+    match words(rt) {
+        Ok(words) => {
+            let mut source = StdSource::new(rt.stdin());
+            let mut sink = StdSink::new(rt.stdout());
+            ExitCode::from(program(&words, &mut source, &mut sink))
+        }
+        Err(number) => ExitCode::from(number),
+    }
 }

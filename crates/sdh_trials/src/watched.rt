@@ -4,7 +4,7 @@ ghost use Rattle.std.proofs.lemmas.Bool.{false≢true};
 ghost use Rattle.sdh_plant.specs.InMemory.{clear_fibres, told_of};
 ghost use Rattle.sdh_plant.specs.Kept.{arrival_of, IsToldAt};
 
-use sdh_frame::{FrameBuf};
+use sdh_frame::FrameBuf;
 use sdh_plant::{Arrived, Failed, Plant, PrepareError, Told, ToldPlant};
 use sdh_ringmap::{FibreEvent, Pos, Rate, Side};
 use std::alloc::{AllocError, Global};

@@ -2,14 +2,11 @@
 #![tactic(auto)]
 
 use sdh_node_cli::sdhnode;
-use sdh_shell::called_with;
+use sdh_shell::run_program;
 use std::process::ExitCode;
 
 fn main(rt: HostRuntime) -> ExitCode {
-    let (words, mut source, mut sink) = match called_with(&rt) {
-        Ok(given) => given,
-        Err(number) => return ExitCode::from(number),
-    };
-    let ending = sdhnode(rt.alloc(), &words, &mut source, &mut sink);
-    ExitCode::from(ending.number())
+    run_program(&rt, |words, source, sink| {
+        sdhnode(rt.alloc(), words, source, sink).number()
+    })
 }

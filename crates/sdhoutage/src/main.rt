@@ -3,15 +3,12 @@
 
 use sdh_outage_cli::sdhoutage;
 use sdh_plant::FibrePlant;
-use sdh_shell::called_with;
+use sdh_shell::run_program;
 use std::process::ExitCode;
 
 fn main(rt: HostRuntime) -> ExitCode {
-    let (words, mut source, mut sink) = match called_with(&rt) {
-        Ok(given) => given,
-        Err(number) => return ExitCode::from(number),
-    };
-    let mut plant = FibrePlant::new();
-    let status = sdhoutage(rt.alloc(), &words, &mut source, &mut sink, &mut plant);
-    ExitCode::from(status.number())
+    run_program(&rt, |words, source, sink| {
+        let mut plant = FibrePlant::new();
+        sdhoutage(rt.alloc(), words, source, sink, &mut plant).number()
+    })
 }

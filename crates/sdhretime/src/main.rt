@@ -2,14 +2,11 @@
 #![tactic(auto)]
 
 use sdh_retime_cli::retime;
-use sdh_shell::called_with;
+use sdh_shell::run_program;
 use std::process::ExitCode;
 
 fn main(rt: HostRuntime) -> ExitCode {
-    let (words, mut source, mut sink) = match called_with(&rt) {
-        Ok(given) => given,
-        Err(number) => return ExitCode::from(number),
-    };
-    let number = retime(rt.alloc(), &words, &mut source, &mut sink);
-    ExitCode::from(number)
+    run_program(&rt, |words, source, sink| {
+        retime(rt.alloc(), words, source, sink)
+    })
 }

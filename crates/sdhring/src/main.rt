@@ -3,15 +3,12 @@
 
 use sdh_cli::sdhring;
 use sdh_plant::FibrePlant;
-use sdh_shell::called_with;
+use sdh_shell::run_program;
 use std::process::ExitCode;
 
 fn main(rt: HostRuntime) -> ExitCode {
-    let (words, mut source, mut sink) = match called_with(&rt) {
-        Ok(given) => given,
-        Err(number) => return ExitCode::from(number),
-    };
-    let mut plant = FibrePlant::new();
-    let status = sdhring(rt.alloc(), &words, &mut source, &mut sink, &mut plant);
-    ExitCode::from(status.number())
+    run_program(&rt, |words, source, sink| {
+        let mut plant = FibrePlant::new();
+        sdhring(rt.alloc(), words, source, sink, &mut plant).number()
+    })
 }

@@ -2,16 +2,13 @@
 #![tactic(auto)]
 
 use sdh_plant::FibrePlant;
-use sdh_shell::called_with;
+use sdh_shell::run_program;
 use sdh_watch::sdhwatch;
 use std::process::ExitCode;
 
 fn main(rt: HostRuntime) -> ExitCode {
-    let (words, mut source, mut sink) = match called_with(&rt) {
-        Ok(given) => given,
-        Err(number) => return ExitCode::from(number),
-    };
-    let mut plant = FibrePlant::new();
-    let number = sdhwatch(rt.alloc(), &words, &mut source, &mut sink, &mut plant);
-    ExitCode::from(number)
+    run_program(&rt, |words, source, sink| {
+        let mut plant = FibrePlant::new();
+        sdhwatch(rt.alloc(), words, source, sink, &mut plant)
+    })
 }
