@@ -9,3 +9,4 @@ pub mod Splitting
 pub mod Quoting
 pub mod Reading
 pub mod Truth
+pub mod Listed

@@ -1,21 +1,24 @@
 -- A line is true.
 use Rattle.std.proofs.Common.{◌≡◌, ℕ, ◌+◌, ◌-◌, ◌*◌, ◌<◌, ◌≤◌, Bool, true, false, ◌==◌, nat_lt, List, [], ◌∷◌, ◌++◌, length, get_or, All, refl, sym}
-use Rattle.std.proofs.Common.{ap, ◌∙◌, subst, inl, inr, arith, ltb-true, eq-eqb}
-use Rattle.std.specs.Prelude.{◌&&◌, nat_le, if◌then◌else◌, Option, Some, None}
-use Rattle.std.specs.Option.{option_map_or}
+use Rattle.std.proofs.Common.{ap, subst, inl, inr, arith, ltb-true, eq-eqb}
+use Rattle.std.specs.Prelude.{nat_le, if◌then◌else◌, not}
 use Rattle.std.proofs.lemmas.Bool.{cases_lt, leb-true}
 use Rattle.std.proofs.lemmas.List.{get_or_past}
 use Rattle.std.proofs.lemmas.List.Elements.{All-nil, All-cons, All-append, All-get_or}
+use Rattle.sdh_ringmap.specs.Arcs.{is_clear, is_joined}
+use Rattle.sdh_circuits.specs.Provisioned.{Provisioned, arc_of}
+use Rattle.sdh_restoration.specs.Applied.{is_applied}
 use Rattle.sdh_plan.specs.Planned.{Planned, IsPlanned}
+use Rattle.sdh_verdicts.specs.Verdicts.{requests_with, is_troubled}
+use Rattle.sdh_verdicts.specs.declared.judging.Verdict.TheVariants as verdict
 use Rattle.sdh_verdicts.specs.declared.failure.Failure.{Failure}
 use Rattle.sdh_verdicts.specs.declared.failure.Failure.TheVariants.{Degraded, Cut, Span, Node, Manual, Forced}
 use Rattle.sdh_verdicts.specs.Failures.{IsFailureIn, failure_at, half, side_of}
 use Rattle.sdh_verdicts.specs.Laws.{LongerPlansArePlans, CasesAreShown}
 use Rattle.sdh_whatif_cli.specs.declared.ask.Ask.{Ask}
 use Rattle.sdh_whatif_cli.specs.declared.forms.Digits.{Digits}
-use Rattle.sdh_whatif_cli.specs.declared.forms.Entry.{Entry}
-use Rattle.sdh_whatif_cli.specs.Cases.{failures_at, failures_of, digits_at, case_at, is_told, told_below, is_in_part}
-use Rattle.sdh_whatif_cli.specs.Lines.{line_text}
+use Rattle.sdh_whatif_cli.specs.Cases.{failures_at, failures_of, digits_at, case_at, is_told}
+use Rattle.sdh_whatif_cli.specs.Counting.{fate_by, fate_of, IsFateIn}
 use Rattle.sdh_whatif_cli.specs.Laws.{IsTrueLine, LinesAreTrue}
 use Rattle.sdh_whatif_cli.proofs.Reading.{steps_back, texts_pass}
 
@@ -66,22 +69,41 @@ module _ (n : ℕ) (own : List (List Failure)) (within : All (All (IsFailureIn n
       All-append Is (failures_at n own ds.first) (failures_at n own ds.second ++ failures_at n own ds.third) (digit_in ds.first)
       (All-append Is (failures_at n own ds.second) (failures_at n own ds.third) (digit_in ds.second) (digit_in ds.third))
 
+-- ---- fates
+
+module _ (plan : Planned) (case : List Failure) (c : Provisioned) where
+  abbrev own_clear : Bool
+  own_clear = is_clear (length plan.nodes) (is_applied (requests_with plan case)) (arc_of (length plan.nodes) c)
+
+  abbrev untroubled : Bool
+  untroubled = is_clear (length plan.nodes) (is_troubled (requests_with plan case)) (arc_of (length plan.nodes) c)
+
+  abbrev ends_joined : Bool
+  ends_joined = is_joined (length plan.nodes) (is_applied (requests_with plan case)) (arc_of (length plan.nodes) c)
+
+  fate_by_tests : (own trouble joined : Bool) → own_clear ≡ own → untroubled ≡ trouble → ends_joined ≡ joined
+      → IsFateIn plan case c (fate_by (if own then verdict.Kept else if joined then verdict.Over else verdict.Lost) (not trouble))
+  fate_by_tests true true joined o t j = record { kept = λ e. (o, t); impaired = λ e. cc; over = λ e. cc; lost = λ e. cc }
+  fate_by_tests true false joined o t j = record { kept = λ e. cc; impaired = λ e. (o, t); over = λ e. cc; lost = λ e. cc }
+  fate_by_tests false trouble true o t j = record { kept = λ e. cc; impaired = λ e. cc; over = λ e. (o, j); lost = λ e. cc }
+  fate_by_tests false trouble false o t j = record { kept = λ e. cc; impaired = λ e. cc; over = λ e. cc; lost = λ e. j }
+
+  fate_in : IsFateIn plan case c (fate_of plan case c)
+  fate_in = fate_by_tests own_clear untroubled ends_joined refl refl refl
+
 -- ---- lines
 
 true_line : LongerPlansArePlans → CasesAreShown → (plan : Planned) (own : List (List Failure)) (ask : Ask) (c : ℕ) → IsPlanned plan
     → All (All (IsFailureIn (length plan.nodes))) own → is_told plan own ask c ≡ true → IsTrueLine plan own ask c
 true_line longer shown plan own ask c fits within told =
     let case = case_at plan own c in
-    let number = told_below plan own ask c in
     let all = failures_in (length plan.nodes) own within (digits_at plan own c) in
-    let line : Option Entry → List ℕ = λ e. option_map_or (line_text plan (digits_at plan own c) case) e [] in
     record {
-      line = λ inside. ap (λ b. line (if b && is_in_part ask number then Some (record { form = ask.form; number = number }) else None)) told
-          ∙ ap (λ b. line (if b then Some (record { form = ask.form; number = number }) else None)) inside;
       steps = λ limit. ap (λ l. plan.steps ++ l) (sym (steps_back plan fits ask.form case all));
       checks = texts_pass plan fits ask.form case all;
       planned = λ limit. longer plan case limit fits all;
       shown = shown plan case fits;
+      fates = fate_in plan case;
     }
 
 pub lines_are_true : LongerPlansArePlans → CasesAreShown → LinesAreTrue

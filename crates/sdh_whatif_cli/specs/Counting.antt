@@ -1,6 +1,7 @@
 -- What becomes of the circuits of a plan in a case, and counts of them.
-use Rattle.std.specs.Prelude.{ℕ, Bool, true, false, if◌then◌else◌, List, count_by, length, map}
-use Rattle.sdh_circuits.specs.Provisioned.{Provisioned}
+use Rattle.std.specs.Prelude.{ℕ, ◌≡◌, Bool, true, false, if◌then◌else◌, List, count_by, length, map}
+use Rattle.sdh_ringmap.specs.Arcs.{is_clear, is_joined}
+use Rattle.sdh_circuits.specs.Provisioned.{Provisioned, arc_of}
 use Rattle.sdh_restoration.specs.Applied.{highest, is_applied}
 use Rattle.sdh_plan.specs.Planned.{Planned}
 use Rattle.sdh_verdicts.specs.declared.failure.Failure.{Failure}
@@ -20,6 +21,18 @@ fate_by verdict.Lost impaired = Lost
 -- what becomes of a circuit in a case; it is impaired only where it is kept
 abbrev pub fate_of : Planned → List Failure → Provisioned → Fate
 fate_of plan case c = fate_by (verdict_of plan case c) (is_impaired plan case c)
+
+-- What the fate of a circuit means in a case. Its own arc has no applied span where it is kept or impaired; then some span
+-- of the arc is in trouble where it is impaired, and none where it is kept. Else its ends are joined round applied spans,
+-- or not at all where it is lost.
+pub record IsFateIn (plan : Planned) (case : List Failure) (c : Provisioned) (fate : Fate) : Type 0 where
+  pub kept : fate ≡ Kept → (is_clear (length plan.nodes) (is_applied (requests_with plan case)) (arc_of (length plan.nodes) c) ≡ true)
+      × (is_clear (length plan.nodes) (is_troubled (requests_with plan case)) (arc_of (length plan.nodes) c) ≡ true)
+  pub impaired : fate ≡ Impaired → (is_clear (length plan.nodes) (is_applied (requests_with plan case)) (arc_of (length plan.nodes) c) ≡ true)
+      × (is_clear (length plan.nodes) (is_troubled (requests_with plan case)) (arc_of (length plan.nodes) c) ≡ false)
+  pub over : fate ≡ Over → (is_clear (length plan.nodes) (is_applied (requests_with plan case)) (arc_of (length plan.nodes) c) ≡ false)
+      × (is_joined (length plan.nodes) (is_applied (requests_with plan case)) (arc_of (length plan.nodes) c) ≡ true)
+  pub lost : fate ≡ Lost → is_joined (length plan.nodes) (is_applied (requests_with plan case)) (arc_of (length plan.nodes) c) ≡ false
 
 abbrev pub same_fate : Fate → Fate → Bool
 same_fate Kept Kept = true

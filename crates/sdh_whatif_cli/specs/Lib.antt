@@ -6,5 +6,6 @@ pub mod Scenes
 pub mod Lines
 pub mod Own
 pub mod Reading
+pub mod Listed
 pub mod Laws
 pub mod Outcome
