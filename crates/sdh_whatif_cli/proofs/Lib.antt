@@ -8,5 +8,6 @@ pub mod Told
 pub mod Splitting
 pub mod Quoting
 pub mod Reading
+pub mod Severe
 pub mod Truth
 pub mod Listed

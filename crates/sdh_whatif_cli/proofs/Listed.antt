@@ -14,7 +14,7 @@ use Rattle.sdh_whatif_cli.specs.declared.ask.Ask.{Ask}
 use Rattle.sdh_whatif_cli.specs.declared.ask.Depth.{Depth}
 use Rattle.sdh_whatif_cli.specs.declared.ask.Depth.TheVariants.{Single, Double, Triple}
 use Rattle.sdh_whatif_cli.specs.declared.forms.Digits.{Digits}
-use Rattle.sdh_whatif_cli.specs.Cases.{base_of, case_numbers, digits_of, digits_at, failures_at, failures_of, goes_before, is_taken, are_told, is_told}
+use Rattle.sdh_whatif_cli.specs.Cases.{base_of, case_numbers, digits_of, digits_at, failures_at, failures_of, worst_last, goes_before, is_taken, are_told, is_told}
 use Rattle.sdh_whatif_cli.specs.Lines.{either, joined, name_text, digits_in}
 use Rattle.sdh_whatif_cli.specs.Listed.{most_failures, IsTakenFailure, IsCase, failures_in, numbers_at, StandsFor, HasOneLine, CasesHaveOneLine}
 
@@ -136,11 +136,11 @@ module _ (n : ℕ) (own : List (List Failure)) where
       by true e = sym (ap of (eqb-true d 0 e))
       by false e = append-nil (of d)
 
-  steps_are : (ds : Digits) → failures_of n own ds ≡ flat_map of (failures_in ds)
+  steps_are : (ds : Digits) → failures_of n own ds ≡ worst_last (flat_map of (failures_in ds))
   steps_are ds =
-      sym (flat_map-append of (one_of ds.first) (one_of ds.second ++ (one_of ds.third ++ []))
+      ap worst_last (sym (flat_map-append of (one_of ds.first) (one_of ds.second ++ (one_of ds.third ++ []))
       ∙ ap₂ (λ s t. s ++ t) (one_gives ds.first) (flat_map-append of (one_of ds.second) (one_of ds.third ++ [])
-      ∙ ap₂ (λ s t. s ++ t) (one_gives ds.second) (ap (flat_map of) (append-nil (one_of ds.third)) ∙ one_gives ds.third)))
+      ∙ ap₂ (λ s t. s ++ t) (one_gives ds.second) (ap (flat_map of) (append-nil (one_of ds.third)) ∙ one_gives ds.third))))
 
 -- ---- cases
 

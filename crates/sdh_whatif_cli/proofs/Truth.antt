@@ -21,6 +21,7 @@ use Rattle.sdh_whatif_cli.specs.Cases.{failures_at, failures_of, digits_at, case
 use Rattle.sdh_whatif_cli.specs.Counting.{fate_by, fate_of, IsFateIn}
 use Rattle.sdh_whatif_cli.specs.Laws.{IsTrueLine, LinesAreTrue}
 use Rattle.sdh_whatif_cli.proofs.Reading.{steps_back, texts_pass}
+use Rattle.sdh_whatif_cli.proofs.Severe.{all_kept}
 
 -- ---- the failures of a number are of the ring
 
@@ -66,8 +67,9 @@ module _ (n : ℕ) (own : List (List Failure)) (within : All (All (IsFailureIn n
 
   pub failures_in : (ds : Digits) → All Is (failures_of n own ds)
   failures_in ds =
-      All-append Is (failures_at n own ds.first) (failures_at n own ds.second ++ failures_at n own ds.third) (digit_in ds.first)
-      (All-append Is (failures_at n own ds.second) (failures_at n own ds.third) (digit_in ds.second) (digit_in ds.third))
+      all_kept Is (failures_at n own ds.first ++ (failures_at n own ds.second ++ failures_at n own ds.third))
+      (All-append Is (failures_at n own ds.first) (failures_at n own ds.second ++ failures_at n own ds.third) (digit_in ds.first)
+      (All-append Is (failures_at n own ds.second) (failures_at n own ds.third) (digit_in ds.second) (digit_in ds.third)))
 
 -- ---- fates
 

@@ -9,7 +9,7 @@ use Rattle.sdh_whatif_cli.specs.declared.ask.Depth.TheVariants.{Single, Double, 
 use Rattle.sdh_whatif_cli.specs.declared.ask.Form.{Form}
 use Rattle.sdh_whatif_cli.specs.declared.ask.Form.TheVariants as form
 use Rattle.sdh_whatif_cli.specs.declared.forms.Digits.{Digits}
-use Rattle.sdh_whatif_cli.specs.Cases.{base_of, case_numbers, digits_at, case_at, failures_at, is_taken, is_told}
+use Rattle.sdh_whatif_cli.specs.Cases.{base_of, case_numbers, digits_at, case_at, failures_at, worst_last, is_taken, is_told}
 use Rattle.sdh_whatif_cli.specs.Lines.{either, joined, name_text, names_text, digits_in}
 use Rattle.std.specs.Prelude.{codes}
 
@@ -45,11 +45,11 @@ abbrev pub numbers_at : Planned → List (List Failure) → ℕ → List ℕ
 numbers_at plan own c = failures_in (digits_at plan own c)
 
 -- What a line's number stands for: these failures, a case that is asked for. The line has their names, in their order,
--- and its steps are those of the failures of the ring that they are.
+-- and its steps are those of the failures of the ring that they are, the worse ones last.
 pub record StandsFor (plan : Planned) (own : List (List Failure)) (ask : Ask) (c : ℕ) (failures : List ℕ) : Type 0 where
   pub is_case : IsCase plan own ask failures
   pub names : (f : Form) → names_text f plan.nodes (digits_at plan own c) ≡ joined (either f (codes ",") (codes " + ")) (map (name_text f plan.nodes) failures)
-  pub steps : case_at plan own c ≡ flat_map (failures_at (length plan.nodes) own) failures
+  pub steps : case_at plan own c ≡ worst_last (flat_map (failures_at (length plan.nodes) own) failures)
 
 -- one number below the last, and no other, has a line that stands for these failures
 pub record HasOneLine (plan : Planned) (own : List (List Failure)) (ask : Ask) (failures : List ℕ) : Type 0 where

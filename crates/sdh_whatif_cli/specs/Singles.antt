@@ -10,6 +10,7 @@ use Rattle.sdh_whatif_cli.specs.declared.ask.Kinds.{Kinds}
 use Rattle.sdh_whatif_cli.specs.declared.counting.Fate.TheVariants.{Lost}
 use Rattle.sdh_whatif_cli.specs.declared.singles.Tally.{Tally}
 use Rattle.sdh_whatif_cli.specs.Words.{has_kind, takes}
+use Rattle.sdh_whatif_cli.specs.Cases.{worst_last}
 use Rattle.sdh_whatif_cli.specs.Counting.{fate_count}
 
 abbrev pub new_tally : Tally
@@ -35,7 +36,7 @@ tally_of plan from (suc k) = tallied plan (from + k) (tally_of plan from k)
 -- the tally of the first k failures of the user's own
 abbrev pub own_tally : Planned → List (List Failure) → ℕ → Tally
 own_tally plan own zero = new_tally
-own_tally plan own (suc k) = with_case (fate_count plan (slice_index_or own k []) Lost) (own_tally plan own k)
+own_tally plan own (suc k) = with_case (fate_count plan (worst_last (slice_index_or own k [])) Lost) (own_tally plan own k)
 
 -- ---- the records
 

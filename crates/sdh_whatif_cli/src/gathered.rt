@@ -1,5 +1,6 @@
 //! The failures of a case, gathered one by one.
-ghost use Rattle.std.specs.Prelude.{◌≡◌, ◌<◌, ◌∷◌, ◌++◌, [], length};
+ghost use Rattle.std.specs.Prelude.{◌≡◌, ◌+◌, ◌<◌, ◌≤◌, ◌∷◌, ◌++◌, [], length};
+ghost use Rattle.sdh_whatif_cli.specs.Cases.{severity, of_severity, worst_last};
 
 use sdh_ringmap::Pos;
 use sdh_verdicts::Failure;
@@ -49,4 +50,41 @@ impl Gathered {
     {
         &self.list[..self.many]
     }
+}
+
+// Returns how severe a failure is beside others about the same fibre or side.
+fn severity(failure: Failure) -> u8
+    ensures { result ≡ severity failure }
+{
+    match failure {
+        Failure::Degraded(..) => 0,
+        Failure::Cut(..) | Failure::Span(_) | Failure::Node(_) => 1,
+        Failure::Manual(..) => 2,
+        Failure::Forced(..) => 3,
+    }
+}
+
+// Appends those of some failures that are so severe.
+fn push_severe(case: &mut Gathered, failures: &[Failure], grade: u8)
+    requires room { length case.old + length (of_severity grade failures.now) ≤ 48 }
+    ensures { case.new ≡ case.old ++ of_severity grade failures.now }
+{
+    for failure in failures {
+        if severity(*failure) == grade {
+            case.push(*failure);
+        }
+    }
+}
+
+/// Returns failures in an order in which no worse one is followed by a lesser one about the same fibre or side.
+pub fn worst_last(failures: &[Failure]) -> Gathered
+    requires few { length failures.now ≤ 48 }
+    ensures { result ≡ worst_last failures.now }
+{
+    let mut case = Gathered::new();
+    push_severe(&mut case, failures, 0);
+    push_severe(&mut case, failures, 1);
+    push_severe(&mut case, failures, 2);
+    push_severe(&mut case, failures, 3);
+    case
 }

@@ -7,6 +7,7 @@ ghost use Rattle.sdh_whatif_cli.specs.Scenes.{IsScene};
 
 use crate::ask::{Kind, Kinds};
 use crate::counting::counts_of;
+use crate::gathered::worst_last;
 use crate::line::Line;
 use crate::scene::Scene;
 use sdh_plan::Plan;
@@ -148,7 +149,8 @@ fn own_tally(scene: &Scene<'_>) -> Tally
         most: 0,
     };
     for k in 0..scene.own.len() {
-        let spans = scene.sides.spans(scene.own.list(k));
+        let case = worst_last(scene.own.list(k));
+        let spans = scene.sides.spans(case.as_slice());
         tally = with_case(counts_of(scene.plan, &spans).lost, tally);
     }
     tally

@@ -14,7 +14,7 @@ ghost use Rattle.sdh_outside.specs.Writing.{Wrote};
 
 use crate::ask::{Ask, Depth, Form, Kind};
 use crate::forms::{Digits, Entry};
-use crate::gathered::Gathered;
+use crate::gathered::{Gathered, worst_last};
 use crate::line::Line;
 use crate::lines::{Case, put_head, put_line};
 use crate::own::OwnFailures;
@@ -159,7 +159,7 @@ fn push_digit(case: &mut Gathered, nodes: usize, own: &OwnFailures, digit: usize
     }
 }
 
-// Returns the failures of three digits, one after the other.
+// Returns the failures of three digits, the worse ones last.
 fn failures_of(nodes: usize, own: &OwnFailures, digits: Digits) -> Gathered
     requires nodes { nodes ≤ 16 }
     requires own { AreOwn nodes own.now }
@@ -171,7 +171,7 @@ fn failures_of(nodes: usize, own: &OwnFailures, digits: Digits) -> Gathered
     push_digit(&mut case, nodes, own, digits.first);
     push_digit(&mut case, nodes, own, digits.second);
     push_digit(&mut case, nodes, own, digits.third);
-    case
+    worst_last(case.as_slice())
 }
 
 // Writes the line of the case of these digits, where it is to be written.

@@ -6,7 +6,9 @@ use Rattle.sdh_whatif_cli.specs.declared.counting.Counts.{Counts}
 use Rattle.sdh_whatif_cli.specs.declared.counting.Fate.TheVariants.{Lost}
 use Rattle.sdh_whatif_cli.specs.Counting.{AreSpansOf, fate_count}
 use Rattle.sdh_whatif_cli.specs.Singles.{with_case, own_tally}
+use Rattle.sdh_whatif_cli.specs.Cases.{worst_last}
 use Rattle.sdh_whatif_cli.proofs.Named.{own_within}
+use Rattle.sdh_whatif_cli.proofs.Severe.{all_kept}
 use Rattle.sdh_whatif_cli.proofs.Parts.{sides_long}
 use Rattle.sdh_whatif_cli.proofs.singles.own_tally.Goals as goal
 
@@ -22,14 +24,16 @@ spans-spans-requires-clause-sides c = sides_long c.args.scene.now.plan.now c.arg
 pub spans-spans-requires-clause-case : goal.spans-spans-requires-clause-case
 spans-spans-requires-clause-case c =
     let scene = c.args.scene.now in
-    subst (All (IsFailureIn (length scene.sides.now.map.now))) (sym c.list.ensures)
-    (subst (λ (l : List ℕ). All (IsFailureIn (length l)) (get_or scene.own.now c.loop-k.k [])) (sym c.requires.scene.sides.nodes)
-    (own_within (length scene.plan.now.nodes) scene.own.now c.loop-k.k c.requires.scene.own))
+    subst (All (IsFailureIn (length scene.sides.now.map.now)))
+    (sym (c.as_slice.ensures ∙ c.worst_last-case.ensures ∙ ap (λ (fs : List Failure). worst_last fs) c.list.ensures))
+    (subst (λ (l : List ℕ). All (IsFailureIn (length l)) (worst_last (get_or scene.own.now c.loop-k.k []))) (sym c.requires.scene.sides.nodes)
+    (all_kept (IsFailureIn (length scene.plan.now.nodes)) (get_or scene.own.now c.loop-k.k [])
+    (own_within (length scene.plan.now.nodes) scene.own.now c.loop-k.k c.requires.scene.own)))
 
 pub counts_of-requires : goal.counts_of-requires
 counts_of-requires c = record {
   case = (
-    c.list.result.now,
+    c.as_slice.result.now,
     record {
       applied = c.spans-spans.ensures.applied c.args.scene.now.plan.now c.requires.scene.sides;
       troubled = c.spans-spans.ensures.troubled c.args.scene.now.plan.now c.requires.scene.sides;
@@ -51,16 +55,17 @@ loop-k-preserved c =
     let own = c.args.scene.now.own.now in
     let k = c.loop-k.k in
     let next : suc k ≡ k + 1 = omega arith in
-    let are : AreSpansOf plan c.list.result.now c.spans-spans.result = record {
+    let are : AreSpansOf plan c.as_slice.result.now c.spans-spans.result = record {
       applied = c.spans-spans.ensures.applied plan c.requires.scene.sides;
       troubled = c.spans-spans.ensures.troubled plan c.requires.scene.sides;
     } in
-    let lost : c.counts_of.result.lost ≡ fate_count plan (get_or own k []) Lost =
-    ap (λ (x : Counts). x.lost) (c.counts_of.ensures c.list.result.now are)
-    ∙ ap (λ (fs : List Failure). fate_count plan fs Lost) c.list.ensures in
+    let lost : c.counts_of.result.lost ≡ fate_count plan (worst_last (get_or own k [])) Lost =
+    ap (λ (x : Counts). x.lost) (c.counts_of.ensures c.as_slice.result.now are)
+    ∙ ap (λ (fs : List Failure). fate_count plan fs Lost)
+    (c.as_slice.ensures ∙ c.worst_last-case.ensures ∙ ap (λ (fs : List Failure). worst_last fs) c.list.ensures) in
     record {
       is = c.with_case-tally.ensures ∙ ap (λ x. with_case x c.loop-k.tally) lost
-          ∙ ap (with_case (fate_count plan (get_or own k []) Lost)) c.loop-k.invariant.is ∙ ap (own_tally plan own) next;
+          ∙ ap (with_case (fate_count plan (worst_last (get_or own k [])) Lost)) c.loop-k.invariant.is ∙ ap (own_tally plan own) next;
       cases = omega (arith, ap (λ t. t.cases) c.with_case-tally.ensures, c.loop-k.invariant.cases);
       losing = omega (arith, ap (λ t. t.losing) c.with_case-tally.ensures, c.loop-k.invariant.losing, one_more (c.counts_of.result.lost == 0));
     }
