@@ -150,6 +150,14 @@ def own_failures(ring, texts):
     return made
 
 
+SEVERITY = {"degrade": 0, "cut": 1, "manual": 1, "forced": 2}
+
+
+def worst_last(steps):
+    """The steps of a case in an order in which no worse one is followed by a lesser one, which would take its place."""
+    return sorted(steps, key=lambda step: SEVERITY[step.split()[0]])
+
+
 def mends(state, taken):
     if taken is None:
         return False
@@ -221,7 +229,7 @@ def counts(found):
 
 def record(state, number, case, form):
     """A case's line."""
-    steps = [*itertools.chain.from_iterable(failure.steps for failure in case), "settle"]
+    steps = [*worst_last(itertools.chain.from_iterable(failure.steps for failure in case)), "settle"]
     after = state.after(steps)
     found, hops = fates(after)
     applied = [span_name(state.ring, s) for s in sorted(after.applied())]
@@ -242,7 +250,7 @@ def summary(ring, state, asked):
     named = [*asked.kinds, *[OWN][: len(asked.own)]] or KINDS
     for kind in [kind for kind in (*KINDS, OWN) if kind in named]:
         made = [failure for failure in there if failure.kind == kind]
-        lost = [counts(fates(state.after([*failure.steps, "settle"]))[0])[3] for failure in made]
+        lost = [counts(fates(state.after([*worst_last(failure.steps), "settle"]))[0])[3] for failure in made]
         text += f"{kind},{len(lost)},{sum(k > 0 for k in lost)},{max(lost, default=0)}\r\n"
     return text
 

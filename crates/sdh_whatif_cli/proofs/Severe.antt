@@ -32,7 +32,7 @@ counted f fs g = by (severity f == g)
     by true = omega arith
     by false = omega arith
 
-of_one : (f : Failure) → (if severity f == 0 then 1 else 0) + (if severity f == 1 then 1 else 0) + (if severity f == 2 then 1 else 0) + (if severity f == 3 then 1 else 0) ≡ 1
+of_one : (f : Failure) → (if severity f == 0 then 1 else 0) + (if severity f == 1 then 1 else 0) + (if severity f == 2 then 1 else 0) ≡ 1
 of_one (Degraded at side) = refl
 of_one (Cut at side) = refl
 of_one (Span at) = refl
@@ -41,18 +41,17 @@ of_one (Manual at side) = refl
 of_one (Forced at side) = refl
 
 pub all_counted : (fs : List Failure)
-    → length (of_severity 0 fs) + length (of_severity 1 fs) + length (of_severity 2 fs) + length (of_severity 3 fs) ≡ length fs
+    → length (of_severity 0 fs) + length (of_severity 1 fs) + length (of_severity 2 fs) ≡ length fs
 all_counted [] = refl
 all_counted (f ∷ fs) =
-    omega (arith, counted f fs 0, counted f fs 1, counted f fs 2, counted f fs 3, of_one f, all_counted fs)
+    omega (arith, counted f fs 0, counted f fs 1, counted f fs 2, of_one f, all_counted fs)
 
 pub as_many : (fs : List Failure) → length (worst_last fs) ≡ length fs
 as_many fs =
     omega (
       arith,
-      length-append (of_severity 0 fs) (of_severity 1 fs ++ (of_severity 2 fs ++ of_severity 3 fs)),
-      length-append (of_severity 1 fs) (of_severity 2 fs ++ of_severity 3 fs),
-      length-append (of_severity 2 fs) (of_severity 3 fs),
+      length-append (of_severity 0 fs) (of_severity 1 fs ++ of_severity 2 fs),
+      length-append (of_severity 1 fs) (of_severity 2 fs),
       all_counted fs,
     )
 
@@ -62,6 +61,5 @@ module _ (P : Failure → Type 0) where
   pub all_kept : (fs : List Failure) → All P fs → All P (worst_last fs)
   all_kept fs all =
       let of : (g : ℕ) → All P (of_severity g fs) = λ g. All-filter (λ f. severity f == g) P fs all in
-      All-append P (of_severity 0 fs) (of_severity 1 fs ++ (of_severity 2 fs ++ of_severity 3 fs)) (of 0)
-      (All-append P (of_severity 1 fs) (of_severity 2 fs ++ of_severity 3 fs) (of 1)
-      (All-append P (of_severity 2 fs) (of_severity 3 fs) (of 2) (of 3)))
+      All-append P (of_severity 0 fs) (of_severity 1 fs ++ of_severity 2 fs) (of 0)
+      (All-append P (of_severity 1 fs) (of_severity 2 fs) (of 1) (of 2))

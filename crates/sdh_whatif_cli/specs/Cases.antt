@@ -56,22 +56,22 @@ abbrev pub failures_at : ℕ → List (List Failure) → ℕ → List Failure
 failures_at n own d =
     if d == 0 then [] else if is_of_ring n d then failure_at n (d - 1) ∷ [] else slice_index_or own (d - (10 * n + 1)) []
 
--- Of two failures about one fibre, or that give one side a command, the one of the higher severity is the worse one: a cut
--- is worse than a degradation, and a forced switch worse than a manual one.
+-- Of two failures about one fibre the one of the higher severity is the worse one, and of two that give one side a
+-- command: a cut is worse than a degradation, and a forced switch worse than a manual one.
 abbrev pub severity : Failure → ℕ
 severity (Degraded at side) = 0
 severity (Cut at side) = 1
 severity (Span at) = 1
 severity (Node at) = 1
-severity (Manual at side) = 2
-severity (Forced at side) = 3
+severity (Manual at side) = 1
+severity (Forced at side) = 2
 
 abbrev pub of_severity : ℕ → List Failure → List Failure
 of_severity grade failures = filter (λ failure. severity failure == grade) failures
 
 -- the failures in an order in which no worse one is followed by a lesser one, whose step would take its place
 abbrev pub worst_last : List Failure → List Failure
-worst_last failures = of_severity 0 failures ++ (of_severity 1 failures ++ (of_severity 2 failures ++ of_severity 3 failures))
+worst_last failures = of_severity 0 failures ++ (of_severity 1 failures ++ of_severity 2 failures)
 
 -- the failures of three digits, so that the worse one of two holds
 abbrev pub failures_of : ℕ → List (List Failure) → Digits → List Failure

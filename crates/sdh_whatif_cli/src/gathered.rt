@@ -58,9 +58,8 @@ fn severity(failure: Failure) -> u8
 {
     match failure {
         Failure::Degraded(..) => 0,
-        Failure::Cut(..) | Failure::Span(_) | Failure::Node(_) => 1,
-        Failure::Manual(..) => 2,
-        Failure::Forced(..) => 3,
+        Failure::Cut(..) | Failure::Span(_) | Failure::Node(_) | Failure::Manual(..) => 1,
+        Failure::Forced(..) => 2,
     }
 }
 
@@ -85,6 +84,5 @@ pub fn worst_last(failures: &[Failure]) -> Gathered
     push_severe(&mut case, failures, 0);
     push_severe(&mut case, failures, 1);
     push_severe(&mut case, failures, 2);
-    push_severe(&mut case, failures, 3);
     case
 }

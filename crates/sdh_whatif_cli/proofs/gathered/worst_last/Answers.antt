@@ -38,21 +38,3 @@ push_severe-requires-3 c =
         all_counted fs,
       );
     }
-
-pub push_severe-requires-4 : goal.push_severe-requires-4
-push_severe-requires-4 c =
-    let fs = c.args.failures.now in
-    record {
-      room = omega (
-        arith,
-        c.requires.few,
-        ap (λ (l : List Failure). length l) c.new-case.ensures,
-        ap (λ (l : List Failure). length l) c.push_severe.ensures,
-        ap (λ (l : List Failure). length l) c.push_severe-2.ensures,
-        ap (λ (l : List Failure). length l) c.push_severe-3.ensures,
-        length-append c.new-case.result (of_severity 0 fs),
-        length-append c.push_severe.new.case (of_severity 1 fs),
-        length-append c.push_severe-2.new.case (of_severity 2 fs),
-        all_counted fs,
-      );
-    }
