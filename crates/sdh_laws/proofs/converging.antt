@@ -8,7 +8,7 @@ pub mod Calming
 pub mod Converging
 pub mod Stretches
 mod Idle
-mod Uneventful
+pub mod Uneventful
 pub mod HealthySignals
 pub mod HealthyPointers
 pub mod HealthyRounds

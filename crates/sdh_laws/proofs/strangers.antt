@@ -19,5 +19,10 @@ pub mod Quiet
 pub mod Runs
 pub mod Scripts
 pub mod Slipping
+pub mod Unasked
 pub mod Arc
 pub mod Straight
+pub mod Passage
+pub mod Untouched
+pub mod Untroubled
+pub mod Spared

@@ -4,3 +4,5 @@ pub mod Transit
 pub mod Vouched
 pub mod Laws
 pub mod Undisturbed
+pub mod Untouched
+pub mod Spared

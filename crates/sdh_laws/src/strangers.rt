@@ -9,6 +9,8 @@ ghost use Rattle.sdh_laws.specs.Strangers.Laws.{AHoldSpoilsItsOwnStepAlone, Ring
 ghost use Rattle.sdh_laws.specs.Strangers.Laws.{BytesComeAfterTransit, RoutesAreTransits, TransitsAreShort, StepsDeliverAfterTransit};
 ghost use Rattle.sdh_laws.specs.Strangers.Laws.{BytesAlwaysComeAfterTransit, StepsDeliverRecentBytes, NothingComesLate};
 ghost use Rattle.sdh_laws.specs.Strangers.Undisturbed.{UndisturbedPortsDeliver};
+ghost use Rattle.sdh_laws.specs.Strangers.Spared.{ThreeSpareACustomer};
+ghost use Rattle.sdh_laws.specs.Strangers.Untouched.{UnswitchedPortsDeliver, UnaskedPortsDeliver};
 
 /// A new ring is vouched for. It stays so over every change, except one that holds the controller of a node that is
 /// neither idle nor isolated.
@@ -118,3 +120,26 @@ pub fn nothing_comes_late()
 pub fn undisturbed_ports_deliver()
     ensures { UndisturbedPortsDeliver }
 {}
+
+/// In a ring at rest a circuit on whose arc no span is applied isn't touched by what happens, as long as no node switches
+/// a side towards a span of its arc and no fibre there is cut: its ports go on delivering straight over the arc.
+pub fn unswitched_ports_deliver()
+    ensures { UnswitchedPortsDeliver }
+{
+    sdh_signal::still_rings_are_settled();
+}
+
+/// In a ring at rest a circuit on whose arc nothing is asked isn't touched by what happens, as long as nothing is asked
+/// there: its ports go on delivering straight over the arc, whichever controllers are held.
+pub fn unasked_ports_deliver()
+    ensures { UnaskedPortsDeliver }
+{
+    sdh_signal::still_rings_are_settled();
+}
+
+/// In a ring of three at rest one span is cut both ways. The customer whose circuit uses the two others isn't touched.
+pub fn three_spare_a_customer()
+    ensures { ThreeSpareACustomer }
+{
+    sdh_signal::still_rings_are_settled();
+}

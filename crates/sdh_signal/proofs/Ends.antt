@@ -15,6 +15,7 @@ use Rattle.sdh_ringmap.specs.declared.Side.TheVariants.{West, East}
 use Rattle.sdh_ringmap.specs.declared.Pos.{Pos}
 use Rattle.sdh_nodestate.specs.declared.NodeState.TheVariants as state
 use Rattle.sdh_nodestate.specs.Rules.{Scene, word_on, long, weight, chosen, relay, switches, far, is_relay, state_after, state_by}
+use Rattle.sdh_signal.specs.Law.{is_open}
 use Rattle.sdh_signal.proofs.Terms.{terms}
 use Rattle.sdh_signal.specs.Runs.{Run, at_round, IsRun, bare}
 use Rattle.sdh_ringmap.specs.Steps.{going}
@@ -60,6 +61,31 @@ pub state_idle : (s : Scene) → switches s West ≡ false → switches s East �
     → (is_relay (chosen s West) ≡ false) ⊎ (is_relay (chosen s East) ≡ false) → state_after s ≡ state.Idle tt
 state_idle s w e f =
     by_switches s false false w e ∙ idle_by (is_relay (chosen s West)) (is_relay (chosen s East)) (far s West) (far s East) f
+
+-- a side that isn't switched is open
+
+open_west : (b r q : Bool) (w e : Option Pos) → is_open (state_by false b r q w e) West ≡ true
+open_west true r q w e = refl
+open_west false true true w e = refl
+open_west false true false w e = refl
+open_west false false true w e = refl
+open_west false false false w e = refl
+
+open_east : (a r q : Bool) (w e : Option Pos) → is_open (state_by a false r q w e) East ≡ true
+open_east true r q w e = refl
+open_east false true true w e = refl
+open_east false true false w e = refl
+open_east false false true w e = refl
+open_east false false false w e = refl
+
+pub open_by : (s : Scene) (e : Side) → switches s e ≡ false → is_open (state_after s) e ≡ true
+unfolding state_after
+open_by s West h =
+    ap (λ a. is_open (state_by a (switches s East) (is_relay (chosen s West)) (is_relay (chosen s East)) (far s West) (far s East)) West) h
+    ∙ open_west (switches s East) (is_relay (chosen s West)) (is_relay (chosen s East)) (far s West) (far s East)
+open_by s East h =
+    ap (λ b. is_open (state_by (switches s West) b (is_relay (chosen s West)) (is_relay (chosen s East)) (far s West) (far s East)) East) h
+    ∙ open_east (switches s West) (is_relay (chosen s West)) (is_relay (chosen s East)) (far s West) (far s East)
 
 -- the position of an identifier of the ring
 pub found : (ids : List ℕ) (x : ℕ) → AreIds ids → x < length ids → found_at ids (slice_index ids x) ≡ Some (record { 0 = x })

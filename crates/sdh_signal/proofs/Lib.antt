@@ -27,7 +27,7 @@ pub mod Ways
 pub mod FarEnds
 pub mod Placewise
 mod Counting
-mod Requests
+pub mod Requests
 pub mod OneNode
 mod Sources
 mod Bare
@@ -40,7 +40,7 @@ mod Agreement
 mod Reach
 mod Firsts
 pub mod Ends
-mod Standing
+pub mod Standing
 mod RunLaw
 mod Convergence
 pub mod Marks

@@ -24,7 +24,7 @@ use Rattle.sdh_signal.proofs.Between.{passes-at}
 use Rattle.sdh_signal.proofs.RouteMarks.{IsFirst, IsLast, first-is, last-is, last-place}
 use Rattle.sdh_ringmap.proofs.Clear.{none_of-at, none_of-met}
 use Rattle.sdh_signal.proofs.OnArcs.{near_at, near_end, on-arc, seen-on}
-use Rattle.sdh_signal.proofs.Passing.{away-leaves, blocked-leaves, bridged-leaves, carries-by, idle-leaves, is_open, isolated-leaves}
+use Rattle.sdh_signal.proofs.Passing.{away-leaves, blocked-leaves, bridged-leaves, carries-by, idle-leaves, isolated-leaves}
 use Rattle.sdh_signal.proofs.Passing.{isolated-stands, leaves-own_or_none, leaves-unused, passed-leaves, settled-open, switched-stands, unused-carries}
 use Rattle.sdh_signal.proofs.Seen.{Seen}
 use Rattle.sdh_signal.proofs.Segments.{along, bridge, chain_passes, home, leads-on, over_free, own, past, sending, taking, through}
@@ -32,7 +32,7 @@ use Rattle.sdh_signal.proofs.Sights.{found-gives}
 use Rattle.sdh_signal.proofs.States.{Resting, on, state-ahead, state-at, state-by}
 use Rattle.sdh_signal.proofs.Switched.{isnt_side}
 use Rattle.sdh_signal.proofs.Views.{AreOnRing, Idle, Isolated, PassThrough, Switch, arc_length, carried, far_at, holds, passes}
-use Rattle.sdh_signal.specs.Law.{Ends, is_pass}
+use Rattle.sdh_signal.specs.Law.{Ends, is_open, is_pass}
 use Rattle.sdh_ringmap.specs.Steps.{going}
 use Rattle.sdh_signal.specs.Walks.{IsOver, Leads, Stand, carries_in, port, port_at, protection_in, stand, stands_in, working_in}
 use Rattle.sdh_squelch.specs.Table.{circuit_from}

@@ -17,20 +17,11 @@ use Rattle.sdh_ringmap.specs.declared.Side.{Side}
 use Rattle.sdh_ringmap.specs.declared.Side.TheVariants.{East, West}
 use Rattle.sdh_signal.proofs.States.{Resting}
 use Rattle.sdh_signal.proofs.Views.{Idle, Isolated, PassThrough, Switch, carried, end_at, far_at, side_state}
+use Rattle.sdh_signal.specs.Law.{is_open}
 use Rattle.sdh_signal.specs.Walks.{carries_in, port, protection_in, stands_in, working_in}
 use Rattle.sdh_squelch.proofs.LookUps.{entry}
 use Rattle.sdh_squelch.specs.Table.{circuit_from, circuits_at, is_carried}
 use Rattle.sdh_squelch.specs.declared.Row.{Row}
-
--- a side isn't switched
-abbrev pub is_open : NodeState → Side → Bool
-is_open (state.Isolated i) d = false
-is_open (state.SwitchWest f) West = false
-is_open (state.SwitchWest f) East = true
-is_open (state.SwitchEast f) West = true
-is_open (state.SwitchEast f) East = false
-is_open (state.PassThrough i) d = true
-is_open (state.Idle i) d = true
 
 rest-open : (st : NodeState) (d : Side) → (st ≡ PassThrough) ⊎ (st ≡ Idle) → is_open st d ≡ true
 rest-open st d (inl e) = ap (λ s. is_open s d) e

@@ -10,7 +10,8 @@ use Rattle.sdh_ringmap.specs.declared.Side.{Side}
 use Rattle.sdh_ringmap.specs.declared.Side.TheVariants.{East, West}
 use Rattle.sdh_ringmap.proofs.Going.{going-back, going-next, way-behind, way-round}
 use Rattle.sdh_ringmap.proofs.Sides.{opposite_twice}
-use Rattle.sdh_signal.proofs.Passing.{is_open, leaves-on, leaves-own, open-stands, passed-leaves, settled-open}
+use Rattle.sdh_signal.proofs.Passing.{leaves-on, leaves-own, open-stands, passed-leaves, settled-open}
+use Rattle.sdh_signal.specs.Law.{is_open}
 use Rattle.sdh_signal.proofs.Seen.{Seen}
 use Rattle.sdh_signal.proofs.States.{IsAnyApplied, Resting, on, state-between}
 use Rattle.sdh_signal.proofs.Views.{PassThrough, arc_length, is_in_chain, passes}

@@ -14,7 +14,8 @@ use Rattle.sdh_ringmap.specs.declared.Side.TheVariants.{East, West}
 use Rattle.sdh_ringmap.proofs.Going.{going-round, way-behind}
 use Rattle.sdh_ringmap.proofs.Sides.{opposite_twice}
 use Rattle.sdh_signal.proofs.Between.{passes-at}
-use Rattle.sdh_signal.proofs.Passing.{bridged-leaves, carries-by, is_open, isolated-stands, switched-stands}
+use Rattle.sdh_signal.proofs.Passing.{bridged-leaves, carries-by, isolated-stands, switched-stands}
+use Rattle.sdh_signal.specs.Law.{is_open}
 use Rattle.sdh_signal.proofs.Seen.{Seen}
 use Rattle.sdh_signal.proofs.Segments.{IsFree, IsHit, along, bridge, chain_ahead, chain_passes, delivered, home, leads-on, on-round, own}
 use Rattle.sdh_signal.proofs.Segments.{passing, sending, taking}

@@ -4,6 +4,7 @@ use Rattle.std.specs.Prelude.{ℕ, ◌≡◌, ◌+◌, ◌*◌, ◌<◌, ◌≤�
 use Rattle.sdh_ringmap.specs.Arcs.{is_clear, is_joined}
 use Rattle.sdh_ringmap.specs.Places.{span_at}
 use Rattle.sdh_ringmap.specs.declared.Side.{Side}
+use Rattle.sdh_ringmap.specs.declared.Side.TheVariants.{East, West}
 use Rattle.sdh_restoration.specs.Routes.{hops, route}
 use Rattle.sdh_circuits.specs.Provisioned.{Provisioned, arc_of}
 use Rattle.sdh_circuits.specs.declared.End.{End}
@@ -75,3 +76,13 @@ is_pass (state.Isolated x) = false
 is_pass (state.Idle x) = false
 is_pass (state.SwitchWest far) = false
 is_pass (state.SwitchEast far) = false
+
+-- the node doesn't switch this side: what comes over the span there is what it takes
+abbrev pub is_open : NodeState → Side → Bool
+is_open (state.Isolated i) d = false
+is_open (state.SwitchWest f) West = false
+is_open (state.SwitchWest f) East = true
+is_open (state.SwitchEast f) West = true
+is_open (state.SwitchEast f) East = false
+is_open (state.PassThrough i) d = true
+is_open (state.Idle i) d = true

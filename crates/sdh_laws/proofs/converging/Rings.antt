@@ -35,7 +35,7 @@ id_at (suc zero) h = refl
 id_at (suc (suc zero)) h = refl
 id_at (suc (suc (suc i))) h = absurd (omega arith)
 
-three_ids : AreIds three
+pub three_ids : AreIds three
 three_ids = record {
   few = omega arith;
   enough = omega arith;
@@ -48,7 +48,7 @@ only : (i : ℕ) (c : Provisioned) → slice_get (c1 ∷ []) i ≡ Some c → i 
 only zero c e = refl
 only (suc i) c e = cc
 
-circuits_are : AreCircuits 3 2 (c1 ∷ [])
+pub circuits_are : AreCircuits 3 2 (c1 ∷ [])
 unfolding is_name
 circuits_are = record {
   in_ring =

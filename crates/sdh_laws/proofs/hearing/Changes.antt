@@ -169,6 +169,14 @@ pub sending_commanded : (d e : Side) (c : Command) (n : Node) → sending_on e (
 sending_commanded d West c n = refl
 sending_commanded d East c n = refl
 
+-- a command leaves what interpreters keep
+pub readings_commanded : (d e : Side) (x : Command) (y : Node)
+    → (receiving_on e (at_receiving d (commanded_by x) y)).readings ≡ (receiving_on e y).readings
+readings_commanded West West x y = refl
+readings_commanded West East x y = refl
+readings_commanded East West x y = refl
+readings_commanded East East x y = refl
+
 receiver_commanded : (at : Rate) (c : Command) (d e : Side) (n : Node) → IsInletAt at (inlet_of (receiving_on e n))
     → IsInletAt at (inlet_of (receiving_on e (at_receiving d (commanded_by c) n)))
 receiver_commanded at c West West n h = record { rate = h.rate; readings = h.readings }

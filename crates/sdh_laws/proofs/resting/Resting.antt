@@ -90,7 +90,8 @@ module _ (law : StillRingsAreSettled) (w : World) (whole : IsWhole w) (form : Ha
       subst (λ qs. FailOnApplied n qs (run j w)) (requests_at j k hj hk)
       (subst (λ i. FailOnApplied n (span_requests_of (run i w)) (run i w)) one (failing_after w whole (j - 1)))
 
-  quiet : (first last : ℕ) → 1 ≤ first → a < first → first ≤ last → IsQuiet n (span_requests_of (run last w)) w first last
+  -- rounds from the first to the last are quiet
+  pub quiet : (first last : ℕ) → 1 ≤ first → a < first → first ≤ last → IsQuiet n (span_requests_of (run last w)) w first last
   quiet first last some early long = record {
     spans = length-requests_of (run last w) n (nodes_run w whole last);
     calm = λ j low high. calm j (omega arith);

@@ -36,7 +36,7 @@ use Rattle.sdh_rounds.proofs.Terms.{terms}
 
 -- ---- single nodes
 
-words_on : (d : Side) (a b : Node) → compared a ≡ compared b → last_word_on d a ≡ last_word_on d b
+pub words_on : (d : Side) (a b : Node) → compared a ≡ compared b → last_word_on d a ≡ last_word_on d b
 words_on West a b e = ap (λ (c : Compared). c.west_out.word) e
 words_on East a b e = ap (λ (c : Compared). c.east_out.word) e
 

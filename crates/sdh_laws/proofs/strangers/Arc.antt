@@ -1,16 +1,12 @@
 -- A circuit on whose arc nothing is asked: what its port sends comes over its spans, one after the other, from round 0
 -- on.
-use Rattle.std.proofs.Common.{◌≡◌, ◌≢◌, ℕ, zero, suc, ◌+◌, ◌-◌, ◌*◌, ◌<◌, ◌≤◌, Bool, true, false, List, length, get_or, Option, Some, None}
+use Rattle.std.proofs.Common.{◌≡◌, ◌≢◌, ℕ, zero, suc, ◌+◌, ◌-◌, ◌*◌, ◌<◌, ◌≤◌, true, false, List, length, get_or, Option, Some, None}
 use Rattle.std.proofs.Common.{refl, ap, ap₂, sym, ◌∙◌, subst, arith, inl, inr}
-use Rattle.std.specs.Prelude.{◌==◌, if◌then◌else◌, slice_get}
+use Rattle.std.specs.Prelude.{◌==◌, slice_get}
 use Rattle.std.proofs.lemmas.Bool.{cases_lt, and_parts}
 use Rattle.sdh_ringmap.specs.Rates.{n_of}
 use Rattle.sdh_frame.specs.Aus.{Au, au_of}
 use Rattle.sdh_parity.specs.Scrambling.{scrambled}
-use Rattle.sdh_kbytes.specs.declared.K.{K}
-use Rattle.sdh_ringmap.specs.declared.terms.Code.{Code}
-use Rattle.sdh_ringmap.specs.declared.terms.Code.TheVariants.{Nr}
-use Rattle.sdh_ringmap.specs.Requests.{code_number}
 use Rattle.sdh_ringmap.specs.Places.{opposite, neighbour, span_at}
 use Rattle.sdh_ringmap.specs.declared.Side.{Side}
 use Rattle.sdh_ringmap.specs.declared.Side.TheVariants.{West, East}
@@ -23,7 +19,6 @@ use Rattle.sdh_squelch.specs.declared.Row.{Row}
 use Rattle.sdh_squelch.specs.Table.{circuit_from}
 use Rattle.sdh_squelch.proofs.LookUps.{entry}
 use Rattle.sdh_nodestate.specs.declared.NodeState.{NodeState}
-use Rattle.sdh_nodestate.specs.Rules.{Scene, word_on, local, word, state_after}
 use Rattle.sdh_bridge.specs.declared.Origin.TheVariants.{Working}
 use Rattle.sdh_pointer.specs.declared.reading.Action.{Action}
 use Rattle.sdh_pointer.specs.declared.reading.Action.TheVariants as action
@@ -37,35 +32,38 @@ use Rattle.sdh_pointer.specs.Sending.{form_sent, word_sent, next_sending}
 use Rattle.sdh_ringmap.specs.Fibres.{fibre}
 use Rattle.sdh_plant.specs.Arrivals.{carried_on}
 use Rattle.sdh_circuits.specs.Ends.{other_end}
+use Rattle.sdh_circuits.specs.declared.End.TheVariants.{A, B}
 use Rattle.sdh_terminal.specs.Passing.{Input, h3_of, au_for, au_sent}
 use Rattle.sdh_terminal.specs.Receiving.{pointer_word, pointer_word_at}
 use Rattle.sdh_terminal.specs.Lines.{line_on, received}
-use Rattle.sdh_node.specs.Node.{Node, receiving_on, sending_on, is_held, last_word_on}
-use Rattle.sdh_node.proofs.Decided.{scene_in, state_is, word_is}
+use Rattle.sdh_node.specs.Node.{Node, receiving_on, sending_on}
 use Rattle.sdh_node.specs.Rings.Held.{node_at, AtEach}
 use Rattle.sdh_node.specs.Rings.Rounds.{World, round}
 use Rattle.sdh_rounds.specs.Rounds as any_round
 use Rattle.sdh_rounds.proofs.Terms.{terms}
 use Rattle.sdh_laws.specs.Hearing.Signalling.{lines_at}
 use Rattle.sdh_laws.specs.Hearing.Laws.{IsWhole}
-use Rattle.sdh_laws.proofs.hearing.Nodes.{informed, informed_out, count, nodes_after, length-after}
-use Rattle.sdh_laws.proofs.hearing.Rounds.{reads, neighbour_inside, whole_round, next_node, clear_where_it_works}
+use Rattle.sdh_laws.proofs.hearing.Nodes.{count}
+use Rattle.sdh_laws.proofs.hearing.Rounds.{reads, neighbour_inside, whole_round}
 use Rattle.sdh_laws.specs.Carrying.Windows.{layout_of, slots_of, value_at, sent_at}
 use Rattle.sdh_spans.specs.Spans.{TakesWord}
 use Rattle.sdh_laws.proofs.carrying.Spans.{state_at, au_left, generator_step, takes_read}
 use Rattle.sdh_spans.proofs.Sends.{word_in_au}
 use Rattle.sdh_laws.proofs.carrying.Connections.{sends_working}
-use Rattle.sdh_laws.proofs.carrying.Applied.{node_asks}
-use Rattle.sdh_signal.specs.Walks.{port, stands_in}
+use Rattle.sdh_signal.specs.Walks.{port, port_at, stands_in}
 use Rattle.sdh_signal.proofs.Views.{AreOnRing, arc_length, holds}
 use Rattle.sdh_signal.proofs.Seen.{Seen}
 use Rattle.sdh_signal.proofs.Sights.{found-gives}
 use Rattle.sdh_signal.proofs.OnArcs.{near_at, near_end, seen-on}
-use Rattle.sdh_signal.proofs.Passing.{is_open, open-stands, leaves-on, leaves-own}
-use Rattle.sdh_laws.proofs.strangers.Asking.{Harmless, stays_open, word_harmless}
+use Rattle.sdh_signal.proofs.Passing.{open-stands, leaves-on, leaves-own}
+use Rattle.sdh_signal.specs.Law.{is_open}
+use Rattle.sdh_laws.proofs.strangers.Nodes.{starts_at}
+use Rattle.sdh_laws.specs.Strangers.Untouched.{AsksNothingOnArc}
+use Rattle.sdh_laws.proofs.strangers.Unasked as unasked
+use Rattle.sdh_laws.proofs.strangers.Unasked.{AllUntroubled, untroubled_round}
 use Rattle.sdh_laws.proofs.strangers.Slipping.{IsSource, value_in_round, does, state, said, Follows, spreads, does_before, down_back}
 use Rattle.sdh_laws.proofs.strangers.Slipping.{down_form, not_ais}
-use Rattle.sdh_laws.proofs.strangers.Arrivals.{span_across, lost, silent_first, au_received, heard_came}
+use Rattle.sdh_laws.proofs.strangers.Arrivals.{lost, silent_first, au_received}
 
 -- ---- the spans of an arc
 
@@ -75,7 +73,7 @@ same_row i j c b e = let r : entry i c ≡ entry j b = cc in ap (λ (x : Row). x
 same_some : (b c : Provisioned) → Some b ≡ Some c → b ≡ c
 same_some b c e = cc
 
-held_by : (n s m i : ℕ) (cs : List Provisioned) (c : Provisioned) → slice_get cs i ≡ Some c → circuit_from n s m 0 cs ≡ Some (entry i c)
+pub held_by : (n s m i : ℕ) (cs : List Provisioned) (c : Provisioned) → slice_get cs i ≡ Some c → circuit_from n s m 0 cs ≡ Some (entry i c)
     → holds n c s ≡ true
 held_by n s m i cs c get e =
     let f = found-gives n s m 0 cs (entry i c) e in
@@ -83,6 +81,12 @@ held_by n s m i cs c get e =
     let at : slice_get cs f.place ≡ Some c = ap (slice_get cs) {x = f.place} {y = i} (omega arith) ∙ get in
     let same : f.circuit ≡ c = same_some f.circuit c (sym f.is ∙ at) in
     ap (λ (x : Provisioned). holds n x s) (sym same) ∙ (and_parts (f.circuit.slot.0 == m) (holds n f.circuit s) f.on).1
+
+-- the port from which a circuit leads on side d
+pub first_at : (n : ℕ) (cs : List Provisioned) → AreOnRing n cs → (i : ℕ) (c : Provisioned) → slice_get cs i ≡ Some c → (d : Side)
+    → port_at c (near_end d) ≡ going n d (near_at n c d) 0
+first_at n cs ring i c get East = starts_at n cs ring i c get A
+first_at n cs ring i c get West = starts_at n cs ring i c get B
 
 -- ---- what comes over k spans
 
@@ -105,10 +109,6 @@ h3_kept : (s : Option ℕ) (i : Input) → i.action ≡ action.Down → form_sen
 unfolding au_sent
 h3_kept s i e g = h3_by i.action (form_sent s i.action i.value) (word_sent s i.action i.value) i.au e g
 
-none_asked : (b : Bool) (code : Code) → code ≡ Nr → (b ≡ true → 11 ≤ code_number code) → b ≡ false
-none_asked false code e h = refl
-none_asked true code e h = let high = h refl in let low = ap code_number e in absurd (omega arith)
-
 module _ (i : ℕ) (c : Provisioned) (d : Side) (clock : ℕ → Clock) (source : IsSource clock) where
   abbrev m : ℕ
   m = c.slot.0
@@ -130,8 +130,6 @@ module _ (i : ℕ) (c : Provisioned) (d : Side) (clock : ℕ → Clock) (source 
         → get_or (sending_on d y).generators (m - 1) None ≡ state clock source k t
     pub reads : (k : ℕ) → k < arc_length n c → p ≡ going n d (near_at n c d) (suc k)
         → Follows clock source (k + 1) t (get_or (receiving_on (opposite d) y).readings (m - 1) start)
-    pub words : (e : Side) → holds n c (span_at n p e) ≡ true → Harmless (last_word_on e y)
-    pub open_sides : (e : Side) → holds n c (span_at n p e) ≡ true → is_open y.state e ≡ true
 
   -- the frame that was sent in round r over the span of step k
   pub record IsOnWay (n r k : ℕ) (a : Au) : Type 0 where
@@ -145,17 +143,12 @@ module _ (i : ℕ) (c : Provisioned) (d : Side) (clock : ℕ → Clock) (source 
     pub ring : AreOnRing (length w.ring.ids) w.ring.circuits.circuits
     pub slot : IsInSlots (slots_of (layout_of w)) c
     pub tuned : AtEach (IsTuned (length w.ring.ids) w.ring.rounds) w.ring.nodes
+    pub untroubled : AllUntroubled c w
     pub frames : (k r : ℕ) (line : List ℕ) → k < arc_length (length w.ring.ids) c → w.ring.rounds ≡ r + 1
         → carried_on w.fibres (fibre (going (length w.ring.ids) d (near_at (length w.ring.ids) c d) k) d) ≡ Some line
         → IsOnWay (length w.ring.ids) r k (au_of (n_of w.ring.settings.rate) m (scrambled (9 * n_of w.ring.settings.rate) line))
 
-  -- nothing is asked on either end of a span of the arc in the round that begins with w
-  abbrev pub AsksNothing : World → Type 0
-  AsksNothing w =
-      (p : ℕ) (e : Side) → p < length w.ring.ids → holds (length w.ring.ids) c (span_at (length w.ring.ids) p e) ≡ true
-      → (receiving_on e (node_at (round w).ring.nodes p)).request ≡ Nr
-
-  module _ (w : World) (u : IsUndisturbed w) (asks : AsksNothing w)
+  module _ (w : World) (u : IsUndisturbed w) (asks : AsksNothingOnArc (round w) c)
       (own : HasCome 0 w.ring.rounds (value_at w (going (length w.ring.ids) d (near_at (length w.ring.ids) c d) 0) m
       (port i (near_end d)))) where
     open terms w use {n, t, cs, rate}
@@ -193,54 +186,12 @@ module _ (i : ℕ) (c : Provisioned) (d : Side) (clock : ℕ → Clock) (source 
 
     -- ---- signalling at a side of the arc
 
-    module _ (p : ℕ) (e : Side) (h : p < length w.ring.nodes) (held : holds n c (span_at n p e) ≡ true) where
-      low : p < n
-      low = omega (arith, count w whole.placed)
+    open_here : (p : ℕ) (e : Side) → p < length w.ring.nodes → holds n c (span_at n p e) ≡ true
+        → is_open (node_at (round w).ring.nodes p).state e ≡ true
+    open_here p e h held = unasked.open_here c w whole u.untroubled asks p e h held
 
-      abbrev next : Node
-      next = next_node w whole p
-
-      abbrev s : Scene
-      s = scene_in next
-
-      local_is : (e : Side) → local s e ≡ (receiving_on e next).request
-      unfolding scene_in
-      local_is West = refl
-      local_is East = refl
-
-      none : local s e ≡ Nr
-      none = local_is e ∙ ap (λ y. (receiving_on e y).request) (sym (nodes_after w whole.placed p h)) ∙ asks p e low held
-
-      abbrev back : ℕ
-      back = neighbour n p e
-
-      heard : (k : K) → word_on s e ≡ Some k → Harmless k
-      heard k f =
-          subst Harmless (heard_came w whole p h e k f).is
-          ((u.tuned back (neighbour_inside w whole p e)).words (opposite e) (ap (holds n c) (span_across n p e low) ∙ held))
-
-      -- a node whose turn is held keeps its state and its words
-      open_by_turn : (b : Bool) → is_open (if b then (informed w p).state else state_after s) e ≡ true
-      open_by_turn true = (u.tuned p h).open_sides e held
-      open_by_turn false = stays_open s e none heard
-
-      word_by_turn : (b : Bool) → Harmless (if b then last_word_on e (informed w p) else word s e)
-      word_by_turn true = subst (λ x. Harmless x.word) (sym (informed_out w p e)) ((u.tuned p h).words e held)
-      word_by_turn false = word_harmless s e none heard
-
-      pub open_here : is_open (node_at (round w).ring.nodes p).state e ≡ true
-      open_here =
-          ap (λ (y : Node). is_open y.state e) (nodes_after w whole.placed p h)
-          ∙ ap (λ y. is_open y e) (state_is w.ring.moment (informed w p))
-          ∙ open_by_turn (is_held (node_at w.ring.nodes p))
-
-      pub word_here : Harmless (last_word_on e (node_at (round w).ring.nodes p))
-      word_here =
-          subst Harmless (sym (ap (last_word_on e) (nodes_after w whole.placed p h) ∙ word_is w.ring.moment (informed w p) e))
-          (word_by_turn (is_held (node_at w.ring.nodes p)))
-
-      kept_here : 0 < t → lost w whole p h e ≡ false
-      kept_here ran = clear_where_it_works w whole p e ran h (none_asked _ _ (asks p e low held) (node_asks w whole p e h))
+    kept_here : (p : ℕ) (e : Side) (h : p < length w.ring.nodes) → holds n c (span_at n p e) ≡ true → 0 < t → lost w whole p h e ≡ false
+    kept_here p e h held ran = unasked.kept_here c w whole u.untroubled asks p e h held ran
 
     -- ---- what comes
 
@@ -435,9 +386,8 @@ module _ (i : ℕ) (c : Provisioned) (d : Side) (clock : ℕ → Clock) (source 
         reads =
             λ k few is. subst (λ q. Follows clock source (k + 1) (t + 1)
             (get_or (receiving_on (opposite d) (node_at (round w).ring.nodes q)).readings (m - 1) start)) (sym is) (reading_next k few);
-        words = λ e held. word_here p e (omega (arith, length-after w)) held;
-        open_sides = λ e held. open_here p e (omega (arith, length-after w)) held;
       };
+      untroubled = untroubled_round c w whole u.untroubled asks;
       frames = λ k r line few ran is. (let now : t ≡ r = omega arith in
           subst (λ j. IsOnWay n j k (au_of (n_of rate) m (scrambled (9 * n_of rate) line))) now (frame_next k line few is));
     }

@@ -281,7 +281,7 @@ module _ (clocks : PortId → ℕ → Clock) where
           held = λ p h. (let h = held p h in omega arith);
           clears = begun fits;
         } in
-        kept_in clocks (λ v c. HoldsNone c) IsClearing clearing_changed clearing_then ss 0 w t form begins may (none_in w ss none) tells few
+        kept_in (λ v. AreClocksOf clocks v.ring) (λ v c. HoldsNone c) IsClearing clearing_changed clearing_then ss 0 w t form begins may (none_in w ss none) tells few
       where
         begun : (most ≡ 0) ⊎ (ahead ≡ 0) → Clears w (ahead + 0 - most)
         begun (inl none) = subst (Clears w) (omega (arith, none)) clears

@@ -1,8 +1,6 @@
 -- What changes and rounds keep, by how many rounds have run, holds through stretches.
 use Rattle.std.proofs.Common.{◌≡◌, ℕ, zero, suc, ◌+◌, ◌-◌, ◌<◌, ◌≤◌, List, [], ◌∷◌, ◌++◌, refl, ap, sym, ◌∙◌, subst, arith, inl, inr}
 use Rattle.std.proofs.lemmas.Bool.{cases_lt}
-use Rattle.sdh_circuits.specs.declared.PortId.{PortId}
-use Rattle.sdh_payload.specs.Clock.{Clock}
 use Rattle.sdh_node.specs.Rings.Rounds.{World, round}
 use Rattle.sdh_node.specs.Rings.Runs.{run}
 use Rattle.sdh_restoration.specs.Changes.{Change, Stretch, rounds_in}
@@ -15,7 +13,6 @@ use Rattle.sdh_laws.proofs.hearing.Staying.{world_low, world_high, world_later}
 use Rattle.sdh_laws.specs.Carrying.Windows.{layout_of, HasCircuits}
 use Rattle.sdh_laws.proofs.carrying.Ways.{layout_run}
 use Rattle.sdh_laws.proofs.carrying.Settles.{layout_all}
-use Rattle.sdh_laws.specs.Strangers.Owners.{AreClocksOf}
 use Rattle.sdh_laws.specs.Strangers.Laws.{HoldsNone, HoldNone, NoneHolds, HoldsAside, EachMay, AllMay, HeldAside}
 
 pub layout_in : (rest : List Stretch) (w : World) (t : ℕ) → layout_of (world_in rest w t) ≡ layout_of w
@@ -52,16 +49,16 @@ pub none_aside : (w : World) (ss : List Stretch) → NoneHolds ss → HeldAside 
 none_aside w [] none = tt
 none_aside w (s ∷ ss) none = (aside_each w s.changes none.0, none_aside (after_stretch s w) ss none.1)
 
--- ---- what is kept over changes that are allowed and over rounds, with these clocks
+-- ---- what is kept over changes that are allowed, and over rounds of which something is known
 
-module _ (clocks : PortId → ℕ → Clock) (May : World → Change → Type 0) (Kept : ℕ → World → Type 0)
+module _ (Told : World → Type 0) (May : World → Change → Type 0) (Kept : ℕ → World → Type 0)
     (change : (j : ℕ) (c : Change) (w : World) → IsChangeOf w c → May w c → Kept j w → Kept j (changed c w))
-    (next : (j : ℕ) (w : World) → HasCircuits (layout_of w) → Kept j w → AreClocksOf clocks w.ring → Kept (j + 1) (round w)) where
+    (next : (j : ℕ) (w : World) → HasCircuits (layout_of w) → Kept j w → Told w → Kept (j + 1) (round w)) where
   kept_all : (xs : List Change) (j : ℕ) (w : World) → AreChangesOf w xs → EachMay May w xs → Kept j w → Kept j (all_changed xs w)
   kept_all [] j w may none k = k
   kept_all (c ∷ xs) j w may none k = kept_all xs j (changed c w) may.1 none.1 (change j c w may.0 none.0 k)
 
-  pub kept_run : (many j : ℕ) (w : World) → HasCircuits (layout_of w) → Kept j w → ((i : ℕ) → i < many → AreClocksOf clocks (run i w).ring)
+  pub kept_run : (many j : ℕ) (w : World) → HasCircuits (layout_of w) → Kept j w → ((i : ℕ) → i < many → Told (run i w))
       → Kept (j + many) (run many w)
   unfolding any_run.run
   kept_run zero j w form k tells = subst (λ i. Kept i w) (let e : j ≡ j + 0 = omega arith in e) k
@@ -71,15 +68,15 @@ module _ (clocks : PortId → ℕ → Clock) (May : World → Change → Type 0)
       (kept_run many j w form k (λ i h. tells i (omega arith))) (tells many (omega arith)))
 
   pub kept_in : (rest : List Stretch) (j : ℕ) (w : World) (t : ℕ) → HasCircuits (layout_of w) → Kept j w → MayHappen w rest → AllMay May w rest
-      → ((i : ℕ) → i < rounds_in rest → AreClocksOf clocks (world_in rest w i).ring) → t ≤ rounds_in rest
+      → ((i : ℕ) → i < rounds_in rest → Told (world_in rest w i)) → t ≤ rounds_in rest
       → Kept (j + t) (world_in rest w t)
   kept_in [] j w t form k may none tells h = subst (λ i. Kept i w) (let e : j ≡ j + t = omega arith in e) k
   kept_in (x ∷ rest) j w t form k may none tells h =
       let v = all_changed x.changes w in
       let begin : Kept j v = kept_all x.changes j w may.0 none.0 k in
       let form_v : HasCircuits (layout_of v) = subst HasCircuits (sym (layout_all x.changes w)) form in
-      let within : (i : ℕ) → i < x.rounds → AreClocksOf clocks (run i v).ring =
-      λ i low. subst (λ (u : World). AreClocksOf clocks u.ring) (world_low x rest w i low) (tells i (omega arith)) in
+      let within : (i : ℕ) → i < x.rounds → Told (run i v) =
+      λ i low. subst Told (world_low x rest w i low) (tells i (omega arith)) in
       elim (cases_lt t x.rounds) [
         | inl low ↦ subst (Kept (j + t)) (sym (world_low x rest w t low)) (kept_run t j v form_v begin (λ i less. within i (omega arith)))
         | inr high ↦ subst (Kept (j + t)) (sym (world_high x rest w t high))
@@ -87,7 +84,7 @@ module _ (clocks : PortId → ℕ → Clock) (May : World → Change → Type 0)
             (let e : j + x.rounds + (t - x.rounds) ≡ j + t = omega arith in e)
             (kept_in rest (j + x.rounds) (after_stretch x w) (t - x.rounds) (subst HasCircuits (sym (layout_run v x.rounds)) form_v)
             (kept_run x.rounds j v form_v begin within) may.1 none.1
-            (λ i low. subst (λ (u : World). AreClocksOf clocks u.ring) (world_later x rest w i) (tells (x.rounds + i) (omega arith)))
+            (λ i low. subst Told (world_later x rest w i) (tells (x.rounds + i) (omega arith)))
             (omega arith)))
       ]
 

@@ -39,7 +39,8 @@ use Rattle.sdh_signal.proofs.Seen.{Seen}
 use Rattle.sdh_signal.proofs.Sights.{found-gives, arc-end}
 use Rattle.sdh_signal.proofs.OnArcs.{near_at, near_end, on-arc, seen-on}
 use Rattle.sdh_signal.proofs.Meets.{meets-own, meets-farther}
-use Rattle.sdh_signal.proofs.Passing.{is_open, open-stands, leaves-on, leaves-own_or_none, leaves-unused, isolated-stands, isolated-leaves}
+use Rattle.sdh_signal.proofs.Passing.{open-stands, leaves-on, leaves-own_or_none, leaves-unused, isolated-stands, isolated-leaves}
+use Rattle.sdh_signal.specs.Law.{is_open}
 use Rattle.sdh_signal.proofs.Passing.{idle-leaves, switched-stands, bridged-leaves, blocked-leaves, away-leaves, passed-leaves}
 use Rattle.sdh_laws.specs.Strangers.Vouched.{sender, circuit_on_side, spoken_of, IsAside}
 use Rattle.sdh_laws.specs.Strangers.Vouched.{streams_to}
@@ -620,7 +621,8 @@ module _ (n : ℕ) (cs : List Provisioned) (ring : AreOnRing n cs) (i : ℕ) (c 
   plenty : 0 < n
   plenty = let h = (ring.inside i c get).0 in omega arith
 
-  starts_at : (e : End) → port_at c e ≡ going n (inward e) (near_at n c (inward e)) 0
+  -- a circuit's port is where its stream starts
+  pub starts_at : (e : End) → port_at c e ≡ going n (inward e) (near_at n c (inward e)) 0
   starts_at A = sym (going-none n plenty East c.from.0 (ring.inside i c get).0)
   starts_at B =
       arc-end n cs ring i c get ∙ sym (going-none n plenty West (near_at n c West) (going-inside n plenty East c.from.0 (arc_length n c)))

@@ -83,14 +83,14 @@ module _ (clocks : PortId → ℕ → Clock) where
   runs_vouched : (j : ℕ) (w : World) → HasCircuits (layout_of w) → IsVouched clocks w
       → ((i : ℕ) → i < j → AreClocksOf clocks (run i w).ring) → IsVouched clocks (run j w)
   runs_vouched j w form k tells =
-      kept_run clocks HoldsAside (λ i v. IsVouched clocks v) (λ i c v may aside x. vouched_changed clocks c v may aside x)
+      kept_run (λ v. AreClocksOf clocks v.ring) HoldsAside (λ i v. IsVouched clocks v) (λ i c v may aside x. vouched_changed clocks c v may aside x)
       (λ i v f x told. vouched_after clocks v f x told) j 0 w form k tells
 
   vouched_in : (rest : List Stretch) (w : World) (t : ℕ) → HasCircuits (layout_of w) → IsVouched clocks w → MayHappen w rest
       → HeldAside w rest → ((j : ℕ) → j < rounds_in rest → AreClocksOf clocks (world_in rest w j).ring) → t ≤ rounds_in rest
       → IsVouched clocks (world_in rest w t)
   vouched_in rest w t form k may aside tells h =
-      kept_in clocks HoldsAside (λ i v. IsVouched clocks v) (λ i c v may aside x. vouched_changed clocks c v may aside x)
+      kept_in (λ v. AreClocksOf clocks v.ring) HoldsAside (λ i v. IsVouched clocks v) (λ i c v may aside x. vouched_changed clocks c v may aside x)
       (λ i v f x told. vouched_after clocks v f x told) rest 0 w t form k may aside tells h
 
 -- ---- rounds alone

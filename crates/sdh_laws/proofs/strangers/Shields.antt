@@ -24,7 +24,7 @@ use Rattle.sdh_signal.specs.Walks.{carries_in}
 use Rattle.sdh_signal.proofs.Views.{AreOnRing, Switch}
 use Rattle.sdh_signal.proofs.OnArcs.{near_at, seen-on}
 use Rattle.sdh_signal.proofs.Meets.{meets-farther}
-use Rattle.sdh_signal.proofs.Passing.{is_open}
+use Rattle.sdh_signal.specs.Law.{is_open}
 use Rattle.sdh_laws.specs.Carrying.Windows.{layout_of, slots_of}
 use Rattle.sdh_laws.specs.Strangers.Vouched.{streams_to, HoldsAtMost, au_in, IsAside}
 use Rattle.sdh_laws.proofs.strangers.Lags.{steps, steps_going, source_in}

@@ -14,8 +14,6 @@ use Rattle.sdh_ringmap.specs.Places.{opposite, span_at, position_of}
 use Rattle.sdh_ringmap.specs.declared.Side.{Side}
 use Rattle.sdh_ringmap.specs.declared.Side.TheVariants.{West, East}
 use Rattle.sdh_ringmap.specs.Steps.{going}
-use Rattle.sdh_ringmap.proofs.Going.{going-none, going-inside}
-use Rattle.sdh_request.specs.declared.Command.{Command}
 use Rattle.sdh_circuits.specs.Provisioned.{Provisioned, customer_at, same_port}
 use Rattle.sdh_circuits.specs.Provisioning.{Provisioning, AreCircuits, IsInSlots, HasOffsets}
 use Rattle.sdh_circuits.specs.declared.End.{End}
@@ -61,7 +59,7 @@ use Rattle.sdh_node.proofs.RingLaws.Clocks.{clocks_go_on}
 use Rattle.sdh_laws.specs.Hearing.Laws.{IsWhole, MayStart}
 use Rattle.sdh_laws.proofs.hearing.Nodes.{count, length-after}
 use Rattle.sdh_laws.proofs.hearing.Rounds.{whole_round}
-use Rattle.sdh_laws.proofs.hearing.Changes.{each_new, each_at_place, new_worlds_are_whole, sending_commanded, held_leaves, slips_leave}
+use Rattle.sdh_laws.proofs.hearing.Changes.{each_new, each_at_place, new_worlds_are_whole, readings_commanded, sending_commanded, held_leaves, slips_leave}
 use Rattle.sdh_laws.proofs.hearing.Changes.{with_node, whole_changed}
 use Rattle.sdh_laws.proofs.hearing.Staying.{left_in, world_low, world_high, world_later}
 use Rattle.sdh_laws.proofs.hearing.Stretches.{requests_are_the_historys, ran_at}
@@ -72,13 +70,13 @@ use Rattle.sdh_laws.proofs.carrying.Owed.{found, clock_is, port_is_there, found_
 use Rattle.sdh_signal.specs.Walks.{port, port_at, stands_in}
 use Rattle.sdh_circuits.specs.Ends.{inward}
 use Rattle.sdh_signal.proofs.Views.{AreOnRing, arc_length, holds, on-ring}
-use Rattle.sdh_signal.proofs.Passing.{is_open}
-use Rattle.sdh_signal.proofs.Sights.{arc-end}
 use Rattle.sdh_signal.proofs.OnArcs.{near_at, near_end, seen-on}
 use Rattle.sdh_laws.specs.Strangers.Undisturbed.{NoneAsks, straight, UndisturbedPortsDeliver}
 use Rattle.sdh_laws.proofs.strangers.Slipping.{IsSource, value_in_round, state, Follows, does_before, state_before, does_zero, long_down}
 use Rattle.sdh_laws.proofs.strangers.Slipping.{chunk_is, not_ais}
-use Rattle.sdh_laws.proofs.strangers.Arc.{sent, HasCome, IsTuned, IsUndisturbed, AsksNothing, undisturbed_round, arrives}
+use Rattle.sdh_laws.proofs.strangers.Arc.{first_at, sent, HasCome, IsTuned, IsUndisturbed, undisturbed_round, arrives}
+use Rattle.sdh_laws.specs.Strangers.Untouched.{AsksNothingOnArc}
+use Rattle.sdh_laws.proofs.strangers.Unasked.{IsUntroubled, AllUntroubled, untroubled_changed}
 use Rattle.sdh_laws.proofs.converging.HealthyPointers.{same_all}
 
 -- ---- a clock by its history
@@ -266,35 +264,26 @@ module _ (i : ℕ) (c : Provisioned) (d : Side) (clock : ℕ → Clock) (source 
   Tuned w = IsTuned i c d clock source (length w.ring.ids) w.ring.rounds
 
   tuned_left : (f : Node → Node) → ((e : Side) (y : Node) → (receiving_on e (f y)).readings ≡ (receiving_on e y).readings)
-      → ((e : Side) (y : Node) → sending_on e (f y) ≡ sending_on e y) → ((y : Node) → (f y).state ≡ y.state)
-      → (w : World) (q : ℕ) (y : Node) → Tuned w q y → Tuned w q (f y)
-  tuned_left f readings sendings states w q y h = record {
+      → ((e : Side) (y : Node) → sending_on e (f y) ≡ sending_on e y) → (w : World) (q : ℕ) (y : Node) → Tuned w q y → Tuned w q (f y)
+  tuned_left f readings sendings w q y h = record {
     sends = λ k few is. ap (λ x. get_or x.generators (c.slot.0 - 1) None) (sendings d y) ∙ h.sends k few is;
     reads =
         λ k few is. subst (λ l. Follows clock source (k + 1) w.ring.rounds (get_or l (c.slot.0 - 1) start)) (sym (readings (opposite d) y))
         (h.reads k few is);
-    words = λ e held. subst (λ x. x.word.path ≡ Short → code_number x.word.code < 5) (sym (sendings e y)) (h.words e held);
-    open_sides = λ e held. ap (λ z. is_open z e) (states y) ∙ h.open_sides e held;
   }
 
   with_change : (f : Node → Node) → ((e : Side) (y : Node) → (receiving_on e (f y)).readings ≡ (receiving_on e y).readings)
-      → ((e : Side) (y : Node) → sending_on e (f y) ≡ sending_on e y) → ((y : Node) → (f y).state ≡ y.state)
-      → (p : ℕ) (w : World) → IsWhole (with_node p f w) → U w → U (with_node p f w)
-  with_change f readings sendings states p w whole u = record {
+      → ((e : Side) (y : Node) → sending_on e (f y) ≡ sending_on e y) → (p : ℕ) (w : World) → IsWhole (with_node p f w)
+      → AllUntroubled c (with_node p f w) → U w → U (with_node p f w)
+  with_change f readings sendings p w whole calm u = record {
     whole = whole;
     get = u.get;
     ring = u.ring;
     slot = u.slot;
-    tuned = each_at_place (Tuned w) f (λ q y h. tuned_left f readings sendings states w q y h) p w.ring.nodes u.tuned;
+    tuned = each_at_place (Tuned w) f (λ q y h. tuned_left f readings sendings w q y h) p w.ring.nodes u.tuned;
+    untroubled = calm;
     frames = u.frames;
   }
-
-  readings_commanded : (d e : Side) (x : Command) (y : Node)
-      → (receiving_on e (at_receiving d (commanded_by x) y)).readings ≡ (receiving_on e y).readings
-  readings_commanded West West x y = refl
-  readings_commanded West East x y = refl
-  readings_commanded East West x y = refl
-  readings_commanded East East x y = refl
 
   changed_u : (x : Change) (w : World) → IsChangeOf w x → U w → U (changed x w)
   unfolding changed
@@ -304,24 +293,27 @@ module _ (i : ℕ) (c : Provisioned) (d : Side) (clock : ℕ → Clock) (source 
     ring = u.ring;
     slot = u.slot;
     tuned = u.tuned;
+    untroubled = u.untroubled;
     frames = u.frames;
   }
   changed_u (Order p e x) w may u =
-      with_change (at_receiving e (commanded_by x)) (λ g y. readings_commanded e g x y) (λ g y. sending_commanded e g x y) (λ y. refl) p w
-      (whole_changed (Order p e x) w may u.whole) u
+      with_change (at_receiving e (commanded_by x)) (λ g y. readings_commanded e g x y) (λ g y. sending_commanded e g x y) p w
+      (whole_changed (Order p e x) w may u.whole) (untroubled_changed c (Order p e x) w u.untroubled) u
   changed_u (Hold p turns) w may u =
       with_change (held_for turns) (λ g y. ap (λ (r : Receiving). r.readings) ((held_leaves turns).receiving g y))
-      (λ g y. (held_leaves turns).sending g y) (λ y. refl) p w (whole_changed (Hold p turns) w may u.whole) u
+      (λ g y. (held_leaves turns).sending g y) p w (whole_changed (Hold p turns) w may u.whole)
+      (untroubled_changed c (Hold p turns) w u.untroubled) u
   changed_u (Slip id turn count) w may u =
       with_change (slips_at id turn count) (λ g y. ap (λ (r : Receiving). r.readings) ((slips_leave id turn count).receiving g y))
-      (λ g y. (slips_leave id turn count).sending g y) (λ y. refl) (place_of_port w.ring id) w
-      (whole_changed (Slip id turn count) w may u.whole) u
+      (λ g y. (slips_leave id turn count).sending g y) (place_of_port w.ring id) w
+      (whole_changed (Slip id turn count) w may u.whole) (untroubled_changed c (Slip id turn count) w u.untroubled) u
   changed_u (Now t) w may u = record {
     whole = whole_changed (Now t) w may u.whole;
     get = u.get;
     ring = u.ring;
     slot = u.slot;
     tuned = u.tuned;
+    untroubled = u.untroubled;
     frames = u.frames;
   }
 
@@ -332,20 +324,11 @@ module _ (i : ℕ) (c : Provisioned) (d : Side) (clock : ℕ → Clock) (source 
   -- ---- rounds, by what is known of each
 
   record Tells (w : World) : Type 0 where
-    asks : AsksNothing i c d clock source w
+    asks : AsksNothingOnArc (round w) c
     times : clock_at w.ring (port_id i (near_end d)) ≡ clock w.ring.rounds
 
   module _ (w : World) (u : U w) (tells : Tells w) where
     open terms w use {n}
-
-    plenty : 0 < n
-    plenty = let h = (u.ring.inside i c u.get).0 in omega arith
-
-    starts : (d : Side) → port_at c (near_end d) ≡ going n d (near_at n c d) 0
-    starts East = sym (going-none n plenty East c.from.0 (u.ring.inside i c u.get).0)
-    starts West =
-        arc-end n w.ring.circuits.circuits u.ring i c u.get
-        ∙ sym (going-none n plenty West (near_at n c West) (going-inside n plenty East c.from.0 (arc_length n c)))
 
     end_low : (e : End) → port_at c e < n
     end_low A = (u.ring.inside i c u.get).0
@@ -362,7 +345,7 @@ module _ (i : ℕ) (c : Provisioned) (d : Side) (clock : ℕ → Clock) (source 
         ap (λ o. option_map_or (λ (y : Tributary). input_by (sent_in y.feed)) o no_input) f.is
         ∙ λ j. input_by (sent_in (record { port = f.sender j; clock = now j })) in
         let back : t ≡ t - 0 = omega arith in
-        subst (λ p. HasCome i c d clock source 0 t (value_at w p c.slot.0 (port i x))) (starts d) (record {
+        subst (λ p. HasCome i c d clock source 0 t (value_at w p c.slot.0 (port i x))) (first_at n w.ring.circuits.circuits u.ring i c u.get d) (record {
           acts = ap (λ (y : Input). y.action) is ∙ sent_action (customer_at c x) (clock t) ∙ sym (does_zero clock source t);
           value = λ late. ap (λ (y : Input). y.value) is ∙ sent_value (customer_at c x) (clock t) ∙ ap (value_in_round clock source) back;
           payload = λ late. ap (λ (y : Input). y.au.payload) is ∙ ap (λ r. (sent i c d clock source r).payload) back;
@@ -524,8 +507,6 @@ module _ (s : Settings) (ids : List ℕ) (circuits : Provisioning) (f : Fibres) 
   tuned_new p = record {
     sends = λ k few is. sends_new d k;
     reads = λ k few is. reads_new (opposite d) k;
-    words = λ e held. words_new e;
-    open_sides = λ e held. refl;
   }
     where
       sends_new : (e : Side) (k : ℕ) → get_or (sending_on e (new_node s ids cs (position_of p))).generators (c.slot.0 - 1) None
@@ -546,6 +527,10 @@ module _ (s : Settings) (ids : List ℕ) (circuits : Provisioning) (f : Fibres) 
       reads_new West k = start_follows k _ (same_all (n_of s.rate) (c.slot.0 - 1) start)
       reads_new East k = start_follows k _ (same_all (n_of s.rate) (c.slot.0 - 1) start)
 
+  untroubled_new : (p : ℕ) → IsUntroubled c size p (new_node s ids cs (position_of p))
+  unfolding new_node
+  untroubled_new p = record { words = λ e held. words_new e; open_sides = λ e held. refl }
+    where
       words_new : (e : Side) → (last_word_on e (new_node s ids cs (position_of p))).path ≡ Short
           → code_number (last_word_on e (new_node s ids cs (position_of p))).code < 5
       words_new West = λ z. omega arith
@@ -558,6 +543,7 @@ module _ (s : Settings) (ids : List ℕ) (circuits : Provisioning) (f : Fibres) 
     ring = ring;
     slot = subst (IsInSlots (n_of s.rate / 2)) (get_or_from_slice_get cs i c c get) (form.in_slots i c (slice_get_within cs i c get));
     tuned = each_new (IsTuned i c d clock source size 0) s ids cs (λ p low. tuned_new p);
+    untroubled = each_new (IsUntroubled c size) s ids cs (λ p low. untroubled_new p);
     frames = λ k r line few ran there. absurd (omega arith);
   }
 
@@ -567,6 +553,7 @@ module _ (s : Settings) (ids : List ℕ) (circuits : Provisioning) (f : Fibres) 
       clocks_go_on.history ss w id t has h ∙ ap (λ k. clock_in id ss k t) (clocks_go_on.new s ids circuits id has)
 
   tells : (t : ℕ) → t < rounds_in ss → Tells i c d clock source (world_in ss w t)
+  unfolding any_round.round any_round.round_with
   tells t h =
       let x = world_in ss w t in
       let same = (left_in ss w t (omega arith)).ids in
