@@ -18,7 +18,7 @@ def bound(size, words, longest=0):
     """After this number of rounds from these changes on each port has what it is owed, whatever happened before them.
     The longest hold among them has `longest` rounds."""
     if "slip" not in words:
-        return 7 * size + 7 + longest
+        return 6 * size + 8 + longest
     return 12 * size + 102 if "hold" in words else max(12 * size + 2, 8 * size + 61)
 
 

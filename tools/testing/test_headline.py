@@ -95,8 +95,8 @@ class Headline(unittest.TestCase):
 
     def test_bounds_are_those_of_the_changes(self):
         bounds = [soon.bound(4, words) for words in ([], ["cut", "degrade"], ["slip", "cut"], ["hold", "slip"])]
-        self.assertEqual(bounds, [35, 35, 93, 150])
-        self.assertEqual(soon.bound(4, ["hold", "cut", "hold"], 20), 55)
+        self.assertEqual(bounds, [32, 32, 93, 150])
+        self.assertEqual(soon.bound(4, ["hold", "cut", "hold"], 20), 52)
         self.assertEqual(soon.bound(16, ["slip"]), 194)
 
     def test_the_promise_stands_on_no_frame_word_or_node(self):

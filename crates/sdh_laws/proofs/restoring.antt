@@ -2,6 +2,7 @@ pub mod Landing
 pub mod Flowing
 pub mod Walking
 pub mod Resting
+pub mod CutOff
 pub mod Soon
 pub mod Stretches
 pub mod Following

@@ -32,7 +32,7 @@ pub fn unslipped_rings_are_restored_soon()
 }
 
 /// From every whole ring on, each port has what comes over h hops from number 4n + 4h + 114 on, and AIS, where that is
-/// owed, from number 7n + 107 on.
+/// owed, from number 5n + 100 on.
 pub fn ports_are_owed_soon()
     ensures { PortsAreOwedSoon }
 {
@@ -40,7 +40,7 @@ pub fn ports_are_owed_soon()
 }
 
 /// Where no controller is held and no slip waits, each port has what comes over h hops from number 4n + 4h + 14 on, and
-/// AIS, where that is owed, from number 7n + 7 on.
+/// AIS, where that is owed, from number 5n on.
 pub fn unslipped_ports_are_owed_soon()
     ensures { UnslippedPortsAreOwedSoon }
 {
@@ -91,14 +91,14 @@ pub fn steps_leave_followed()
 }
 
 /// Where interpreters follow, no slip waits, and no controller is held for more than some turns, each port has what
-/// comes over h hops from number 4n + h + 11 and these turns on, and AIS, where that is owed, from 7n + 7 and these on.
+/// comes over h hops from number 4n + h + 11 and these turns on, and AIS, where that is owed, from 5n and these on.
 pub fn followed_ports_are_owed_soon()
     ensures { FollowedPortsAreOwedSoon }
 {
     sdh_signal::rings_settle();
 }
 
-/// Where interpreters follow, no controller is held and no slip waits, the ring is restored from round number 7n + 7
+/// Where interpreters follow, no controller is held and no slip waits, the ring is restored from round number 6n + 8
 /// on.
 pub fn followed_rings_are_restored_soon()
     ensures { FollowedRingsAreRestoredSoon }
@@ -107,14 +107,14 @@ pub fn followed_rings_are_restored_soon()
 }
 
 /// Where interpreters follow, no slip waits, and no controller is held for more than some turns, the ring is restored
-/// from round number 7n + 7 and these turns on.
+/// from round number 6n + 8 and these turns on.
 pub fn held_followed_rings_are_restored_soon()
     ensures { HeldFollowedRingsAreRestoredSoon }
 {
     sdh_signal::rings_settle();
 }
 
-/// Where interpreters follow, no controller is held and no slip waits, a settle step of at least 7n + 7 rounds leaves
+/// Where interpreters follow, no controller is held and no slip waits, a settle step of at least 6n + 8 rounds leaves
 /// the ring restored, even where no window ended.
 pub fn unsettled_followed_rings_are_restored()
     ensures { UnsettledFollowedRingsAreRestored }
@@ -123,7 +123,7 @@ pub fn unsettled_followed_rings_are_restored()
 }
 
 /// From a new ring on, without slips, holds and changes that come within four rounds of one another, each stretch of at
-/// least 7n + 7 rounds leaves the ring restored.
+/// least 6n + 8 rounds leaves the ring restored.
 pub fn plain_stretches_are_restored_soon()
     ensures { PlainStretchesAreRestoredSoon }
 {

@@ -61,9 +61,9 @@ module _ (occurs : ARingOccurs) (laws : RestoredSoon) (f : Fibres) (honest : IsH
 
 -- ---- once round the ring
 
--- the requests of the spans in the last of 28 rounds after the cut
+-- the requests of the spans in the last of 26 rounds after the cut
 abbrev cut_requests : List ℕ
-cut_requests = span_requests 3 (asked_in 1 5 3 (stretch cutting 28 ∷ []) 27)
+cut_requests = span_requests 3 (asked_in 1 5 3 (stretch cutting 26 ∷ []) 25)
 
 goes_round : is_joined 3 (is_applied cut_requests) (arc_of 3 c1) ≡ true
 unfolding span_requests cells applies is_clear is_joined local_request defect_at last_end ends_at
@@ -78,20 +78,20 @@ module _ (occurs : ARingOccurs) (laws : RestoredSoon) (f : Fibres) (honest : IsH
   unfolding due
   comes_round = record {
     transit = once_round 1 (omega arith) (omega arith) refl;
-    comes = λ e. (let now = stretch cutting 28 ∷ [] in
+    comes = λ e. (let now = stretch cutting 26 ∷ [] in
         let sends : ℕ → Outlet = λ k. sends_by (customer_at c1 (other_end e)) (happened now (port_id 0 (other_end e)) k) in
-        joined_soon settings three one_circuit f (occurs f honest).may (occurs f honest).circuits [] (stretch cutting 28) 28 ((tt, (tt, tt)), tt)
+        joined_soon settings three one_circuit f (occurs f honest).may (occurs f honest).circuits [] (stretch cutting 26) 26 ((tt, (tt, tt)), tt)
         (ready_new settings three one_circuit f) (followed_new settings three one_circuit f (occurs f honest).may laws) laws (tt, (tt, tt)) 0 c1
         refl e goes_round (omega (arith, three_spans))
-        ∙ (λ k. if goes_round k then sends (27 - three_spans k) else silent));
+        ∙ (λ k. if goes_round k then sends (25 - three_spans k) else silent));
   }
 
 pub three_are_owed_soon : ARingOccurs → RestoredSoon → ThreeAreOwedSoon
 three_are_owed_soon occurs laws f honest = record {
   slips = owed_behind occurs laws f honest slipping 85 (((occurs f honest).happen.0.0, tt), tt)
       (inr (inl ((tt, tt), omega arith, omega arith)));
-  cut = owed_behind occurs laws f honest cutting 28 ((tt, (tt, tt)), tt) (inl ((tt, (tt, tt)), omega arith));
-  hold = owed_behind occurs laws f honest seven_held 35 ((omega arith, tt), tt) (inl ((tt, tt), omega arith));
+  cut = owed_behind occurs laws f honest cutting 26 ((tt, (tt, tt)), tt) (inl ((tt, (tt, tt)), omega arith));
+  hold = owed_behind occurs laws f honest seven_held 33 ((omega arith, tt), tt) (inl ((tt, tt), omega arith));
   round = comes_round occurs laws f honest;
 }
 

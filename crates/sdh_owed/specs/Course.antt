@@ -113,12 +113,12 @@ abbrev pub SlipNone : List Change → Type 0
 SlipNone [] = Unit {0}
 SlipNone (c ∷ cs) = SlipsNone c × SlipNone cs
 
--- `k` rounds after these changes are enough in a ring of n. Where they add no slips the bound is 7n + 7 and the rounds
+-- `k` rounds after these changes are enough in a ring of n. Where they add no slips the bound is 6n + 8 and the rounds
 -- of their longest hold. It is the larger of 12n + 2 and 8n + 61 where they add slips and hold no controller. A bound of
 -- 12n + 102 holds whatever they are.
 abbrev pub IsLate : ℕ → List Change → ℕ → Type 0
 IsLate n changes k =
-    (SlipNone changes × (7 * n + 7 + longest_hold changes ≤ k))
+    (SlipNone changes × (6 * n + 8 + longest_hold changes ≤ k))
     ⊎ ((HoldNone changes × (12 * n + 2 ≤ k) × (8 * n + 61 ≤ k)) ⊎ (12 * n + 102 ≤ k))
 
 -- none of these stretches has a change

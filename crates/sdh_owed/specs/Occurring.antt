@@ -52,19 +52,19 @@ pub record IsOwedBehind (f : Fibres) (changes : List Change) (k : ℕ) : Type 0 
   pub late : IsLate (length three) changes k
   pub shows : ShowsWhatIsOwed (three_over f) ring_of_three (stretch changes k ∷ [])
 
--- The circuit has two of the three spans. 28 rounds after one of them is cut both its ports deliver what the other one
+-- The circuit has two of the three spans. 26 rounds after one of them is cut both its ports deliver what the other one
 -- sent exactly three rounds before. That is a transit: once round the ring, past the cut span.
 pub record ComesRound (f : Fibres) : Type 0 where
   pub transit : IsTransit (length three) (arc_of (length three) c1).spans 3
-  pub comes : (e : End) → (let now = stretch cutting 28 ∷ [] in
+  pub comes : (e : End) → (let now = stretch cutting 26 ∷ [] in
       outlet_at (after_stretches now (three_over f)).ring (port_id 0 e)
-      ≡ sends_by (customer_at c1 (other_end e)) (happened now (port_id 0 (other_end e)) (27 - 3)))
+      ≡ sends_by (customer_at c1 (other_end e)) (happened now (port_id 0 (other_end e)) (25 - 3)))
 
--- each port shows what it is owed 8n + 61 rounds after the slips, 7n + 7 after the cut, and 7n + 14 after the hold
+-- each port shows what it is owed 8n + 61 rounds after the slips, 6n + 8 after the cut, and 6n + 15 after the hold
 pub record ThreeAreOwed (f : Fibres) : Type 0 where
   pub slips : IsOwedBehind f slipping 85
-  pub cut : IsOwedBehind f cutting 28
-  pub hold : IsOwedBehind f seven_held 35
+  pub cut : IsOwedBehind f cutting 26
+  pub hold : IsOwedBehind f seven_held 33
   pub round : ComesRound f
 
 abbrev pub ThreeAreOwedSoon : Type 0

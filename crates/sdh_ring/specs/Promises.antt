@@ -23,7 +23,7 @@ pub record KeepsPromises (w : World) (limit : ℕ) (result : Result (Unit {0}) S
   pub restored : OnOk result (Restores w left)
   -- the same holds after an unsettled step, if its limit is at least 12n + 102
   pub soon : result ≡ Err Unsettled → RestoresBy w limit left
-  -- and, if its limit is at least 7n + 7, where the interpreters of the ring followed the generators across their spans
+  -- and, if its limit is at least 6n + 8, where the interpreters of the ring followed the generators across their spans
   -- (`IsFollowed` in `sdh_laws/specs/Restoring/Followed`), no controller was held and no slip waited
   pub sooner : result ≡ Err Unsettled → RestoresFollowedBy w limit left
   -- interpreters follow once a window ended

@@ -31,14 +31,15 @@ later_is (suc k) t = let e = later_is k t in omega arith
 module _ (run : Run) (R : IsRun run) where
   open terms run use {n, at, id, next as nx, request, away}
 
-  abbrev IsStep : ℕ → ℕ → Side → Type 0
+  abbrev pub IsStep : ℕ → ℕ → Side → Type 0
   IsStep t p e = ((away (suc t) p e).from ≡ id p) ⊎ (away (suc t) p e ≡ away t (nx p e) e)
 
   step_by : (t p : ℕ) (e : Side) → p < n → IsOwnOrRelayed (at (suc t) p) (opposite e) (away (suc t) p e) → IsStep t p e
   step_by t p e h (inl own) = inl own
   step_by t p e h (inr f) = inr (R.past t p e (away (suc t) p e) h (ap (word_on (at (suc t) p)) (sym (opposite_twice e)) ∙ f.heard))
 
-  step : (t p : ℕ) (e : Side) → p < n → IsStep t p e
+  -- a word that a node sends away from a side is its own, or the one that came on that side
+  pub step : (t p : ℕ) (e : Side) → p < n → IsStep t p e
   step t p e h = step_by t p e h (word_source (at (suc t) p) (opposite e))
 
   own_long_code : (t q : ℕ) (d : Side) (w : K) → w.path ≡ Long → w.from ≡ id q → Kind (at t q) d w → w.code ≡ stronger (at t q) (opposite d)

@@ -47,7 +47,7 @@ module _ (needs : List Needs) (s : Signals) (may : MaySignal needs s) where
   abbrev ring : ℕ → Signals
   ring t = unheld_rounds needs t s
 
-  same_requests : run_requests run ≡ requests_in needs
+  pub same_requests : run_requests run ≡ requests_in needs
   same_requests = ap (λ m. span_requests m (λ p d. request_on (get_or needs p no_needs) d)) (sym may.size)
 
   -- the states are the settled states after 4n + 8 rounds

@@ -23,11 +23,11 @@ use Rattle.sdh_signal.proofs.States.{Resting}
 use Rattle.sdh_signal.proofs.Views.{AreOnRing, Idle, arc_length, holds, on-ring}
 use Rattle.sdh_signal.specs.RouteLaws.{IdleWalksAreShort}
 
-no_span : {A : Type 0} → false ≡ true → A
+pub no_span : {A : Type 0} → false ≡ true → A
 no_span e = cc
 
 -- a ring of idle nodes, none of whose spans is applied
-abbrev at_ease : (n : ℕ) → 0 < n → Resting n
+abbrev pub at_ease : (n : ℕ) → 0 < n → Resting n
 at_ease n some = record {
   applied = λ s. false;
   state = all_idle;

@@ -32,14 +32,15 @@ pub mod OneNode
 mod Sources
 mod Bare
 mod Terms
-mod Runs
-mod Spans
+pub mod Runs
+pub mod Spans
 mod Backward
 mod Levels
 mod Agreement
 mod Reach
 mod Firsts
 pub mod Ends
+pub mod Parting
 pub mod Standing
 mod RunLaw
 mod Convergence

@@ -30,10 +30,10 @@ module _ (run : Run) (R : IsRun run) where
       pub there : c ≤ asked (going n e p k) e
 
     -- the span of p itself is below the level, and from the next position it is one step less
-    below_here : (p : ℕ) (e : Side) (k : ℕ) → p < n → IsFirst p e (suc k) → asked p e < c
+    pub below_here : (p : ℕ) (e : Side) (k : ℕ) → p < n → IsFirst p e (suc k) → asked p e < c
     below_here p e k h first = subst (λ i. asked i e < c) (going-none n (some_nodes run R) e p h) (first.near zero (omega arith))
 
-    ahead : (p : ℕ) (e : Side) (k : ℕ) → IsFirst p e (suc k) → IsFirst (nx p e) e k
+    pub ahead : (p : ℕ) (e : Side) (k : ℕ) → IsFirst p e (suc k) → IsFirst (nx p e) e k
     ahead p e k first = record {
       near = λ j h. subst (λ i. asked i e < c) (sym (going-first n (some_nodes run R) e p j)) (first.near (suc j) (omega arith));
       there = subst (λ i. c ≤ asked i e) (sym (going-first n (some_nodes run R) e p k)) first.there;

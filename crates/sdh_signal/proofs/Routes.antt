@@ -163,7 +163,7 @@ module _ (n : ℕ) (r : Resting n) (cs : List Provisioned) (ring : AreOnRing n c
   last_opposite : opposite_clear ≡ false → IsLast place g n h
   last_opposite o = last-is place g n (let b = (first_opposite o).below in let s = short in omega arith) (first_opposite o).holds
 
-  parted_east : clear ≡ false → opposite_clear ≡ false → Parted n r cs some East c.from.0 index c A B seen_east l g
+  pub parted_east : clear ≡ false → opposite_clear ≡ false → Parted n r cs some East c.from.0 index c A B seen_east l g
   parted_east e o = record {
     inside = (last e).below;
     outside = (first_opposite o).from;
@@ -176,7 +176,7 @@ module _ (n : ℕ) (r : Resting n) (cs : List Provisioned) (ring : AreOnRing n c
     ];
   }
 
-  parted_west : clear ≡ false → opposite_clear ≡ false → Parted n r cs some West end index c B A seen_west ((arc_length n c) - suc f)
+  pub parted_west : clear ≡ false → opposite_clear ≡ false → Parted n r cs some West end index c B A seen_west ((arc_length n c) - suc f)
       ((arc_length n c) + n - suc h)
   parted_west e o =
       let a = (first e).below in let b = (last_opposite o).below in let d = (last_opposite o).from in let i =

@@ -18,12 +18,13 @@ use Rattle.sdh_ringmap.specs.declared.Side.TheVariants.{West, East}
 use Rattle.sdh_nodestate.specs.declared.Needs.{Needs}
 use Rattle.sdh_nodestate.specs.declared.Sent.{Sent}
 use Rattle.sdh_nodestate.specs.Filtering.{Brought, with_brought, heard_of, hears}
-use Rattle.sdh_nodestate.specs.Rules.{Scene, scene, own_id, word, word_on, sent_after}
+use Rattle.sdh_nodestate.specs.Rules.{Scene, scene, own_id, word, word_on, sent_after, state_after}
+use Rattle.sdh_nodestate.specs.declared.NodeState.TheVariants as state
 use Rattle.sdh_nodestate.specs.Conditions.{MayNeed}
 use Rattle.sdh_nodestate.specs.Words.{IsMember, IsSourced}
 use Rattle.sdh_nodestate.proofs.Filtering.{heard_last}
 use Rattle.sdh_signal.specs.Signals.{Signals, Filters, no_filters, fails_on, sent_on, incoming, on_their_way, filters_after}
-use Rattle.sdh_signal.specs.Signals.{heard_through, is_held, words_in, unsaid, scene_at, round, unheld_rounds, MaySignal, no_needs}
+use Rattle.sdh_signal.specs.Signals.{heard_through, is_held, state_in, words_in, unsaid, scene_at, round, unheld_rounds, MaySignal, no_needs}
 use Rattle.sdh_signal.specs.Runs.{Run, at_round, sent_here, bare, IsRun}
 use Rattle.sdh_ringmap.proofs.Sides.{neighbour_below}
 use Rattle.sdh_signal.proofs.OneNode.{if_not_some}
@@ -200,6 +201,14 @@ module _ (needs : List Needs) (s : Signals) (may : MaySignal needs s) where
       let z : Sent = sent_after (at t p) in
       slice_get-get_or (map_from f 0 needs) p z few
       ∙ ap (λ (w : Sent). Some w) (get_or-placed f needs p no_needs z (omega arith) ∙ ap sent_after (scene_is t p))
+
+  -- the states after a round
+  pub states_are : (t p : ℕ) → p < n → state_in (ring (suc t)) p ≡ state_after (at t p)
+  unfolding round
+  states_are t p h =
+      get_or-placed (λ (p : ℕ) (x : Needs). if is_held [] p then state_in (ring t) p else state_after (scene_at (ring t) p x)) needs p no_needs
+      (state.Idle tt) (let size = may.size in omega arith)
+      ∙ ap state_after (scene_is t p)
 
   next_below : (p : ℕ) (d : Side) → neighbour n p d < n
   next_below p d = neighbour_below n p d (let e = may.ids_ok.enough in omega arith)

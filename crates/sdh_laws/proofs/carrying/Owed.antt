@@ -240,6 +240,23 @@ found_arrives v whole index c e h st state t =
     ∙ ap delivered_from (sym (same_input x (added_by (node_at v.ring.nodes p).ports) m (stands_in n cs p st (inward e) m)
     (stands_no_port n cs p st (inward e) m)))
 
+-- the port of a circuit delivers what its node takes for its working arrival, in whatever state the node is
+pub drops_so : (v : World) (whole : IsWhole v) (index : ℕ) (c : Provisioned) (e : End) → slice_get v.ring.circuits.circuits index ≡ Some c
+    → port_at c e < length v.ring.ids → outlet_at (round v).ring (port_id index e)
+    ≡ delivered_from (value_at v (port_at c e) c.slot.0 (stands_in (length v.ring.ids) v.ring.circuits.circuits (port_at c e)
+    (node_at (round v).ring.nodes (port_at c e)).state (inward e) c.slot.0))
+drops_so v whole index c e get low =
+    let u = round v in
+    let hu = whole_round v whole in
+    let p = port_at c e in
+    let h : p < length v.ring.nodes = omega (arith, count v whole.placed, low) in
+    let hp : p < length u.ring.nodes = omega (arith, length-after v) in
+    let there : slice_get u.ring.circuits.circuits index ≡ Some c =
+    ap (λ (l : Layout). slice_get l.circuits index) (layout_round v) ∙ get in
+    let t = port-found u.ring.circuits.circuits (node_at u.ring.nodes p).ports index c e there (node_of u hu p hp).ports_are in
+    outlet_there u hu index c e there hp ∙ ap (λ found. option_map_or (λ (t : Tributary). t.outlet) found silent) t.is
+    ∙ found_arrives v whole index c e h (node_at u.ring.nodes p).state (state_in_turn v whole p h) t
+
 pub arrives : (v : World) (whole : IsWhole v) (rs : List ℕ) (b : Outlet) → Arrives (layout_of v) v rs b
 unfolding delivery
 arrives v whole rs b index c e get lt states has brings =

@@ -13,10 +13,15 @@ use Rattle.sdh_signal.specs.Settled.{settled_states}
 use Rattle.sdh_signal.specs.Signals as signal
 use Rattle.sdh_signal.specs.Signals.{Signals, requests_in}
 use Rattle.sdh_signal.specs.Laws.{RingsSettle, Settles}
+use Rattle.sdh_signal.specs.Runs.{at_round}
+use Rattle.sdh_signal.proofs.RunRounds.{run_of, states_are}
+use Rattle.sdh_nodestate.specs.Rules.{state_after}
+use Rattle.sdh_nodestate.specs.declared.NodeState.TheVariants as node
+use Rattle.std.proofs.lemmas.List.{get_or-map}
 use Rattle.sdh_ringmap.specs.declared.terms.Condition.{Condition}
 use Rattle.sdh_ringmap.specs.Fibres.{fibre_to, is_cut}
 use Rattle.sdh_plant.specs.Arrivals.{carried_on}
-use Rattle.std.proofs.Common.{◌≡◌, ℕ, zero, suc, ◌+◌, ◌-◌, ◌<◌, ◌≤◌, Bool, false, List, length, Some, refl, ap, sym, subst, ◌∙◌, arith, inl}
+use Rattle.std.proofs.Common.{◌≡◌, ℕ, zero, suc, ◌+◌, ◌-◌, ◌<◌, ◌≤◌, Bool, false, List, length, get_or, Some, refl, ap, sym, subst, ◌∙◌, arith, inl}
 use Rattle.std.proofs.Common.{inr}
 use Rattle.std.specs.Prelude.{nat_le, if◌then◌else◌}
 use Rattle.std.proofs.lemmas.Bool.{cases_Bool}
@@ -31,7 +36,7 @@ use Rattle.sdh_spans.specs.Frames.{violations_shown}
 use Rattle.sdh_laws.specs.Hearing.Laws.{IsWhole, NoneWait, StillFrom, FreeRunsGetStill, RunsGetStill}
 use Rattle.sdh_laws.proofs.hearing.Violations.{ShowsSo, defect_shown, shows_later}
 use Rattle.sdh_laws.proofs.hearing.Staying.{left_run}
-use Rattle.sdh_laws.proofs.hearing.Nodes.{informed, nodes_after, length-after, feeds_round}
+use Rattle.sdh_laws.proofs.hearing.Nodes.{informed, count, nodes_after, length-after, feeds_round}
 use Rattle.sdh_payload.specs.Clock.{waiting}
 use Rattle.sdh_payload.proofs.Clocking.{plain_tick}
 use Rattle.sdh_laws.proofs.hearing.Rounds.{neighbour_inside, made, defect_cut, took_is, whole_round}
@@ -41,7 +46,7 @@ use Rattle.sdh_laws.proofs.hearing.Follows.{Keeps, keeps_one, condition_after}
 use Rattle.sdh_laws.proofs.hearing.Signalling.{mapped_same, goes_free, may_go, one_run}
 use Rattle.sdh_laws.specs.Restoring.Laws.{NoControllerHeld}
 use Rattle.sdh_node.proofs.Decided.{turns_left}
-use Rattle.sdh_node.specs.Rings.Held.{node_at, AtEach}
+use Rattle.sdh_node.specs.Rings.Held.{node_at, nowhere, AtEach}
 use Rattle.sdh_node.specs.Rings.Sides.{condition_to}
 use Rattle.sdh_rounds.specs.Rounds as any_round
 use Rattle.sdh_rounds.specs.Runs as any_run
@@ -243,7 +248,7 @@ needs_stay w is = mapped_same needed (round (round w)).ring.nodes (round w).ring
 
 -- a run in which no controller misses a turn from round f on
 module _ (w : World) (whole : IsWhole w) (f : ℕ) (free : (k : ℕ) → f ≤ k → NoControllerHeld (run k w)) where
-  abbrev after : ℕ → World
+  abbrev pub after : ℕ → World
   after k = run k w
 
   step_at : (k j : ℕ) → k ≡ suc j → after k ≡ round (after j)
@@ -263,7 +268,7 @@ module _ (w : World) (whole : IsWhole w) (f : ℕ) (free : (k : ℕ) → f ≤ k
       let was : after k ≡ round (after (f + 2 + j)) = step_at k (f + 2 + j) (omega arith) in
       ap needs_in (one_run w k ∙ ap round was) ∙ needs_stay (after (f + 2 + j)) (steady_at j) ∙ sym (ap needs_in was)
 
-  abbrev needs : List Needs
+  abbrev pub needs : List Needs
   needs = needs_in (after (f + 3))
 
   needs_at : (j : ℕ) → needs_in (after (f + 3 + j)) ≡ needs
@@ -272,7 +277,7 @@ module _ (w : World) (whole : IsWhole w) (f : ℕ) (free : (k : ℕ) → f ≤ k
       ap (λ k. needs_in (after k)) (let e : f + 3 + suc j ≡ suc (f + 3 + j) = omega arith in e) ∙ needs_from (f + 3 + j) (omega arith)
       ∙ needs_at j
 
-  abbrev begin : Signals
+  abbrev pub begin : Signals
   begin = signals_of (after (f + 2))
 
   signals_at : (j : ℕ) → signals_of (after (f + 2 + j)) ≡ signal.unheld_rounds needs j begin
@@ -286,14 +291,37 @@ module _ (w : World) (whole : IsWhole w) (f : ℕ) (free : (k : ℕ) → f ≤ k
       ∙ ap (λ n. signal.free_round n (signals_of (after (f + 2 + j)))) (ap (λ k. needs_in (after k)) g ∙ needs_at j)
       ∙ ap (signal.free_round needs) (signals_at j)
 
-  begin_ids : begin.ids ≡ w.ring.ids
+  pub begin_ids : begin.ids ≡ w.ring.ids
   unfolding signals_of
   begin_ids = (left_run (f + 2) w).ids
 
+  -- the ring as a run of signals, from these needs on
+  pub may_signal : signal.MaySignal needs begin
+  may_signal =
+      subst (λ v. signal.MaySignal (needs_in v) begin) (sym (step_at (f + 3) (f + 2) (omega arith)))
+      (may_go (after (f + 2)) (whole_run w (f + 2) whole))
+
+  -- the state of a node in a round of that run
+  pub state_then : (j p : ℕ) → p < length w.ring.nodes → (node_at (after (suc (f + 2 + j))).ring.nodes p).state
+      ≡ state_after (at_round (run_of needs begin may_signal) j p)
+  unfolding signals_of any_run.run
+  state_then j p h =
+      let here : p < length (after (suc (f + 2 + j))).ring.nodes = omega (arith, h, length_then (suc (f + 2 + j))) in
+      let low : p < length begin.ids = omega (arith, h, count_then, ap length begin_ids) in
+      sym (get_or-map (λ (n : Node). n.state) (after (suc (f + 2 + j))).ring.nodes p nowhere (node.Idle tt) here)
+      ∙ ap (λ (s : Signals). get_or s.states p (node.Idle tt))
+      (ap (λ k. signals_of (after k)) {x = suc (f + 2 + j)} {y = f + 2 + suc j} (omega arith) ∙ signals_at (suc j))
+      ∙ states_are needs begin may_signal j p low
+    where
+      length_then : (k : ℕ) → length (after k).ring.nodes ≡ length w.ring.nodes
+      length_then zero = refl
+      length_then (suc k) = ap (λ (v : World). length v.ring.nodes) (one_run w k) ∙ length-after (after k) ∙ length_then k
+
+      count_then : length w.ring.nodes ≡ length w.ring.ids
+      count_then = count w whole.placed
+
   settles : RingsSettle → Settles needs begin
-  settles law =
-      law needs begin (subst (λ v. signal.MaySignal (needs_in v) begin) (sym (step_at (f + 3) (f + 2) (omega arith)))
-      (may_go (after (f + 2)) (whole_run w (f + 2) whole)))
+  settles law = law needs begin may_signal
 
   pub still_from : RingsSettle → StillFrom w f
   still_from law = record {

@@ -43,7 +43,8 @@ use Rattle.sdh_laws.specs.Converging.Steady.{StaysSettled}
 use Rattle.sdh_laws.proofs.converging.Runs.{run_more, nodes_run}
 use Rattle.sdh_laws.specs.Restoring.Laws.{ArePortsOwedFrom, PortsAreOwedSoon, UnslippedPortsAreOwedSoon, RingsAreRestoredSoon}
 use Rattle.sdh_laws.specs.Restoring.Laws.{FreeRingsAreRestoredSoon, UnslippedRingsAreRestoredSoon, UnsettledRingsAreRestored}
-use Rattle.sdh_laws.proofs.restoring.Resting.{AreUncut, port_delivers, joined_delivers, parted_delivers}
+use Rattle.sdh_laws.proofs.restoring.CutOff.{cut_off_owed}
+use Rattle.sdh_laws.proofs.restoring.Resting.{AreUncut, port_delivers, joined_delivers}
 use Rattle.sdh_rounds.specs.Runs as any_run
 use Rattle.sdh_rounds.proofs.Terms.{terms}
 
@@ -163,16 +164,6 @@ module _ (law : RingsSettle) (w : World) (whole : IsWhole w) (form : HasCircuits
         subst (Joined j) ids_u (λ joined enough. delivers_by j
         (joined_delivers u whole_u form_u rs at_rest uncut index c get_u e clocks tells j enough joined))
 
-    abbrev Parted : ℕ → ℕ → Type 0
-    Parted j size =
-        is_joined size (is_applied rs) (arc_of size c) ≡ false → 3 * size ≤ j + 3
-        → DeliversItsDue (clocks_from w) (run (suc j) u) rs c index e
-
-    parted_at : (j : ℕ) → Parted j n
-    parted_at j =
-        subst (Parted j) ids_u (λ parted enough. delivers_by j
-        (parted_delivers u whole_u form_u rs at_rest uncut index c get_u e clocks tells j enough parted))
-
     abbrev JoinedBy : ℕ → List ℕ → Type 0
     JoinedBy k qs =
         is_joined n (is_applied qs) (arc_of n c) ≡ true → base + 4 * hops n (is_applied qs) (arc_of n c) + 5 ≤ k
@@ -189,23 +180,19 @@ module _ (law : RingsSettle) (w : World) (whole : IsWhole w) (form : HasCircuits
     joined_owed k joined enough = subst (JoinedBy k) (sym (requests_from k (omega (arith, late, enough)))) (joined_so k) joined enough
 
     abbrev PartedBy : ℕ → List ℕ → Type 0
-    PartedBy k qs =
-        is_joined n (is_applied qs) (arc_of n c) ≡ false → base + 3 * n ≤ k + 2 → DeliversItsDue (clocks_from w) (run k w) qs c index e
+    PartedBy k qs = is_joined n (is_applied qs) (arc_of n c) ≡ false → f + 5 * n ≤ k → DeliversItsDue (clocks_from w) (run k w) qs c index e
 
-    parted_so : (k : ℕ) → PartedBy k rs
-    parted_so k parted enough =
-        let two = whole.placed.ids.enough in
-        let j = k - base - 1 in
-        let now : suc j + base ≡ k = omega (arith, enough, two) in
-        let there : run (suc j) u ≡ run k w = run_more w base (suc j) ∙ ap (λ i. run i w) now in
-        subst (λ v. DeliversItsDue (clocks_from w) v rs c index e) there (parted_at j parted (omega (arith, enough, two)))
-
+    -- a port of a circuit whose ends are parted has AIS sooner
     pub parted_owed : (k : ℕ) → PartedBy k (span_requests_of (run k w))
-    parted_owed k parted enough = let two =
-        whole.placed.ids.enough in subst (PartedBy k) (sym (requests_from k (omega (arith, late, enough, two)))) (parted_so k) parted enough
+    parted_owed k parted enough = let two = whole.placed.ids.enough in
+        subst (PartedBy k) (sym (requests_from k (omega (arith, enough, two)))) (λ other more. cut_off_owed w whole form f free index c get other k e more)
+        parted enough
 
-  pub owed_from : ArePortsOwedFrom w base
-  owed_from = record { joined = λ k index c get e. joined_owed index c get e k; parted = λ k index c get e. parted_owed index c get e k }
+  pub owed_from : (away : ℕ) → f + 5 * n ≤ away → ArePortsOwedFrom w base away
+  owed_from away long = record {
+    joined = λ k index c get e. joined_owed index c get e k;
+    parted = λ k index c get e other enough. parted_owed index c get e k other (omega arith);
+  }
 
   restored_at : (j : ℕ) → 8 * n ≤ j + 8 → IsRestored (clocks_from w) (run (suc j) u) rs
   restored_at j enough = record {
@@ -250,12 +237,12 @@ free_rings_are_restored_soon law w whole form free k enough slips =
 pub ports_are_owed_soon : RingsSettle → PortsAreOwedSoon
 ports_are_owed_soon law w whole form =
     owed_from law w whole form 100 (4 * length w.ring.ids + 109) (free_at w whole) (omega arith)
-    (none_wait w whole (4 * length w.ring.ids + 109) (omega arith))
+    (none_wait w whole (4 * length w.ring.ids + 109) (omega arith)) (5 * length w.ring.ids + 100) (omega arith)
 
 pub unslipped_ports_are_owed_soon : RingsSettle → UnslippedPortsAreOwedSoon
 unslipped_ports_are_owed_soon law w whole form free none =
     owed_from law w whole form 0 (4 * length w.ring.ids + 9) (λ k h. free_stays w whole free k) (omega arith)
-    (none_waits_later w whole none (4 * length w.ring.ids + 9))
+    (none_waits_later w whole none (4 * length w.ring.ids + 9)) (5 * length w.ring.ids) (omega arith)
 
 -- ---- settle steps
 

@@ -92,7 +92,7 @@ module _ (law : RingsSettle) (w : World) (whole : IsWhole w) (form : HasCircuits
         enough
 
     -- every port, once AIS has come to those that are parted
-    pub port_owed : (k : ℕ) → base + 3 * n ≤ k + 2 → DeliversItsDue (clocks_from w) (run k w) (span_requests_of (run k w)) c index e
+    pub port_owed : (k : ℕ) → base + 2 * n ≤ k + 1 → DeliversItsDue (clocks_from w) (run k w) (span_requests_of (run k w)) c index e
     port_owed k enough =
         let applied = is_applied (span_requests_of (run k w)) in
         let s = short n applied (slots_of (layout_of w)) w.ring.circuits.circuits form index c get in
@@ -102,16 +102,16 @@ module _ (law : RingsSettle) (w : World) (whole : IsWhole w) (form : HasCircuits
             | inl t ↦ (let a = s.straight t in omega (arith, enough, two))
             | inr t ↦ (let a = s.around t in omega (arith, enough, two))
           ])
-          | inr parted ↦ parted_owed law w whole form f base free late slips index c get e k parted enough
+          | inr parted ↦ parted_owed law w whole form f base free late slips index c get e k parted (omega (arith, late, enough, two))
         ]
 
-  pub owed_at_once : ArePortsOwedAtOnce w base
-  owed_at_once = record {
+  pub owed_at_once : (away : ℕ) → f + 5 * n ≤ away → ArePortsOwedAtOnce w base away
+  owed_at_once away long = record {
     joined = λ k index c get e. joined_owed index c get e k;
-    parted = λ k index c get e. parted_owed law w whole form f base free late slips index c get e k;
+    parted = λ k index c get e other enough. parted_owed law w whole form f base free late slips index c get e k other (omega arith);
   }
 
-  pub restored_at_once : (k : ℕ) → base + 3 * n ≤ k + 2 → IsRestored (clocks_from w) (run k w) (span_requests_of (run k w))
+  pub restored_at_once : (k : ℕ) → base + 2 * n ≤ k + 1 → IsRestored (clocks_from w) (run k w) (span_requests_of (run k w))
   restored_at_once k enough =
       let two = whole.placed.ids.enough in
       record {
@@ -130,6 +130,7 @@ free_later w whole turns held k late p h =
 pub followed_ports_are_owed_soon : RingsSettle → FollowedPortsAreOwedSoon
 followed_ports_are_owed_soon law w whole form turns held unslipped followed =
     owed_at_once law w whole form turns (4 * length w.ring.ids + turns + 9) (free_later w whole turns held) (omega arith) unslipped followed
+    (5 * length w.ring.ids + turns) (omega arith)
 
 pub followed_rings_are_restored_soon : RingsSettle → FollowedRingsAreRestoredSoon
 followed_rings_are_restored_soon law w whole form free unslipped followed k enough =

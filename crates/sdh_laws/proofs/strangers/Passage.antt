@@ -28,14 +28,12 @@ use Rattle.sdh_pointer.specs.declared.reading.Reading.{Reading}
 use Rattle.sdh_pointer.specs.Reading.{start, after_word, action_on}
 use Rattle.sdh_pointer.specs.Sending.{next_sending}
 use Rattle.sdh_payload.specs.Clock.{Clock, ticked}
-use Rattle.sdh_payload.specs.Outlet.{silent}
 use Rattle.sdh_plant.specs.Arrivals.{carried_on}
 use Rattle.sdh_terminal.specs.Passing.{Input, no_input, au_sent}
 use Rattle.sdh_terminal.specs.Receiving.{pointer_word, pointer_word_at}
 use Rattle.sdh_terminal.specs.Lines.{line_on, received}
 use Rattle.sdh_terminal.specs.Outlets.{delivered_from}
 use Rattle.sdh_terminal.specs.Tributaries.{Tributary, sent_in, input_by}
-use Rattle.sdh_terminal.proofs.Found.{port-found}
 use Rattle.sdh_node.specs.Node.{Node, receiving_on, sending_on}
 use Rattle.sdh_node.specs.Rings.Clocks.{clock_at}
 use Rattle.sdh_node.specs.Rings.Held.{node_at, outlet_at, AtEach}
@@ -55,10 +53,10 @@ use Rattle.sdh_laws.specs.Hearing.Laws.{IsWhole}
 use Rattle.sdh_laws.specs.Hearing.Signalling.{lines_at}
 use Rattle.sdh_laws.specs.Carrying.Windows.{layout_of, slots_of, value_at, sent_at}
 use Rattle.sdh_laws.specs.Strangers.Untouched.{NoneSwitchesOnArc}
-use Rattle.sdh_laws.proofs.hearing.Nodes.{count, length-after, one_more}
+use Rattle.sdh_laws.proofs.hearing.Nodes.{count, one_more}
 use Rattle.sdh_laws.proofs.hearing.Rounds.{reads, whole_round, neighbour_inside}
-use Rattle.sdh_laws.proofs.carrying.Connections.{node_of, sends_working, state_in_turn}
-use Rattle.sdh_laws.proofs.carrying.Owed.{found, clock_is, found_arrives, outlet_there, port_is_there}
+use Rattle.sdh_laws.proofs.carrying.Connections.{sends_working}
+use Rattle.sdh_laws.proofs.carrying.Owed.{found, clock_is, drops_so, port_is_there}
 use Rattle.sdh_laws.proofs.carrying.Spans.{au_left, generator_step, takes_read}
 use Rattle.sdh_laws.proofs.converging.Runs.{condition_run}
 use Rattle.sdh_laws.proofs.strangers.Arc.{first_at, held_by}
@@ -293,29 +291,18 @@ module _ (i : ℕ) (c : Provisioned) (d : Side) where
         subst (λ k. value_at w (at k) m (stands_in n cs (at k) (st k) (opposite d) m) ≡ comes x k) one
         (ap (value_at w (at (suc last)) m) o ∙ came last (omega arith))
 
-    still_there : slice_get (round w).ring.circuits.circuits i ≡ Some c
-    unfolding any_round.round any_round.round_with
-    still_there = u.get
-
     abbrev e : End
     e = other_end (near_end d)
 
     pub delivers : outlet_at (round w).ring (port_id i e) ≡ delivered_from (comes x many)
     delivers =
-        let after = round w in
-        let hn = whole_round w whole in
         let p = port_at c e in
-        let h : p < length w.ring.nodes = omega (arith, count w whole.placed, end_low e) in
-        let hp : p < length after.ring.nodes = omega (arith, length-after w) in
-        let t =
-        port-found after.ring.circuits.circuits (node_at after.ring.nodes p).ports i c e still_there (node_of after hn p hp).ports_are in
         let place : at many ≡ p = sym seen.distant_at in
-        let input = value_at w p m (stands_in n cs p (node_at after.ring.nodes p).state (inward e) m) in
+        let input = value_at w p m (stands_in n cs p (node_at (round w).ring.nodes p).state (inward e) m) in
         let come : input ≡ comes x many =
-        subst (λ y. value_at w p m (stands_in n cs p (node_at after.ring.nodes p).state y m) ≡ comes x many) (sym seen.distant_faces)
-        (subst (λ q. value_at w q m (stands_in n cs q (node_at after.ring.nodes q).state (opposite d) m) ≡ comes x many) place arrives) in
-        outlet_there after hn i c e still_there hp ∙ ap (λ o. option_map_or (λ (t : Tributary). t.outlet) o silent) t.is
-        ∙ found_arrives w whole i c e h (node_at after.ring.nodes p).state (state_in_turn w whole p h) t ∙ ap delivered_from come
+        subst (λ y. value_at w p m (stands_in n cs p (node_at (round w).ring.nodes p).state y m) ≡ comes x many) (sym seen.distant_faces)
+        (subst (λ q. value_at w q m (stands_in n cs q (node_at (round w).ring.nodes q).state (opposite d) m) ≡ comes x many) place arrives) in
+        drops_so w whole i c e u.get (end_low e) ∙ ap delivered_from come
 
     -- ---- after the round
 

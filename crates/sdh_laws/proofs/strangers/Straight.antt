@@ -57,16 +57,13 @@ use Rattle.sdh_node.specs.Rings.Laws.{IsChangeOf, AreChangesOf, MayHappen}
 use Rattle.sdh_node.specs.Rings.Sides.{world_in}
 use Rattle.sdh_node.proofs.RingLaws.Clocks.{clocks_go_on}
 use Rattle.sdh_laws.specs.Hearing.Laws.{IsWhole, MayStart}
-use Rattle.sdh_laws.proofs.hearing.Nodes.{count, length-after}
-use Rattle.sdh_laws.proofs.hearing.Rounds.{whole_round}
+use Rattle.sdh_laws.proofs.hearing.Nodes.{count}
 use Rattle.sdh_laws.proofs.hearing.Changes.{each_new, each_at_place, new_worlds_are_whole, readings_commanded, sending_commanded, held_leaves, slips_leave}
 use Rattle.sdh_laws.proofs.hearing.Changes.{with_node, whole_changed}
 use Rattle.sdh_laws.proofs.hearing.Staying.{left_in, world_low, world_high, world_later}
 use Rattle.sdh_laws.proofs.hearing.Stretches.{requests_are_the_historys, ran_at}
 use Rattle.sdh_laws.specs.Carrying.Windows.{value_at}
-use Rattle.sdh_terminal.proofs.Found.{port-found}
-use Rattle.sdh_laws.proofs.carrying.Connections.{node_of, state_in_turn}
-use Rattle.sdh_laws.proofs.carrying.Owed.{found, clock_is, port_is_there, found_arrives, outlet_there}
+use Rattle.sdh_laws.proofs.carrying.Owed.{found, clock_is, drops_so, port_is_there}
 use Rattle.sdh_signal.specs.Walks.{port, port_at, stands_in}
 use Rattle.sdh_circuits.specs.Ends.{inward}
 use Rattle.sdh_signal.proofs.Views.{AreOnRing, arc_length, holds, on-ring}
@@ -381,10 +378,6 @@ module _ (i : ℕ) (c : Provisioned) (d : Side) (clock : ℕ → Clock) (source 
       | inr late ↦ delivered_late x k t h late ∙ sym (cond-false (nat_lt t k) silent (owed (t - k)) (le-ltb t k late))
     ]
 
-    still_there : slice_get (round w).ring.circuits.circuits i ≡ Some c
-    unfolding any_round.round any_round.round_with
-    still_there = u.get
-
     abbrev e : End
     e = other_end (near_end d)
 
@@ -392,29 +385,20 @@ module _ (i : ℕ) (c : Provisioned) (d : Side) (clock : ℕ → Clock) (source 
     delivers : outlet_at (round w).ring (port_id i e) ≡ (if nat_lt w.ring.rounds (arc_length n c)
         then silent else owed (w.ring.rounds - arc_length n c))
     delivers =
-        let next = round w in
-        let hn = whole_round w u.whole in
         let p = port_at c e in
         let xs = w.ring.circuits.circuits in
-        let h : p < length w.ring.nodes = omega (arith, count w u.whole.placed, end_low e) in
-        let hp : p < length next.ring.nodes = omega (arith, length-after w) in
-        let st = (node_at next.ring.nodes p).state in
-        let t =
-        port-found next.ring.circuits.circuits (node_at next.ring.nodes p).ports i c e still_there (node_of next hn p hp).ports_are in
+        let st = (node_at (round w).ring.nodes p).state in
         let seen = seen-on n xs u.ring i c u.get d in
         let many = arc_length n c in
         let place : going n d (near_at n c d) many ≡ p = sym seen.distant_at in
         let input = value_at w p c.slot.0 (stands_in n xs p st (inward e) c.slot.0) in
-        let out : outlet_at next.ring (port_id i e) ≡ delivered_from input =
-        outlet_there next hn i c e still_there hp ∙ ap (λ o. option_map_or (λ (t : Tributary). t.outlet) o silent) t.is
-        ∙ found_arrives w u.whole i c e h st (state_in_turn w u.whole p h) t in
         let come : HasCome i c d clock source many w.ring.rounds input =
         subst (λ y. HasCome i c d clock source many w.ring.rounds (value_at w p c.slot.0 (stands_in n xs p st y c.slot.0)))
         (sym seen.distant_faces)
         (subst (λ q. HasCome i c d clock source many w.ring.rounds
-        (value_at w q c.slot.0 (stands_in n xs q (node_at next.ring.nodes q).state (opposite d) c.slot.0))) place
+        (value_at w q c.slot.0 (stands_in n xs q (node_at (round w).ring.nodes q).state (opposite d) c.slot.0))) place
         (arrives i c d clock source w u tells.asks own)) in
-        out ∙ delivers_by many w.ring.rounds input come
+        drops_so w u.whole i c e u.get (end_low e) ∙ delivers_by many w.ring.rounds input come
 
     next_u : U (round w)
     next_u = undisturbed_round i c d clock source w u tells.asks own

@@ -113,43 +113,43 @@ StepsLeaveFollowed = (w left : World) (limit : ℕ) → HasCircuits (layout_of w
 -- ---- how soon traffic is restored
 
 -- A port of a circuit whose ends are joined over h hops delivers what it is owed from round number `base` + h + 2 on.
--- Every other port does so from number `base` + 3n - 2 on.
-pub record ArePortsOwedAtOnce (w : World) (base : ℕ) : Type 0 where
+-- Every other port does so from number `away` on.
+pub record ArePortsOwedAtOnce (w : World) (base away : ℕ) : Type 0 where
   pub joined : (k index : ℕ) (c : Provisioned) → slice_get w.ring.circuits.circuits index ≡ Some c → (e : End)
       → (let n = length w.ring.ids in let rs = span_requests_of (run k w) in
       is_joined n (is_applied rs) (arc_of n c) ≡ true → base + hops n (is_applied rs) (arc_of n c) + 2 ≤ k
       → DeliversItsDue (clocks_from w) (run k w) rs c index e)
   pub parted : (k index : ℕ) (c : Provisioned) → slice_get w.ring.circuits.circuits index ≡ Some c → (e : End)
       → (let n = length w.ring.ids in let rs = span_requests_of (run k w) in
-      is_joined n (is_applied rs) (arc_of n c) ≡ false → base + 3 * n ≤ k + 2 → DeliversItsDue (clocks_from w) (run k w) rs c index e)
+      is_joined n (is_applied rs) (arc_of n c) ≡ false → away ≤ k → DeliversItsDue (clocks_from w) (run k w) rs c index e)
 
 -- In a followed ring in which no slip waits and no controller is held for more than this number of turns, ports have
--- what comes over h hops from number 4n + h + 11 + turns on, and AIS from number 7n + 7 + turns on. So where none is
--- held all traffic is restored from number 6n + 8 on, which is 104 in a ring of 16: no route has more than 2n - 3 hops.
+-- what comes over h hops from number 4n + h + 11 + turns on, and AIS from number 5n + turns on. No route has more than
+-- 2n - 3 hops.
 abbrev pub FollowedPortsAreOwedSoon : Type 0
 FollowedPortsAreOwedSoon =
     (w : World) → IsWhole w → HasCircuits (layout_of w) → (turns : ℕ) → AtEach (λ p n. n.held ≤ turns) w.ring.nodes → IsUnslipped w
-    → IsFollowed w → ArePortsOwedAtOnce w (4 * length w.ring.ids + turns + 9)
+    → IsFollowed w → ArePortsOwedAtOnce w (4 * length w.ring.ids + turns + 9) (5 * length w.ring.ids + turns)
 
--- all nodes are in the settled states and every port delivers what it is owed from number 7n + 7 on, which is 119 in a
+-- all nodes are in the settled states and every port delivers what it is owed from number 6n + 8 on, which is 104 in a
 -- ring of 16
 abbrev pub FollowedRingsAreRestoredSoon : Type 0
 FollowedRingsAreRestoredSoon =
     (w : World) → IsWhole w → HasCircuits (layout_of w) → NoControllerHeld w → IsUnslipped w → IsFollowed w → (k : ℕ)
-    → 7 * length w.ring.ids + 7 ≤ k → IsRestored (clocks_from w) (run k w) (span_requests_of (run k w))
+    → 6 * length w.ring.ids + 8 ≤ k → IsRestored (clocks_from w) (run k w) (span_requests_of (run k w))
 
--- where no controller is held for more than this number of turns, they do so from number 7n + 7 + turns on
+-- where no controller is held for more than this number of turns, they do so from number 6n + 8 + turns on
 abbrev pub HeldFollowedRingsAreRestoredSoon : Type 0
 HeldFollowedRingsAreRestoredSoon =
     (w : World) → IsWhole w → HasCircuits (layout_of w) → (turns : ℕ) → AtEach (λ p n. n.held ≤ turns) w.ring.nodes → IsUnslipped w
-    → IsFollowed w → (k : ℕ) → 7 * length w.ring.ids + 7 + turns ≤ k → IsRestored (clocks_from w) (run k w) (span_requests_of (run k w))
+    → IsFollowed w → (k : ℕ) → 6 * length w.ring.ids + 8 + turns ≤ k → IsRestored (clocks_from w) (run k w) (span_requests_of (run k w))
 
 -- ---- a settle step
 
--- A settle step of at least 7n + 7 rounds leaves a followed ring restored, even where it is unsettled.
+-- A settle step of at least 6n + 8 rounds leaves a followed ring restored, even where it is unsettled.
 abbrev pub RestoresFollowedBy : World → ℕ → World → Type 0
 RestoresFollowedBy w limit left =
-    IsWhole w → NoControllerHeld w → IsUnslipped w → IsFollowed w → 7 * length w.ring.ids + 7 ≤ limit
+    IsWhole w → NoControllerHeld w → IsUnslipped w → IsFollowed w → 6 * length w.ring.ids + 8 ≤ limit
     → IsRestored (clocks_from w) left (span_requests_of left)
 
 abbrev pub UnsettledFollowedRingsAreRestored : Type 0
@@ -172,13 +172,13 @@ pub record IsPlainStretch (s : Stretch) : Type 0 where
   pub rounds : (s.rounds ≡ 0) ⊎ (4 ≤ s.rounds)
 
 -- Where no port slips and no controller is held, and no fibre changes within four rounds of another change, every
--- stretch of at least 7n + 7 rounds leaves the ring restored, under the requests that the histories give for its last
+-- stretch of at least 6n + 8 rounds leaves the ring restored, under the requests that the histories give for its last
 -- round.
 abbrev pub PlainStretchesAreRestoredSoon : Type 0
 PlainStretchesAreRestoredSoon =
     (s : Settings) (ids : List ℕ) (circuits : Provisioning) (f : Fibres) (earlier : List Stretch) (last : Stretch) (t : ℕ)
     → MayStart s ids f → MayHappen (new_world s ids circuits f) (earlier ++ last ∷ [])
     → AreCircuits (length ids) (n_of s.rate / 2) circuits.circuits → All IsPlainStretch (earlier ++ last ∷ [])
-    → 7 * length ids + 7 ≤ last.rounds → rounds_in (earlier ++ last ∷ []) ≡ t + 1
+    → 6 * length ids + 8 ≤ last.rounds → rounds_in (earlier ++ last ∷ []) ≡ t + 1
     → IsRestored (clocks_by circuits.circuits (earlier ++ last ∷ [])) (after_stretches (earlier ++ last ∷ []) (new_world s ids circuits f))
     (span_requests (length ids) (asked_in s.threshold s.wait (length ids) (earlier ++ last ∷ []) t))

@@ -55,26 +55,28 @@ UnslippedRingsAreRestoredSoon =
 -- ---- each port by its own number
 
 -- A port of a circuit whose ends are joined over h hops delivers what it is owed from round number `base` + 4h + 5 on.
--- Every other port does so from number `base` + 3n - 2 on. The connections are those of the settled states from `base`
--- on, and no slip waits then.
-pub record ArePortsOwedFrom (w : World) (base : ℕ) : Type 0 where
+-- Every other port does so from number `away` on. The connections are those of the settled states from `base` on, and no
+-- slip waits then. A port that is owed AIS is cut off before that.
+pub record ArePortsOwedFrom (w : World) (base away : ℕ) : Type 0 where
   pub joined : (k index : ℕ) (c : Provisioned) → slice_get w.ring.circuits.circuits index ≡ Some c → (e : End)
       → (let n = length w.ring.ids in let rs = span_requests_of (run k w) in
       is_joined n (is_applied rs) (arc_of n c) ≡ true → base + 4 * hops n (is_applied rs) (arc_of n c) + 5 ≤ k
       → DeliversItsDue (clocks_from w) (run k w) rs c index e)
   pub parted : (k index : ℕ) (c : Provisioned) → slice_get w.ring.circuits.circuits index ≡ Some c → (e : End)
       → (let n = length w.ring.ids in let rs = span_requests_of (run k w) in
-      is_joined n (is_applied rs) (arc_of n c) ≡ false → base + 3 * n ≤ k + 2 → DeliversItsDue (clocks_from w) (run k w) rs c index e)
+      is_joined n (is_applied rs) (arc_of n c) ≡ false → away ≤ k → DeliversItsDue (clocks_from w) (run k w) rs c index e)
 
--- in every whole ring ports have what comes over h hops from number 4n + 4h + 114 on, and AIS from number 7n + 107 on
+-- in every whole ring ports have what comes over h hops from number 4n + 4h + 114 on, and AIS from number 5n + 100 on
 abbrev pub PortsAreOwedSoon : Type 0
-PortsAreOwedSoon = (w : World) → IsWhole w → HasCircuits (layout_of w) → ArePortsOwedFrom w (4 * length w.ring.ids + 109)
+PortsAreOwedSoon =
+    (w : World) → IsWhole w → HasCircuits (layout_of w) → ArePortsOwedFrom w (4 * length w.ring.ids + 109) (5 * length w.ring.ids + 100)
 
 -- where no controller is held and no slip waits, ports have what comes over h hops from number 4n + 4h + 14 on, and AIS
--- from number 7n + 7 on
+-- from number 5n on
 abbrev pub UnslippedPortsAreOwedSoon : Type 0
 UnslippedPortsAreOwedSoon =
-    (w : World) → IsWhole w → HasCircuits (layout_of w) → NoControllerHeld w → IsUnslipped w → ArePortsOwedFrom w (4 * length w.ring.ids + 9)
+    (w : World) → IsWhole w → HasCircuits (layout_of w) → NoControllerHeld w → IsUnslipped w
+    → ArePortsOwedFrom w (4 * length w.ring.ids + 9) (5 * length w.ring.ids)
 
 -- ---- a settle step
 
